@@ -4,7 +4,7 @@ use Rattle.std.proofs.lemmas.List.{get_or_default, take_all}
 use Rattle.std.proofs.lemmas.List.Elements.{All-nil, All-push, All-weaker}
 use Rattle.plan_cert.specs.declared.Segment.{Segment}
 use Rattle.plan_cert.specs.Slots.{total_bytes}
-use Rattle.slot_calendar.specs.declared.profiles.CapStep.{CapStep}
+use Rattle.slot_calendar.specs.declared.profiles.CapacityStep.{CapacityStep}
 use Rattle.slot_calendar.specs.Plays.{Play as Booked, whole_play}
 use Rattle.admission.specs.declared.entries.Entry.{Entry}
 use Rattle.admission.specs.declared.entries.Command.{Command}
@@ -54,7 +54,7 @@ known-next m (Look slot) (Admitted start) is here all = absurd is
 known-next m (Look slot) (Overflow over booked asked) is here all = absurd is
 known-next m (Look slot) Halted is here all = absurd is
 
-pub known-at : (steps : List CapStep) (xs : List Entry) (n : ℕ) → IsLegal steps xs → n ≤ length xs
+pub known-at : (steps : List CapacityStep) (xs : List Entry) (n : ℕ) → IsLegal steps xs → n ≤ length xs
     → All (IsKnown xs n) (state_after (take n xs)).held
 known-at steps xs zero legal few = All-nil (IsKnown xs 0)
 known-at steps xs (suc n) legal few =
@@ -71,7 +71,7 @@ known-at steps xs (suc n) legal few =
     (subst K at (known-next (machine_after steps (take n xs)) e.command e.answer
     (legal-at steps xs n legal inside) here before))
 
-pub known-after : (steps : List CapStep) (xs : List Entry) → IsLegal steps xs → All (IsKnown xs (length xs)) (state_after xs).held
+pub known-after : (steps : List CapacityStep) (xs : List Entry) → IsLegal steps xs → All (IsKnown xs (length xs)) (state_after xs).held
 known-after steps xs legal =
     let S : List Entry → Type 0 = λ l. All (IsKnown xs (length xs)) (state_after l).held in
     subst S (take_all (length xs) xs (omega arith)) (known-at steps xs (length xs) legal (omega arith))
@@ -100,7 +100,7 @@ pub record IsOpenEntry (entries : List Entry) (number keep : ℕ) (e : Entry) : 
   pub small : keep ≤ total_bytes held.play.segments
 
 -- its number is a place of the history
-pub open-inside : (steps : List CapStep) (entries : List Entry) (number keep : ℕ) → IsLegal steps entries
+pub open-inside : (steps : List CapacityStep) (entries : List Entry) (number keep : ℕ) → IsLegal steps entries
     → CanHalt (state_after entries) number keep → number < length entries
 open-inside steps entries number keep legal can =
     let state = state_after entries in
@@ -108,7 +108,7 @@ open-inside steps entries number keep legal can =
     let known = holds-of (IsKnown entries (length entries)) number state.held h.held (known-after steps entries legal) h.is in
     omega (arith, known.inside, (split number state.held h.held h.is).number_is)
 
-pub open-entry : {steps : List CapStep} {entries : List Entry} {number keep : ℕ} → IsLegal steps entries →
+pub open-entry : {steps : List CapacityStep} {entries : List Entry} {number keep : ℕ} → IsLegal steps entries →
     CanHalt (state_after entries) number keep →
     {e : Entry} → e ≡ get_or entries number e → IsOpenEntry entries number keep e
 open-entry {steps} {entries} {number} {keep} legal can {e} at =

@@ -5,7 +5,7 @@ use Rattle.std.proofs.lemmas.List.{map-append}
 use Rattle.std.proofs.lemmas.List.Sums.{fold_more}
 use Rattle.plan_cert.specs.declared.Segment.{Segment}
 use Rattle.plan_cert.specs.Plan.{IsPlan}
-use Rattle.slot_calendar.specs.declared.profiles.CapStep.{CapStep}
+use Rattle.slot_calendar.specs.declared.profiles.CapacityStep.{CapacityStep}
 use Rattle.slot_calendar.specs.Plays.{Play as Booked, asked_at, cut_at, cut_play, booked_by}
 use Rattle.slot_calendar.proofs.Shares.{booked-cut, booked-push}
 use Rattle.admission.specs.declared.entries.Entry.{Entry}
@@ -52,7 +52,7 @@ halted_state {number} {start} {segments} state keep t plan is =
     ∙ booked-cut front back (cut_play start segments keep) t plan
     ∙ ap (λ (l : List Booked). booked_by l t) (sym (plays-around state number start segments is refl))
 
-pub booked_halted : {steps : List CapStep} {xs : List Entry} {number start : ℕ} {segments : List Segment} (maker keep t : ℕ)
+pub booked_halted : {steps : List CapacityStep} {xs : List Entry} {number start : ℕ} {segments : List Segment} (maker keep t : ℕ)
     → IsPlan segments → PlayAdmitted steps xs number start segments → CanHalt (state_after xs) number keep
     → booked_after (xs ++ entry_of maker (Halt number keep) Halted ∷ []) t + cut_at segments start keep t ≡ booked_after xs t
 booked_halted {steps} {xs} {number} {start} {segments} maker keep t plan admitted can =
@@ -82,7 +82,7 @@ booked_other xs e t unopened unhalted =
     ∙ other_state (state_after xs) (length xs) e.command e.answer t (record { unopened = unopened; unhalted = unhalted })
 
 -- ---- where a play begins
-pub start_is : {steps : List CapStep} {xs : List Entry} {number start : ℕ} {segments : List Segment}
+pub start_is : {steps : List CapacityStep} {xs : List Entry} {number start : ℕ} {segments : List Segment}
     → PlayAdmitted steps xs number start segments → start ≡ latest_asked (take (number + 1) xs) + 1
 start_is {steps} {xs} {number} {start} {segments} admitted =
     let legal = admitted.legal in
@@ -100,7 +100,7 @@ start_is {steps} {xs} {number} {start} {segments} admitted =
     omega (arith, answered.0, now_is, slot_is, latest)
 
 -- ---- what a look tells
-pub look_is : {steps : List CapStep} {xs : List Entry} {slot now at booked : ℕ} (place : ℕ) (none : Entry) →
+pub look_is : {steps : List CapacityStep} {xs : List Entry} {slot now at booked : ℕ} (place : ℕ) (none : Entry) →
     IsLegal steps xs → place < length xs → (get_or xs place none).command ≡ Look slot →
     (get_or xs place none).answer ≡ Looked now at booked
     → (now ≡ latest_asked (take place xs)) × (at ≡ max now slot) × (booked ≡ booked_after (take place xs) at)

@@ -2,7 +2,7 @@
 use Rattle.std.proofs.Common.{◌≡◌, ◌≤◌, ℕ, max, List, [], ◌∷◌, ◌++◌, map, Some, arith, sym, ap, subst, ◌∙◌}
 use Rattle.std.proofs.lemmas.List.{map_push}
 use Rattle.plan_cert.specs.declared.Segment.{Segment}
-use Rattle.slot_calendar.specs.declared.profiles.CapStep.{CapStep}
+use Rattle.slot_calendar.specs.declared.profiles.CapacityStep.{CapacityStep}
 use Rattle.slot_calendar.specs.Plays.{Play as Booked, cut_at, whole_play, cut_play}
 use Rattle.slot_calendar.specs.Calendars.{Entries as Calendar, StandsFor, booked_at}
 use Rattle.admission.specs.declared.entries.Command.TheVariants.{Look}
@@ -64,7 +64,7 @@ stands-halted {old} {new} {state} {number} {start} {segments} keep whole stands 
     (cut front back (subst (StandsFor old) (plays-around state number start segments whole.is whole.play_is) stands))
 
 -- what a look tells
-pub look-answer : {calendar : Calendar} {state : State} {now at booked : ℕ} (steps : List CapStep) (slot : ℕ) →
+pub look-answer : {calendar : Calendar} {state : State} {now at booked : ℕ} (steps : List CapacityStep) (slot : ℕ) →
     Follows calendar state → now ≡ calendar.first → at ≡ max now slot →
     booked ≡ booked_at calendar at → IsAnswer steps state (Look slot) (Looked now at booked)
 look-answer {at} steps slot follows now_is at_is booked_is = (

@@ -2,7 +2,7 @@
 use Rattle.std.proofs.Common.{◌≡◌, ◌≤◌, ◌<◌, ◌+◌, ℕ, zero, suc, cond, max, List, length, get_or, take, count_by, arith, refl, sym, ap, subst, ◌∙◌}
 use Rattle.std.proofs.lemmas.List.{take_all}
 use Rattle.std.proofs.lemmas.List.Sums.{fold_more, sum_by_more}
-use Rattle.slot_calendar.specs.declared.profiles.CapStep.{CapStep}
+use Rattle.slot_calendar.specs.declared.profiles.CapacityStep.{CapacityStep}
 use Rattle.admission.specs.declared.entries.Entry.{Entry}
 use Rattle.admission.specs.declared.entries.Command.{Command}
 use Rattle.admission.specs.declared.entries.Command.TheVariants.{Play, Halt, Look}
@@ -19,7 +19,7 @@ halts_of entries = count_by (λ (e : Entry). is_halt e.command) entries
 abbrev pub admissions_of : List Entry → ℕ
 admissions_of entries = count_by (λ (e : Entry). is_admission e.answer) entries
 
-open-next : (steps : List CapStep) (state : State) (place : ℕ) (command : Command) (answer : Answer) →
+open-next : (steps : List CapacityStep) (state : State) (place : ℕ) (command : Command) (answer : Answer) →
     IsAnswer steps state command answer →
     open_plays (next_state state place command answer) + cond (is_halt command) 1 0
     ≡ open_plays state + cond (is_admission answer) 1 0
@@ -34,7 +34,7 @@ open-next steps state place (Look slot) (Admitted start) is = absurd is
 open-next steps state place (Look slot) (Overflow over booked asked) is = absurd is
 open-next steps state place (Look slot) Halted is = absurd is
 
-now-next : (steps : List CapStep) (state : State) (place : ℕ) (command : Command) (answer : Answer) →
+now-next : (steps : List CapacityStep) (state : State) (place : ℕ) (command : Command) (answer : Answer) →
     IsAnswer steps state command answer →
     (next_state state place command answer).now ≡ max state.now (asked_in command)
 now-next steps state place (Play slot segments) (Admitted start) is = refl
@@ -54,7 +54,7 @@ record IsCounted (entries : List Entry) : Type 0 where
   open_are : open_count entries + halts_of entries ≡ admissions_of entries
   now_is : (state_after entries).now ≡ latest_asked entries
 
-tally-at : (steps : List CapStep) (xs : List Entry) (n : ℕ) → IsLegal steps xs → n ≤ length xs → IsCounted (take n xs)
+tally-at : (steps : List CapacityStep) (xs : List Entry) (n : ℕ) → IsLegal steps xs → n ≤ length xs → IsCounted (take n xs)
 tally-at steps xs zero legal few = record { open_are = refl; now_is = refl }
 tally-at steps xs (suc n) legal few =
     let before = tally-at steps xs n legal (omega (arith, few)) in
@@ -81,7 +81,7 @@ tally-at steps xs (suc n) legal few =
           ∙ ap (λ k. max k (asked_in e.command)) before.now_is ∙ sym latest;
     }
 
-pub tally : (steps : List CapStep) (xs : List Entry) → IsLegal steps xs
+pub tally : (steps : List CapacityStep) (xs : List Entry) → IsLegal steps xs
     → (open_count xs + halts_of xs ≡ admissions_of xs) × ((state_after xs).now ≡ latest_asked xs)
 tally steps xs legal =
     let is = subst IsCounted (take_all (length xs) xs (omega arith)) (tally-at steps xs (length xs) legal (omega arith)) in

@@ -3,7 +3,7 @@ use Rattle.std.proofs.Common.{◌≡◌, ◌≤◌, ◌+◌, ℕ, cond, List, []
 use Rattle.std.proofs.lemmas.List.{length_push}
 use Rattle.std.proofs.lemmas.List.Sums.{sum_by-append, sum_by-cons, sum_by_push}
 use Rattle.plan_cert.specs.declared.Segment.{Segment}
-use Rattle.slot_calendar.specs.declared.profiles.CapStep.{CapStep}
+use Rattle.slot_calendar.specs.declared.profiles.CapacityStep.{CapacityStep}
 use Rattle.slot_calendar.specs.Calendars.{Entries as Calendar}
 use Rattle.admission.specs.declared.entries.Entry.{Entry}
 use Rattle.admission.specs.declared.entries.Noted.{Noted}
@@ -68,7 +68,7 @@ kept-push {calendar} {new} {xs} {ys} {e} {more} kept grown =
     let steps = grown.steps_are in
     let state : state_after ys ≡ next_of (state_after xs) (length xs) e = ap state_after is ∙ state-push xs e in
     let L : List Entry → Type 0 = λ l. IsLegal calendar.steps l in
-    let S : List CapStep → Type 0 = λ s. IsLegal s ys in
+    let S : List CapacityStep → Type 0 = λ s. IsLegal s ys in
     let open_is : open_count ys ≡ more = ap open_plays state ∙ sym grown.more_is in
     record {
       legal = subst S (sym steps) (subst L (sym is) (legal-push calendar.steps xs e kept.legal grown.answered));
@@ -85,7 +85,7 @@ pub record IsNotedAfter (xs ys : List Entry) (e : Entry) (noted : Noted) : Type 
   pub answer_is : noted.answer ≡ e.answer
   pub entries_are : ys ≡ xs ++ e ∷ []
 
-pub noted-push : {steps same : List CapStep} {maker : ℕ} {xs ys : List Entry} {command : Command} {answer : Answer}
+pub noted-push : {steps same : List CapacityStep} {maker : ℕ} {xs ys : List Entry} {command : Command} {answer : Answer}
     {noted : Noted} (limit : ℕ) → IsLegal steps xs → IsAnswer steps (state_after xs) command answer →
     IsNotedAfter xs ys (record { maker = maker; command = command; answer = answer }) noted → same ≡ steps
     → IsNoted (record { steps = steps; limit = limit; entries = xs }) maker command noted
@@ -95,8 +95,8 @@ noted-push {steps} {same} {maker} {xs} {ys} {command} {answer} limit legal is af
     let entries = after.entries_are in
     let e : Answer → Entry = λ a. record { maker = maker; command = command; answer = a } in
     let L : List Entry → Type 0 = λ l. IsLegal steps l in
-    let S : List CapStep → Type 0 = λ s. IsLegal s ys in
-    let J : List CapStep → List Entry → Journal = λ s l. record { steps = s; limit = limit; entries = l } in
+    let S : List CapacityStep → Type 0 = λ s. IsLegal s ys in
+    let J : List CapacityStep → List Entry → Journal = λ s l. record { steps = s; limit = limit; entries = l } in
     record {
       place_is = after.place_is;
       answer_is = subst (IsAnswer steps (state_after xs) command) (sym told) is;

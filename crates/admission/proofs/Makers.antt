@@ -4,7 +4,7 @@ use Rattle.std.proofs.Common.{inr, eq-eqb}
 use Rattle.std.proofs.lemmas.Bool.{cases_Bool, cond-true, cond-false, eqb-true}
 use Rattle.std.proofs.lemmas.List.{get_or_default}
 use Rattle.std.proofs.lemmas.List.Elements.{All-nil, All-cons, All-head, All-tail, All-weaker}
-use Rattle.slot_calendar.specs.declared.profiles.CapStep.{CapStep}
+use Rattle.slot_calendar.specs.declared.profiles.CapacityStep.{CapacityStep}
 use Rattle.slot_calendar.specs.Plays.{whole_play}
 use Rattle.admission.specs.declared.entries.Command.{Command}
 use Rattle.admission.specs.declared.entries.Command.TheVariants.{Play, Halt, Look}
@@ -121,7 +121,7 @@ halt_is number (Play slot segments) same = absurd same
 halt_is number (Look slot) same = absurd same
 
 -- a play that is open among its maker's entries is open in the history
-pub open-own : {xs : List Entry} {number keep : ℕ} (steps : List CapStep) (maker : ℕ) → AreHaltsOwn xs
+pub open-own : {xs : List Entry} {number keep : ℕ} (steps : List CapacityStep) (maker : ℕ) → AreHaltsOwn xs
     → IsOpenAmong (made_by maker xs) number keep → IsStillOpen xs number keep
 open-own {xs} {number} steps maker own open_ =
     let none : Placed = record { place = 0; entry = no_entry } in
@@ -155,6 +155,6 @@ open-own {xs} {number} steps maker own open_ =
       small = open_.small;
     }
 
-pub can-own : {steps : List CapStep} {xs : List Entry} (maker number keep : ℕ) → IsLegal steps xs → AreHaltsOwn xs
+pub can-own : {steps : List CapacityStep} {xs : List Entry} (maker number keep : ℕ) → IsLegal steps xs → AreHaltsOwn xs
     → IsOpenAmong (made_by maker xs) number keep → CanHalt (state_after xs) number keep
 can-own {steps} {xs} maker number keep legal own open_ = still-open steps xs number keep legal (open-own steps maker own open_)

@@ -2,7 +2,7 @@
 use Rattle.std.proofs.Common.{◌≡◌, ◌≤◌, ◌<◌, ◌+◌, ℕ, zero, suc, List, length, get_or, map, take, arith, refl, sym, ap, subst, ◌∙◌}
 use Rattle.std.proofs.lemmas.List.{get_or-map, length-map, take_all, take_more_same}
 use Rattle.plan_cert.specs.declared.Segment.{Segment}
-use Rattle.slot_calendar.specs.declared.profiles.CapStep.{CapStep}
+use Rattle.slot_calendar.specs.declared.profiles.CapacityStep.{CapacityStep}
 use Rattle.slot_calendar.specs.Profiles.{capacity_at}
 use Rattle.slot_calendar.specs.declared.calendar.Overflow.{Overflow as Over}
 use Rattle.slot_calendar.specs.Calendars.{HasRoom, IsFirstOverflow}
@@ -83,7 +83,7 @@ pub record HaveSameCommands (xs ys : List Entry) : Type 0 where
   pub makers : map (λ (e : Entry). e.maker) xs ≡ map (λ (e : Entry). e.maker) ys
   pub commands : map (λ (e : Entry). e.command) xs ≡ map (λ (e : Entry). e.command) ys
 
-same-front : {steps : List CapStep} {xs ys : List Entry} (n : ℕ) → IsLegal steps xs → IsLegal steps ys
+same-front : {steps : List CapacityStep} {xs ys : List Entry} (n : ℕ) → IsLegal steps xs → IsLegal steps ys
     → HaveSameCommands xs ys → n ≤ length xs → take n xs ≡ take n ys
 same-front {steps} zero legal other same few = refl
 same-front {steps} {xs} {ys} (suc n) legal other same few =
@@ -104,7 +104,7 @@ same-front {steps} {xs} {ys} (suc n) legal other same few =
     let T : ℕ → Type 0 = λ k. take k xs ≡ take k ys in
     subst T at (take_more_same xs ys n no_entry inside within before (entry-same a b maker command answer))
 
-pub history-once : {steps : List CapStep} {xs ys : List Entry} → IsLegal steps xs → IsLegal steps ys
+pub history-once : {steps : List CapacityStep} {xs ys : List Entry} → IsLegal steps xs → IsLegal steps ys
     → HaveSameCommands xs ys → xs ≡ ys
 history-once {xs} {ys} legal other same =
     let long = long_map (λ (e : Entry). e.maker) xs ys same.makers in

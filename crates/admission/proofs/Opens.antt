@@ -6,7 +6,7 @@ use Rattle.std.proofs.lemmas.List.{get_or_default, length-take, take_all}
 use Rattle.std.proofs.lemmas.List.Elements.{All-weaker}
 use Rattle.plan_cert.specs.declared.Segment.{Segment}
 use Rattle.plan_cert.specs.Slots.{total_bytes}
-use Rattle.slot_calendar.specs.declared.profiles.CapStep.{CapStep}
+use Rattle.slot_calendar.specs.declared.profiles.CapacityStep.{CapacityStep}
 use Rattle.slot_calendar.specs.Plays.{Play as Booked, whole_play}
 use Rattle.admission.specs.declared.entries.Entry.{Entry}
 use Rattle.admission.specs.declared.entries.Command.{Command}
@@ -22,13 +22,13 @@ use Rattle.admission.proofs.Admissions.{IsKnown, admission_of, known-after, know
 use Rattle.admission.proofs.Finds.{found-closed, found-new, found-next}
 
 -- ---- it is open from its admission on
-numbers-below : (steps : List CapStep) (xs : List Entry) (n : ℕ) → IsLegal steps xs → n ≤ length xs
+numbers-below : (steps : List CapacityStep) (xs : List Entry) (n : ℕ) → IsLegal steps xs → n ≤ length xs
     → All (λ h. h.number < n) (state_after (take n xs)).held
 numbers-below steps xs n legal few =
     All-weaker (IsKnown xs n) (λ h. h.number < n) (λ h known. known.inside) (state_after (take n xs)).held
     (known-at steps xs n legal few)
 
-opened-here : {steps : List CapStep} {xs : List Entry} {number start : ℕ} {segments : List Segment}
+opened-here : {steps : List CapacityStep} {xs : List Entry} {number start : ℕ} {segments : List Segment}
     → PlayAdmitted steps xs number start segments
     → held_as number (state_after (take (suc number) xs)).held ≡ Some (admitted_play number start segments)
 opened-here {steps} {xs} {number} {start} {segments} admitted =
@@ -43,7 +43,7 @@ opened-here {steps} {xs} {number} {start} {segments} admitted =
     ∙ found-new number start segments state.held
     (numbers-below steps xs number admitted.legal (omega (arith, admission.inside)))
 
-pub stays-open : {steps : List CapStep} {xs : List Entry} {number start : ℕ} {segments : List Segment} (k : ℕ)
+pub stays-open : {steps : List CapacityStep} {xs : List Entry} {number start : ℕ} {segments : List Segment} (k : ℕ)
     → PlayAdmitted steps xs number start segments → IsUnhalted xs number → number < k → k ≤ length xs
     → held_as number (state_after (take k xs)).held ≡ Some (admitted_play number start segments)
 stays-open {steps} {number} {start} zero admitted unhalted less few = absurd (omega (arith, less))
@@ -63,7 +63,7 @@ stays-open {steps} {xs} {number} {start} {segments} (suc j) admitted unhalted le
       )
 ]
 
-pub whole-after : {steps : List CapStep} {xs : List Entry} {number start : ℕ} {segments : List Segment}
+pub whole-after : {steps : List CapacityStep} {xs : List Entry} {number start : ℕ} {segments : List Segment}
     → PlayAdmitted steps xs number start segments → IsUnhalted xs number
     → held_as number (state_after xs).held ≡ Some (admitted_play number start segments)
 whole-after {xs} {number} {start} {segments} admitted unhalted =
@@ -78,14 +78,14 @@ can-halt {number} {keep} held start segments now is small =
     let P : Option Held → Type 0 = λ o. IsSomeAnd o (λ (h : Held). (h.is_open ≡ true) × (keep ≤ total_bytes h.play.segments)) in
     subst P (sym is) (refl, small)
 
-pub still-open : (steps : List CapStep) (xs : List Entry) (number keep : ℕ) → IsLegal steps xs
+pub still-open : (steps : List CapacityStep) (xs : List Entry) (number keep : ℕ) → IsLegal steps xs
     → IsStillOpen xs number keep → CanHalt (state_after xs) number keep
 still-open steps xs number keep legal still =
     can-halt (state_after xs).held still.start still.segments (state_after xs).now
     (whole-after (record { legal = legal; admission = still.admission }) still.unhalted) still.small
 
 -- and in the history that its entry ends
-pub opened-last : {steps : List CapStep} {xs : List Entry} {keep : ℕ} (maker slot start : ℕ)
+pub opened-last : {steps : List CapacityStep} {xs : List Entry} {keep : ℕ} (maker slot start : ℕ)
     (segments : List Segment) → IsLegal steps xs → keep ≤ total_bytes segments →
     CanHalt (state_after
     (xs ++ record { maker = maker; command = Play slot segments; answer = Admitted start } ∷ [])) (length xs) keep
@@ -123,7 +123,7 @@ closed-here {number} m place (Play slot segments) answer is same = absurd same
 closed-here {number} m place (Look slot) answer is same = absurd same
 
 -- what is closed isn't halted
-halted-once : {state : State} {number : ℕ} (steps : List CapStep) (command : Command) (answer : Answer)
+halted-once : {state : State} {number : ℕ} (steps : List CapacityStep) (command : Command) (answer : Answer)
     → IsAnswer steps state command answer → IsClosed number state → Halts number command → ⊥
 halted-once {state} {number} steps (Halt that keep) Halted is was same =
     let h = halting state that keep is in
@@ -138,7 +138,7 @@ halted-once {number} steps (Play slot segments) answer is was same = same
 halted-once {number} steps (Look slot) answer is was same = same
 
 -- so it stays as it is
-closed-rest : {steps : List CapStep} {xs : List Entry} {number from : ℕ} (k : ℕ) → IsLegal steps xs
+closed-rest : {steps : List CapacityStep} {xs : List Entry} {number from : ℕ} (k : ℕ) → IsLegal steps xs
     → (closed : IsClosed number (state_after (take from xs))) → from ≤ k → k ≤ length xs
     → held_as number (state_after (take k xs)).held ≡ Some closed.held
 closed-rest {steps} {xs} {number} {from} k legal closed later few = elim (cases_order from k) [
@@ -148,7 +148,7 @@ closed-rest {steps} {xs} {number} {from} k legal closed later few = elim (cases_
   | inr (inr after) ↦ (let bad : ⊥ = omega (arith, later, after) in absurd bad)
 ]
   where
-    closed-more : (steps : List CapStep) (xs : List Entry) (number from k : ℕ) → IsLegal steps xs →
+    closed-more : (steps : List CapacityStep) (xs : List Entry) (number from k : ℕ) → IsLegal steps xs →
         (closed : IsClosed number (state_after (take from xs))) →
         from < k → k ≤ length xs → held_as number (state_after (take k xs)).held ≡ Some closed.held
     closed-more steps xs number from zero legal closed less few = let bad : ⊥ = omega (arith, less) in absurd bad
@@ -166,7 +166,7 @@ closed-rest {steps} {xs} {number} {from} k legal closed later few = elim (cases_
         ap (λ (s : State). held_as number s.held) (state-next xs j (omega (arith, few)))
         ∙ found-next j e.command e.answer (record { is = was; unhalted = apart })
 
-closed-after : {steps : List CapStep} {xs : List Entry} {number i : ℕ} → IsLegal steps xs → i < length xs
+closed-after : {steps : List CapacityStep} {xs : List Entry} {number i : ℕ} → IsLegal steps xs → i < length xs
     → (closed : IsClosed number (state_after (take (suc i) xs)))
     → held_as number (state_after xs).held ≡ Some closed.held
 closed-after {steps} {xs} {number} {i} legal inside closed =
@@ -174,7 +174,7 @@ closed-after {steps} {xs} {number} {i} legal inside closed =
     subst S (take_all (length xs) xs (omega arith))
     (closed-rest {from = suc i} (length xs) legal closed (omega (arith, inside)) (omega arith))
 
-pub was-admitted : (steps : List CapStep) (xs : List Entry) (number : ℕ) (h : Held) → IsLegal steps xs →
+pub was-admitted : (steps : List CapacityStep) (xs : List Entry) (number : ℕ) (h : Held) → IsLegal steps xs →
     held_as number (state_after xs).held ≡ Some h →
     IsAdmission xs number h.play.start h.play.segments
 was-admitted steps xs number h legal is =
@@ -182,7 +182,7 @@ was-admitted steps xs number h legal is =
     let N : ℕ → Type 0 = λ n. IsAdmission xs n h.play.start h.play.segments in
     subst N (split number (state_after xs).held h is).number_is (record { inside = known.inside; admitted = known.admitted })
 
-open-unhalted : {steps : List CapStep} {xs : List Entry} {number : ℕ} {h : Held} → IsLegal steps xs
+open-unhalted : {steps : List CapacityStep} {xs : List Entry} {number : ℕ} {h : Held} → IsLegal steps xs
     → held_as number (state_after xs).held ≡ Some h → h.is_open ≡ true → IsUnhalted xs number
 open-unhalted {steps} {xs} {number} {h} legal is is_open = record {
   each = λ i none inside halts. (
@@ -204,7 +204,7 @@ open-unhalted {steps} {xs} {number} {h} legal is is_open = record {
       );
 }
 
-pub can-still : (steps : List CapStep) (xs : List Entry) (number keep : ℕ) → IsLegal steps xs
+pub can-still : (steps : List CapacityStep) (xs : List Entry) (number keep : ℕ) → IsLegal steps xs
     → CanHalt (state_after xs) number keep → IsStillOpen xs number keep
 can-still steps xs number keep legal can =
     let h = halting (state_after xs) number keep can in
@@ -218,7 +218,7 @@ can-still steps xs number keep legal can =
 
 -- ---- a play that was halted
 -- the play that a halt may close is the one that was admitted, whole
-halted-whole : {steps : List CapStep} {xs : List Entry} {number start : ℕ} {segments : List Segment} {h : Held}
+halted-whole : {steps : List CapacityStep} {xs : List Entry} {number start : ℕ} {segments : List Segment} {h : Held}
     (n : ℕ) → PlayAdmitted steps xs number start segments → n ≤ length xs →
     held_as number (state_after (take n xs)).held ≡ Some h → h.is_open ≡ true → h ≡ admitted_play number start segments
 halted-whole {steps} {xs} {number} {start} {segments} {h} n admitted few is is_open =
@@ -241,7 +241,7 @@ halted-whole {steps} {xs} {number} {start} {segments} {h} n admitted few is is_o
     let C : Bool → Held = λ b. record { number = number; play = whole_play start segments; is_open = b } in
     ap A number_is ∙ ap B play_is ∙ ap C is_open
 
-cut-here : {steps : List CapStep} {xs : List Entry} {number start keep : ℕ} {segments : List Segment} (i : ℕ)
+cut-here : {steps : List CapacityStep} {xs : List Entry} {number start keep : ℕ} {segments : List Segment} (i : ℕ)
     → PlayAdmitted steps xs number start segments → i < length xs → {command : Command} (answer : Answer)
     → command ≡ Halt number keep → IsAnswer steps (state_after (take i xs)) command answer
     → held_as number (next_state (state_after (take i xs)) i command answer).held
@@ -264,7 +264,7 @@ cut-here {steps} {xs} {number} {start} {keep} {segments} i admitted inside answe
     closing (Overflow over booked asked) can = absurd can
     closing (Looked now at booked) can = absurd can
 
-pub cut-after : {steps : List CapStep} {xs : List Entry} {number start keep i : ℕ} {segments : List Segment}
+pub cut-after : {steps : List CapacityStep} {xs : List Entry} {number start keep i : ℕ} {segments : List Segment}
     → PlayAdmitted steps xs number start segments → IsHalt xs i number keep
     → held_as number (state_after xs).held ≡ Some (halted_play keep (admitted_play number start segments))
 cut-after {steps} {xs} {number} {start} {keep} {i} {segments} admitted halt =
@@ -278,7 +278,7 @@ cut-after {steps} {xs} {number} {start} {keep} {i} {segments} admitted halt =
     closed-after {i = i} admitted.legal halt.inside closed
 
 -- a halt stands after the entry that admitted its play
-pub halt-later : {steps : List CapStep} {xs : List Entry} {number keep i : ℕ} → IsLegal steps xs
+pub halt-later : {steps : List CapacityStep} {xs : List Entry} {number keep i : ℕ} → IsLegal steps xs
     → IsHalt xs i number keep → number < i
 halt-later {steps} {xs} {number} {keep} {i} legal halt =
     let e = get_or xs i no_entry in

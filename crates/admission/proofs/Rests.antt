@@ -5,7 +5,7 @@ use Rattle.std.proofs.lemmas.Bool.{false≢true}
 use Rattle.std.proofs.lemmas.List.{get_or-append_right, length-append, take-append-le, take_all}
 use Rattle.std.proofs.lemmas.List.Elements.{recursion_from_All}
 use Rattle.std.proofs.lemmas.List.Sums.{sum_by-append, sum_by-cons}
-use Rattle.slot_calendar.specs.declared.profiles.CapStep.{CapStep}
+use Rattle.slot_calendar.specs.declared.profiles.CapacityStep.{CapacityStep}
 use Rattle.admission.specs.declared.entries.Entry.{Entry}
 use Rattle.admission.specs.declared.entries.Command.{Command}
 use Rattle.admission.specs.declared.entries.Command.TheVariants.{Play, Halt, Look}
@@ -17,7 +17,7 @@ use Rattle.admission.specs.Histories.{IsLegal, is_admission, is_halt, state_afte
 use Rattle.admission.proofs.Counts.{admissions_of, tally, halts_of}
 use Rattle.admission.proofs.Runs.{legal-take}
 
-admits-none : (steps : List CapStep) (state : State) (command : Command) (answer : Answer)
+admits-none : (steps : List CapacityStep) (state : State) (command : Command) (answer : Answer)
     → IsAnswer steps state command answer → is_halt command ≡ true → is_admission answer ≡ false
 admits-none steps state (Halt number keep) Halted is halt = refl
 admits-none steps state (Halt number keep) (Admitted start) is halt = absurd is
@@ -48,7 +48,7 @@ none-counted (e ∷ more) all =
     sum_by-cons (λ (x : Entry). cond (is_admission x.answer) 1 0) e more in
     omega (arith, first, step, none-counted more all.1)
 
-none-admitted : (steps : List CapStep) (entries more : List Entry) → IsLegal steps (entries ++ more)
+none-admitted : (steps : List CapacityStep) (entries more : List Entry) → IsLegal steps (entries ++ more)
     → All (λ (e : Entry). is_halt e.command ≡ true) more → All (λ (e : Entry). is_admission e.answer ≡ false) more
 none-admitted steps entries more legal halts = λ k d inside.
     let i = length entries + k in
@@ -62,7 +62,7 @@ none-admitted steps entries more legal halts = λ k d inside.
     admits-none steps (state_after (take i (entries ++ more))) (get_or more k d).command
     (get_or more k d).answer is (halts k d inside)
 
-pub halts-fit : {steps : List CapStep} (entries more : List Entry) (limit : ℕ) → IsLegal steps (entries ++ more)
+pub halts-fit : {steps : List CapacityStep} (entries more : List Entry) (limit : ℕ) → IsLegal steps (entries ++ more)
     → All (λ (e : Entry). is_halt e.command ≡ true) more → places_taken entries ≤ limit
     → length (entries ++ more) ≤ limit
 halts-fit {steps} entries more limit legal halts few =

@@ -4,7 +4,7 @@ use Rattle.std.proofs.lemmas.Bool.{cases_order}
 use Rattle.std.proofs.lemmas.List.{get_or_append_left, get_or_push, get_or-take, length-append, length-take, length-take-le, take-append-le, take-take, take_at}
 use Rattle.std.proofs.lemmas.List.{take_more}
 use Rattle.plan_cert.specs.declared.Segment.{Segment}
-use Rattle.slot_calendar.specs.declared.profiles.CapStep.{CapStep}
+use Rattle.slot_calendar.specs.declared.profiles.CapacityStep.{CapacityStep}
 use Rattle.admission.specs.declared.entries.Entry.{Entry}
 use Rattle.admission.specs.declared.entries.Command.TheVariants.{Look}
 use Rattle.admission.specs.declared.entries.Answer.TheVariants.{Halted}
@@ -17,14 +17,14 @@ no_entry = record { maker = 0; command = Look 0; answer = Halted }
 
 -- the machine: the steps of the link's capacity, and its state
 pub record Machine : Type 0 where
-  pub steps : List CapStep
+  pub steps : List CapacityStep
   pub state : State
 
-abbrev pub machine_after : List CapStep → List Entry → Machine
+abbrev pub machine_after : List CapacityStep → List Entry → Machine
 machine_after steps entries = record { steps = steps; state = state_after entries }
 
 -- a legal history has admitted this play
-pub record PlayAdmitted (steps : List CapStep) (entries : List Entry) (number start : ℕ) (segments : List Segment) : Type 0 where
+pub record PlayAdmitted (steps : List CapacityStep) (entries : List Entry) (number start : ℕ) (segments : List Segment) : Type 0 where
   pub legal : IsLegal steps entries
   pub admission : IsAdmission entries number start segments
 
@@ -51,7 +51,7 @@ state-next xs n inside =
     ∙ state-push (take n xs) (get_or xs n no_entry)
     ∙ ap (λ k. next_of (state_after (take n xs)) k (get_or xs n no_entry)) (length-take-le n xs (omega arith))
 
-pub legal-push : (steps : List CapStep) (xs : List Entry) (e : Entry) → IsLegal steps xs
+pub legal-push : (steps : List CapacityStep) (xs : List Entry) (e : Entry) → IsLegal steps xs
     → IsAnswered steps (state_after xs) e → IsLegal steps (xs ++ e ∷ [])
 legal-push steps xs e legal answered = record {
   each = λ i none below. elim (cases_order i (length xs)) [
@@ -71,7 +71,7 @@ legal-push steps xs e legal answered = record {
 }
 
 -- a history is legal up to each place
-pub legal-take : (steps : List CapStep) (xs : List Entry) (n : ℕ) → IsLegal steps xs → IsLegal steps (take n xs)
+pub legal-take : (steps : List CapacityStep) (xs : List Entry) (n : ℕ) → IsLegal steps xs → IsLegal steps (take n xs)
 legal-take steps xs n legal = record {
   each = λ i none below. (
       let few = length-take n xs in
@@ -83,6 +83,6 @@ legal-take steps xs n legal = record {
 }
 
 -- its entry at a place is answered in the state before it
-pub legal-at : (steps : List CapStep) (xs : List Entry) (n : ℕ) → IsLegal steps xs → n < length xs
+pub legal-at : (steps : List CapacityStep) (xs : List Entry) (n : ℕ) → IsLegal steps xs → n < length xs
     → IsAnswered steps (state_after (take n xs)) (get_or xs n no_entry)
 legal-at steps xs n legal inside = legal.each n no_entry inside

@@ -6,7 +6,7 @@ use Rattle.std.proofs.lemmas.List.Elements.{All-nil, All-push}
 use Rattle.std.proofs.lemmas.List.Sums.{sum_by_push}
 use Rattle.plan_cert.specs.declared.Segment.{Segment}
 use Rattle.plan_cert.specs.Slots.{total_bytes}
-use Rattle.slot_calendar.specs.declared.profiles.CapStep.{CapStep}
+use Rattle.slot_calendar.specs.declared.profiles.CapacityStep.{CapacityStep}
 use Rattle.slot_calendar.specs.Plays.{sent_before, asked_at, whole_play, cut_play, share_at, booked_by}
 use Rattle.slot_calendar.proofs.Sending.{sent-rises}
 use Rattle.slot_calendar.proofs.Shares.{booked-around, share-cut}
@@ -80,7 +80,7 @@ booked-opened state number start t segments =
     ∙ sum_by_push (share_at t) (plays_of state) (whole_play start segments) in
     omega (arith, new, share-cut segments start (total_bytes segments) t)
 
-pub within-next : {steps : List CapStep} {state : State} (place : ℕ) (command : Command) (answer : Answer) →
+pub within-next : {steps : List CapacityStep} {state : State} (place : ℕ) (command : Command) (answer : Answer) →
     IsAnswer steps state command answer → All IsWhole state.held →
     IsNeverOverbooked steps state → IsNeverOverbooked steps (next_state state place command answer)
 within-next {steps} {state} place (Play slot segments) (Admitted start) is all within = record {
@@ -104,11 +104,11 @@ within-next {steps} place (Look slot) (Overflow over booked asked) is all within
 within-next {steps} place (Look slot) Halted is all within = absurd is
 
 -- ---- after a legal history
-pub record IsSound (steps : List CapStep) (state : State) : Type 0 where
+pub record IsSound (steps : List CapacityStep) (state : State) : Type 0 where
   pub whole : All IsWhole state.held
   pub within : IsNeverOverbooked steps state
 
-sound-at : (steps : List CapStep) (xs : List Entry) (n : ℕ) → IsLegal steps xs → n ≤ length xs
+sound-at : (steps : List CapacityStep) (xs : List Entry) (n : ℕ) → IsLegal steps xs → n ≤ length xs
     → IsSound steps (state_after (take n xs))
 sound-at steps xs zero legal few = record { whole = All-nil IsWhole; within = record { each = λ t. omega arith } }
 sound-at steps xs (suc n) legal few =
@@ -122,7 +122,7 @@ sound-at steps xs (suc n) legal few =
       within = within-next n e.command e.answer answered before.whole before.within;
     })
 
-pub sound-after : (steps : List CapStep) (xs : List Entry) → IsLegal steps xs → IsSound steps (state_after xs)
+pub sound-after : (steps : List CapacityStep) (xs : List Entry) → IsLegal steps xs → IsSound steps (state_after xs)
 sound-after steps xs legal =
     let S : List Entry → Type 0 = λ l. IsSound steps (state_after l) in
     subst S (take_all (length xs) xs (omega arith)) (sound-at steps xs (length xs) legal (omega arith))

@@ -4,7 +4,7 @@ use Rattle.std.specs.Prelude.{ℕ, ◌≡◌, ◌+◌, ◌≤◌, ◌==◌, max,
 use Rattle.std.specs.Prelude.{List, [], ◌∷◌, ◌++◌, map, count_by, Option, find, if◌then◌else◌}
 use Rattle.plan_cert.specs.declared.Segment.{Segment}
 use Rattle.plan_cert.specs.Slots.{total_bytes}
-use Rattle.slot_calendar.specs.declared.profiles.CapStep.{CapStep}
+use Rattle.slot_calendar.specs.declared.profiles.CapacityStep.{CapacityStep}
 use Rattle.slot_calendar.specs.Profiles.{capacity_at}
 use Rattle.slot_calendar.specs.Plays.{Play as Booked, whole_play, cut_play, booked_by}
 use Rattle.slot_calendar.specs.Calendars.{HasRoom, IsFirstOverflow}
@@ -41,7 +41,7 @@ abbrev pub open_plays : State → ℕ
 open_plays state = count_by (λ (h : Held). h.is_open) state.held
 
 -- no slot is booked above its capacity
-pub record IsNeverOverbooked (steps : List CapStep) (state : State) : Type 0 where
+pub record IsNeverOverbooked (steps : List CapacityStep) (state : State) : Type 0 where
   pub each : (t : ℕ) → booked_in state t ≤ capacity_at steps t
 
 -- a play as it is admitted: open, with all its bytes
@@ -77,7 +77,7 @@ start_after state slot = max state.now slot + 1
 -- What is answered to a command in a state. A play is admitted exactly where its plan fits into
 -- every slot beside the plays of the state; else the first slot without room is named, with the
 -- bytes booked and asked there. A look tells what is booked in a slot that isn't past.
-abbrev pub IsAnswer : List CapStep → State → Command → Answer → Type 0
+abbrev pub IsAnswer : List CapacityStep → State → Command → Answer → Type 0
 IsAnswer steps state (Play slot segments) (Admitted start) =
     (start ≡ start_after state slot)
     × HasRoom 0 (booked_in state) (capacity_at steps) start segments
@@ -105,7 +105,7 @@ next_state state place (Halt number keep) Halted =
 next_state state place _ _ = state
 
 -- a step of the machine: a command at a place takes one state to the next with this answer
-pub record IsStep (steps : List CapStep) (state : State) (place : ℕ) (command : Command)
+pub record IsStep (steps : List CapacityStep) (state : State) (place : ℕ) (command : Command)
     (answer : Answer) (next : State) : Type 0 where
   pub answer_is : IsAnswer steps state command answer
   pub next_is : next ≡ next_state state place command answer

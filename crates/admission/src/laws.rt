@@ -6,7 +6,7 @@ ghost use Rattle.std.specs.Prelude.{slice_index_or, take, true};
 ghost use Rattle.plan_cert.specs.declared.Segment.{Segment};
 ghost use Rattle.plan_cert.specs.Plan.{IsPlan};
 ghost use Rattle.slot_calendar.specs.Plays.{asked_at, cut_at};
-ghost use Rattle.slot_calendar.specs.declared.profiles.CapStep.{CapStep};
+ghost use Rattle.slot_calendar.specs.declared.profiles.CapacityStep.{CapacityStep};
 ghost use Rattle.slot_calendar.specs.Profiles.{capacity_at};
 ghost use Rattle.admission.specs.declared.entries.Command.{Command};
 ghost use Rattle.admission.specs.declared.entries.Answer.{Answer};
@@ -21,23 +21,23 @@ ghost use Rattle.admission.specs.Makers.{AreHaltsOwn, IsOpenAmong, Placed, made_
 
 /// A history that is legal is legal up to each place.
 pub fn law_prefix()
-    ensures { (steps : List CapStep) (entries : List Entry) (n : ℕ) → IsLegal steps entries →
+    ensures { (steps : List CapacityStep) (entries : List Entry) (n : ℕ) → IsLegal steps entries →
         IsLegal steps (take n entries) }
 {}
 
 /// The link is never overbooked: after each prefix of a legal history, no slot is booked above its
 /// capacity.
 pub fn law_never_overbooked()
-    ensures { (steps : List CapStep) (entries : List Entry) (n t : ℕ) → IsLegal steps entries →
+    ensures { (steps : List CapacityStep) (entries : List Entry) (n t : ℕ) → IsLegal steps entries →
         booked_after (take n entries) t ≤ capacity_at steps t }
 {}
 
 /// A play can be halted exactly where it was admitted and no entry halts it.
 pub fn law_open()
-    ensures open { (steps : List CapStep) (entries : List Entry) (number keep : ℕ) →
+    ensures open { (steps : List CapacityStep) (entries : List Entry) (number keep : ℕ) →
         IsLegal steps entries → IsStillOpen entries number keep →
         CanHalt (state_after entries) number keep }
-    ensures admitted { (steps : List CapStep) (entries : List Entry) (number keep : ℕ) →
+    ensures admitted { (steps : List CapacityStep) (entries : List Entry) (number keep : ℕ) →
         IsLegal steps entries → CanHalt (state_after entries) number keep →
         IsStillOpen entries number keep }
 {}
@@ -46,36 +46,36 @@ pub fn law_open()
 /// of the entry that admitted it; the play is open with all its bytes until an entry halts it, and
 /// closed with the bytes that it keeps from then on. A halt stands after its play's entry.
 pub fn law_plays()
-    ensures admitted { (steps : List CapStep) (entries : List Entry) (number : ℕ) (h : Held) →
+    ensures admitted { (steps : List CapacityStep) (entries : List Entry) (number : ℕ) (h : Held) →
         IsLegal steps entries → held_as number (state_after entries).held ≡ Some h →
         IsAdmission entries number h.play.start h.play.segments }
-    ensures whole { (steps : List CapStep) (entries : List Entry) (number start : ℕ)
+    ensures whole { (steps : List CapacityStep) (entries : List Entry) (number start : ℕ)
         (segments : List Segment) → IsLegal steps entries →
         IsAdmission entries number start segments →
         IsUnhalted entries number →
         held_as number (state_after entries).held ≡ Some (admitted_play number start segments) }
-    ensures cut { (steps : List CapStep) (entries : List Entry) (number start keep i : ℕ)
+    ensures cut { (steps : List CapacityStep) (entries : List Entry) (number start keep i : ℕ)
         (segments : List Segment) → IsLegal steps entries →
         IsAdmission entries number start segments →
         IsHalt entries i number keep → held_as number (state_after entries).held
         ≡ Some (halted_play keep (admitted_play number start segments)) }
-    ensures earlier { (steps : List CapStep) (entries : List Entry) (number keep i : ℕ) →
+    ensures earlier { (steps : List CapacityStep) (entries : List Entry) (number keep i : ℕ) →
         IsLegal steps entries → IsHalt entries i number keep → number < i }
 {}
 
 /// The machine gives one answer and one next state to a command in a state.
 pub fn law_one_step()
-    ensures answer { (steps : List CapStep) (state next then : State) (place : ℕ)
+    ensures answer { (steps : List CapacityStep) (state next then : State) (place : ℕ)
         (command : Command) (one other : Answer) → IsStep steps state place command one next →
         IsStep steps state place command other then → one ≡ other }
-    ensures next { (steps : List CapStep) (state next then : State) (place : ℕ)
+    ensures next { (steps : List CapacityStep) (state next then : State) (place : ℕ)
         (command : Command) (one other : Answer) → IsStep steps state place command one next →
         IsStep steps state place command other then → next ≡ then }
 {}
 
 /// A list of makers and commands has one legal history.
 pub fn law_one_history()
-    ensures { (steps : List CapStep) (one other : List Entry) → IsLegal steps one →
+    ensures { (steps : List CapacityStep) (one other : List Entry) → IsLegal steps one →
         IsLegal steps other →
         map (λ (e : Entry). e.maker) one ≡ map (λ (e : Entry). e.maker) other →
         map (λ (e : Entry). e.command) one ≡ map (λ (e : Entry). e.command) other → one ≡ other }
@@ -84,10 +84,10 @@ pub fn law_one_history()
 /// After a legal history as many plays are open as were admitted and not halted, and now is the
 /// latest slot in which a play was asked for, or 0.
 pub fn law_counts()
-    ensures open { (steps : List CapStep) (entries : List Entry) → IsLegal steps entries →
+    ensures open { (steps : List CapacityStep) (entries : List Entry) → IsLegal steps entries →
         open_count entries + count_by (λ (e : Entry). is_halt e.command) entries
         ≡ count_by (λ (e : Entry). is_admission e.answer) entries }
-    ensures now { (steps : List CapStep) (entries : List Entry) → IsLegal steps entries →
+    ensures now { (steps : List CapacityStep) (entries : List Entry) → IsLegal steps entries →
         (state_after entries).now ≡ latest_asked entries }
 {}
 
@@ -106,7 +106,7 @@ pub fn law_makers()
 /// A play that is open among its maker's own entries can be halted, in a legal history in which
 /// each play is halted by its own maker.
 pub fn law_own_play()
-    ensures { (steps : List CapStep) (entries : List Entry) (maker number keep : ℕ) →
+    ensures { (steps : List CapacityStep) (entries : List Entry) (maker number keep : ℕ) →
         IsLegal steps entries → AreHaltsOwn entries →
         IsOpenAmong (made_by maker entries) number keep →
         CanHalt (state_after entries) number keep }
@@ -123,7 +123,7 @@ pub fn law_bookings()
           answer = Answer.Admitted start;
         } ∷ [])
         t ≡ booked_after entries t + asked_at segments start t }
-    ensures halted { (steps : List CapStep) (entries : List Entry)
+    ensures halted { (steps : List CapacityStep) (entries : List Entry)
         (maker number keep start t : ℕ) (segments : List Segment) → IsLegal steps entries →
         IsPlan segments → IsAdmission entries number start segments →
         CanHalt (state_after entries) number keep → booked_after (entries ++ record {
@@ -140,7 +140,7 @@ pub fn law_bookings()
 /// A play that is admitted begins in the slot after the latest one in which a play was asked for,
 /// up to its own entry.
 pub fn law_starts()
-    ensures { (steps : List CapStep) (entries : List Entry) (number start : ℕ)
+    ensures { (steps : List CapacityStep) (entries : List Entry) (number start : ℕ)
         (segments : List Segment) → IsLegal steps entries →
         IsAdmission entries number start segments →
         start ≡ latest_asked (take (number + 1) entries) + 1 }
@@ -150,17 +150,17 @@ pub fn law_starts()
 /// before it; the slot of the look, or now where that is later; and what the entries before it book
 /// there.
 pub fn law_looks()
-    ensures now { (steps : List CapStep) (entries : List Entry) (place slot now at booked : ℕ)
+    ensures now { (steps : List CapacityStep) (entries : List Entry) (place slot now at booked : ℕ)
         (none : Entry) → IsLegal steps entries → place < length entries →
         (slice_index_or entries place none).command ≡ Command.Look slot →
         (slice_index_or entries place none).answer ≡ Answer.Looked now at booked →
         now ≡ latest_asked (take place entries) }
-    ensures at { (steps : List CapStep) (entries : List Entry) (place slot now at booked : ℕ)
+    ensures at { (steps : List CapacityStep) (entries : List Entry) (place slot now at booked : ℕ)
         (none : Entry) → IsLegal steps entries → place < length entries →
         (slice_index_or entries place none).command ≡ Command.Look slot →
         (slice_index_or entries place none).answer ≡ Answer.Looked now at booked →
         at ≡ max now slot }
-    ensures booked { (steps : List CapStep) (entries : List Entry) (place slot now at booked : ℕ)
+    ensures booked { (steps : List CapacityStep) (entries : List Entry) (place slot now at booked : ℕ)
         (none : Entry) → IsLegal steps entries → place < length entries →
         (slice_index_or entries place none).command ≡ Command.Look slot →
         (slice_index_or entries place none).answer ≡ Answer.Looked now at booked →
@@ -170,7 +170,7 @@ pub fn law_looks()
 /// A journal keeps a place for the halt of each open play: where no more than the limit are taken,
 /// halts alone never pass it, however many more there are.
 pub fn law_halts_fit()
-    ensures { (steps : List CapStep) (entries more : List Entry) (limit : ℕ) →
+    ensures { (steps : List CapacityStep) (entries more : List Entry) (limit : ℕ) →
         IsLegal steps (entries ++ more) → All (λ (e : Entry). is_halt e.command ≡ true) more →
         places_taken entries ≤ limit → length (entries ++ more) ≤ limit }
 {}

@@ -12,7 +12,7 @@ mod plain;
 
 use super::*;
 use plan_cert::{Plan, Segment};
-use slot_calendar::{CapStep, Profile};
+use slot_calendar::{CapacityStep, Profile};
 use std::alloc::{AllocError, Global};
 use std::process::Abort;
 use std::test::Fail;
@@ -41,7 +41,7 @@ pub(crate) fn book_of(
 ) -> Result<Book, Fail> {
     let mut steps = Vec::new(alloc);
     for (from, bytes) in pairs {
-        steps.push(CapStep {
+        steps.push(CapacityStep {
             from: *from,
             bytes: *bytes,
         })?;

@@ -11,7 +11,7 @@ use Rattle.std.proofs.lemmas.List.Splits.{length-slice_split}
 use Rattle.std.proofs.lemmas.Option.{none-some, same_Some}
 use Rattle.vod_base.specs.Names.{is_good_name}
 use Rattle.vod_base.specs.Numbers.{number_of}
-use Rattle.slot_calendar.specs.declared.profiles.CapStep.{CapStep}
+use Rattle.slot_calendar.specs.declared.profiles.CapacityStep.{CapacityStep}
 use Rattle.command_words.specs.Settings.{in_range, number_or, one_name, one_number, values_of}
 use Rattle.command_words.specs.Capacities.{IsFront, capacity_of, flat_steps, may_follow, one_capacity, part_more, stands_after, step_more, step_of, steps_of}
 use Rattle.command_words.specs.Keys.{film_given, cert_given, script_given, buffer_given, startup_given, slot_given, capacity_given, journal_given, port_given, workers_given, connections_given, seed_given, pictures_given, plays_given, one_kind, one_bind}
@@ -54,7 +54,7 @@ name_found name (value ∷ other ∷ others) e = absurd (none-some _ e)
 
 -- ---- a capacity
 -- steps that were read so far
-record AreRead (steps : List CapStep) : Type 0 where
+record AreRead (steps : List CapacityStep) : Type 0 where
   front : IsFront steps
   early : All (λ step. step.from ≤ 2 ^ 62) steps
 
@@ -66,10 +66,10 @@ none_read = record {
     ascend = λ i inside. absurd (omega (arith, inside));
     small = λ i inside. absurd (omega (arith, inside));
   };
-  early = All-nil (λ (step : CapStep). step.from ≤ 2 ^ 62);
+  early = All-nil (λ (step : CapacityStep). step.from ≤ 2 ^ 62);
 }
 
-one_read : (steps : List CapStep) (step : CapStep) → AreRead steps → may_follow steps step ≡ true → AreRead (steps ++ step ∷ [])
+one_read : (steps : List CapacityStep) (step : CapacityStep) → AreRead steps → may_follow steps step ≡ true → AreRead (steps ++ step ∷ [])
 one_read steps step read may =
     let all = and_parts (nat_lt (length steps) 64)
     (stands_after steps step.from && (nat_le step.from (2 ^ 62) && nat_le step.bytes (2 ^ 42))) may in
@@ -77,41 +77,41 @@ one_read steps step read may =
     let small = and_parts (nat_le step.from (2 ^ 62)) (nat_le step.bytes (2 ^ 42)) rest.1 in
     record {
       front = front_more steps step read.front may;
-      early = All-push (λ (s : CapStep). s.from ≤ 2 ^ 62) steps step read.early (leb-true step.from (2 ^ 62) small.0);
+      early = All-push (λ (s : CapacityStep). s.from ≤ 2 ^ 62) steps step read.early (leb-true step.from (2 ^ 62) small.0);
     }
 
-some_read : (steps : List CapStep) → AreRead steps → 1 ≤ length steps → IsCapacity steps
+some_read : (steps : List CapacityStep) → AreRead steps → 1 ≤ length steps → IsCapacity steps
 some_read steps read some = (profile_of steps read.front some, read.early)
 
 -- nothing comes of parts after one that writes no step
-none_after : (parts : List (List ℕ)) (steps : List CapStep) → fold part_more None parts ≡ Some steps → ⊥
+none_after : (parts : List (List ℕ)) (steps : List CapacityStep) → fold part_more None parts ≡ Some steps → ⊥
 none_after [] steps e = none-some _ e
 none_after (part ∷ parts) steps e = none_after parts steps e
 
 -- the step of a part that others follow
-part_found : (front : List CapStep) (o : Option CapStep) (parts : List (List ℕ)) (steps : List CapStep) →
+part_found : (front : List CapacityStep) (o : Option CapacityStep) (parts : List (List ℕ)) (steps : List CapacityStep) →
     fold part_more (step_more front o) parts ≡ Some steps →
-    (step : CapStep) × (may_follow front step ≡ true) × (fold part_more (Some (front ++ step ∷ [])) parts ≡ Some steps)
+    (step : CapacityStep) × (may_follow front step ≡ true) × (fold part_more (Some (front ++ step ∷ [])) parts ≡ Some steps)
 part_found front None parts steps e = absurd (none_after parts steps e)
 part_found front (Some step) parts steps e = by (may_follow front step) refl e
   where
     by : (taken : Bool) → may_follow front step ≡ taken →
         fold part_more (if taken then Some (front ++ step ∷ []) else None) parts ≡ Some steps →
-        (s : CapStep) × (may_follow front s ≡ true) × (fold part_more (Some (front ++ s ∷ [])) parts ≡ Some steps)
+        (s : CapacityStep) × (may_follow front s ≡ true) × (fold part_more (Some (front ++ s ∷ [])) parts ≡ Some steps)
     by false may e = absurd (none_after parts steps e)
     by true may e = (step, may, e)
 
-parts_read : (front : List CapStep) (parts : List (List ℕ)) (steps : List CapStep) → AreRead front →
+parts_read : (front : List CapacityStep) (parts : List (List ℕ)) (steps : List CapacityStep) → AreRead front →
     fold part_more (Some front) parts ≡ Some steps →
     AreRead steps × (length front + length parts ≤ length steps)
 parts_read front [] steps read e =
-    subst (λ (ss : List CapStep). AreRead ss × (length front + 0 ≤ length ss)) (same_Some front steps e) (read, omega arith)
+    subst (λ (ss : List CapacityStep). AreRead ss × (length front + 0 ≤ length ss)) (same_Some front steps e) (read, omega arith)
 parts_read front (part ∷ parts) steps read e =
     let next = part_found front (step_of part) parts steps e in
     let rest = parts_read (front ++ next.0 ∷ []) parts steps (one_read front next.0 read next.1) next.2 in
     (rest.0, omega (arith, rest.1, length-append front (next.0 ∷ [])))
 
-steps_read : (text : List ℕ) (steps : List CapStep) → steps_of text ≡ Some steps → IsCapacity steps
+steps_read : (text : List ℕ) (steps : List CapacityStep) → steps_of text ≡ Some steps → IsCapacity steps
 steps_read text steps e =
     let read = parts_read [] (slice_split (λ b. b == 44) text) steps none_read e in
     some_read steps read.0 (omega (arith, read.1, length-slice_split (λ b. b == 44) text))
@@ -121,7 +121,7 @@ flat_capacity bytes fits =
     some_read (flat_steps bytes)
     (one_read [] (record { from = 0; bytes = bytes }) none_read (le-leb bytes (2 ^ 42) fits)) (omega arith)
 
-text_capacity : (text : List ℕ) (steps : List CapStep) → capacity_of text ≡ Some steps → IsCapacity steps
+text_capacity : (text : List ℕ) (steps : List CapacityStep) → capacity_of text ≡ Some steps → IsCapacity steps
 text_capacity text steps e = by (nat_lt (position_or_len (λ b. b == 58) text) (length text)) e
   where
     by : (many : Bool)
@@ -132,7 +132,7 @@ text_capacity text steps e = by (nat_lt (position_or_len (λ b. b == 58) text) (
         let bytes = last_step_found flat_steps (in_range 1 (2 ^ 42) (number_of text)) steps e in
         subst IsCapacity bytes.2 (flat_capacity bytes.0 (between_found 1 (2 ^ 42) bytes.0 (number_of text) bytes.1).1)
 
-capacity_asked : (steps : List CapStep) (values : List (List ℕ)) → one_capacity values ≡ Some steps → IsCapacity steps
+capacity_asked : (steps : List CapacityStep) (values : List (List ℕ)) → one_capacity values ≡ Some steps → IsCapacity steps
 capacity_asked steps [] e = subst IsCapacity (same_Some (flat_steps 50000) steps e) (flat_capacity 50000 (omega arith))
 capacity_asked steps (value ∷ []) e = text_capacity value steps e
 capacity_asked steps (value ∷ other ∷ others) e = absurd (none-some _ e)

@@ -7,27 +7,27 @@ use Rattle.std.proofs.lemmas.List.Sums.{fails_before_first}
 use Rattle.std.proofs.lemmas.List.Splits.{slice_split_first, slice_split_none}
 use Rattle.std.proofs.Math.ListN.{get_or-append}
 use Rattle.std.proofs.Math.Seq.{get_or-append_seam}
-use Rattle.slot_calendar.specs.declared.profiles.CapStep.{CapStep}
+use Rattle.slot_calendar.specs.declared.profiles.CapacityStep.{CapacityStep}
 use Rattle.slot_calendar.specs.Profiles.{IsProfile, no_step, step_at}
 use Rattle.command_words.specs.Capacities.{IsFront, may_follow, part_more, stands_after, step_more, step_of}
 
 -- what a step that may follow is known for
-pub record MayFollow (steps : List CapStep) (step : CapStep) : Type 0 where
+pub record MayFollow (steps : List CapacityStep) (step : CapacityStep) : Type 0 where
   pub short : length steps < 64
   pub first : length steps ≡ 0 → step.from ≡ 0
   pub later : 0 < length steps → (step_at steps (length steps - 1)).from < step.from
   pub small : step.bytes ≤ 2 ^ 42
 
-at_start : (steps : List CapStep) (slot : ℕ) → stands_after steps slot ≡ true → length steps ≡ 0 → slot ≡ 0
+at_start : (steps : List CapacityStep) (slot : ℕ) → stands_after steps slot ≡ true → length steps ≡ 0 → slot ≡ 0
 at_start steps slot e none = eqb-true slot 0 (rw (eq-eqb (length steps) 0 none) at e)
 
-after_last : (steps : List CapStep) (slot : ℕ) → stands_after steps slot ≡ true → 0 < length steps
+after_last : (steps : List CapacityStep) (slot : ℕ) → stands_after steps slot ≡ true → 0 < length steps
     → (step_at steps (length steps - 1)).from < slot
 after_last steps slot e some =
     let apart : (length steps == 0) ≡ false = ne_eqb (length steps) 0 (λ none. omega (arith, some, none)) in
     ltb-true (step_at steps (length steps - 1)).from slot (rw apart at e)
 
-follows : (steps : List CapStep) (step : CapStep) → may_follow steps step ≡ true → MayFollow steps step
+follows : (steps : List CapacityStep) (step : CapacityStep) → may_follow steps step ≡ true → MayFollow steps step
 follows steps step e =
     let all = and_parts (nat_lt (length steps) 64)
     (stands_after steps step.from && (nat_le step.from (2 ^ 62) && nat_le step.bytes (2 ^ 42))) e in
@@ -41,20 +41,20 @@ follows steps step e =
     }
 
 -- a step before the last one, and the last one
-old_step : (steps : List CapStep) (step : CapStep) (i : ℕ) → i < length steps → step_at (steps ++ step ∷ []) i ≡ step_at steps i
+old_step : (steps : List CapacityStep) (step : CapacityStep) (i : ℕ) → i < length steps → step_at (steps ++ step ∷ []) i ≡ step_at steps i
 old_step steps step i inside = get_or-append steps (step ∷ []) no_step i inside
 
-new_step : (steps : List CapStep) (step : CapStep) (i : ℕ) → i ≡ length steps → step_at (steps ++ step ∷ []) i ≡ step
+new_step : (steps : List CapacityStep) (step : CapacityStep) (i : ℕ) → i ≡ length steps → step_at (steps ++ step ∷ []) i ≡ step
 new_step steps step i last = ap (step_at (steps ++ step ∷ [])) last ∙ get_or-append_seam steps step [] no_step
 
-first_more : (steps : List CapStep) (step : CapStep) → IsFront steps → MayFollow steps step
+first_more : (steps : List CapacityStep) (step : CapacityStep) → IsFront steps → MayFollow steps step
     → (step_at (steps ++ step ∷ []) 0).from ≡ 0
 first_more steps step front more = elim (cases_lt 0 (length steps)) [
-  | inl some ↦ ap (λ (s : CapStep). s.from) (old_step steps step 0 some) ∙ front.first some
-  | inr none ↦ ap (λ (s : CapStep). s.from) (new_step steps step 0 (omega (arith, none))) ∙ more.first (omega (arith, none))
+  | inl some ↦ ap (λ (s : CapacityStep). s.from) (old_step steps step 0 some) ∙ front.first some
+  | inr none ↦ ap (λ (s : CapacityStep). s.from) (new_step steps step 0 (omega (arith, none))) ∙ more.first (omega (arith, none))
 ]
 
-ascend_more : (steps : List CapStep) (step : CapStep) → IsFront steps → MayFollow steps step → (i : ℕ) →
+ascend_more : (steps : List CapacityStep) (step : CapacityStep) → IsFront steps → MayFollow steps step → (i : ℕ) →
     i + 1 < length (steps ++ step ∷ []) →
     (step_at (steps ++ step ∷ []) i).from < (step_at (steps ++ step ∷ []) (i + 1)).from
 ascend_more steps step front more i inside = elim (cases_lt (i + 1) (length steps)) [
@@ -72,7 +72,7 @@ ascend_more steps step front more i inside = elim (cases_lt (i + 1) (length step
       rw here (rw next below)
 ]
 
-small_more : (steps : List CapStep) (step : CapStep) → IsFront steps → MayFollow steps step → (i : ℕ) →
+small_more : (steps : List CapacityStep) (step : CapacityStep) → IsFront steps → MayFollow steps step → (i : ℕ) →
     i < length (steps ++ step ∷ []) →
     (step_at (steps ++ step ∷ []) i).bytes ≤ 2 ^ 42
 small_more steps step front more i inside = elim (cases_lt i (length steps)) [
@@ -82,7 +82,7 @@ small_more steps step front more i inside = elim (cases_lt i (length steps)) [
       rw (new_step steps step i (omega (arith, inside, last, long))) more.small
 ]
 
-pub front_more : (steps : List CapStep) (step : CapStep) → IsFront steps → may_follow steps step ≡ true
+pub front_more : (steps : List CapacityStep) (step : CapacityStep) → IsFront steps → may_follow steps step ≡ true
     → IsFront (steps ++ step ∷ [])
 front_more steps step front may =
     let more : MayFollow steps step = follows steps step may in
@@ -104,7 +104,7 @@ none_front = record {
 }
 
 -- with a step more there are some
-pub some_more : {more : List CapStep} (steps : List CapStep) (step : Option CapStep) → step_more steps step ≡ Some more
+pub some_more : {more : List CapacityStep} (steps : List CapacityStep) (step : Option CapacityStep) → step_more steps step ≡ Some more
     → 1 ≤ length more
 some_more steps None e = absurd (cc)
 some_more {more} steps (Some step) e = by (may_follow steps step) e
@@ -114,7 +114,7 @@ some_more {more} steps (Some step) e = by (may_follow steps step) e
     by false put = absurd (cc)
 
 -- some steps that are a front are a profile
-pub profile_of : (steps : List CapStep) → IsFront steps → 1 ≤ length steps → IsProfile steps
+pub profile_of : (steps : List CapacityStep) → IsFront steps → 1 ≤ length steps → IsProfile steps
 profile_of steps front some = record {
   some = some;
   few = front.few;
@@ -129,7 +129,7 @@ none_more [] = refl
 none_more (part ∷ parts) = none_more parts
 
 -- a part before a comma: what is read of it decides, with the rest
-pub part_first : {part rest : List ℕ} (steps : List CapStep) (text : List ℕ) → position_or_len (λ b. b == 44) text < length text →
+pub part_first : {part rest : List ℕ} (steps : List CapacityStep) (text : List ℕ) → position_or_len (λ b. b == 44) text < length text →
     part ≡ before_first (λ b. b == 44) text → rest ≡ after_first (λ b. b == 44) text →
     fold part_more (Some steps) (slice_split (λ b. b == 44) text)
     ≡ fold part_more (step_more steps (step_of part)) (slice_split (λ b. b == 44) rest)
@@ -140,17 +140,17 @@ part_first {part} steps text inside before after =
     ∙ ap (λ (r : List ℕ). fold part_more (step_more steps (step_of part)) (slice_split (λ b. b == 44) r)) (sym after)
 
 -- the last part
-pub part_last : (steps : List CapStep) (text : List ℕ) → position_or_len (λ b. b == 44) text ≡ length text →
+pub part_last : (steps : List CapacityStep) (text : List ℕ) → position_or_len (λ b. b == 44) text ≡ length text →
     fold part_more (Some steps) (slice_split (λ b. b == 44) text) ≡ step_more steps (step_of text)
 part_last steps text none =
     ap (fold part_more (Some steps)) (slice_split_none (λ b. b == 44) text
     (All-from_get_or (λ b. (b == 44) ≡ false) text 0 (λ i inside. fails_before_first (λ b. b == 44) text i 0 (rw none inside))))
 
 -- a part that writes no step which may stand there
-pub part_bad : {part rest : List ℕ} (steps : List CapStep) (text : List ℕ) → position_or_len (λ b. b == 44) text < length text →
+pub part_bad : {part rest : List ℕ} (steps : List CapacityStep) (text : List ℕ) → position_or_len (λ b. b == 44) text < length text →
     part ≡ before_first (λ b. b == 44) text → rest ≡ after_first (λ b. b == 44) text → step_more steps (step_of part) ≡ None →
     fold part_more (Some steps) (slice_split (λ b. b == 44) text) ≡ None
 part_bad {rest} steps text inside before after bad =
     part_first steps text inside before after
-    ∙ ap (λ (o : Option (List CapStep)). fold part_more o (slice_split (λ b. b == 44) rest)) bad
+    ∙ ap (λ (o : Option (List CapacityStep)). fold part_more o (slice_split (λ b. b == 44) rest)) bad
     ∙ none_more (slice_split (λ b. b == 44) rest)

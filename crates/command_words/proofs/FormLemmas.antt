@@ -10,7 +10,7 @@ use Rattle.std.proofs.lemmas.List.Folds.{Any-from_list_any}
 use Rattle.std.proofs.lemmas.List.Sums.{passes_at_first, split_at_first}
 use Rattle.std.proofs.lemmas.Slice.Eq.{bytes_eq-Decides}
 use Rattle.std.proofs.lemmas.Option.{none-some, same_Some}
-use Rattle.slot_calendar.specs.declared.profiles.CapStep.{CapStep}
+use Rattle.slot_calendar.specs.declared.profiles.CapacityStep.{CapacityStep}
 use Rattle.command_words.specs.Settings.{number_or, one_name, one_number, setting_value, values_of}
 use Rattle.command_words.specs.Capacities.{one_capacity}
 use Rattle.command_words.specs.Keys.{film_given, cert_given, script_given, buffer_given, startup_given, slot_given, capacity_given, journal_given, port_given, workers_given, connections_given, seed_given, pictures_given, plays_given, one_kind, one_bind}
@@ -58,7 +58,7 @@ one_of_name name [] e = absurd (none-some _ e)
 one_of_name name (value ∷ []) e = refl
 one_of_name name (value ∷ other ∷ others) e = absurd (none-some _ e)
 
-few_of_capacity : (steps : List CapStep) (values : List (List ℕ)) → one_capacity values ≡ Some steps → length values ≤ 1
+few_of_capacity : (steps : List CapacityStep) (values : List (List ℕ)) → one_capacity values ≡ Some steps → length values ≤ 1
 few_of_capacity steps [] e = omega arith
 few_of_capacity steps (value ∷ []) e = omega arith
 few_of_capacity steps (value ∷ other ∷ others) e = absurd (none-some _ e)

@@ -5,7 +5,7 @@ use Rattle.std.specs.Prelude.{option_map}
 use Rattle.std.specs.Str.{bytes_eq}
 use Rattle.std.proofs.lemmas.List.{append-nil}
 use Rattle.vod_base.specs.Names.{is_good_name}
-use Rattle.slot_calendar.specs.declared.profiles.CapStep.{CapStep}
+use Rattle.slot_calendar.specs.declared.profiles.CapacityStep.{CapacityStep}
 use Rattle.command_words.specs.Settings.{values_of, one_name, number_or}
 use Rattle.command_words.specs.Keys.{film_given, cert_given, script_given, buffer_given, startup_given, slot_given, capacity_given, journal_given, port_given, workers_given, connections_given, seed_given, pictures_given, plays_given, one_kind, one_bind}
 use Rattle.command_words.specs.Commands.{keys_of}
@@ -57,7 +57,7 @@ journal_read : (settings : List Setting) (journal : ℕ) → are_plain settings 
 journal_read settings journal plain j within =
     key_or 65536 (values_read (codes "journal") settings plain ∙ j) within (omega (arith, within.1))
 
-capacity_read : (settings : List Setting) (steps : List CapStep) → are_plain settings ≡ true →
+capacity_read : (settings : List Setting) (steps : List CapacityStep) → are_plain settings ≡ true →
     picked (codes "capacity") settings ≡ steps_text steps ∷ [] →
     IsCapacity steps → capacity_given (given settings) ≡ Some steps
 capacity_read settings steps plain c capacity =

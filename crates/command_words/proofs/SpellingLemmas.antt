@@ -15,7 +15,7 @@ use Rattle.vod_base.specs.Names.{is_good_name}
 use Rattle.vod_base.specs.Numbers.{number_of}
 use Rattle.vod_base.proofs.Digits.{decimal_numerals}
 use Rattle.vod_base.proofs.Written.{decimal_read}
-use Rattle.slot_calendar.specs.declared.profiles.CapStep.{CapStep}
+use Rattle.slot_calendar.specs.declared.profiles.CapacityStep.{CapacityStep}
 use Rattle.slot_calendar.specs.Profiles.{no_step, step_at}
 use Rattle.command_words.specs.Settings.{one_name, in_range, one_number, number_or}
 use Rattle.command_words.specs.Capacities.{step_of, stands_after, may_follow, step_more, part_more, steps_of, one_capacity}
@@ -75,18 +75,18 @@ all_fail c (b ∷ text) none =
     All-cons (λ b. (b == c) ≡ false) b text here (all_fail c text parts.1)
 
 -- numbers of a step that a text can have
-pub record IsShort (step : CapStep) : Type 0 where
+pub record IsShort (step : CapacityStep) : Type 0 where
   pub from : step.from < 2 ^ 64
   pub bytes : step.bytes < 2 ^ 64
 
-abbrev made_step : ℕ → ℕ → CapStep
+abbrev made_step : ℕ → ℕ → CapacityStep
 made_step from bytes = record { from = from; bytes = bytes }
 
 -- a slot and bytes make a step
-abbrev step_from : Option ℕ → Option ℕ → Option CapStep
+abbrev step_from : Option ℕ → Option ℕ → Option CapacityStep
 step_from slot bytes = option_and_then (λ (from : ℕ). option_map (λ (b : ℕ). made_step from b) bytes) slot
 
-step_text_is : (step : CapStep) → step_text step ≡ decimal step.from ++ 58 ∷ decimal step.bytes
+step_text_is : (step : CapacityStep) → step_text step ≡ decimal step.from ++ 58 ∷ decimal step.bytes
 step_text_is step = append_assoc (decimal step.from) (codes ":") (decimal step.bytes)
 
 step_of_cut : (text front rest : List ℕ) → nat_lt (position_or_len (λ b. b == 58) text) (length text) ≡ true →
@@ -99,7 +99,7 @@ step_of_cut text front rest inside before after =
     ∙ ap (λ (r : List ℕ). step_from (number_of front) (number_of r)) after
 
 -- a written step is read back
-step_back : (step : CapStep) → IsShort step → step_of (step_text step) ≡ Some step
+step_back : (step : CapacityStep) → IsShort step → step_of (step_text step) ≡ Some step
 step_back step short =
     let plain : has_no 58 (decimal step.from) ≡ true = decimal_has_no 58 step.from refl short.from in
     ap step_of (step_text_is step)
@@ -111,14 +111,14 @@ step_back step short =
     ∙ ap (λ (o : Option ℕ). step_from (Some step.from) o) (decimal_read step.bytes short.bytes)
 
 -- a step's text has no comma
-step_one : (step : CapStep) → IsShort step → has_no 44 (step_text step) ≡ true
+step_one : (step : CapacityStep) → IsShort step → has_no 44 (step_text step) ≡ true
 step_one step short =
     none_joined 44 (decimal step.from ++ codes ":") (decimal step.bytes)
     (none_joined 44 (decimal step.from) (codes ":") (decimal_has_no 44 step.from refl short.from) refl)
     (decimal_has_no 44 step.bytes refl short.bytes)
 
 -- the step that stands after others in a capacity may follow them
-step_may : (front : List CapStep) (step : CapStep) (rest : List CapStep) → IsCapacity (front ++ step ∷ rest)
+step_may : (front : List CapacityStep) (step : CapacityStep) (rest : List CapacityStep) → IsCapacity (front ++ step ∷ rest)
     → may_follow front step ≡ true
 step_may front step rest capacity =
     let profile = capacity.0 in
@@ -126,16 +126,16 @@ step_may front step rest capacity =
     let here : step_at (front ++ step ∷ rest) (length front) ≡ step = get_or-append_seam front step rest no_step in
     let few : nat_lt (length front) 64 ≡ true = lt-ltb (length front) 64 (omega (arith, profile.few, long)) in
     let late : nat_le step.from (2 ^ 62) ≡ true = le-leb step.from (2 ^ 62)
-    (subst (λ (s : CapStep). s.from ≤ 2 ^ 62) here (capacity.1 (length front) no_step (omega (arith, long)))) in
+    (subst (λ (s : CapacityStep). s.from ≤ 2 ^ 62) here (capacity.1 (length front) no_step (omega (arith, long)))) in
     let small : nat_le step.bytes (2 ^ 42) ≡ true = le-leb step.bytes (2 ^ 42)
-    (subst (λ (s : CapStep). s.bytes ≤ 2 ^ 42) here (profile.small (length front) (omega (arith, long)))) in
+    (subst (λ (s : CapacityStep). s.bytes ≤ 2 ^ 42) here (profile.small (length front) (omega (arith, long)))) in
     let stands : stands_after front step.from ≡ true = stands_here front step rest capacity here in
     and_from (nat_lt (length front) 64)
     (stands_after front step.from && (nat_le step.from (2 ^ 62) && nat_le step.bytes (2 ^ 42))) few
     (and_from (stands_after front step.from) (nat_le step.from (2 ^ 62) && nat_le step.bytes (2 ^ 42)) stands
     (and_from (nat_le step.from (2 ^ 62)) (nat_le step.bytes (2 ^ 42)) late small))
   where
-    stands_here : (front : List CapStep) (step : CapStep) (rest : List CapStep) → IsCapacity (front ++ step ∷ rest) →
+    stands_here : (front : List CapacityStep) (step : CapacityStep) (rest : List CapacityStep) → IsCapacity (front ++ step ∷ rest) →
         step_at (front ++ step ∷ rest) (length front) ≡ step → stands_after front step.from ≡ true
     stands_here [] step rest capacity here = eq-eqb step.from 0 capacity.0.first
     stands_here (s ∷ front) step rest capacity here =
@@ -146,8 +146,8 @@ step_may front step rest capacity =
         let before : step_at (steps ++ step ∷ rest) (length steps - 1) ≡ step_at steps (length steps - 1) =
         get_or-append steps (step ∷ rest) no_step (length steps - 1) (omega arith) in
         let rises : (step_at steps (length steps - 1)).from < step.from =
-        subst (λ (t : CapStep). t.from < step.from) before
-        (subst (λ (t : CapStep). (step_at (steps ++ step ∷ rest) (length steps - 1)).from < t.from) here
+        subst (λ (t : CapacityStep). t.from < step.from) before
+        (subst (λ (t : CapacityStep). (step_at (steps ++ step ∷ rest) (length steps - 1)).from < t.from) here
         (subst (λ (i : ℕ). (step_at (steps ++ step ∷ rest) (length steps - 1)).from
         < (step_at (steps ++ step ∷ rest) i).from) place (capacity.0.ascend (length steps - 1) inside))) in
         let some : (length steps == 0) ≡ false = ne_eqb (length steps) 0 (λ none. omega (arith, none)) in
@@ -155,7 +155,7 @@ step_may front step rest capacity =
         ∙ lt-ltb (step_at steps (length steps - 1)).from step.from rises
 
 -- a step that may follow is taken
-pub step_taken : (front : List CapStep) (step : CapStep) (rest : List CapStep) →
+pub step_taken : (front : List CapacityStep) (step : CapacityStep) (rest : List CapacityStep) →
     IsCapacity (front ++ step ∷ rest) → IsShort step →
     part_more (Some front) (step_text step) ≡ Some (front ++ step ∷ [])
 step_taken front step rest capacity short =
@@ -163,22 +163,22 @@ step_taken front step rest capacity short =
     ∙ ap (λ (b : Bool). if b then Some (front ++ step ∷ []) else None) (step_may front step rest capacity)
 
 -- the numbers of a capacity's step are short
-short_step : (front : List CapStep) (step : CapStep) (rest : List CapStep) → IsCapacity (front ++ step ∷ rest) → IsShort step
+short_step : (front : List CapacityStep) (step : CapacityStep) (rest : List CapacityStep) → IsCapacity (front ++ step ∷ rest) → IsShort step
 short_step front step rest capacity =
     let long = length-append front (step ∷ rest) in
     let here : step_at (front ++ step ∷ rest) (length front) ≡ step = get_or-append_seam front step rest no_step in
     let late : step.from ≤ 2 ^ 62 =
-    subst (λ (s : CapStep). s.from ≤ 2 ^ 62) here (capacity.1 (length front) no_step (omega (arith, long))) in
+    subst (λ (s : CapacityStep). s.from ≤ 2 ^ 62) here (capacity.1 (length front) no_step (omega (arith, long))) in
     let small : step.bytes ≤ 2 ^ 42 =
-    subst (λ (s : CapStep). s.bytes ≤ 2 ^ 42) here (capacity.0.small (length front) (omega (arith, long))) in
+    subst (λ (s : CapacityStep). s.bytes ≤ 2 ^ 42) here (capacity.0.small (length front) (omega (arith, long))) in
     record { from = omega (arith, late); bytes = omega (arith, small) }
 
 -- one step more in front
-moved : (front : List CapStep) (step : CapStep) (rest : List CapStep) → (front ++ step ∷ []) ++ rest ≡ front ++ step ∷ rest
+moved : (front : List CapacityStep) (step : CapacityStep) (rest : List CapacityStep) → (front ++ step ∷ []) ++ rest ≡ front ++ step ∷ rest
 moved front step rest = append_assoc front (step ∷ []) rest
 
 -- written steps are read back, after those in front of them
-pub steps_back : (front : List CapStep) (step : CapStep) (rest : List CapStep) → IsCapacity (front ++ step ∷ rest) →
+pub steps_back : (front : List CapacityStep) (step : CapacityStep) (rest : List CapacityStep) → IsCapacity (front ++ step ∷ rest) →
     fold part_more (Some front) (slice_split (λ b. b == 44) (steps_text (step ∷ rest))) ≡ Some (front ++ step ∷ rest)
 steps_back front step [] capacity =
     let short = short_step front step [] capacity in
@@ -194,13 +194,13 @@ steps_back front step (next ∷ rest) capacity =
     ∙ ap (fold part_more (Some front))
     (slice_split_at (λ b. b == 44) (step_text step) 44 (steps_text (next ∷ rest))
     (all_fail 44 (step_text step) (step_one step short)) refl)
-    ∙ ap (λ (o : Option (List CapStep)). fold part_more o
+    ∙ ap (λ (o : Option (List CapacityStep)). fold part_more o
     (slice_split (λ b. b == 44) (steps_text (next ∷ rest)))) (step_taken front step (next ∷ rest) capacity short)
     ∙ steps_back (front ++ step ∷ []) next rest (subst IsCapacity (sym whole) capacity)
-    ∙ ap (λ (steps : List CapStep). Some steps) whole
+    ∙ ap (λ (steps : List CapacityStep). Some steps) whole
 
 -- a colon stands in written steps
-colon_inside : (step : CapStep) (rest : List CapStep) → IsShort step →
+colon_inside : (step : CapacityStep) (rest : List CapacityStep) → IsShort step →
     nat_lt (position_or_len (λ b. b == 58) (steps_text (step ∷ rest))) (length (steps_text (step ∷ rest))) ≡ true
 colon_inside step [] short =
     subst (λ (t : List ℕ). nat_lt (position_or_len (λ b. b == 58) t) (length t) ≡ true) (sym (step_text_is step))
@@ -215,7 +215,7 @@ colon_inside step (next ∷ rest) short =
     (inside_of 58 (decimal step.from) (decimal step.bytes ++ tail) refl (decimal_has_no 58 step.from refl short.from))
 
 -- a written capacity is read back
-pub capacity_back : (steps : List CapStep) (values : List (List ℕ)) → values ≡ steps_text steps ∷ []
+pub capacity_back : (steps : List CapacityStep) (values : List (List ℕ)) → values ≡ steps_text steps ∷ []
     → IsCapacity steps → one_capacity values ≡ Some steps
 capacity_back [] values given capacity = absurd (omega (arith, capacity.0.some))
 capacity_back (step ∷ rest) values given capacity =

@@ -4,17 +4,17 @@ use Rattle.std.specs.Prelude.{nat_lt, nat_le, List, [], ◌∷◌, ◌++◌, len
 use Rattle.std.specs.Prelude.{option_map}
 use Rattle.std.specs.List.{before_first, after_first, position_or_len, slice_split, fold}
 use Rattle.std.specs.Option.{option_and_then}
-use Rattle.slot_calendar.specs.declared.profiles.CapStep.{CapStep}
+use Rattle.slot_calendar.specs.declared.profiles.CapacityStep.{CapacityStep}
 use Rattle.slot_calendar.specs.Profiles.{step_at}
 use Rattle.vod_base.specs.Numbers.{number_of}
 use Rattle.command_words.specs.Settings.{in_range}
 
 -- one step of that many bytes in all slots
-abbrev pub flat_steps : ℕ → List CapStep
+abbrev pub flat_steps : ℕ → List CapacityStep
 flat_steps bytes = (record { from = 0; bytes = bytes }) ∷ []
 
 -- a step SLOT:BYTES, split at its first ':'
-abbrev pub step_of : List ℕ → Option CapStep
+abbrev pub step_of : List ℕ → Option CapacityStep
 step_of text =
     if nat_lt (position_or_len (λ b. b == 58) text) (length text)
     then option_and_then (λ from.
@@ -25,44 +25,44 @@ step_of text =
 
 -- a step may stand after these: the first one at slot 0, each other one at a later slot than the
 -- one before
-abbrev pub stands_after : List CapStep → ℕ → Bool
+abbrev pub stands_after : List CapacityStep → ℕ → Bool
 stands_after steps slot = if length steps == 0
     then slot == 0 else nat_lt (step_at steps (length steps - 1)).from slot
 
 -- a step that may follow: at most 64 of them, at slots up to 2^62, of at most 2^42 bytes
-abbrev pub may_follow : List CapStep → CapStep → Bool
+abbrev pub may_follow : List CapacityStep → CapacityStep → Bool
 may_follow steps step =
     nat_lt (length steps) 64
     && (stands_after steps step.from
     && (nat_le step.from (2 ^ 62) && nat_le step.bytes (2 ^ 42)))
 
-abbrev pub step_more : List CapStep → Option CapStep → Option (List CapStep)
+abbrev pub step_more : List CapacityStep → Option CapacityStep → Option (List CapacityStep)
 step_more steps None = None
 step_more steps (Some step) = if may_follow steps step then Some (steps ++ step ∷ []) else None
 
 -- the steps so far, and one that the next part writes
-abbrev pub part_more : Option (List CapStep) → List ℕ → Option (List CapStep)
+abbrev pub part_more : Option (List CapacityStep) → List ℕ → Option (List CapacityStep)
 part_more None part = None
 part_more (Some steps) part = step_more steps (step_of part)
 
 -- the steps that the parts between commas write, each after the ones before
-abbrev pub steps_of : List ℕ → Option (List CapStep)
+abbrev pub steps_of : List ℕ → Option (List CapacityStep)
 steps_of text = fold part_more (Some []) (slice_split (λ b. b == 44) text)
 
 -- steps where a ':' stands in the text, else one number from 1 to 2^42
-abbrev pub capacity_of : List ℕ → Option (List CapStep)
+abbrev pub capacity_of : List ℕ → Option (List CapacityStep)
 capacity_of text =
     if nat_lt (position_or_len (λ b. b == 58) text) (length text)
     then steps_of text else option_map flat_steps (in_range 1 (2 ^ 42) (number_of text))
 
 -- by default 50,000 bytes
-abbrev pub one_capacity : List (List ℕ) → Option (List CapStep)
+abbrev pub one_capacity : List (List ℕ) → Option (List CapacityStep)
 one_capacity [] = Some (flat_steps 50000)
 one_capacity (value ∷ []) = capacity_of value
 one_capacity (value ∷ other ∷ others) = None
 
 -- steps of which each may follow the ones before it; with one at least, they are a profile
-pub record IsFront (steps : List CapStep) : Type 0 where
+pub record IsFront (steps : List CapacityStep) : Type 0 where
   pub few : length steps ≤ 64
   pub first : 0 < length steps → (step_at steps 0).from ≡ 0
   pub ascend : (i : ℕ) → i + 1 < length steps →

@@ -2,7 +2,7 @@
 use Rattle.std.specs.Prelude.{ℕ, ◌-◌, ◌^◌, Bool, true, false, if◌then◌else◌, List, [], ◌∷◌, Option}
 use Rattle.std.specs.Prelude.{Some, None, codes}
 use Rattle.std.specs.Str.{bytes_eq}
-use Rattle.slot_calendar.specs.declared.profiles.CapStep.{CapStep}
+use Rattle.slot_calendar.specs.declared.profiles.CapacityStep.{CapacityStep}
 use Rattle.command_words.specs.Settings.{values_of, one_name, one_number, number_or}
 use Rattle.command_words.specs.Capacities.{one_capacity}
 use Rattle.command_words.specs.declared.orders.Made.{Made}
@@ -31,7 +31,7 @@ abbrev pub slot_given : List (List ℕ) → Option ℕ
 slot_given words = number_or 14400 360 360000 (values_of (codes "slot") words)
 
 -- the capacity of a link, by default 50,000 bytes in each slot
-abbrev pub capacity_given : List (List ℕ) → Option (List CapStep)
+abbrev pub capacity_given : List (List ℕ) → Option (List CapacityStep)
 capacity_given words = one_capacity (values_of (codes "capacity") words)
 
 -- the most entries of a journal, from 2 to 1,048,576, by default 65,536

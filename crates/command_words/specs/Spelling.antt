@@ -3,7 +3,7 @@ use Rattle.std.specs.Prelude.{ℕ, ◌≡◌, ◌≢◌, ◌^◌, ◌<◌, ◌�
 use Rattle.std.specs.Prelude.{All, length, slice_index_or, map, codes, decimal}
 use Rattle.std.specs.Int.{IsInRange}
 use Rattle.vod_base.specs.Names.{is_good_name}
-use Rattle.slot_calendar.specs.declared.profiles.CapStep.{CapStep}
+use Rattle.slot_calendar.specs.declared.profiles.CapacityStep.{CapacityStep}
 use Rattle.slot_calendar.specs.Profiles.{IsProfile}
 use Rattle.command_words.specs.Words.{Source, trace_source, film_source, Viewer, Serving}
 use Rattle.command_words.specs.Words.{ScriptRun, Watching, Order, help, version}
@@ -31,10 +31,10 @@ abbrev pub word_of : Setting → List ℕ
 word_of setting = setting.key ++ (codes "=" ++ setting.value)
 
 -- `SLOT:BYTES`, and such steps with a comma between two
-abbrev pub step_text : CapStep → List ℕ
+abbrev pub step_text : CapacityStep → List ℕ
 step_text step = decimal step.from ++ codes ":" ++ decimal step.bytes
 
-abbrev pub steps_text : List CapStep → List ℕ
+abbrev pub steps_text : List CapacityStep → List ℕ
 steps_text [] = []
 steps_text (step ∷ []) = step_text step
 steps_text (step ∷ next ∷ steps) = step_text step ++ codes "," ++ steps_text (next ∷ steps)
@@ -132,7 +132,7 @@ pub record MayBeFilms (names : List (List ℕ)) : Type 0 where
   pub apart : AreApart names
 
 -- the capacity of a link, whose steps begin at slots up to 2^62
-abbrev pub IsCapacity : List CapStep → Type 0
+abbrev pub IsCapacity : List CapacityStep → Type 0
 IsCapacity steps = IsProfile steps × All (λ step. step.from ≤ 2 ^ 62) steps
 
 -- a client's buffer, in bytes

@@ -5,7 +5,7 @@ use Rattle.std.specs.List.{list_all, list_any}
 use Rattle.std.specs.Option.{option_and_then}
 use Rattle.std.specs.Str.{bytes_eq}
 use Rattle.vod_base.specs.Names.{is_good_name}
-use Rattle.slot_calendar.specs.declared.profiles.CapStep.{CapStep}
+use Rattle.slot_calendar.specs.declared.profiles.CapacityStep.{CapacityStep}
 use Rattle.command_words.specs.Settings.{values_of, one_name, number_or}
 use Rattle.command_words.specs.Keys.{film_given, cert_given, script_given, buffer_given}
 use Rattle.command_words.specs.Keys.{startup_given, slot_given, capacity_given, journal_given}
@@ -34,7 +34,7 @@ pub record Viewer : Type 0 where
 -- a server: the names of its films, the capacity of its link, the most entries of its journal
 pub record Serving : Type 0 where
   pub films : List (List ℕ)
-  pub capacity : List CapStep
+  pub capacity : List CapacityStep
   pub journal : ℕ
   pub listening : Listening
   pub pace : Pace
@@ -42,7 +42,7 @@ pub record Serving : Type 0 where
 -- a script that is run over one link
 pub record ScriptRun : Type 0 where
   pub script : List ℕ
-  pub capacity : List CapStep
+  pub capacity : List CapacityStep
   pub journal : ℕ
   pub slot : ℕ
 

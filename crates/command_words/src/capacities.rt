@@ -9,7 +9,7 @@ ghost use Rattle.command_words.specs.Capacities.{step_more};
 
 use crate::settings::{Given, find_given, number_within};
 use crate::steps::Steps;
-use slot_calendar::{CapStep, MAX_CAPACITY, MAX_STEPS, Profile};
+use slot_calendar::{CapacityStep, MAX_CAPACITY, MAX_STEPS, Profile};
 use std::alloc::Global;
 use vod_base::{LATEST_SLOT, NoMemory, read_number};
 
@@ -33,7 +33,7 @@ pub(crate) fn one_capacity(words: &[String], key: &str) -> Option<Steps>
 /// # Errors
 ///
 /// [`NoMemory`] alone.
-pub fn profile_of(alloc: Global, steps: &[CapStep]) -> Result<Profile, NoMemory>
+pub fn profile_of(alloc: Global, steps: &[CapacityStep]) -> Result<Profile, NoMemory>
     requires { IsProfile steps.now }
     ensures { IfOk result (λ profile. profile ≡ steps.now) }
 {
@@ -41,17 +41,17 @@ pub fn profile_of(alloc: Global, steps: &[CapStep]) -> Result<Profile, NoMemory>
 }
 
 /// The step that a text SLOT:BYTES writes.
-fn read_step(text: &str) -> Option<CapStep>
+fn read_step(text: &str) -> Option<CapacityStep>
     ensures { result ≡ step_of text.now }
 {
     let (slot, bytes) = text.split_once(':')?;
     let from = read_number(slot.as_bytes()).ok()?;
     let bytes = read_number(bytes.as_bytes()).ok()?;
-    Some(CapStep { from, bytes })
+    Some(CapacityStep { from, bytes })
 }
 
 /// Whether a step at the slot may stand after these.
-fn stands_after(steps: &[CapStep], slot: u64) -> bool
+fn stands_after(steps: &[CapacityStep], slot: u64) -> bool
     ensures { result ≡ stands_after steps.now slot }
 {
     match steps.last() {
@@ -61,7 +61,7 @@ fn stands_after(steps: &[CapStep], slot: u64) -> bool
 }
 
 /// Whether the step may follow these.
-fn may_follow(steps: &[CapStep], step: CapStep) -> bool
+fn may_follow(steps: &[CapacityStep], step: CapacityStep) -> bool
     ensures { result ≡ may_follow steps.now step }
 {
     steps.len() < MAX_STEPS
@@ -114,7 +114,7 @@ fn flat_steps(bytes: u64) -> Steps
     ensures profile { IsProfile result }
 {
     let mut steps = Steps::new();
-    steps.push(CapStep { from: 0, bytes });
+    steps.push(CapacityStep { from: 0, bytes });
     steps
 }
 

@@ -2,7 +2,7 @@
 
 ghost use Rattle.std.specs.Prelude.{◌≡◌, ◌<◌, ◌++◌, ◌∷◌, [], length};
 
-use slot_calendar::{CapStep, MAX_STEPS};
+use slot_calendar::{CapacityStep, MAX_STEPS};
 use std::marker::Model;
 
 /// Up to 64 steps of a capacity, each from its slot on, in bytes a slot. They are held without
@@ -11,15 +11,15 @@ use std::marker::Model;
 /// Contracts see the list of the steps.
 #[derive(Debug, Drop)]
 pub struct Steps {
-    steps: [CapStep; MAX_STEPS],
+    steps: [CapacityStep; MAX_STEPS],
     count: usize,
 }
 
 impl Model for Steps {
     ghost use Rattle.std.specs.Prelude.{List, take, ◌≤◌};
-    ghost use Rattle.slot_calendar.specs.declared.profiles.CapStep.{CapStep};
+    ghost use Rattle.slot_calendar.specs.declared.profiles.CapacityStep.{CapacityStep};
 
-    ghost Value = { List CapStep };
+    ghost Value = { List CapacityStep };
 
     ghost view = { λ s. take s.count s.steps };
 
@@ -32,20 +32,20 @@ impl Steps {
         ensures { result ≡ [] }
     {
         Steps {
-            steps: [CapStep { from: 0, bytes: 0 }; MAX_STEPS],
+            steps: [CapacityStep { from: 0, bytes: 0 }; MAX_STEPS],
             count: 0,
         }
     }
 
     /// The steps.
-    pub fn as_slice(&self) -> &[CapStep]
+    pub fn as_slice(&self) -> &[CapacityStep]
         ensures { result.now ≡ self.now }
     {
         &self.steps[..self.count]
     }
 
     /// Puts a step after these.
-    pub(crate) fn push(&mut self, step: CapStep)
+    pub(crate) fn push(&mut self, step: CapacityStep)
         requires { length self.old < 64 }
         ensures { self.new ≡ self.old ++ step ∷ [] }
     {

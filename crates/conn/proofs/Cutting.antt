@@ -1,31 +1,31 @@
--- Lemmas on pieces, on what was sent, and on a seat, one step after another.
+-- Lemmas on elements, on what was sent, and on a seat, one step after another.
 use Rattle.std.proofs.Common.{◌≡◌, ℕ, List, [], ◌++◌, drop, Ok, refl, ap, sym, ◌∙◌, subst}
 use Rattle.std.proofs.lemmas.List.{append-nil, append_assoc}
 use mathlib.Core.List.{IsPrefix}
 use Rattle.admission.specs.declared.entries.Entry.{Entry}
-use Rattle.interleave.specs.Streams.{AreCut, told_length, told_pieces}
-use Rattle.interleave.specs.Pieces.{IsFirst}
-use Rattle.interleave.specs.declared.pieces.Step.{Step}
-use Rattle.interleave.proofs.Streams.{next_pieces}
+use Rattle.interleave.specs.Streams.{AreCut, told_length, told_elements}
+use Rattle.interleave.specs.Elements.{IsFirst}
+use Rattle.interleave.specs.declared.elements.Step.{Step}
+use Rattle.interleave.proofs.Streams.{next_elements}
 use Rattle.station.specs.Seats.{SeatState, IsSameSeat}
 use Rattle.conn.specs.Events.{CutsOn}
 
 pub cuts_none : (input : List ℕ) → CutsOn input input
-cuts_none input = record { each = λ bytes pieces cut. (pieces, cut) }
+cuts_none input = record { each = λ bytes elements cut. (elements, cut) }
 
 pub cuts_on : (a b c : List ℕ) → CutsOn a b → CutsOn b c → CutsOn a c
 cuts_on a b c first second =
-    record { each = λ bytes pieces cut. let next = first.each bytes pieces cut in second.each bytes next.0 next.1 }
+    record { each = λ bytes elements cut. let next = first.each bytes elements cut in second.each bytes next.0 next.1 }
 
--- the piece in front is dropped
+-- the element in front is dropped
 pub cuts_drop : {input rest : List ℕ} {n : ℕ} (step : Step) → IsFirst input (Ok step)
     → told_length (Ok step) ≡ n → rest ≡ drop n input → CutsOn input rest
 cuts_drop {input} {rest} step first length_is dropped = record {
-  each = λ bytes pieces cut.
+  each = λ bytes elements cut.
       let is : drop (told_length (Ok step)) input ≡ rest = ap (λ k. drop k input) length_is ∙ sym dropped in (
-        pieces ++ told_pieces input (Ok step),
-        subst (λ x. AreCut bytes (pieces ++ told_pieces input (Ok step)) x) is
-            (next_pieces input (Ok step) first bytes pieces cut),
+        elements ++ told_elements input (Ok step),
+        subst (λ x. AreCut bytes (elements ++ told_elements input (Ok step)) x) is
+            (next_elements input (Ok step) first bytes elements cut),
       );
 }
 
@@ -54,6 +54,6 @@ seat_on a b c first second = record {
   longer = prefix_on a.seen b.seen c.seen first.longer second.longer;
 }
 
--- a piece of the bytes that wait is dropped
+-- an element of the bytes that wait is dropped
 pub drop_is : {old mid new : List ℕ} (n : ℕ) → new ≡ drop n mid → mid ≡ old → new ≡ drop n old
 drop_is n dropped same = dropped ∙ ap (drop n) same

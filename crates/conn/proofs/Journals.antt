@@ -4,7 +4,7 @@ use Rattle.std.proofs.Common.{take, refl, ap, sym, ◌∙◌, subst, arith}
 use Rattle.std.proofs.lemmas.List.{append-nil, length-append, take_all}
 use mathlib.Core.List.{IsPrefix}
 use Rattle.early_start.specs.Offered.{IsOffer, Offers}
-use Rattle.slot_calendar.specs.declared.profiles.CapStep.{CapStep}
+use Rattle.slot_calendar.specs.declared.profiles.CapacityStep.{CapacityStep}
 use Rattle.slot_calendar.specs.Profiles.{capacity_at}
 use Rattle.plan_cert.specs.declared.Segment.{Segment}
 use Rattle.admission.specs.declared.entries.Answer.{Answer}
@@ -92,7 +92,7 @@ full_longer {from} {more} {entries} {journal} {longer} prefix full = record {
   full = full.full;
 }
 
-offered_longer : {steps : List CapStep} {from slot : ℕ} {journal longer : List Entry} {note : OfferNote} → IsPrefix journal longer
+offered_longer : {steps : List CapacityStep} {from slot : ℕ} {journal longer : List Entry} {note : OfferNote} → IsPrefix journal longer
     → IsOfferedIn steps journal from slot note → IsOfferedIn steps longer from slot note
 offered_longer {steps} {from} {slot} {journal} {longer} {note} prefix offered =
     let same : take note.seen longer ≡ take note.seen journal = prefix-take journal longer prefix note.seen offered.within in
@@ -157,7 +157,7 @@ agree_then grown from (Offered at_slot note ∷ first) more agree later = (
 
 -- ---- a seat
 
-abbrev terms_with : List CapStep → ℕ → ℕ → Terms
+abbrev terms_with : List CapacityStep → ℕ → ℕ → Terms
 terms_with steps limit maker = record { steps = steps; limit = limit; maker = maker }
 
 pub terms_same : (a b : SeatState) → IsSameSeat a b → terms_of b ≡ terms_of a
@@ -235,7 +235,7 @@ offer_agrees {seat} {next} {heard} {plan} {told} {found} same offered =
         first_is = offered.first_is ∙ ap (λ (xs : List Entry). start_after (state_after xs) (min heard (2 ^ 62))) (sym whole);
         offer = subst (λ (xs : List Entry). IsOffer 0 (booked_after xs) (capacity_at seat.steps) plan told.first
             found) (sym whole)
-            (subst (λ (steps : List CapStep). IsOffer 0 (booked_after next.seen) (capacity_at steps) plan
+            (subst (λ (steps : List CapacityStep). IsOffer 0 (booked_after next.seen) (capacity_at steps) plan
             told.first found) same.steps offered.offer);
       },
       omega (arith, offered.seen_is),

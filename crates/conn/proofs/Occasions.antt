@@ -2,8 +2,8 @@
 use Rattle.std.proofs.Common.{◌≡◌, ℕ, false, List, Option, option_map, Ok}
 use Rattle.vod_base.specs.Gates.{Content, Returned, after_take, after_return}
 use Rattle.vod_base.specs.Links.{Doing}
-use Rattle.interleave.specs.Pieces.{IsFirst}
-use Rattle.interleave.specs.declared.pieces.Step.TheVariants.{Request}
+use Rattle.interleave.specs.Elements.{IsFirst}
+use Rattle.interleave.specs.declared.elements.Step.TheVariants.{Message}
 use Rattle.pacer.specs.Pacings.{Pacing}
 use Rattle.session.specs.declared.states.Play.{Play as Played}
 use Rattle.session.specs.declared.states.Setup.{Setup}
@@ -52,6 +52,6 @@ pub record TakenBack (before taken new : Option Content) (returned : Returned) :
 
 -- a request stands in front, and it can be taken up
 pub record RequestInFront (old : Stage) (n : ℕ) : Type 0 where
-  pub first : IsFirst old.input (Ok (Request n))
+  pub first : IsFirst old.input (Ok (Message n))
   pub replied : old.session.waits ≡ false
   pub torn : old.session.torn ≡ false

@@ -1,11 +1,11 @@
 -- Where a connection finds no room for the bytes of an event.
 use Rattle.std.proofs.Common.{◌≡◌, ℕ, ◌+◌, ◌<◌, ◌≤◌, true, length, Ok, inl, inr, arith}
-use Rattle.interleave.specs.Pieces.{IsFirst}
-use Rattle.interleave.specs.declared.pieces.Step.TheVariants.{More}
+use Rattle.interleave.specs.Elements.{IsFirst}
+use Rattle.interleave.specs.declared.elements.Step.TheVariants.{More}
 use Rattle.conn.specs.declared.connections.Connection.{Connection}
 use Rattle.conn.specs.Events.{IsWaiting}
 
--- where no whole piece waits, few bytes do, so an event's bytes find no room only while a reply waits
+-- where no whole element waits, few bytes do, so an event's bytes find no room only while a reply waits
 pub waits_for_room : (c : Connection) (n : ℕ) → (IsFirst c.input (Ok More) → length c.input < 81920) →
     n ≤ 16384 → 131072 < length c.input + n → IsWaiting c →
     c.session.waits ≡ true

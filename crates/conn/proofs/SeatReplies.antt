@@ -15,7 +15,7 @@ use Rattle.admission.specs.declared.entries.Entry.{Entry}
 use Rattle.plan_cert.specs.declared.Segment.{Segment}
 use Rattle.slot_calendar.specs.Calendars.{IsFirstOverflow}
 use Rattle.slot_calendar.specs.Profiles.{capacity_at}
-use Rattle.slot_calendar.specs.declared.profiles.CapStep.{CapStep}
+use Rattle.slot_calendar.specs.declared.profiles.CapacityStep.{CapacityStep}
 use Rattle.station.specs.Seats.{IsSeat, SeatState}
 use Rattle.station.proofs.Makers.{IsAt, all-at}
 use Rattle.std.proofs.lemmas.Option.{slice_get-get_or}
@@ -51,7 +51,7 @@ mine_before before mine made (Text text ∷ parts) told = (
 )
 
 -- an entry of a seat's stands in what it has seen, and was answered in the state before it
-overflow_stands : {command : Command} {slot booked asked : ℕ} (steps : List CapStep) (before : Journal) →
+overflow_stands : {command : Command} {slot booked asked : ℕ} (steps : List CapacityStep) (before : Journal) →
     IsAnswer steps before command (Overflow slot booked asked) →
     (heard : ℕ) ×
     ((plan : List Segment)

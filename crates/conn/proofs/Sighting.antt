@@ -5,11 +5,11 @@ use Rattle.std.proofs.Common.{[], ◌∷◌, ◌++◌, length, take, drop, Optio
 use Rattle.std.proofs.Common.{ap, sym, ◌∙◌, subst, inl, inr, arith}
 use Rattle.std.proofs.lemmas.List.{append-nil, append_assoc, map-append, length-append}
 use Rattle.std.proofs.lemmas.List.{length-take-le}
-use Rattle.interleave.specs.Pieces.{IsFirst}
-use Rattle.interleave.specs.declared.pieces.Step.TheVariants.{Request}
-use Rattle.interleave.specs.declared.pieces.DemuxFault.{DemuxFault}
-use Rattle.interleave.specs.declared.pieces.DemuxFault.TheVariants.{HeadTooLong as LongHead}
-use Rattle.interleave.specs.declared.pieces.DemuxFault.TheVariants.{BodyTooLong as LongBody}
+use Rattle.interleave.specs.Elements.{IsFirst}
+use Rattle.interleave.specs.declared.elements.Step.TheVariants.{Message}
+use Rattle.interleave.specs.declared.elements.DemuxFault.{DemuxFault}
+use Rattle.interleave.specs.declared.elements.DemuxFault.TheVariants.{HeadTooLong as LongHead}
+use Rattle.interleave.specs.declared.elements.DemuxFault.TheVariants.{BodyTooLong as LongBody}
 use Rattle.vod_base.specs.Links.{Doing, IsFrontTold, Sent, HeardBytes, HeardSlot, sends}
 use Rattle.vod_base.specs.Links.{told_more}
 use Rattle.vod_base.proofs.Telling.{told_more-append, told_more-nil}
@@ -32,7 +32,7 @@ use Rattle.conn.specs.Turns.{Outcome, Unasked, Part, Film, Text, Stage}
 use Rattle.conn.specs.Turns.{Taking, Passed, Answered, IsNext}
 use Rattle.conn.specs.Turns.{IsPassed, Takes, TakesAll, after_reply, due_parts, entry_in}
 use Rattle.conn.specs.Turns.{parts_bytes, reply_parts, slot_parts, stage}
-use Rattle.conn.specs.Rounds.{Comes, Ends, Unheard, Overfull, AtPiece, InSlot, InReply}
+use Rattle.conn.specs.Rounds.{Comes, Ends, Unheard, Overfull, AtElement, InSlot, InReply}
 use Rattle.conn.specs.Rounds.{IsIdle, IsStopped, IsUnheard, Round, Runs, RunsAll, ending_bytes}
 use Rattle.conn.specs.Rounds.{ending_doings, ending_events, ending_outcomes, entries_in}
 use Rattle.conn.specs.Rounds.{round_bytes}
@@ -75,14 +75,14 @@ noted_on {a} {b} {c} {xs} {ys} first second = record {
       first.agree (subst (λ terms. AgreeWith terms c.seen (length b.seen) ys) (terms_same a b first.seat) second.agree);
 }
 
--- pieces that are taken up from a stage on
+-- elements that are taken up from a stage on
 pub record TakenLater : Type 0 where
   pub old : Stage
   pub new : Stage
   pub takings : List Taking
   pub takes : TakesAll old takings new
 
--- pieces
+-- elements
 takes_on : (a : Stage) (later : TakenLater) (xs : List Taking) → TakesAll a xs later.old →
     TakesAll a (xs ++ later.takings) later.new
 takes_on a later [] first = subst (λ s. TakesAll s later.takings later.new) first later.takes
@@ -161,7 +161,7 @@ event_stop : {event : Doing} {halt : Outcome} {end : ConnEnd} {count : ℕ} {a b
     IsSent a.told (parts_bytes due) b.told → AreNoted a.seat b.seat (halt ∷ []) → HasTaken b c
     → IsStopped end c.stage → HasEnded (event ∷ []) end count a c
 event_stop {event} {halt} {end} {a} {b} {c} due comes sent noted taken stopped = record {
-  ending = AtPiece (record { event = event; due = due; halt = halt; takings = taken.takings });
+  ending = AtElement (record { event = event; due = due; halt = halt; takings = taken.takings });
   event_is = refl;
   ends = (record { opened = b.stage; comes = comes; takes = taken.takes }, stopped);
   sent = sent_on a.told (parts_bytes due) (takings_bytes taken.takings) sent taken.sent;
@@ -381,7 +381,7 @@ run_over {count} {end} {a} {b} {c} run unheard is =
       noted = subst (λ os. AreNoted a.seat b.seat os) (sym (append-nil (rounds_outcomes run.rounds))) run.noted;
     })
 
--- a piece in front that is too long: what was taken up before it stands, and the connection ends
+-- an element in front that is too long: what was taken up before it stands, and the connection ends
 pub taken_fault : {a b : Sight} (fault : DemuxFault) (end : ConnEnd) → b ≡ a → a.stage.session.torn ≡ false
     → IsFirst a.stage.input (Err fault)
     → IsEndOf fault end → HasTaken a b × IsStopped end b.stage
@@ -418,7 +418,7 @@ pub reply_sent : (session : Standing) (old new : Option (List Doing)) → IsTold
     IsSent old (parts_bytes (reply_parts session)) new
 reply_sent session old new told = told_if (can_reply session) (Text session.text ∷ []) old (append-nil session.text) told
 
--- the piece in front was passed over
+-- the element in front was passed over
 pub taken_passed : (a b : Sight) (n : ℕ) → IsPassed a.stage.input n → a.stage.session.torn ≡ false →
     b ≡ record a { stage = stage a.stage.session (drop n a.stage.input) } → HasTaken a b
 taken_passed a b n passed torn is = subst (HasTaken a) (sym is)
@@ -426,17 +426,17 @@ taken_passed a b n passed torn is = subst (HasTaken a) (sym is)
     (passed, torn, refl) (sent_none a.told) (noted_none a.seat))
 
 -- the request in front, of so many bytes
-next_is : (a : Stage) (n : ℕ) → IsFirst a.input (Ok (Request n)) → a.session.waits ≡ false
+next_is : (a : Stage) (n : ℕ) → IsFirst a.input (Ok (Message n)) → a.session.waits ≡ false
     → a.session.torn ≡ false → IsNext a (take n a.input)
 next_is a n first replied torn =
     let is : length (take n a.input) ≡ n = length-take-le n a.input first.2 in record {
-      first = subst (λ k. IsFirst a.input (Ok (Request k))) (sym is) first;
+      first = subst (λ k. IsFirst a.input (Ok (Message k))) (sym is) first;
       message_is = ap (λ k. take k a.input) (sym is);
       replied = replied;
       torn = torn;
     }
 
-pub taken_reply : {a b : Sight} {asked : Standing} {n : ℕ} → IsFirst a.stage.input (Ok (Request n)) →
+pub taken_reply : {a b : Sight} {asked : Standing} {n : ℕ} → IsFirst a.stage.input (Ok (Message n)) →
     a.stage.session.waits ≡ false → a.stage.session.torn ≡ false →
     HasAsked a.stage.session (take n a.stage.input) asked a.seat b.seat →
     b.stage ≡ stage (after_reply asked) (drop n a.stage.input) →
@@ -481,7 +481,7 @@ pub stage_is : {session is : Standing} {input waits : List ℕ} → session ≡ 
     → stage session input ≡ stage is waits
 stage_is {is} {input} session_is input_is = ap (λ s. stage s input) session_is ∙ ap (stage is) input_is
 
--- a piece that is too long ends a connection
+-- an element that is too long ends a connection
 pub fault_ends : (fault : DemuxFault) (end : ConnEnd) (c : Connection) → IsEndOf fault end
     → IsFirst c.input (Err fault) → IsTakenUp (Some end) c
 fault_ends LongHead end c is first = subst (λ e. IsTakenUp (Some e) c) (sym is) first

@@ -3,7 +3,7 @@ use Rattle.std.proofs.Common.{◌≡◌, ℕ, ◌+◌, ◌^◌, ◌≤◌, lengt
 use Rattle.conn.specs.declared.reports.ConnEnd.{ConnEnd}
 use Rattle.conn.specs.declared.reports.ConnEnd.TheVariants.{Ended, TornDown, LinkFault, TooMuchInput, HeadTooLong, BodyTooLong, TurnsSpent, NoMemory}
 use Rattle.conn.specs.Endings.{events_heard}
-use Rattle.conn.specs.Rounds.{AtPiece, Ending, Ends, InReply, InSlot, IsUnheard, Overfull, PeerEnded, Unheard, ending_events}
+use Rattle.conn.specs.Rounds.{AtElement, Ending, Ends, InReply, InSlot, IsUnheard, Overfull, PeerEnded, Unheard, ending_events}
 use Rattle.conn.specs.Sights.{HasCourse, Sight}
 use Rattle.conn.specs.Turns.{Stage}
 
@@ -12,7 +12,7 @@ spent_at : (old new : Stage) (count : ℕ) (ending : Ending) → Ends old count 
 spent_at old new count Unheard ends = let all : count ≡ 2 ^ 40 = ends.0 in omega (arith, all)
 spent_at old new count PeerEnded ends = absurd (let no : ⊥ = cc (ends.0) in no)
 spent_at old new count (Overfull bytes) ends = absurd (let no : ⊥ = cc (ends.0) in no)
-spent_at old new count (AtPiece round) ends = absurd ends.1
+spent_at old new count (AtElement round) ends = absurd ends.1
 spent_at old new count (InSlot slot front) ends = absurd (let no : ⊥ = cc (ends.0) in no)
 spent_at old new count (InReply round message outcome front) ends = absurd (let no : ⊥ = cc (ends.0) in no)
 
@@ -35,7 +35,7 @@ all_at : {count : ℕ} {end : ConnEnd} (old new : Stage) (ending : Ending) → E
 all_at {count} {end} old new Unheard ends few all = unheard_end end count ends.0 all
 all_at {end} old new PeerEnded ends few all = absurd (omega (arith, few, all))
 all_at {end} old new (Overfull bytes) ends few all = absurd (omega (arith, few, all))
-all_at {end} old new (AtPiece round) ends few all = absurd (omega (arith, few, all))
+all_at {end} old new (AtElement round) ends few all = absurd (omega (arith, few, all))
 all_at {end} old new (InSlot slot front) ends few all = absurd (omega (arith, few, all))
 all_at {end} old new (InReply round message outcome front) ends few all = absurd (omega (arith, few, all))
 

@@ -216,7 +216,7 @@ reply_well true s film well = record {
   state = settled_well (ground_of s film) s.state well.state;
 }
 
--- one piece, and pieces
+-- one element, and elements
 pub taking_well : (old new : Stage) (taking : Taking) (film : List ℕ) → Takes old taking new → IsWell old.session film →
     IsWell new.session (film_taken film (taking ∷ []))
 taking_well old new (Passed n) film takes well = subst (λ (s : Stage). IsWell s.session film) (sym takes.2) well

@@ -24,9 +24,9 @@ use Rattle.session.specs.Standings.{Awaits, NoAnswer, PlayAnswer, HaltAnswer, Lo
 use Rattle.session.specs.Standings.{OfferAnswer, Standing, awaited_answer}
 use Rattle.conn.specs.Turns.{Outcome, Unasked, Entered, WasFull, Offered, Part, Film, Text, Stage}
 use Rattle.conn.specs.Turns.{Taking, Passed, Answered, HasHeard, IsAnswered, IsFinished, IsHalted}
-use Rattle.conn.specs.Turns.{IsLookAnswered, IsPlayAnswered, Takes as TakesPiece, TakesAll}
+use Rattle.conn.specs.Turns.{IsLookAnswered, IsPlayAnswered, Takes as TakesElement, TakesAll}
 use Rattle.conn.specs.Turns.{slot_parts}
-use Rattle.conn.specs.Rounds.{Comes, Ending, Ends, Unheard, PeerEnded, Overfull, AtPiece, InSlot}
+use Rattle.conn.specs.Rounds.{Comes, Ending, Ends, Unheard, PeerEnded, Overfull, AtElement, InSlot}
 use Rattle.conn.specs.Rounds.{InReply, Round, Runs, RunsAll, ending_outcomes, entries_in}
 use Rattle.conn.specs.Rounds.{round_outcomes, rounds_outcomes, takings_outcomes}
 use Rattle.conn.specs.Films.{round_parts, rounds_parts, takings_parts}
@@ -254,13 +254,13 @@ reply_text_is : (goes : Bool) (s : Standing) → (if goes then sent_reply s else
 reply_text_is true s = refl
 reply_text_is false s = refl
 
--- pieces: what was sent tells, and so does the reply that waits
+-- elements: what was sent tells, and so does the reply that waits
 record Tells (made : List Outcome) (s : Standing) (parts : List Part) : Type 0 where
   waiting : IsTold made s.text
   sent : AreTold made parts
 
 taking_tells : {old new : Stage} {message : List ℕ} {outcome : Outcome} {parts : List Part} (made : List Outcome) →
-    TakesPiece old (Answered message outcome parts) new → Tells (made ++ outcome ∷ []) new.session parts
+    TakesElement old (Answered message outcome parts) new → Tells (made ++ outcome ∷ []) new.session parts
 taking_tells {old} {new} {message} {outcome} made takes =
     let goes : Bool = can_reply takes.answered in
     let told : IsTold (made ++ outcome ∷ []) takes.answered.text =
@@ -405,7 +405,7 @@ ending_tells : {made : List Outcome} {old : Stage} (ending : Ending) → IsTold 
 ending_tells {made} Unheard told ended = tt
 ending_tells {made} PeerEnded told ended = tt
 ending_tells {made} (Overfull bytes) told ended = tt
-ending_tells {made} {old} (AtPiece round) told ended =
+ending_tells {made} {old} (AtElement round) told ended =
     are_both (made ++ round_outcomes round) (round_parts round) []
     (round_tells made old ended.new round told ended.ends.0).sent tt
 ending_tells {made} (InSlot slot front) told ended = tt

@@ -4,12 +4,12 @@ use Rattle.std.specs.Prelude.{nat_lt, List, length, take, Option, Some, None, Ok
 use Rattle.vod_base.specs.Outside.{HasRisen}
 use Rattle.vod_base.specs.declared.links.Heard.{Heard}
 use Rattle.vod_base.specs.declared.links.Heard.TheVariants.{Bytes, Slot, End as PeerEnd}
-use Rattle.interleave.specs.Pieces.{IsFirst}
+use Rattle.interleave.specs.Elements.{IsFirst}
 use Rattle.interleave.specs.Streams.{AreCut}
-use Rattle.interleave.specs.declared.pieces.Step.TheVariants.{Request, More}
-use Rattle.interleave.specs.declared.pieces.DemuxFault.{DemuxFault}
-use Rattle.interleave.specs.declared.pieces.DemuxFault.TheVariants.{HeadTooLong as LongHead}
-use Rattle.interleave.specs.declared.pieces.DemuxFault.TheVariants.{BodyTooLong as LongBody}
+use Rattle.interleave.specs.declared.elements.Step.TheVariants.{Message, More}
+use Rattle.interleave.specs.declared.elements.DemuxFault.{DemuxFault}
+use Rattle.interleave.specs.declared.elements.DemuxFault.TheVariants.{HeadTooLong as LongHead}
+use Rattle.interleave.specs.declared.elements.DemuxFault.TheVariants.{BodyTooLong as LongBody}
 use Rattle.conn.specs.declared.connections.Connection.{Connection}
 use Rattle.conn.specs.declared.connections.Taken.{Taken}
 use Rattle.conn.specs.declared.connections.Taken.TheVariants.{Gone, Waits, End}
@@ -23,11 +23,11 @@ abbrev pub IsEndOf : DemuxFault → ConnEnd → Type 0
 IsEndOf LongHead end = end ≡ HeadTooLong
 IsEndOf LongBody end = end ≡ BodyTooLong
 
--- nothing more can be taken up: no whole piece waits, or a request waits for a reply that isn't
+-- nothing more can be taken up: no whole element waits, or a request waits for a reply that isn't
 -- sent
 abbrev pub IsWaiting : Connection → Type 0
 IsWaiting c = IsFirst c.input (Ok More)
-    ⊎ ((n : ℕ) × (IsFirst c.input (Ok (Request n)) × (c.session.waits ≡ true)))
+    ⊎ ((n : ℕ) × (IsFirst c.input (Ok (Message n)) × (c.session.waits ≡ true)))
 
 -- what waits was taken up, and the connection goes on; or it ended, for this cause
 abbrev pub IsTakenUp : Option ConnEnd → Connection → Type 0
@@ -49,9 +49,9 @@ HasTakenEvent (Bytes n) waiting end c =
     ((131072 < waiting + n) × (end ≡ Some TooMuchInput))
     ⊎ ((waiting + n < 131073) × IsTakenUp end c)
 
--- however bytes were cut into pieces and this rest, they are cut into pieces and that one too
+-- however bytes were cut into elements and this rest, they are cut into elements and that one too
 pub record CutsOn (old new : List ℕ) : Type 0 where
-  pub each : (bytes : List ℕ) (pieces : List (List ℕ)) → AreCut bytes pieces old →
+  pub each : (bytes : List ℕ) (elements : List (List ℕ)) → AreCut bytes elements old →
       (more : List (List ℕ)) × AreCut bytes more new
 
 -- what waits, with the bytes that an event brought; where too many would wait, without them
@@ -61,7 +61,7 @@ with_heard input (Bytes n) into = if nat_lt 131072 (length input + n)
 with_heard input (Slot slot) into = input
 with_heard input PeerEnd into = input
 
--- what came of the piece in front: it was taken up and is gone; nothing more can be taken up; or
+-- what came of the element in front: it was taken up and is gone; nothing more can be taken up; or
 -- the connection ended
 abbrev pub IsTaken : Taken → ℕ → Connection → Type 0
 IsTaken Gone waiting c = (c.session.lost ≡ false) × (length c.input < waiting)

@@ -1,7 +1,7 @@
 -- The station's answers to a connection, as a journal has them.
 use Rattle.std.specs.Prelude.{◌≡◌, ℕ, ◌+◌, ◌^◌, ◌<◌, ◌≤◌, min, List, [], ◌∷◌, length, take}
 use Rattle.std.specs.Prelude.{slice_index_or}
-use Rattle.slot_calendar.specs.declared.profiles.CapStep.{CapStep}
+use Rattle.slot_calendar.specs.declared.profiles.CapacityStep.{CapacityStep}
 use Rattle.slot_calendar.specs.Profiles.{capacity_at}
 use Rattle.admission.specs.declared.entries.Command.{Command}
 use Rattle.admission.specs.declared.entries.Command.TheVariants.{Play, Halt, Look}
@@ -17,7 +17,7 @@ use Rattle.conn.specs.Turns.{Outcome, Unasked, Entered, WasFull, Offered}
 -- a journal's terms, and the maker of a connection's entries: the steps of the link's capacity, and
 -- the most entries
 pub record Terms : Type 0 where
-  pub steps : List CapStep
+  pub steps : List CapacityStep
   pub limit : ℕ
   pub maker : ℕ
 
@@ -56,7 +56,7 @@ pub record IsFullIn (limit : ℕ) (journal : List Entry) (from more entries open
 
 -- an offer is the one that is made in the state after a front of the journal, from the slot after
 -- the heard one and after now on
-pub record IsOfferedIn (steps : List CapStep) (journal : List Entry) (from slot : ℕ)
+pub record IsOfferedIn (steps : List CapacityStep) (journal : List Entry) (from slot : ℕ)
     (note : OfferNote) : Type 0 where
   pub after : from ≤ note.seen
   pub within : note.seen ≤ length journal

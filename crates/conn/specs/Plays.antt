@@ -22,7 +22,7 @@ use Rattle.session.specs.Playing.{playback_of}
 use Rattle.session.specs.Standings.{Standing, taken_up}
 use Rattle.conn.specs.Turns.{Outcome, Unasked, Entered, WasFull, Offered, Stage, Taking, Passed}
 use Rattle.conn.specs.Turns.{Answered, film_bytes, stage}
-use Rattle.conn.specs.Rounds.{Comes, Ending, Unheard, PeerEnded, Overfull, AtPiece, InSlot, InReply}
+use Rattle.conn.specs.Rounds.{Comes, Ending, Unheard, PeerEnded, Overfull, AtElement, InSlot, InReply}
 use Rattle.conn.specs.Rounds.{Round, RunsAll}
 use Rattle.conn.specs.Films.{IsBetween}
 
@@ -40,7 +40,7 @@ is_admitted (WasFull more entries open_plays) = false
 is_admitted (Offered at_slot note) = false
 
 -- The film's bytes that were sent since the last admission: with one more answer of the station,
--- with pieces that were taken up, and with rounds.
+-- with elements that were taken up, and with rounds.
 abbrev pub film_since : List ℕ → Outcome → List ℕ
 film_since film outcome = if is_admitted outcome then [] else film
 
@@ -100,7 +100,7 @@ abbrev pub ending_rounds : Ending → List Round
 ending_rounds Unheard = []
 ending_rounds PeerEnded = []
 ending_rounds (Overfull bytes) = []
-ending_rounds (AtPiece round) = round ∷ []
+ending_rounds (AtElement round) = round ∷ []
 ending_rounds (InSlot slot front) = []
 ending_rounds (InReply round message outcome front) = round ∷ []
 

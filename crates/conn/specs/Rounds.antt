@@ -3,10 +3,10 @@
 use Rattle.std.specs.Prelude.{◌≡◌, ℕ, ◌+◌, ◌^◌, ◌<◌, ◌≤◌, ◌⊎◌, ◌++◌, true, false, List, [], ◌∷◌}
 use Rattle.std.specs.Prelude.{length, take, drop, Ok, Err}
 use Rattle.vod_base.specs.Links.{Doing, HeardBytes, HeardEnd, HeardSlot, Sent, sends}
-use Rattle.interleave.specs.Pieces.{IsFirst}
-use Rattle.interleave.specs.declared.pieces.Step.TheVariants.{More, Request}
-use Rattle.interleave.specs.declared.pieces.DemuxFault.TheVariants.{HeadTooLong as LongHead}
-use Rattle.interleave.specs.declared.pieces.DemuxFault.TheVariants.{BodyTooLong as LongBody}
+use Rattle.interleave.specs.Elements.{IsFirst}
+use Rattle.interleave.specs.declared.elements.Step.TheVariants.{More, Message}
+use Rattle.interleave.specs.declared.elements.DemuxFault.TheVariants.{HeadTooLong as LongHead}
+use Rattle.interleave.specs.declared.elements.DemuxFault.TheVariants.{BodyTooLong as LongBody}
 use Rattle.admission.specs.Makers.{Placed}
 use Rattle.session.specs.Sendings.{can_reply, due_bytes, due_state, is_sending, is_taken}
 use Rattle.session.specs.Sendings.{missed_between, start_in}
@@ -19,7 +19,7 @@ use Rattle.conn.specs.declared.reports.ConnEnd.TheVariants.{Ended, TornDown, Lin
 use Rattle.conn.specs.declared.reports.ConnEnd.TheVariants.{TooMuchInput, HeadTooLong, BodyTooLong}
 use Rattle.conn.specs.declared.reports.ConnEnd.TheVariants.{TurnsSpent}
 
--- an event, what was sent in its slot, the halt of a play that was done, and the pieces that were
+-- an event, what was sent in its slot, the halt of a play that was done, and the elements that were
 -- taken up after it
 pub record Round : Type 0 where
   pub event : Doing
@@ -44,12 +44,12 @@ pub record Runs (old : Stage) (round : Round) (new : Stage) : Type 0 where
   pub comes : Comes old round.event round.due round.halt opened
   pub takes : TakesAll opened round.takings new
 
--- nothing more can be taken up: no whole piece waits, or a request waits for a reply that isn't
+-- nothing more can be taken up: no whole element waits, or a request waits for a reply that isn't
 -- sent
 pub record IsIdle (stage : Stage) : Type 0 where
   pub torn : stage.session.torn ≡ false
   pub waits : IsFirst stage.input (Ok More)
-      ⊎ ((n : ℕ) × (IsFirst stage.input (Ok (Request n)) × (stage.session.waits ≡ true)))
+      ⊎ ((n : ℕ) × (IsFirst stage.input (Ok (Message n)) × (stage.session.waits ≡ true)))
 
 -- events, one after another; before the next one is asked for, all was taken up that could be
 abbrev pub RunsAll : Stage → List Round → Stage → Type 0
@@ -58,12 +58,12 @@ RunsAll old (round ∷ rounds) new = (mid : Stage)
     × (Runs old round mid × IsIdle mid × RunsAll mid rounds new)
 
 -- what was done last: no event came, the peer ended, bytes came that find no room, an event was
--- taken up as far as a piece, a slot's bytes were sent in front, or a reply's
+-- taken up as far as an element, a slot's bytes were sent in front, or a reply's
 pub data Ending : Type 0 where
   Unheard : Ending
   PeerEnded : Ending
   Overfull : List ℕ → Ending
-  AtPiece : Round → Ending
+  AtElement : Round → Ending
   InSlot : ℕ → List ℕ → Ending
   InReply : Round → List ℕ → Outcome → List ℕ → Ending
 
@@ -73,7 +73,7 @@ IsUnheard LinkFault count = count < 2 ^ 40
 IsUnheard TurnsSpent count = count ≡ 2 ^ 40
 IsUnheard _ count = ⊥
 
--- the cause for which nothing more is taken up: the 200 of a TEARDOWN was sent, or the piece in
+-- the cause for which nothing more is taken up: the 200 of a TEARDOWN was sent, or the element in
 -- front is too long
 abbrev pub IsStopped : ConnEnd → Stage → Type 0
 IsStopped TornDown stage = stage.session.torn ≡ true
@@ -131,12 +131,12 @@ Ends old count Unheard end new = IsUnheard end count × (new ≡ old)
 Ends old count PeerEnded end new = (end ≡ Ended) × (new ≡ old)
 Ends old count (Overfull bytes) end new = (end ≡ TooMuchInput)
     × (131072 < length old.input + length bytes) × (old.session.waits ≡ true) × (new ≡ old)
-Ends old count (AtPiece round) end new = Runs old round new × IsStopped end new
+Ends old count (AtElement round) end new = Runs old round new × IsStopped end new
 Ends old count (InSlot slot front) end new = (end ≡ LinkFault) × HasFailedInSlot old slot front new
 Ends old count (InReply round message outcome front) end new = (end ≡ LinkFault)
     × EndsInReply old round message outcome front new
 
--- what is sent as pieces are taken up, in a round, and at the end
+-- what is sent as elements are taken up, in a round, and at the end
 abbrev pub taking_bytes : Taking → List ℕ
 taking_bytes (Passed n) = []
 taking_bytes (Answered message outcome parts) = parts_bytes parts
@@ -152,7 +152,7 @@ abbrev pub ending_bytes : Ending → List ℕ
 ending_bytes Unheard = []
 ending_bytes PeerEnded = []
 ending_bytes (Overfull bytes) = []
-ending_bytes (AtPiece round) = round_bytes round
+ending_bytes (AtElement round) = round_bytes round
 ending_bytes (InSlot slot front) = front
 ending_bytes (InReply round message outcome front) = round_bytes round ++ front
 
@@ -161,7 +161,7 @@ abbrev pub ending_events : Ending → List Doing
 ending_events Unheard = []
 ending_events PeerEnded = HeardEnd ∷ []
 ending_events (Overfull bytes) = HeardBytes bytes ∷ []
-ending_events (AtPiece round) = round.event ∷ []
+ending_events (AtElement round) = round.event ∷ []
 ending_events (InSlot slot front) = HeardSlot slot ∷ []
 ending_events (InReply round message outcome front) = round.event ∷ []
 
@@ -193,7 +193,7 @@ abbrev pub ending_outcomes : Ending → List Outcome
 ending_outcomes Unheard = []
 ending_outcomes PeerEnded = []
 ending_outcomes (Overfull bytes) = []
-ending_outcomes (AtPiece round) = round_outcomes round
+ending_outcomes (AtElement round) = round_outcomes round
 ending_outcomes (InSlot slot front) = []
 ending_outcomes (InReply round message outcome front) = round_outcomes round ++ outcome ∷ []
 

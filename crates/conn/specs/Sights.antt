@@ -53,14 +53,14 @@ pub record HasAsked (old : Standing) (message : List ℕ) (new : Standing)
   pub heard : HasHeard old message outcome new
   pub noted : AreNoted old_seat new_seat (outcome ∷ [])
 
--- pieces were taken up
+-- elements were taken up
 pub record HasTaken (old new : Sight) : Type 0 where
   pub takings : List Taking
   pub takes : TakesAll old.stage takings new.stage
   pub sent : IsSent old.told (takings_bytes takings) new.told
   pub noted : AreNoted old.seat new.seat (takings_outcomes takings)
 
--- pieces were taken up, and then a request's reply couldn't be sent
+-- elements were taken up, and then a request's reply couldn't be sent
 pub record HasLost (old new : Sight) : Type 0 where
   pub mid : Sight
   pub taken : HasTaken old mid
@@ -71,13 +71,13 @@ pub record HasLost (old new : Sight) : Type 0 where
   pub sent : IsSent mid.told front new.told
   pub noted : AreNoted mid.seat new.seat (outcome ∷ [])
 
--- pieces were taken up until nothing more can be, or until the connection ended, for this cause
+-- elements were taken up until nothing more can be, or until the connection ended, for this cause
 abbrev pub HasTakenUp : Option ConnEnd → Sight → Sight → Type 0
 HasTakenUp None old new = HasTaken old new × IsIdle new.stage
 HasTakenUp (Some end) old new = ((end ≡ LinkFault) × HasLost old new)
     ⊎ (HasTaken old new × IsStopped end new.stage)
 
--- one piece was taken up; or nothing more can be; or the connection ended
+-- one element was taken up; or nothing more can be; or the connection ended
 abbrev pub TakesNext : Taken → Sight → Sight → Type 0
 TakesNext Gone old new = HasTaken old new
 TakesNext Waits old new = (new ≡ old) × IsIdle new.stage

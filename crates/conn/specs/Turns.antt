@@ -1,8 +1,8 @@
--- What a connection does with one piece of its input, and with one slot.
+-- What a connection does with one element of its input, and with one slot.
 use Rattle.std.specs.Prelude.{◌≡◌, ℕ, ◌<◌, ◌⊎◌, ◌++◌, ◌&&◌, true, false, if◌then◌else◌, List, []}
 use Rattle.std.specs.Prelude.{◌∷◌, length, take, drop, Option, Some, None, Ok}
-use Rattle.interleave.specs.Pieces.{IsFirst}
-use Rattle.interleave.specs.declared.pieces.Step.TheVariants.{Block, Request, Skip}
+use Rattle.interleave.specs.Elements.{IsFirst}
+use Rattle.interleave.specs.declared.elements.Step.TheVariants.{Block, Message, Skip}
 use Rattle.admission.specs.declared.entries.Answer.{Answer}
 use Rattle.admission.specs.declared.entries.Answer.TheVariants.{Admitted, Halted, Looked, Overflow}
 use Rattle.admission.specs.declared.entries.Command.TheVariants.{Halt}
@@ -120,7 +120,7 @@ reply_parts session = if can_reply session then Text session.text ∷ [] else []
 abbrev pub after_reply : Standing → Standing
 after_reply session = if can_reply session then sent_reply session else session
 
--- a piece in front of the input: line ends or an interleaved block, so many bytes; or a request,
+-- an element in front of the input: line ends or an interleaved block, so many bytes; or a request,
 -- what the station answered to it, and what was sent
 pub data Taking : Type 0 where
   Passed : ℕ → Taking
@@ -133,7 +133,7 @@ IsPassed input n = IsFirst input (Ok (Skip n))
 
 -- the request in front can be taken up: no reply waits, and no TEARDOWN was answered 200
 pub record IsNext (old : Stage) (message : List ℕ) : Type 0 where
-  pub first : IsFirst old.input (Ok (Request (length message)))
+  pub first : IsFirst old.input (Ok (Message (length message)))
   pub message_is : message ≡ take (length message) old.input
   pub replied : old.session.waits ≡ false
   pub torn : old.session.torn ≡ false
@@ -152,7 +152,7 @@ Takes old (Passed n) new = IsPassed old.input n × (old.session.torn ≡ false)
     × (new ≡ stage old.session (drop n old.input))
 Takes old (Answered message outcome parts) new = IsReplied old message outcome parts new
 
--- pieces were taken up, one after another
+-- elements were taken up, one after another
 abbrev pub TakesAll : Stage → List Taking → Stage → Type 0
 TakesAll old [] new = new ≡ old
 TakesAll old (taking ∷ takings) new = (mid : Stage)

@@ -3,8 +3,8 @@
 ghost use Rattle.std.specs.Prelude.{◌≡◌, ◌<◌, ◌≤◌, Ok, false, None, [], drop, take};
 ghost use Rattle.std.specs.Prelude.{length as list_length, IfOk, IsSome, OnOk, OnErr, Some};
 ghost use Rattle.vod_base.specs.Links.{IsWithin, doing_of};
-ghost use Rattle.interleave.specs.Pieces.{IsFirst, IsRequestLength};
-ghost use Rattle.interleave.specs.declared.pieces.Step.TheVariants.{Request};
+ghost use Rattle.interleave.specs.Elements.{IsFirst, IsMessageLength};
+ghost use Rattle.interleave.specs.declared.elements.Step.TheVariants.{Message};
 ghost use Rattle.session.specs.Standings.{AreFilms, AreSettings, CanKeep, IsAtRest, IsHalt};
 ghost use Rattle.session.specs.Standings.{IsHandedIn, IsPlay, PlayAnswer, LookAnswer, OfferAnswer};
 ghost use Rattle.session.specs.Standings.{awaited_answer, open_of};
@@ -170,7 +170,7 @@ impl<'a> Connection<'a> {
         ensures taken { IsTakenUp result self.new }
         ensures counted { HasCounted result (K.faults link.old) (K.faults link.new) }
     {
-        'pieces: loop {
+        'elements: loop {
             match self.take_next(rt, station, seat, link) {
                 Taken::Gone => {}
                 Taken::Waits => return None,
@@ -179,7 +179,7 @@ impl<'a> Connection<'a> {
         }
     }
 
-    /// Takes up the piece in front. A request is taken up only where no reply waits, and none is
+    /// Takes up the element in front. A request is taken up only where no reply waits, and none is
     /// once a TEARDOWN was answered 200.
     #[tactic(auto, using(crate::proofs::Steps::count_steps))]
     fn take_next<R: Wait, K: Link>(
@@ -214,7 +214,7 @@ impl<'a> Connection<'a> {
                 self.input.drop_front(count);
                 Taken::Gone
             }
-            Ok(Step::Request(length)) => self.take_whole(rt, station, seat, link, length),
+            Ok(Step::Message(length)) => self.take_whole(rt, station, seat, link, length),
         }
     }
 
@@ -233,7 +233,7 @@ impl<'a> Connection<'a> {
         requires quiet { IsQuiet seat.old.mine self.old }
         requires torn { self.old.session.torn ≡ false }
         requires lost { self.old.session.lost ≡ false }
-        requires first { IsFirst self.old.input (Ok (Request length)) }
+        requires first { IsFirst self.old.input (Ok (Message length)) }
         ensures kept { KeepsBusiness seat.old seat.new self.old self.new }
         ensures takes { TakesNext result
             (sight self.old (K.told link.old) seat.old)
@@ -258,7 +258,7 @@ impl<'a> Connection<'a> {
         requires quiet { IsQuiet seat.old.mine self.old }
         requires waits { self.old.session.waits ≡ false }
         requires torn { self.old.session.torn ≡ false }
-        requires whole { IsRequestLength self.old.input length }
+        requires whole { IsMessageLength self.old.input length }
         requires within { length ≤ list_length self.old.input }
         requires lost { self.old.session.lost ≡ false }
         ensures kept { KeepsBusiness seat.old seat.new self.old self.new }
@@ -405,11 +405,11 @@ impl<'a> Connection<'a> {
     }
 }
 
-/// What came of the piece in front.
+/// What came of the element in front.
 pub(crate) enum Taken {
     /// It was taken up and is gone.
     Gone,
-    /// Nothing more can be taken up: no whole piece waits, or a request waits for a reply to be
+    /// Nothing more can be taken up: no whole element waits, or a request waits for a reply to be
     /// sent.
     Waits,
     /// The connection ended.

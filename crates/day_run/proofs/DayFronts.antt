@@ -4,7 +4,7 @@ use Rattle.std.specs.Prelude.{sum_by}
 use Rattle.std.specs.List.{range_with_len}
 use Rattle.std.proofs.lemmas.List.{append-nil, append_assoc, get_or-take, length-take, take-take, take_at}
 use Rattle.std.proofs.lemmas.List.Sums.{sum_by-le-sum_by}
-use Rattle.slot_calendar.specs.declared.profiles.CapStep.{CapStep}
+use Rattle.slot_calendar.specs.declared.profiles.CapacityStep.{CapacityStep}
 use Rattle.slot_calendar.specs.Profiles.{capacity_at}
 use Rattle.admission.specs.declared.entries.Entry.{Entry}
 use Rattle.admission.specs.Histories.{IsLegal, state_after}
@@ -132,7 +132,7 @@ lines-take {n} {ls} count are = record {
 }
 
 -- what a legal history begins with is legal
-front-legal : {steps : List CapStep} (xs ys : List Entry) → IsLegal steps (xs ++ ys) → IsLegal steps xs
+front-legal : {steps : List CapacityStep} (xs ys : List Entry) → IsLegal steps (xs ++ ys) → IsLegal steps xs
 front-legal {steps} xs ys legal =
     let L : List Entry → Type 0 = λ l. IsLegal steps l in
     subst L (take_at xs ys (length xs) refl) (legal-take steps (xs ++ ys) (length xs) legal)

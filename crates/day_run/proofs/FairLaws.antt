@@ -6,7 +6,7 @@ use Rattle.std.specs.List.{fold, range_with_len}
 use Rattle.std.proofs.lemmas.List.{append-nil, append_assoc, take_at}
 use Rattle.std.proofs.lemmas.List.Sums.{sum_by-cons}
 use Rattle.film_make.specs.Generator.{words_after}
-use Rattle.slot_calendar.specs.declared.profiles.CapStep.{CapStep}
+use Rattle.slot_calendar.specs.declared.profiles.CapacityStep.{CapacityStep}
 use Rattle.slot_calendar.specs.Profiles.{capacity_at}
 use Rattle.admission.specs.declared.entries.Entry.{Entry}
 use Rattle.admission.specs.Histories.{IsLegal, booked_after, state_after}
@@ -144,12 +144,12 @@ most-of f most top [] small each = small
 most-of f most top (t ∷ ts) small each = most-of f most (max top (f t)) ts (omega (arith, small, each t)) each
 
 -- a legal journal that goes on from a moment's, on a link of so much capacity at most
-pub record GrownJournal (steps : List CapStep) (journal : List Entry) (moment : Moment) (most : ℕ) : Type 0 where
+pub record GrownJournal (steps : List CapacityStep) (journal : List Entry) (moment : Moment) (most : ℕ) : Type 0 where
   pub legal : IsLegal steps journal
   pub grown : HasGrown moment.entries journal
   pub capacity : (t : ℕ) → capacity_at steps t ≤ most
 
-moment-within : {steps : List CapStep} {journal : List Entry} {m : Moment} {most : ℕ} (slot : ℕ)
+moment-within : {steps : List CapacityStep} {journal : List Entry} {m : Moment} {most : ℕ} (slot : ℕ)
     → GrownJournal steps journal m most
     → most_up_to m slot ≤ most
 moment-within {steps} {journal} {m} {most} slot given =
@@ -176,7 +176,7 @@ pub record TurnRun (turns : List Turn) : Type 0 where
   pub new : Moment
   pub run : AreTurns link words turns old new
 
-pub turns-within : {steps : List CapStep} {journal : List Entry} {most : ℕ} (turns : List Turn) (come : TurnRun turns) (top : ℕ)
+pub turns-within : {steps : List CapacityStep} {journal : List Entry} {most : ℕ} (turns : List Turn) (come : TurnRun turns) (top : ℕ)
     → GrownJournal steps journal come.new most → top ≤ most → fold max top (map turn_peak turns) ≤ most
 turns-within [] come top given small = small
 turns-within {journal} {most} (turn ∷ turns) come top given small =

@@ -7,7 +7,7 @@ use Rattle.std.proofs.lemmas.List.{length-append, map-append}
 use Rattle.std.proofs.lemmas.List.Sums.{sum_by_push}
 use Rattle.film_make.proofs.GeneratorLemmas.{words_after-twice, words_after-at, words_after-zero}
 use Rattle.film_make.specs.Generator.{words_after, words_of}
-use Rattle.slot_calendar.specs.declared.profiles.CapStep.{CapStep}
+use Rattle.slot_calendar.specs.declared.profiles.CapacityStep.{CapacityStep}
 use Rattle.admission.specs.declared.entries.Entry.{Entry}
 use Rattle.admission.specs.Histories.{state_after}
 use Rattle.admission.specs.Machine.{booked_in}
@@ -201,7 +201,7 @@ come-next {link} {here} {words} {left} {next} {more} {old} {new} same come turne
     }
 
 -- a day of turns
-pub fair-of : {here : Link} {steps : List CapStep} {number plays : ℕ} {words left : ℕ → ℕ} {counts : Counts}
+pub fair-of : {here : Link} {steps : List CapacityStep} {number plays : ℕ} {words left : ℕ → ℕ} {counts : Counts}
     {made : Made} {evening : Moment} {text : List ℕ} {journal : List Entry}
     → here ≡ fair_link steps (words_of number) → words ≡ after_traces 16 (words_of number)
     → HasCome here words left plays counts evening

@@ -16,7 +16,7 @@ use Rattle.day_run.specs.declared.clients.Client.TheVariants as clients
 use Rattle.day_run.specs.declared.clients.Halt.{Halt}
 use Rattle.day_run.specs.declared.clients.Play.{Play as ClientPlay}
 use Rattle.day_run.specs.declared.clients.Rest.{Rest as ClientRest}
-use Rattle.slot_calendar.specs.declared.profiles.CapStep.{CapStep}
+use Rattle.slot_calendar.specs.declared.profiles.CapacityStep.{CapacityStep}
 use Rattle.admission.specs.Machine.{IsAnswer, State}
 use Rattle.day_run.specs.declared.runners.Told.{Told}
 use Rattle.day_run.specs.declared.runners.Told.TheVariants as tolds
@@ -144,14 +144,14 @@ states-same c rest plan number Halted not = refl
 states-same c rest plan number (Looked now at booked) not = refl
 
 -- a play was admitted after the slot that was heard
-pub record PlayAdmitted (slot start heard : ℕ) (answer : Answer) (steps : List CapStep) (state : State) (plan : List Segment)
+pub record PlayAdmitted (slot start heard : ℕ) (answer : Answer) (steps : List CapacityStep) (state : State) (plan : List Segment)
     : Type 0 where
   pub is : answer ≡ Admitted start
   pub answered : IsAnswer steps state (commands.Play slot plan) answer
   pub late : slot ≡ heard
 
 -- a play that was admitted hasn't come to its first slot
-pub begun-timed : {slot start heard : ℕ} {answer : Answer} {steps : List CapStep} {state : State} {plan : List Segment}
+pub begun-timed : {slot start heard : ℕ} {answer : Answer} {steps : List CapacityStep} {state : State} {plan : List Segment}
     (play : ClientPlay) → PlayAdmitted slot start heard answer steps state plan → play.pacer.start ≡ start → play.pacer.passed ≡ 0
     → IsTimed heard (clients.Playing play)
 begun-timed {slot} {start} {steps} {state} {plan} play admitted at begun =

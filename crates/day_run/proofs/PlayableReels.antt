@@ -5,7 +5,7 @@ use Rattle.std.specs.Global.{Vec}
 use Rattle.std.proofs.lemmas.List.{length-map, take_more}
 use Rattle.std.proofs.lemmas.List.Elements.{All-append, All-cons, All-map, All-nil}
 use Rattle.mpeg_scan.specs.Rates.{picture_time}
-use Rattle.slot_calendar.specs.declared.profiles.CapStep.{CapStep}
+use Rattle.slot_calendar.specs.declared.profiles.CapacityStep.{CapacityStep}
 use Rattle.film_frames.specs.declared.stores.Stored.{Stored}
 use Rattle.film_frames.specs.Pieces.{wire_size}
 use Rattle.film_run.specs.Units.{AreUnitSizes, stored_sizes}
@@ -60,7 +60,7 @@ trace-playable {sizes} (Ok reel) is trace = trace-fits sizes is trace
 trace-playable (Err e) is trace = tt
 
 -- a link of films and traces that can be played
-pub link-playable : {steps : List CapStep} {limit slot_units : ℕ} (sources : List Source) → 1 ≤ slot_units → slot_units ≤ 360000
+pub link-playable : {steps : List CapacityStep} {limit slot_units : ℕ} (sources : List Source) → 1 ≤ slot_units → slot_units ≤ 360000
     → All IsPlayable sources → IsLink (link_of steps limit slot_units sources)
 link-playable {slot_units} sources some fit all = record {
   some_slot_units = some;

@@ -9,7 +9,7 @@ use Rattle.early_start.specs.declared.Tried.{Tried}
 use Rattle.report.specs.Fields.{field}
 use Rattle.slot_calendar.specs.Calendars.{HasRoom, IsFirstOverflow}
 use Rattle.plan_cert.specs.declared.Segment.{Segment}
-use Rattle.slot_calendar.specs.declared.profiles.CapStep.{CapStep}
+use Rattle.slot_calendar.specs.declared.profiles.CapacityStep.{CapacityStep}
 use Rattle.slot_calendar.specs.Profiles.{capacity_at}
 use Rattle.admission.specs.declared.entries.Entry.{Entry}
 use Rattle.day_run.specs.declared.counts.Counts.{Counts}
@@ -133,7 +133,7 @@ pub record IsOfferTold (link : Link) (rest : Rest) (wait : ℕ) (moment : Moment
 -- what the line of a large day says: a turn brings at most three slots; as many bytes were sent as
 -- the journal books in all slots up to the last; the peak is the most that it books in one of them,
 -- which is no more than the greatest capacity
-pub record IsFairLine (steps : List CapStep) (plays : ℕ) (text : List ℕ) (journal : List Entry)
+pub record IsFairLine (steps : List CapacityStep) (plays : ℕ) (text : List ℕ) (journal : List Entry)
     : Type 0 where
   pub counts : Counts
   pub text_is : text ≡ fair_text counts (made_of journal)

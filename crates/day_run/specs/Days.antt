@@ -9,7 +9,7 @@ use Rattle.plan_cert.specs.Slots.{total_bytes}
 use Rattle.wire_curve.specs.declared.film.CurveFault.{CurveFault}
 use Rattle.wire_curve.specs.Refusal.{HasFault}
 use Rattle.film_run.specs.Plans.{IsPlanOf, rest_sizes, timing_of}
-use Rattle.slot_calendar.specs.declared.profiles.CapStep.{CapStep}
+use Rattle.slot_calendar.specs.declared.profiles.CapacityStep.{CapacityStep}
 use Rattle.slot_calendar.specs.Profiles.{capacity_at}
 use Rattle.admission.specs.declared.entries.Answer.{Answer}
 use Rattle.admission.specs.declared.entries.Answer.TheVariants.{Admitted, Halted}
@@ -36,12 +36,12 @@ use Rattle.day_run.specs.ClientStates.{sent_between, sent_by, source_content, wh
 -- the steps of the link's capacity, the most entries of its journal, the time of a slot in
 -- 1/360,000 s, and what can be played
 pub record Link : Type 0 where
-  pub steps : List CapStep
+  pub steps : List CapacityStep
   pub limit : ℕ
   pub slot_units : ℕ
   pub reels : List ReelContent
 
-abbrev pub link_of : List CapStep → ℕ → ℕ → List Source → Link
+abbrev pub link_of : List CapacityStep → ℕ → ℕ → List Source → Link
 link_of steps limit slot_units sources =
     record {
       steps = steps;

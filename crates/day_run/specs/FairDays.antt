@@ -8,7 +8,7 @@ use Rattle.std.specs.List.{range_with_len}
 use Rattle.std.specs.Str.{bytes_eq}
 use Rattle.film_make.specs.Generator.{words_after, words_of}
 use Rattle.film_make.specs.Trace.{sizes_of}
-use Rattle.slot_calendar.specs.declared.profiles.CapStep.{CapStep}
+use Rattle.slot_calendar.specs.declared.profiles.CapacityStep.{CapacityStep}
 use Rattle.admission.specs.declared.entries.Answer.{Answer}
 use Rattle.admission.specs.declared.entries.Answer.TheVariants.{Overflow, Halted}
 use Rattle.admission.specs.declared.entries.Entry.{Entry}
@@ -41,7 +41,7 @@ abbrev pub traces_drawn : ℕ → (ℕ → ℕ) → List (List ℕ)
 traces_drawn k words = map (λ i. trace_drawn (after_traces i words)) (range_with_len 0 k)
 
 -- a link of that capacity with 16 traces to play, in slots of 40 ms, and the longest journal
-abbrev pub fair_link : List CapStep → (ℕ → ℕ) → Link
+abbrev pub fair_link : List CapacityStep → (ℕ → ℕ) → Link
 fair_link steps words = record {
   steps = steps;
   limit = 1048576;
@@ -157,7 +157,7 @@ made_of entries = record {
 
 -- A number's day of so many turns: the journal, which at the end has the halts of the plays that
 -- are open, and the one line that is printed.
-pub record IsFair (steps : List CapStep) (number plays : ℕ) (text : List ℕ) (journal : List Entry)
+pub record IsFair (steps : List CapacityStep) (number plays : ℕ) (text : List ℕ) (journal : List Entry)
     : Type 0 where
   pub turns : List Turn
   pub evening : Moment

@@ -5,7 +5,7 @@ ghost use Rattle.std.specs.Prelude.{length, map, sum_by, All, [], ◌≢◌, sli
 ghost use Rattle.std.specs.List.{list_all, range_with_len};
 ghost use Rattle.day_run.specs.declared.scripts.Line.{Line};
 ghost use Rattle.day_run.specs.declared.scripts.Line.TheVariants as Lines;
-ghost use Rattle.slot_calendar.specs.declared.profiles.CapStep.{CapStep};
+ghost use Rattle.slot_calendar.specs.declared.profiles.CapacityStep.{CapacityStep};
 ghost use Rattle.slot_calendar.specs.Profiles.{capacity_at};
 ghost use Rattle.admission.specs.declared.entries.Entry.{Entry};
 ghost use Rattle.admission.specs.Histories.{IsLegal, booked_after, state_after};
@@ -61,7 +61,7 @@ pub fn law_texts()
 /// What the line of a large day says holds: what was sent is what the journal books in its slots,
 /// and no slot has more than the capacity.
 pub fn law_fair()
-    ensures { (steps : List CapStep) (number plays : ℕ) (text : List ℕ) (journal : List Entry) →
+    ensures { (steps : List CapacityStep) (number plays : ℕ) (text : List ℕ) (journal : List Entry) →
         IsFair steps number plays text journal → IsLegal steps journal →
         IsFairLine steps plays text journal }
 {}

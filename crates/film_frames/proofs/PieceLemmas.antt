@@ -6,7 +6,7 @@ use Rattle.std.proofs.lemmas.List.Concat.{flat_map-cons}
 use Rattle.std.proofs.lemmas.List.Sums.{sum_by-append, sum_by-cons}
 use Rattle.mpeg_scan.specs.declared.units.Unit.{Unit as PictureUnit}
 use Rattle.rtp_pack.specs.declared.payloads.Packet.{Packet}
-use Rattle.rtp_pack.specs.Packets.{DoCover, IsLaid, frames_size, piece_packets, unit_packets}
+use Rattle.rtp_pack.specs.Packets.{DoCover, IsLaid, frames_size, portion_packets, unit_packets}
 use Rattle.rtp_pack.specs.Packets.{unit_starts}
 use Rattle.rtp_pack.proofs.UnitLemmas.{packets-are, packets-bound, packets-cover, packets-size}
 use Rattle.film_frames.specs.declared.pieces.Piece.{Piece}
@@ -48,15 +48,15 @@ cover-le (p ∷ packets) from to cover = omega (arith, cover.1.0, cover-le packe
 -- the packets that end at these cuts cover a part of the film
 record DoPiecesCover (film : List ℕ) (unit : PictureUnit) (starts cuts : List ℕ) (from to : ℕ) : Type 0 where
   short : to ≤ length film
-  cover : DoCover from (piece_packets unit starts from cuts) to
+  cover : DoCover from (portion_packets unit starts from cuts) to
 
 frames-sound : {film : List ℕ} {unit : PictureUnit} {starts cuts : List ℕ} {from to : ℕ}
     → DoPiecesCover film unit starts cuts from to
-    → AreSound film (map (λ p. Frame unit p) (piece_packets unit starts from cuts))
+    → AreSound film (map (λ p. Frame unit p) (portion_packets unit starts from cuts))
 frames-sound {cuts = []} pieces = tt
 frames-sound {film} {unit} {starts} {cuts = cut ∷ cuts} {to} pieces =
     let cover = pieces.cover in
-    let rest = cover-le (piece_packets unit starts cut cuts) cut to cover.1.1.1 in
+    let rest = cover-le (portion_packets unit starts cut cuts) cut to cover.1.1.1 in
     let later : DoPiecesCover film unit starts cuts cut to = record { short = pieces.short; cover = cover.1.1.1 } in (
       record {
         some = cover.1.0;
@@ -78,10 +78,10 @@ unit-sound film starts unit laid short =
     let P : List Packet → Type 0 = λ l. AreSound film (map (λ p. Frame unit p) l) in
     let Q : List Packet → Type 0 = λ l. DoCover unit.from l unit.to in
     let pieces : DoPiecesCover film unit (unit_starts starts unit) are.cuts unit.from unit.to =
-    record { short = short; cover = subst Q are.pieces (packets-cover starts unit laid) } in
+    record { short = short; cover = subst Q are.portions (packets-cover starts unit laid) } in
     let frames = frames-sound pieces in
     sound-append film (unit_reports unit) (map (λ p. Frame unit p) (unit_packets starts unit))
-    (reports-sound film unit unit.starts_group) (subst P (sym are.pieces) frames)
+    (reports-sound film unit unit.starts_group) (subst P (sym are.portions) frames)
 
 -- ---- the bytes of a unit on the wire
 

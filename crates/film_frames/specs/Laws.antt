@@ -8,7 +8,7 @@ use Rattle.rtp_pack.specs.declared.heads.Head.{Head}
 use Rattle.rtp_pack.specs.declared.payloads.Packet.{Packet}
 use Rattle.rtp_pack.specs.Heads.{head_at, head_of, packet_head, video_word}
 use Rattle.rtp_pack.specs.Reports.{report_bytes, unit_report}
-use Rattle.interleave.specs.Pieces.{StartsBlock, block_length}
+use Rattle.interleave.specs.Elements.{StartsBlock, block_length}
 use Rattle.film_frames.specs.declared.pieces.Piece.{Piece}
 use Rattle.film_frames.specs.declared.pieces.Piece.TheVariants.{Report, Frame}
 use Rattle.film_frames.specs.Pieces.{frames_in, octets_in, octets_of}

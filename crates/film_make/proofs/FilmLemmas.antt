@@ -12,20 +12,20 @@ use Rattle.film_make.specs.Film.{least_body, body_lengths, body_length, body_of,
 use Rattle.film_make.specs.Film.{slice_words, after_slice, picture_words, picture_of, pictures_of, film_of}
 use Rattle.film_make.specs.Film.{sequence_and_group, sequence_end, coding_type}
 
-pub end_to_end-none : (piece : ℕ → List ℕ) → end_to_end piece 0 ≡ []
+pub end_to_end-none : (part : ℕ → List ℕ) → end_to_end part 0 ≡ []
 unfolding end_to_end
-end_to_end-none piece = refl
+end_to_end-none part = refl
 
 range-more : (n : ℕ) → range_with_len 0 (n + 1) ≡ range_with_len 0 n ++ n ∷ []
 range-more n =
     sym (map-id (range_with_len 0 (n + 1))) ∙ map-range_with_len_more (λ (i : ℕ). i) 0 n n (omega arith)
     ∙ ap (λ (places : List ℕ). places ++ n ∷ []) (map-id (range_with_len 0 n))
 
-pub end_to_end-more : (piece : ℕ → List ℕ) (n : ℕ) → end_to_end piece (n + 1) ≡ end_to_end piece n ++ piece n
+pub end_to_end-more : (part : ℕ → List ℕ) (n : ℕ) → end_to_end part (n + 1) ≡ end_to_end part n ++ part n
 unfolding end_to_end
-end_to_end-more piece n =
-    ap (flat_map piece) (range-more n) ∙ flat_map-append piece (range_with_len 0 n) (n ∷ [])
-    ∙ ap (λ (last : List ℕ). flat_map piece (range_with_len 0 n) ++ last) (append-nil (piece n))
+end_to_end-more part n =
+    ap (flat_map part) (range-more n) ∙ flat_map-append part (range_with_len 0 n) (n ∷ [])
+    ∙ ap (λ (last : List ℕ). flat_map part (range_with_len 0 n) ++ last) (append-nil (part n))
 
 pub body_of-none : (words : ℕ → ℕ) → body_of words 0 ≡ []
 unfolding body_of
@@ -68,12 +68,12 @@ body-step {left} {d} start words i bytes rest drawn =
 pub words_after-step : (words left : ℕ → ℕ) (i : ℕ) → left ≡ words_after i words → words_after 1 left ≡ words_after (i + 1) words
 words_after-step words left i rest = ap (words_after 1) rest ∙ words_after-twice 1 i words
 
--- a piece more, which is drawn from what is left
-pub piece-step : (start was : List ℕ) (piece : ℕ → List ℕ) (i : ℕ) → was ≡ start ++ end_to_end piece i
-    → was ++ piece i ≡ start ++ end_to_end piece (i + 1)
-piece-step start was piece i bytes =
-    ap (λ (l : List ℕ). l ++ piece i) bytes ∙ append_assoc start (end_to_end piece i) (piece i)
-    ∙ ap (λ (l : List ℕ). start ++ l) (sym (end_to_end-more piece i))
+-- a part more, which is drawn from what is left
+pub part-step : (start was : List ℕ) (part : ℕ → List ℕ) (i : ℕ) → was ≡ start ++ end_to_end part i
+    → was ++ part i ≡ start ++ end_to_end part (i + 1)
+part-step start was part i bytes =
+    ap (λ (l : List ℕ). l ++ part i) bytes ∙ append_assoc start (end_to_end part i) (part i)
+    ∙ ap (λ (l : List ℕ). start ++ l) (sym (end_to_end-more part i))
 
 -- at the start nothing is added
 pub none-added : (out bytes : List ℕ) → bytes ≡ [] → out ≡ out ++ bytes
@@ -107,9 +107,9 @@ unfolding after_slice
 after_slice-step {words} {n} drawn last =
     last ∙ ap (words_after n) drawn.rest ∙ words_after-twice n 1 words ∙ ap (λ m. words_after (1 + m) words) drawn.length
 
-end_to_end-first : (piece : ℕ → List ℕ) (n : ℕ) → (rest : List ℕ) × (end_to_end piece (suc n) ≡ piece 0 ++ rest)
+end_to_end-first : (part : ℕ → List ℕ) (n : ℕ) → (rest : List ℕ) × (end_to_end part (suc n) ≡ part 0 ++ rest)
 unfolding end_to_end
-end_to_end-first piece n = (flat_map piece (range_with_len (0 + 1) n), refl)
+end_to_end-first part n = (flat_map part (range_with_len (0 + 1) n), refl)
 
 picture-first : (words : ℕ → ℕ) (rest : List ℕ) → take 20 (picture_of words 0 ++ rest) ≡ sequence_and_group
 unfolding picture_of
@@ -119,21 +119,21 @@ picture-first words rest = refl
 pub film-begins : (words : ℕ → ℕ) (n : ℕ) → 1 ≤ n → take 20 (film_of words n) ≡ sequence_and_group
 film-begins words zero some = absurd (omega arith)
 film-begins words (suc n) some =
-    let piece = λ (k : ℕ). picture_of (picture_words words k) k in
-    let first = end_to_end-first piece n in
+    let part = λ (k : ℕ). picture_of (picture_words words k) k in
+    let first = end_to_end-first part n in
     ap (λ (l : List ℕ). take 20 (l ++ sequence_end)) first.1
-    ∙ ap (take 20) (append_assoc (piece 0) first.0 sequence_end)
+    ∙ ap (take 20) (append_assoc (part 0) first.0 sequence_end)
     ∙ picture-first (picture_words words 0) (first.0 ++ sequence_end)
 
--- fewer pieces stand in front of more
-end_to_end-front : (piece : ℕ → List ℕ) (m d : ℕ) → (rest : List ℕ) × (end_to_end piece (m + d) ≡ end_to_end piece m ++ rest)
-end_to_end-front piece m zero =
-    ([], ap (end_to_end piece) (let same : m + 0 ≡ m = omega arith in same) ∙ sym (append-nil (end_to_end piece m)))
-end_to_end-front piece m (suc d) =
-    let fewer = end_to_end-front piece m d in (
-      fewer.0 ++ piece (m + d),
-      ap (end_to_end piece) (let same : m + suc d ≡ m + d + 1 = omega arith in same) ∙ end_to_end-more piece (m + d)
-          ∙ ap (λ (l : List ℕ). l ++ piece (m + d)) fewer.1 ∙ append_assoc (end_to_end piece m) fewer.0 (piece (m + d)),
+-- fewer parts stand in front of more
+end_to_end-front : (part : ℕ → List ℕ) (m d : ℕ) → (rest : List ℕ) × (end_to_end part (m + d) ≡ end_to_end part m ++ rest)
+end_to_end-front part m zero =
+    ([], ap (end_to_end part) (let same : m + 0 ≡ m = omega arith in same) ∙ sym (append-nil (end_to_end part m)))
+end_to_end-front part m (suc d) =
+    let fewer = end_to_end-front part m d in (
+      fewer.0 ++ part (m + d),
+      ap (end_to_end part) (let same : m + suc d ≡ m + d + 1 = omega arith in same) ∙ end_to_end-more part (m + d)
+          ∙ ap (λ (l : List ℕ). l ++ part (m + d)) fewer.1 ∙ append_assoc (end_to_end part m) fewer.0 (part (m + d)),
     )
 
 pub pictures-front : (words : ℕ → ℕ) (m n : ℕ) → m ≤ n → (rest : List ℕ) × (pictures_of words n ≡ pictures_of words m ++ rest)

@@ -3,10 +3,10 @@ use Rattle.std.proofs.Common.{ℕ, min, ◌-◌, ◌*◌, ◌≡◌, List, lengt
 use Rattle.std.proofs.lemmas.List.{take_rest, take_min}
 use Rattle.std.proofs.Math.Nat.{mul_comm}
 
-pub piece-taken : (video : List ℕ) (i n : ℕ)
+pub part-taken : (video : List ℕ) (i n : ℕ)
     → n ≡ min (length (take (length video - i * 2000) (drop (i * 2000) video))) 2000
     → take n (take (length video - i * 2000) (drop (i * 2000) video)) ≡ take 2000 (drop (2000 * i) video)
-piece-taken video i n least =
+part-taken video i n least =
     let rest = take_rest video (i * 2000) in
     let swapped : min (length (take (length video - i * 2000) (drop (i * 2000) video))) 2000
     ≡ min 2000 (length (take (length video - i * 2000) (drop (i * 2000) video))) = omega arith in

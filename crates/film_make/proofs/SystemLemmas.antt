@@ -19,14 +19,14 @@ use Rattle.film_make.specs.System.{pack_header, pack_of, system_of}
 abbrev packet : List ℕ → Element
 packet bytes = VideoPacket 0 0 0 None NoStamp bytes
 
--- the bytes from piece i on, at most 2,000
-abbrev piece : List ℕ → ℕ → List ℕ
-piece video i = take 2000 (drop (2000 * i) video)
+-- the bytes from part i on, at most 2,000
+abbrev part : List ℕ → ℕ → List ℕ
+part video i = take 2000 (drop (2000 * i) video)
 
--- so many packs from piece i on
+-- so many packs from part i on
 abbrev elements : List ℕ → ℕ → ℕ → List Element
 elements video i zero = []
-elements video i (suc n) = PackHeader 0 0 1 ∷ packet (piece video i) ∷ elements video (i + 1) n
+elements video i (suc n) = PackHeader 0 0 1 ∷ packet (part video i) ∷ elements video (i + 1) n
 
 pack-bytes : (bytes : List ℕ) → length bytes ≤ 2000
     → pack_of bytes ≡ element_bytes (PackHeader 0 0 1) ++ element_bytes (packet bytes)
@@ -36,17 +36,17 @@ pack-bytes bytes few =
     ap (λ h. pack_header ++ (0 ∷ 0 ∷ 1 ∷ 0xe0 ∷ h ∷ (length bytes + 1) % 256 ∷ []) ++ 15 ∷ bytes) high
     ∙ ap (λ l. pack_header ++ (0 ∷ 0 ∷ 1 ∷ 0xe0 ∷ length (15 ∷ bytes) / 256 ∷ l ∷ []) ++ 15 ∷ bytes) low
 
-piece-few : (video : List ℕ) (i : ℕ) → length (piece video i) ≤ 2000
-piece-few video i = omega (arith, length-take 2000 (drop (2000 * i) video))
+part-few : (video : List ℕ) (i : ℕ) → length (part video i) ≤ 2000
+part-few video i = omega (arith, length-take 2000 (drop (2000 * i) video))
 
 packs-bytes : (video : List ℕ) (i n : ℕ)
-    → flat_map (λ k. pack_of (piece video k)) (range_with_len i n) ≡ stream_bytes (elements video i n)
+    → flat_map (λ k. pack_of (part video k)) (range_with_len i n) ≡ stream_bytes (elements video i n)
 packs-bytes video i zero = refl
 packs-bytes video i (suc n) =
     let pack = element_bytes (PackHeader 0 0 1) in
-    let own = element_bytes (packet (piece video i)) in
-    ap (λ (l : List ℕ). l ++ flat_map (λ k. pack_of (piece video k)) (range_with_len (i + 1) n))
-    (pack-bytes (piece video i) (piece-few video i))
+    let own = element_bytes (packet (part video i)) in
+    ap (λ (l : List ℕ). l ++ flat_map (λ k. pack_of (part video k)) (range_with_len (i + 1) n))
+    (pack-bytes (part video i) (part-few video i))
     ∙ ap (λ (l : List ℕ). (pack ++ own) ++ l) (packs-bytes video (i + 1) n)
     ∙ append_assoc pack own (stream_bytes (elements video (i + 1) n))
 
@@ -60,7 +60,7 @@ are-elements video i (suc n) = (
       few = omega arith;
       buffer_fits = tt;
       stamps_fit = tt;
-      long = omega (arith, piece-few video i);
+      long = omega (arith, part-few video i);
     },
     are-elements video (i + 1) n,
   ),
@@ -79,7 +79,7 @@ videos video i (suc n) =
     let further : drop (2000 * (i + 1)) video ≡ drop 2000 (drop (2000 * i) video) =
     ap (λ m. drop m video) (let same : 2000 * (i + 1) ≡ 2000 * i + 2000 = omega arith in same)
     ∙ sym (drop-drop 2000 (2000 * i) video) in
-    ap (λ (l : List ℕ). piece video i ++ l) (videos video (i + 1) n ∙ ap (take (2000 * n)) further)
+    ap (λ (l : List ℕ). part video i ++ l) (videos video (i + 1) n ∙ ap (take (2000 * n)) further)
     ∙ take-parts 2000 (2000 * n) (drop (2000 * i) video)
     ∙ ap (λ m. take m (drop (2000 * i) video)) (let same : 2000 + 2000 * n ≡ 2000 * suc n = omega arith in same)
 

@@ -20,6 +20,6 @@ words_left g = λ k. word_at 4 g.key g.stream ((g.word_pos + k) % 2 ^ 68)
 unfoldable pub words_after : ℕ → (ℕ → ℕ) → ℕ → ℕ
 words_after n words = λ k. words (n + k)
 
--- pieces 0 to n - 1, end to end
+-- parts 0 to n - 1, end to end
 unfoldable pub end_to_end : (ℕ → List ℕ) → ℕ → List ℕ
-end_to_end piece n = flat_map piece (range_with_len 0 n)
+end_to_end part n = flat_map part (range_with_len 0 n)

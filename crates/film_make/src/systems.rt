@@ -50,8 +50,8 @@ fn write_packs(video: &[u8], out: &mut Vec<u8>) -> Result<(), NoMemory>
     ensures { OnOk result (out.new.items ≡
         out.old.items ++ packs_of video.now ((length video.now + 1999) / 2000)) }
 {
-    for piece in 0..video.len().div_ceil(PACKET) {
-        let rest = &video[piece * PACKET..];
+    for part in 0..video.len().div_ceil(PACKET) {
+        let rest = &video[part * PACKET..];
         write_pack(&rest[..rest.len().min(PACKET)], out)?;
     }
     Ok(())

@@ -99,13 +99,13 @@ first_found {prefix} {seen} byte more so_far whole is =
 pub open_plain : (prefix : Prefix) (seen : List ℕ) → HasNoCode prefix seen → pack_in seen ≡ None
 open_plain prefix seen so_far = ap pack_of so_far.none
 
--- a byte of a piece, and what follows it
-pub at_byte : (seen piece more : List ℕ) (index : ℕ) → index < length piece →
-    (seen ++ piece) ++ more ≡ ((seen ++ take index piece) ++ get_or piece index 0 ∷ []) ++ (drop (index + 1) piece ++ more)
-at_byte seen piece more index inside =
-    let split : piece ≡ (take index piece ++ get_or piece index 0 ∷ []) ++ drop (index + 1) piece =
-    sym (take-append-drop (index + 1) piece)
-    ∙ ap (λ (l : List ℕ). l ++ drop (index + 1) piece) (take_more piece index 0 inside) in
+-- a byte of a chunk, and what follows it
+pub at_byte : (seen chunk more : List ℕ) (index : ℕ) → index < length chunk →
+    (seen ++ chunk) ++ more ≡ ((seen ++ take index chunk) ++ get_or chunk index 0 ∷ []) ++ (drop (index + 1) chunk ++ more)
+at_byte seen chunk more index inside =
+    let split : chunk ≡ (take index chunk ++ get_or chunk index 0 ∷ []) ++ drop (index + 1) chunk =
+    sym (take-append-drop (index + 1) chunk)
+    ∙ ap (λ (l : List ℕ). l ++ drop (index + 1) chunk) (take_more chunk index 0 inside) in
     ap (λ (l : List ℕ). (seen ++ l) ++ more) split ∙ search (append_assoc, sym)
 
 -- a file of the library, of which a front was looked through
@@ -120,14 +120,14 @@ pub none_looked : (held : List File) (name : List ℕ) (size : ℕ)
 none_looked held name size found =
     record { bytes = []; front = first_front held name size found; long = refl; unfound = open_none }
 
-pub more_looked : {held : List File} {name : List ℕ} {size place : ℕ} {prefix next : Prefix} (piece : List ℕ)
+pub more_looked : {held : List File} {name : List ℕ} {size place : ℕ} {prefix next : Prefix} (chunk : List ℕ)
     (count : ℕ) → (so_far : HasLooked held name size place prefix) →
-    IsFront held name size (so_far.bytes ++ take count piece) → count ≤ length piece
-    → HasNoCode next (so_far.bytes ++ take count piece) → HasLooked held name size (place + count) next
-more_looked {name} {place} {next} piece count so_far front within unfound = record {
-  bytes = so_far.bytes ++ take count piece;
+    IsFront held name size (so_far.bytes ++ take count chunk) → count ≤ length chunk
+    → HasNoCode next (so_far.bytes ++ take count chunk) → HasLooked held name size (place + count) next
+more_looked {name} {place} {next} chunk count so_far front within unfound = record {
+  bytes = so_far.bytes ++ take count chunk;
   front = front;
-  long = omega (arith, length-append so_far.bytes (take count piece), so_far.long, length-take-le count piece within);
+  long = omega (arith, length-append so_far.bytes (take count chunk), so_far.long, length-take-le count chunk within);
   unfound = unfound;
 }
 
@@ -157,38 +157,38 @@ whole_looked {held} {name} {size} {place} {prefix} so_far end =
       within = tt;
     }
 
--- the bytes before one of a piece, which stands at `at`, have no start code
-pub record IsOpenBefore (prefix : Prefix) (seen piece : List ℕ) (index at : ℕ) : Type 0 where
-  pub inside : index < length piece
+-- the bytes before one of a chunk, which stands at `at`, have no start code
+pub record IsOpenBefore (prefix : Prefix) (seen chunk : List ℕ) (index at : ℕ) : Type 0 where
+  pub inside : index < length chunk
   pub long : length seen ≡ at
-  pub so_far : HasNoCode prefix (seen ++ take index piece)
+  pub so_far : HasNoCode prefix (seen ++ take index chunk)
 
--- one byte of a piece more
-pub open_step : {prefix next : Prefix} {seen piece : List ℕ} {index at : ℕ} →
-    IsOpenBefore prefix seen piece index at → is_whole prefix ≡ false →
-    next ≡ next_prefix prefix (get_or piece index 0) → HasNoCode next (seen ++ take (index + 1) piece)
-open_step {next} {seen} {piece} {index} before part is =
-    let joined : (seen ++ take index piece) ++ get_or piece index 0 ∷ [] ≡ seen ++ take (index + 1) piece =
-    append_assoc seen (take index piece) (get_or piece index 0 ∷ [])
-    ∙ ap (λ (l : List ℕ). seen ++ l) (sym (take_more piece index 0 before.inside)) in
-    subst (HasNoCode next) joined (open_more (get_or piece index 0) before.so_far part is)
+-- one byte of a chunk more
+pub open_step : {prefix next : Prefix} {seen chunk : List ℕ} {index at : ℕ} →
+    IsOpenBefore prefix seen chunk index at → is_whole prefix ≡ false →
+    next ≡ next_prefix prefix (get_or chunk index 0) → HasNoCode next (seen ++ take (index + 1) chunk)
+open_step {next} {seen} {chunk} {index} before part is =
+    let joined : (seen ++ take index chunk) ++ get_or chunk index 0 ∷ [] ≡ seen ++ take (index + 1) chunk =
+    append_assoc seen (take index chunk) (get_or chunk index 0 ∷ [])
+    ∙ ap (λ (l : List ℕ). seen ++ l) (sym (take_more chunk index 0 before.inside)) in
+    subst (HasNoCode next) joined (open_more (get_or chunk index 0) before.so_far part is)
 
--- the first code of a piece is found
-pub found_step : {prefix : Prefix} {seen piece : List ℕ} {index at : ℕ} {pack : Option ℕ} →
-    IsOpenBefore prefix seen piece index at → prefix ≡ Whole →
-    cond (eqb (get_or piece index 0) 0xba) (Some (at + index - 3)) None ≡ pack → (more : List ℕ)
-    → pack_in ((seen ++ piece) ++ more) ≡ pack
-found_step {seen} {piece} {index} {at} before whole is more =
-    let place : length (seen ++ take index piece) ≡ at + index =
+-- the first code of a chunk is found
+pub found_step : {prefix : Prefix} {seen chunk : List ℕ} {index at : ℕ} {pack : Option ℕ} →
+    IsOpenBefore prefix seen chunk index at → prefix ≡ Whole →
+    cond (eqb (get_or chunk index 0) 0xba) (Some (at + index - 3)) None ≡ pack → (more : List ℕ)
+    → pack_in ((seen ++ chunk) ++ more) ≡ pack
+found_step {seen} {chunk} {index} {at} before whole is more =
+    let place : length (seen ++ take index chunk) ≡ at + index =
     omega (
       arith,
-      length-append seen (take index piece),
+      length-append seen (take index chunk),
       before.long,
-      length-take-le index piece (omega (arith, before.inside)),
+      length-take-le index chunk (omega (arith, before.inside)),
     ) in
-    ap pack_in (at_byte seen piece more index before.inside)
-    ∙ first_found (get_or piece index 0) (drop (index + 1) piece ++ more) before.so_far whole
-    (ap (λ n. cond (eqb (get_or piece index 0) 0xba) (Some (n - 3)) None) place ∙ is)
+    ap pack_in (at_byte seen chunk more index before.inside)
+    ∙ first_found (get_or chunk index 0) (drop (index + 1) chunk ++ more) before.so_far whole
+    (ap (λ n. cond (eqb (get_or chunk index 0) 0xba) (Some (n - 3)) None) place ∙ is)
 
 pub not_whole : (prefix : Prefix) → (prefix ≡ Whole → ⊥) → is_whole prefix ≡ false
 not_whole Nothing other = refl

@@ -29,22 +29,22 @@ named : (held : List File) (name b : List ℕ) → file_named held name ≡ Some
 named held name b e = ap (λ (o : Option (List ℕ)). unwrap_or o []) e
 
 -- what a read of n bytes gives, of which k are taken
-pub more_front : {held : List File} {name : List ℕ} {size : ℕ} {bytes piece : List ℕ} {n : ℕ} (k : ℕ) →
+pub more_front : {held : List File} {name : List ℕ} {size : ℕ} {bytes chunk : List ℕ} {n : ℕ} (k : ℕ) →
     IsFront held name size bytes →
-    IsRead (bytes_named held name) (length bytes) n piece → k ≤ n → IsFront held name size (bytes ++ take k piece)
-more_front {held} {name} {bytes} {piece} {n} k so_far read fits =
+    IsRead (bytes_named held name) (length bytes) n chunk → k ≤ n → IsFront held name size (bytes ++ take k chunk)
+more_front {held} {name} {bytes} {chunk} {n} k so_far read fits =
     let whole : bytes_named held name ≡ so_far.whole = named held name so_far.whole so_far.found in
-    let there : take n piece ≡ take n (drop (length bytes) so_far.whole) =
+    let there : take n chunk ≡ take n (drop (length bytes) so_far.whole) =
     read.front ∙ ap (λ (b : List ℕ). take n (drop (length bytes) b)) whole in
-    let shorter : take k piece ≡ take k (drop (length bytes) so_far.whole) =
-    sym (take-take k n piece fits) ∙ ap (take k) there ∙ take-take k n (drop (length bytes) so_far.whole) fits in
-    let long : length (bytes ++ take k piece) ≡ length bytes + k =
-    omega (arith, length-append bytes (take k piece), length-take-le k piece (omega (arith, read.within, fits))) in
+    let shorter : take k chunk ≡ take k (drop (length bytes) so_far.whole) =
+    sym (take-take k n chunk fits) ∙ ap (take k) there ∙ take-take k n (drop (length bytes) so_far.whole) fits in
+    let long : length (bytes ++ take k chunk) ≡ length bytes + k =
+    omega (arith, length-append bytes (take k chunk), length-take-le k chunk (omega (arith, read.within, fits))) in
     record {
       whole = so_far.whole;
       found = so_far.found;
       sized = so_far.sized;
-      front = ap (λ (b : List ℕ). b ++ take k piece) so_far.front
+      front = ap (λ (b : List ℕ). b ++ take k chunk) so_far.front
           ∙ ap (λ (b : List ℕ). take (length bytes) so_far.whole ++ b) shorter
           ∙ sym (take-add (length bytes) k so_far.whole) ∙ ap (λ (m : ℕ). take m so_far.whole) (sym long);
     }
@@ -59,9 +59,9 @@ whole_front held name size bytes so_far long =
     (sym (so_far.front ∙ take_all (length bytes) so_far.whole (omega (arith, so_far.sized, long))))
 
 -- an empty read stands at the end
-pub read_some : {held : List File} {name : List ℕ} {size : ℕ} {bytes piece : List ℕ} {n : ℕ} → IsFront held name size bytes →
-    IsRead (bytes_named held name) (length bytes) n piece → 0 < length piece → length bytes < size → 0 < n
-read_some {held} {name} {piece} so_far read some before =
+pub read_some : {held : List File} {name : List ℕ} {size : ℕ} {bytes chunk : List ℕ} {n : ℕ} → IsFront held name size bytes →
+    IsRead (bytes_named held name) (length bytes) n chunk → 0 < length chunk → length bytes < size → 0 < n
+read_some {held} {name} {chunk} so_far read some before =
     let whole : bytes_named held name ≡ so_far.whole = named held name so_far.whole so_far.found in
     read.some some (omega (arith, so_far.sized, before, ap length whole))
 

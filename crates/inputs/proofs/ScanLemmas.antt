@@ -1,4 +1,4 @@
--- A film that is scanned piece by piece.
+-- A film that is scanned chunk by chunk.
 use Rattle.std.proofs.Common.{◌≡◌, ℕ, ◌+◌, ◌<◌, ◌≤◌, ◌^◌, List, [], ◌++◌, length, take, drop, Some, None, Option, Result, Ok, Err, inl, inr, refl, sym, ap, ◌∙◌, arith, subst, length-append}
 use Rattle.std.specs.Prelude.{option_map, IfErr, IfOk, IsErrAnd}
 use Rattle.std.proofs.lemmas.List.{length-take-le}
@@ -48,7 +48,7 @@ plain_refused : {held : List File} {name : List ℕ} {size : ℕ} {whole : List 
 plain_refused {held} {name} {size} {whole} opened found short refused =
     inr (whole, (found, inr (short, (whole, (plain_video held name size whole opened found, refused)))))
 
--- a piece more
+-- a chunk more
 pub more_told : {Heard Heard' : List Call → Type 0} {scanner scanner' : Scanner} {video : List ℕ}
     (more : List ℕ) → HasTold Heard scanner video →
     ((r : List ℕ) → HasScannedBytes scanner r → HasScannedBytes scanner' (read r more)) →
@@ -64,18 +64,18 @@ more_told {Heard} {Heard'} {scanner'} {video} more so_far kept tells =
     }
 
 pub more_scanned : {Heard Heard' : List Call → Type 0} {told' : Option (List File)} {name : List ℕ} {size place : ℕ}
-    {scanner scanner' : Scanner} {count : ℕ} (piece : List ℕ) →
+    {scanner scanner' : Scanner} {count : ℕ} (chunk : List ℕ) →
     (so_far : HasScanned Heard told' name size place scanner) →
-    ((held : List File) → told' ≡ Some held → IsFront held name size (so_far.bytes ++ take count piece)) →
-    count ≤ length piece →
-    ((r : List ℕ) → HasScannedBytes scanner r → HasScannedBytes scanner' (read r (take count piece))) →
+    ((held : List File) → told' ≡ Some held → IsFront held name size (so_far.bytes ++ take count chunk)) →
+    count ≤ length chunk →
+    ((r : List ℕ) → HasScannedBytes scanner r → HasScannedBytes scanner' (read r (take count chunk))) →
     ((r : List ℕ) (calls : List Call) → HasScannedBytes scanner r → Heard (calls ++ calls_of (codes_of r)) →
-    Heard' (calls ++ calls_of (codes_of (read r (take count piece))))) →
+    Heard' (calls ++ calls_of (codes_of (read r (take count chunk))))) →
     HasScanned Heard' told' name size (place + count) scanner'
-more_scanned {Heard} {Heard'} {name} {place} {count} piece so_far front within kept tells = record {
-  bytes = so_far.bytes ++ take count piece;
-  long = omega (arith, length-append so_far.bytes (take count piece), so_far.long, length-take-le count piece within);
-  scanned = more_told (take count piece) so_far.scanned kept tells;
+more_scanned {Heard} {Heard'} {name} {place} {count} chunk so_far front within kept tells = record {
+  bytes = so_far.bytes ++ take count chunk;
+  long = omega (arith, length-append so_far.bytes (take count chunk), so_far.long, length-take-le count chunk within);
+  scanned = more_told (take count chunk) so_far.scanned kept tells;
   front = front;
 }
 
@@ -93,21 +93,21 @@ front_refused front rest fault short is =
     refusal-at_code (front ++ rest) fault short
     (ap (λ (r : List ℕ). first_fault (codes_of r)) (read-append [] front rest) ∙ fault-stays rest (read [] front) fault is)
 
-pub piece_refused : {Heard : List Call → Type 0} {held : List File} {name : List ℕ} {size : ℕ} {scanner : Scanner}
-    {bytes : List ℕ} {fault : FilmFault} (piece : List ℕ) →
-    HasTold Heard scanner bytes → IsOpened held name size None → IsFront held name size (bytes ++ piece) → size ≤ 2 ^ 40 →
-    ((r : List ℕ) → HasScannedBytes scanner r → first_fault (codes_of (read r piece)) ≡ Some fault)
+pub chunk_refused : {Heard : List Call → Type 0} {held : List File} {name : List ℕ} {size : ℕ} {scanner : Scanner}
+    {bytes : List ℕ} {fault : FilmFault} (chunk : List ℕ) →
+    HasTold Heard scanner bytes → IsOpened held name size None → IsFront held name size (bytes ++ chunk) → size ≤ 2 ^ 40 →
+    ((r : List ℕ) → HasScannedBytes scanner r → first_fault (codes_of (read r chunk)) ≡ Some fault)
     → IsFilmRefused held name (Film fault)
-piece_refused {Heard} {held} {name} {size} {bytes} {fault} piece so_far opened front short is =
-    let rest : List ℕ = drop (length (bytes ++ piece)) front.whole in
-    let whole : (bytes ++ piece) ++ rest ≡ front.whole = front_rest held name size (bytes ++ piece) front in
+chunk_refused {Heard} {held} {name} {size} {bytes} {fault} chunk so_far opened front short is =
+    let rest : List ℕ = drop (length (bytes ++ chunk)) front.whole in
+    let whole : (bytes ++ chunk) ++ rest ≡ front.whole = front_rest held name size (bytes ++ chunk) front in
     let few : length front.whole ≤ 2 ^ 40 = omega (arith, front.sized, short) in
-    let at : first_fault (codes_of (read [] (bytes ++ piece))) ≡ Some fault =
-    ap (λ (r : List ℕ). first_fault (codes_of r)) (read-append [] bytes piece) ∙ is (read [] bytes) so_far.fed in
+    let at : first_fault (codes_of (read [] (bytes ++ chunk))) ≡ Some fault =
+    ap (λ (r : List ℕ). first_fault (codes_of r)) (read-append [] bytes chunk) ∙ is (read [] bytes) so_far.fed in
     plain_refused opened front.found few
-    (ap refusal (sym whole) ∙ front_refused (bytes ++ piece) rest fault (omega (arith, few, ap length whole)) at)
+    (ap refusal (sym whole) ∙ front_refused (bytes ++ chunk) rest fault (omega (arith, few, ap length whole)) at)
 
--- before the first piece
+-- before the first chunk
 pub none_told : (Heard : List Call → Type 0) (scanner : Scanner) → HasScannedBytes scanner [] → Heard []
     → HasTold Heard scanner []
 none_told Heard scanner fed fresh = record { fed = fed; heard = subst Heard (sym calls-none) fresh }

@@ -1,4 +1,4 @@
--- A system stream that is unwrapped and scanned piece by piece.
+-- A system stream that is unwrapped and scanned chunk by chunk.
 use Rattle.std.proofs.Common.{◌≡◌, ℕ, ◌+◌, ◌-◌, ◌≤◌, ◌^◌, List, [], ◌∷◌, ◌++◌, append_assoc, length, take, drop, replicate, Some, Option, inl, inr, sym, ap, ◌∙◌, arith, subst, length-append}
 use Rattle.std.proofs.lemmas.List.{length-take-le, length-drop, length-replicate, append-nil, take_all, take-append-drop}
 use Rattle.std.proofs.Math.Seq.{drop-append_seam, take-add}
@@ -17,7 +17,7 @@ use Rattle.sys_demux.specs.declared.unwrapper.Unwrapper.{Unwrapper}
 use Rattle.sys_demux.proofs.Parts.{length-prefixed}
 use Rattle.troubles.specs.declared.faults.Fault.TheVariants.{Film, System}
 use Rattle.inputs.specs.Files.{IsFront}
-use Rattle.inputs.specs.Scans.{HasEnded, HasHeard, HasRefused, HasStreamed, HasStreamedAll, HasTaken, HasUnwrapped, IsFilmRefused, IsOpened, IsPieceRefused, IsStreamFront, WasOpened}
+use Rattle.inputs.specs.Scans.{HasEnded, HasHeard, HasRefused, HasStreamed, HasStreamedAll, HasTaken, HasUnwrapped, IsFilmRefused, IsOpened, IsChunkRefused, IsStreamFront, WasOpened}
 use Rattle.inputs.specs.declared.streams.StreamRefused.{StreamRefused}
 use Rattle.inputs.specs.declared.streams.StreamRefused.TheVariants.{Fault as StreamFault, NoMemory as NoRoom}
 use Rattle.inputs.proofs.Tokens.{slice_from}
@@ -51,7 +51,7 @@ fault_within bytes fault h =
       length-append (bytes_of h.items) h.tail,
     )
 
--- ---- a piece more
+-- ---- a chunk more
 
 pub refused_more : (scanner scanner' : Scanner) (video more : List ℕ) → scanner' ≡ scanner
     → HasRefused scanner video → HasRefused scanner' (video ++ more)
@@ -78,7 +78,7 @@ part_unwrapped {Heard} {seen} part more so_far few fed taken = record {
   taken = taken so_far.video so_far.taken;
 }
 
--- a piece of a stream more
+-- a chunk of a stream more
 pub front_more : {held : List File} {name : List ℕ} {size place : ℕ} (from : ℕ) (seen more : List ℕ) →
     IsStreamFront size from seen held name → from + length seen ≡ place →
     ((bytes : List ℕ) → IsFront held name size bytes → length bytes ≡ place
@@ -93,17 +93,17 @@ front_more {held} {name} {size} {place} from seen more before long front = (
 )
 
 pub more_streamed : {Heard Heard' : List Call → Type 0} {told : Option (List File)} {name : List ℕ}
-    {size from place : ℕ} {unwrapper unwrapper' : Unwrapper} {scanner scanner' : Scanner} (piece : List ℕ) (count : ℕ) →
+    {size from place : ℕ} {unwrapper unwrapper' : Unwrapper} {scanner scanner' : Scanner} (chunk : List ℕ) (count : ℕ) →
     (so_far : HasStreamed Heard told name size from place unwrapper scanner) →
     ((held : List File) → told ≡ Some held → (bytes : List ℕ) → IsFront held name size bytes →
-    length bytes ≡ place → IsFront held name size (bytes ++ take count piece)) → count ≤ length piece →
-    HasUnwrapped Heard' unwrapper' scanner' (so_far.seen ++ take count piece)
+    length bytes ≡ place → IsFront held name size (bytes ++ take count chunk)) → count ≤ length chunk →
+    HasUnwrapped Heard' unwrapper' scanner' (so_far.seen ++ take count chunk)
     → HasStreamed Heard' told name size from (place + count) unwrapper' scanner'
-more_streamed {Heard} {name} {from} {place} piece count so_far front within unwrapped = record {
-  seen = so_far.seen ++ take count piece;
-  long = omega (arith, length-append so_far.seen (take count piece), so_far.long, length-take-le count piece within);
+more_streamed {Heard} {name} {from} {place} chunk count so_far front within unwrapped = record {
+  seen = so_far.seen ++ take count chunk;
+  long = omega (arith, length-append so_far.seen (take count chunk), so_far.long, length-take-le count chunk within);
   unwrapped = unwrapped;
-  front = λ held is. front_more from so_far.seen (take count piece) (so_far.front held is) so_far.long (front held is);
+  front = λ held is. front_more from so_far.seen (take count chunk) (so_far.front held is) so_far.long (front held is);
 }
 
 -- what was fed is what was read of the stream
@@ -112,7 +112,7 @@ pub streamed_fed : {Heard : List Call → Type 0} {told : Option (List File)} {n
     HasStreamed Heard told name size from place unwrapper scanner → from + unwrapper.fed ≡ place
 streamed_fed {Heard} {name} {from} {place} so_far = omega (arith, so_far.unwrapped.fed.count, so_far.long)
 
--- before the first piece
+-- before the first chunk
 pub first_streamed : {Heard : List Call → Type 0} {told : Option (List File)} {name : List ℕ} {size from : ℕ}
     {unwrapper : Unwrapper} {scanner : Scanner} → WasOpened told name size (Some from) →
     WasFed unwrapper [] [] → HasScannedBytes scanner [] → Heard [] → HasStreamed Heard told name size from from unwrapper scanner
@@ -162,23 +162,23 @@ stream_fault {held} {name} {from} {whole} {stream} {own} {fault} opened found sh
     (own, (subst (λ (l : List ℕ). IsRefused l own) (sym is) refused, moves stream refused room)) in
     inr (whole, (found, inr (few, subst (λ (o : Option ℕ). IsStreamFaultFrom o whole fault) (sym pack) its)))
 
--- what was read of a stream up to the end of a piece, in a file of at most 2^40 bytes
-pub record PieceRead (held : List File) (name : List ℕ) (size from : ℕ) (seen piece : List ℕ) : Type 0 where
-  pub front : IsStreamFront size from (seen ++ piece) held name
+-- what was read of a stream up to the end of a chunk, in a file of at most 2^40 bytes
+pub record ChunkRead (held : List File) (name : List ℕ) (size from : ℕ) (seen chunk : List ℕ) : Type 0 where
+  pub front : IsStreamFront size from (seen ++ chunk) held name
   pub opened : IsOpened held name size (Some from)
   pub short : size ≤ 2 ^ 40
 
-pub piece_fault : {held : List File} {name : List ℕ} {size from : ℕ} {seen piece : List ℕ}
-    {own fault : SystemFault} → PieceRead held name size from seen piece →
-    ((more : List ℕ) → IsRefused (seen ++ piece ++ more) own) → IsMovedFault from own fault
+pub chunk_fault : {held : List File} {name : List ℕ} {size from : ℕ} {seen chunk : List ℕ}
+    {own fault : SystemFault} → ChunkRead held name size from seen chunk →
+    ((more : List ℕ) → IsRefused (seen ++ chunk ++ more) own) → IsMovedFault from own fault
     → IsFilmRefused held name (System fault)
-piece_fault {held} {name} {size} {from} {seen} {piece} read refused moves =
-    let rest : List ℕ = drop (length (front.0 ++ (seen ++ piece))) front.1.1.whole in
-    let whole : front.0 ++ (seen ++ piece ++ rest) ≡ front.1.1.whole =
-    sym (append_assoc front.0 (seen ++ piece) rest)
-    ∙ front_rest held name size (front.0 ++ (seen ++ piece)) front.1.1 in
+chunk_fault {held} {name} {size} {from} {seen} {chunk} read refused moves =
+    let rest : List ℕ = drop (length (front.0 ++ (seen ++ chunk))) front.1.1.whole in
+    let whole : front.0 ++ (seen ++ chunk ++ rest) ≡ front.1.1.whole =
+    sym (append_assoc front.0 (seen ++ chunk) rest)
+    ∙ front_rest held name size (front.0 ++ (seen ++ chunk)) front.1.1 in
     stream_fault opened front.1.1.found short
-    (stream_rest front.0 (seen ++ piece ++ rest) front.1.1.whole from whole front.1.0) (refused rest) moves
+    (stream_rest front.0 (seen ++ chunk ++ rest) front.1.1.whole from whole front.1.0) (refused rest) moves
   where
     open read use {front, opened, short}
 
@@ -279,23 +279,23 @@ pub record HasFedStream (Heard : List Call → Type 0) (Ready : ℕ → Type 0) 
   pub ready : IsReady Ready scanner
   pub streamed : HasStreamed Heard files name size from place unwrapper scanner
 
--- the parts of a piece, one after another
-pub parts_joined : (seen piece : List ℕ) (at taken : ℕ)
-    → (seen ++ take at piece) ++ take taken (take (length piece - at) (drop at piece)) ≡ seen ++ take (at + taken) piece
-parts_joined seen piece at taken =
-    append_assoc seen (take at piece) (take taken (take (length piece - at) (drop at piece)))
-    ∙ ap (λ (l : List ℕ). seen ++ (take at piece ++ take taken l)) (slice_from piece at)
-    ∙ ap (λ (l : List ℕ). seen ++ l) (sym (take-add at taken piece))
+-- the parts of a chunk, one after another
+pub parts_joined : (seen chunk : List ℕ) (at taken : ℕ)
+    → (seen ++ take at chunk) ++ take taken (take (length chunk - at) (drop at chunk)) ≡ seen ++ take (at + taken) chunk
+parts_joined seen chunk at taken =
+    append_assoc seen (take at chunk) (take taken (take (length chunk - at) (drop at chunk)))
+    ∙ ap (λ (l : List ℕ). seen ++ (take at chunk ++ take taken l)) (slice_from chunk at)
+    ∙ ap (λ (l : List ℕ). seen ++ l) (sym (take-add at taken chunk))
 
-pub rest_joined : (seen piece more : List ℕ) (at : ℕ)
-    → (seen ++ take at piece) ++ take (length piece - at) (drop at piece) ++ more ≡ seen ++ piece ++ more
-rest_joined seen piece more at =
-    ap (λ (l : List ℕ). l ++ more) (append_assoc seen (take at piece) (take (length piece - at) (drop at piece))
-    ∙ ap (λ (l : List ℕ). seen ++ l) (ap (λ (l : List ℕ). take at piece ++ l) (slice_from piece at) ∙ take-append-drop at piece))
+pub rest_joined : (seen chunk more : List ℕ) (at : ℕ)
+    → (seen ++ take at chunk) ++ take (length chunk - at) (drop at chunk) ++ more ≡ seen ++ chunk ++ more
+rest_joined seen chunk more at =
+    ap (λ (l : List ℕ). l ++ more) (append_assoc seen (take at chunk) (take (length chunk - at) (drop at chunk))
+    ∙ ap (λ (l : List ℕ). seen ++ l) (ap (λ (l : List ℕ). take at chunk ++ l) (slice_from chunk at) ∙ take-append-drop at chunk))
 
--- a refusal in a part of a piece
-pub part_refused : (seen piece : List ℕ) (at : ℕ) (e : StreamRefused)
-    → IsPieceRefused (seen ++ take at piece) (take (length piece - at) (drop at piece)) e → IsPieceRefused seen piece e
-part_refused seen piece at (StreamFault fault) h =
-    λ more. subst (λ (l : List ℕ). IsRefused l fault) (rest_joined seen piece more at) (h more)
-part_refused seen piece at NoRoom h = tt
+-- a refusal in a part of a chunk
+pub part_refused : (seen chunk : List ℕ) (at : ℕ) (e : StreamRefused)
+    → IsChunkRefused (seen ++ take at chunk) (take (length chunk - at) (drop at chunk)) e → IsChunkRefused seen chunk e
+part_refused seen chunk at (StreamFault fault) h =
+    λ more. subst (λ (l : List ℕ). IsRefused l fault) (rest_joined seen chunk more at) (h more)
+part_refused seen chunk at NoRoom h = tt

@@ -1,4 +1,4 @@
--- Scanning a film of a library piece by piece.
+-- Scanning a film of a library chunk by chunk.
 use Rattle.std.specs.Prelude.{◌≡◌, ◌⊎◌, ℕ, ◌+◌, ◌≤◌, ◌^◌, List, [], ◌++◌, length, drop, Option}
 use Rattle.std.specs.Prelude.{Some, None, IfSome}
 use Rattle.vod_base.specs.Outside.{File, file_named}
@@ -159,8 +159,8 @@ pub record HasHeard (Heard : List Call →
   pub ended : HasEnded Heard video size rate
   pub holds : (held : List File) → told ≡ Some held → HoldsVideo held name video
 
--- why a piece of a stream is refused, after these bytes of it and whatever follows
-abbrev pub IsPieceRefused : List ℕ → List ℕ → StreamRefused → Type 0
-IsPieceRefused seen piece (StreamFault fault) = (more : List ℕ) →
-    IsRefused (seen ++ piece ++ more) fault
-IsPieceRefused seen piece NoRoom = Unit {0}
+-- why a chunk of a stream is refused, after these bytes of it and whatever follows
+abbrev pub IsChunkRefused : List ℕ → List ℕ → StreamRefused → Type 0
+IsChunkRefused seen chunk (StreamFault fault) = (more : List ℕ) →
+    IsRefused (seen ++ chunk ++ more) fault
+IsChunkRefused seen chunk NoRoom = Unit {0}

@@ -10,7 +10,7 @@ use troubles::{Fault, Trouble};
 use vod_base::Library;
 
 /// The most bytes that one read asks for.
-pub(crate) const PIECE: usize = 65_536;
+pub(crate) const CHUNK: usize = 65_536;
 
 /// Reads the whole input of that name, by reads of at most 65,536 bytes.
 ///
@@ -63,24 +63,24 @@ pub(crate) fn read_at<'a, L: Library>(
     name: &'a str,
     size: u64,
     at: u64,
-    piece: &mut [u8],
+    chunk: &mut [u8],
 ) -> Result<usize, Trouble<'a>>
-    requires some { 0 < length piece.old }
+    requires some { 0 < length chunk.old }
     requires before { at < size }
     ensures library { IsReadOnly (L.files library.old) (L.files library.new) (L.faults library.old)
         (L.faults library.new) }
-    ensures within { IfOk result (λ count. count ≤ length piece.new) }
+    ensures within { IfOk result (λ count. count ≤ length chunk.new) }
     ensures fits { IfOk result (λ count. at + count ≤ size) }
     ensures told { (held : List File) (bytes : List ℕ) → L.files library.old ≡ Some held
         → IsFront held name.entry.now size bytes → length bytes ≡ at
-        → IfOk result (λ count. IsFront held name.entry.now size (bytes ++ take count piece.new)) }
+        → IfOk result (λ count. IsFront held name.entry.now size (bytes ++ take count chunk.new)) }
     ensures more { (held : List File) (bytes : List ℕ) → L.files library.old ≡ Some held
         → IsFront held name.entry.now size bytes → length bytes ≡ at
         → IfOk result (λ count. 0 < count) }
     ensures trouble { IfErr result (IsReadTrouble (IsNamed name.entry.now) IsNever
         (L.files library.old) (L.faults library.old) (L.faults library.new)) }
 {
-    match library.read(name, at, piece) {
+    match library.read(name, at, chunk) {
         Ok(count) => Ok(count.min((size - at) as usize)),
         Err(_) => Err(Trouble::StoreFault(name)),
     }
@@ -104,9 +104,9 @@ pub(crate) fn read_bytes<'a, L: Library>(
         (L.files library.old) (L.faults library.old) (L.faults library.new)) }
 {
     let mut bytes = Vec::new(alloc);
-    let mut piece = zeros(alloc, PIECE)?;
+    let mut chunk = zeros(alloc, CHUNK)?;
     while (bytes.len() as u64) < size {
-        let count = read_piece(library, name, size, &mut piece, &mut bytes)?;
+        let count = read_chunk(library, name, size, &mut chunk, &mut bytes)?;
         if count == 0 {
             return Ok(bytes);
         }
@@ -114,15 +114,15 @@ pub(crate) fn read_bytes<'a, L: Library>(
     Ok(bytes)
 }
 
-/// Reads one piece after the bytes read so far, and answers how many bytes it had: 0 at the end.
-fn read_piece<'a, L: Library>(
+/// Reads one chunk after the bytes read so far, and answers how many bytes it had: 0 at the end.
+fn read_chunk<'a, L: Library>(
     library: &mut L,
     name: &'a str,
     size: u64,
-    piece: &mut [u8],
+    chunk: &mut [u8],
     bytes: &mut Vec<u8>,
 ) -> Result<usize, Trouble<'a>>
-    requires some { 0 < length piece.old }
+    requires some { 0 < length chunk.old }
     requires before { vec_len bytes.old < size }
     ensures library { IsReadOnly (L.files library.old) (L.files library.new) (L.faults library.old)
         (L.faults library.new) }
@@ -136,7 +136,7 @@ fn read_piece<'a, L: Library>(
         (L.files library.old) (L.faults library.old) (L.faults library.new)) }
 {
     let at = bytes.len() as u64;
-    let count = read_at(library, name, size, at, piece)?;
-    bytes.extend_from_slice(&piece[..count])?;
+    let count = read_at(library, name, size, at, chunk)?;
+    bytes.extend_from_slice(&chunk[..count])?;
     Ok(count)
 }

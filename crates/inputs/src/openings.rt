@@ -22,7 +22,7 @@ pub(crate) fn pack_in(file: &[u8]) -> Option<u64>
     ensures place { result ≡ pack_in file.now }
     ensures within { IfSome result (λ place. place ≤ length file.now) }
 {
-    match open_piece(Prefix::Nothing, 0, file) {
+    match open_chunk(Prefix::Nothing, 0, file) {
         FirstCode::Pack(place) => Some(place),
         FirstCode::Other => None,
         FirstCode::NotYet(_) => None,
@@ -35,9 +35,9 @@ pub(crate) fn find_pack<'a, L: Library>(
     library: &mut L,
     name: &'a str,
     size: u64,
-    piece: &mut [u8],
+    chunk: &mut [u8],
 ) -> Result<Option<u64>, Trouble<'a>>
-    requires some { 0 < length piece.old }
+    requires some { 0 < length chunk.old }
     requires short { size ≤ 2 ^ 40 }
     ensures library { IsReadOnly (L.files library.old) (L.files library.new) (L.faults library.old)
         (L.faults library.new) }
@@ -51,11 +51,11 @@ pub(crate) fn find_pack<'a, L: Library>(
     let mut prefix = Prefix::Nothing;
     let mut at = 0;
     while at < size {
-        let count = read_at(library, name, size, at, piece)?;
+        let count = read_at(library, name, size, at, chunk)?;
         if count == 0 {
             return Ok(None);
         }
-        match open_piece(prefix, at, &piece[..count]) {
+        match open_chunk(prefix, at, &chunk[..count]) {
             FirstCode::NotYet(next) => prefix = next,
             FirstCode::Pack(place) => return Ok(Some(place)),
             FirstCode::Other => return Ok(None),
@@ -77,14 +77,14 @@ enum FirstCode {
 }
 
 /// Looks for the first start code in the next bytes of a file, which stand at `at`.
-fn open_piece(before: Prefix, at: u64, piece: &[u8]) -> FirstCode
-    requires { at + length piece.now ≤ 2 ^ 40 }
+fn open_chunk(before: Prefix, at: u64, chunk: &[u8]) -> FirstCode
+    requires { at + length chunk.now ≤ 2 ^ 40 }
     ensures opening { (seen : List ℕ) → length seen ≡ at → HasNoCode before seen →
-        IsFirstCode result (seen ++ piece.now) }
-    ensures within { IsFoundBy (at + length piece.now) result }
+        IsFirstCode result (seen ++ chunk.now) }
+    ensures within { IsFoundBy (at + length chunk.now) result }
 {
     let mut prefix = before;
-    for (index, byte) in piece.iter().enumerate() {
+    for (index, byte) in chunk.iter().enumerate() {
         match prefix {
             Prefix::Whole if *byte == PACK => {
                 return FirstCode::Pack((at + index as u64).saturating_sub(3));

@@ -9,7 +9,7 @@ ghost use Rattle.inputs.specs.Films.{IsFilmTrouble};
 ghost use Rattle.inputs.specs.Scans.{HasEnded, HasHeard, HasScanned, HasScannedAll, HasTaken};
 ghost use Rattle.inputs.specs.Scans.{IsRefusedAtEnd, IsScanTrouble, WasOpened};
 
-use crate::files::{PIECE, find_file, read_at, zeros};
+use crate::files::{CHUNK, find_file, read_at, zeros};
 use crate::openings::find_pack;
 use crate::streams::scan_stream;
 use mpeg_scan::{Ending, FilmFault, Found, MAX_FILM_BYTES, ScanRefused, Scanner};
@@ -67,26 +67,26 @@ pub(crate) fn hear_film<'a, L: Library, F: Found>(
     if MAX_FILM_BYTES < size {
         return Err(Trouble::Refused(name, Fault::Film(FilmFault::TooLong)));
     }
-    let mut piece = zeros(alloc, PIECE)?;
-    let stream = find_pack(library, name, size, &mut piece)?;
+    let mut chunk = zeros(alloc, CHUNK)?;
+    let stream = find_pack(library, name, size, &mut chunk)?;
     match stream {
-        None => scan_plain(library, name, size, &mut piece, found),
-        Some(from) => scan_stream(library, name, size, from, &mut piece, found),
+        None => scan_plain(library, name, size, &mut chunk, found),
+        Some(from) => scan_stream(library, name, size, from, &mut chunk, found),
     }
 }
 
-/// Reads one piece of the film at `at`, feeds it to the scanner, and answers how many bytes it had:
+/// Reads one chunk of the film at `at`, feeds it to the scanner, and answers how many bytes it had:
 /// 0 at the end.
-fn feed_piece<'a, L: Library, F: Found>(
+fn feed_chunk<'a, L: Library, F: Found>(
     library: &mut L,
     name: &'a str,
     size: u64,
     at: u64,
-    piece: &mut [u8],
+    chunk: &mut [u8],
     scanner: &mut Scanner,
     found: &mut F,
 ) -> Result<u64, Trouble<'a>>
-    requires some { 0 < length piece.old }
+    requires some { 0 < length chunk.old }
     requires before { at < size }
     requires short { size ≤ 2 ^ 40 }
     requires opened { WasOpened (L.files library.old) name.now size None }
@@ -105,24 +105,24 @@ fn feed_piece<'a, L: Library, F: Found>(
     ensures trouble { IfErr result (IsScanTrouble name.entry.now (L.files library.old)
         (L.faults library.old) (L.faults library.new)) }
 {
-    let count = read_at(library, name, size, at, piece)?;
-    match scanner.feed(&piece[..count], found) {
+    let count = read_at(library, name, size, at, chunk)?;
+    match scanner.feed(&chunk[..count], found) {
         Ok(()) => Ok(count as u64),
         Err(refused) => Err(scan_trouble(name, refused)),
     }
 }
 
-/// Feeds the whole film to the scanner, by reads of a piece, until a read answers 0 or the size is
+/// Feeds the whole film to the scanner, by reads of a chunk, until a read answers 0 or the size is
 /// reached.
 fn feed_film<'a, L: Library, F: Found>(
     library: &mut L,
     name: &'a str,
     size: u64,
-    piece: &mut [u8],
+    chunk: &mut [u8],
     scanner: &mut Scanner,
     found: &mut F,
 ) -> Result<(), Trouble<'a>>
-    requires some { 0 < length piece.old }
+    requires some { 0 < length chunk.old }
     requires short { size ≤ 2 ^ 40 }
     requires opened { WasOpened (L.files library.old) name.now size None }
     requires scanned { HasScanned (F.heard found.old)
@@ -138,7 +138,7 @@ fn feed_film<'a, L: Library, F: Found>(
 {
     let mut at = 0;
     while at < size {
-        let count = feed_piece(library, name, size, at, piece, scanner, found)?;
+        let count = feed_chunk(library, name, size, at, chunk, scanner, found)?;
         if count == 0 {
             return Ok(());
         }
@@ -152,10 +152,10 @@ fn scan_plain<'a, L: Library, F: Found>(
     library: &mut L,
     name: &'a str,
     size: u64,
-    piece: &mut [u8],
+    chunk: &mut [u8],
     found: &mut F,
 ) -> Result<Ending, Trouble<'a>>
-    requires some { 0 < length piece.old }
+    requires some { 0 < length chunk.old }
     requires short { size ≤ 2 ^ 40 }
     requires opened { WasOpened (L.files library.old) name.now size None }
     requires fresh { F.heard found.old [] }
@@ -168,6 +168,6 @@ fn scan_plain<'a, L: Library, F: Found>(
         (L.faults library.old) (L.faults library.new)) }
 {
     let mut scanner = Scanner::new();
-    feed_film(library, name, size, piece, &mut scanner, found)?;
+    feed_film(library, name, size, chunk, &mut scanner, found)?;
     end_film(name, scanner, found)
 }

@@ -7,7 +7,7 @@ ghost use Rattle.sys_demux.specs.Streams.{IsRefused};
 ghost use Rattle.troubles.specs.Causes.{IsReadOnly};
 ghost use Rattle.inputs.specs.Videos.{fault_from};
 ghost use Rattle.inputs.specs.Scans.{HasHeard, HasStreamed, HasStreamedAll, HasTaken, HasUnwrapped};
-ghost use Rattle.inputs.specs.Scans.{IsPieceRefused, IsScanTrouble, WasOpened};
+ghost use Rattle.inputs.specs.Scans.{IsChunkRefused, IsScanTrouble, WasOpened};
 
 use crate::files::read_at;
 use crate::scans::end_film;
@@ -83,10 +83,10 @@ pub(crate) fn scan_stream<'a, L: Library, F: Found>(
     name: &'a str,
     size: u64,
     from: u64,
-    piece: &mut [u8],
+    chunk: &mut [u8],
     found: &mut F,
 ) -> Result<Ending, Trouble<'a>>
-    requires some { 0 < length piece.old }
+    requires some { 0 < length chunk.old }
     requires short { size ≤ 2 ^ 40 }
     requires opened { WasOpened (L.files library.old) name.now size (Some from) }
     requires within { from ≤ size }
@@ -102,7 +102,7 @@ pub(crate) fn scan_stream<'a, L: Library, F: Found>(
     let mut unwrapper = Unwrapper::new();
     let mut scanner = Scanner::new();
     let file = StreamFile { name, size, from };
-    feed_stream(library, file, piece, &mut unwrapper, &mut scanner, found)?;
+    feed_stream(library, file, chunk, &mut unwrapper, &mut scanner, found)?;
     match unwrapper.finish() {
         Ok(()) => end_film(name, scanner, found),
         Err(fault) => Err(Trouble::Refused(name, Fault::System(move_fault(from, fault)))),
@@ -126,74 +126,74 @@ fn take_video<F: Found>(scanner: &mut Scanner, video: &[u8], found: &mut F) -> R
     }
 }
 
-/// Takes bytes from the front of a piece of a stream, feeds the video among them to the scanner,
+/// Takes bytes from the front of a chunk of a stream, feeds the video among them to the scanner,
 /// and answers how many they were.
 fn unwrap_part<F: Found>(
     unwrapper: &mut Unwrapper,
-    piece: &[u8],
+    chunk: &[u8],
     scanner: &mut Scanner,
     found: &mut F,
 ) -> Result<usize, StreamRefused>
-    requires some { 0 < length piece.now }
-    requires room { unwrapper.old.fed + length piece.now ≤ 2 ^ 40 }
+    requires some { 0 < length chunk.now }
+    requires room { unwrapper.old.fed + length chunk.now ≤ 2 ^ 40 }
     requires few { bytes_fed scanner.old ≤ unwrapper.old.fed }
     requires ready { IsReady (F.ready_at found.old) scanner.old }
-    ensures taken { IfOk result (λ taken. (0 < taken) × (taken ≤ length piece.now)) }
+    ensures taken { IfOk result (λ taken. (0 < taken) × (taken ≤ length chunk.now)) }
     ensures count { IfOk result (λ taken. unwrapper.new.fed ≡ unwrapper.old.fed + taken) }
     ensures few { IfOk result (λ taken. bytes_fed scanner.new ≤ unwrapper.old.fed + taken) }
     ensures ready { IsReady (F.ready_at found.new) scanner.new }
     ensures next { (seen : List ℕ) → HasUnwrapped (F.heard found.old) unwrapper.old scanner.old seen
         → IfOk result (λ taken. HasUnwrapped (F.heard found.new) unwrapper.new scanner.new
-        (seen ++ take taken piece.now)) }
+        (seen ++ take taken chunk.now)) }
     ensures refused { (seen : List ℕ) →
         HasUnwrapped (F.heard found.old) unwrapper.old scanner.old seen
-        → IfErr result (IsPieceRefused seen piece.now) }
+        → IfErr result (IsChunkRefused seen chunk.now) }
 {
-    let fed = unwrapper.feed(piece)?;
+    let fed = unwrapper.feed(chunk)?;
     take_video(scanner, fed.video, found)?;
     Ok(fed.taken)
 }
 
-/// Takes a piece of a stream, and feeds the video in it to the scanner.
-fn unwrap_piece<F: Found>(
+/// Takes a chunk of a stream, and feeds the video in it to the scanner.
+fn unwrap_chunk<F: Found>(
     unwrapper: &mut Unwrapper,
-    piece: &[u8],
+    chunk: &[u8],
     scanner: &mut Scanner,
     found: &mut F,
 ) -> Result<(), StreamRefused>
-    requires room { unwrapper.old.fed + length piece.now ≤ 2 ^ 40 }
+    requires room { unwrapper.old.fed + length chunk.now ≤ 2 ^ 40 }
     requires few { bytes_fed scanner.old ≤ unwrapper.old.fed }
     requires ready { IsReady (F.ready_at found.old) scanner.old }
-    ensures count { OnOk result (unwrapper.new.fed ≡ unwrapper.old.fed + length piece.now) }
+    ensures count { OnOk result (unwrapper.new.fed ≡ unwrapper.old.fed + length chunk.now) }
     ensures few { OnOk result (bytes_fed scanner.new ≤ unwrapper.new.fed) }
     ensures ready { IsReady (F.ready_at found.new) scanner.new }
     ensures next { (seen : List ℕ) → HasUnwrapped (F.heard found.old) unwrapper.old scanner.old seen
         → OnOk result (HasUnwrapped (F.heard found.new) unwrapper.new scanner.new
-        (seen ++ piece.now)) }
+        (seen ++ chunk.now)) }
     ensures refused { (seen : List ℕ) →
         HasUnwrapped (F.heard found.old) unwrapper.old scanner.old seen
-        → IfErr result (IsPieceRefused seen piece.now) }
+        → IfErr result (IsChunkRefused seen chunk.now) }
 {
     let mut at = 0;
-    while at < piece.len() {
-        let taken = unwrap_part(unwrapper, &piece[at..], scanner, found)?;
+    while at < chunk.len() {
+        let taken = unwrap_part(unwrapper, &chunk[at..], scanner, found)?;
         at += taken;
     }
     Ok(())
 }
 
-/// Reads one piece of a stream, feeds its video to the scanner, and answers how many bytes it had:
+/// Reads one chunk of a stream, feeds its video to the scanner, and answers how many bytes it had:
 /// 0 at the end.
-fn feed_stream_piece<'a, L: Library, F: Found>(
+fn feed_stream_chunk<'a, L: Library, F: Found>(
     library: &mut L,
     file: StreamFile<'a>,
     at: u64,
-    piece: &mut [u8],
+    chunk: &mut [u8],
     unwrapper: &mut Unwrapper,
     scanner: &mut Scanner,
     found: &mut F,
 ) -> Result<u64, Trouble<'a>>
-    requires some { 0 < length piece.old }
+    requires some { 0 < length chunk.old }
     requires before { at < file.size }
     requires short { file.size ≤ 2 ^ 40 }
     requires opened { WasOpened (L.files library.old) file.name.now file.size (Some file.from) }
@@ -214,8 +214,8 @@ fn feed_stream_piece<'a, L: Library, F: Found>(
     ensures trouble { IfErr result (IsScanTrouble file.entry.name.now (L.files library.old)
         (L.faults library.old) (L.faults library.new)) }
 {
-    let count = read_at(library, file.name, file.size, at, piece)?;
-    match unwrap_piece(unwrapper, &piece[..count], scanner, found) {
+    let count = read_at(library, file.name, file.size, at, chunk)?;
+    match unwrap_chunk(unwrapper, &chunk[..count], scanner, found) {
         Ok(()) => Ok(count as u64),
         Err(StreamRefused::Fault(fault)) => Err(Trouble::Refused(
             file.name,
@@ -229,12 +229,12 @@ fn feed_stream_piece<'a, L: Library, F: Found>(
 fn feed_stream<'a, L: Library, F: Found>(
     library: &mut L,
     file: StreamFile<'a>,
-    piece: &mut [u8],
+    chunk: &mut [u8],
     unwrapper: &mut Unwrapper,
     scanner: &mut Scanner,
     found: &mut F,
 ) -> Result<(), Trouble<'a>>
-    requires some { 0 < length piece.old }
+    requires some { 0 < length chunk.old }
     requires short { file.size ≤ 2 ^ 40 }
     requires opened { WasOpened (L.files library.old) file.name.now file.size (Some file.from) }
     requires within { file.from ≤ file.size }
@@ -255,7 +255,7 @@ fn feed_stream<'a, L: Library, F: Found>(
 {
     let mut at = file.from;
     while at < file.size {
-        let count = feed_stream_piece(library, file, at, piece, unwrapper, scanner, found)?;
+        let count = feed_stream_chunk(library, file, at, chunk, unwrapper, scanner, found)?;
         if count == 0 {
             return Ok(());
         }

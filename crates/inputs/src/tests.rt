@@ -64,7 +64,7 @@ fn loads_and_sizes_a_system_stream(rt: HostRuntime) -> Result<(), Fail> {
 }
 
 #[test]
-fn reads_three_pieces(rt: HostRuntime) -> Result<(), Fail> {
+fn reads_three_chunks(rt: HostRuntime) -> Result<(), Fail> {
     let alloc = rt.alloc();
     let mut bytes = vec![in alloc; b' '; 150_000]?;
     bytes.extend_from_slice(b"12 7")?;

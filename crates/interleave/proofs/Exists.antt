@@ -1,4 +1,4 @@
--- All bytes are pieces and a rest: whether a whole piece is in front can be decided.
+-- All bytes are elements and a rest: whether a whole element is in front can be decided.
 use Rattle.std.proofs.Common.{◌≡◌, ℕ, zero, suc, ◌+◌, ◌-◌, ◌<◌, ◌≤◌, ◌⊎◌, Bool, true, false, eqb, ltb, leb, cond, ◌&&◌}
 use Rattle.std.proofs.Common.{List, [], ◌∷◌, length, take, drop, map, get_or, refl, sym, ◌∙◌, ap, subst, arith, inl}
 use Rattle.std.proofs.Common.{inr, slice_range}
@@ -10,8 +10,8 @@ use Rattle.vod_base.specs.Blanks.{without_blanks}
 use Rattle.vod_base.specs.Lines.{IsLine}
 use Rattle.interleave.specs.Heads.{is_line_end, empty_line_ends, HasNoHead, IsHead}
 use Rattle.interleave.specs.Lengths.{IsLengthLine, IsWrittenAt, IsBodyLength, written_length}
-use Rattle.interleave.specs.Pieces.{StartsBlock, StartsRequest, IsRequestLength, block_length}
-use Rattle.interleave.specs.Streams.{IsPieceLength, LineEnd, WholeBlock, WholeRequest, HasStream}
+use Rattle.interleave.specs.Elements.{StartsBlock, StartsMessage, IsMessageLength, block_length}
+use Rattle.interleave.specs.Streams.{IsElementLength, LineEnd, WholeBlock, WholeMessage, HasStream}
 use Rattle.interleave.proofs.Found.{found_head, long_body, no_line, whole_length}
 use Rattle.interleave.proofs.Unique.{clash_block_request, clash_end_block, clash_short, head_once, not_long, total_once}
 
@@ -155,27 +155,27 @@ body head = elim (first_found (named head) (length head)) [
   | inr none ↦ (0, inr (no_line head (λ k within line. unnamed head k (none k within) line), refl))
 ]
 
--- ---- a piece
+-- ---- an element
 
 abbrev Decides : List ℕ → Type 0
-Decides w = ((n : ℕ) × IsPieceLength w n) ⊎ ((n : ℕ) → IsPieceLength w n → ⊥)
+Decides w = ((n : ℕ) × IsElementLength w n) ⊎ ((n : ℕ) → IsElementLength w n → ⊥)
 
--- where a request is in front, no other piece is
-only_request : (w : List ℕ) → StartsRequest w → ((n : ℕ) → IsRequestLength w n → n ≤ length w → ⊥) → (n : ℕ)
-    → IsPieceLength w n → ⊥
+-- where a request is in front, no other element is
+only_request : (w : List ℕ) → StartsMessage w → ((n : ℕ) → IsMessageLength w n → n ≤ length w → ⊥) → (n : ℕ)
+    → IsElementLength w n → ⊥
 only_request w starts none n (LineEnd one some end) = both_ways (is_line_end (get_or w 0 0)) starts.1 end
 only_request w starts none n (WholeBlock block four size inside) = clash_block_request w block starts
-only_request w starts none n (WholeRequest request size inside) = none n size inside
+only_request w starts none n (WholeMessage request size inside) = none n size inside
 
-request_whole : (w : List ℕ) (total : ℕ) → StartsRequest w → IsRequestLength w total → Decides w
+request_whole : (w : List ℕ) (total : ℕ) → StartsMessage w → IsMessageLength w total → Decides w
 request_whole w total starts size = elim (cases_lt (length w) total) [
   | inl less ↦
       inr (only_request w starts
       (λ n other inside. let same : n ≡ total = total_once w n total other size in omega (arith, same, less, inside)))
-  | inr fits ↦ inl (total, WholeRequest starts size fits)
+  | inr fits ↦ inl (total, WholeMessage starts size fits)
 ]
 
-request_with_head : (w : List ℕ) (head : ℕ) → StartsRequest w → IsHead w head → head ≤ 16384 → Decides w
+request_with_head : (w : List ℕ) (head : ℕ) → StartsMessage w → IsHead w head → head ≤ 16384 → Decides w
 request_with_head w head starts is fits =
     let its = body (take head w) in
     elim (cases_lt 65536 its.0) [
@@ -184,7 +184,7 @@ request_with_head w head starts is fits =
       | inr small ↦ request_whole w (head + its.0) starts (whole_length is fits its.1 small)
     ]
 
-request_decided : (w : List ℕ) → StartsRequest w → Decides w
+request_decided : (w : List ℕ) → StartsMessage w → Decides w
 request_decided w starts = elim (head_decided w) [
   | inl found ↦ elim (cases_lt 16384 found.0) [
     | inl long ↦
@@ -197,10 +197,10 @@ request_decided w starts = elim (head_decided w) [
 ]
 
 -- where `$` is in front, only a block can be
-only_block : (w : List ℕ) → StartsBlock w → (4 ≤ length w → block_length w ≤ length w → ⊥) → (n : ℕ) → IsPieceLength w n → ⊥
+only_block : (w : List ℕ) → StartsBlock w → (4 ≤ length w → block_length w ≤ length w → ⊥) → (n : ℕ) → IsElementLength w n → ⊥
 only_block w starts none n (LineEnd one some end) = clash_end_block w end starts
 only_block w starts none n (WholeBlock block four size inside) = none four (omega (arith, size, inside))
-only_block w starts none n (WholeRequest request size inside) = clash_block_request w starts request
+only_block w starts none n (WholeMessage request size inside) = clash_block_request w starts request
 
 block_decided : (w : List ℕ) → StartsBlock w → Decides w
 block_decided w starts = elim (cases_lt (length w) 4) [
@@ -211,10 +211,10 @@ block_decided w starts = elim (cases_lt (length w) 4) [
   ]
 ]
 
-nothing : (w : List ℕ) → length w ≡ 0 → (n : ℕ) → IsPieceLength w n → ⊥
+nothing : (w : List ℕ) → length w ≡ 0 → (n : ℕ) → IsElementLength w n → ⊥
 nothing w none n (LineEnd one some end) = omega (arith, none, some)
 nothing w none n (WholeBlock starts four size inside) = omega (arith, none, four)
-nothing w none n (WholeRequest starts size inside) = omega (arith, none, starts.0)
+nothing w none n (WholeMessage starts size inside) = omega (arith, none, starts.0)
 
 front_decided : (w : List ℕ) → 0 < length w → Decides w
 front_decided w some = elim (cases_Bool (is_line_end (get_or w 0 0))) [
@@ -225,28 +225,28 @@ front_decided w some = elim (cases_Bool (is_line_end (get_or w 0 0))) [
   ]
 ]
 
-piece_decided : (w : List ℕ) → Decides w
-piece_decided w = elim (cases_lt 0 (length w)) [
+element_decided : (w : List ℕ) → Decides w
+element_decided w = elim (cases_lt 0 (length w)) [
   | inl some ↦ front_decided w some
   | inr none ↦ inr (nothing w (omega arith))
 ]
 
 -- ---- a stream
 
-piece_some : (w : List ℕ) (n : ℕ) → IsPieceLength w n → 0 < n
-piece_some w n (LineEnd one some end) = omega (arith, one)
-piece_some w n (WholeBlock starts four size inside) = omega (arith, size)
-piece_some w n (WholeRequest starts size inside) = omega (arith, size.total_is, size.is_head.some)
+element_some : (w : List ℕ) (n : ℕ) → IsElementLength w n → 0 < n
+element_some w n (LineEnd one some end) = omega (arith, one)
+element_some w n (WholeBlock starts four size inside) = omega (arith, size)
+element_some w n (WholeMessage starts size inside) = omega (arith, size.total_is, size.is_head.some)
 
 stream_by : (most : ℕ) (w : List ℕ) → length w ≤ most → HasStream w
 stream_by zero w short = ([], (w, (refl, nothing w (omega arith))))
-stream_by (suc most) w short = elim (piece_decided w) [
-  | inl piece ↦
-      (let rest = stream_by most (drop piece.0 w) (omega (arith, length-drop piece.0 w, piece_some w piece.0 piece.1, short)) in
-      (take piece.0 w ∷ rest.0, (rest.1.0, ((piece.0, (piece.1, refl, rest.1.1.0)), rest.1.1.1))))
+stream_by (suc most) w short = elim (element_decided w) [
+  | inl element ↦
+      (let rest = stream_by most (drop element.0 w) (omega (arith, length-drop element.0 w, element_some w element.0 element.1, short)) in
+      (take element.0 w ∷ rest.0, (rest.1.0, ((element.0, (element.1, refl, rest.1.1.0)), rest.1.1.1))))
   | inr none ↦ ([], (w, (refl, none)))
 ]
 
--- all bytes are pieces and a rest in which no whole piece is in front
+-- all bytes are elements and a rest in which no whole element is in front
 pub has_stream : (w : List ℕ) → HasStream w
 has_stream w = stream_by (length w) w (omega arith)

@@ -5,7 +5,7 @@ use Rattle.vod_base.specs.Blanks.{without_blanks}
 use Rattle.vod_base.specs.Lines.{IsLine}
 use Rattle.interleave.specs.Heads.{empty_line_ends, HasNoHead, IsHead}
 use Rattle.interleave.specs.Lengths.{written_length, IsLengthLine, IsWrittenAt, IsLongAt, IsBodyLength, IsLongBody}
-use Rattle.interleave.specs.Pieces.{IsRequestLength, IsBodyTooLong}
+use Rattle.interleave.specs.Elements.{IsMessageLength, IsBodyTooLong}
 
 -- the first empty line ends with the byte at `k`
 pub found_head : (w : List ℕ) (k : ℕ) → k < length w → empty_line_ends w k ≡ true → HasNoHead w k → IsHead w (k + 1)
@@ -37,7 +37,7 @@ no_line head none k = λ h. none k (omega (arith, name_within head k h)) h
 
 -- a request with a head and a body has their length
 pub whole_length : {w : List ℕ} {head body : ℕ} → IsHead w head → head ≤ 16384 → IsBodyLength (take head w) body
-    → body ≤ 65536 → IsRequestLength w (head + body)
+    → body ≤ 65536 → IsMessageLength w (head + body)
 whole_length {w} {head} {body} is_head fits is_body small = record {
   head = head;
   body = body;

@@ -3,9 +3,9 @@ use Rattle.std.proofs.Common.{◌≡◌, ◌≢◌, ℕ, ◌+◌, ◌-◌, ◌*�
 use Rattle.std.proofs.Common.{ap, ◌∙◌, arith, inl, inr, ne_eqb, true, false}
 use Rattle.std.proofs.lemmas.List.{length-append, get_or_append_left, get_or-append_right}
 use Rattle.interleave.specs.Heads.{is_line_end}
-use Rattle.interleave.specs.Pieces.{IsFirst}
+use Rattle.interleave.specs.Elements.{IsFirst}
 use Rattle.interleave.specs.Laws.{IsCrOrLf, BeginsOtherwise}
-use Rattle.interleave.specs.declared.pieces.Step.TheVariants.{Block, Skip}
+use Rattle.interleave.specs.declared.elements.Step.TheVariants.{Block, Skip}
 
 ends_line : (byte : ℕ) → IsCrOrLf byte → is_line_end byte ≡ true
 ends_line byte (inl cr) = rw cr refl

@@ -3,7 +3,7 @@ use Rattle.std.proofs.Common.{◌≡◌, ℕ, ◌-◌, ◌<◌, ◌≤◌, ◌++
 use Rattle.std.proofs.lemmas.List.{get_or_append_left, drop-append-le, take-append-le, length-append}
 use Rattle.interleave.specs.Heads.{empty_line_ends, HasNoHead, IsHead}
 use Rattle.interleave.specs.Lengths.{IsBodyLength, IsLongBody}
-use Rattle.interleave.specs.Pieces.{IsRequestLength, IsBodyTooLong}
+use Rattle.interleave.specs.Elements.{IsMessageLength, IsBodyTooLong}
 use Rattle.interleave.specs.Known.{IsKnown, IsSettled}
 use Rattle.interleave.specs.declared.requests.Known.{Known}
 use Rattle.interleave.specs.declared.requests.Known.TheVariants.{Searched, Length}
@@ -32,8 +32,8 @@ IsHead-append w v head h = record {
 pub front_stays : (w v : List ℕ) (head : ℕ) → IsHead w head → take head (w ++ v) ≡ take head w
 front_stays w v head h = take-append-le head w v h.within
 
-pub IsRequestLength-append : (w v : List ℕ) (total : ℕ) → IsRequestLength w total → IsRequestLength (w ++ v) total
-IsRequestLength-append w v total r =
+pub IsMessageLength-append : (w v : List ℕ) (total : ℕ) → IsMessageLength w total → IsMessageLength (w ++ v) total
+IsMessageLength-append w v total r =
     let P : List ℕ → Type 0 = λ l. IsBodyLength l r.body in
     record {
       head = r.head;
@@ -56,7 +56,7 @@ IsBodyTooLong-append w v r =
 
 pub IsKnown-append : (w v : List ℕ) (known : Known) → IsKnown w known → IsKnown (w ++ v) known
 IsKnown-append w v (Searched to) h = (omega (arith, length-append w v, h.0), h.1, HasNoHead-append w v to h.0 h.2)
-IsKnown-append w v (Length total) h = IsRequestLength-append w v total h
+IsKnown-append w v (Length total) h = IsMessageLength-append w v total h
 
 -- bytes from a place on are moved to another place
 pub record AreMoved (old : List ℕ) (from : ℕ) (items : List ℕ) (start : ℕ) : Type 0 where

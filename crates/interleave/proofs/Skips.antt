@@ -3,11 +3,11 @@ use Rattle.std.proofs.Common.{◌≡◌, ℕ, ◌<◌, ◌≤◌, ◌++◌, List
 use Rattle.std.proofs.lemmas.Bool.{both_ways, cases_lt}
 use Rattle.std.proofs.lemmas.List.{get_or_append_left, length-append}
 use Rattle.interleave.specs.Heads.{is_line_end}
-use Rattle.interleave.specs.Pieces.{AreLineEnds, IsFirst, IsLongerSkip}
-use Rattle.interleave.specs.declared.pieces.Step.{Step}
-use Rattle.interleave.specs.declared.pieces.Step.TheVariants.{Request, Block, Skip, More}
-use Rattle.interleave.specs.declared.pieces.DemuxFault.{DemuxFault}
-use Rattle.interleave.specs.declared.pieces.DemuxFault.TheVariants.{HeadTooLong, BodyTooLong}
+use Rattle.interleave.specs.Elements.{AreLineEnds, IsFirst, IsLongerSkip}
+use Rattle.interleave.specs.declared.elements.Step.{Step}
+use Rattle.interleave.specs.declared.elements.Step.TheVariants.{Message, Block, Skip, More}
+use Rattle.interleave.specs.declared.elements.DemuxFault.{DemuxFault}
+use Rattle.interleave.specs.declared.elements.DemuxFault.TheVariants.{HeadTooLong, BodyTooLong}
 use Rattle.interleave.proofs.Unique.{clash_end_block}
 
 -- the byte in front stays
@@ -29,7 +29,7 @@ pub skip_stays : (w v : List ℕ) (n : ℕ) (answer : Result Step DemuxFault) �
     → IsFirst (w ++ v) answer → IsLongerSkip n answer
 skip_stays w v n (Ok (Skip m)) h k = as_many w v n m h.1 k.1
 skip_stays w v n (Ok (Block c m)) h k = clash_end_block (w ++ v) (front_line_end w v n h) k.0
-skip_stays w v n (Ok (Request m)) h k = both_ways (is_line_end (get_or (w ++ v) 0 0)) k.0.1 (front_line_end w v n h)
+skip_stays w v n (Ok (Message m)) h k = both_ways (is_line_end (get_or (w ++ v) 0 0)) k.0.1 (front_line_end w v n h)
 skip_stays w v n (Ok More) h (inl e) = omega (arith, h.0, h.1.within, length-append w v, e)
 skip_stays w v n (Ok More) h (inr (inl b)) = clash_end_block (w ++ v) (front_line_end w v n h) b.0
 skip_stays w v n (Ok More) h (inr (inr r)) = both_ways (is_line_end (get_or (w ++ v) 0 0)) r.0.1 (front_line_end w v n h)

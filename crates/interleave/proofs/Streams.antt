@@ -1,67 +1,67 @@
--- The pieces of a stream, however its bytes come.
+-- The elements of a stream, however its bytes come.
 use Rattle.std.proofs.Common.{◌≡◌, ℕ, zero, suc, ◌<◌, ◌≤◌, List, [], ◌∷◌, ◌++◌, Result, Ok, Err, length, take, drop}
 use Rattle.std.proofs.Common.{map, get_or, refl, sym, ◌∙◌, ap, subst, arith, inl, inr, true}
 use Rattle.std.proofs.lemmas.Bool.{both_ways}
 use Rattle.std.proofs.lemmas.List.{take-append-le, drop-append-le, get_or_append_left, length-append, append_assoc, append-nil}
 use Rattle.interleave.specs.Heads.{is_line_end}
-use Rattle.interleave.specs.Pieces.{IsFirst}
-use Rattle.interleave.specs.Streams.{IsPieceLength, LineEnd, WholeBlock, WholeRequest, AreCut, DoAgree, IsStream, told_pieces, told_length, TellsNone}
-use Rattle.interleave.specs.declared.pieces.Step.{Step}
-use Rattle.interleave.specs.declared.pieces.Step.TheVariants.{Request, Block, Skip, More}
-use Rattle.interleave.specs.declared.pieces.DemuxFault.{DemuxFault}
-use Rattle.interleave.specs.declared.pieces.DemuxFault.TheVariants.{HeadTooLong, BodyTooLong}
-use Rattle.interleave.proofs.Cuts.{StartsBlock-append, StartsRequest-append, block_length-append}
-use Rattle.interleave.proofs.More.{IsRequestLength-append}
+use Rattle.interleave.specs.Elements.{IsFirst}
+use Rattle.interleave.specs.Streams.{IsElementLength, LineEnd, WholeBlock, WholeMessage, AreCut, DoAgree, IsStream, told_elements, told_length, TellsNone}
+use Rattle.interleave.specs.declared.elements.Step.{Step}
+use Rattle.interleave.specs.declared.elements.Step.TheVariants.{Message, Block, Skip, More}
+use Rattle.interleave.specs.declared.elements.DemuxFault.{DemuxFault}
+use Rattle.interleave.specs.declared.elements.DemuxFault.TheVariants.{HeadTooLong, BodyTooLong}
+use Rattle.interleave.proofs.Cuts.{StartsBlock-append, StartsMessage-append, block_length-append}
+use Rattle.interleave.proofs.More.{IsMessageLength-append}
 use Rattle.interleave.proofs.Unique.{total_once, clash_block_request, clash_end_block, clash_head, not_long, more_block, more_request}
 
-pub piece_within : (w : List ℕ) (n : ℕ) → IsPieceLength w n → n ≤ length w
-piece_within w n (LineEnd one some end) = omega (arith, one, some)
-piece_within w n (WholeBlock starts four size inside) = inside
-piece_within w n (WholeRequest starts size inside) = inside
+pub element_within : (w : List ℕ) (n : ℕ) → IsElementLength w n → n ≤ length w
+element_within w n (LineEnd one some end) = omega (arith, one, some)
+element_within w n (WholeBlock starts four size inside) = inside
+element_within w n (WholeMessage starts size inside) = inside
 
--- a whole piece stays in front as more bytes come
-pub piece_stays : (w v : List ℕ) (n : ℕ) → IsPieceLength w n → IsPieceLength (w ++ v) n
-piece_stays w v n (LineEnd one some end) =
+-- a whole element stays in front as more bytes come
+pub element_stays : (w v : List ℕ) (n : ℕ) → IsElementLength w n → IsElementLength (w ++ v) n
+element_stays w v n (LineEnd one some end) =
     LineEnd one (omega (arith, length-append w v, some)) (rw (get_or_append_left w v 0 0 some) end)
-piece_stays w v n (WholeBlock starts four size inside) =
+element_stays w v n (WholeBlock starts four size inside) =
     WholeBlock (StartsBlock-append w v starts) (omega (arith, length-append w v, four))
     (rw (block_length-append w v four) size) (omega (arith, length-append w v, inside))
-piece_stays w v n (WholeRequest starts size inside) =
-    WholeRequest (StartsRequest-append w v starts) (IsRequestLength-append w v n size) (omega (arith, length-append w v, inside))
+element_stays w v n (WholeMessage starts size inside) =
+    WholeMessage (StartsMessage-append w v starts) (IsMessageLength-append w v n size) (omega (arith, length-append w v, inside))
 
--- a whole piece has one length
-pub piece_once : (w : List ℕ) (a b : ℕ) → IsPieceLength w a → IsPieceLength w b → a ≡ b
-piece_once w a b (LineEnd one some end) (LineEnd one' some' end') = one ∙ sym one'
-piece_once w a b (LineEnd one some end) (WholeBlock starts four size inside) = absurd (clash_end_block w end starts)
-piece_once w a b (LineEnd one some end) (WholeRequest starts size inside) =
+-- a whole element has one length
+pub element_once : (w : List ℕ) (a b : ℕ) → IsElementLength w a → IsElementLength w b → a ≡ b
+element_once w a b (LineEnd one some end) (LineEnd one' some' end') = one ∙ sym one'
+element_once w a b (LineEnd one some end) (WholeBlock starts four size inside) = absurd (clash_end_block w end starts)
+element_once w a b (LineEnd one some end) (WholeMessage starts size inside) =
     absurd (both_ways (is_line_end (get_or w 0 0)) starts.1 end)
-piece_once w a b (WholeBlock starts four size inside) (LineEnd one some end) = absurd (clash_end_block w end starts)
-piece_once w a b (WholeBlock starts four size inside) (WholeBlock starts' four' size' inside') = size ∙ sym size'
-piece_once w a b (WholeBlock starts four size inside) (WholeRequest starts' size' inside') =
+element_once w a b (WholeBlock starts four size inside) (LineEnd one some end) = absurd (clash_end_block w end starts)
+element_once w a b (WholeBlock starts four size inside) (WholeBlock starts' four' size' inside') = size ∙ sym size'
+element_once w a b (WholeBlock starts four size inside) (WholeMessage starts' size' inside') =
     absurd (clash_block_request w starts starts')
-piece_once w a b (WholeRequest starts size inside) (LineEnd one some end) =
+element_once w a b (WholeMessage starts size inside) (LineEnd one some end) =
     absurd (both_ways (is_line_end (get_or w 0 0)) starts.1 end)
-piece_once w a b (WholeRequest starts size inside) (WholeBlock starts' four' size' inside') =
+element_once w a b (WholeMessage starts size inside) (WholeBlock starts' four' size' inside') =
     absurd (clash_block_request w starts' starts)
-piece_once w a b (WholeRequest starts size inside) (WholeRequest starts' size' inside') = total_once w a b size size'
+element_once w a b (WholeMessage starts size inside) (WholeMessage starts' size' inside') = total_once w a b size size'
 
--- the pieces stay, and the rest grows
-pub cut_grows : (w v : List ℕ) (pieces : List (List ℕ)) (rest : List ℕ) → AreCut w pieces rest
-    → AreCut (w ++ v) pieces (rest ++ v)
+-- the elements stay, and the rest grows
+pub cut_grows : (w v : List ℕ) (elements : List (List ℕ)) (rest : List ℕ) → AreCut w elements rest
+    → AreCut (w ++ v) elements (rest ++ v)
 cut_grows w v [] rest same = ap (λ (xs : List ℕ). xs ++ v) same
-cut_grows w v (piece ∷ pieces) rest (n, cut) =
-    let inside : n ≤ length w = piece_within w n cut.0 in
+cut_grows w v (element ∷ elements) rest (n, cut) =
+    let inside : n ≤ length w = element_within w n cut.0 in
     let front : take n (w ++ v) ≡ take n w = take-append-le n w v inside in
     let after : drop n (w ++ v) ≡ drop n w ++ v = drop-append-le n w v inside in
-    let P : List ℕ → Type 0 = λ xs. AreCut xs pieces (rest ++ v) in
-    (n, (piece_stays w v n cut.0, cut.1 ∙ sym front, subst P (sym after) (cut_grows (drop n w) v pieces rest cut.2)))
+    let P : List ℕ → Type 0 = λ xs. AreCut xs elements (rest ++ v) in
+    (n, (element_stays w v n cut.0, cut.1 ∙ sym front, subst P (sym after) (cut_grows (drop n w) v elements rest cut.2)))
 
--- one piece more
-pub cut_more : (w : List ℕ) (pieces : List (List ℕ)) (rest : List ℕ) (n : ℕ) → AreCut w pieces rest → IsPieceLength rest n →
-    AreCut w (pieces ++ take n rest ∷ []) (drop n rest)
-cut_more w [] rest n same piece =
-    let P : List ℕ → Type 0 = λ xs. AreCut xs (take n rest ∷ []) (drop n rest) in subst P (sym same) (n, (piece, refl, refl))
-cut_more w (first ∷ pieces) rest n (m, cut) piece = (m, (cut.0, cut.1, cut_more (drop m w) pieces rest n cut.2 piece))
+-- one element more
+pub cut_more : (w : List ℕ) (elements : List (List ℕ)) (rest : List ℕ) (n : ℕ) → AreCut w elements rest → IsElementLength rest n →
+    AreCut w (elements ++ take n rest ∷ []) (drop n rest)
+cut_more w [] rest n same element =
+    let P : List ℕ → Type 0 = λ xs. AreCut xs (take n rest ∷ []) (drop n rest) in subst P (sym same) (n, (element, refl, refl))
+cut_more w (first ∷ elements) rest n (m, cut) element = (m, (cut.0, cut.1, cut_more (drop m w) elements rest n cut.2 element))
 
 -- bytes were cut, and then their rest with later bytes
 pub record CutsInTurn (w v : List ℕ) (ps qs : List (List ℕ)) (rest end : List ℕ) : Type 0 where
@@ -76,12 +76,12 @@ cuts_join {v} {ps = []} {qs} {end} cuts =
 cuts_join {w} {v} {ps = p ∷ ps} {qs} {rest} {end} cuts =
     let n = cuts.first.0 in
     let first = cuts.first.1 in
-    let inside : n ≤ length w = piece_within w n first.0 in
+    let inside : n ≤ length w = element_within w n first.0 in
     let front : take n (w ++ v) ≡ take n w = take-append-le n w v inside in
     let after : drop n (w ++ v) ≡ drop n w ++ v = drop-append-le n w v inside in
     let later : CutsInTurn (drop n w) v ps qs rest end = record { first = first.2; next = cuts.next } in
     let P : List ℕ → Type 0 = λ xs. AreCut xs (ps ++ qs) end in
-    (n, (piece_stays w v n first.0, first.1 ∙ sym front, subst P (sym after) (cuts_join later)))
+    (n, (element_stays w v n first.0, first.1 ∙ sym front, subst P (sym after) (cuts_join later)))
 
 -- two cuts agree as far as the shorter goes
 agree_after : (q : List ℕ) (ps qs : List (List ℕ)) (r t : List ℕ) → DoAgree ps r qs t → DoAgree (q ∷ ps) r (q ∷ qs) t
@@ -102,14 +102,14 @@ cuts_agree {w} {ps = p ∷ ps} {qs = q ∷ qs} {r} {t} cuts =
     let m = cuts.other.0 in
     let cut = cuts.one.1 in
     let cut' = cuts.other.1 in
-    let same : n ≡ m = piece_once w n m cut.0 cut'.0 in
+    let same : n ≡ m = element_once w n m cut.0 cut'.0 in
     let P : ℕ → Type 0 = λ k. AreCut (drop k w) ps r in
     let first : p ≡ q = cut.1 ∙ ap (λ k. take k w) same ∙ sym cut'.1 in
     let Q : List ℕ → Type 0 = λ x. DoAgree (x ∷ ps) r (q ∷ qs) t in
     let rest : TwoCuts (drop m w) ps qs r t = record { one = subst P same cut.2; other = cut'.2 } in
     subst Q (sym first) (agree_after q ps qs r t (cuts_agree rest))
 
--- the pieces and the rest of all bytes are the only ones
+-- the elements and the rest of all bytes are the only ones
 pub record TwoStreams (w : List ℕ) (ps qs : List (List ℕ)) (r t : List ℕ) : Type 0 where
   pub one : IsStream w ps r
   pub other : IsStream w qs t
@@ -118,16 +118,16 @@ pub stream_once : {w : List ℕ} {ps qs : List (List ℕ)} {r t : List ℕ} → 
 stream_once {ps = []} {qs = []} streams = (refl, sym streams.one.0 ∙ streams.other.0)
 stream_once {ps = []} {qs = q ∷ qs} streams =
     let cut = streams.other.0 in
-    let P : List ℕ → Type 0 = λ xs. IsPieceLength xs cut.0 in absurd (streams.one.1 cut.0 (subst P streams.one.0 cut.1.0))
+    let P : List ℕ → Type 0 = λ xs. IsElementLength xs cut.0 in absurd (streams.one.1 cut.0 (subst P streams.one.0 cut.1.0))
 stream_once {ps = p ∷ ps} {qs = []} streams =
     let cut = streams.one.0 in
-    let P : List ℕ → Type 0 = λ xs. IsPieceLength xs cut.0 in absurd (streams.other.1 cut.0 (subst P streams.other.0 cut.1.0))
+    let P : List ℕ → Type 0 = λ xs. IsElementLength xs cut.0 in absurd (streams.other.1 cut.0 (subst P streams.other.0 cut.1.0))
 stream_once {w} {ps = p ∷ ps} {qs = q ∷ qs} {r} {t} streams =
     let n = streams.one.0.0 in
     let m = streams.other.0.0 in
     let cut = streams.one.0.1 in
     let cut' = streams.other.0.1 in
-    let same : n ≡ m = piece_once w n m cut.0 cut'.0 in
+    let same : n ≡ m = element_once w n m cut.0 cut'.0 in
     let P : ℕ → Type 0 = λ k. AreCut (drop k w) ps r in
     let later : TwoStreams (drop m w) ps qs r t =
     record { one = (subst P same cut.2, streams.one.1); other = (cut'.2, streams.other.1) } in
@@ -135,7 +135,7 @@ stream_once {w} {ps = p ∷ ps} {qs = q ∷ qs} {r} {t} streams =
     let first : p ≡ q = cut.1 ∙ ap (λ k. take k w) same ∙ sym cut'.1 in
     (ap (λ (x : List ℕ). x ∷ ps) first ∙ ap (λ (xs : List (List ℕ)). q ∷ xs) rest.0, rest.1)
 
--- each byte CR or LF in front is a piece
+-- each byte CR or LF in front is an element
 record AreEnds (rest : List ℕ) (n : ℕ) : Type 0 where
   within : n ≤ length rest
   line_ends : (k : ℕ) → k < n → is_line_end (get_or rest k 0) ≡ true
@@ -156,40 +156,40 @@ skips w ps (c ∷ cs) (suc n) cut ends =
 no_more : (w : List ℕ) (ps : List (List ℕ)) (rest : List ℕ) → AreCut w ps rest → AreCut w (ps ++ []) (drop 0 rest)
 no_more w ps rest cut = let P : List (List ℕ) → Type 0 = λ xs. AreCut w xs rest in subst P (sym (append-nil ps)) cut
 
--- what an answer tells are the next pieces
-pub next_pieces : (rest : List ℕ) (answer : Result Step DemuxFault) → IsFirst rest answer →
+-- what an answer tells are the next elements
+pub next_elements : (rest : List ℕ) (answer : Result Step DemuxFault) → IsFirst rest answer →
     (w : List ℕ) (ps : List (List ℕ)) → AreCut w ps rest →
-    AreCut w (ps ++ told_pieces rest answer) (drop (told_length answer) rest)
-next_pieces rest (Ok (Skip n)) h w ps cut = skips w ps rest n cut (record { within = h.1.within; line_ends = h.1.line_ends })
-next_pieces rest (Ok (Block channel n)) h w ps cut = cut_more w ps rest n cut (WholeBlock h.0 h.1 h.3 h.4)
-next_pieces rest (Ok (Request n)) h w ps cut = cut_more w ps rest n cut (WholeRequest h.0 h.1 h.2)
-next_pieces rest (Ok More) h w ps cut = no_more w ps rest cut
-next_pieces rest (Err fault) h w ps cut = no_more w ps rest cut
+    AreCut w (ps ++ told_elements rest answer) (drop (told_length answer) rest)
+next_elements rest (Ok (Skip n)) h w ps cut = skips w ps rest n cut (record { within = h.1.within; line_ends = h.1.line_ends })
+next_elements rest (Ok (Block channel n)) h w ps cut = cut_more w ps rest n cut (WholeBlock h.0 h.1 h.3 h.4)
+next_elements rest (Ok (Message n)) h w ps cut = cut_more w ps rest n cut (WholeMessage h.0 h.1 h.2)
+next_elements rest (Ok More) h w ps cut = no_more w ps rest cut
+next_elements rest (Err fault) h w ps cut = no_more w ps rest cut
 
 no_line_end : (w : List ℕ) → 0 < length w → is_line_end (get_or w 0 0) ≡ true → IsFirst w (Ok More) → ⊥
 no_line_end w some end (inl e) = omega (arith, some, e)
 no_line_end w some end (inr (inl b)) = clash_end_block w end b.0
 no_line_end w some end (inr (inr r)) = both_ways (is_line_end (get_or w 0 0)) r.0.1 end
 
-none_waits : (w : List ℕ) → IsFirst w (Ok More) → (n : ℕ) → IsPieceLength w n → ⊥
+none_waits : (w : List ℕ) → IsFirst w (Ok More) → (n : ℕ) → IsElementLength w n → ⊥
 none_waits w h n (LineEnd one some end) = no_line_end w some end h
 none_waits w h n (WholeBlock starts four size inside) = more_block w (get_or w 1 0) n (starts, four, refl, size, inside) h
-none_waits w h n (WholeRequest starts size inside) = more_request w n (starts, size, inside) h
+none_waits w h n (WholeMessage starts size inside) = more_request w n (starts, size, inside) h
 
-none_headless : (w : List ℕ) → IsFirst w (Err HeadTooLong) → (n : ℕ) → IsPieceLength w n → ⊥
+none_headless : (w : List ℕ) → IsFirst w (Err HeadTooLong) → (n : ℕ) → IsElementLength w n → ⊥
 none_headless w h n (LineEnd one some end) = both_ways (is_line_end (get_or w 0 0)) h.0.1 end
 none_headless w h n (WholeBlock starts four size inside) = clash_block_request w starts h.0
-none_headless w h n (WholeRequest starts size inside) = clash_head w size.head size.is_head size.fits h.2
+none_headless w h n (WholeMessage starts size inside) = clash_head w size.head size.is_head size.fits h.2
 
-none_long : (w : List ℕ) → IsFirst w (Err BodyTooLong) → (n : ℕ) → IsPieceLength w n → ⊥
+none_long : (w : List ℕ) → IsFirst w (Err BodyTooLong) → (n : ℕ) → IsElementLength w n → ⊥
 none_long w h n (LineEnd one some end) = both_ways (is_line_end (get_or w 0 0)) h.0.1 end
 none_long w h n (WholeBlock starts four size inside) = clash_block_request w starts h.0
-none_long w h n (WholeRequest starts size inside) = not_long w n size h.1
+none_long w h n (WholeMessage starts size inside) = not_long w n size h.1
 
 pub tells_none : (w : List ℕ) (answer : Result Step DemuxFault) → IsFirst w answer → TellsNone w answer
 tells_none w (Ok (Skip n)) h = tt
 tells_none w (Ok (Block channel n)) h = tt
-tells_none w (Ok (Request n)) h = tt
+tells_none w (Ok (Message n)) h = tt
 tells_none w (Ok More) h = none_waits w h
 tells_none w (Err HeadTooLong) h = none_headless w h
 tells_none w (Err BodyTooLong) h = none_long w h

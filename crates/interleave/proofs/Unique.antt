@@ -5,11 +5,11 @@ use Rattle.std.proofs.lemmas.Bool.{both_ways, cases_order}
 use Rattle.vod_base.specs.Lines.{IsLine, HasNoLine}
 use Rattle.interleave.specs.Heads.{is_line_end, empty_line_ends, HasNoHead, IsHead}
 use Rattle.interleave.specs.Lengths.{IsWrittenAt, IsBodyLength}
-use Rattle.interleave.specs.Pieces.{StartsBlock, StartsRequest, AreLineEnds, IsRequestLength, IsBodyTooLong, IsFirst, block_length}
-use Rattle.interleave.specs.declared.pieces.Step.{Step}
-use Rattle.interleave.specs.declared.pieces.Step.TheVariants.{Request, Block, Skip, More}
-use Rattle.interleave.specs.declared.pieces.DemuxFault.{DemuxFault}
-use Rattle.interleave.specs.declared.pieces.DemuxFault.TheVariants.{HeadTooLong, BodyTooLong}
+use Rattle.interleave.specs.Elements.{StartsBlock, StartsMessage, AreLineEnds, IsMessageLength, IsBodyTooLong, IsFirst, block_length}
+use Rattle.interleave.specs.declared.elements.Step.{Step}
+use Rattle.interleave.specs.declared.elements.Step.TheVariants.{Message, Block, Skip, More}
+use Rattle.interleave.specs.declared.elements.DemuxFault.{DemuxFault}
+use Rattle.interleave.specs.declared.elements.DemuxFault.TheVariants.{HeadTooLong, BodyTooLong}
 
 pub line_ends_once : (w : List ℕ) (n m : ℕ) → AreLineEnds w n → AreLineEnds w m → n ≡ m
 line_ends_once w n m a b =
@@ -75,13 +75,13 @@ body_once {w} {h} {h'} {a} {b} x y p q =
     let P : ℕ → Type 0 = λ k. IsBodyLength (take k w) a in
     length_once (take h' w) a b (subst P (head_once w h h' x y) p) q
 
-pub total_once : (w : List ℕ) (a b : ℕ) → IsRequestLength w a → IsRequestLength w b → a ≡ b
+pub total_once : (w : List ℕ) (a b : ℕ) → IsMessageLength w a → IsMessageLength w b → a ≡ b
 total_once w a b x y =
     let head : x.head ≡ y.head = head_once w x.head y.head x.is_head y.is_head in
     let body : x.body ≡ y.body = body_once x.is_head y.is_head x.is_body y.is_body in
     omega (arith, head, body, x.total_is, y.total_is)
 
-pub not_long : (w : List ℕ) (total : ℕ) → IsRequestLength w total → IsBodyTooLong w → ⊥
+pub not_long : (w : List ℕ) (total : ℕ) → IsMessageLength w total → IsBodyTooLong w → ⊥
 not_long w total x y =
     let body : x.body ≡ y.long.0 = body_once x.is_head y.is_head x.is_body y.long.1.1 in
     omega (arith, body, x.small, y.long.1.0)
@@ -94,10 +94,10 @@ clash_end_block w end b =
 pub clash_ends_block : (w : List ℕ) (n : ℕ) → (0 < n) × AreLineEnds w n → StartsBlock w → ⊥
 clash_ends_block w n h = clash_end_block w (h.1.line_ends 0 h.0)
 
-pub clash_ends_request : (w : List ℕ) (n : ℕ) → (0 < n) × AreLineEnds w n → StartsRequest w → ⊥
+pub clash_ends_request : (w : List ℕ) (n : ℕ) → (0 < n) × AreLineEnds w n → StartsMessage w → ⊥
 clash_ends_request w n h r = both_ways (is_line_end (get_or w 0 0)) r.1 (h.1.line_ends 0 h.0)
 
-pub clash_block_request : (w : List ℕ) → StartsBlock w → StartsRequest w → ⊥
+pub clash_block_request : (w : List ℕ) → StartsBlock w → StartsMessage w → ⊥
 clash_block_request w b r =
     let dollar : (get_or w 0 0 == 36) ≡ true = rw b.1 refl in
     both_ways (get_or w 0 0 == 36) r.2 dollar
@@ -118,7 +118,7 @@ more_block w c n h (inl e) = omega (arith, h.0.0, e)
 more_block w c n h (inr (inl b)) = let less : length w < block_length w = b.1 h.1 in omega (arith, less, h.3, h.4)
 more_block w c n h (inr (inr r)) = clash_block_request w h.0 r.0
 
-pub more_request : (w : List ℕ) (n : ℕ) → IsFirst w (Ok (Request n)) → IsFirst w (Ok More) → ⊥
+pub more_request : (w : List ℕ) (n : ℕ) → IsFirst w (Ok (Message n)) → IsFirst w (Ok More) → ⊥
 more_request w n h (inl e) = omega (arith, h.0.0, e)
 more_request w n h (inr (inl b)) = clash_block_request w b.0 h.0
 more_request w n h (inr (inr (s, inl x))) = clash_short w h.1.head h.1.is_head x.0
@@ -140,38 +140,38 @@ more_long w h (inr (inr (s, inr y))) = not_long w y.0 y.1.0 h.1
 pub answer_once : (w : List ℕ) (a b : Result Step DemuxFault) → IsFirst w a → IsFirst w b → a ≡ b
 answer_once w (Ok (Skip n)) (Ok (Skip m)) x y = ap (λ k. Ok (Skip k)) (line_ends_once w n m x.1 y.1)
 answer_once w (Ok (Skip n)) (Ok (Block d m)) x y = absurd (clash_ends_block w n x y.0)
-answer_once w (Ok (Skip n)) (Ok (Request m)) x y = absurd (clash_ends_request w n x y.0)
+answer_once w (Ok (Skip n)) (Ok (Message m)) x y = absurd (clash_ends_request w n x y.0)
 answer_once w (Ok (Skip n)) (Ok More) x y = absurd (more_ends w n x y)
 answer_once w (Ok (Skip n)) (Err HeadTooLong) x y = absurd (clash_ends_request w n x y.0)
 answer_once w (Ok (Skip n)) (Err BodyTooLong) x y = absurd (clash_ends_request w n x y.0)
 answer_once w (Ok (Block c n)) (Ok (Skip m)) x y = absurd (clash_ends_block w m y x.0)
 answer_once w (Ok (Block c n)) (Ok (Block d m)) x y = let channel : c ≡ d = x.2 ∙ sym y.2 in let size : n ≡ m =
     x.3 ∙ sym y.3 in rw (channel, size) refl
-answer_once w (Ok (Block c n)) (Ok (Request m)) x y = absurd (clash_block_request w x.0 y.0)
+answer_once w (Ok (Block c n)) (Ok (Message m)) x y = absurd (clash_block_request w x.0 y.0)
 answer_once w (Ok (Block c n)) (Ok More) x y = absurd (more_block w c n x y)
 answer_once w (Ok (Block c n)) (Err HeadTooLong) x y = absurd (clash_block_request w x.0 y.0)
 answer_once w (Ok (Block c n)) (Err BodyTooLong) x y = absurd (clash_block_request w x.0 y.0)
-answer_once w (Ok (Request n)) (Ok (Skip m)) x y = absurd (clash_ends_request w m y x.0)
-answer_once w (Ok (Request n)) (Ok (Block d m)) x y = absurd (clash_block_request w y.0 x.0)
-answer_once w (Ok (Request n)) (Ok (Request m)) x y = ap (λ k. Ok (Request k)) (total_once w n m x.1 y.1)
-answer_once w (Ok (Request n)) (Ok More) x y = absurd (more_request w n x y)
-answer_once w (Ok (Request n)) (Err HeadTooLong) x y = absurd (clash_head w x.1.head x.1.is_head x.1.fits y.2)
-answer_once w (Ok (Request n)) (Err BodyTooLong) x y = absurd (not_long w n x.1 y.1)
+answer_once w (Ok (Message n)) (Ok (Skip m)) x y = absurd (clash_ends_request w m y x.0)
+answer_once w (Ok (Message n)) (Ok (Block d m)) x y = absurd (clash_block_request w y.0 x.0)
+answer_once w (Ok (Message n)) (Ok (Message m)) x y = ap (λ k. Ok (Message k)) (total_once w n m x.1 y.1)
+answer_once w (Ok (Message n)) (Ok More) x y = absurd (more_request w n x y)
+answer_once w (Ok (Message n)) (Err HeadTooLong) x y = absurd (clash_head w x.1.head x.1.is_head x.1.fits y.2)
+answer_once w (Ok (Message n)) (Err BodyTooLong) x y = absurd (not_long w n x.1 y.1)
 answer_once w (Ok More) (Ok (Skip m)) x y = absurd (more_ends w m y x)
 answer_once w (Ok More) (Ok (Block d m)) x y = absurd (more_block w d m y x)
-answer_once w (Ok More) (Ok (Request m)) x y = absurd (more_request w m y x)
+answer_once w (Ok More) (Ok (Message m)) x y = absurd (more_request w m y x)
 answer_once w (Ok More) (Ok More) x y = refl
 answer_once w (Ok More) (Err HeadTooLong) x y = absurd (more_headless w y x)
 answer_once w (Ok More) (Err BodyTooLong) x y = absurd (more_long w y x)
 answer_once w (Err HeadTooLong) (Ok (Skip m)) x y = absurd (clash_ends_request w m y x.0)
 answer_once w (Err HeadTooLong) (Ok (Block d m)) x y = absurd (clash_block_request w y.0 x.0)
-answer_once w (Err HeadTooLong) (Ok (Request m)) x y = absurd (clash_head w y.1.head y.1.is_head y.1.fits x.2)
+answer_once w (Err HeadTooLong) (Ok (Message m)) x y = absurd (clash_head w y.1.head y.1.is_head y.1.fits x.2)
 answer_once w (Err HeadTooLong) (Ok More) x y = absurd (more_headless w x y)
 answer_once w (Err HeadTooLong) (Err HeadTooLong) x y = refl
 answer_once w (Err HeadTooLong) (Err BodyTooLong) x y = absurd (clash_head w y.1.head y.1.is_head y.1.fits x.2)
 answer_once w (Err BodyTooLong) (Ok (Skip m)) x y = absurd (clash_ends_request w m y x.0)
 answer_once w (Err BodyTooLong) (Ok (Block d m)) x y = absurd (clash_block_request w y.0 x.0)
-answer_once w (Err BodyTooLong) (Ok (Request m)) x y = absurd (not_long w m y.1 x.1)
+answer_once w (Err BodyTooLong) (Ok (Message m)) x y = absurd (not_long w m y.1 x.1)
 answer_once w (Err BodyTooLong) (Ok More) x y = absurd (more_long w x y)
 answer_once w (Err BodyTooLong) (Err HeadTooLong) x y = absurd (clash_head w x.1.head x.1.is_head x.1.fits y.2)
 answer_once w (Err BodyTooLong) (Err BodyTooLong) x y = refl

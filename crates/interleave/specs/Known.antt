@@ -1,17 +1,17 @@
--- What is kept about the piece in front, so that no head is read again and again.
+-- What is kept about the element in front, so that no head is read again and again.
 use Rattle.std.specs.Prelude.{◌≡◌, ℕ, ◌<◌, ◌≤◌, List, length}
 use Rattle.interleave.specs.Heads.{HasNoHead}
-use Rattle.interleave.specs.Pieces.{IsRequestLength}
+use Rattle.interleave.specs.Elements.{IsMessageLength}
 use Rattle.interleave.specs.declared.requests.Known.{Known}
 use Rattle.interleave.specs.declared.requests.Known.TheVariants.{Searched, Length}
 
 -- no empty line ends among the bytes that were searched; or the request's length is this
 abbrev pub IsKnown : List ℕ → Known → Type 0
 IsKnown bytes (Searched to) = (to ≤ length bytes) × (to ≤ 16384) × HasNoHead bytes to
-IsKnown bytes (Length total) = IsRequestLength bytes total
+IsKnown bytes (Length total) = IsMessageLength bytes total
 
 -- all that the bytes tell is known: no empty line ends among all of them, which are fewer than a
 -- head may have, or the request's length
 abbrev pub IsSettled : List ℕ → Known → Type 0
 IsSettled bytes (Searched to) = (to ≡ length bytes) × (to < 16384) × HasNoHead bytes to
-IsSettled bytes (Length total) = IsRequestLength bytes total
+IsSettled bytes (Length total) = IsMessageLength bytes total

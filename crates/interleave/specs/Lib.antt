@@ -1,6 +1,6 @@
 pub mod Heads
 pub mod Lengths
-pub mod Pieces
+pub mod Elements
 pub mod Known
 pub mod Buffer
 pub mod Streams

@@ -2,12 +2,12 @@
 ghost use Rattle.std.specs.Prelude.{◌≡◌, ◌+◌, ◌-◌, ◌*◌, ◌<◌, ◌≤◌, ◌++◌, [], length, drop, nat_lt};
 ghost use Rattle.std.specs.Prelude.{slice_index, if◌then◌else◌, vec_capacity, IfOk, MatchResult};
 ghost use Rattle.std.specs.Prelude.{is_err, Ok, Err};
-ghost use Rattle.interleave.specs.Pieces.{IsFirst, AreLineEnds, StartsBlock, StartsRequest};
-ghost use Rattle.interleave.specs.Pieces.{block_length};
+ghost use Rattle.interleave.specs.Elements.{IsFirst, AreLineEnds, StartsBlock, StartsMessage};
+ghost use Rattle.interleave.specs.Elements.{block_length};
 ghost use Rattle.interleave.specs.Heads.{is_line_end};
-ghost use Rattle.interleave.specs.declared.pieces.Step.{Step};
+ghost use Rattle.interleave.specs.declared.elements.Step.{Step};
 
-use crate::pieces::{DemuxFault, Step, is_line_end};
+use crate::elements::{DemuxFault, Step, is_line_end};
 use crate::requests::{Known, learn, request_step};
 use std::alloc::Global;
 use std::marker::Model;
@@ -19,7 +19,7 @@ use vod_base::NoMemory;
 #[error("too many bytes wait")]
 pub struct TooMuchInput;
 
-/// The bytes of a connection that wait, and the first piece of them (RFC 2326 sections 4, 6 and
+/// The bytes of a connection that wait, and the first element of them (RFC 2326 sections 4, 6 and
 /// 10.12).
 ///
 /// Contracts see the list of the waiting bytes.

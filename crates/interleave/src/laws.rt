@@ -3,19 +3,19 @@ ghost use Rattle.std.specs.Prelude.{◌≡◌, ℕ, ◌+◌, ◌/◌, ◌%◌, �
 ghost use Rattle.std.specs.Prelude.{drop, Ok, Result};
 ghost use Rattle.interleave.specs.Laws.{BeginsOtherwise, IsCrOrLf};
 ghost use Rattle.interleave.specs.Streams.{AreCut, DoAgree, HasStream, IsStream, TellsNone};
-ghost use Rattle.interleave.specs.Streams.{told_length, told_pieces};
-ghost use Rattle.interleave.specs.declared.pieces.DemuxFault.{DemuxFault};
-ghost use Rattle.interleave.specs.declared.pieces.Step.{Step};
-ghost use Rattle.interleave.specs.Pieces.{IsFirst, IsLongerSkip, IsWholePiece};
+ghost use Rattle.interleave.specs.Streams.{told_length, told_elements};
+ghost use Rattle.interleave.specs.declared.elements.DemuxFault.{DemuxFault};
+ghost use Rattle.interleave.specs.declared.elements.Step.{Step};
+ghost use Rattle.interleave.specs.Elements.{IsFirst, IsLongerSkip, IsWholeElement};
 
 use crate::demux::Demux;
-use crate::pieces::{DemuxFault, Step};
+use crate::elements::{DemuxFault, Step};
 
-/// Where a whole piece or a fault stands in front of the waiting bytes, it stands there whatever
-/// comes later: the pieces of a stream don't depend on how its bytes were cut.
+/// Where a whole element or a fault stands in front of the waiting bytes, it stands there whatever
+/// comes later: the elements of a stream don't depend on how its bytes were cut.
 pub fn law_cutting(waiting: &[u8], later: &[u8], answer: Result<Step, DemuxFault>)
     requires first { IsFirst waiting.now answer }
-    requires whole { IsWholePiece waiting.now answer }
+    requires whole { IsWholeElement waiting.now answer }
     ensures { IsFirst (waiting.now ++ later.now) answer }
 {
     let _read = (waiting.len(), later.len(), answer);
@@ -43,39 +43,39 @@ pub fn law_skipping(waiting: &[u8], later: &[u8], count: usize, answer: Result<S
     let _read = (waiting.len(), later.len(), count, answer);
 }
 
-/// The pieces of a stream stay whatever comes later, which only lengthens the rest.
+/// The elements of a stream stay whatever comes later, which only lengthens the rest.
 pub fn law_stream_grows()
-    ensures { (heard later : List ℕ) (pieces : List (List ℕ)) (rest : List ℕ)
-        → AreCut heard pieces rest → AreCut (heard ++ later) pieces (rest ++ later) }
+    ensures { (heard later : List ℕ) (elements : List (List ℕ)) (rest : List ℕ)
+        → AreCut heard elements rest → AreCut (heard ++ later) elements (rest ++ later) }
 {}
 
-/// Cuts join: the pieces of what was heard first, and those of its rest and what was heard then,
+/// Cuts join: the elements of what was heard first, and those of its rest and what was heard then,
 /// are those of all.
 pub fn law_cuts_join()
-    ensures { (heard later : List ℕ) (pieces more : List (List ℕ)) (rest end : List ℕ)
-        → AreCut heard pieces rest → AreCut (rest ++ later) more end
-        → AreCut (heard ++ later) (pieces ++ more) end }
+    ensures { (heard later : List ℕ) (elements more : List (List ℕ)) (rest end : List ℕ)
+        → AreCut heard elements rest → AreCut (rest ++ later) more end
+        → AreCut (heard ++ later) (elements ++ more) end }
 {}
 
-/// Two cuts of one stream agree: the pieces of one are a front of the other's, which cuts the rest
+/// Two cuts of one stream agree: the elements of one are a front of the other's, which cuts the rest
 /// of the one further.
 pub fn law_cuts_agree()
     ensures { (heard : List ℕ) (one other : List (List ℕ)) (rest end : List ℕ)
         → AreCut heard one rest → AreCut heard other end → DoAgree one rest other end }
 {}
 
-/// An answer tells the next pieces of a stream: they are those in front of the rest, and dropping
-/// them leaves what comes after them. Where it tells none, no whole piece is in front of the rest.
-pub fn law_next_pieces()
-    ensures pieces { (heard rest : List ℕ) (pieces : List (List ℕ))
+/// An answer tells the next elements of a stream: they are those in front of the rest, and dropping
+/// them leaves what comes after them. Where it tells none, no whole element is in front of the rest.
+pub fn law_next_elements()
+    ensures elements { (heard rest : List ℕ) (elements : List (List ℕ))
         (answer : Result Step DemuxFault)
-        → IsFirst rest answer → AreCut heard pieces rest
-        → AreCut heard (pieces ++ told_pieces rest answer) (drop (told_length answer) rest) }
+        → IsFirst rest answer → AreCut heard elements rest
+        → AreCut heard (elements ++ told_elements rest answer) (drop (told_length answer) rest) }
     ensures none { (rest : List ℕ) (answer : Result Step DemuxFault) → IsFirst rest answer →
         TellsNone rest answer }
 {}
 
-/// All bytes heard are pieces and a rest, in one way alone. So the pieces are the same however the
+/// All bytes heard are elements and a rest, in one way alone. So the elements are the same however the
 /// bytes came.
 pub fn law_one_stream()
     ensures some { (heard : List ℕ) → HasStream heard }
@@ -99,7 +99,7 @@ pub fn law_block()
         (content ++ later)) (Ok (Step.Block channel (4 + length content))) }
 {}
 
-/// Where neither a whole piece nor a fault is in front, fewer than 81,920 bytes wait: a head has at
+/// Where neither a whole element nor a fault is in front, fewer than 81,920 bytes wait: a head has at
 /// most 16,384, and a body at most 65,536.
 pub fn law_few_wait(demux: &Demux)
     ensures { IsFirst demux.now (Ok Step.More) → length demux.now < 81920 }

@@ -1,14 +1,14 @@
 //! Finds the end of a request.
 ghost use Rattle.std.specs.Prelude.{◌≡◌, ◌+◌, ◌<◌, ◌≤◌, true, false, ℕ, length, MatchOption};
 ghost use Rattle.std.specs.Prelude.{MatchResult, Ok, Err};
-ghost use Rattle.interleave.specs.declared.pieces.DemuxFault.{DemuxFault};
-ghost use Rattle.interleave.specs.declared.pieces.Step.{Step};
+ghost use Rattle.interleave.specs.declared.elements.DemuxFault.{DemuxFault};
+ghost use Rattle.interleave.specs.declared.elements.Step.{Step};
 ghost use Rattle.interleave.specs.Heads.{empty_line_ends, HasNoHead, IsHead};
-ghost use Rattle.interleave.specs.Pieces.{IsFirst, StartsRequest};
+ghost use Rattle.interleave.specs.Elements.{IsFirst, StartsMessage};
 ghost use Rattle.interleave.specs.Known.{IsKnown, IsSettled};
 
+use crate::elements::{DemuxFault, Step};
 use crate::lengths::body_length;
-use crate::pieces::{DemuxFault, Step};
 
 /// What is kept about the request in front of the waiting bytes.
 #[derive(Clone, Copy)]
@@ -24,7 +24,7 @@ const MAX_HEAD: usize = 16_384;
 
 /// Learns what the waiting bytes tell of the request in front.
 pub(crate) fn learn(bytes: &[u8], known: Known) -> Result<Known, DemuxFault>
-    requires request { StartsRequest bytes.now }
+    requires request { StartsMessage bytes.now }
     requires known { IsKnown bytes.now known }
     ensures { MatchResult result (IsSettled bytes.now) (λ f. IsFirst bytes.now (Err f)) }
 {
@@ -41,7 +41,7 @@ pub(crate) fn learn(bytes: &[u8], known: Known) -> Result<Known, DemuxFault>
 
 /// The step that all that can be known of the request in front leads to.
 pub(crate) fn request_step(bytes: &[u8], known: Known) -> Step
-    requires request { StartsRequest bytes.now }
+    requires request { StartsMessage bytes.now }
     requires known { IsSettled bytes.now known }
     ensures first { IsFirst bytes.now (Ok result) }
     ensures few { result ≡ Step.More → length bytes.now < 81920 }
@@ -49,7 +49,7 @@ pub(crate) fn request_step(bytes: &[u8], known: Known) -> Step
     match known {
         Known::Length(total) => {
             if total <= bytes.len() {
-                Step::Request(total)
+                Step::Message(total)
             } else {
                 Step::More
             }
@@ -87,7 +87,7 @@ fn find_head(bytes: &[u8], from: usize, to: usize) -> Option<usize>
 /// The length of the request with this head in front.
 #[tactic(auto, using(crate::proofs::Found::request_steps))]
 fn length_with_head(bytes: &[u8], head: usize) -> Result<Known, DemuxFault>
-    requires request { StartsRequest bytes.now }
+    requires request { StartsMessage bytes.now }
     requires is_head { IsHead bytes.now head }
     requires fits { head ≤ 16384 }
     ensures { MatchResult result (IsSettled bytes.now) (λ f. IsFirst bytes.now (Err f)) }

@@ -9,7 +9,7 @@ use Rattle.wire_curve.specs.Sound.{IsSound}
 use Rattle.plan_cert.specs.declared.Segment.{Segment}
 use Rattle.plan_cert.specs.Text.{cert_text}
 use Rattle.plan_cert.specs.Reading.{IsCertificate, IsRefused as IsCertTextRefused}
-use Rattle.plan_cert.specs.declared.reading.CertRead.TheVariants.{BadCert as BadCertLine}
+use Rattle.plan_cert.specs.declared.reading.CertRefused.TheVariants.{BadCert as BadCertLine}
 use Rattle.cert_check.specs.Best.{IsBestPlan}
 use Rattle.cert_check.specs.Fault.{IsFirstFault}
 use Rattle.cert_check.specs.declared.CertFault.{CertFault}

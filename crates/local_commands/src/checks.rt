@@ -13,7 +13,7 @@ use crate::done::{Done, done_with_text};
 use cert_check::{CertFault, check};
 use command_words::Viewer;
 use inputs::read_input;
-use plan_cert::{CertRead, read_cert};
+use plan_cert::{CertRefused, read_cert};
 use std::alloc::{AllocError, Global};
 use troubles::{Fault, Trouble};
 use vod_base::Library;
@@ -45,10 +45,10 @@ pub fn check_viewer<'a, L: Library>(
     let written = read_input(alloc, library, cert)?;
     let certificate = match read_cert(alloc, &written) {
         Ok(certificate) => certificate,
-        Err(CertRead::BadCert { line }) => {
+        Err(CertRefused::BadCert { line }) => {
             return Err(Trouble::Refused(cert, Fault::BadCert(line)));
         }
-        Err(CertRead::NoMemory) => return Err(Trouble::NoMemory),
+        Err(CertRefused::NoMemory) => return Err(Trouble::NoMemory),
     };
     match check(&curves, &certificate.segments) {
         Ok(()) => done_with_text(0, Vec::from_slice(alloc, b"least\n")),

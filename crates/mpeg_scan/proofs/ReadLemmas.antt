@@ -23,20 +23,20 @@ pub read-append : (r xs ys : List ℕ) → read r (xs ++ ys) ≡ read (read r xs
 read-append r [] ys = refl
 read-append r (x ∷ xs) ys = read-append (x ∷ r) xs ys
 
--- a run of a piece after its front, and one byte after it
-pub read-run : (r piece : List ℕ) (a n : ℕ)
-    → read (read r (take a piece)) (take n (take (length piece - a) (drop a piece))) ≡ read r (take (a + n) piece)
-read-run r piece a n =
-    ap (λ (l : List ℕ). read (read r (take a piece)) (take n l)) (take_rest piece a)
-    ∙ sym (read-append r (take a piece) (take n (drop a piece))) ∙ ap (read r) (sym (take-add a n piece))
+-- a run of a chunk after its front, and one byte after it
+pub read-run : (r chunk : List ℕ) (a n : ℕ)
+    → read (read r (take a chunk)) (take n (take (length chunk - a) (drop a chunk))) ≡ read r (take (a + n) chunk)
+read-run r chunk a n =
+    ap (λ (l : List ℕ). read (read r (take a chunk)) (take n l)) (take_rest chunk a)
+    ∙ sym (read-append r (take a chunk) (take n (drop a chunk))) ∙ ap (read r) (sym (take-add a n chunk))
 
-pub read-byte : (r piece : List ℕ) (b : ℕ) → b < length piece
-    → get_or piece b 0 ∷ read r (take b piece) ≡ read r (take (b + 1) piece)
-read-byte r piece b within =
-    sym (read-append r (take b piece) (get_or piece b 0 ∷ [])) ∙ ap (read r) (sym (take_more piece b 0 within))
+pub read-byte : (r chunk : List ℕ) (b : ℕ) → b < length chunk
+    → get_or chunk b 0 ∷ read r (take b chunk) ≡ read r (take (b + 1) chunk)
+read-byte r chunk b within =
+    sym (read-append r (take b chunk) (get_or chunk b 0 ∷ [])) ∙ ap (read r) (sym (take_more chunk b 0 within))
 
-pub read-rest : (r piece : List ℕ) (a : ℕ) → read (read r (take a piece)) (drop a piece) ≡ read r piece
-read-rest r piece a = sym (read-append r (take a piece) (drop a piece)) ∙ ap (read r) (take-append-drop a piece)
+pub read-rest : (r chunk : List ℕ) (a : ℕ) → read (read r (take a chunk)) (drop a chunk) ≡ read r chunk
+read-rest r chunk a = sym (read-append r (take a chunk) (drop a chunk)) ∙ ap (read r) (take-append-drop a chunk)
 
 -- ---- runs
 
@@ -120,22 +120,22 @@ pub fault-stays : (xs r : List ℕ) (f : FilmFault) → first_fault (codes_of r)
 fault-stays [] r f is = is
 fault-stays (x ∷ xs) r f is = fault-stays xs (x ∷ r) f (fault-stays-byte x r f is)
 
--- ---- as the code takes a piece
+-- ---- as the code takes a chunk
 
-pub length-rest : (piece : List ℕ) (a : ℕ) → length (take (length piece - a) (drop a piece)) ≡ length piece - a
-length-rest piece a = ap (λ (l : List ℕ). length l) (take_rest piece a) ∙ length-drop a piece
+pub length-rest : (chunk : List ℕ) (a : ℕ) → length (take (length chunk - a) (drop a chunk)) ≡ length chunk - a
+length-rest chunk a = ap (λ (l : List ℕ). length l) (take_rest chunk a) ∙ length-drop a chunk
 
-pub calls-run : (r piece : List ℕ) (a n : ℕ) (calls : List Call)
-    → codes_of (read (read r (take a piece)) (take n (take (length piece - a) (drop a piece))))
-    ≡ codes_of (read r (take a piece))
-    → calls ++ calls_of (codes_of (read r (take a piece))) ≡ calls ++ calls_of (codes_of (read r (take (a + n) piece)))
-calls-run r piece a n calls same =
-    ap (λ (l : List Code). calls ++ calls_of l) (sym same ∙ ap codes_of (read-run r piece a n))
+pub calls-run : (r chunk : List ℕ) (a n : ℕ) (calls : List Call)
+    → codes_of (read (read r (take a chunk)) (take n (take (length chunk - a) (drop a chunk))))
+    ≡ codes_of (read r (take a chunk))
+    → calls ++ calls_of (codes_of (read r (take a chunk))) ≡ calls ++ calls_of (codes_of (read r (take (a + n) chunk)))
+calls-run r chunk a n calls same =
+    ap (λ (l : List Code). calls ++ calls_of l) (sym same ∙ ap codes_of (read-run r chunk a n))
 
-pub fault-rest : (r piece : List ℕ) (b : ℕ) (f : FilmFault) → b < length piece
-    → first_fault (codes_of (get_or piece b 0 ∷ read r (take b piece))) ≡ Some f → first_fault (codes_of (read r piece)) ≡ Some f
-fault-rest r piece b f within is =
-    let there : first_fault (codes_of (read r (take (b + 1) piece))) ≡ Some f =
-    ap (λ (q : List ℕ). first_fault (codes_of q)) (sym (read-byte r piece b within)) ∙ is in
-    ap (λ (q : List ℕ). first_fault (codes_of q)) (sym (read-rest r piece (b + 1)))
-    ∙ fault-stays (drop (b + 1) piece) (read r (take (b + 1) piece)) f there
+pub fault-rest : (r chunk : List ℕ) (b : ℕ) (f : FilmFault) → b < length chunk
+    → first_fault (codes_of (get_or chunk b 0 ∷ read r (take b chunk))) ≡ Some f → first_fault (codes_of (read r chunk)) ≡ Some f
+fault-rest r chunk b f within is =
+    let there : first_fault (codes_of (read r (take (b + 1) chunk))) ≡ Some f =
+    ap (λ (q : List ℕ). first_fault (codes_of q)) (sym (read-byte r chunk b within)) ∙ is in
+    ap (λ (q : List ℕ). first_fault (codes_of q)) (sym (read-rest r chunk (b + 1)))
+    ∙ fault-stays (drop (b + 1) chunk) (read r (take (b + 1) chunk)) f there

@@ -60,15 +60,15 @@ open_slice s = (tally_with s.progress.latest s.progress.tally).slice
 abbrev pub IsReady : (ℕ → Type 0) → Scanner → Type 0
 IsReady Ready s = s.refused ≡ None → 0 < open_slices s → Ready (open_slice s)
 
--- a code of a piece is refused at its last byte, and all that ends before it was told, after these
+-- a code of a chunk is refused at its last byte, and all that ends before it was told, after these
 -- calls
-pub record IsRefusedInPiece (Heard : List Call → Type 0) (r piece : List ℕ) (calls : List Call)
+pub record IsRefusedInChunk (Heard : List Call → Type 0) (r chunk : List ℕ) (calls : List Call)
     (f : FilmFault) : Type 0 where
   pub count : ℕ
-  pub within : count < length piece
-  pub accepted : first_fault (codes_of (read r (take count piece))) ≡ None
-  pub fault : first_fault (codes_of (read r (take (count + 1) piece))) ≡ Some f
-  pub heard : Heard (calls ++ calls_of (codes_of (read r (take count piece))))
+  pub within : count < length chunk
+  pub accepted : first_fault (codes_of (read r (take count chunk))) ≡ None
+  pub fault : first_fault (codes_of (read r (take (count + 1) chunk))) ≡ Some f
+  pub heard : Heard (calls ++ calls_of (codes_of (read r (take count chunk))))
 
 -- whether a code takes no further byte for its text
 abbrev pub is_text_full : Option Code → Bool

@@ -10,7 +10,7 @@ ghost use Rattle.mpeg_scan.specs.Room.{AwaitsSlice, AwaitsSliceAfter, HasCounts,
 ghost use Rattle.mpeg_scan.specs.Room.{IsAhead};
 ghost use Rattle.mpeg_scan.specs.Steps.{judgement, last_judgement, latest_header_fault, tally_now};
 ghost use Rattle.mpeg_scan.specs.Words.{tally_of};
-ghost use Rattle.mpeg_scan.specs.Scans.{HasRead, IsRefusedInPiece, scan_with_code, is_text_full};
+ghost use Rattle.mpeg_scan.specs.Scans.{HasRead, IsRefusedInChunk, scan_with_code, is_text_full};
 ghost use Rattle.mpeg_scan.specs.Scans.{scan_with_byte};
 
 use crate::codes::{Code, Prefix};
@@ -201,35 +201,35 @@ impl Progress {
     /// Takes bytes, until one is refused.
     pub(crate) fn take_bytes<F: Found>(
         &mut self,
-        piece: &[u8],
+        chunk: &[u8],
         found: &mut F,
     ) -> Result<(), ScanRefused>
-        requires short { self.old.fed + length piece.now ≤ 2 ^ 40 }
+        requires short { self.old.fed + length chunk.now ≤ 2 ^ 40 }
         requires room { IsAhead self.old }
         requires ready { AwaitsSlice (F.ready_at found.old) (tally_now self.old) }
         ensures kept { OnOk result ((r : List ℕ) → HasRead self.old r →
-            HasRead self.new (read r piece.now)) }
+            HasRead self.new (read r chunk.now)) }
         ensures told { OnOk result ((r : List ℕ) (calls : List Call) → HasRead self.old r →
             F.heard found.old (calls ++ calls_of (codes_of r))
-            → F.heard found.new (calls ++ calls_of (codes_of (read r piece.now)))) }
+            → F.heard found.new (calls ++ calls_of (codes_of (read r chunk.now)))) }
         ensures fault { (f : FilmFault) → result ≡ Err (ScanRefused.Fault f) → (r : List ℕ) →
             HasRead self.old r
-            → first_fault (codes_of (read r piece.now)) ≡ Some f }
+            → first_fault (codes_of (read r chunk.now)) ≡ Some f }
         ensures told_before { (f : FilmFault) → result ≡ Err (ScanRefused.Fault f) →
             (r : List ℕ) (calls : List Call)
             → HasRead self.old r → F.heard found.old (calls ++ calls_of (codes_of r))
-            → IsRefusedInPiece (F.heard found.new) r piece.now calls f }
-        ensures fed { self.new.fed ≤ self.old.fed + length piece.now }
+            → IsRefusedInChunk (F.heard found.new) r chunk.now calls f }
+        ensures fed { self.new.fed ≤ self.old.fed + length chunk.now }
         ensures room { OnOk result
             (IsAhead self.new) }
         ensures ready { OnOk result
             (AwaitsSlice (F.ready_at found.new) (tally_now self.new)) }
     {
         let mut at = 0;
-        while at < piece.len() {
-            at += self.skip(&piece[at..]);
-            if at < piece.len() {
-                self.take_byte(piece[at], found)?;
+        while at < chunk.len() {
+            at += self.skip(&chunk[at..]);
+            if at < chunk.len() {
+                self.take_byte(chunk[at], found)?;
                 at += 1;
             }
         }

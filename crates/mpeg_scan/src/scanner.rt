@@ -1,4 +1,4 @@
-//! Scans a film whose bytes come in pieces.
+//! Scans a film whose bytes come in chunks.
 ghost use Rattle.std.specs.Prelude.{◌≡◌, None};
 ghost use Rattle.mpeg_scan.specs.declared.faults.FilmFault.{FilmFault};
 ghost use Rattle.mpeg_scan.specs.Room.{IsAhead};
@@ -7,7 +7,7 @@ use crate::faults::ScanRefused;
 use crate::found::{Found, tell_unit};
 use crate::progress::Progress;
 
-/// Reads a film once from the front, in pieces, and keeps none of it: it tells a `Found` of each
+/// Reads a film once from the front, in chunks, and keeps none of it: it tells a `Found` of each
 /// part when it has ended.
 #[derive(Drop)]
 pub struct Scanner {
@@ -24,7 +24,7 @@ impl Scanner {
     ghost use Rattle.mpeg_scan.specs.Counts.{AreNumbered};
     ghost use Rattle.mpeg_scan.specs.Faults.{first_fault, refusal_of};
     ghost use Rattle.mpeg_scan.specs.Grammar.{IsGrammatical};
-    ghost use Rattle.mpeg_scan.specs.Scans.{HasScannedBytes, IsReady, IsRefusedInPiece, bytes_fed};
+    ghost use Rattle.mpeg_scan.specs.Scans.{HasScannedBytes, IsReady, IsRefusedInChunk, bytes_fed};
     ghost use Rattle.mpeg_scan.specs.Scans.{open_slices};
     ghost use Rattle.mpeg_scan.specs.Scans.{refused_by};
     ghost use Rattle.mpeg_scan.specs.Tiles.{Tiles};
@@ -48,31 +48,31 @@ impl Scanner {
     /// [`ScanRefused::Fault`] where a code is refused, once all that ends before that code was
     /// told; [`ScanRefused::NoMemory`] where `found` wants memory. Once it has answered either, it
     /// answers the same again.
-    pub fn feed<F: Found>(&mut self, piece: &[u8], found: &mut F) -> Result<(), ScanRefused>
-        requires short { bytes_fed self.old + length piece.now ≤ 2 ^ 40 }
+    pub fn feed<F: Found>(&mut self, chunk: &[u8], found: &mut F) -> Result<(), ScanRefused>
+        requires short { bytes_fed self.old + length chunk.now ≤ 2 ^ 40 }
         requires ready { IsReady (F.ready_at found.old) self.old }
         ensures kept { OnOk result ((r : List ℕ) → HasScannedBytes self.old r →
-            HasScannedBytes self.new (read r piece.now)) }
+            HasScannedBytes self.new (read r chunk.now)) }
         ensures told { OnOk result ((r : List ℕ) (calls : List Call) → HasScannedBytes self.old r →
             F.heard found.old (calls ++ calls_of (codes_of r))
-            → F.heard found.new (calls ++ calls_of (codes_of (read r piece.now)))) }
+            → F.heard found.new (calls ++ calls_of (codes_of (read r chunk.now)))) }
         ensures fault { (f : FilmFault) → result ≡ Err (ScanRefused.Fault f) → (r : List ℕ) →
             HasScannedBytes self.old r
-            → first_fault (codes_of (read r piece.now)) ≡ Some f }
+            → first_fault (codes_of (read r chunk.now)) ≡ Some f }
         ensures told_before { (f : FilmFault) → result ≡ Err (ScanRefused.Fault f) →
             (r : List ℕ) (calls : List Call)
             → HasScannedBytes self.old r → F.heard found.old (calls ++ calls_of (codes_of r))
-            → IsRefusedInPiece (F.heard found.new) r piece.now calls f }
+            → IsRefusedInChunk (F.heard found.new) r chunk.now calls f }
         ensures refused { (e : ScanRefused) → result ≡ Err e → refused_by self.new ≡ Some e }
         ensures again { (e : ScanRefused) → refused_by self.old ≡ Some e
             → (result ≡ Err e) × (self.new ≡ self.old) × (found.new ≡ found.old) }
         ensures ready { IsReady (F.ready_at found.new) self.new }
-        ensures fed { bytes_fed self.new ≤ bytes_fed self.old + length piece.now }
+        ensures fed { bytes_fed self.new ≤ bytes_fed self.old + length chunk.now }
     {
         if let Some(refused) = self.refused {
             return Err(refused);
         }
-        match self.progress.take_bytes(piece, found) {
+        match self.progress.take_bytes(chunk, found) {
             Ok(()) => Ok(()),
             Err(refused) => {
                 self.refused = Some(refused);

@@ -227,8 +227,8 @@ fn fields_of_headers(rt: HostRuntime) -> Result<(), Fail> {
     Ok(())
 }
 
-/// What a film tells when it is fed in two pieces, or byte by byte.
-fn told_in_pieces(
+/// What a film tells when it is fed in two chunks, or byte by byte.
+fn told_in_chunks(
     alloc: Global,
     film: &[u8],
     cut: Option<usize>,
@@ -269,10 +269,10 @@ fn cuts_change_nothing(rt: HostRuntime) -> Result<(), Fail> {
         Told::Unit(UNIT_B),
     ];
     for cut in 0..=film.len() {
-        let got = told_in_pieces(rt.alloc(), &film, Some(cut))?;
+        let got = told_in_chunks(rt.alloc(), &film, Some(cut))?;
         assert_eq!(rt; got.as_slice(), want.as_slice(), "cut at {cut}");
     }
-    let got = told_in_pieces(rt.alloc(), &film, None)?;
+    let got = told_in_chunks(rt.alloc(), &film, None)?;
     assert_eq!(rt; got.as_slice(), want.as_slice());
     Ok(())
 }

@@ -10,7 +10,7 @@ use Rattle.vod_base.proofs.FirstBytes.{none_is}
 use Rattle.plan_cert.specs.declared.Segment.{Segment}
 use Rattle.plan_cert.specs.Text.{segment_words, segment_line, cert_head}
 use Rattle.plan_cert.specs.Reading.{Lines, with_front, lines_of, line_at, IsNumberLine, IsSegmentLine, MayStand, MayEnd, BreaksAt, IsAfterEnd, HasRead}
-use Rattle.plan_cert.specs.Reading.MayStand.{Title, Slots, Bytes, Piece}
+use Rattle.plan_cert.specs.Reading.MayStand.{Title, Slots, Bytes, SegmentLine}
 
 -- a text that begins with a whole line
 pub lines-cut : (front after : List ℕ) → All (λ b. b ≢ 10) front →
@@ -146,31 +146,31 @@ pub not_title : (line : List ℕ) → line ≢ codes "smooth 1" → MayStand 0 l
 not_title line other (Title i words) = other words
 not_title line other (Slots n i number) = omega (arith, i)
 not_title line other (Bytes n i number) = omega (arith, i)
-not_title line other (Piece s i few piece) = omega (arith, i)
+not_title line other (SegmentLine s i few segment) = omega (arith, i)
 
 pub not_slots : (line : List ℕ) → ((n : ℕ) → ¬ IsNumberLine (codes "slots ") line n) → MayStand 1 line → ⊥
 not_slots line other (Title i words) = omega (arith, i)
 not_slots line other (Slots n i number) = other n number
 not_slots line other (Bytes n i number) = omega (arith, i)
-not_slots line other (Piece s i few piece) = omega (arith, i)
+not_slots line other (SegmentLine s i few segment) = omega (arith, i)
 
 pub not_bytes : (line : List ℕ) → ((n : ℕ) → ¬ IsNumberLine (codes "bytes ") line n) → MayStand 2 line → ⊥
 not_bytes line other (Title i words) = omega (arith, i)
 not_bytes line other (Slots n i number) = omega (arith, i)
 not_bytes line other (Bytes n i number) = other n number
-not_bytes line other (Piece s i few piece) = omega (arith, i)
+not_bytes line other (SegmentLine s i few segment) = omega (arith, i)
 
-pub not_piece : (k : ℕ) (line : List ℕ) → ((s : Segment) → ¬ IsSegmentLine line s) → MayStand (3 + k) line → ⊥
-not_piece k line other (Title i words) = omega (arith, i)
-not_piece k line other (Slots n i number) = omega (arith, i)
-not_piece k line other (Bytes n i number) = omega (arith, i)
-not_piece k line other (Piece s i few piece) = other s piece
+pub not_segment : (k : ℕ) (line : List ℕ) → ((s : Segment) → ¬ IsSegmentLine line s) → MayStand (3 + k) line → ⊥
+not_segment k line other (Title i words) = omega (arith, i)
+not_segment k line other (Slots n i number) = omega (arith, i)
+not_segment k line other (Bytes n i number) = omega (arith, i)
+not_segment k line other (SegmentLine s i few segment) = other s segment
 
 pub not_one_more : (k : ℕ) (line : List ℕ) → k ≡ 1000000 → MayStand (3 + k) line → ⊥
 not_one_more k line over (Title i words) = omega (arith, i)
 not_one_more k line over (Slots n i number) = omega (arith, i)
 not_one_more k line over (Bytes n i number) = omega (arith, i)
-not_one_more k line over (Piece s i few piece) = omega (arith, over, few)
+not_one_more k line over (SegmentLine s i few segment) = omega (arith, over, few)
 
 -- a text by the three lines of its head: where each is cut off, and what it is
 pub record IsHeadOf (text title rest slots_line rest2 bytes_line rest3 : List ℕ) (slots bytes : ℕ) : Type 0 where
@@ -199,10 +199,10 @@ head_text {text} {rest} {rest2} rest3 slots bytes given =
     open given use {title_cut as cut1, title_is, slots_cut as cut2, slots_is, bytes_cut as cut3, bytes_is}
 
 -- one more segment's line
-pub piece_text : {text rest line : List ℕ} (after : List ℕ) (segments : List Segment) (s : Segment) →
+pub segment_text : {text rest line : List ℕ} (after : List ℕ) (segments : List Segment) (s : Segment) →
     text ≡ flat_map segment_line segments ++ rest →
     rest ≡ line ++ 10 ∷ after → line ≡ segment_words s → text ≡ flat_map segment_line (segments ++ s ∷ []) ++ after
-piece_text {text} {line} after segments s so_far cut words =
+segment_text {text} {line} after segments s so_far cut words =
     let whole : text ≡ flat_map segment_line segments ++ (segment_words s ++ 10 ∷ after) =
     so_far ∙ ap (λ r. flat_map segment_line segments ++ r) (cut ∙ ap (λ l. l ++ 10 ∷ after) words) in
     let more : flat_map segment_line (segments ++ s ∷ [])

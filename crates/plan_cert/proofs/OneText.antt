@@ -6,12 +6,12 @@ use Rattle.std.proofs.lemmas.List.{append_assoc, append_cancel_left, append_canc
 use Rattle.std.proofs.lemmas.List.Elements.{All-head, All-tail, All-append, All-get_or}
 use Rattle.plan_cert.specs.declared.Segment.{Segment}
 use Rattle.plan_cert.specs.declared.reading.CertText.{CertText}
-use Rattle.plan_cert.specs.declared.reading.CertRead.{CertRead}
-use Rattle.plan_cert.specs.declared.reading.CertRead.TheVariants.{BadCert, NoMemory}
+use Rattle.plan_cert.specs.declared.reading.CertRefused.{CertRefused}
+use Rattle.plan_cert.specs.declared.reading.CertRefused.TheVariants.{BadCert, NoMemory}
 use Rattle.plan_cert.specs.Slots.{total_slots, total_bytes}
 use Rattle.plan_cert.specs.Text.{segment_words, segment_line, cert_head}
 use Rattle.plan_cert.specs.Reading.{Lines, lines_of, line_at, MayStand, BreaksAt, IsAfterEnd, AreSmall, IsCertificate, IsBadLine, IsRefused}
-use Rattle.plan_cert.specs.Reading.MayStand.{Title, Slots, Bytes, Piece}
+use Rattle.plan_cert.specs.Reading.MayStand.{Title, Slots, Bytes, SegmentLine}
 use Rattle.vod_base.proofs.FirstBytes.{none_is, split_once}
 use Rattle.plan_cert.proofs.Decimals.{not_in_decimal}
 use Rattle.plan_cert.proofs.Grammar.{lines-cut, head_text}
@@ -173,12 +173,12 @@ pub one_certificate : {text : List ℕ} {slots bytes slots' bytes' : ℕ} {xs ys
 one_certificate one other = (one_text (contents_of one) (contents_of other) (sym one.text_is ∙ other.text_is)).segments_are
 
 -- ---- no bad line
-end_is_no_piece : (i : ℕ) (line : List ℕ) → 3 ≤ i → line ≡ codes "end" → MayStand i line → ⊥
-end_is_no_piece i line after words (Title at title) = omega (arith, at, after)
-end_is_no_piece i line after words (Slots n at number) = omega (arith, at, after)
-end_is_no_piece i line after words (Bytes n at number) = omega (arith, at, after)
-end_is_no_piece i line after words (Piece s from few piece) =
-    let e : codes "end" ≡ segment_words s = sym words ∙ piece.words in
+end_is_no_segment : (i : ℕ) (line : List ℕ) → 3 ≤ i → line ≡ codes "end" → MayStand i line → ⊥
+end_is_no_segment i line after words (Title at title) = omega (arith, at, after)
+end_is_no_segment i line after words (Slots n at number) = omega (arith, at, after)
+end_is_no_segment i line after words (Bytes n at number) = omega (arith, at, after)
+end_is_no_segment i line after words (SegmentLine s from few segment) =
+    let e : codes "end" ≡ segment_words s = sym words ∙ segment.words in
     let first : 101 ≡ 115 = ap (λ l. get_or l 0 0) e in
     omega (arith, first)
 
@@ -201,7 +201,7 @@ stands {segments} slots bytes small_slots small_bytes small {i = suc (suc (suc j
     get_or_append_left (map segment_words segments) (codes "end" ∷ []) [] j inside'
     ∙ get_or-map segment_words segments j (pair 0 0) [] inside in
     let one : IsFew s = All-get_or IsFew segments j (pair 0 0) inside small.small in
-    Piece s (omega arith) (omega (arith, inside, small.few)) (record { few_slots = one.0; few_bytes = one.1; words = words })
+    SegmentLine s (omega arith) (omega (arith, inside, small.few)) (record { few_slots = one.0; few_bytes = one.1; words = words })
 
 ends : (slots bytes : ℕ) (segments : List Segment) (i : ℕ) → i ≡ 3 + length segments
     → line_at (lines_are slots bytes segments) i ≡ codes "end"
@@ -218,7 +218,7 @@ no_break {segments} slots bytes small_slots small_bytes small {i} breaks =
     let at_last : line_at (lines_are slots bytes segments) last ≡ codes "end" = ends slots bytes segments last refl in
     elim breaks.here [
       | inl over ↦
-          end_is_no_piece last (line_at (lines_are slots bytes segments) last) (omega arith) at_last
+          end_is_no_segment last (line_at (lines_are slots bytes segments) last) (omega arith) at_last
           (breaks.before last (omega (arith, over, length-body segments)))
       | inr bad ↦ elim (cases_lt i (3 + length segments)) [
         | inl inside ↦ bad.1 (stands slots bytes small_slots small_bytes small inside)
@@ -234,7 +234,7 @@ nothing_after : {segments : List Segment} (slots bytes : ℕ) → slots ≤ 2 ^ 
 nothing_after {segments} slots bytes small_slots small_bytes small after =
     elim (cases_lt after.last (3 + length segments)) [
       | inl inside ↦
-          end_is_no_piece after.last (line_at (lines_are slots bytes segments) after.last) after.ends.after_head after.ends.words
+          end_is_no_segment after.last (line_at (lines_are slots bytes segments) after.last) after.ends.after_head after.ends.words
           (stands slots bytes small_slots small_bytes small inside)
       | inr over ↦ elim after.more [
         | inl more ↦ omega (arith, more, over, after.last_is, length-body segments)
@@ -273,7 +273,7 @@ certificate_has_no_bad_line {text} {segments} line cert bad =
     ]
 
 -- so a certificate is read, and as its own segments
-pub exact_reading : {text : List ℕ} (read : Result CertText CertRead) →
+pub exact_reading : {text : List ℕ} (read : Result CertText CertRefused) →
     IfOk read (λ cert. IsCertificate text cert.slots cert.bytes cert.segments.items) →
     IfErr read (IsRefused text) → {slots bytes : ℕ} {segments : List Segment} → IsCertificate text slots bytes segments →
     MatchResult read (λ cert. cert.segments.items ≡ segments) (λ refusal. refusal ≡ NoMemory)

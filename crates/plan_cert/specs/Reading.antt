@@ -3,8 +3,8 @@ use Rattle.std.specs.Prelude.{ℕ, ◌≡◌, ◌≢◌, ◌+◌, ◌<◌, ◌�
 use Rattle.std.specs.Prelude.{decimal, length, All, drop, flat_map, slice_index_or, if◌then◌else◌}
 use Rattle.std.specs.Prelude.{◌==◌}
 use Rattle.plan_cert.specs.declared.Segment.{Segment}
-use Rattle.plan_cert.specs.declared.reading.CertRead.{CertRead}
-use Rattle.plan_cert.specs.declared.reading.CertRead.TheVariants.{BadCert, NoMemory}
+use Rattle.plan_cert.specs.declared.reading.CertRefused.{CertRefused}
+use Rattle.plan_cert.specs.declared.reading.CertRefused.TheVariants.{BadCert, NoMemory}
 use Rattle.plan_cert.specs.Slots.{total_slots, total_bytes}
 use Rattle.plan_cert.specs.Text.{cert_text, cert_head, segment_line, segment_words}
 
@@ -45,7 +45,7 @@ pub data MayStand (i : ℕ) (line : List ℕ) : Type 0 where
   Title : i ≡ 0 → line ≡ codes "smooth 1" → MayStand i line
   Slots : (n : ℕ) → i ≡ 1 → IsNumberLine (codes "slots ") line n → MayStand i line
   Bytes : (n : ℕ) → i ≡ 2 → IsNumberLine (codes "bytes ") line n → MayStand i line
-  Piece : (s : Segment) → 3 ≤ i → i < 1000003 → IsSegmentLine line s → MayStand i line
+  SegmentLine : (s : Segment) → 3 ≤ i → i < 1000003 → IsSegmentLine line s → MayStand i line
 
 -- what ends a certificate in line i
 pub record MayEnd (i : ℕ) (line : List ℕ) : Type 0 where
@@ -112,7 +112,7 @@ IsBadLine text line =
     × (BreaksAt (lines_of text) i ⊎ (IsAfterEnd (lines_of text) i ⊎ HasWrongSum text i))
 
 -- why a text is refused
-abbrev pub IsRefused : List ℕ → CertRead → Type 0
+abbrev pub IsRefused : List ℕ → CertRefused → Type 0
 IsRefused text (BadCert line) = IsBadLine text line
 IsRefused text NoMemory = Unit {0}
 

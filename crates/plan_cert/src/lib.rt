@@ -14,10 +14,10 @@ pub use certs::write_cert;
 pub use cursors::PlanCursor;
 pub use laws::{law_excess, law_running_sum, law_slots, law_text};
 pub use plans::{MAX_BYTES, MAX_SLOTS, Plan};
-pub use reading::{CertRead, CertText, read_cert};
+pub use reading::{CertRefused, CertText, read_cert};
 pub use sums::{has_bytes, has_slots};
 
-/// A straight piece of a plan: `bytes` bytes sent evenly over `slots` slots.
+/// A straight part of a plan: `bytes` bytes sent evenly over `slots` slots.
 ///
 /// Slot j of it, from 0, sends floor((j + 1) * bytes / slots) - floor(j * bytes / slots) bytes.
 #[derive(Clone, Copy, Debug, PartialEq, Eq)]

@@ -27,7 +27,7 @@ pub struct CertText {
 
 /// Why a text isn't read as a certificate.
 #[derive(Clone, Copy, Debug, PartialEq, Eq, Error)]
-pub enum CertRead {
+pub enum CertRefused {
     /// This line, from 1, is the first that breaks the grammar, or the one after the last where the
     /// text ends early; or, where all lines are well formed, the first of the lines `slots` and
     /// `bytes` that doesn't agree with the segments.
@@ -38,13 +38,13 @@ pub enum CertRead {
     NoMemory,
 }
 
-impl<T: Drop> From<AllocFailed<T>> for CertRead {
-    ghost use Rattle.plan_cert.specs.declared.reading.CertRead.TheVariants.{NoMemory};
+impl<T: Drop> From<AllocFailed<T>> for CertRefused {
+    ghost use Rattle.plan_cert.specs.declared.reading.CertRefused.TheVariants.{NoMemory};
 
     ghost from_gives = { λ _ refusal. refusal ≡ NoMemory };
 
     fn from(_error: AllocFailed<T>) -> Self {
-        CertRead::NoMemory
+        CertRefused::NoMemory
     }
 }
 
@@ -57,14 +57,14 @@ const MAX_NUMBER: u64 = 1 << 42;
 /// Reads a certificate: the text that [`crate::write_cert`] gives of a plan, and of any segments
 /// with numbers up to 2^42, at most 1,000,000 of them. Such a text is read as its own segments, or
 /// there is no memory; any other is refused.
-pub fn read_cert(alloc: Global, text: &[u8]) -> Result<CertText, CertRead>
+pub fn read_cert(alloc: Global, text: &[u8]) -> Result<CertText, CertRefused>
     ensures read { IfOk result (λ cert.
         IsCertificate text.now cert.slots cert.bytes cert.segments.items) }
     ensures refused { IfErr result (IsRefused text.now) }
     ensures certificates { (slots bytes : ℕ) (segments : List Segment) →
         IsCertificate text.now slots bytes segments →
         MatchResult result (λ cert. cert.segments.items ≡ segments)
-        (λ refusal. refusal ≡ CertRead.NoMemory) }
+        (λ refusal. refusal ≡ CertRefused.NoMemory) }
 {
     read_lines(alloc, text)
 }
@@ -140,33 +140,33 @@ struct Head<'a> {
 }
 
 /// Reads the three lines of the head, or names the first bad one.
-fn read_head(text: &[u8]) -> Result<Head<'_>, CertRead>
+fn read_head(text: &[u8]) -> Result<Head<'_>, CertRefused>
     ensures { MatchResult result (λ head. IsHead text.now head.slots head.bytes head.rest.now)
         (IsRefused text.now) }
 {
     let Some((title, rest)) = split_at_first(text, b'\n') else {
-        return Err(CertRead::BadCert { line: 1 });
+        return Err(CertRefused::BadCert { line: 1 });
     };
     if !is_text(title, b"smooth 1") {
-        return Err(CertRead::BadCert { line: 1 });
+        return Err(CertRefused::BadCert { line: 1 });
     }
     let Some((slots_line, rest)) = split_at_first(rest, b'\n') else {
-        return Err(CertRead::BadCert { line: 2 });
+        return Err(CertRefused::BadCert { line: 2 });
     };
     let Some(slots) = number_after(slots_line, b"slots ") else {
-        return Err(CertRead::BadCert { line: 2 });
+        return Err(CertRefused::BadCert { line: 2 });
     };
     let Some((bytes_line, rest)) = split_at_first(rest, b'\n') else {
-        return Err(CertRead::BadCert { line: 3 });
+        return Err(CertRefused::BadCert { line: 3 });
     };
     let Some(bytes) = number_after(bytes_line, b"bytes ") else {
-        return Err(CertRead::BadCert { line: 3 });
+        return Err(CertRefused::BadCert { line: 3 });
     };
     Ok(Head { slots, bytes, rest })
 }
 
 /// Reads the lines of the segments and the end, which are the lines from the fourth on.
-fn read_body(alloc: Global, text: &[u8]) -> Result<Vec<Segment>, CertRead>
+fn read_body(alloc: Global, text: &[u8]) -> Result<Vec<Segment>, CertRefused>
     ensures read { IfOk result (λ segments. IsBody text.now segments.items) }
     ensures refused { IfErr result (λ refusal.
         (whole : List ℕ) → HasRead whole 3 text.now → IsRefused whole refusal) }
@@ -175,19 +175,19 @@ fn read_body(alloc: Global, text: &[u8]) -> Result<Vec<Segment>, CertRead>
     let mut rest = text;
     for count in 0..=MAX_SEGMENTS {
         let Some((line, after)) = split_at_first(rest, b'\n') else {
-            return Err(CertRead::BadCert { line: count + 4 });
+            return Err(CertRefused::BadCert { line: count + 4 });
         };
         if is_text(line, b"end") {
             if after.is_empty() {
                 return Ok(segments);
             }
-            return Err(CertRead::BadCert { line: count + 5 });
+            return Err(CertRefused::BadCert { line: count + 5 });
         }
         let Some(segment) = segment_in(line) else {
-            return Err(CertRead::BadCert { line: count + 4 });
+            return Err(CertRefused::BadCert { line: count + 4 });
         };
         if count == MAX_SEGMENTS {
-            return Err(CertRead::BadCert { line: count + 4 });
+            return Err(CertRefused::BadCert { line: count + 4 });
         }
         segments.push(segment)?;
         rest = after;
@@ -196,7 +196,7 @@ fn read_body(alloc: Global, text: &[u8]) -> Result<Vec<Segment>, CertRead>
 }
 
 /// Reads the head and the body, and compares the sums.
-fn read_lines(alloc: Global, text: &[u8]) -> Result<CertText, CertRead>
+fn read_lines(alloc: Global, text: &[u8]) -> Result<CertText, CertRefused>
     ensures read { IfOk result (λ cert.
         IsCertificate text.now cert.slots cert.bytes cert.segments.items) }
     ensures refused { IfErr result (IsRefused text.now) }
@@ -204,10 +204,10 @@ fn read_lines(alloc: Global, text: &[u8]) -> Result<CertText, CertRead>
     let head = read_head(text)?;
     let segments = read_body(alloc, head.rest)?;
     if !has_slots(segments.as_slice(), head.slots) {
-        return Err(CertRead::BadCert { line: 2 });
+        return Err(CertRefused::BadCert { line: 2 });
     }
     if !has_bytes(segments.as_slice(), head.bytes) {
-        return Err(CertRead::BadCert { line: 3 });
+        return Err(CertRefused::BadCert { line: 3 });
     }
     Ok(CertText {
         slots: head.slots,

@@ -1,7 +1,7 @@
 -- Each answer of the admission machine is of its command's kind.
 use Rattle.std.proofs.Common.{List, take}
 use Rattle.std.specs.Prelude.{slice_index_or}
-use Rattle.slot_calendar.specs.declared.profiles.CapStep.{CapStep}
+use Rattle.slot_calendar.specs.declared.profiles.CapacityStep.{CapacityStep}
 use Rattle.admission.specs.Machine.{State, IsAnswer}
 use Rattle.admission.specs.declared.entries.Command.{Command}
 use Rattle.admission.specs.declared.entries.Command.TheVariants.{Play, Halt, Look}
@@ -11,7 +11,7 @@ use Rattle.admission.specs.declared.entries.Entry.{Entry}
 use Rattle.admission.specs.Histories.{IsLegal, state_after}
 use Rattle.report.specs.Kinds.{AreOfKind, IsOfKind}
 
-pub kind_of_answer : (steps : List CapStep) (state : State) (command : Command) (answer : Answer)
+pub kind_of_answer : (steps : List CapacityStep) (state : State) (command : Command) (answer : Answer)
     → IsAnswer steps state command answer → IsOfKind command answer
 kind_of_answer steps state (Play slot plan) (Admitted start) is = tt
 kind_of_answer steps state (Play slot plan) (Overflow over booked asked) is = tt
@@ -26,7 +26,7 @@ kind_of_answer steps state (Look slot) (Overflow over booked asked) is = is
 kind_of_answer steps state (Look slot) Halted is = is
 kind_of_answer steps state (Look slot) (Looked now at booked) is = tt
 
-pub kinds_of_legal : (steps : List CapStep) (entries : List Entry) → IsLegal steps entries → AreOfKind entries
+pub kinds_of_legal : (steps : List CapacityStep) (entries : List Entry) → IsLegal steps entries → AreOfKind entries
 kinds_of_legal steps entries legal place none inside =
     let entry = slice_index_or entries place none in
     kind_of_answer steps (state_after (take place entries)) entry.command entry.answer (legal.each place none inside)

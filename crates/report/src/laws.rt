@@ -2,7 +2,7 @@
 
 ghost use Rattle.std.specs.Prelude.{◌≡◌, ◌^◌, ◌<◌, ◌≤◌, ℕ, List};
 ghost use Rattle.std.specs.List.{Contains};
-ghost use Rattle.slot_calendar.specs.declared.profiles.CapStep.{CapStep};
+ghost use Rattle.slot_calendar.specs.declared.profiles.CapacityStep.{CapacityStep};
 ghost use Rattle.slot_calendar.specs.Calendars.{Entries, StandsFor, booked_at};
 ghost use Rattle.admission.specs.Histories.{IsLegal};
 ghost use Rattle.admission.specs.Machine.{State, booked_in, plays_of};
@@ -18,7 +18,7 @@ ghost use Rattle.report.specs.Kinds.{AreOfKind, IsOfKind};
 
 /// Each entry of a legal history has an answer of its command's kind, as `entry_line` asks.
 pub fn law_answer_kinds()
-    ensures { (steps : List CapStep) (entries : List Entry) → IsLegal steps entries →
+    ensures { (steps : List CapacityStep) (entries : List Entry) → IsLegal steps entries →
         AreOfKind entries }
 {}
 

@@ -1,4 +1,4 @@
--- What the packets say of their pieces is so: where a piece begins with a slice, and where it ends with one.
+-- What the packets say of their portions is so: where a portion begins with a slice, and where it ends with one.
 use Rattle.std.proofs.Common.{◌≡◌, ℕ, zero, suc, ◌+◌, ◌-◌, ◌*◌, ◌<◌, ◌≤◌, ◌≢◌, Bool, true, false}
 use Rattle.std.proofs.Common.{cond, eqb, leb, ltb, ◌&&◌, ◌||◌, List, [], ◌∷◌, ◌++◌, refl, sym, ap}
 use Rattle.std.proofs.Common.{subst, ◌∙◌, arith}
@@ -10,11 +10,11 @@ use Rattle.rtp_pack.specs.declared.filling.Filling.{Filling}
 use Rattle.rtp_pack.specs.declared.filling.Holds.{Holds}
 use Rattle.rtp_pack.specs.declared.filling.Holds.TheVariants.{HeadAlone, Slices, LastFragment}
 use Rattle.rtp_pack.specs.declared.payloads.Packet.{Packet}
-use Rattle.rtp_pack.specs.Cutting.{first_piece, full_before, full_ends, goes_in, goes_in_cut}
+use Rattle.rtp_pack.specs.Cutting.{first_portion, full_before, full_ends, goes_in, goes_in_cut}
 use Rattle.rtp_pack.specs.Cutting.{goes_in_whole, next_filling, start_of}
 use Rattle.rtp_pack.specs.Packets.{AreInOrder, is_among, before_slice, begins_slice, filling_packet}
 use Rattle.rtp_pack.specs.Packets.{ends_slice, ends_to, full_packets, lengths_to, next_place}
-use Rattle.rtp_pack.specs.Packets.{packet, packets_from, piece_packet, piece_packets}
+use Rattle.rtp_pack.specs.Packets.{packet, packets_from, portion_packet, portion_packets}
 use Rattle.rtp_pack.proofs.SizeLemmas.{whole-fits}
 use Rattle.rtp_pack.proofs.CutLemmas.{ends, ends-append, ends-full, full_before-less}
 use Rattle.rtp_pack.proofs.CutLemmas.{full_before-within, start-less}
@@ -85,12 +85,12 @@ agrees-next {to} {all} {s} {left} {at} agrees order =
           ∙ or-rest (eqb x next) (is_among x (ends_to to left)) (ne_eqb x next (λ e. absurd (omega (arith, e, above))));
     }
 
--- ---- pieces
+-- ---- portions
 
 abbrev pub begins : PictureUnit → List ℕ → ℕ → ℕ → Bool
 begins unit all from to = is_among from all || (eqb from unit.from && ltb unit.head_end to)
 
--- what is known of a piece that is being filled
+-- what is known of a portion that is being filled
 pub record Right (unit : PictureUnit) (all : List ℕ) (f : Filling) : Type 0 where
   pub first : unit.from < unit.head_end
   pub after : unit.head_end ≤ f.at
@@ -100,7 +100,7 @@ pub record Right (unit : PictureUnit) (all : List ℕ) (f : Filling) : Type 0 wh
   pub order : f.from ≤ f.at
 
 closed-right : (unit : PictureUnit) (all : List ℕ) (f : Filling) → Right unit all f
-    → filling_packet unit f ≡ piece_packet unit all f.from f.at
+    → filling_packet unit f ≡ portion_packet unit all f.from f.at
 closed-right unit all f right =
     ap (λ b. packet unit f.from f.at b (ends_slice f.holds)) (sym right.begin)
     ∙ ap (λ b. packet unit f.from f.at (begins unit all f.from f.at) b) (sym right.end)
@@ -110,35 +110,35 @@ record IsSliceOf (unit : PictureUnit) (all : List ℕ) (at next : ℕ) : Type 0 
   slice : Slice unit.to all at next
   after : unit.from < at
 
--- a piece that lies in a slice but for its first byte at most
+-- a portion that lies in a slice but for its first byte at most
 no-begin : {unit : PictureUnit} {all : List ℕ} {at next : ℕ} (x to : ℕ) → IsSliceOf unit all at next → at < x
     → x < next → begins unit all x to ≡ false
 no-begin {unit} {all} x to its above below =
     or_from (is_among x all) (eqb x unit.from && ltb unit.head_end to) (its.slice.no_start x above below)
     (and_left (eqb x unit.from) (ltb unit.head_end to) (ne_eqb x unit.from (λ e. absurd (omega (arith, e, its.after, above)))))
 
--- full pieces that end in a slice
-record PiecesEndIn (at next start count : ℕ) : Type 0 where
+-- full portions that end in a slice
+record PortionsEndIn (at next start count : ℕ) : Type 0 where
   above : 0 < count → at < start + 1380
   below : start + 1380 * count < next
 
-full-pieces : {unit : PictureUnit} {all : List ℕ} {at next : ℕ} {begin : Bool} (start count : ℕ) → IsSliceOf unit all at next
-    → (0 < count → begins unit all start (start + 1380) ≡ begin) → PiecesEndIn at next start count
-    → full_packets unit begin start count ≡ piece_packets unit all start (full_ends start count)
-full-pieces start zero its first inside = refl
-full-pieces {unit} {all} {at} {next} {begin} start (suc count) its first inside =
+full-portions : {unit : PictureUnit} {all : List ℕ} {at next : ℕ} {begin : Bool} (start count : ℕ) → IsSliceOf unit all at next
+    → (0 < count → begins unit all start (start + 1380) ≡ begin) → PortionsEndIn at next start count
+    → full_packets unit begin start count ≡ portion_packets unit all start (full_ends start count)
+full-portions start zero its first inside = refl
+full-portions {unit} {all} {at} {next} {begin} start (suc count) its first inside =
     let some : 0 < suc count = omega arith in
     let next_inside : start + 1380 < next = omega (arith, inside.below) in
     let after : at < start + 1380 = inside.above some in
-    let one : packet unit start (start + 1380) begin false ≡ piece_packet unit all start (start + 1380) =
+    let one : packet unit start (start + 1380) begin false ≡ portion_packet unit all start (start + 1380) =
     ap (λ b. packet unit start (start + 1380) b false) (sym (first some))
     ∙ ap (λ b. packet unit start (start + 1380) (begins unit all start (start + 1380)) b)
     (sym (its.slice.no_end (start + 1380) after next_inside)) in
-    let rest : PiecesEndIn at next (start + 1380) count =
+    let rest : PortionsEndIn at next (start + 1380) count =
     record { above = λ _. omega (arith, after); below = omega (arith, inside.below) } in
     ap (λ (p : Packet). p ∷ full_packets unit false (start + 1380) count) one
-    ∙ ap (λ (l : List Packet). piece_packet unit all start (start + 1380) ∷ l)
-    (full-pieces (start + 1380) count its (λ _. no-begin (start + 1380) (start + 1380 + 1380) its after next_inside) rest)
+    ∙ ap (λ (l : List Packet). portion_packet unit all start (start + 1380) ∷ l)
+    (full-portions (start + 1380) count its (λ _. no-begin (start + 1380) (start + 1380 + 1380) its after next_inside) rest)
 
 abbrev pub last_cut : ℕ → List ℕ → ℕ
 last_cut from [] = from
@@ -148,43 +148,43 @@ last_cut-full : (start count : ℕ) → last_cut start (full_ends start count) �
 last_cut-full start zero = omega arith
 last_cut-full start (suc count) = last_cut-full (start + 1380) count ∙ omega arith
 
-pieces-append : (unit : PictureUnit) (all : List ℕ) (cuts more : List ℕ) (from : ℕ)
-    → piece_packets unit all from (cuts ++ more)
-    ≡ piece_packets unit all from cuts ++ piece_packets unit all (last_cut from cuts) more
-pieces-append unit all [] more from = refl
-pieces-append unit all (cut ∷ cuts) more from =
-    ap (λ (l : List Packet). piece_packet unit all from cut ∷ l) (pieces-append unit all cuts more cut)
+portions-append : (unit : PictureUnit) (all : List ℕ) (cuts more : List ℕ) (from : ℕ)
+    → portion_packets unit all from (cuts ++ more)
+    ≡ portion_packets unit all from cuts ++ portion_packets unit all (last_cut from cuts) more
+portions-append unit all [] more from = refl
+portions-append unit all (cut ∷ cuts) more from =
+    ap (λ (l : List Packet). portion_packet unit all from cut ∷ l) (portions-append unit all cuts more cut)
 
--- full pieces, then the rest
+-- full portions, then the rest
 full-rest : {rest : List Packet} (unit : PictureUnit) (all : List ℕ) (start count : ℕ)
-    → full_packets unit true start count ≡ piece_packets unit all start (full_ends start count)
-    → rest ≡ piece_packets unit all (start + 1380 * count) (ends rest)
+    → full_packets unit true start count ≡ portion_packets unit all start (full_ends start count)
+    → rest ≡ portion_packets unit all (start + 1380 * count) (ends rest)
     → full_packets unit true start count ++ rest
-    ≡ piece_packets unit all start (ends (full_packets unit true start count ++ rest))
+    ≡ portion_packets unit all start (ends (full_packets unit true start count ++ rest))
 full-rest {rest} unit all start count full is =
     ap (λ (l : List Packet). l ++ rest) full
-    ∙ ap (λ (l : List Packet). piece_packets unit all start (full_ends start count) ++ l)
-    (is ∙ ap (λ s. piece_packets unit all s (ends rest)) (sym (last_cut-full start count)))
-    ∙ sym (pieces-append unit all (full_ends start count) (ends rest) start)
-    ∙ sym (ap (λ (l : List ℕ). piece_packets unit all start l)
+    ∙ ap (λ (l : List Packet). portion_packets unit all start (full_ends start count) ++ l)
+    (is ∙ ap (λ s. portion_packets unit all s (ends rest)) (sym (last_cut-full start count)))
+    ∙ sym (portions-append unit all (full_ends start count) (ends rest) start)
+    ∙ sym (ap (λ (l : List ℕ). portion_packets unit all start l)
     (ends-append (full_packets unit true start count) rest
     ∙ ap (λ (l : List ℕ). l ++ ends rest) (ends-full unit true start count)))
 
 slice-rest : {unit : PictureUnit} {all : List ℕ} {f : Filling} {rest : List Packet} (goes : Bool) (count : ℕ) → Right unit all f
     → full_packets unit true (start_of goes f) count
-    ≡ piece_packets unit all (start_of goes f) (full_ends (start_of goes f) count)
-    → rest ≡ piece_packets unit all (start_of goes f + 1380 * count) (ends rest)
+    ≡ portion_packets unit all (start_of goes f) (full_ends (start_of goes f) count)
+    → rest ≡ portion_packets unit all (start_of goes f + 1380 * count) (ends rest)
     → (before_slice goes unit f ++ full_packets unit true (start_of goes f) count) ++ rest
-    ≡ piece_packets unit all f.from
+    ≡ portion_packets unit all f.from
     (ends ((before_slice goes unit f ++ full_packets unit true (start_of goes f) count) ++ rest))
 slice-rest {unit} {all} {f} true count right full is = full-rest unit all f.from count full is
 slice-rest {unit} {all} {f} {rest} false count right full is =
     ap (λ (p : Packet). p ∷ (full_packets unit true f.at count ++ rest)) (closed-right unit all f right)
-    ∙ ap (λ (l : List Packet). piece_packet unit all f.from f.at ∷ l) (full-rest unit all f.at count full is)
+    ∙ ap (λ (l : List Packet). portion_packet unit all f.from f.at ∷ l) (full-rest unit all f.at count full is)
 
 -- ---- where a slice begins
 
--- a piece that goes on with a slice begins with it, or with a slice before it, or with the head
+-- a portion that goes on with a slice begins with it, or with a slice before it, or with the head
 record BeginsBy (unit : PictureUnit) (all : List ℕ) (from at : ℕ) (holds : Holds) : Type 0 where
   after : unit.head_end ≤ at
   begin : begins unit all from at ≡ begins_slice holds
@@ -234,7 +234,7 @@ room-here : {count : ℕ} (f : Filling) (n : ℕ) (short : Bool) →
 room-here {count} f n true e before some = room-whole {count = count} f.from n f.holds e before some
 room-here f n false e before some = room-cut f.from f.at f.holds e
 
--- full pieces before the end of a slice, whether it goes in or not
+-- full portions before the end of a slice, whether it goes in or not
 pub record FullBefore (goes : Bool) (f : Filling) (n count : ℕ) : Type 0 where
   pub goes_is : goes_in f n ≡ goes
   pub before : start_of goes f + 1380 * count < f.at + n
@@ -245,7 +245,7 @@ start-room {goes = false} full some = omega arith
 
 -- ---- one slice, and all
 
--- a short slice fills no piece, a longer one some
+-- a short slice fills no portion, a longer one some
 pub none-full : {goes : Bool} {f : Filling} {n count : ℕ} → leb n 1380 ≡ true → FullBefore goes f n count → count ≡ 0
 none-full {goes = true} {f} {n} short full =
     let fits = whole-fits f.from f.at n f.holds
@@ -300,7 +300,7 @@ next-right {all} {f} n right slice some =
 pub flags : {unit : PictureUnit} {all left : List ℕ} {f : Filling} → Right unit all f
     → Agrees unit.to all f.at left → AreInOrder f.at left unit.to
     → packets_from unit f (lengths_to unit.to left)
-    ≡ piece_packets unit all f.from (ends (packets_from unit f (lengths_to unit.to left)))
+    ≡ portion_packets unit all f.from (ends (packets_from unit f (lengths_to unit.to left)))
 flags {unit} {all} {left = []} {f} right agrees order = ap (λ (p : Packet). p ∷ []) (closed-right unit all f right)
 flags {unit} {all} {left = s ∷ left} {f} right agrees order =
     let next = next_place unit.to left in
@@ -316,17 +316,17 @@ flags {unit} {all} {left = s ∷ left} {f} right agrees order =
     let before : FullBefore goes f n (full_before start (f.at + n)) =
     record { goes_is = refl; before = full_before-less start (f.at + n) (start-less f n goes right.order some) } in
     let its : IsSliceOf unit all f.at (f.at + n) = record { slice = known; after = omega (arith, right.first, right.after) } in
-    let inside : PiecesEndIn f.at (f.at + n) start (full_before start (f.at + n)) =
+    let inside : PortionsEndIn f.at (f.at + n) start (full_before start (f.at + n)) =
     record { above = λ more. start-room before more; below = before.before } in
-    let full = full-pieces start (full_before start (f.at + n)) its
+    let full = full-portions start (full_before start (f.at + n)) its
     (λ more. begins-start n (start + 1380) right known.starts refl (start-room before more)) inside in
     slice-rest goes (full_before start (f.at + n)) right full
     (flags {unit = unit} {all = all} {left = left} {f = next_filling f n}
     (next-right {unit = unit} {all = all} {f = f} n right known some) after ordered)
 
--- the first piece
+-- the first portion
 pub first-right : (unit : PictureUnit) (all : List ℕ) → unit.from < unit.head_end
-    → AreInOrder unit.head_end all unit.to → Right unit all (first_piece unit.from unit.head_end)
+    → AreInOrder unit.head_end all unit.to → Right unit all (first_portion unit.from unit.head_end)
 first-right unit all first order = record {
   first = first;
   after = omega arith;

@@ -9,48 +9,48 @@ use Rattle.rtp_pack.specs.declared.filling.Holds.{Holds}
 use Rattle.rtp_pack.specs.declared.filling.Holds.TheVariants.{Slices, LastFragment}
 use Rattle.rtp_pack.specs.Cutting.{Cuts, filling_after, full_ends, goes_in, goes_in_cut}
 use Rattle.rtp_pack.specs.Cutting.{goes_in_whole, holds_after, start_of}
-use Rattle.rtp_pack.specs.Laws.{ArePieces, AreShortUncut, DoLongEndPieces, IsUncut}
+use Rattle.rtp_pack.specs.Laws.{ArePortions, AreShortUncut, DoLongEndPortions, IsUncut}
 use Rattle.rtp_pack.specs.Packets.{is_among}
 use Rattle.rtp_pack.proofs.FlagLemmas.{FullBefore, none-full, start-room}
 
--- ---- pieces
+-- ---- portions
 
 pub sum-cons : (n : ℕ) (slices : List ℕ) → sum (n ∷ slices) ≡ n + sum slices
 sum-cons n slices = sum_by-cons (λ x. x) n slices
 
--- a piece that is being filled is no larger than a payload
+-- a portion that is being filled is no larger than a payload
 abbrev pub Fit : Filling → Type 0
 Fit f = (f.from < f.at) × (f.at ≤ f.from + 1380)
 
-full-cover : (start count : ℕ) (rest : List ℕ) (to : ℕ) → ArePieces (start + 1380 * count) rest to
-    → ArePieces start (full_ends start count ++ rest) to
-full-cover start zero rest to pieces = subst (λ s. ArePieces s rest to) (omega arith) pieces
-full-cover start (suc count) rest to pieces =
-    (omega arith, (omega arith, full-cover (start + 1380) count rest to (subst (λ s. ArePieces s rest to) (omega arith) pieces)))
+full-cover : (start count : ℕ) (rest : List ℕ) (to : ℕ) → ArePortions (start + 1380 * count) rest to
+    → ArePortions start (full_ends start count ++ rest) to
+full-cover start zero rest to portions = subst (λ s. ArePortions s rest to) (omega arith) portions
+full-cover start (suc count) rest to portions =
+    (omega arith, (omega arith, full-cover (start + 1380) count rest to (subst (λ s. ArePortions s rest to) (omega arith) portions)))
 
-pub pieces-cover : (slices : List ℕ) (f : Filling) (cuts : List ℕ) → Fit f → Cuts f slices cuts
-    → ArePieces f.from cuts (f.at + sum slices)
-pieces-cover [] f cuts fit e =
-    let P : List ℕ → Type 0 = λ l. ArePieces f.from l (f.at + 0) in subst P (sym e) (fit.0, (fit.1, omega arith))
-pieces-cover (n ∷ slices) f cuts fit (inl x) =
-    let rest = pieces-cover slices (filling_after f n (f.from + 1380 * x.1.full)) x.1.rest (x.1.before, x.1.within) x.1.goes_on in
-    let P : List ℕ → Type 0 = λ l. ArePieces f.from l (f.at + sum (n ∷ slices)) in
+pub portions-cover : (slices : List ℕ) (f : Filling) (cuts : List ℕ) → Fit f → Cuts f slices cuts
+    → ArePortions f.from cuts (f.at + sum slices)
+portions-cover [] f cuts fit e =
+    let P : List ℕ → Type 0 = λ l. ArePortions f.from l (f.at + 0) in subst P (sym e) (fit.0, (fit.1, omega arith))
+portions-cover (n ∷ slices) f cuts fit (inl x) =
+    let rest = portions-cover slices (filling_after f n (f.from + 1380 * x.1.full)) x.1.rest (x.1.before, x.1.within) x.1.goes_on in
+    let P : List ℕ → Type 0 = λ l. ArePortions f.from l (f.at + sum (n ∷ slices)) in
     subst P (sym x.1.filled)
     (full-cover f.from x.1.full x.1.rest (f.at + sum (n ∷ slices))
-    (subst (λ t. ArePieces (f.from + 1380 * x.1.full) x.1.rest t) (omega (arith, sum-cons n slices)) rest))
-pieces-cover (n ∷ slices) f cuts fit (inr x) =
+    (subst (λ t. ArePortions (f.from + 1380 * x.1.full) x.1.rest t) (omega (arith, sum-cons n slices)) rest))
+portions-cover (n ∷ slices) f cuts fit (inr x) =
     let fills = x.1.1.1 in
-    let rest = pieces-cover slices (filling_after f n (f.at + 1380 * fills.full)) fills.rest
+    let rest = portions-cover slices (filling_after f n (f.at + 1380 * fills.full)) fills.rest
     (fills.before, fills.within) fills.goes_on in
-    let P : List ℕ → Type 0 = λ l. ArePieces f.from l (f.at + sum (n ∷ slices)) in
-    let Q : List ℕ → Type 0 = λ l. ArePieces f.at l (f.at + sum (n ∷ slices)) in
+    let P : List ℕ → Type 0 = λ l. ArePortions f.from l (f.at + sum (n ∷ slices)) in
+    let Q : List ℕ → Type 0 = λ l. ArePortions f.at l (f.at + sum (n ∷ slices)) in
     subst P (sym x.1.1.0) (
       fit.0,
       (
         fit.1,
         subst Q (sym fills.filled)
             (full-cover f.at fills.full fills.rest (f.at + sum (n ∷ slices))
-            (subst (λ t. ArePieces (f.at + 1380 * fills.full) fills.rest t) (omega (arith, sum-cons n slices)) rest)),
+            (subst (λ t. ArePortions (f.at + 1380 * fills.full) fills.rest t) (omega (arith, sum-cons n slices)) rest)),
       ),
     )
 
@@ -113,7 +113,7 @@ short-full {at} slices start (suc count) cuts less uncut =
     short-more slices at (start + 1380) (full_ends (start + 1380) count ++ cuts) (omega (arith, less))
     (short-full slices (start + 1380) count cuts (omega (arith, less)) uncut)
 
--- a short slice ends in the piece in which it begins
+-- a short slice ends in the portion in which it begins
 short-rest : {goes : Bool} {f : Filling} {n count : ℕ} (rest : List ℕ) → FullBefore goes f n count
     → AreFrom (f.at + n) rest → n ≤ 1380 → IsUncut f.at (f.at + n) (full_ends (start_of goes f) count ++ rest)
 short-rest {goes} {f} {n} {count} rest full after short =
@@ -148,7 +148,7 @@ short-uncut (n ∷ slices) f cuts order (inr x) =
           (short-full slices f.at fills.full fills.rest (omega (arith, fills.before)) rest),
     ))
 
--- ---- the last fragment ends its piece
+-- ---- the last fragment ends its portion
 
 pub among-full : (x start count : ℕ) (cuts : List ℕ) → is_among x cuts ≡ true → is_among x (full_ends start count ++ cuts) ≡ true
 among-full x start zero cuts is = is
@@ -156,14 +156,14 @@ among-full x start (suc count) cuts is =
     or_right (eqb x (start + 1380)) (is_among x (full_ends (start + 1380) count ++ cuts))
     (among-full x (start + 1380) count cuts is)
 
-long-more : (slices : List ℕ) (at cut : ℕ) (cuts : List ℕ) → DoLongEndPieces at slices cuts
-    → DoLongEndPieces at slices (cut ∷ cuts)
+long-more : (slices : List ℕ) (at cut : ℕ) (cuts : List ℕ) → DoLongEndPortions at slices cuts
+    → DoLongEndPortions at slices (cut ∷ cuts)
 long-more [] at cut cuts ends = tt
 long-more (n ∷ slices) at cut cuts ends =
     (λ long. or_right (eqb (at + n) cut) (is_among (at + n) cuts) (ends.0 long), long-more slices (at + n) cut cuts ends.1)
 
-long-full : (slices : List ℕ) (at start count : ℕ) (cuts : List ℕ) → DoLongEndPieces at slices cuts
-    → DoLongEndPieces at slices (full_ends start count ++ cuts)
+long-full : (slices : List ℕ) (at start count : ℕ) (cuts : List ℕ) → DoLongEndPortions at slices cuts
+    → DoLongEndPortions at slices (full_ends start count ++ cuts)
 long-full slices at start zero cuts ends = ends
 long-full slices at start (suc count) cuts ends =
     long-more slices at (start + 1380) (full_ends (start + 1380) count ++ cuts)
@@ -193,11 +193,11 @@ leb-not n long = elim (cases_Bool (leb n 1380)) [ inl e ↦ absurd (omega (arith
 held-last : (n : ℕ) → 1380 < n → holds_after n ≡ LastFragment
 held-last n long = ap (λ b. cond b Slices LastFragment) (leb-not n long)
 
-pub long-ends : (slices : List ℕ) (f : Filling) (cuts : List ℕ) → Cuts f slices cuts → DoLongEndPieces f.at slices cuts
+pub long-ends : (slices : List ℕ) (f : Filling) (cuts : List ℕ) → Cuts f slices cuts → DoLongEndPortions f.at slices cuts
 long-ends [] f cuts e = tt
 long-ends (n ∷ slices) f cuts (inl x) =
     let g = filling_after f n (f.from + 1380 * x.1.full) in
-    let P : List ℕ → Type 0 = λ l. DoLongEndPieces f.at (n ∷ slices) l in
+    let P : List ℕ → Type 0 = λ l. DoLongEndPortions f.at (n ∷ slices) l in
     subst P (sym x.1.filled) (
       λ long. among-full (f.at + n) f.from x.1.full x.1.rest (fragment-ends slices g x.1.rest (held-last n long) x.1.goes_on),
       long-full slices (f.at + n) f.from x.1.full x.1.rest (long-ends slices g x.1.rest x.1.goes_on),
@@ -205,8 +205,8 @@ long-ends (n ∷ slices) f cuts (inl x) =
 long-ends (n ∷ slices) f cuts (inr x) =
     let fills = x.1.1.1 in
     let g = filling_after f n (f.at + 1380 * fills.full) in
-    let P : List ℕ → Type 0 = λ l. DoLongEndPieces f.at (n ∷ slices) l in
-    let Q : List ℕ → Type 0 = λ l. DoLongEndPieces f.at (n ∷ slices) (f.at ∷ l) in
+    let P : List ℕ → Type 0 = λ l. DoLongEndPortions f.at (n ∷ slices) l in
+    let Q : List ℕ → Type 0 = λ l. DoLongEndPortions f.at (n ∷ slices) (f.at ∷ l) in
     subst P (sym x.1.1.0) (subst Q (sym fills.filled) (
       λ long. or_right (eqb (f.at + n) f.at) (is_among (f.at + n) (full_ends f.at fills.full ++ fills.rest))
           (among-full (f.at + n) f.at fills.full fills.rest (fragment-ends slices g fills.rest (held-last n long) fills.goes_on)),

@@ -11,7 +11,7 @@ use Rattle.rtp_pack.specs.Cutting.{next_filling}
 use Rattle.rtp_pack.specs.Packets.{AreInOrder, filling_packet, full_packets, lengths_to, next_place}
 use Rattle.rtp_pack.specs.Packets.{packet, packets_from, slice_packets}
 
--- one more full piece of those that are left
+-- one more full portion of those that are left
 pub put-full_packet : {count i : ℕ} (unit : PictureUnit) (begin : Bool) (start : ℕ) (out : List Packet) → i < count
     → (out ++ packet unit start (start + 1380) begin false ∷ [])
     ++ full_packets unit false (start + 1380) (count - (i + 1)) ≡ out ++ full_packets unit begin start (count - i)
@@ -81,7 +81,7 @@ put-slice {unit} {starts} {i} {f} {next} {end} {before} remaining ends more =
           ∙ remaining.packets;
     }
 
--- after the last slice the piece in hand is the last packet
+-- after the last slice the portion in hand is the last packet
 pub put-last : {unit : PictureUnit} {starts : List ℕ} {i : ℕ} {f : Filling} {before out whole : List Packet} →
     Remaining unit starts i f before whole → length starts ≤ i →
     out ≡ before ++ filling_packet unit f ∷ [] → out ≡ whole

@@ -9,20 +9,20 @@ use Rattle.mpeg_scan.specs.declared.units.Unit.{Unit as PictureUnit}
 use Rattle.rtp_pack.specs.declared.filling.Filling.{Filling}
 use Rattle.rtp_pack.specs.declared.filling.Holds.{Holds}
 use Rattle.rtp_pack.specs.declared.filling.Holds.TheVariants.{HeadAlone, Slices, LastFragment}
-use Rattle.rtp_pack.specs.Cutting.{Cuts, IsCutting, filling_after, first_piece, full_ends, goes_in}
+use Rattle.rtp_pack.specs.Cutting.{Cuts, IsCutting, filling_after, first_portion, full_ends, goes_in}
 use Rattle.rtp_pack.specs.Cutting.{goes_in_cut, goes_in_whole, holds_after}
-use Rattle.rtp_pack.specs.Laws.{ArePieces, AreShortUncut, DoLongEndPieces, IsUncut}
+use Rattle.rtp_pack.specs.Laws.{ArePortions, AreShortUncut, DoLongEndPortions, IsUncut}
 use Rattle.rtp_pack.specs.Packets.{is_among, packets_from}
 use Rattle.rtp_pack.specs.Rules.{HaveBytes, IsCutPlace, MayAllEnd, MayEnd, MeetsRules, SliceAt}
 use Rattle.rtp_pack.proofs.CutLemmas.{AreSome, ends, packets-cut}
-use Rattle.rtp_pack.proofs.LawLemmas.{among-full, cuts-from, head-uncut, long-ends, pieces-cover}
+use Rattle.rtp_pack.proofs.LawLemmas.{among-full, cuts-from, head-uncut, long-ends, portions-cover}
 use Rattle.rtp_pack.proofs.LawLemmas.{short-uncut}
 
 -- ---- one list
 
--- what two lists are compared by, from the place on where a piece begins
+-- what two lists are compared by, from the place on where a portion begins
 record Rest (Must : ℕ → Type 0) (Fits : ℕ → ℕ → Type 0) (May : ℕ → ℕ → Type 0) (start end : ℕ) (cuts : List ℕ) : Type 0 where
-  pieces : ArePieces start cuts end
+  portions : ArePortions start cuts end
   short : (place length : ℕ) → Fits place length → IsUncut place (place + length) cuts
   must : (place : ℕ) → start < place → Must place → is_among place cuts ≡ true
   ends : MayAllEnd May start cuts
@@ -33,17 +33,17 @@ Reasons Must Fits May =
     (start cut : ℕ) → May start cut
     → (cut ≡ start + 1380) ⊎ (Must cut ⊎ ((length : ℕ) × (Fits cut length × (start + 1380 < cut + length))))
 
-pieces-rise : {start : ℕ} (end first : ℕ) (cuts : List ℕ) → ArePieces start cuts end → first < start
+portions-rise : {start : ℕ} (end first : ℕ) (cuts : List ℕ) → ArePortions start cuts end → first < start
     → is_among first cuts ≡ true → ⊥
-pieces-rise {start} end first [] pieces less e = cc
-pieces-rise {start} end first (cut ∷ cuts) pieces less e =
-    let other : eqb first cut ≡ false = ne_eqb first cut (λ is. absurd (omega (arith, is, pieces.0, less))) in
-    pieces-rise {start = cut} end first cuts pieces.1.1 (omega (arith, less, pieces.0))
+portions-rise {start} end first [] portions less e = cc
+portions-rise {start} end first (cut ∷ cuts) portions less e =
+    let other : eqb first cut ≡ false = ne_eqb first cut (λ is. absurd (omega (arith, is, portions.0, less))) in
+    portions-rise {start = cut} end first cuts portions.1.1 (omega (arith, less, portions.0))
     (sym (ap (λ b. b || is_among first cuts) other) ∙ e)
 
-pieces-end : (start end : ℕ) (cuts : List ℕ) → ArePieces start cuts end → start ≤ end
-pieces-end start end [] pieces = omega (arith, pieces)
-pieces-end start end (cut ∷ cuts) pieces = omega (arith, pieces.0, pieces-end cut end cuts pieces.1.1)
+portions-end : (start end : ℕ) (cuts : List ℕ) → ArePortions start cuts end → start ≤ end
+portions-end start end [] portions = omega (arith, portions)
+portions-end start end (cut ∷ cuts) portions = omega (arith, portions.0, portions-end cut end cuts portions.1.1)
 
 among-rest : (place cut : ℕ) (cuts : List ℕ) → cut < place → is_among place (cut ∷ cuts) ≡ true → is_among place cuts ≡ true
 among-rest place cut cuts less e =
@@ -57,9 +57,9 @@ ends-next May start cut (next ∷ cuts) ends_ = ends_.1
 rest-next : {Must : ℕ → Type 0} {Fits May : ℕ → ℕ → Type 0} {start end cut : ℕ} {cuts : List ℕ}
     → Rest Must Fits May start end (cut ∷ cuts) → Rest Must Fits May cut end cuts
 rest-next {Fits} {May} {start} {end} {cut} {cuts} rest = record {
-  pieces = rest.pieces.1.1;
+  portions = rest.portions.1.1;
   short = λ place length fits. (rest.short place length fits).1;
-  must = λ place after is. among-rest place cut cuts after (rest.must place (omega (arith, after, rest.pieces.0)) is);
+  must = λ place after is. among-rest place cut cuts after (rest.must place (omega (arith, after, rest.portions.0)) is);
   ends = ends-next May start cut cuts rest.ends;
 }
 
@@ -71,28 +71,28 @@ cut-inside c d length (inr high) less inside = omega (arith, high, inside)
 passed-by : {Must : ℕ → Type 0} {Fits May : ℕ → ℕ → Type 0} {start end c d : ℕ} {bs : List ℕ}
     → Rest Must Fits May start end (d ∷ bs) → start < c → c < d
     → (c ≡ start + 1380) ⊎ (Must c ⊎ ((length : ℕ) × (Fits c length × (start + 1380 < c + length)))) → ⊥
-passed-by {Fits} {May} {start} {end} {c} b some less (inl full) = omega (arith, full, less, b.pieces.1.0)
+passed-by {Fits} {May} {start} {end} {c} b some less (inl full) = omega (arith, full, less, b.portions.1.0)
 passed-by {Fits} {May} {start} {end} {c} {d} {bs} b some less (inr (inl must)) =
     let there = b.must c some must in
     let other : eqb c d ≡ false = ne_eqb c d (λ is. absurd (omega (arith, is, less))) in
-    pieces-rise end c bs b.pieces.1.1 less (sym (ap (λ e. e || is_among c bs) other) ∙ there)
+    portions-rise end c bs b.portions.1.1 less (sym (ap (λ e. e || is_among c bs) other) ∙ there)
 passed-by {Fits} {May} {start} {end} {c} {d} b some less (inr (inr fit)) =
-    cut-inside c d fit.0 (b.short c fit.0 fit.1.0).0 less (omega (arith, fit.1.1, b.pieces.1.0))
+    cut-inside c d fit.0 (b.short c fit.0 fit.1.0).0 less (omega (arith, fit.1.1, b.portions.1.0))
 
 passed : {Must : ℕ → Type 0} {Fits May : ℕ → ℕ → Type 0} {start end c d : ℕ} {cs bs : List ℕ}
     → Reasons Must Fits May → Rest Must Fits May start end (c ∷ cs) → Rest Must Fits May start end (d ∷ bs) → c < d → ⊥
 passed {Fits} {May} {start} {end} {c} {d} {cs = []} {bs} reasons a b less =
-    omega (arith, a.pieces.1.1, less, pieces-end d end bs b.pieces.1.1)
+    omega (arith, a.portions.1.1, less, portions-end d end bs b.portions.1.1)
 passed {Must} {Fits} {May} {start} {end} {c} {cs = next ∷ cs} reasons a b less =
-    passed-by b (omega (arith, a.pieces.0)) less (reasons start c a.ends.0)
+    passed-by b (omega (arith, a.portions.0)) less (reasons start c a.ends.0)
 
 one-rest : {Must : ℕ → Type 0} {Fits May : ℕ → ℕ → Type 0} {start end : ℕ} {cs bs : List ℕ}
     → Reasons Must Fits May → Rest Must Fits May start end cs → Rest Must Fits May start end bs → cs ≡ bs
 one-rest {Fits} {May} {start} {end} {cs = []} {bs = []} reasons a b = refl
 one-rest {Fits} {May} {start} {end} {cs = []} {bs = d ∷ bs} reasons a b =
-    absurd (omega (arith, a.pieces, b.pieces.0, pieces-end d end bs b.pieces.1.1))
+    absurd (omega (arith, a.portions, b.portions.0, portions-end d end bs b.portions.1.1))
 one-rest {Fits} {May} {start} {end} {cs = c ∷ cs} {bs = []} reasons a b =
-    absurd (omega (arith, b.pieces, a.pieces.0, pieces-end c end cs a.pieces.1.1))
+    absurd (omega (arith, b.portions, a.portions.0, portions-end c end cs a.portions.1.1))
 one-rest {Must} {Fits} {May} {start} {end} {cs = c ∷ cs} {bs = d ∷ bs} reasons a b = elim (cases_order c d) [
   | inl same ↦ (let P : ℕ → Type 0 = λ s. Rest Must Fits May s end bs in
       let rest = one-rest reasons (rest-next a) (subst P (sym same) (rest-next b)) in
@@ -115,7 +115,7 @@ the-rest : (from head_end : ℕ) (slices cuts : List ℕ) → MeetsRules from he
     → Rest (IsCutPlace from head_end slices) (Short head_end slices) (MayEnd from head_end slices) from
     (head_end + sum slices) cuts
 the-rest from head_end slices cuts meets = record {
-  pieces = meets.pieces;
+  portions = meets.portions;
   short = λ place length is. meets.short place length is.0 is.1;
   must = λ place after is. meets.long place is;
   ends = meets.ends;
@@ -173,7 +173,7 @@ held-is n = held-by (leb n 1380)
 first-there : (place at : ℕ) (cuts : List ℕ) → at ≡ place → is_among place (at ∷ cuts) ≡ true
 first-there place at cuts here = ap (λ b. b || is_among place cuts) (eq-eqb place at (sym here))
 
--- a long slice begins with a piece where it doesn't go in
+-- a long slice begins with a portion where it doesn't go in
 abbrev DoLongBegin : Filling → List ℕ → List ℕ → Type 0
 DoLongBegin f slices cuts =
     (place length : ℕ) → SliceAt f.at slices place length → 1380 < length
@@ -198,12 +198,12 @@ begin-cut (n ∷ slices) f cuts (inr x) place length (inr later) long goes =
     ∙ or_right (eqb place f.at) (is_among place x.1.0)
     (ap (λ (l : List ℕ). is_among place l) fills.filled ∙ among-full place f.at fills.full fills.rest there)
 
--- a long slice ends with a piece
+-- a long slice ends with a portion
 abbrev DoLongEnd : ℕ → List ℕ → List ℕ → Type 0
 DoLongEnd at slices cuts =
     (start length : ℕ) → SliceAt at slices start length → 1380 < length → is_among (start + length) cuts ≡ true
 
-end-by : (slices : List ℕ) (at : ℕ) (cuts : List ℕ) → DoLongEndPieces at slices cuts → DoLongEnd at slices cuts
+end-by : (slices : List ℕ) (at : ℕ) (cuts : List ℕ) → DoLongEndPortions at slices cuts → DoLongEnd at slices cuts
 end-by [] at cuts ends_ start length is long = absurd is
 end-by (n ∷ slices) at cuts ends_ start length (inl here) long =
     ap (λ p. is_among p cuts) (omega (arith, here.0, here.1)) ∙ ends_.0 (omega (arith, here.1, long))
@@ -212,7 +212,7 @@ end-by (n ∷ slices) at cuts ends_ start length (inr later) long = end-by slice
 end-cut : (slices : List ℕ) (f : Filling) (cuts : List ℕ) → Cuts f slices cuts → DoLongEnd f.at slices cuts
 end-cut slices f cuts cutting = end-by slices f.at cuts (long-ends slices f cuts cutting)
 
--- each piece ends where it may
+-- each portion ends where it may
 record Reads (Must : ℕ → Type 0) (Begins : ℕ → ℕ → Type 0) (f : Filling) (slices : List ℕ) : Type 0 where
   begins : (place length : ℕ) → SliceAt f.at slices place length → Begins place length
   long : (place length : ℕ) → SliceAt f.at slices place length → 1380 < length
@@ -313,20 +313,20 @@ may-map May Other start [] cs may = tt
 may-map May Other start (cut ∷ []) cs may = tt
 may-map May Other start (cut ∷ (next ∷ cuts)) cs may = (cs start cut may.0, may-map May Other cut (next ∷ cuts) cs may.1)
 
--- in the first piece a long slice goes in where the head leaves room
-head-goes : (from head_end n : ℕ) → 1380 < n → goes_in (first_piece from head_end) n ≡ false → from + 1380 ≤ head_end
+-- in the first portion a long slice goes in where the head leaves room
+head-goes : (from head_end n : ℕ) → 1380 < n → goes_in (first_portion from head_end) n ≡ false → from + 1380 ≤ head_end
 head-goes from head_end n long goes =
     ltb-false head_end (from + 1380)
     (sym (ap (λ b. cond b (goes_in_whole from head_end HeadAlone n) (goes_in_cut from head_end HeadAlone))
     (leb-not n long)) ∙ goes)
 
-goes-head : (from head_end n : ℕ) → 1380 < n → from + 1380 ≤ head_end → goes_in (first_piece from head_end) n ≡ false
+goes-head : (from head_end n : ℕ) → 1380 < n → from + 1380 ≤ head_end → goes_in (first_portion from head_end) n ≡ false
 goes-head from head_end n long full =
     ap (λ b. cond b (goes_in_whole from head_end HeadAlone n) (goes_in_cut from head_end HeadAlone))
     (leb-not n long) ∙ le-ltb head_end (from + 1380) full
 
 first-reads : (from head_end : ℕ) (slices : List ℕ)
-    → Reads (IsCutPlace from head_end slices) (SliceAt head_end slices) (first_piece from head_end) slices
+    → Reads (IsCutPlace from head_end slices) (SliceAt head_end slices) (first_portion from head_end) slices
 first-reads from head_end slices = record {
   begins = λ place length is. is;
   long = λ place length is long goes. inl
@@ -338,10 +338,10 @@ first-reads from head_end slices = record {
 long-cut : {from head_end : ℕ} {slices : List ℕ} (cuts : List ℕ) → IsCutting from head_end slices cuts
     → (place : ℕ) → IsCutPlace from head_end slices place → is_among place cuts ≡ true
 long-cut {from} {head_end} {slices} cuts cutting place (inl b) =
-    begin-cut slices (first_piece from head_end) cuts cutting place b.length b.slice b.long
+    begin-cut slices (first_portion from head_end) cuts cutting place b.length b.slice b.long
     (λ here. goes-head from head_end b.length b.long (b.apart here))
 long-cut {from} {head_end} {slices} cuts cutting place (inr e) =
-    ap (λ p. is_among p cuts) e.place_is ∙ end-cut slices (first_piece from head_end) cuts cutting e.start e.length e.slice e.long
+    ap (λ p. is_among p cuts) e.place_is ∙ end-cut slices (first_portion from head_end) cuts cutting e.start e.length e.slice e.long
 
 -- a unit's head of 1 to 1,380 bytes, and its slices
 pub record HeadAndSlices (from head_end : ℕ) (slices : List ℕ) : Type 0 where
@@ -352,9 +352,9 @@ pub record HeadAndSlices (from head_end : ℕ) (slices : List ℕ) : Type 0 wher
 pub cutting-meets : {from head_end : ℕ} {slices : List ℕ} (cuts : List ℕ) → HeadAndSlices from head_end slices
     → IsCutting from head_end slices cuts → MeetsRules from head_end slices cuts
 cutting-meets {from} {head_end} {slices} cuts unit cutting =
-    let f = first_piece from head_end in
+    let f = first_portion from head_end in
     let order : from ≤ head_end = omega (arith, unit.some) in record {
-      pieces = pieces-cover slices f cuts (unit.some, unit.short) cutting;
+      portions = portions-cover slices f cuts (unit.some, unit.short) cutting;
       head = head-uncut from head_end cuts (cuts-from slices f cuts order cutting);
       short = short-at slices head_end cuts (short-uncut slices f cuts order cutting);
       long = long-cut cuts cutting;
@@ -382,7 +382,7 @@ no_unit = record {
 pub some-meets : {from head_end : ℕ} {slices : List ℕ} → HeadAndSlices from head_end slices
     → (cuts : List ℕ) × MeetsRules from head_end slices cuts
 some-meets {from} {head_end} {slices} unit =
-    let f = first_piece from head_end in
+    let f = first_portion from head_end in
     let cuts = ends (packets_from no_unit f slices) in
     (cuts, cutting-meets cuts unit (packets-cut no_unit slices f (omega (arith, unit.some)) (some-bytes slices unit.have)))
 
@@ -390,7 +390,7 @@ some-meets {from} {head_end} {slices} unit =
 pub meets-cutting : {from head_end : ℕ} {slices : List ℕ} (cuts : List ℕ) → HeadAndSlices from head_end slices
     → MeetsRules from head_end slices cuts → IsCutting from head_end slices cuts
 meets-cutting {from} {head_end} {slices} cuts unit meets =
-    let f = first_piece from head_end in
+    let f = first_portion from head_end in
     let made = ends (packets_from no_unit f slices) in
     let cutting = packets-cut no_unit slices f (omega (arith, unit.some)) (some-bytes slices unit.have) in
     let same = one-meets (cutting-meets made unit cutting) meets in

@@ -9,7 +9,7 @@ use Rattle.rtp_pack.specs.declared.filling.Holds.TheVariants.{HeadAlone, Slices,
 use Rattle.rtp_pack.specs.Cutting.{Cuts, Fills, IsCutting, filling_after, full_before, full_ends}
 use Rattle.rtp_pack.specs.Cutting.{goes_in, goes_in_cut, goes_in_whole, last_start, start_of}
 use Rattle.rtp_pack.specs.Sizes.{IsMeasure, Measure, measure_from_head, cuts_size, frames_of, measure_of}
-use Rattle.rtp_pack.specs.Sizes.{slice_pieces, with_slice, with_slices}
+use Rattle.rtp_pack.specs.Sizes.{slice_portions, with_slice, with_slices}
 use Rattle.rtp_pack.proofs.CutLemmas.{full-once, full_before-less, full_before-within, start-less}
 
 -- ---- one slice keeps what is kept
@@ -17,58 +17,58 @@ use Rattle.rtp_pack.proofs.CutLemmas.{full-once, full_before-less, full_before-w
 -- what is kept, over plain numbers
 pub record Kept (count from at : ℕ) (holds : Holds) : Type 0 where
   pub some : from < at
-  pub pieces : count ≤ from
+  pub portions : count ≤ from
   pub whole : 20 * count ≤ at + 20
   pub ended : 20 * count ≤ from + 40
   pub last : holds ≡ LastFragment → 20 * count ≤ at
 
--- a short slice in the piece, or in the next
-short-here : {pieces from at : ℕ} {holds : Holds} (n full : ℕ) → Kept pieces from at holds
-    → at + n ≤ from + 1380 → from + 1380 * full < at + n → Kept (pieces + (0 + full)) (from + 1380 * full) (at + n) Slices
-short-here {pieces} {from} {at} n full kept fits before =
+-- a short slice in the portion, or in the next
+short-here : {portions from at : ℕ} {holds : Holds} (n full : ℕ) → Kept portions from at holds
+    → at + n ≤ from + 1380 → from + 1380 * full < at + n → Kept (portions + (0 + full)) (from + 1380 * full) (at + n) Slices
+short-here {portions} {from} {at} n full kept fits before =
     let none : full ≡ 0 = omega arith in
     record {
       some = before;
-      pieces = omega (arith, none, kept.pieces);
+      portions = omega (arith, none, kept.portions);
       whole = omega (arith, none, kept.whole);
       ended = omega (arith, none, kept.ended);
       last = λ e. cc;
     }
 
-short-next : {pieces from at : ℕ} {holds : Holds} (n full : ℕ) → Kept pieces from at holds → n ≤ 1380
-    → 20 * pieces ≤ at + n → at + 1380 * full < at + n → Kept (pieces + (1 + full)) (at + 1380 * full) (at + n) Slices
-short-next {pieces} {from} {at} n full kept short room before =
+short-next : {portions from at : ℕ} {holds : Holds} (n full : ℕ) → Kept portions from at holds → n ≤ 1380
+    → 20 * portions ≤ at + n → at + 1380 * full < at + n → Kept (portions + (1 + full)) (at + 1380 * full) (at + n) Slices
+short-next {portions} {from} {at} n full kept short room before =
     let none : full ≡ 0 = omega arith in
     record {
       some = before;
-      pieces = omega (arith, none, kept.pieces, kept.some);
+      portions = omega (arith, none, kept.portions, kept.some);
       whole = omega (arith, none, room);
       ended = omega (arith, none, kept.whole);
       last = λ e. cc;
     }
 
--- a longer slice in the piece, or in the next
-long-here : {pieces from at : ℕ} {holds : Holds} (n full : ℕ) → Kept pieces from at holds → 1380 < n
+-- a longer slice in the portion, or in the next
+long-here : {portions from at : ℕ} {holds : Holds} (n full : ℕ) → Kept portions from at holds → 1380 < n
     → from + 1380 * full < at + n → at + n ≤ from + 1380 * full + 1380
-    → Kept (pieces + (0 + full)) (from + 1380 * full) (at + n) LastFragment
-long-here {pieces} {from} {at} n full kept long before within =
+    → Kept (portions + (0 + full)) (from + 1380 * full) (at + n) LastFragment
+long-here {portions} {from} {at} n full kept long before within =
     let some : 0 < full = omega (arith, kept.some) in
     record {
       some = before;
-      pieces = omega (arith, kept.pieces);
+      portions = omega (arith, kept.portions);
       whole = omega (arith, some, kept.ended);
       ended = omega (arith, kept.ended);
       last = λ e. omega (arith, some, kept.ended);
     }
 
-long-next : {pieces from at : ℕ} {holds : Holds} (n full : ℕ) → Kept pieces from at holds → 1380 < n
+long-next : {portions from at : ℕ} {holds : Holds} (n full : ℕ) → Kept portions from at holds → 1380 < n
     → at + 1380 * full < at + n → at + n ≤ at + 1380 * full + 1380
-    → Kept (pieces + (1 + full)) (at + 1380 * full) (at + n) LastFragment
-long-next {pieces} {from} {at} n full kept long before within =
+    → Kept (portions + (1 + full)) (at + 1380 * full) (at + n) LastFragment
+long-next {portions} {from} {at} n full kept long before within =
     let some : 0 < full = omega arith in
     record {
       some = before;
-      pieces = omega (arith, kept.pieces, kept.some);
+      portions = omega (arith, kept.portions, kept.some);
       whole = omega (arith, some, kept.whole);
       ended = omega (arith, kept.whole);
       last = λ e. omega (arith, some, kept.whole);
@@ -79,23 +79,23 @@ whole-fits from at n HeadAlone e = leb-true (at + n) (from + 1380) e
 whole-fits from at n Slices e = leb-true (at + n) (from + 1380) e
 whole-fits from at n LastFragment e = absurd (true≢false (sym e))
 
--- where a short slice begins the next piece there is room for one more head
-whole-room : {pieces from at : ℕ} {holds : Holds} (n : ℕ) → Kept pieces from at holds → 4 ≤ n
-    → goes_in_whole from at holds n ≡ false → 20 * pieces ≤ at + n
+-- where a short slice begins the next portion there is room for one more head
+whole-room : {portions from at : ℕ} {holds : Holds} (n : ℕ) → Kept portions from at holds → 4 ≤ n
+    → goes_in_whole from at holds n ≡ false → 20 * portions ≤ at + n
 whole-room {from} {at} {holds = HeadAlone} n kept least e = omega (arith, leb-false (at + n) (from + 1380) e, kept.ended)
 whole-room {from} {at} {holds = Slices} n kept least e = omega (arith, leb-false (at + n) (from + 1380) e, kept.ended)
 whole-room {from} {at} {holds = LastFragment} n kept least e = omega (arith, kept.last refl)
 
--- a slice of n bytes after so many full pieces: whether it is short, and goes in
+-- a slice of n bytes after so many full portions: whether it is short, and goes in
 record SliceFills (from at : ℕ) (holds : Holds) (n full : ℕ) (short goes : Bool) : Type 0 where
   short_is : leb n 1380 ≡ short
   goes_is : cond short (goes_in_whole from at holds n) (goes_in_cut from at holds) ≡ goes
   before : cond goes from at + 1380 * full < at + n
   within : at + n ≤ cond goes from at + 1380 * full + 1380
 
-kept-slice : {pieces from at n full : ℕ} {holds : Holds} {short goes : Bool} → Kept pieces from at holds → 4 ≤ n
+kept-slice : {portions from at n full : ℕ} {holds : Holds} {short goes : Bool} → Kept portions from at holds → 4 ≤ n
     → SliceFills from at holds n full short goes
-    → Kept (pieces + (cond goes 0 1 + full)) (cond goes from at + 1380 * full) (at + n) (cond short Slices LastFragment)
+    → Kept (portions + (cond goes 0 1 + full)) (cond goes from at + 1380 * full) (at + n) (cond short Slices LastFragment)
 kept-slice {from} {at} {n} {full} {holds} {short = true} {goes = true} kept least fills =
     short-here n full kept (whole-fits from at n holds fills.goes_is) fills.before
 kept-slice {n} {full} {short = true} {goes = false} kept least fills =
@@ -106,7 +106,7 @@ kept-slice {n} {full} {short = false} {goes = false} kept least fills =
     long-next n full kept (leb-false n 1380 fills.short_is) fills.before fills.within
 
 abbrev pub IsKept : Measure → Type 0
-IsKept m = Kept m.pieces m.filling.from m.filling.at m.filling.holds
+IsKept m = Kept m.portions m.filling.from m.filling.at m.filling.holds
 
 pub keeps-slice : (m : Measure) (n : ℕ) → IsKept m → 4 ≤ n → IsKept (with_slice m n)
 keeps-slice m n kept least =
@@ -124,8 +124,8 @@ keeps-slice m n kept least =
 pub keeps-measure : (m : Measure) (n : ℕ) → IsMeasure m → 4 ≤ n → m.filling.at + n ≤ 2 ^ 40 → IsMeasure (with_slice m n)
 keeps-measure m n is least most =
     let kept = keeps-slice m n
-    (record { some = is.some; pieces = is.pieces; whole = is.whole; ended = is.ended; last = is.last }) least in
-    record { most = most; some = kept.some; pieces = kept.pieces; whole = kept.whole; ended = kept.ended; last = kept.last }
+    (record { some = is.some; portions = is.portions; whole = is.whole; ended = is.ended; last = is.last }) least in
+    record { most = most; some = kept.some; portions = kept.portions; whole = kept.whole; ended = kept.ended; last = kept.last }
 
 -- slices of at least 4 bytes
 abbrev pub AreLong : List ℕ → Type 0
@@ -137,7 +137,7 @@ keeps-slices [] m kept long = kept
 keeps-slices (n ∷ slices) m kept long = keeps-slices slices (with_slice m n) (keeps-slice m n kept long.0) long.1
 
 pub begun-kept : (head : ℕ) → 0 < head → IsKept (measure_from_head head)
-begun-kept head some = record { some = some; pieces = omega arith; whole = omega arith; ended = omega arith; last = λ e. cc }
+begun-kept head some = record { some = some; portions = omega arith; whole = omega arith; ended = omega arith; last = λ e. cc }
 
 pub slices-append : (slices : List ℕ) (m : Measure) (n : ℕ)
     → with_slices m (slices ++ n ∷ []) ≡ with_slice (with_slices m slices) n
@@ -176,7 +176,7 @@ cut-moved base from at HeadAlone ef ea = ltb-moved base at (from + 1380) ea (ome
 cut-moved base from at Slices ef ea = refl
 cut-moved base from at LastFragment ef ea = refl
 
--- the same piece at another place
+-- the same portion at another place
 pub record IsMoved (base : ℕ) (f g : Filling) : Type 0 where
   pub from : g.from ≡ base + f.from
   pub at : g.at ≡ base + f.at
@@ -205,9 +205,9 @@ size-full start (suc full) rest =
     ap (λ s. cuts_size s rest) place in
     omega (arith, more, rest-size)
 
--- the rest of the frames, after those of the pieces that ended
+-- the rest of the frames, after those of the portions that ended
 abbrev pub Rest : Measure → Filling → List ℕ → List ℕ → Type 0
-Rest m g slices cuts = cuts_size g.from cuts + 20 * m.pieces + m.filling.from ≡ frames_of (with_slices m slices)
+Rest m g slices cuts = cuts_size g.from cuts + 20 * m.portions + m.filling.from ≡ frames_of (with_slices m slices)
 
 -- a slice begins at `start`: what is moved, and whether it goes in
 record StartsAt (m : Measure) (g : Filling) (n base start place : ℕ) (goes : Bool) : Type 0 where
@@ -216,13 +216,13 @@ record StartsAt (m : Measure) (g : Filling) (n base start place : ℕ) (goes : B
   at_place : place ≡ base + start
   at_goes : goes_in m.filling n ≡ goes
 
--- the measure and the cuts of such a slice: the frames of its full pieces, then the rest
+-- the measure and the cuts of such a slice: the frames of its full portions, then the rest
 next-size : {m : Measure} {g : Filling} {n base start place : ℕ} {goes : Bool} {cuts : List ℕ} (slices : List ℕ)
     → StartsAt m g n base start place goes
     → ((m' : Measure) (g' : Filling) (rest : List ℕ) → IsMoved base m'.filling g'
     → m'.filling.from ≤ m'.filling.at → Cuts g' slices rest → Rest m' g' slices rest)
     → Fills (λ last rest. Cuts (filling_after g n last) slices rest) place (g.at + n) cuts
-    → cuts_size place cuts + 20 * (m.pieces + cond goes 0 1) + start ≡ frames_of (with_slices (with_slice m n) slices)
+    → cuts_size place cuts + 20 * (m.portions + cond goes 0 1) + start ≡ frames_of (with_slices (with_slice m n) slices)
 next-size {m} {g} {n} {start} {place} {goes} {cuts} slices starts more fills =
     let f = m.filling in
     let all : start_of (goes_in f n) f ≡ start = ap (λ b. start_of b f) at_goes ∙ at_start in
@@ -232,7 +232,7 @@ next-size {m} {g} {n} {start} {place} {goes} {cuts} slices starts more fills =
     (full_before-less start (f.at + n) less) (full_before-within start (f.at + n) less) in
     let last : last_start (start_of (goes_in f n) f) (f.at + n) ≡ start + 1380 * fills.full =
     ap (λ s. last_start s (f.at + n)) all ∙ ap (λ k. start + 1380 * k) (sym full) in
-    let pieces : slice_pieces f n ≡ cond goes 0 1 + fills.full =
+    let portions : slice_portions f n ≡ cond goes 0 1 + fills.full =
     ap (λ b. cond b 0 1 + full_before (start_of (goes_in f n) f) (f.at + n)) at_goes
     ∙ ap (λ s. cond goes 0 1 + full_before s (f.at + n)) all ∙ ap (λ k. cond goes 0 1 + k) (sym full) in
     let rest = more (with_slice m n) (filling_after g n (place + 1380 * fills.full)) fills.rest
@@ -240,7 +240,7 @@ next-size {m} {g} {n} {start} {place} {goes} {cuts} slices starts more fills =
     (omega (arith, last, fills.before, is.at, at_place)) fills.goes_on in
     let first : cuts_size place cuts ≡ 1400 * fills.full + cuts_size (place + 1380 * fills.full) fills.rest =
     ap (λ (l : List ℕ). cuts_size place l) fills.filled ∙ size-full place fills.full fills.rest in
-    omega (arith, first, rest, last, pieces)
+    omega (arith, first, rest, last, portions)
   where
     open starts use {moved as is, at_start, at_place, at_goes}
 

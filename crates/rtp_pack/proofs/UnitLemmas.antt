@@ -3,16 +3,16 @@ use Rattle.std.proofs.Common.{◌≡◌, ℕ, ◌+◌, ◌-◌, ◌*◌, ◌≤�
 use Rattle.std.proofs.Common.{◌∙◌, arith}
 use Rattle.mpeg_scan.specs.declared.units.Unit.{Unit as PictureUnit}
 use Rattle.rtp_pack.specs.declared.payloads.Packet.{Packet}
-use Rattle.rtp_pack.specs.Cutting.{IsCutting, first_piece}
+use Rattle.rtp_pack.specs.Cutting.{IsCutting, first_portion}
 use Rattle.rtp_pack.specs.Packets.{ArePackets, AreInOrder, DoCover, IsLaid, frames_size, lengths_to}
-use Rattle.rtp_pack.specs.Packets.{next_place, piece_packets, unit_lengths, unit_packets}
+use Rattle.rtp_pack.specs.Packets.{next_place, portion_packets, unit_lengths, unit_packets}
 use Rattle.rtp_pack.specs.Packets.{unit_starts}
 use Rattle.rtp_pack.specs.Sizes.{IsPacked, measure_from_head, bytes_of, cuts_size, frames_of, measure_of, with_slice}
 use Rattle.rtp_pack.specs.Sizes.{with_slices, Measure}
 use Rattle.rtp_pack.proofs.CutLemmas.{AreSome, ends, packets-cut}
 use Rattle.rtp_pack.proofs.FlagLemmas.{first-right, flags}
-use Rattle.rtp_pack.specs.Laws.{ArePieces}
-use Rattle.rtp_pack.proofs.LawLemmas.{pieces-cover, sum-cons}
+use Rattle.rtp_pack.specs.Laws.{ArePortions}
+use Rattle.rtp_pack.proofs.LawLemmas.{portions-cover, sum-cons}
 use Rattle.rtp_pack.proofs.SizeLemmas.{AreLong, begun-kept, keeps-slices, size-unit}
 
 lengths-long : (starts : List ℕ) (at to : ℕ) → AreInOrder at starts to → AreLong (lengths_to to starts)
@@ -31,20 +31,20 @@ lengths-bytes (s ∷ starts) at to m order =
     let rest = lengths-bytes starts (next_place to starts) to (with_slice m (next_place to starts - s)) order.1.1 in
     omega (arith, rest, order.0, order.1.0)
 
-frames-pieces : (unit : PictureUnit) (starts : List ℕ) (cuts : List ℕ) (from : ℕ)
-    → frames_size (piece_packets unit starts from cuts) ≡ cuts_size from cuts
-frames-pieces unit starts [] from = refl
-frames-pieces unit starts (cut ∷ cuts) from = ap (λ n. 20 + (cut - from) + n) (frames-pieces unit starts cuts cut)
+frames-portions : (unit : PictureUnit) (starts : List ℕ) (cuts : List ℕ) (from : ℕ)
+    → frames_size (portion_packets unit starts from cuts) ≡ cuts_size from cuts
+frames-portions unit starts [] from = refl
+frames-portions unit starts (cut ∷ cuts) from = ap (λ n. 20 + (cut - from) + n) (frames-portions unit starts cuts cut)
 
 pub packets-are : (starts : List ℕ) (unit : PictureUnit) → IsLaid starts unit → ArePackets starts unit (unit_packets starts unit)
 packets-are starts unit laid =
-    let f = first_piece unit.from unit.head_end in
+    let f = first_portion unit.from unit.head_end in
     let packets = unit_packets starts unit in
     record {
       cuts = ends packets;
       cutting = packets-cut unit (unit_lengths starts unit) f (omega (arith, laid.head))
           (long-some (unit_lengths starts unit) (lengths-long (unit_starts starts unit) unit.head_end unit.to laid.in_order));
-      pieces = flags (first-right unit (unit_starts starts unit) laid.head laid.in_order)
+      portions = flags (first-right unit (unit_starts starts unit) laid.head laid.in_order)
           (record { starts = λ x h. refl; ends = λ x h. refl }) laid.in_order;
     }
 
@@ -54,25 +54,25 @@ lengths-sum (s ∷ starts) at to order =
     let rest = lengths-sum starts (next_place to starts) to order.1.1 in
     omega (arith, rest, order.0, order.1.0, sum-cons (next_place to starts - s) (lengths_to to starts))
 
-pieces-packets : (unit : PictureUnit) (starts cuts : List ℕ) (from to : ℕ) → ArePieces from cuts to
-    → DoCover from (piece_packets unit starts from cuts) to
-pieces-packets unit starts [] from to pieces = pieces
-pieces-packets unit starts (cut ∷ cuts) from to pieces =
-    (refl, (pieces.0, (pieces.1.0, pieces-packets unit starts cuts cut to pieces.1.1)))
+portions-packets : (unit : PictureUnit) (starts cuts : List ℕ) (from to : ℕ) → ArePortions from cuts to
+    → DoCover from (portion_packets unit starts from cuts) to
+portions-packets unit starts [] from to portions = portions
+portions-packets unit starts (cut ∷ cuts) from to portions =
+    (refl, (portions.0, (portions.1.0, portions-packets unit starts cuts cut to portions.1.1)))
 
 -- they cover the unit
 pub packets-cover : (starts : List ℕ) (unit : PictureUnit) → IsLaid starts unit
     → DoCover unit.from (unit_packets starts unit) unit.to
 packets-cover starts unit laid =
     let are = packets-are starts unit laid in
-    let pieces =
-    pieces-cover (unit_lengths starts unit) (first_piece unit.from unit.head_end) are.cuts
+    let portions =
+    portions-cover (unit_lengths starts unit) (first_portion unit.from unit.head_end) are.cuts
     (laid.head, laid.short) are.cutting in
-    let whole : ArePieces unit.from are.cuts unit.to =
-    subst (λ t. ArePieces unit.from are.cuts t)
-    (lengths-sum (unit_starts starts unit) unit.head_end unit.to laid.in_order) pieces in
+    let whole : ArePortions unit.from are.cuts unit.to =
+    subst (λ t. ArePortions unit.from are.cuts t)
+    (lengths-sum (unit_starts starts unit) unit.head_end unit.to laid.in_order) portions in
     let P : List Packet → Type 0 = λ l. DoCover unit.from l unit.to in
-    subst P (sym are.pieces) (pieces-packets unit (unit_starts starts unit) are.cuts unit.from unit.to whole)
+    subst P (sym are.portions) (portions-packets unit (unit_starts starts unit) are.cuts unit.from unit.to whole)
 
 -- what the frames of the unit take
 pub packets-size : (starts : List ℕ) (unit : PictureUnit) → IsLaid starts unit
@@ -82,7 +82,7 @@ packets-size starts unit laid =
     let head : unit.from + (unit.head_end - unit.from) ≡ unit.head_end = omega (arith, laid.head) in
     let cutting : IsCutting unit.from (unit.from + (unit.head_end - unit.from)) (unit_lengths starts unit)
     are.cuts = rw head are.cutting in
-    ap frames_size are.pieces ∙ frames-pieces unit (unit_starts starts unit) are.cuts unit.from
+    ap frames_size are.portions ∙ frames-portions unit (unit_starts starts unit) are.cuts unit.from
     ∙ sym (size-unit (unit.head_end - unit.from) (unit_lengths starts unit) unit.from are.cuts cutting)
 
 pub packets-bound : (starts : List ℕ) (unit : PictureUnit) → IsLaid starts unit

@@ -2,31 +2,31 @@
 -- bytes. RFC 2250 section 3.1 wants that headers begin a packet and that a slice begins one too, or
 -- follows headers or whole slices. Of the ways that it leaves this is one.
 --
--- The first piece begins with the whole head.
+-- The first portion begins with the whole head.
 --
--- A slice of at most 1,380 bytes is never cut: it goes into the piece that is being filled where
+-- A slice of at most 1,380 bytes is never cut: it goes into the portion that is being filled where
 -- all of it fits, and else begins the next.
 --
--- A longer slice begins in the piece that has nothing but the head, where that leaves room, and
--- else begins the next; it fills each piece to 1,380 bytes, and no slice goes after its last
+-- A longer slice begins in the portion that has nothing but the head, where that leaves room, and
+-- else begins the next; it fills each portion to 1,380 bytes, and no slice goes after its last
 -- fragment.
 --
--- A piece ends only where this says so, or with the unit. A unit's cut points are the places where
--- its pieces end, the last of them the unit's end.
+-- A portion ends only where this says so, or with the unit. A unit's cut points are the places where
+-- its portions end, the last of them the unit's end.
 use Rattle.std.specs.Prelude.{ℕ, zero, suc, ◌+◌, ◌-◌, ◌*◌, ◌/◌, ◌<◌, ◌≤◌, ◌≡◌, ◌⊎◌, Bool, true}
 use Rattle.std.specs.Prelude.{false, nat_le, nat_lt, if◌then◌else◌, List, [], ◌∷◌, ◌++◌}
 use Rattle.rtp_pack.specs.declared.filling.Filling.{Filling}
 use Rattle.rtp_pack.specs.declared.filling.Holds.{Holds}
 use Rattle.rtp_pack.specs.declared.filling.Holds.TheVariants.{HeadAlone, Slices, LastFragment}
 
--- a slice of at most 1,380 bytes goes into the piece that has the bytes `from` to `at` where all of
+-- a slice of at most 1,380 bytes goes into the portion that has the bytes `from` to `at` where all of
 -- it fits, and never after a longer slice's last fragment
 abbrev pub goes_in_whole : ℕ → ℕ → Holds → ℕ → Bool
 goes_in_whole from at HeadAlone length = nat_le (at + length) (from + 1380)
 goes_in_whole from at Slices length = nat_le (at + length) (from + 1380)
 goes_in_whole from at LastFragment length = false
 
--- a longer slice begins in the piece where nothing but the head stands in it and leaves room
+-- a longer slice begins in the portion where nothing but the head stands in it and leaves room
 abbrev pub goes_in_cut : ℕ → ℕ → Holds → Bool
 goes_in_cut from at HeadAlone = nat_lt at (from + 1380)
 goes_in_cut from at Slices = false
@@ -37,22 +37,22 @@ goes_in f length =
     if nat_le length 1380
     then goes_in_whole f.from f.at f.holds length else goes_in_cut f.from f.at f.holds
 
--- what the piece with the end of a slice of `length` bytes holds
+-- what the portion with the end of a slice of `length` bytes holds
 abbrev pub holds_after : ℕ → Holds
 holds_after length = if nat_le length 1380 then Slices else LastFragment
 
--- the piece in which a slice of `length` bytes ends, that begins at `start`
+-- the portion in which a slice of `length` bytes ends, that begins at `start`
 abbrev pub filling_after : Filling → ℕ → ℕ → Filling
 filling_after f length start =
     record { from = start; at = f.at + length; holds = holds_after length }
 
--- the ends of so many full pieces of 1,380 bytes
+-- the ends of so many full portions of 1,380 bytes
 abbrev pub full_ends : ℕ → ℕ → List ℕ
 full_ends start zero = []
 full_ends start (suc count) = (start + 1380) ∷ full_ends (start + 1380) count
 
--- a slice that ends at `end`, in a piece from `start` on: where it doesn't end in that piece it
--- fills it, and each further one, to 1,380 bytes; the rest of the unit goes on from the piece in
+-- a slice that ends at `end`, in a portion from `start` on: where it doesn't end in that portion it
+-- fills it, and each further one, to 1,380 bytes; the rest of the unit goes on from the portion in
 -- which it ends
 pub record Fills (GoesOn : ℕ → List ℕ → Type 0) (start end : ℕ) (cuts : List ℕ) : Type 0 where
   pub full : ℕ
@@ -62,14 +62,14 @@ pub record Fills (GoesOn : ℕ → List ℕ → Type 0) (start end : ℕ) (cuts 
   pub filled : cuts ≡ full_ends start full ++ rest
   pub goes_on : GoesOn (start + 1380 * full) rest
 
--- a slice that goes into the piece makes no cut before it; any other makes a cut where it begins,
--- and begins the next piece
+-- a slice that goes into the portion makes no cut before it; any other makes a cut where it begins,
+-- and begins the next portion
 abbrev pub Begins : (ℕ → List ℕ → Type 0) → Bool → ℕ → ℕ → List ℕ → Type 0
 Begins Goes goes from at cuts =
     ((goes ≡ true) × Goes from cuts)
     ⊎ ((goes ≡ false) × ((rest : List ℕ) × ((cuts ≡ at ∷ rest) × Goes at rest)))
 
--- the cut points after a piece that is being filled, where slices of these lengths follow
+-- the cut points after a portion that is being filled, where slices of these lengths follow
 abbrev pub Cuts : Filling → List ℕ → List ℕ → Type 0
 Cuts f [] cuts = cuts ≡ f.at ∷ []
 Cuts f (length ∷ slices) cuts =
@@ -78,27 +78,27 @@ Cuts f (length ∷ slices) cuts =
     Fills (λ last rest. Cuts (filling_after f length last) slices rest) start end left)
     (goes_in f length) f.from f.at cuts
 
--- the first piece of a unit begins with its whole head
-abbrev pub first_piece : ℕ → ℕ → Filling
-first_piece from head_end = record { from = from; at = head_end; holds = HeadAlone }
+-- the first portion of a unit begins with its whole head
+abbrev pub first_portion : ℕ → ℕ → Filling
+first_portion from head_end = record { from = from; at = head_end; holds = HeadAlone }
 
 -- the cut points of a unit at place `from` with a head to `head_end` and slices of these lengths
 abbrev pub IsCutting : ℕ → ℕ → List ℕ → List ℕ → Type 0
-IsCutting from head_end slices cuts = Cuts (first_piece from head_end) slices cuts
+IsCutting from head_end slices cuts = Cuts (first_portion from head_end) slices cuts
 
--- how many full pieces from `start` on end before `end`
+-- how many full portions from `start` on end before `end`
 abbrev pub full_before : ℕ → ℕ → ℕ
 full_before start end = (end - start - 1) / 1380
 
--- where the piece begins in which a slice begins
+-- where the portion begins in which a slice begins
 abbrev pub start_of : Bool → Filling → ℕ
 start_of goes f = if goes then f.from else f.at
 
--- where the piece begins in which a slice ends, if the piece in which it begins is from `start` on
+-- where the portion begins in which a slice ends, if the portion in which it begins is from `start` on
 abbrev pub last_start : ℕ → ℕ → ℕ
 last_start start end = start + 1380 * full_before start end
 
--- the piece in which the next slice ends, of `length` bytes
+-- the portion in which the next slice ends, of `length` bytes
 abbrev pub next_filling : Filling → ℕ → Filling
 next_filling f length =
     filling_after f length (last_start (start_of (goes_in f length) f) (f.at + length))

@@ -3,11 +3,11 @@ use Rattle.std.specs.Prelude.{ℕ, ◌+◌, ◌<◌, ◌≤◌, ◌≡◌, ◌�
 use Rattle.rtp_pack.specs.declared.payloads.Packet.{Packet}
 use Rattle.rtp_pack.specs.Packets.{is_among}
 
--- pieces of 1 to 1,380 bytes cover the bytes from a place to another in order, without gap or
+-- portions of 1 to 1,380 bytes cover the bytes from a place to another in order, without gap or
 -- overlap
-abbrev pub ArePieces : ℕ → List ℕ → ℕ → Type 0
-ArePieces from [] to = from ≡ to
-ArePieces from (cut ∷ cuts) to = (from < cut) × ((cut ≤ from + 1380) × ArePieces cut cuts to)
+abbrev pub ArePortions : ℕ → List ℕ → ℕ → Type 0
+ArePortions from [] to = from ≡ to
+ArePortions from (cut ∷ cuts) to = (from < cut) × ((cut ≤ from + 1380) × ArePortions cut cuts to)
 
 -- no cut lies strictly between these places
 abbrev pub IsUncut : ℕ → ℕ → List ℕ → Type 0
@@ -20,11 +20,11 @@ AreShortUncut at [] cuts = Unit {0}
 AreShortUncut at (length ∷ slices) cuts =
     (length ≤ 1380 → IsUncut at (at + length) cuts) × AreShortUncut (at + length) slices cuts
 
--- each slice of more than 1,380 bytes ends with a piece, of slices of these lengths from a place on
-abbrev pub DoLongEndPieces : ℕ → List ℕ → List ℕ → Type 0
-DoLongEndPieces at [] cuts = Unit {0}
-DoLongEndPieces at (length ∷ slices) cuts =
-    (1380 < length → is_among (at + length) cuts ≡ true) × DoLongEndPieces (at + length) slices cuts
+-- each slice of more than 1,380 bytes ends with a portion, of slices of these lengths from a place on
+abbrev pub DoLongEndPortions : ℕ → List ℕ → List ℕ → Type 0
+DoLongEndPortions at [] cuts = Unit {0}
+DoLongEndPortions at (length ∷ slices) cuts =
+    (1380 < length → is_among (at + length) cuts ≡ true) × DoLongEndPortions (at + length) slices cuts
 
 -- the last of these packets has the marker, and no other
 abbrev pub IsLastMarked : List Packet → Type 0

@@ -8,7 +8,7 @@ use Rattle.rtp_pack.specs.declared.filling.Holds.{Holds}
 use Rattle.rtp_pack.specs.declared.filling.Holds.TheVariants.{HeadAlone, Slices, LastFragment}
 use Rattle.rtp_pack.specs.declared.payloads.Packet.{Packet}
 use Rattle.rtp_pack.specs.Cutting.{IsCutting, goes_in, start_of, full_before, next_filling}
-use Rattle.rtp_pack.specs.Cutting.{first_piece}
+use Rattle.rtp_pack.specs.Cutting.{first_portion}
 
 -- ---- the slices of a unit
 
@@ -23,7 +23,7 @@ unit_lengths slice_starts unit = lengths_to unit.to (unit_starts slice_starts un
 
 -- ---- the packets, from the front
 
--- the packet of a piece, where it is known whether it begins and ends with a slice
+-- the packet of a portion, where it is known whether it begins and ends with a slice
 abbrev pub packet : PictureUnit → ℕ → ℕ → Bool → Bool → Packet
 packet unit from to begin end = record {
   from = from;
@@ -34,7 +34,7 @@ packet unit from to begin end = record {
   sequence_header = unit.has_sequence && (from == unit.from);
 }
 
--- so many full pieces of a slice; the first of them begins with its code, or with the head and its
+-- so many full portions of a slice; the first of them begins with its code, or with the head and its
 -- code
 abbrev pub full_packets : PictureUnit → Bool → ℕ → ℕ → List Packet
 full_packets unit begin start zero = []
@@ -51,7 +51,7 @@ ends_slice HeadAlone = false
 ends_slice Slices = true
 ends_slice LastFragment = true
 
--- the packet of a piece that ends before a slice or with the unit
+-- the packet of a portion that ends before a slice or with the unit
 abbrev pub filling_packet : PictureUnit → Filling → Packet
 filling_packet unit f = packet unit f.from f.at (begins_slice f.holds) (ends_slice f.holds)
 
@@ -66,7 +66,7 @@ slice_packets unit f length =
     before_slice (goes_in f length) unit f
     ++ full_packets unit true start (full_before start (f.at + length))
 
--- the packets from the piece that is being filled on, where slices of these lengths follow
+-- the packets from the portion that is being filled on, where slices of these lengths follow
 abbrev pub packets_from : PictureUnit → Filling → List ℕ → List Packet
 packets_from unit f [] = filling_packet unit f ∷ []
 packets_from unit f (length ∷ slices) =
@@ -75,7 +75,7 @@ packets_from unit f (length ∷ slices) =
 -- the packets of a unit, by the places of its film's slices
 abbrev pub unit_packets : List ℕ → PictureUnit → List Packet
 unit_packets slice_starts unit =
-    packets_from unit (first_piece unit.from unit.head_end) (unit_lengths slice_starts unit)
+    packets_from unit (first_portion unit.from unit.head_end) (unit_lengths slice_starts unit)
 
 -- the bytes of packets in their frames: an interleaved head of 4 bytes, the packet's of 16, and the
 -- payload
@@ -102,23 +102,23 @@ abbrev pub ends_to : ℕ → List ℕ → List ℕ
 ends_to to [] = []
 ends_to to (start ∷ starts) = next_place to starts ∷ ends_to to starts
 
--- the packet of a piece of a unit (RFC 2250 section 3.4): B where it begins with a slice, or with
+-- the packet of a portion of a unit (RFC 2250 section 3.4): B where it begins with a slice, or with
 -- the head and a slice after it; E where its last byte is a slice's last byte; S where it begins
 -- with a sequence header; the marker where it ends with the unit
-abbrev pub piece_packet : PictureUnit → List ℕ → ℕ → ℕ → Packet
-piece_packet unit starts from to =
+abbrev pub portion_packet : PictureUnit → List ℕ → ℕ → ℕ → Packet
+portion_packet unit starts from to =
     packet unit from to (is_among from starts
     || (from == unit.from && nat_lt unit.head_end to)) (is_among to (ends_to unit.to starts))
 
--- the packets of the pieces from a place on that end at these cut points
-abbrev pub piece_packets : PictureUnit → List ℕ → ℕ → List ℕ → List Packet
-piece_packets unit starts from [] = []
-piece_packets unit starts from (cut ∷ cuts) =
-    piece_packet unit starts from cut ∷ piece_packets unit starts cut cuts
+-- the packets of the portions from a place on that end at these cut points
+abbrev pub portion_packets : PictureUnit → List ℕ → ℕ → List ℕ → List Packet
+portion_packets unit starts from [] = []
+portion_packets unit starts from (cut ∷ cuts) =
+    portion_packet unit starts from cut ∷ portion_packets unit starts cut cuts
 
--- these are the packets of a unit: the pieces of a cutting of it, in order
+-- these are the packets of a unit: the portions of a cutting of it, in order
 pub record ArePackets (slice_starts : List ℕ) (unit : PictureUnit) (packets : List Packet)
     : Type 0 where
   pub cuts : List ℕ
   pub cutting : IsCutting unit.from unit.head_end (unit_lengths slice_starts unit) cuts
-  pub pieces : packets ≡ piece_packets unit (unit_starts slice_starts unit) unit.from cuts
+  pub portions : packets ≡ portion_packets unit (unit_starts slice_starts unit) unit.from cuts

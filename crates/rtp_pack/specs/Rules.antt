@@ -1,8 +1,8 @@
 -- The rules of cutting as conditions on the list of cut points, with no step of the packer: where a
 -- cut may stand, and where it must. A unit has a head from `from` to `head_end`, and then slices of
--- these lengths; its cut points are the places where its pieces end.
+-- these lengths; its cut points are the places where its portions end.
 use Rattle.std.specs.Prelude.{ℕ, ◌+◌, ◌<◌, ◌≤◌, ◌≡◌, ◌⊎◌, true, List, [], ◌∷◌, sum}
-use Rattle.rtp_pack.specs.Laws.{ArePieces, IsUncut}
+use Rattle.rtp_pack.specs.Laws.{ArePortions, IsUncut}
 use Rattle.rtp_pack.specs.Packets.{is_among}
 
 -- each slice has a byte at least
@@ -16,7 +16,7 @@ SliceAt at [] place length = ⊥
 SliceAt at (n ∷ slices) place length = ((at ≡ place) × (n ≡ length))
     ⊎ SliceAt (at + n) slices place length
 
--- a slice of more than 1,380 bytes begins there, and not in the piece that has nothing but the head
+-- a slice of more than 1,380 bytes begins there, and not in the portion that has nothing but the head
 -- and room
 pub record LongBegins (from head_end : ℕ) (slices : List ℕ) (place : ℕ) : Type 0 where
   pub length : ℕ
@@ -37,21 +37,21 @@ abbrev pub IsCutPlace : ℕ → ℕ → List ℕ → ℕ → Type 0
 IsCutPlace from head_end slices place = LongBegins from head_end slices place
     ⊎ LongEnds head_end slices place
 
--- a slice of at most 1,380 bytes begins there that doesn't fit in a piece from a place on
+-- a slice of at most 1,380 bytes begins there that doesn't fit in a portion from a place on
 pub record DoesNotFit (head_end : ℕ) (slices : List ℕ) (start place : ℕ) : Type 0 where
   pub length : ℕ
   pub slice : SliceAt head_end slices place length
   pub short : length ≤ 1380
   pub over : start + 1380 < place + length
 
--- a piece from `start` on may end there, before the unit's end: it is full, a cut must stand there,
+-- a portion from `start` on may end there, before the unit's end: it is full, a cut must stand there,
 -- or the next slice doesn't fit
 abbrev pub MayEnd : ℕ → ℕ → List ℕ → ℕ → ℕ → Type 0
 MayEnd from head_end slices start cut =
     (cut ≡ start + 1380)
     ⊎ (IsCutPlace from head_end slices cut ⊎ DoesNotFit head_end slices start cut)
 
--- each piece but the last may end where it does, of pieces from `start` on that end at these places
+-- each portion but the last may end where it does, of portions from `start` on that end at these places
 abbrev pub MayAllEnd : (ℕ → ℕ → Type 0) → ℕ → List ℕ → Type 0
 MayAllEnd May start [] = Unit {0}
 MayAllEnd May start (cut ∷ []) = Unit {0}
@@ -59,14 +59,14 @@ MayAllEnd May start (cut ∷ (next ∷ cuts)) = May start cut × MayAllEnd May c
 
 -- the four rules
 pub record MeetsRules (from head_end : ℕ) (slices cuts : List ℕ) : Type 0 where
-  -- pieces of 1 to 1,380 bytes cover the unit, and the first has the whole head
-  pub pieces : ArePieces from cuts (head_end + sum slices)
+  -- portions of 1 to 1,380 bytes cover the unit, and the first has the whole head
+  pub portions : ArePortions from cuts (head_end + sum slices)
   pub head : IsUncut from head_end cuts
   -- a slice of at most 1,380 bytes is never cut
   pub short : (place length : ℕ) → SliceAt head_end slices place length → length ≤ 1380 →
       IsUncut place (place + length) cuts
-  -- a longer slice begins and ends with a piece, but for one that begins after the head where that
+  -- a longer slice begins and ends with a portion, but for one that begins after the head where that
   -- leaves room
   pub long : (place : ℕ) → IsCutPlace from head_end slices place → is_among place cuts ≡ true
-  -- a piece ends only there, where it is full, or where the next slice doesn't fit
+  -- a portion ends only there, where it is full, or where the next slice doesn't fit
   pub ends : MayAllEnd (MayEnd from head_end slices) from cuts

@@ -8,29 +8,29 @@ use Rattle.mpeg_scan.specs.declared.units.Unit.{Unit as PictureUnit}
 use Rattle.rtp_pack.specs.declared.payloads.Packet.{Packet}
 use Rattle.rtp_pack.specs.Packets.{ArePackets, DoCover, frames_size, unit_lengths, unit_packets}
 use Rattle.rtp_pack.specs.Cutting.{IsCutting, goes_in, start_of, full_before, next_filling}
-use Rattle.rtp_pack.specs.Cutting.{first_piece}
+use Rattle.rtp_pack.specs.Cutting.{first_portion}
 
--- the pieces of a unit so far
+-- the portions of a unit so far
 pub record Measure : Type 0 where
   -- how many have ended
-  pub pieces : ℕ
+  pub portions : ℕ
   -- the one that is being filled
   pub filling : Filling
 
 -- a unit with a head of so many bytes
 abbrev pub measure_from_head : ℕ → Measure
-measure_from_head head = record { pieces = 0; filling = first_piece 0 head }
+measure_from_head head = record { portions = 0; filling = first_portion 0 head }
 
--- how many pieces end before or in the next slice, of `length` bytes
-abbrev pub slice_pieces : Filling → ℕ → ℕ
-slice_pieces f length =
+-- how many portions end before or in the next slice, of `length` bytes
+abbrev pub slice_portions : Filling → ℕ → ℕ
+slice_portions f length =
     (if goes_in f length then 0 else 1)
     + full_before (start_of (goes_in f length) f) (f.at + length)
 
 -- the same unit with one more slice
 abbrev pub with_slice : Measure → ℕ → Measure
 with_slice m length = record {
-  pieces = m.pieces + slice_pieces m.filling length;
+  portions = m.portions + slice_portions m.filling length;
   filling = next_filling m.filling length;
 }
 
@@ -56,7 +56,7 @@ bytes_of m = m.filling.at
 -- the bytes of the frames of a unit that ends here: 20 bytes of heads each, and all bytes of the
 -- unit
 abbrev pub frames_of : Measure → ℕ
-frames_of m = bytes_of m + 20 * (m.pieces + 1)
+frames_of m = bytes_of m + 20 * (m.portions + 1)
 
 -- the bytes of the frames of a film's unit, by the places of the film's slices
 abbrev pub unit_size : List ℕ → PictureUnit → ℕ
@@ -74,8 +74,8 @@ pub record IsPacked (slice_starts : List ℕ) (unit : PictureUnit) (packets : Li
   pub size : frames_size packets ≡ unit_size slice_starts unit
   pub bound : frames_size packets + 52 ≤ 2 * (unit.to - unit.from) + 112
 
--- the frames of pieces from a place on that end at these cut points: 20 bytes of heads each, and
--- the piece
+-- the frames of portions from a place on that end at these cut points: 20 bytes of heads each, and
+-- the portion
 abbrev pub cuts_size : ℕ → List ℕ → ℕ
 cuts_size from [] = 0
 cuts_size from (cut ∷ cuts) = 20 + (cut - from) + cuts_size cut cuts
@@ -87,17 +87,17 @@ IsSize m size =
     (head : ℕ) (slices : List ℕ) (from : ℕ) (cuts : List ℕ) → m ≡ measure_of head slices
     → IsCutting from (from + head) slices cuts → size ≡ cuts_size from cuts
 
--- what is kept: each piece that ended has a byte at least; and the heads of those that ended take
--- at most 40 bytes more than these pieces, at most 20 more than the unit so far, and no more than
--- that where the piece in hand ends with a slice's last fragment
+-- what is kept: each portion that ended has a byte at least; and the heads of those that ended take
+-- at most 40 bytes more than these portions, at most 20 more than the unit so far, and no more than
+-- that where the portion in hand ends with a slice's last fragment
 pub record IsMeasure (m : Measure) : Type 0 where
   pub most : m.filling.at ≤ 2 ^ 40
   pub some : m.filling.from < m.filling.at
-  pub pieces : m.pieces ≤ m.filling.from
-  pub whole : 20 * m.pieces ≤ m.filling.at + 20
-  pub ended : 20 * m.pieces ≤ m.filling.from + 40
-  pub last : m.filling.holds ≡ LastFragment → 20 * m.pieces ≤ m.filling.at
+  pub portions : m.portions ≤ m.filling.from
+  pub whole : 20 * m.portions ≤ m.filling.at + 20
+  pub ended : 20 * m.portions ≤ m.filling.from + 40
+  pub last : m.filling.holds ≡ LastFragment → 20 * m.portions ≤ m.filling.at
 
 -- a measure by its parts
 abbrev pub measure : ℕ → Filling → Measure
-measure pieces filling = record { pieces = pieces; filling = filling }
+measure portions filling = record { portions = portions; filling = filling }

@@ -2,18 +2,18 @@
 ghost use Rattle.std.specs.Prelude.{◌≡◌, ◌+◌, ◌*◌, ◌<◌, ◌≤◌};
 ghost use Rattle.rtp_pack.specs.Cutting.{full_before, goes_in, holds_after};
 
-/// What stands in the piece of a unit that is being filled.
+/// What stands in the portion of a unit that is being filled.
 #[derive(Clone, Copy)]
 pub(crate) enum Holds {
     /// The unit's head alone.
     HeadAlone,
-    /// Whole slices, after the head in the unit's first piece.
+    /// Whole slices, after the head in the unit's first portion.
     Slices,
-    /// The last fragment of a slice that is longer than a piece.
+    /// The last fragment of a slice that is longer than a portion.
     LastFragment,
 }
 
-/// The piece of a unit that is being filled: its bytes so far, and what they are.
+/// The portion of a unit that is being filled: its bytes so far, and what they are.
 #[derive(Clone, Copy)]
 pub(crate) struct Filling {
     /// The place of its first byte.
@@ -27,7 +27,7 @@ pub(crate) struct Filling {
 /// The most bytes of a unit in one packet.
 pub(crate) const PAYLOAD: u64 = 1380;
 
-/// Whether a slice of `length` bytes begins in the piece that is being filled, or else begins the
+/// Whether a slice of `length` bytes begins in the portion that is being filled, or else begins the
 /// next.
 pub(crate) fn goes_in(filling: Filling, length: u64) -> bool
     requires { filling.from ≤ filling.at }
@@ -42,7 +42,7 @@ pub(crate) fn goes_in(filling: Filling, length: u64) -> bool
     }
 }
 
-/// What the piece with the end of a slice of `length` bytes holds.
+/// What the portion with the end of a slice of `length` bytes holds.
 pub(crate) fn holds_after(length: u64) -> Holds
     ensures { result ≡ holds_after length }
 {
@@ -53,7 +53,7 @@ pub(crate) fn holds_after(length: u64) -> Holds
     }
 }
 
-/// How many full pieces from `start` on end before `end`.
+/// How many full portions from `start` on end before `end`.
 pub(crate) fn full_before(start: u64, end: u64) -> u64
     requires { start < end }
     ensures count { result ≡ full_before start end }

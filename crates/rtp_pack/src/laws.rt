@@ -9,7 +9,7 @@ ghost use Rattle.rtp_pack.specs.declared.reports.Report.{Report};
 ghost use Rattle.rtp_pack.specs.Cutting.{IsCutting};
 ghost use Rattle.rtp_pack.specs.Fields.{HasReportFields, HasRtpFields, HasVideoFields, IsTickOf};
 ghost use Rattle.rtp_pack.specs.Heads.{head_bytes, head_of, unit_timestamp, video_word};
-ghost use Rattle.rtp_pack.specs.Laws.{ArePieces, AreShortUncut, DoLongEndPieces, IsLastMarked};
+ghost use Rattle.rtp_pack.specs.Laws.{ArePortions, AreShortUncut, DoLongEndPortions, IsLastMarked};
 ghost use Rattle.rtp_pack.specs.Laws.{IsUncut};
 ghost use Rattle.rtp_pack.specs.Reports.{report_bytes, media_time};
 ghost use Rattle.rtp_pack.specs.Rules.{HaveBytes, MeetsRules};
@@ -29,17 +29,17 @@ pub fn law_one_cutting(from: u64, head_end: u64, slices: &[u64], one: &[u64], ot
     let _read = (from, head_end, slices.len(), one.len(), other.len());
 }
 
-/// What the rules for cutting come to. The pieces have 1 to 1,380 bytes and cover the unit in
+/// What the rules for cutting come to. The portions have 1 to 1,380 bytes and cover the unit in
 /// order. The head is never cut, nor is a slice of at most 1,380 bytes. A longer slice ends with
-/// its last piece.
+/// its last portion.
 pub fn law_cutting(from: u64, head_end: u64, slices: &[u64], cuts: &[u64])
     requires head { from < head_end }
     requires short { head_end ≤ from + 1380 }
     requires cutting { IsCutting from head_end slices.now cuts.now }
-    ensures pieces { ArePieces from cuts.now (head_end + sum slices.now) }
+    ensures portions { ArePortions from cuts.now (head_end + sum slices.now) }
     ensures head { IsUncut from head_end cuts.now }
     ensures short_slices { AreShortUncut head_end slices.now cuts.now }
-    ensures long_slices { DoLongEndPieces head_end slices.now cuts.now }
+    ensures long_slices { DoLongEndPortions head_end slices.now cuts.now }
 {
     let _read = (from, head_end, slices.len(), cuts.len());
 }

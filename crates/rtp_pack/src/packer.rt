@@ -59,7 +59,7 @@ fn put(packets: &mut Vec<Packet>, packet: Packet) -> Result<(), NoMemory>
     Ok(())
 }
 
-/// Appends the packet of a piece that ends before a slice or with the unit.
+/// Appends the packet of a portion that ends before a slice or with the unit.
 fn close(packets: &mut Vec<Packet>, unit: &Unit, filling: Filling) -> Result<(), NoMemory>
     ensures { OnOk result (packets.new.items ≡
         packets.old.items ++ filling_packet unit.now filling ∷ []) }
@@ -69,8 +69,8 @@ fn close(packets: &mut Vec<Packet>, unit: &Unit, filling: Filling) -> Result<(),
     put(packets, packet(unit, filling.from, filling.at, begin, end))
 }
 
-/// Appends the full pieces from `start` on of a slice that ends at `end`, and answers where the
-/// piece with its end begins.
+/// Appends the full portions from `start` on of a slice that ends at `end`, and answers where the
+/// portion with its end begins.
 fn put_full(packets: &mut Vec<Packet>, unit: &Unit, start: u64, end: u64) -> Result<u64, NoMemory>
     requires { start < end }
     ensures start { IfOk result (λ last. last ≡ last_start start end) }
@@ -80,7 +80,7 @@ fn put_full(packets: &mut Vec<Packet>, unit: &Unit, start: u64, end: u64) -> Res
 {
     let mut last = start;
     let mut begin = true;
-    for piece in 0..full_before(start, end) {
+    for portion in 0..full_before(start, end) {
         put(packets, packet(unit, last, last + PAYLOAD, begin, false))?;
         last += PAYLOAD;
         begin = false;
@@ -88,7 +88,7 @@ fn put_full(packets: &mut Vec<Packet>, unit: &Unit, start: u64, end: u64) -> Res
     Ok(last)
 }
 
-/// Appends the packets that end before or in the slice to `end`, and answers the piece that is
+/// Appends the packets that end before or in the slice to `end`, and answers the portion that is
 /// being filled then.
 fn put_slice(
     packets: &mut Vec<Packet>,

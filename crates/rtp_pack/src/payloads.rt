@@ -8,7 +8,7 @@ use mpeg_scan::Film;
 use std::alloc::Global;
 use vod_base::NoMemory;
 
-/// A packet of a unit: a piece of the film's bytes, with what its heads say of it (RFC 2250 section
+/// A packet of a unit: a portion of the film's bytes, with what its heads say of it (RFC 2250 section
 /// 3).
 #[derive(Clone, Copy, Debug, PartialEq, Eq)]
 pub struct Packet {

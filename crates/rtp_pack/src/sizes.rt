@@ -10,10 +10,10 @@ use std::marker::Model;
 /// The size of a unit's frames, counted while the lengths of its head and slices come in. It takes
 /// no memory.
 ///
-/// Contracts see how many pieces ended so far, and the one that is being filled.
+/// Contracts see how many portions ended so far, and the one that is being filled.
 #[derive(Drop)]
 pub struct UnitSize {
-    pieces: u64,
+    portions: u64,
     filling: Filling,
 }
 
@@ -22,9 +22,9 @@ impl Model for UnitSize {
 
     ghost Value = { Measure };
 
-    ghost view = { λ m. measure m.pieces m.filling };
+    ghost view = { λ m. measure m.portions m.filling };
 
-    ghost invariant = { λ m. IsMeasure (measure m.pieces m.filling) };
+    ghost invariant = { λ m. IsMeasure (measure m.portions m.filling) };
 }
 
 /// The bytes of the heads of a frame: 4 of the interleaved block and 16 of the packet.
@@ -39,7 +39,7 @@ impl UnitSize {
         ensures measured { result ≡ measure_of head [] }
     {
         UnitSize {
-            pieces: 0,
+            portions: 0,
             filling: Filling {
                 from: 0,
                 at: head,
@@ -59,11 +59,11 @@ impl UnitSize {
         let end = self.filling.at + length;
         let mut start = self.filling.from;
         if !goes_in(self.filling, length) {
-            self.pieces += 1;
+            self.portions += 1;
             start = self.filling.at;
         }
         let full = full_before(start, end);
-        self.pieces += full;
+        self.portions += full;
         self.filling = Filling {
             from: start + PAYLOAD * full,
             at: end,
@@ -78,6 +78,6 @@ impl UnitSize {
         ensures bound { result + 52 ≤ 2 * bytes_of self + 112 }
         ensures frames { IsSize self result }
     {
-        self.filling.at + FRAME_HEADS * (self.pieces + 1)
+        self.filling.at + FRAME_HEADS * (self.portions + 1)
     }
 }

@@ -65,7 +65,7 @@ fn film_of(alloc: Global, head: usize, slices: &[usize]) -> Result<Film, Fail> {
 
 /// A packet, by its place and the letters of what is set: M marker, B begin, E end, S sequence
 /// header.
-fn piece(from: u64, to: u64, set: &str) -> Packet {
+fn portion(from: u64, to: u64, set: &str) -> Packet {
     Packet {
         from,
         to,
@@ -90,7 +90,7 @@ fn check_cuts(
     law_last_marked(&film.units[0], &film.slice_starts, &packets);
     assert_eq!(rt; packets.len(), want.len());
     for (packet, (from, to, set)) in packets.iter().zip(want) {
-        assert_eq!(rt; *packet, piece(*from, *to, set));
+        assert_eq!(rt; *packet, portion(*from, *to, set));
     }
     refill_packets(list, film, 0)?;
     assert_eq!(rt; list.as_slice(), packets.as_slice());
@@ -182,7 +182,7 @@ fn heads_of_film_b(rt: HostRuntime) -> Result<(), Fail> {
         ),
     ] {
         let packets = packets(rt.alloc(), &film, unit)?;
-        assert_eq!(rt; packets.as_slice(), [piece(from, to, set)].as_slice());
+        assert_eq!(rt; packets.as_slice(), [portion(from, to, set)].as_slice());
         assert_eq!(rt; packets.len(), 1);
         let unit_in_film = &film.units[unit];
         assert_eq!(rt; video_header(unit_in_film, &packets[0]), video);
@@ -264,7 +264,7 @@ fn wraps(rt: HostRuntime) {
         octets: 0xffff_fff0,
         ..IDENTITY
     };
-    let packet = piece(0, 34, "MBE");
+    let packet = portion(0, 34, "MBE");
     for (before, sequence) in [(0, 0xfffe), (1, 0xffff), (2, 0), (65_538, 0)] {
         let head = packet_head(&late, PICTURE, &UNIT, &packet, before);
         assert_eq!(rt; head.sequence, sequence, "at {before}");
@@ -280,8 +280,8 @@ fn wraps(rt: HostRuntime) {
 
 #[test]
 fn words_of_pictures(rt: HostRuntime) {
-    let whole = piece(0, 34, "MBES");
-    let middle = piece(0, 34, "");
+    let whole = portion(0, 34, "MBES");
+    let middle = portion(0, 34, "");
     for (kind, all, none) in [
         (Kind::I, 0x03ff_39ff, 0x03ff_01ff),
         (Kind::P, 0x03ff_3aff, 0x03ff_02ff),

@@ -4,8 +4,8 @@ use Rattle.std.proofs.lemmas.List.{append-nil, length-append}
 use Rattle.std.proofs.lemmas.List.Concat.{flat_map-append}
 use Rattle.vod_base.specs.Links.{Doing, HeardBytes, HeardEnd, HeardSlot, sends, told_more}
 use Rattle.vod_base.proofs.Telling.{told_more-append, told_more-nil}
-use Rattle.interleave.specs.Pieces.{IsFirst}
-use Rattle.interleave.specs.declared.pieces.Step.TheVariants.{More}
+use Rattle.interleave.specs.Elements.{IsFirst}
+use Rattle.interleave.specs.declared.elements.Step.TheVariants.{More}
 use Rattle.rtsp_client.specs.declared.clients.Client.{Client}
 use Rattle.rtsp_client.specs.declared.frames.Source.{Source}
 use Rattle.rtsp_client.specs.declared.wishes.Wish.{Wish}
@@ -31,8 +31,8 @@ pub round-bytes : {wish : Wish} {h : History} {rest bytes : List ℕ} {new : Cli
     → HasTaken wish h (rest ++ bytes) new s t
     → IsFirst new.input (Ok More) → HasRound wish h rest (HeardBytes bytes) new s t
 round-bytes {h} {new} {s} taken idle = record {
-  moments = moments_in taken.pieces;
-  runs = record { brings = (taken.pieces, (taken.cut, refl)); good = taken.passed.good; history_is = refl };
+  moments = moments_in taken.elements;
+  runs = record { brings = (taken.elements, (taken.cut, refl)); good = taken.passed.good; history_is = refl };
   keeps = taken.passed.keeps;
   idle = idle;
   sight_is = taken.passed.sight_is;

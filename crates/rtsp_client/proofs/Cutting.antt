@@ -1,14 +1,14 @@
 -- What stands in front of the same bytes.
 use Rattle.std.proofs.Common.{◌≡◌, ℕ, ◌+◌, ◌≤◌, List, length, take, drop, Ok, ap, sym, subst, arith}
 use Rattle.std.proofs.lemmas.List.{length-drop}
-use Rattle.interleave.specs.Pieces.{IsFirst, IsRequestLength}
-use Rattle.interleave.specs.declared.pieces.Step.TheVariants.{Request}
+use Rattle.interleave.specs.Elements.{IsFirst, IsMessageLength}
+use Rattle.interleave.specs.declared.elements.Step.TheVariants.{Message}
 use Rattle.rtsp_text.proofs.Whole.{first_taken}
 use Rattle.rtsp_client.specs.declared.clients.Client.{Client}
 use Rattle.rtsp_client.specs.Standing.{GoesOnFrom}
 
-pub whole_request : (b w : List ℕ) (n : ℕ) → IsFirst b (Ok (Request n)) → w ≡ b → IsRequestLength (take n w) (length (take n w))
-whole_request b w n first same = subst (λ x. IsRequestLength (take n x) (length (take n x))) (sym same) (first_taken b n first)
+pub whole_request : (b w : List ℕ) (n : ℕ) → IsFirst b (Ok (Message n)) → w ≡ b → IsMessageLength (take n w) (length (take n w))
+whole_request b w n first same = subst (λ x. IsMessageLength (take n x) (length (take n x))) (sym same) (first_taken b n first)
 
 pub goes-on : {c new : Client} (n : ℕ) → new.replies ≤ 2 → new.watching.received ≤ c.watching.received + n → n ≤ length c.input →
     new.input ≡ drop n c.input → GoesOnFrom c new

@@ -1,14 +1,14 @@
--- Pieces and events, one after another.
+-- Elements and events, one after another.
 use Rattle.std.proofs.Common.{◌≡◌, ℕ, suc, ◌<◌, ◌≤◌, ◌==◌, true, false, cond, List, [], ◌∷◌, ◌++◌, length, take, drop, map, get_or, Ok, Err, refl, sym, ap, subst, ◌∙◌, append_assoc, arith, inl, inr}
 use Rattle.std.proofs.lemmas.Bool.{cond-true, cond-false}
 use Rattle.std.proofs.lemmas.List.{append-nil, get_or-take, length-take-le}
 use Rattle.std.proofs.lemmas.List.Concat.{flat_map-append}
 use Rattle.interleave.specs.Heads.{is_line_end}
-use Rattle.interleave.specs.Pieces.{AreLineEnds, IsFirst}
-use Rattle.interleave.specs.Streams.{AreCut, IsPieceLength, WholeBlock, WholeRequest}
-use Rattle.interleave.specs.declared.pieces.Step.TheVariants.{Block, Request, Skip}
-use Rattle.interleave.specs.declared.pieces.DemuxFault.{DemuxFault}
-use Rattle.interleave.proofs.Streams.{next_pieces}
+use Rattle.interleave.specs.Elements.{AreLineEnds, IsFirst}
+use Rattle.interleave.specs.Streams.{AreCut, IsElementLength, WholeBlock, WholeMessage}
+use Rattle.interleave.specs.declared.elements.Step.TheVariants.{Block, Message, Skip}
+use Rattle.interleave.specs.declared.elements.DemuxFault.{DemuxFault}
+use Rattle.interleave.proofs.Streams.{next_elements}
 use Rattle.rtsp_client.specs.declared.clients.Client.{Client}
 use Rattle.rtsp_client.specs.declared.wishes.Wish.{Wish}
 use Rattle.rtsp_client.specs.declared.wishes.WatchEnd.{WatchEnd}
@@ -45,20 +45,20 @@ record CutsInTurn (bytes mid end : List ℕ) (p q : List (List ℕ)) : Type 0 wh
 
 cut-on : {bytes mid end : List ℕ} {p q : List (List ℕ)} → CutsInTurn bytes mid end p q → AreCut bytes (p ++ q) end
 cut-on {end} {p = []} {q} cuts = subst (λ b. AreCut b q end) (sym cuts.first) cuts.next
-cut-on {bytes} {mid} {end} {p = piece ∷ p} {q} cuts =
+cut-on {bytes} {mid} {end} {p = element ∷ p} {q} cuts =
     let cut = cuts.first.1 in
     let later : CutsInTurn (drop cuts.first.0 bytes) mid end p q = record { first = cut.2; next = cuts.next } in
     (cuts.first.0, (cut.0, cut.1, cut-on later))
 
--- ---- the pieces in front
+-- ---- the elements in front
 
-piece-start : (rest : List ℕ) (n : ℕ) → 0 < n → get_or (take n rest) 0 0 ≡ get_or rest 0 0
-piece-start rest n some = get_or-take n rest 0 0 some
+element-start : (rest : List ℕ) (n : ℕ) → 0 < n → get_or (take n rest) 0 0 ≡ get_or rest 0 0
+element-start rest n some = get_or-take n rest 0 0 some
 
 block-of : (rest : List ℕ) (n : ℕ) → 4 ≤ n → get_or rest 0 0 ≡ 36
     → moments_of (take n rest) ≡ block_moments (get_or rest 1 0) (take n rest)
 block-of rest n long starts =
-    let front : get_or (take n rest) 0 0 ≡ 36 = piece-start rest n (omega (arith, long)) ∙ starts in
+    let front : get_or (take n rest) 0 0 ≡ 36 = element-start rest n (omega (arith, long)) ∙ starts in
     let second : get_or (take n rest) 1 0 ≡ get_or rest 1 0 = get_or-take n rest 1 0 (omega (arith, long)) in
     let inside : ℕ → List Moment = λ b.
     cond (is_line_end b) []
@@ -71,7 +71,7 @@ reply-of rest n some no_end no_block =
     let inside : ℕ → List Moment = λ b.
     cond (is_line_end b) []
     (cond (b == 36) (block_moments (get_or (take n rest) 1 0) (take n rest)) (Reply (take n rest) ∷ [])) in
-    ap inside (piece-start rest n some)
+    ap inside (element-start rest n some)
     ∙ (cond-false (is_line_end (get_or rest 0 0)) _ _ no_end ∙ cond-false (get_or rest 0 0 == 36) _ _ no_block)
 
 ends-none : (bytes : List ℕ) → ((k : ℕ) → k < length bytes → is_line_end (get_or bytes k 0) ≡ true)
@@ -82,7 +82,7 @@ ends-none (b ∷ bytes) all =
     ap (λ t. t ++ moments_in (map (λ c. c ∷ []) bytes)) (cond-true (is_line_end b) [] _ first)
     ∙ ends-none bytes (λ k few. all (suc k) (omega (arith, few)))
 
--- ---- pieces were taken up
+-- ---- elements were taken up
 
 -- the same client, but for its input
 pub record IsSameClient (c new : Client) : Type 0 where
@@ -122,15 +122,15 @@ moved : {wish : Wish} {h : History} {moments : List Moment} {c new : Client} {s 
     → IsSameClient c new → HasPassed wish h moments new s t
 moved p same = record { good = p.good; keeps = keeps-moved p.keeps same; sight_is = p.sight_is }
 
--- the piece in front, of so many bytes, was taken up and dropped
-taken-piece : {wish : Wish} {h : History} {rest : List ℕ} {n : ℕ} {moments : List Moment} {c new : Client}
+-- the element in front, of so many bytes, was taken up and dropped
+taken-element : {wish : Wish} {h : History} {rest : List ℕ} {n : ℕ} {moments : List Moment} {c new : Client}
     {s t : Sight}
-    → IsPieceLength rest n → moments_of (take n rest) ≡ moments → HasPassed wish h moments c s t
+    → IsElementLength rest n → moments_of (take n rest) ≡ moments → HasPassed wish h moments c s t
     → IsSameClient c new → new.input ≡ drop n rest
     → HasTaken wish h rest new s t
-taken-piece {wish} {h} {rest} {n} {new} {s} {t} piece are passed same dropped = record {
-  pieces = take n rest ∷ [];
-  cut = (n, (piece, refl, sym dropped));
+taken-element {wish} {h} {rest} {n} {new} {s} {t} element are passed same dropped = record {
+  elements = take n rest ∷ [];
+  cut = (n, (element, refl, sym dropped));
   passed = subst (λ ms. HasPassed wish h ms new s t) (sym (append-nil (moments_of (take n rest)) ∙ are))
       (moved passed same);
 }
@@ -140,19 +140,19 @@ pub taken-block : {wish : Wish} {h : History} {rest : List ℕ} {channel n : ℕ
     → IsSameClient c new → new.input ≡ drop n rest
     → HasTaken wish h rest new s t
 taken-block {h} {rest} {n} {c} {new} {s} first passed same dropped =
-    taken-piece (WholeBlock first.0 first.1 first.3 first.4)
+    taken-element (WholeBlock first.0 first.1 first.3 first.4)
     (block-of rest n (omega (arith, first.3)) first.0.1 ∙ ap (λ k. block_moments k (take n rest)) (sym first.2))
     passed same dropped
 
-request-some : (rest : List ℕ) (n : ℕ) → IsFirst rest (Ok (Request n)) → 0 < n
+request-some : (rest : List ℕ) (n : ℕ) → IsFirst rest (Ok (Message n)) → 0 < n
 request-some rest n first = omega (arith, first.1.is_head.some, first.1.total_is)
 
 pub taken-reply : {wish : Wish} {h : History} {rest : List ℕ} {n : ℕ} {c new : Client} {s t : Sight}
-    → IsFirst rest (Ok (Request n)) → HasPassed wish h (Reply (take n rest) ∷ []) c s t
+    → IsFirst rest (Ok (Message n)) → HasPassed wish h (Reply (take n rest) ∷ []) c s t
     → IsSameClient c new → new.input ≡ drop n rest
     → HasTaken wish h rest new s t
 taken-reply {h} {rest} {n} {c} {new} {s} first passed same dropped =
-    taken-piece (WholeRequest first.0 first.1 first.2)
+    taken-element (WholeMessage first.0 first.1 first.2)
     (reply-of rest n (request-some rest n first) first.0.1 first.0.2) passed same dropped
 
 pub taken-ends : {wish : Wish} {h : History} {rest : List ℕ} {n : ℕ} {c new : Client} {s : Sight}
@@ -167,9 +167,9 @@ taken-ends {wish} {h} {rest} {n} {c} {new} {s} first k same dropped =
     let few' : k < n = omega (arith, few, long) in
     ap is_line_end (get_or-take n rest k 0 few') ∙ ends.line_ends k few') in
     record {
-      pieces = map (λ c. c ∷ []) (take n rest);
+      elements = map (λ c. c ∷ []) (take n rest);
       cut = subst (λ r. AreCut rest (map (λ c. c ∷ []) (take n rest)) r) (sym dropped)
-          (next_pieces rest (Ok (Skip n)) first rest [] refl);
+          (next_elements rest (Ok (Skip n)) first rest [] refl);
       passed = subst (λ ms. HasPassed wish h ms new s s) (sym none) (passed-none k same);
     }
 
@@ -177,7 +177,7 @@ pub taken-none : {wish : Wish} {h : History} {c new : Client} {s : Sight} → Ke
     → new.input ≡ c.input
     → HasTaken wish h c.input new s s
 taken-none k same input_same = record {
-  pieces = [];
+  elements = [];
   cut = sym input_same;
   passed = passed-none k same;
 }
@@ -185,12 +185,12 @@ taken-none k same input_same = record {
 pub taken-on : {wish : Wish} {h : History} {rest : List ℕ} {mid new : Client} {s t u : Sight} → HasTaken wish h rest mid s t
     → ((g : History) → Keeps wish g mid → HasTaken wish g mid.input new t u) → HasTaken wish h rest new s u
 taken-on {wish} {h} {rest} {mid} {new} {s} {u} first next =
-    let second = next (after h (moments_in first.pieces)) first.passed.keeps in
-    let cuts : CutsInTurn rest mid.input new.input first.pieces second.pieces = record { first = first.cut; next = second.cut } in
+    let second = next (after h (moments_in first.elements)) first.passed.keeps in
+    let cuts : CutsInTurn rest mid.input new.input first.elements second.elements = record { first = first.cut; next = second.cut } in
     record {
-      pieces = first.pieces ++ second.pieces;
+      elements = first.elements ++ second.elements;
       cut = cut-on cuts;
-      passed = subst (λ ms. HasPassed wish h ms new s u) (sym (flat_map-append moments_of first.pieces second.pieces))
+      passed = subst (λ ms. HasPassed wish h ms new s u) (sym (flat_map-append moments_of first.elements second.elements))
           (passed-on first.passed second.passed);
     }
 
@@ -202,7 +202,7 @@ stops-now {h} {rest} {end} {sent} {out} {s} stops is = record {
   sent = sent;
   out = out;
   stops = record {
-    pieces = [];
+    elements = [];
     mid = rest;
     cut = refl;
     good = tt;
@@ -216,10 +216,10 @@ stops-now {h} {rest} {end} {sent} {out} {s} stops is = record {
 }
 
 stops-at : {wish : Wish} {h : History} {rest : List ℕ} {n : ℕ} {moment : Moment} {end : WatchEnd} {s t : Sight}
-    → IsPieceLength rest n → moments_of (take n rest) ≡ moment ∷ [] → HasEndedAt wish h moment end s t
+    → IsElementLength rest n → moments_of (take n rest) ≡ moment ∷ [] → HasEndedAt wish h moment end s t
     → HasStopped wish h rest end s t
-stops-at {h} {n} {moment} {end} {s} piece is ended =
-    stops-now (inr (moment, ((n, (piece, is)), ended.comes))) ended.sight_is
+stops-at {h} {n} {moment} {end} {s} element is ended =
+    stops-now (inr (moment, ((n, (element, is)), ended.comes))) ended.sight_is
 
 pub stopped-framing : {wish : Wish} {h : History} {rest : List ℕ} {end : WatchEnd} {s : Sight} (fault : DemuxFault)
     → IsFirst rest (Err fault) → end ≡ Fault Framing → HasStopped wish h rest end s s
@@ -234,41 +234,41 @@ stopped-block {h} {rest} {n} {end} {s} first ended =
     (block-of rest n (omega (arith, first.3)) first.0.1 ∙ ap (λ k. block_moments k (take n rest)) (sym first.2 ∙ ended.0)) ended.1
 
 pub stopped-reply : {wish : Wish} {h : History} {rest : List ℕ} {n : ℕ} {end : WatchEnd} {s t : Sight}
-    → IsFirst rest (Ok (Request n)) → HasEndedAt wish h (Reply (take n rest)) end s t → HasStopped wish h rest end s t
+    → IsFirst rest (Ok (Message n)) → HasEndedAt wish h (Reply (take n rest)) end s t → HasStopped wish h rest end s t
 stopped-reply {h} {rest} {n} {end} {s} first ended =
-    stops-at (WholeRequest first.0 first.1 first.2)
+    stops-at (WholeMessage first.0 first.1 first.2)
     (reply-of rest n (request-some rest n first) first.0.1 first.0.2) ended
 
 pub stopped-on : {wish : Wish} {h : History} {rest : List ℕ} {mid : Client} {end : WatchEnd} {s t u : Sight}
     → HasTaken wish h rest mid s t
     → ((g : History) → Keeps wish g mid → HasStopped wish g mid.input end t u) → HasStopped wish h rest end s u
 stopped-on {wish} {h} {rest} {mid} {end} {s} first next =
-    let g = after h (moments_in first.pieces) in
+    let g = after h (moments_in first.elements) in
     let second = next g first.passed.keeps in
     let st = second.stops in
-    let a = moments_in first.pieces in
-    let b = moments_in st.pieces in
+    let a = moments_in first.elements in
+    let b = moments_in st.elements in
     let sent_on : requests_after wish h a ++ second.sent
-    ≡ requests_after wish h (moments_in (first.pieces ++ st.pieces)) ++ st.more_sent =
+    ≡ requests_after wish h (moments_in (first.elements ++ st.elements)) ++ st.more_sent =
     ap (λ x. requests_after wish h a ++ x) st.sent_is
     ∙ (sym (append_assoc (requests_after wish h a) (requests_after wish g b) st.more_sent)
     ∙ ap (λ x. x ++ st.more_sent)
-    (sym (requests-on wish h a b) ∙ ap (requests_after wish h) (sym (flat_map-append moments_of first.pieces st.pieces)))) in
-    let out_on : payloads_of a ++ second.out ≡ payloads_of (moments_in (first.pieces ++ st.pieces)) ++ st.more_out =
+    (sym (requests-on wish h a b) ∙ ap (requests_after wish h) (sym (flat_map-append moments_of first.elements st.elements)))) in
+    let out_on : payloads_of a ++ second.out ≡ payloads_of (moments_in (first.elements ++ st.elements)) ++ st.more_out =
     ap (λ x. payloads_of a ++ x) st.out_is
     ∙ (sym (append_assoc (payloads_of a) (payloads_of b) st.more_out)
-    ∙ ap (λ x. x ++ st.more_out) (sym (flat_map-append payload_of a b) ∙ ap payloads_of (sym (flat_map-append moments_of first.pieces st.pieces)))) in
-    let there : after g b ≡ after h (moments_in (first.pieces ++ st.pieces)) =
-    sym (after-on h a b) ∙ ap (after h) (sym (flat_map-append moments_of first.pieces st.pieces)) in
-    let cuts : CutsInTurn rest mid.input st.mid first.pieces st.pieces = record { first = first.cut; next = st.cut } in
+    ∙ ap (λ x. x ++ st.more_out) (sym (flat_map-append payload_of a b) ∙ ap payloads_of (sym (flat_map-append moments_of first.elements st.elements)))) in
+    let there : after g b ≡ after h (moments_in (first.elements ++ st.elements)) =
+    sym (after-on h a b) ∙ ap (after h) (sym (flat_map-append moments_of first.elements st.elements)) in
+    let cuts : CutsInTurn rest mid.input st.mid first.elements st.elements = record { first = first.cut; next = st.cut } in
     record {
       sent = requests_after wish h a ++ second.sent;
       out = payloads_of a ++ second.out;
       stops = record {
-        pieces = first.pieces ++ st.pieces;
+        elements = first.elements ++ st.elements;
         mid = st.mid;
         cut = cut-on cuts;
-        good = subst (GoOn h) (sym (flat_map-append moments_of first.pieces st.pieces)) (good-on h a b first.passed.good st.good);
+        good = subst (GoOn h) (sym (flat_map-append moments_of first.elements st.elements)) (good-on h a b first.passed.good st.good);
         more_sent = st.more_sent;
         more_out = st.more_out;
         stops = subst (λ x. Stops wish (stage x st.mid) end st.more_sent st.more_out) there st.stops;

@@ -100,15 +100,15 @@ abbrev pub block_moments : ℕ → List ℕ → List Moment
 block_moments channel block =
     if channel == 0 then Frame block ∷ [] else (if channel == 1 then Report block ∷ [] else [])
 
--- the moments of a piece of the input: none of a line end, one of a reply
+-- the moments of an element of the input: none of a line end, one of a reply
 abbrev pub moments_of : List ℕ → List Moment
-moments_of piece =
-    if is_line_end (slice_index piece 0) then []
-    else (if slice_index piece 0 == 36
-    then block_moments (slice_index piece 1) piece else Reply piece ∷ [])
+moments_of element =
+    if is_line_end (slice_index element 0) then []
+    else (if slice_index element 0 == 36
+    then block_moments (slice_index element 1) element else Reply element ∷ [])
 
 abbrev pub moments_in : List (List ℕ) → List Moment
-moments_in pieces = flat_map moments_of pieces
+moments_in elements = flat_map moments_of elements
 
 -- the bytes that wait of a block on channel 0 or 1 that isn't whole; of a block whose channel
 -- didn't come yet, one

@@ -1,8 +1,8 @@
 -- What a client asks for, as the parts of its requests (RFC 2326 sections 6, 10 and 12).
 use Rattle.std.specs.Prelude.{◌≡◌, ℕ, ◌≤◌, ◌++◌, true, List, [], ◌∷◌, length, codes, decimal, Ok}
 use Rattle.std.specs.List.{list_all}
-use Rattle.interleave.specs.Pieces.{IsFirst}
-use Rattle.interleave.specs.declared.pieces.Step.TheVariants.{Request}
+use Rattle.interleave.specs.Elements.{IsFirst}
+use Rattle.interleave.specs.declared.elements.Step.TheVariants.{Message}
 use Rattle.rtsp_text.specs.Fields.{header_value}
 use Rattle.rtsp_text.specs.Grammar.{is_url_byte}
 use Rattle.rtsp_text.specs.Replies.{value_named}
@@ -55,7 +55,7 @@ pub record IsSessionId (session : List ℕ) : Type 0 where
 -- whatever comes later, and read as them, and each name has the value of the first field of that
 -- name
 pub record IsAsked (text : List ℕ) (parts : Parts) (sequence : ℕ) : Type 0 where
-  pub found : (later : List ℕ) → IsFirst (text ++ later) (Ok (Request (length text)))
+  pub found : (later : List ℕ) → IsFirst (text ++ later) (Ok (Message (length text)))
   pub read : IsRequest text parts.method parts.url sequence (request_head parts) parts.body
   pub values : (name : List ℕ) →
       header_value (request_head parts) name ≡ value_named name parts.fields

@@ -2,10 +2,10 @@
 use Rattle.std.specs.Prelude.{◌≡◌, ℕ, ◌^◌, ◌<◌, ◌≤◌, ◌⊎◌, List, [], ◌∷◌, ◌++◌, length}
 use Rattle.std.specs.Prelude.{take, Option, Ok, Err}
 use Rattle.vod_base.specs.Links.{Doing, HeardBytes, HeardEnd, HeardSlot, Sent, sends, told_more}
-use Rattle.interleave.specs.Pieces.{IsFirst}
-use Rattle.interleave.specs.Streams.{AreCut, IsPieceLength}
-use Rattle.interleave.specs.declared.pieces.Step.TheVariants.{More}
-use Rattle.interleave.specs.declared.pieces.DemuxFault.{DemuxFault}
+use Rattle.interleave.specs.Elements.{IsFirst}
+use Rattle.interleave.specs.Streams.{AreCut, IsElementLength}
+use Rattle.interleave.specs.declared.elements.Step.TheVariants.{More}
+use Rattle.interleave.specs.declared.elements.DemuxFault.{DemuxFault}
 use Rattle.rtsp_client.specs.declared.wishes.Wish.{Wish}
 use Rattle.rtsp_client.specs.declared.wishes.WatchEnd.{WatchEnd}
 use Rattle.rtsp_client.specs.declared.wishes.WatchEnd.TheVariants.{Done, Fault, LinkFault}
@@ -25,11 +25,11 @@ pub record Stage : Type 0 where
 abbrev pub stage : History → List ℕ → Stage
 stage history rest = record { history = history; rest = rest }
 
--- an event brings these moments: those of the pieces that are whole then, or a slot's; and leaves
+-- an event brings these moments: those of the elements that are whole then, or a slot's; and leaves
 -- these bytes waiting
 abbrev pub Brings : Doing → List ℕ → List Moment → List ℕ → Type 0
 Brings (HeardBytes bytes) old moments new =
-    (pieces : List (List ℕ)) × (AreCut (old ++ bytes) pieces new × (moments ≡ moments_in pieces))
+    (elements : List (List ℕ)) × (AreCut (old ++ bytes) elements new × (moments ≡ moments_in elements))
 Brings (HeardSlot slot) old moments new = (moments ≡ Slot slot (cut_bytes old) ∷ []) × (new ≡ old)
 Brings HeardEnd old moments new = ⊥
 Brings (Sent byte) old moments new = ⊥
@@ -77,11 +77,11 @@ Fails wish h moment NoMemory sent out = (sent ≡ []) × IsFront out (payload_of
 Fails wish h moment (Done watched) sent out = ⊥
 Fails wish h moment (Fault fault) sent out = ⊥
 
--- the piece in front is whole and has this moment
+-- the element in front is whole and has this moment
 abbrev pub IsNext : List ℕ → Moment → Type 0
-IsNext rest moment = (n : ℕ) × (IsPieceLength rest n × (moments_of (take n rest) ≡ moment ∷ []))
+IsNext rest moment = (n : ℕ) × (IsElementLength rest n × (moments_of (take n rest) ≡ moment ∷ []))
 
--- nothing more is taken up: the bytes begin no piece; or the next moment gives the answer; or the
+-- nothing more is taken up: the bytes begin no element; or the next moment gives the answer; or the
 -- outside failed as it was taken up
 abbrev pub Stops : Wish → Stage → WatchEnd → List ℕ → List ℕ → Type 0
 Stops wish mid end sent out =
@@ -91,17 +91,17 @@ Stops wish mid end sent out =
     × ((Gives wish mid.history moment end × (sent ≡ []) × (out ≡ []))
     ⊎ (GoesOn mid.history moment × Fails wish mid.history moment end sent out))))
 
--- pieces of the bytes that wait were taken up, and then nothing more
+-- elements of the bytes that wait were taken up, and then nothing more
 pub record StopsAt (wish : Wish) (old : Stage) (end : WatchEnd) (sent out : List ℕ) : Type 0 where
-  pub pieces : List (List ℕ)
+  pub elements : List (List ℕ)
   pub mid : List ℕ
-  pub cut : AreCut old.rest pieces mid
-  pub good : GoOn old.history (moments_in pieces)
+  pub cut : AreCut old.rest elements mid
+  pub good : GoOn old.history (moments_in elements)
   pub more_sent : List ℕ
   pub more_out : List ℕ
-  pub stops : Stops wish (stage (after old.history (moments_in pieces)) mid) end more_sent more_out
-  pub sent_is : sent ≡ requests_after wish old.history (moments_in pieces) ++ more_sent
-  pub out_is : out ≡ payloads_of (moments_in pieces) ++ more_out
+  pub stops : Stops wish (stage (after old.history (moments_in elements)) mid) end more_sent more_out
+  pub sent_is : sent ≡ requests_after wish old.history (moments_in elements) ++ more_sent
+  pub out_is : out ≡ payloads_of (moments_in elements) ++ more_out
 
 -- the answer after so many events, what the link tells last, and what was handed on last: no
 -- further event was heard, since the link failed or all were heard; or the server ended; or bytes

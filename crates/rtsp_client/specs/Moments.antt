@@ -1,4 +1,4 @@
--- What a client hears after its first request, piece by piece and slot by slot. A history is a list
+-- What a client hears after its first request, element by element and slot by slot. A history is a list
 -- of moments, the latest first.
 use Rattle.std.specs.Prelude.{ℕ, ◌+◌, ◌==◌, ◌&&◌, Bool, false}
 use Rattle.std.specs.Prelude.{not, max, nat_lt, if◌then◌else◌, List, [], ◌∷◌, ◌++◌, length}

@@ -1,4 +1,4 @@
--- Where a client stands between two pieces of its input.
+-- Where a client stands between two elements of its input.
 use Rattle.std.specs.Prelude.{◌≡◌, ℕ, ◌+◌, ◌^◌, ◌<◌, ◌≤◌, ◌||◌, true, nat_lt, List, length}
 use Rattle.rtsp_client.specs.declared.clients.Client.{Client}
 use Rattle.rtsp_client.specs.Replies.{IsAnswer}

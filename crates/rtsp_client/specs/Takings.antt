@@ -1,11 +1,11 @@
--- What a client has done as moments, pieces and events were taken up, by what its link and its
+-- What a client has done as moments, elements and events were taken up, by what its link and its
 -- output tell.
 use Rattle.std.specs.Prelude.{◌≡◌, ℕ, ◌<◌, ◌⊎◌, ◌∷◌, [], List, length, Option}
 use Rattle.std.specs.Prelude.{Ok, Result, OnOk, IfErr, take}
 use Rattle.vod_base.specs.Links.{Doing, IsFrontTold, sends, told_more}
-use Rattle.interleave.specs.Pieces.{IsFirst}
+use Rattle.interleave.specs.Elements.{IsFirst}
 use Rattle.interleave.specs.Streams.{AreCut}
-use Rattle.interleave.specs.declared.pieces.Step.TheVariants.{More}
+use Rattle.interleave.specs.declared.elements.Step.TheVariants.{More}
 use Rattle.rtsp_client.specs.declared.clients.Client.{Client}
 use Rattle.rtsp_client.specs.declared.wishes.Wish.{Wish}
 use Rattle.rtsp_client.specs.declared.wishes.WatchEnd.{WatchEnd}
@@ -50,14 +50,14 @@ pub record HasEndedAt (wish : Wish) (h : History) (moment : Moment) (end : Watch
       ⊎ (GoesOn h moment × Fails wish h moment end sent out)
   pub sight_is : new_sight ≡ sight_more old_sight sent out
 
--- pieces in front of the input were taken up
+-- elements in front of the input were taken up
 pub record HasTaken (wish : Wish) (h : History) (rest : List ℕ) (new : Client)
     (old_sight new_sight : Sight) : Type 0 where
-  pub pieces : List (List ℕ)
-  pub cut : AreCut rest pieces new.input
-  pub passed : HasPassed wish h (moments_in pieces) new old_sight new_sight
+  pub elements : List (List ℕ)
+  pub cut : AreCut rest elements new.input
+  pub passed : HasPassed wish h (moments_in elements) new old_sight new_sight
 
--- pieces in front of the input were taken up, and then nothing more
+-- elements in front of the input were taken up, and then nothing more
 pub record HasStopped (wish : Wish) (h : History) (rest : List ℕ) (end : WatchEnd)
     (old_sight new_sight : Sight) : Type 0 where
   pub sent : List ℕ
@@ -92,15 +92,15 @@ EndsAtReply wish length old result old_told new_told =
     IfErr result (λ end. HasEndedAt wish h (Reply (take length old.input)) end
     (sight old_told out) (sight new_told out))
 
--- the same of pieces in front of the input
-abbrev pub TakesPieces : {A : Type 0} → Wish → Client → Client → Result A WatchEnd →
+-- the same of elements in front of the input
+abbrev pub TakesElements : {A : Type 0} → Wish → Client → Client → Result A WatchEnd →
     Sight → Sight → Type 0
-TakesPieces wish old new result old_sight new_sight = (h : History) → Keeps wish h old →
+TakesElements wish old new result old_sight new_sight = (h : History) → Keeps wish h old →
     OnOk result (HasTaken wish h old.input new old_sight new_sight)
 
-abbrev pub StopsAtPieces : {A : Type 0} → Wish → Client → Result A WatchEnd → Sight → Sight →
+abbrev pub StopsAtElements : {A : Type 0} → Wish → Client → Result A WatchEnd → Sight → Sight →
     Type 0
-StopsAtPieces wish old result old_sight new_sight = (h : History) → Keeps wish h old →
+StopsAtElements wish old result old_sight new_sight = (h : History) → Keeps wish h old →
     IfErr result (λ end. HasStopped wish h old.input end old_sight new_sight)
 
 -- an event was taken up, of which the link told before

@@ -4,8 +4,8 @@ ghost use Rattle.std.specs.Prelude.{◌≡◌, ◌+◌, ◌^◌, ◌<◌, ◌≤
 ghost use Rattle.std.specs.Prelude.{[], Option, nat_lt, take, length as list_length, IfOk, IfErr};
 ghost use Rattle.std.specs.Prelude.{IfSome, OnOk, OnErr, MatchOption};
 ghost use Rattle.vod_base.specs.Links.{IsWithin, doing_of, sends, told_more};
-ghost use Rattle.interleave.specs.Pieces.{IsFirst, IsRequestLength};
-ghost use Rattle.interleave.specs.declared.pieces.Step.TheVariants.{Block, More, Request};
+ghost use Rattle.interleave.specs.Elements.{IsFirst, IsMessageLength};
+ghost use Rattle.interleave.specs.declared.elements.Step.TheVariants.{Block, More, Message};
 ghost use Rattle.rtsp_client.specs.Answers.{block_moments, cut_bytes};
 ghost use Rattle.rtsp_client.specs.Causes.{HasCause};
 ghost use Rattle.rtsp_client.specs.Keeps.{Keeps};
@@ -15,7 +15,7 @@ ghost use Rattle.rtsp_client.specs.Standing.{GoesOnFrom, IsAwaited, IsGoing, byt
 ghost use Rattle.rtsp_client.specs.States.{has_all, new_state};
 ghost use Rattle.rtsp_client.specs.Takings.{EndsAtMoment, EndsAtReply, HasEnded, HasEndedAt};
 ghost use Rattle.rtsp_client.specs.Takings.{HasPassed, HasRound, IsUnsent, PassesMoments};
-ghost use Rattle.rtsp_client.specs.Takings.{PassesReply, Sight, StopsAtPieces, TakesPieces, sight};
+ghost use Rattle.rtsp_client.specs.Takings.{PassesReply, Sight, StopsAtElements, TakesElements, sight};
 ghost use Rattle.rtsp_client.specs.Wishes.{IsWish};
 
 use crate::frames::HEADS;
@@ -127,7 +127,7 @@ impl Client {
         }
     }
 
-    /// Takes up the whole pieces that wait.
+    /// Takes up the whole elements that wait.
     fn take_up<K: Link, O: Sink>(
         &mut self,
         wish: &Wish,
@@ -143,14 +143,14 @@ impl Client {
             HasCause end (K.faults link.old) (K.faults link.new) (O.faults out.old)
             (O.faults out.new)) }
         ensures idle { OnOk result (IsFirst self.new.input (Ok More)) }
-        ensures taken { TakesPieces wish.now self.old self.new result
+        ensures taken { TakesElements wish.now self.old self.new result
             (sight (K.told link.old) (O.written out.old))
             (sight (K.told link.new) (O.written out.new)) }
-        ensures stopped { StopsAtPieces wish.now self.old result
+        ensures stopped { StopsAtElements wish.now self.old result
             (sight (K.told link.old) (O.written out.old))
             (sight (K.told link.new) (O.written out.new)) }
     {
-        'pieces: loop {
+        'elements: loop {
             let more = self.take_next(wish, link, out)?;
             if !more {
                 return Ok(());
@@ -158,7 +158,7 @@ impl Client {
         }
     }
 
-    /// Takes up the piece in front, and answers whether one was whole.
+    /// Takes up the element in front, and answers whether one was whole.
     fn take_next<K: Link, O: Sink>(
         &mut self,
         wish: &Wish,
@@ -176,10 +176,10 @@ impl Client {
             HasCause end (K.faults link.old) (K.faults link.new) (O.faults out.old)
             (O.faults out.new)) }
         ensures idle { IfOk result (λ more. more ≡ false → IsFirst self.new.input (Ok More)) }
-        ensures taken { TakesPieces wish.now self.old self.new result
+        ensures taken { TakesElements wish.now self.old self.new result
             (sight (K.told link.old) (O.written out.old))
             (sight (K.told link.new) (O.written out.new)) }
-        ensures stopped { StopsAtPieces wish.now self.old result
+        ensures stopped { StopsAtElements wish.now self.old result
             (sight (K.told link.old) (O.written out.old))
             (sight (K.told link.new) (O.written out.new)) }
     {
@@ -195,7 +195,7 @@ impl Client {
                 self.input.drop_front(length);
                 Ok(true)
             }
-            Ok(Step::Request(length)) => {
+            Ok(Step::Message(length)) => {
                 self.take_reply(wish, length, link)?;
                 self.input.drop_front(length);
                 Ok(true)
@@ -230,8 +230,8 @@ impl Client {
         ensures ended { (h : History) → Keeps wish.now h self.old →
             let before = sight (K.told link.old) (O.written out.old) in
             let after = sight (K.told link.new) (O.written out.new) in
-            let piece = Frame (take length self.old.input) in
-            IfErr result (λ end. (channel ≡ 0) × HasEndedAt wish.now h piece end before after) }
+            let element = Frame (take length self.old.input) in
+            IfErr result (λ end. (channel ≡ 0) × HasEndedAt wish.now h element end before after) }
     {
         match channel {
             0 => self.take_frame(wish, length, link, out),
@@ -297,7 +297,7 @@ impl Client {
     /// The code of a reply that is awaited, and has its first line and its CSeq.
     fn awaited_code(&self, message: &[u8]) -> Option<u16>
         requires going { self.now.replies ≤ 2 }
-        requires whole { IsRequestLength message.now (list_length message.now) }
+        requires whole { IsMessageLength message.now (list_length message.now) }
         ensures { MatchOption result ((code : ℕ) →
             ¬ IsAwaited self.now message.now code) (IsAwaited self.now message.now) }
     {
@@ -315,7 +315,7 @@ impl Client {
         link: &mut K,
     ) -> Result<(), WatchEnd>
         requires going { self.old.replies ≤ 2 }
-        requires message { IsFirst self.old.input (Ok (Request length)) }
+        requires message { IsFirst self.old.input (Ok (Message length)) }
         ensures input { self.new.input ≡ self.old.input }
         ensures replies { OnOk result (self.new.replies ≤ 2) }
         ensures few { self.new.watching.received ≡ self.old.watching.received }
@@ -345,7 +345,7 @@ impl Client {
         link: &mut K,
     ) -> Result<(), WatchEnd>
         requires going { self.old.replies ≤ 2 }
-        requires message { IsFirst self.old.input (Ok (Request length)) }
+        requires message { IsFirst self.old.input (Ok (Message length)) }
         requires good { IsAwaited self.old (take length self.old.input) 200 }
         ensures input { self.new.input ≡ self.old.input }
         ensures replies { OnOk result (self.new.replies ≤ 2) }
@@ -375,7 +375,7 @@ impl Client {
         link: &mut K,
     ) -> Result<(), WatchEnd>
         requires first { self.old.replies ≡ 0 }
-        requires message { IsFirst self.old.input (Ok (Request length)) }
+        requires message { IsFirst self.old.input (Ok (Message length)) }
         requires good { IsAwaited self.old (take length self.old.input) 200 }
         ensures input { self.new.input ≡ self.old.input }
         ensures replies { OnOk result (self.new.replies ≡ 1) }
@@ -401,7 +401,7 @@ impl Client {
     /// Takes up the reply to PLAY in front.
     fn take_play(&mut self, wish: &Wish, length: usize) -> Result<(), WatchEnd>
         requires second { self.old.replies ≡ 1 }
-        requires message { IsFirst self.old.input (Ok (Request length)) }
+        requires message { IsFirst self.old.input (Ok (Message length)) }
         requires good { IsAwaited self.old (take length self.old.input) 200 }
         ensures input { self.new.input ≡ self.old.input }
         ensures replies { OnOk result (self.new.replies ≡ 2) }

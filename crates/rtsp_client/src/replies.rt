@@ -3,7 +3,7 @@
 ghost use Rattle.std.specs.Prelude.{◌≡◌, ◌^◌, ◌<◌, ◌≤◌, ◌==◌, ℕ, length, option_map, IfSome};
 ghost use Rattle.std.specs.Prelude.{MatchOption, position};
 ghost use Rattle.std.specs.List.{position_or_len};
-ghost use Rattle.interleave.specs.Pieces.{IsRequestLength};
+ghost use Rattle.interleave.specs.Elements.{IsMessageLength};
 ghost use Rattle.rtsp_client.specs.Replies.{IsAnswer, has_point, milliseconds, number_in};
 ghost use Rattle.rtsp_client.specs.Replies.{play_range, play_start, range_end, session_id};
 ghost use Rattle.rtsp_client.specs.Replies.{session_in, time_in};
@@ -17,7 +17,7 @@ use vod_base::{read_number, trim};
 /// number.
 #[tactic(auto, using(crate::proofs::Answering::answer_is))]
 pub(crate) fn reply_code(message: &[u8], number: u64) -> Option<u16>
-    requires { IsRequestLength message.now (length message.now) }
+    requires { IsMessageLength message.now (length message.now) }
     ensures { MatchOption result ((code : ℕ) →
         ¬ IsAnswer message.now number code) (IsAnswer message.now number) }
 {

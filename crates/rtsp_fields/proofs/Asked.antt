@@ -6,7 +6,7 @@ use Rattle.std.proofs.lemmas.List.{take_at, take-map, take-append-drop, length-a
 use Rattle.std.proofs.lemmas.List.Folds.{list_all_at}
 use Rattle.rtsp_text.specs.Grammar.{is_url_byte, IsRtspUrl, IsUrl}
 use Rattle.rtsp_text.proofs.Words.{rtsp_url}
-use Rattle.rtsp_fields.specs.Pieces.{lower}
+use Rattle.rtsp_fields.specs.Parts.{lower}
 use Rattle.rtsp_fields.specs.Urls.{IsAbsoluteUrl}
 
 -- an authority has no `/`

@@ -8,7 +8,7 @@ use Rattle.std.proofs.lemmas.Fmt.{digits_decimal, digits_value-decimal, decimal_
 use Rattle.std.proofs.lemmas.List.{append_assoc, take_at, drop_at, take_all, length-append, get_or_append_left, get_or-append-add}
 use Rattle.std.proofs.lemmas.List.Folds.{list_all_at, list_all-append}
 use Rattle.vod_base.proofs.Digits.{decimal_numerals}
-use Rattle.rtsp_fields.specs.Pieces.{IsEnd}
+use Rattle.rtsp_fields.specs.Parts.{IsEnd}
 use Rattle.rtsp_fields.specs.Times.{IsClock, IsDigits, IsTime}
 
 -- a digit is neither `:` nor `.`

@@ -1,7 +1,7 @@
 -- Clock times and fractions of a second, at the places where they are cut.
 use Rattle.std.proofs.Common.{◌≡◌, ℕ, ◌+◌, ◌*◌, ◌^◌, ◌<◌, ◌≤◌, ◌⊎◌, List, length, take, refl, sym, ◌∙◌, subst, arith, inl, inr, slice_range, MatchOption, Option, Some, None}
 use Rattle.std.proofs.lemmas.Bool.{cases_order}
-use Rattle.rtsp_fields.specs.Pieces.{IsEnd}
+use Rattle.rtsp_fields.specs.Parts.{IsEnd}
 use Rattle.rtsp_fields.specs.Times.{IsDigits, IsClock, AreSeconds, IsFraction, IsTime}
 use Rattle.rtsp_fields.proofs.Places.{end_once}
 
@@ -40,7 +40,7 @@ clock_at {text} {first} {second} {seconds} e f clock =
       small_seconds = clock.small_seconds;
     }))
 
--- the piece ends before the text does
+-- the part ends before the text does
 pub inside_text : (text : List ℕ) (from to : ℕ) → IsEnd 58 text from to → (to ≡ length text → ⊥) → to < length text
 inside_text text from to e other =
     elim (cases_order to (length text)) [

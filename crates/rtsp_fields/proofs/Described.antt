@@ -5,7 +5,7 @@ use Rattle.vod_base.specs.Names.{is_good_name}
 use Rattle.rtsp_text.proofs.OneLines.{one_line-append, one_line-name}
 use Rattle.rtsp_fields.specs.Descriptions.{description_text, seconds_text}
 use Rattle.rtsp_fields.specs.Laws.{IsDescription, whole_line}
-use Rattle.rtsp_fields.specs.Pieces.{IsEnd, HasNone}
+use Rattle.rtsp_fields.specs.Parts.{IsEnd, HasNone}
 use Rattle.rtsp_fields.specs.Ranges.{IsSpan}
 use Rattle.rtsp_fields.specs.Times.{IsTime}
 use Rattle.rtsp_fields.specs.declared.ranges.Origin.TheVariants.{At}

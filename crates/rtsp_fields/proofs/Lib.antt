@@ -2,7 +2,7 @@ pub mod Asked
 pub mod Clocks
 pub mod Digits
 pub mod Once
-pub mod Parts
+pub mod PartLemmas
 pub mod Paths
 pub mod Places
 pub mod Words

@@ -7,7 +7,7 @@ use Rattle.std.proofs.lemmas.Bool.{and_parts}
 use Rattle.std.proofs.lemmas.Str.Parse.{not_in_digits}
 use Rattle.vod_base.specs.Blanks.{without_blanks}
 use Rattle.vod_base.specs.Numbers.{is_decimal}
-use Rattle.rtsp_fields.specs.Pieces.{IsEnd}
+use Rattle.rtsp_fields.specs.Parts.{IsEnd}
 use Rattle.rtsp_fields.specs.Times.{IsDigits, IsClock, AreSeconds, IsFraction, IsTime}
 use Rattle.rtsp_fields.specs.Ranges.{IsOrigin, IsLimit, IsSpan}
 use Rattle.rtsp_fields.specs.Transports.{IsPair, IsSingle, AreChannels, NamesChannels, HasChannels, IsTaken, CanBeTaken, IsTransport, after_name}
@@ -21,7 +21,7 @@ use Rattle.std.proofs.Math.Nat.{min-le_left}
 use Rattle.vod_base.proofs.Digits.{decimal_numerals}
 use Rattle.rtsp_text.proofs.Numbers.{number_read}
 use Rattle.rtsp_fields.proofs.Places.{end_once, first_once}
-use Rattle.rtsp_fields.proofs.Parts.{IsPairAt, pair_at, within_once}
+use Rattle.rtsp_fields.proofs.PartLemmas.{IsPairAt, pair_at, within_once}
 use Rattle.rtsp_fields.proofs.Clocks.{value_once}
 
 -- a decimal text has no byte of another kind
@@ -148,19 +148,19 @@ channels_once text a b (inr x) (inr y) =
 
 has_once : (text : List ℕ) (a b : Channels) → HasChannels text a → HasChannels text b → a ≡ b
 has_once text a b (inl x) (inl y) =
-    let same = first_once NamesChannels (record { piece = x.piece; holds = x.names; first = x.first })
-    (record { piece = y.piece; holds = y.names; first = y.first }) in
+    let same = first_once NamesChannels (record { part = x.part; holds = x.names; first = x.first })
+    (record { part = y.part; holds = y.names; first = y.first }) in
     let P : ℕ → Type 0 = λ n. AreChannels (after_name (without_blanks (slice_range text n x.to))) a in
     let Q : ℕ → Type 0 = λ n. AreChannels (after_name (without_blanks (slice_range text y.from n))) a in
     channels_once (after_name (without_blanks (slice_range text y.from y.to))) a b (subst Q same.1 (subst P same.0 x.are)) y.are
-has_once text a b (inl x) (inr y) = absurd (y.none x.from x.to x.piece x.names)
-has_once text a b (inr x) (inl y) = absurd (x.none y.from y.to y.piece y.names)
+has_once text a b (inl x) (inr y) = absurd (y.none x.from x.to x.part x.names)
+has_once text a b (inr x) (inl y) = absurd (x.none y.from y.to y.part y.names)
 has_once text a b (inr x) (inr y) = same_channels a b (x.media ∙ sym y.media) (x.control ∙ sym y.control)
 
 pub transport_once : (value : List ℕ) (a b : Channels) → IsTransport value a → IsTransport value b → a ≡ b
 transport_once value a b x y =
-    let same = first_once CanBeTaken (record { piece = x.piece; holds = (a, x.taken); first = x.first })
-    (record { piece = y.piece; holds = (b, y.taken); first = y.first }) in
+    let same = first_once CanBeTaken (record { part = x.part; holds = (a, x.taken); first = x.first })
+    (record { part = y.part; holds = (b, y.taken); first = y.first }) in
     let P : ℕ → Type 0 = λ n. IsTaken (slice_range value n x.to) a in
     let Q : ℕ → Type 0 = λ n. IsTaken (slice_range value y.from n) a in
     has_once (slice_range value y.from y.to) a b (subst Q same.1 (subst P same.0 x.taken)).has y.taken.has

@@ -6,7 +6,7 @@ use Rattle.std.proofs.lemmas.List.{take_at, drop_at, take_all, append-nil, lengt
 use Rattle.std.proofs.lemmas.List.Folds.{list_all_at}
 use Rattle.vod_base.specs.Names.{is_good_name, is_name_byte}
 use Rattle.rtsp_fields.specs.Laws.{IsFilmPath}
-use Rattle.rtsp_fields.specs.Pieces.{IsEnd}
+use Rattle.rtsp_fields.specs.Parts.{IsEnd}
 use Rattle.rtsp_fields.specs.Urls.{IsTail, NamesFilm}
 
 -- a good name has no `/`

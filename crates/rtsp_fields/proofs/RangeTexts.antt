@@ -6,7 +6,7 @@ use Rattle.std.proofs.lemmas.List.{append_assoc, take_at, drop_at, take_all, len
 use Rattle.vod_base.proofs.Digits.{decimal_numerals}
 use Rattle.rtsp_text.proofs.Inside.{all-append}
 use Rattle.rtsp_fields.specs.Descriptions.{seconds_text}
-use Rattle.rtsp_fields.specs.Pieces.{HasNone}
+use Rattle.rtsp_fields.specs.Parts.{HasNone}
 use Rattle.rtsp_fields.specs.Ranges.{IsLimit, IsOrigin, IsSpan}
 use Rattle.rtsp_fields.specs.declared.ranges.Span.{Span}
 use Rattle.rtsp_fields.specs.declared.ranges.Origin.TheVariants.{Now, At}

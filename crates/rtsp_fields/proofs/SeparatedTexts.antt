@@ -1,4 +1,4 @@
--- A text that a separator cuts: its first piece, and those of the rest.
+-- A text that a separator cuts: its first part, and those of the rest.
 use Rattle.std.proofs.Common.{◌≡◌, ℕ, suc, ◌+◌, ◌-◌, ◌<◌, ◌≤◌, ◌⊎◌, ◌==◌, Bool, true, false, not}
 use Rattle.std.proofs.Common.{List, [], ◌∷◌, ◌++◌, length, take, drop, get_or, slice_range, refl, sym, ap, subst, ◌∙◌, arith, inl, inr}
 use Rattle.std.proofs.lemmas.Bool.{cases_lt}
@@ -7,7 +7,7 @@ use Rattle.std.specs.Char.{is_ascii_digit}
 use Rattle.std.proofs.lemmas.Bool.{and_parts, and_from}
 use Rattle.std.proofs.lemmas.List.{take_at, take_all, length-append, get_or_append_left, get_or-append-add}
 use Rattle.std.proofs.lemmas.List.Folds.{list_all_at}
-use Rattle.rtsp_fields.specs.Pieces.{HasNone, IsStart, IsEnd, IsPiece, NoPiece, NoneBefore}
+use Rattle.rtsp_fields.specs.Parts.{HasNone, IsStart, IsEnd, IsPart, NoPart, NoneBefore}
 
 unfoldable pub text_of : ℕ → List ℕ → List ℕ → List ℕ
 text_of c a rest = a ++ c ∷ rest
@@ -31,10 +31,10 @@ pub long_of : (c : ℕ) (a rest : List ℕ) → length (text_of c a rest) ≡ le
 unfolding text_of
 long_of c a rest = length-append a (c ∷ rest) ∙ omega arith
 
--- a piece of the rest is one of the text
-pub piece_later : (c : ℕ) (a rest : List ℕ) (k end : ℕ) → IsPiece c rest k end
-    → IsPiece c (text_of c a rest) (length a + 1 + k) (length a + 1 + end)
-piece_later c a rest k end p = record {
+-- a part of the rest is one of the text
+pub part_later : (c : ℕ) (a rest : List ℕ) (k end : ℕ) → IsPart c rest k end
+    → IsPart c (text_of c a rest) (length a + 1 + k) (length a + 1 + end)
+part_later c a rest k end p = record {
   start = inr (omega arith, start p.start);
   end = record {
     after = omega (arith, p.end.after);
@@ -55,9 +55,9 @@ piece_later c a rest k end p = record {
         ap (λ n. get_or (text_of c a rest) n 0) (let s : length a + 1 + k - 1 ≡ length a + 1 + (k - 1) = omega (arith, e.0) in s)
         ∙ later_of c a rest (k - 1) ∙ e.1
 
--- the first piece
-pub piece_first : (c : ℕ) (a rest : List ℕ) → HasNone c a 0 (length a) → IsPiece c (text_of c a rest) 0 (length a)
-piece_first c a rest none = record {
+-- the first part
+pub part_first : (c : ℕ) (a rest : List ℕ) → HasNone c a 0 (length a) → IsPart c (text_of c a rest) 0 (length a)
+part_first c a rest none = record {
   start = inl refl;
   end = record {
     after = omega arith;
@@ -67,20 +67,20 @@ piece_first c a rest none = record {
   };
 }
 
--- the one piece of a text without the separator
-pub piece_whole : (c : ℕ) (a : List ℕ) → HasNone c a 0 (length a) → IsPiece c a 0 (length a)
-piece_whole c a none = record {
+-- the one part of a text without the separator
+pub part_whole : (c : ℕ) (a : List ℕ) → HasNone c a 0 (length a) → IsPart c a 0 (length a)
+part_whole c a none = record {
   start = inl refl;
   end = record { after = omega arith; within = omega arith; none = none; ends = λ inside. absurd (omega (arith, inside)) };
 }
 
--- each piece is the first one or one of the rest
+-- each part is the first one or one of the rest
 record Later (c : ℕ) (a rest : List ℕ) (k end : ℕ) : Type 0 where
   from : ℕ
   to : ℕ
   from_is : k ≡ length a + 1 + from
   to_is : end ≡ length a + 1 + to
-  piece : IsPiece c rest from to
+  part : IsPart c rest from to
 
 end_first : (c : ℕ) (a rest : List ℕ) (end : ℕ) → HasNone c a 0 (length a) → IsEnd c (text_of c a rest) 0 end → end ≡ length a
 end_first c a rest end none is =
@@ -95,9 +95,9 @@ end_first c a rest end none is =
       | inr least ↦ omega (arith, least, most)
     ]
 
-piece_cases : {c : ℕ} {a rest : List ℕ} {k end : ℕ} → HasNone c a 0 (length a) → IsPiece c (text_of c a rest) k end →
+part_cases : {c : ℕ} {a rest : List ℕ} {k end : ℕ} → HasNone c a 0 (length a) → IsPart c (text_of c a rest) k end →
     ((k ≡ 0) × (end ≡ length a)) ⊎ Later c a rest k end
-piece_cases {c} {a} {rest} {k} {end} none p = go p.start
+part_cases {c} {a} {rest} {k} {end} none p = go p.start
   where
     go : IsStart c (text_of c a rest) k → ((k ≡ 0) × (end ≡ length a)) ⊎ Later c a rest k end
     go (inl e) = inl (e, end_first c a rest end none (subst (λ (n : ℕ). IsEnd c (text_of c a rest) n end) e p.end))
@@ -113,7 +113,7 @@ piece_cases {c} {a} {rest} {k} {end} none p = go p.start
                 to = end - L;
                 from_is = sym from;
                 to_is = sym to;
-                piece = record {
+                part = record {
                   start = start from e.1;
                   end = record {
                     after = omega (arith, p.end.after);
@@ -159,12 +159,12 @@ slice_later c a rest k end order =
         (let e : length (x ∷ front) + 1 + k ≡ suc (length front + 1 + k) = omega arith in e)
         ∙ dropped front rest k
 
--- no piece is such a text
+-- no part is such a text
 pub none_more : {c : ℕ} {a rest : List ℕ} (P : List ℕ → Type 0) → HasNone c a 0 (length a) → ¬ P a
-    → NoPiece c rest P → NoPiece c (text_of c a rest) P
-none_more {c} {a} {rest} P none first more = λ k end p. go k end p (piece_cases none p)
+    → NoPart c rest P → NoPart c (text_of c a rest) P
+none_more {c} {a} {rest} P none first more = λ k end p. go k end p (part_cases none p)
   where
-    go : (k end : ℕ) → IsPiece c (text_of c a rest) k end → ((k ≡ 0) × (end ≡ length a)) ⊎ Later c a rest k end
+    go : (k end : ℕ) → IsPart c (text_of c a rest) k end → ((k ≡ 0) × (end ≡ length a)) ⊎ Later c a rest k end
         → ¬ P (slice_range (text_of c a rest) k end)
     go k end p (inl e) = λ is.
         let S : ℕ → Type 0 = λ n. P (slice_range (text_of c a rest) n end) in
@@ -173,12 +173,12 @@ none_more {c} {a} {rest} P none first more = λ k end p. go k end p (piece_cases
     go k end p (inr l) = λ is.
         let S : ℕ → Type 0 = λ n. P (slice_range (text_of c a rest) n end) in
         let E : ℕ → Type 0 = λ n. P (slice_range (text_of c a rest) (length a + 1 + l.from) n) in
-        more l.from l.to l.piece
-        (subst P (slice_later c a rest l.from l.to l.piece.end.after) (subst E l.to_is (subst S l.from_is is)))
+        more l.from l.to l.part
+        (subst P (slice_later c a rest l.from l.to l.part.end.after) (subst E l.to_is (subst S l.from_is is)))
 
--- the piece of a text without the separator is the whole text
-pub piece_is_whole : (c : ℕ) (a : List ℕ) (k end : ℕ) → HasNone c a 0 (length a) → IsPiece c a k end → (k ≡ 0) × (end ≡ length a)
-piece_is_whole c a k end none p = go p.start
+-- the part of a text without the separator is the whole text
+pub part_is_whole : (c : ℕ) (a : List ℕ) (k end : ℕ) → HasNone c a 0 (length a) → IsPart c a k end → (k ≡ 0) × (end ≡ length a)
+part_is_whole c a k end none p = go p.start
   where
     go : IsStart c a k → (k ≡ 0) × (end ≡ length a)
     go (inr e) = absurd (none (k - 1) (omega arith) (omega (arith, e.0, p.end.after, p.end.within)) e.1)
@@ -190,17 +190,17 @@ piece_is_whole c a k end none p = go p.start
       ],
     )
 
-pub whole_slice : (c : ℕ) (a : List ℕ) (k end : ℕ) → HasNone c a 0 (length a) → IsPiece c a k end → slice_range a k end ≡ a
+pub whole_slice : (c : ℕ) (a : List ℕ) (k end : ℕ) → HasNone c a 0 (length a) → IsPart c a k end → slice_range a k end ≡ a
 whole_slice c a k end none p =
-    let is = piece_is_whole c a k end none p in
+    let is = part_is_whole c a k end none p in
     ap (λ n. slice_range a n end) is.0 ∙ ap (λ n. slice_range a 0 n) is.1 ∙ take_all (length a - 0) a (omega arith)
 
-pub none_whole : (c : ℕ) (a : List ℕ) (P : List ℕ → Type 0) → HasNone c a 0 (length a) → ¬ P a → NoPiece c a P
+pub none_whole : (c : ℕ) (a : List ℕ) (P : List ℕ → Type 0) → HasNone c a 0 (length a) → ¬ P a → NoPart c a P
 none_whole c a P none other = λ k end p is. other (subst P (whole_slice c a k end none p) is)
 
 pub none_before : {c : ℕ} {a rest : List ℕ} {at : ℕ} (P : List ℕ → Type 0) → HasNone c a 0 (length a) → ¬ P a
     → NoneBefore c rest at P → NoneBefore c (text_of c a rest) (length a + 1 + at) P
-none_before {c} {a} {rest} {at} P none first more = λ k end below p. go k end below (piece_cases none p)
+none_before {c} {a} {rest} {at} P none first more = λ k end below p. go k end below (part_cases none p)
   where
     go : (k end : ℕ) → k < length a + 1 + at → ((k ≡ 0) × (end ≡ length a)) ⊎ Later c a rest k end
         → ¬ P (slice_range (text_of c a rest) k end)
@@ -211,8 +211,8 @@ none_before {c} {a} {rest} {at} P none first more = λ k end below p. go k end b
     go k end below (inr l) = λ is.
         let S : ℕ → Type 0 = λ n. P (slice_range (text_of c a rest) n end) in
         let E : ℕ → Type 0 = λ n. P (slice_range (text_of c a rest) (length a + 1 + l.from) n) in
-        more l.from l.to (omega (arith, below, l.from_is)) l.piece
-        (subst P (slice_later c a rest l.from l.to l.piece.end.after) (subst E l.to_is (subst S l.from_is is)))
+        more l.from l.to (omega (arith, below, l.from_is)) l.part
+        (subst P (slice_later c a rest l.from l.to l.part.end.after) (subst E l.to_is (subst S l.from_is is)))
 
 -- no byte is the separator
 unfoldable pub other_than : ℕ → ℕ → Bool

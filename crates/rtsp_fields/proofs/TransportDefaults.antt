@@ -6,10 +6,10 @@ use Rattle.std.proofs.lemmas.List.{take_all, append-nil}
 use Rattle.std.proofs.lemmas.List.Elements.{All-head, All-tail}
 use Rattle.std.proofs.lemmas.List.Folds.{list_all-append}
 use Rattle.rtsp_fields.specs.Laws.{IsOtherParameter}
-use Rattle.rtsp_fields.specs.Pieces.{HasNone, IsPiece, NoPiece}
+use Rattle.rtsp_fields.specs.Parts.{HasNone, IsPart, NoPart}
 use Rattle.rtsp_fields.specs.Transports.{IsOther, NamesChannels, IsTaken, IsTransport, word}
 use Rattle.rtsp_fields.specs.declared.transports.Channels.{Channels}
-use Rattle.rtsp_fields.proofs.SeparatedTexts.{text_of, other_than, none_from, piece_first, piece_whole, none_more, none_whole, slice_first}
+use Rattle.rtsp_fields.proofs.SeparatedTexts.{text_of, other_than, none_from, part_first, part_whole, none_more, none_whole, slice_first}
 use Rattle.rtsp_fields.proofs.TransportTexts.{first_letter, names_none, protocol_none}
 
 -- a part and those after it
@@ -41,7 +41,7 @@ record IsOnePart (P : List ℕ → Type 0) (part : List ℕ) : Type 0 where
 -- none of the parts is such a text
 none_of : {part : List ℕ} (P : List ℕ → Type 0) → ((part : List ℕ) → IsOtherParameter part → ¬ P part) →
     (parts : List (List ℕ)) → IsOnePart P part →
-    All IsOtherParameter parts → NoPiece 59 (joined part parts) P
+    All IsOtherParameter parts → NoPart 59 (joined part parts) P
 unfolding joined
 none_of {part} P is_other [] one all = none_whole 59 part P one.no_semicolon one.isnt
 none_of P is_other (next ∷ more) one all =
@@ -51,10 +51,10 @@ none_of P is_other (next ∷ more) one all =
     (All-tail IsOtherParameter next more all))
 
 first_of : (part : List ℕ) (parts : List (List ℕ)) → HasNone 59 part 0 (length part)
-    → IsPiece 59 (joined part parts) 0 (length part)
+    → IsPart 59 (joined part parts) 0 (length part)
 unfolding joined
-first_of part [] none = piece_whole 59 part none
-first_of part (next ∷ more) none = piece_first 59 part (joined next more) none
+first_of part [] none = part_whole 59 part none
+first_of part (next ∷ more) none = part_first 59 part (joined next more) none
 
 front_of : (part : List ℕ) (parts : List (List ℕ)) → slice_range (joined part parts) 0 (length part) ≡ part
 unfolding joined
@@ -104,7 +104,7 @@ default_read parts all =
     subst (λ (t : List ℕ). IsTransport t default) (joined_is protocol parts) (record {
       from = 0;
       to = length text;
-      piece = piece_whole 44 text (none_from 44 text (no_comma protocol parts comma_free all));
+      part = part_whole 44 text (none_from 44 text (no_comma protocol parts comma_free all));
       taken = subst (λ (t : List ℕ). IsTaken t default) (sym whole) (taken parts all);
       first = λ k end below p. absurd (omega (arith, below));
     })

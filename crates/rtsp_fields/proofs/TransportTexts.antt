@@ -12,11 +12,11 @@ use Rattle.vod_base.specs.Blanks.{is_blank, without_front_blanks, without_blanks
 use Rattle.vod_base.proofs.Written.{written_read}
 use Rattle.vod_base.proofs.Digits.{is_digit_at}
 use Rattle.vod_base.proofs.Digits.{decimal_numerals}
-use Rattle.rtsp_fields.specs.Pieces.{HasNone, Begins, lower}
+use Rattle.rtsp_fields.specs.Parts.{HasNone, Begins, lower}
 use Rattle.rtsp_fields.specs.Transports.{IsPair, AreChannels, IsOther, NamesChannels, AreNamed, IsTaken, IsTransport, word, after_name}
 use Rattle.rtsp_fields.specs.Values.{WritesNumber}
 use Rattle.rtsp_fields.specs.declared.transports.Channels.{Channels}
-use Rattle.rtsp_fields.proofs.SeparatedTexts.{text_of, long_of, piece_later, piece_first, piece_whole, slice_first, slice_later, none_more, none_whole, none_before, other_than, none_from, digits_other}
+use Rattle.rtsp_fields.proofs.SeparatedTexts.{text_of, long_of, part_later, part_first, part_whole, slice_first, slice_later, none_more, none_whole, none_before, other_than, none_from, digits_other}
 
 -- ---- a text that neither begins nor ends with a blank
 
@@ -142,8 +142,8 @@ unfolding value rest_of
 are_named numbers channels w =
     let I = named numbers in
     let U = rest_of numbers in
-    let last = piece_whole 59 I (named_none numbers channels w) in
-    let middle = piece_later 59 (codes "unicast") I 0 (length I) last in
+    let last = part_whole 59 I (named_none numbers channels w) in
+    let middle = part_later 59 (codes "unicast") I 0 (length I) last in
     let to = 7 + 1 + length I in
     let is : slice_range (value numbers) (11 + 1 + (7 + 1 + 0)) (11 + 1 + to) ≡ I =
     slice_later 59 (codes "RTP/AVP/TCP") U (7 + 1 + 0) to (omega arith)
@@ -152,7 +152,7 @@ are_named numbers channels w =
     record {
       from = 11 + 1 + (7 + 1 + 0);
       to = 11 + 1 + to;
-      piece = piece_later 59 (codes "RTP/AVP/TCP") U (7 + 1 + 0) to middle;
+      part = part_later 59 (codes "RTP/AVP/TCP") U (7 + 1 + 0) to middle;
       names = subst NamesChannels (sym is) (named_names numbers channels w);
       first = none_before NamesChannels protocol_none (names_none (codes "RTP/AVP/TCP") 114 refl (omega arith))
           (none_before {c = 59} {a = codes "unicast"} {rest = I} {at = 0} NamesChannels unicast_none
@@ -166,7 +166,7 @@ taken : (numbers : List ℕ) (channels : Channels) → AreWritten numbers channe
 unfolding value rest_of
 taken numbers channels w = record {
   end = 11;
-  first = piece_first 59 (codes "RTP/AVP/TCP") (rest_of numbers) protocol_none;
+  first = part_first 59 (codes "RTP/AVP/TCP") (rest_of numbers) protocol_none;
   protocol = ap word (slice_first 59 (codes "RTP/AVP/TCP") (rest_of numbers));
   plain = none_more IsOther protocol_none (first_letter (codes "RTP/AVP/TCP") 114 refl (omega arith))
       (none_more IsOther unicast_none (first_letter (codes "unicast") 117 refl (omega arith))
@@ -182,7 +182,7 @@ alone text channels none is =
     record {
       from = 0;
       to = length text;
-      piece = piece_whole 44 text none;
+      part = part_whole 44 text none;
       taken = subst (λ (t : List ℕ). IsTaken t channels) (sym whole) is;
       first = λ k end below p. absurd (omega (arith, below));
     }
@@ -241,7 +241,7 @@ pair m n small fits differ =
     let text = text_of 45 (decimal m) (decimal n) in
     let dash = length (decimal m) in
     let none : HasNone 45 (decimal m) 0 dash = none_from 45 (decimal m) (number_free 45 m refl small) in
-    let piece = piece_first 45 (decimal m) (decimal n) none in
+    let part = part_first 45 (decimal m) (decimal n) none in
     let long = long_of 45 (decimal m) (decimal n) in
     let first : take dash text ≡ decimal m =
     ap (λ k. take k text) (let e : dash ≡ dash - 0 = omega arith in e) ∙ slice_first 45 (decimal m) (decimal n) in
@@ -252,7 +252,7 @@ pair m n small fits differ =
     ∙ take_all (length (decimal n) - 0) (decimal n) (omega arith) in
     record {
       dash = dash;
-      is_dash = piece.end;
+      is_dash = part.end;
       inside = omega (arith, long);
       media = subst (λ (t : List ℕ). WritesNumber 0 255 t m) (sym first) (within 255 m small (omega arith));
       control = subst (λ (t : List ℕ). WritesNumber 0 255 t n) (sym last) (within 255 n fits (omega arith));

@@ -2,7 +2,7 @@
 use Rattle.std.proofs.Common.{◌≡◌, ℕ, ◌↔◌, List, length, take, sym, ◌∙◌}
 use Rattle.std.proofs.lemmas.List.{take-map}
 use Rattle.std.specs.Char.{to_ascii_lowercase}
-use Rattle.rtsp_fields.specs.Pieces.{Begins, lower}
+use Rattle.rtsp_fields.specs.Parts.{Begins, lower}
 
 -- a test of the first bytes, in any case, is one of the text in lower case
 pub begins_by_test : (start text : List ℕ) (Holds : Type 0) → lower start ≡ start →

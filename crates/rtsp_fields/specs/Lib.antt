@@ -1,4 +1,4 @@
-pub mod Pieces
+pub mod Parts
 pub mod Urls
 pub mod Transports
 pub mod Times

@@ -2,7 +2,7 @@
 -- `npt=FROM-TO`.
 use Rattle.std.specs.Prelude.{◌≡◌, ℕ, ◌+◌, ◌<◌, List, [], length, codes, slice_range, Option, Some}
 use Rattle.std.specs.Prelude.{None}
-use Rattle.rtsp_fields.specs.Pieces.{IsEnd, Begins, lower}
+use Rattle.rtsp_fields.specs.Parts.{IsEnd, Begins, lower}
 use Rattle.rtsp_fields.specs.Times.{IsTime}
 use Rattle.rtsp_fields.specs.declared.ranges.Origin.{Origin}
 use Rattle.rtsp_fields.specs.declared.ranges.Origin.TheVariants.{Now, At}

@@ -5,7 +5,7 @@ use Rattle.std.specs.List.{list_all}
 use Rattle.std.specs.Char.{is_ascii_digit}
 use Rattle.std.specs.Str.Parse.{digits_value}
 use Rattle.vod_base.specs.Numbers.{is_decimal}
-use Rattle.rtsp_fields.specs.Pieces.{IsEnd}
+use Rattle.rtsp_fields.specs.Parts.{IsEnd}
 
 -- one to `most` digits, which write this number
 pub record IsDigits (most : ℕ) (text : List ℕ) (number : ℕ) : Type 0 where

@@ -3,7 +3,7 @@
 -- blanks around them or not.
 use Rattle.std.specs.Prelude.{◌≡◌, ◌≢◌, ℕ, ◌+◌, ◌<◌, ◌⊎◌, List, length, take, codes, slice_range}
 use Rattle.vod_base.specs.Blanks.{without_blanks}
-use Rattle.rtsp_fields.specs.Pieces.{IsEnd, IsPiece, NoneBefore, NoPiece, Begins, lower}
+use Rattle.rtsp_fields.specs.Parts.{IsEnd, IsPart, NoneBefore, NoPart, Begins, lower}
 use Rattle.rtsp_fields.specs.Values.{WritesNumber}
 use Rattle.rtsp_fields.specs.declared.transports.Channels.{Channels}
 
@@ -48,14 +48,14 @@ after_name part = slice_range part 12 (length part)
 pub record AreNamed (text : List ℕ) (channels : Channels) : Type 0 where
   pub from : ℕ
   pub to : ℕ
-  pub piece : IsPiece 59 text from to
+  pub part : IsPart 59 text from to
   pub names : NamesChannels (slice_range text from to)
   pub first : NoneBefore 59 text from NamesChannels
   pub are : AreChannels (after_name (without_blanks (slice_range text from to))) channels
 
 -- no part names channels, which are then 0 and 1
 pub record AreDefault (text : List ℕ) (channels : Channels) : Type 0 where
-  pub none : NoPiece 59 text NamesChannels
+  pub none : NoPart 59 text NamesChannels
   pub media : channels.media ≡ 0
   pub control : channels.control ≡ 1
 
@@ -66,9 +66,9 @@ HasChannels text channels = AreNamed text channels ⊎ AreDefault text channels
 -- an alternative that can be taken, and its channels
 pub record IsTaken (text : List ℕ) (channels : Channels) : Type 0 where
   pub end : ℕ
-  pub first : IsPiece 59 text 0 end
+  pub first : IsPart 59 text 0 end
   pub protocol : word (take end text) ≡ codes "rtp/avp/tcp"
-  pub plain : NoPiece 59 text IsOther
+  pub plain : NoPart 59 text IsOther
   pub has : HasChannels text channels
 
 abbrev pub CanBeTaken : List ℕ → Type 0
@@ -78,6 +78,6 @@ CanBeTaken text = (channels : Channels) × IsTaken text channels
 pub record IsTransport (value : List ℕ) (channels : Channels) : Type 0 where
   pub from : ℕ
   pub to : ℕ
-  pub piece : IsPiece 44 value from to
+  pub part : IsPart 44 value from to
   pub taken : IsTaken (slice_range value from to) channels
   pub first : NoneBefore 44 value from CanBeTaken

@@ -4,7 +4,7 @@ use Rattle.std.specs.Prelude.{slice_range, Option, MatchOption}
 use Rattle.std.specs.List.{list_all}
 use Rattle.vod_base.specs.Names.{is_good_name}
 use Rattle.rtsp_text.specs.Grammar.{is_url_byte}
-use Rattle.rtsp_fields.specs.Pieces.{IsEnd, Begins, lower}
+use Rattle.rtsp_fields.specs.Parts.{IsEnd, Begins, lower}
 
 -- `rtsp://` in any case, an authority of one or more bytes without `/`, and nothing or a path that
 -- begins with `/`, all of them printable bytes other than the space; the authority ends at `path`

@@ -4,7 +4,7 @@
 
 mod descriptions;
 mod laws;
-mod pieces;
+mod parts;
 mod ranges;
 mod seconds;
 mod sessions;

@@ -5,7 +5,7 @@ ghost use Rattle.rtsp_fields.specs.declared.ranges.Origin.{Origin};
 ghost use Rattle.rtsp_fields.specs.declared.ranges.Span.{Span};
 ghost use Rattle.rtsp_fields.specs.Ranges.{IsLimit, IsOrigin, IsSpan};
 
-use crate::pieces::{piece_end, starts_with};
+use crate::parts::{part_end, starts_with};
 use crate::times::read_time;
 
 /// What a range in normal play time begins with.
@@ -42,7 +42,7 @@ pub fn read_range(value: &[u8]) -> Option<Span>
     if !starts_with(value, UNIT) {
         return None;
     }
-    let dash = piece_end(value, UNIT.len(), b'-');
+    let dash = part_end(value, UNIT.len(), b'-');
     if dash == value.len() {
         return None;
     }

@@ -6,7 +6,7 @@ ghost use Rattle.std.specs.Int.{w64, to_be_bytes};
 ghost use Rattle.rtsp_text.specs.Lines.{is_one_line};
 ghost use Rattle.rtsp_fields.specs.Sessions.{IsSession};
 
-use crate::pieces::piece_end;
+use crate::parts::part_end;
 use vod_base::trim;
 
 /// Whether the value of a Session header (RFC 2326 section 12.37) names this session: its part
@@ -14,7 +14,7 @@ use vod_base::trim;
 pub fn session_matches(value: &[u8], id: &[u8; 16]) -> bool
     ensures { IsTrue result ↔ IsSession value.now id.now }
 {
-    let end = piece_end(value, 0, b';');
+    let end = part_end(value, 0, b';');
     trim(&value[..end]).eq_ignore_ascii_case(id)
 }
 

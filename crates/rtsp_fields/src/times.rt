@@ -3,14 +3,14 @@
 ghost use Rattle.std.specs.Prelude.{◌≡◌, ℕ, ◌^◌, ◌<◌, ◌≤◌, ◌↔◌, IsTrue, true, MatchOption};
 ghost use Rattle.rtsp_fields.specs.Times.{AreSeconds, IsClock, IsDigits, IsFraction, IsTime};
 
-use crate::pieces::piece_end;
+use crate::parts::part_end;
 use vod_base::{are_digits, read_number};
 
 /// A time in nanoseconds.
 pub(crate) fn read_time(text: &[u8]) -> Option<u128>
     ensures { MatchOption result ((n : ℕ) → ¬ IsTime text.now n) (IsTime text.now) }
 {
-    let point = piece_end(text, 0, b'.');
+    let point = part_end(text, 0, b'.');
     let seconds = read_seconds(&text[..point])?;
     let fraction = if point < text.len() {
         read_fraction(&text[point + 1..])?
@@ -37,11 +37,11 @@ fn read_clock(text: &[u8]) -> Option<u64>
     ensures { MatchOption result ((n : ℕ) → ¬ IsClock text.now n) (λ n. IsClock text.now n
         × (n < 10 ^ 13)) }
 {
-    let first = piece_end(text, 0, b':');
+    let first = part_end(text, 0, b':');
     if first == text.len() {
         return None;
     }
-    let second = piece_end(text, first + 1, b':');
+    let second = part_end(text, first + 1, b':');
     if second == text.len() {
         return None;
     }

@@ -1,12 +1,12 @@
 //! The Transport header.
 
 ghost use Rattle.std.specs.Prelude.{◌≡◌, ◌↔◌, IsTrue, ◌⊎◌, MatchOption};
-ghost use Rattle.rtsp_fields.specs.Pieces.{NoPiece, NoneBefore};
+ghost use Rattle.rtsp_fields.specs.Parts.{NoPart, NoneBefore};
 ghost use Rattle.rtsp_fields.specs.declared.transports.Channels.{Channels};
 ghost use Rattle.rtsp_fields.specs.Transports.{AreChannels, HasChannels, IsOther, IsPair, IsSingle};
 ghost use Rattle.rtsp_fields.specs.Transports.{IsTaken, IsTransport, NamesChannels};
 
-use crate::pieces::{piece_end, pieces_of, starts_with};
+use crate::parts::{part_end, parts_of, starts_with};
 use crate::values::number_within;
 use vod_base::trim;
 
@@ -34,7 +34,7 @@ pub fn read_transport(value: &[u8]) -> Option<Channels>
     ensures { MatchOption result ((channels : Channels) →
         ¬ IsTransport value.now channels) (IsTransport value.now) }
 {
-    for alternative in pieces_of(value, b',') {
+    for alternative in parts_of(value, b',') {
         if let Some(channels) = read_alternative(alternative) {
             return Some(channels);
         }
@@ -47,7 +47,7 @@ fn read_pair(text: &[u8]) -> Option<Channels>
     ensures { MatchOption result ((channels : Channels) →
         ¬ IsPair text.now channels) (IsPair text.now) }
 {
-    let dash = piece_end(text, 0, b'-');
+    let dash = part_end(text, 0, b'-');
     if dash == text.len() {
         return None;
     }
@@ -98,9 +98,9 @@ fn is_other(part: &[u8]) -> bool
 
 /// Whether no part of an alternative asks for another thing.
 fn is_plain(text: &[u8]) -> bool
-    ensures { IsTrue result ↔ NoPiece 59 text.now IsOther }
+    ensures { IsTrue result ↔ NoPart 59 text.now IsOther }
 {
-    for part in pieces_of(text, b';') {
+    for part in parts_of(text, b';') {
         if is_other(part) {
             return false;
         }
@@ -109,12 +109,12 @@ fn is_plain(text: &[u8]) -> bool
 }
 
 /// The channels that an alternative names, or 0 and 1.
-#[tactic(auto, using(crate::proofs::Parts::name_within))]
+#[tactic(auto, using(crate::proofs::PartLemmas::name_within))]
 fn channels_of(text: &[u8]) -> Option<Channels>
     ensures { MatchOption result ((channels : Channels) →
         ¬ HasChannels text.now channels) (HasChannels text.now) }
 {
-    for part in pieces_of(text, b';') {
+    for part in parts_of(text, b';') {
         let part = trim(part);
         if starts_with(part, NAME) {
             return read_channels(&part[NAME.len()..]);
@@ -131,7 +131,7 @@ fn read_alternative(text: &[u8]) -> Option<Channels>
     ensures { MatchOption result ((channels : Channels) →
         ¬ IsTaken text.now channels) (IsTaken text.now) }
 {
-    let end = piece_end(text, 0, b';');
+    let end = part_end(text, 0, b';');
     if !trim(&text[..end]).eq_ignore_ascii_case(b"RTP/AVP/TCP") {
         return None;
     }

@@ -7,7 +7,7 @@ ghost use Rattle.vod_base.specs.Names.{is_good_name};
 ghost use Rattle.rtsp_text.specs.Lines.{is_one_line};
 ghost use Rattle.rtsp_fields.specs.Urls.{IsAbsoluteUrl, IsStream, IsTail, IsRead, NamesFilm};
 
-use crate::pieces::{piece_end, starts_with};
+use crate::parts::{part_end, starts_with};
 use vod_base::good_name;
 
 /// What an RTSP URL begins with.
@@ -41,7 +41,7 @@ pub fn read_url(url: &[u8]) -> Option<Url<'_>>
     if !rtsp_text::has_url_bytes(url) || !starts_with(url, SCHEME) {
         return None;
     }
-    let path = piece_end(url, SCHEME.len(), b'/');
+    let path = part_end(url, SCHEME.len(), b'/');
     if path == SCHEME.len() {
         return None;
     }
@@ -76,7 +76,7 @@ fn film_name(path: &[u8]) -> Option<&[u8]>
     if path.is_empty() || path[0] != b'/' {
         return None;
     }
-    let end = piece_end(path, 1, b'/');
+    let end = part_end(path, 1, b'/');
     let name = &path[1..end];
     if good_name(name) && is_tail(&path[end..]) {
         Some(name)

@@ -3,7 +3,7 @@ use Rattle.std.proofs.Common.{◌≡◌, ℕ, ◌<◌, ◌≤◌, List, [], ◌�
 use Rattle.std.specs.Prelude.{IfOk}
 use Rattle.std.proofs.lemmas.List.{length-append, take_at}
 use Rattle.interleave.specs.Lengths.{IsBodyLength}
-use Rattle.interleave.specs.Pieces.{IsRequestLength}
+use Rattle.interleave.specs.Elements.{IsMessageLength}
 use Rattle.interleave.proofs.Unique.{head_once}
 use Rattle.rtsp_text.specs.Lines.{first_line, header_lines, IsSplit}
 use Rattle.rtsp_text.specs.Grammar.{IsRequestLine}
@@ -16,7 +16,7 @@ pub record AreLengths (head body : List ℕ) : Type 0 where
   pub body_is : IsBodyLength head (length body)
   pub body_short : length body ≤ 65536
 
-pub lengths_of : (message head body : List ℕ) → IsRequestLength message (length message)
+pub lengths_of : (message head body : List ℕ) → IsMessageLength message (length message)
     → IsSplit message head body → AreLengths head body
 lengths_of message head body whole split =
     let same : whole.head ≡ length head = head_once message whole.head (length head) whole.is_head split.is_head in
@@ -55,13 +55,13 @@ IsRequestOf parts message x = IsRequest message (parts.method x) (parts.url x) (
 
 -- the same of what was read
 pub read_head : {X E : Type 0} (message : List ℕ) (parts : RequestParts X) (r : Result X E) →
-    IsRequestLength message (length message) →
+    IsMessageLength message (length message) →
     IfOk r (IsRequestOf parts message) → IfOk r (λ x. length (parts.head x) ≤ 16384)
 read_head message parts (Ok x) whole read = (lengths_of message (parts.head x) (parts.body x) whole read.split).head_short
 read_head message parts (Err e) whole read = tt
 
 pub read_body : {X E : Type 0} (message : List ℕ) (parts : RequestParts X) (r : Result X E) →
-    IsRequestLength message (length message) →
+    IsMessageLength message (length message) →
     IfOk r (IsRequestOf parts message) → IfOk r (λ x. length (parts.body x) ≤ 65536)
 read_body message parts (Ok x) whole read = (lengths_of message (parts.head x) (parts.body x) whole read.split).body_short
 read_body message parts (Err e) whole read = tt

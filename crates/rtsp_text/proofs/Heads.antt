@@ -6,7 +6,7 @@ use Rattle.std.proofs.lemmas.Bool.Decides.{nat_tests}
 use Rattle.std.proofs.lemmas.List.{append-nil, append_assoc, take-append-drop, drop-drop, drop_all, take-take, drop-take, length-take, length-take-le, length-drop, get_or-take, get_or-drop}
 use Rattle.vod_base.specs.Lines.{IsLine, HasNoLine}
 use Rattle.interleave.specs.Heads.{empty_line_ends, HasNoHead, IsHead}
-use Rattle.interleave.specs.Pieces.{IsRequestLength}
+use Rattle.interleave.specs.Elements.{IsMessageLength}
 use Rattle.rtsp_text.specs.Lines.{before_empty, first_line, lines_before_empty, header_lines, IsNextLine, IsSplit}
 use Rattle.rtsp_text.proofs.Walks.{next_here, first_line-next, header_lines-next, next_header, next_empty, before_empty-closed}
 
@@ -298,5 +298,5 @@ walk_end w at n walked line =
       same_lines = same_header_lines (take n w) w lines_are;
     }
 
-pub next_ends : (w : List ℕ) (at total : ℕ) → IsRequestLength w total → HasWalked w at → HasNoLine w at → ⊥
+pub next_ends : (w : List ℕ) (at total : ℕ) → IsMessageLength w total → HasWalked w at → HasNoLine w at → ⊥
 next_ends w at total request walked open_line = no_head_open w at request.head walked.none open_line request.is_head

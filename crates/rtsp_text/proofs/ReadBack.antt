@@ -5,7 +5,7 @@ use Rattle.std.proofs.lemmas.Bool.{cases_Bool, cond-true, cond-false}
 use Rattle.std.proofs.lemmas.List.{append_assoc, length-append}
 use Rattle.std.proofs.lemmas.List.Elements.{All-nil, All-cons, All-head, All-tail}
 use Rattle.vod_base.specs.Splits.{IsSplitAtFirst}
-use Rattle.interleave.specs.Pieces.{IsRequestLength}
+use Rattle.interleave.specs.Elements.{IsMessageLength}
 use Rattle.rtsp_text.specs.Lines.{first_line, header_lines, IsSplit}
 use Rattle.rtsp_text.specs.Fields.{first_value}
 use Rattle.rtsp_text.specs.Replies.{is_code, reason, Field, field_line, sequence_line, status_line, reply_front, reply_text, all_fields, IsPlain, value_named, IsReadBack}
@@ -82,7 +82,7 @@ pub record ReplyParts : Type 0 where
   pub body : List ℕ
 
 -- a reply that was written is read back
-pub read_back : {message : List ℕ} (parts : ReplyParts) → IsRequestLength message (length message) → is_code parts.code ≡ true →
+pub read_back : {message : List ℕ} (parts : ReplyParts) → IsMessageLength message (length message) → is_code parts.code ≡ true →
     All IsPlain (all_fields parts.sequence parts.fields) →
     message ≡ reply_text parts.code parts.sequence parts.fields parts.body
     → IsReadBack message parts.code parts.sequence parts.fields parts.body

@@ -9,10 +9,10 @@ use Rattle.std.proofs.lemmas.List.Elements.{All-nil, All-cons, All-head, All-tai
 use Rattle.vod_base.specs.Numbers.{is_decimal, number_of}
 use Rattle.interleave.specs.Heads.{is_line_end, IsHead}
 use Rattle.interleave.specs.Lengths.{IsBodyLength, written_length}
-use Rattle.interleave.specs.Pieces.{StartsRequest, IsRequestLength, IsFirst}
-use Rattle.interleave.specs.declared.pieces.Step.TheVariants.{Request}
-use Rattle.interleave.specs.declared.pieces.DemuxFault.TheVariants.{HeadTooLong, BodyTooLong}
-use Rattle.interleave.proofs.More.{IsHead-append, IsRequestLength-append}
+use Rattle.interleave.specs.Elements.{StartsMessage, IsMessageLength, IsFirst}
+use Rattle.interleave.specs.declared.elements.Step.TheVariants.{Message}
+use Rattle.interleave.specs.declared.elements.DemuxFault.TheVariants.{HeadTooLong, BodyTooLong}
+use Rattle.interleave.proofs.More.{IsHead-append, IsMessageLength-append}
 use Rattle.rtsp_text.specs.Lines.{first_line, header_lines, IsSplit}
 use Rattle.rtsp_text.specs.Grammar.{is_token, is_token_byte, is_value_byte, IsRequestLine, IsHeaderLine, IsVersion}
 use Rattle.rtsp_text.specs.Fields.{header_value, first_value}
@@ -36,7 +36,7 @@ record IsShort (head body : List ℕ) : Type 0 where
 whole_message : {s : List ℕ} (fields : List Field) (body : List ℕ) → IsLineText s → All IsPlain fields →
     length_given (value_named (codes "Content-Length") fields) ≡ length body →
     IsShort (flat (s ∷ map text_of fields) ++ codes "\r\n") body →
-    IsRequestLength ((flat (s ∷ map text_of fields) ++ codes "\r\n") ++ body)
+    IsMessageLength ((flat (s ∷ map text_of fields) ++ codes "\r\n") ++ body)
     (length ((flat (s ∷ map text_of fields) ++ codes "\r\n") ++ body))
 whole_message {s} fields body one all given short =
     let head = flat (s ∷ map text_of fields) ++ codes "\r\n" in
@@ -176,11 +176,11 @@ request_of parts sequence request =
 
 -- it is whole by itself
 pub request_whole : (parts : Parts) (sequence : ℕ) → AreRequest parts sequence → AreShort parts
-    → IsRequestLength (request_text parts) (length (request_text parts))
+    → IsMessageLength (request_text parts) (length (request_text parts))
 request_whole parts sequence request short =
     let front = request.front in
     let long : List ℕ → Type 0 = λ f. length (f ++ codes "\r\n") ≤ 16384 in
-    subst (λ (f : List ℕ). IsRequestLength ((f ++ codes "\r\n") ++ parts.body)
+    subst (λ (f : List ℕ). IsMessageLength ((f ++ codes "\r\n") ++ parts.body)
     (length ((f ++ codes "\r\n") ++ parts.body))) (sym (front_of parts))
     (whole_message parts.fields parts.body (line_text parts front) (plain_fields parts.fields front.fields_are)
     (given_is (value_named (codes "Content-Length") parts.fields) parts.body request.length_is)
@@ -193,7 +193,7 @@ byte_begins c token =
     λ d fails. ne_eqb c d (λ e. both_ways (is_token_byte c) (ap is_token_byte e ∙ fails) token) in
     (rw (other 13 refl, other 10 refl) refl, other 36 refl)
 
-token_begins : (method rest : List ℕ) → is_token method ≡ true → StartsRequest (method ++ rest)
+token_begins : (method rest : List ℕ) → is_token method ≡ true → StartsMessage (method ++ rest)
 token_begins [] rest token = let bad : false ≡ true = token in absurd (let no : ⊥ = cc in no)
 token_begins (c ∷ method) rest token =
     let here = byte_begins c
@@ -202,22 +202,22 @@ token_begins (c ∷ method) rest token =
     (omega arith, here.0, here.1)
 
 -- the bytes after a request's method
-head_begins : (parts : Parts) (later : List ℕ) → is_token parts.method ≡ true → StartsRequest (request_head parts ++ later)
+head_begins : (parts : Parts) (later : List ℕ) → is_token parts.method ≡ true → StartsMessage (request_head parts ++ later)
 unfolding request_front
 head_begins parts later token =
     let tail = (codes " "
     ++ (parts.url
     ++ (codes " RTSP/1.0" ++ (codes "\r\n" ++ (flat_map field_line parts.fields ++ (codes "\r\n" ++ later)))))) in
     let shape : request_head parts ++ later ≡ parts.method ++ tail = simp append_assoc in
-    subst StartsRequest (sym shape) (token_begins parts.method tail token)
+    subst StartsMessage (sym shape) (token_begins parts.method tail token)
 
 -- it is found in front of whatever comes later
 pub request_found : (parts : Parts) (sequence : ℕ) (later : List ℕ) → AreRequest parts sequence → AreShort parts →
-    IsFirst (request_text parts ++ later) (Ok (Request (length (request_text parts))))
+    IsFirst (request_text parts ++ later) (Ok (Message (length (request_text parts))))
 request_found parts sequence later request short = (
-  subst StartsRequest (sym (append_assoc (request_head parts) parts.body later))
+  subst StartsMessage (sym (append_assoc (request_head parts) parts.body later))
       (head_begins parts (parts.body ++ later) (word_is parts.method request.front.method_is)),
-  IsRequestLength-append (request_text parts) later (length (request_text parts)) (request_whole parts sequence request short),
+  IsMessageLength-append (request_text parts) later (length (request_text parts)) (request_whole parts sequence request short),
   omega (arith, length-append (request_text parts) later),
 )
 
@@ -271,13 +271,13 @@ pub reply_whole : (parts : ReplyParts) → is_code parts.code ≡ true → All I
     HasGivenLength (all_fields parts.sequence parts.fields) parts.body →
     length (reply_front parts.code parts.sequence parts.fields ++ codes "\r\n") ≤ 16384 →
     length parts.body ≤ 65536
-    → IsRequestLength (reply_text parts.code parts.sequence parts.fields parts.body)
+    → IsMessageLength (reply_text parts.code parts.sequence parts.fields parts.body)
     (length (reply_text parts.code parts.sequence parts.fields parts.body))
 unfolding reply_text
 reply_whole parts is plain given short small =
     let lines_are = front_lines code sequence fields in
     let long : List ℕ → Type 0 = λ f. length (f ++ codes "\r\n") ≤ 16384 in
-    subst (λ (f : List ℕ). IsRequestLength ((f ++ codes "\r\n") ++ body) (length ((f ++ codes "\r\n") ++ body))) (sym lines_are)
+    subst (λ (f : List ℕ). IsMessageLength ((f ++ codes "\r\n") ++ body) (length ((f ++ codes "\r\n") ++ body))) (sym lines_are)
     (whole_message (all_fields sequence fields) body (status_text-line code (status_of code is)) plain
     (given_is (value_named (codes "Content-Length") (all_fields sequence fields)) body given)
     (record { head_is = subst long lines_are short; body_is = small }))

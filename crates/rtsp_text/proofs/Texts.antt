@@ -1,10 +1,10 @@
--- The text of a reply, piece by piece.
+-- The text of a reply, part by part.
 use Rattle.std.proofs.Common.{◌≡◌, ℕ, List, [], ◌∷◌, ◌++◌, codes, flat_map, Option, sym, ap, ◌∙◌}
 use Rattle.std.proofs.lemmas.List.{append-nil, append_assoc}
 use Rattle.std.proofs.lemmas.List.Concat.{flat_map-append}
 use Rattle.rtsp_text.specs.Replies.{Field, field_line, sequence_line, status_line, reply_front, reply_text}
 
--- a piece after another
+-- a part after another
 pub two_put : {t1 t2 : List ℕ} (old a b : List ℕ) → t1 ≡ old ++ a → t2 ≡ t1 ++ b → t2 ≡ old ++ (a ++ b)
 two_put old a b h1 h2 = h2 ∙ ap (λ t. t ++ b) h1 ∙ append_assoc old a b
 

@@ -4,7 +4,7 @@ ghost use Rattle.std.specs.Prelude.{◌≡◌, ◌<◌, ◌≤◌, ◌++◌, ℕ
 ghost use Rattle.std.specs.Prelude.{Err};
 ghost use Rattle.std.specs.Prelude.{codes, length, take};
 ghost use Rattle.interleave.specs.Heads.{IsHead};
-ghost use Rattle.interleave.specs.Pieces.{IsFirst, IsRequestLength};
+ghost use Rattle.interleave.specs.Elements.{IsFirst, IsMessageLength};
 ghost use Rattle.vod_base.specs.Numbers.{is_decimal};
 ghost use Rattle.rtsp_text.specs.Fields.{header_value, IsFirstField};
 ghost use Rattle.rtsp_text.specs.Replies.{is_code, Field, reply_front, reply_text, all_fields};
@@ -21,10 +21,10 @@ use interleave::{DemuxFault, Step};
 /// The bytes of a request that [`interleave::Demux::look`] tells are a whole request by themselves,
 /// as [`crate::read_request`] takes it.
 pub fn law_whole_request(waiting: &[u8], count: usize)
-    requires { IsFirst waiting.now (Ok (Step.Request count)) }
-    ensures { IsRequestLength (take count waiting.now) (length (take count waiting.now)) }
+    requires { IsFirst waiting.now (Ok (Step.Message count)) }
+    ensures { IsMessageLength (take count waiting.now) (length (take count waiting.now)) }
 {
-    let _read = (waiting.len(), count, Step::Request(count));
+    let _read = (waiting.len(), count, Step::Message(count));
 }
 
 /// What [`crate::Reply`] wrote is read back by [`crate::read_reply`] and [`crate::header_of`]: its
@@ -32,7 +32,7 @@ pub fn law_whole_request(waiting: &[u8], count: usize)
 /// among them; where each field's name is a word of letters, digits, `_` and `-`, and its value has
 /// no LF and no blanks around it.
 pub fn law_reply_read(message: &[u8])
-    requires { IsRequestLength message.now (length message.now) }
+    requires { IsMessageLength message.now (length message.now) }
     ensures { (code : ℕ) (sequence : Option ℕ) (fields : List Field) (body : List ℕ) →
         IsTrue (is_code code) → All IsPlain (all_fields sequence fields) →
         message.now ≡ reply_text code sequence fields body →
@@ -49,7 +49,7 @@ pub fn law_reply_whole()
         IsTrue (is_code code) → All IsPlain (all_fields sequence fields) →
         HasGivenLength (all_fields sequence fields) body →
         length (reply_front code sequence fields ++ codes "\r\n") ≤ 16384 → length body ≤ 65536 →
-        IsRequestLength (reply_text code sequence fields body)
+        IsMessageLength (reply_text code sequence fields body)
         (length (reply_text code sequence fields body)) }
 {}
 
@@ -59,9 +59,9 @@ pub fn law_reply_whole()
 pub fn law_request_read()
     ensures found { (parts : Parts) (sequence : ℕ) (later : List ℕ) → AreRequest parts sequence →
         AreShort parts → IsFirst (request_text parts ++ later)
-        (Ok (Step.Request (length (request_text parts)))) }
+        (Ok (Step.Message (length (request_text parts)))) }
     ensures whole { (parts : Parts) (sequence : ℕ) → AreRequest parts sequence → AreShort parts →
-        IsRequestLength (request_text parts) (length (request_text parts)) }
+        IsMessageLength (request_text parts) (length (request_text parts)) }
     ensures read { (parts : Parts) (sequence : ℕ) → AreRequest parts sequence →
         IsRequest (request_text parts) parts.method parts.url sequence (request_head parts)
         parts.body }

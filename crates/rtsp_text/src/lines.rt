@@ -2,7 +2,7 @@
 
 ghost use Rattle.std.specs.Prelude.{◌≡◌, ◌≤◌, [], length, take, drop, MatchOption};
 ghost use Rattle.std.specs.Iterator.{YieldsFirstRef, item_count};
-ghost use Rattle.interleave.specs.Pieces.{IsRequestLength};
+ghost use Rattle.interleave.specs.Elements.{IsMessageLength};
 ghost use Rattle.rtsp_text.specs.Lines.{first_line, lines_before_empty, header_lines, IsNextLine};
 ghost use Rattle.rtsp_text.specs.Lines.{IsSplit};
 
@@ -54,7 +54,7 @@ pub(crate) fn header_lines(head: &[u8]) -> HeaderLines<'_>
 
 /// The head and the body of a whole request.
 pub(crate) fn split(message: &[u8]) -> (&[u8], &[u8])
-    requires { IsRequestLength message.now (length message.now) }
+    requires { IsMessageLength message.now (length message.now) }
     ensures { IsSplit message.now result.0.now result.1.now }
 {
     message.split_at(head_end(message))
@@ -77,7 +77,7 @@ fn next_line(bytes: &[u8]) -> Option<(&[u8], &[u8])>
 
 /// Where the head of a whole request ends, after its empty line.
 fn head_end(message: &[u8]) -> usize
-    requires { IsRequestLength message.now (length message.now) }
+    requires { IsMessageLength message.now (length message.now) }
     ensures within { result ≤ length message.now }
     ensures split { IsSplit message.now (take result message.now) (drop result message.now) }
 {

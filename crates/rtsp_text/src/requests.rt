@@ -3,7 +3,7 @@
 ghost use Rattle.std.specs.Prelude.{◌≡◌, ◌<◌, ◌≤◌, ℕ, List, All, true, length, codes, option_map};
 ghost use Rattle.std.specs.Prelude.{MatchOption, IsTrue, ◌↔◌, IfOk, IfErr, IfSome, IfNone, IsOkAnd};
 ghost use Rattle.std.specs.Prelude.{Err};
-ghost use Rattle.interleave.specs.Pieces.{IsRequestLength};
+ghost use Rattle.interleave.specs.Elements.{IsMessageLength};
 ghost use Rattle.rtsp_text.specs.Lines.{is_one_line, lines_before_empty, header_lines};
 ghost use Rattle.rtsp_text.specs.Grammar.{IsHeaderLine};
 ghost use Rattle.rtsp_text.specs.Requests.{HasLength, IsRequest, IsFirstBad, IsFault};
@@ -112,7 +112,7 @@ pub fn sequence_of(message: &[u8]) -> Option<u64>
 /// its cause holds and none before it in [`RequestFault`]. The head has at most 16,384 bytes, the
 /// body at most 65,536.
 pub fn read_request(message: &[u8]) -> Result<Request<'_>, RequestFault>
-    requires { IsRequestLength message.now (length message.now) }
+    requires { IsMessageLength message.now (length message.now) }
     ensures read { IfOk result (λ r.
         IsRequest message.now r.method.now r.url.now r.sequence r.head.now r.body.now) }
     ensures refused { IfErr result (IsFault message.now) }
@@ -156,7 +156,7 @@ fn has_length(message: &[u8]) -> bool
 /// Reads a whole request. What else [`read_request`] ensures follows from these two clauses, and so
 /// is proved there once, and not at each return here.
 fn read_parts(message: &[u8]) -> Result<Request<'_>, RequestFault>
-    requires { IsRequestLength message.now (length message.now) }
+    requires { IsMessageLength message.now (length message.now) }
     ensures read { IfOk result (λ r.
         IsRequest message.now r.method.now r.url.now r.sequence r.head.now r.body.now) }
     ensures refused { IfErr result (IsFault message.now) }

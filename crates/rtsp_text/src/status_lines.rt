@@ -1,7 +1,7 @@
 //! Replies, as they are read.
 
 ghost use Rattle.std.specs.Prelude.{◌≡◌, ◌≤◌, ◌<◌, ℕ, List, length, MatchOption, IfSome, IsSomeAnd};
-ghost use Rattle.interleave.specs.Pieces.{IsRequestLength};
+ghost use Rattle.interleave.specs.Elements.{IsMessageLength};
 ghost use Rattle.rtsp_text.specs.Lines.{first_line};
 ghost use Rattle.rtsp_text.specs.StatusLines.{IsCode, IsStatusLine, IsReply};
 
@@ -27,7 +27,7 @@ pub struct ReplyParts<'a> {
 /// None exactly where the first line isn't `RTSP/1.0`, three digits and a reason, with single
 /// spaces. Header lines aren't judged. The head has at most 16,384 bytes, the body at most 65,536.
 pub fn read_reply(message: &[u8]) -> Option<ReplyParts<'_>>
-    requires { IsRequestLength message.now (length message.now) }
+    requires { IsMessageLength message.now (length message.now) }
     ensures read { MatchOption result ((code : ℕ) (reason : List ℕ) →
         ¬ IsStatusLine (first_line message.now) code reason)
         (λ r. IsReply message.now r.code r.reason.now r.head.now r.body.now) }

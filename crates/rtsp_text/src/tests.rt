@@ -1,7 +1,7 @@
 //! Requests and replies, as texts.
 
 ghost use Rattle.std.specs.Prelude.{length, IfOk, IfSome};
-ghost use Rattle.interleave.specs.Pieces.{IsRequestLength};
+ghost use Rattle.interleave.specs.Elements.{IsMessageLength};
 
 mod players;
 mod replies;
@@ -13,10 +13,10 @@ use std::test::Fail;
 
 /// The whole message in front of the waiting bytes.
 fn first_message(demux: &mut Demux) -> Option<&[u8]>
-    ensures { IfSome result (λ message. IsRequestLength message.now (length message.now)) }
+    ensures { IfSome result (λ message. IsMessageLength message.now (length message.now)) }
 {
     match demux.look() {
-        Ok(Step::Request(total)) => {
+        Ok(Step::Message(total)) => {
             let waiting = demux.waiting();
             law_whole_request(waiting, total);
             Some(&waiting[..total])
@@ -27,7 +27,7 @@ fn first_message(demux: &mut Demux) -> Option<&[u8]>
 
 /// The message in front of a text.
 fn message_in<'a>(demux: &'a mut Demux, text: &str) -> Result<&'a [u8], Fail>
-    ensures { IfOk result (λ message. IsRequestLength message.now (length message.now)) }
+    ensures { IfOk result (λ message. IsMessageLength message.now (length message.now)) }
 {
     demux.put(text.as_bytes())?;
     match first_message(demux) {
@@ -305,7 +305,7 @@ const REQUESTS: [RequestRow; 9] = [
 
 /// Whether a message is read as a row says.
 fn is_request(message: &[u8], row: &RequestRow) -> bool
-    requires { IsRequestLength message.now (length message.now) }
+    requires { IsMessageLength message.now (length message.now) }
 {
     let Ok(request) = read_request(message) else {
         return false;

@@ -6,7 +6,7 @@ use Rattle.vod_base.specs.Numbers.{number_of}
 use Rattle.film_frames.specs.declared.stores.Stored.{Stored}
 use Rattle.rtsp_fields.specs.declared.transports.Channels.{Channels}
 use Rattle.rtsp_fields.proofs.Once.{transport_once}
-use Rattle.rtsp_fields.proofs.Parts.{within_once}
+use Rattle.rtsp_fields.proofs.PartLemmas.{within_once}
 use Rattle.rtsp_fields.proofs.Places.{end_once}
 use Rattle.rtsp_text.specs.Fields.{first_number, first_sequence, first_value, header_value, sequence_number, value_in}
 use Rattle.rtsp_text.specs.Lines.{header_lines}

@@ -2,7 +2,7 @@
 
 ghost use Rattle.std.specs.Prelude.{◌≡◌, ◌<◌, ◌≤◌, ℕ, true, false, length, IfOk, IfSome};
 ghost use Rattle.std.specs.Prelude.{MatchOption, IfNone, OnOk, Ok, None, [], ◌+◌};
-ghost use Rattle.interleave.specs.Pieces.{IsRequestLength};
+ghost use Rattle.interleave.specs.Elements.{IsMessageLength};
 ghost use Rattle.rtsp_text.specs.Lines.{is_one_line};
 ghost use Rattle.session.specs.declared.asks.Ask.{Ask};
 ghost use Rattle.session.specs.Hearings.{Hears};
@@ -52,7 +52,7 @@ impl<'a> Session<'a> {
         requires rest { IsAtRest self.old }
         requires replied { self.old.waits ≡ false }
         requires torn { self.old.torn ≡ false }
-        requires whole { IsRequestLength message.now (length message.now) }
+        requires whole { IsMessageLength message.now (length message.now) }
         ensures hears { Hears self.old message.now result self.new }
         ensures asks { AsksFor result self.new }
         ensures same { IsSameBusiness self.old self.new }

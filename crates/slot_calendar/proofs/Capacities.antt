@@ -2,11 +2,11 @@
 use Rattle.std.proofs.Common.{◌≡◌, ◌<◌, ◌≤◌, ◌+◌, ◌-◌, ◌^◌, ℕ, zero, suc, nat_le, List, [], ◌∷◌, length, arith, refl, sym, ap, ◌∙◌, inl, inr}
 use Rattle.std.specs.List.{fold}
 use Rattle.std.proofs.lemmas.Bool.{le-leb, lt-leb, cond-true, cond-false, cases_lt, cases_cond}
-use Rattle.slot_calendar.specs.declared.profiles.CapStep.{CapStep}
+use Rattle.slot_calendar.specs.declared.profiles.CapacityStep.{CapacityStep}
 use Rattle.slot_calendar.specs.Profiles.{IsProfile, IsCapacity, IsSpan, capacity_after, capacity_at, step_at}
 
 -- steps that begin after the slot leave its capacity
-capacity-rest : (steps : List CapStep) (t bytes : ℕ) → ((i : ℕ) → i < length steps → t < (step_at steps i).from)
+capacity-rest : (steps : List CapacityStep) (t bytes : ℕ) → ((i : ℕ) → i < length steps → t < (step_at steps i).from)
     → fold (capacity_after t) bytes steps ≡ bytes
 capacity-rest [] t bytes later = refl
 capacity-rest (s ∷ rest) t bytes later =
@@ -15,12 +15,12 @@ capacity-rest (s ∷ rest) t bytes later =
     ap (λ b. fold (capacity_after t) b rest) here ∙ capacity-rest rest t bytes (λ i less. later (suc i) (omega (arith, less)))
 
 -- the latest step that begins at or before a slot
-record IsLatest (steps : List CapStep) (index t : ℕ) : Type 0 where
+record IsLatest (steps : List CapacityStep) (index t : ℕ) : Type 0 where
   pub inside : index < length steps
   pub begun : (step_at steps index).from ≤ t
   pub last : (i : ℕ) → index < i → i < length steps → t < (step_at steps i).from
 
-capacity-from : (steps : List CapStep) (index t bytes : ℕ) → IsLatest steps index t
+capacity-from : (steps : List CapacityStep) (index t bytes : ℕ) → IsLatest steps index t
     → fold (capacity_after t) bytes steps ≡ (step_at steps index).bytes
 capacity-from [] index t bytes latest = absurd (omega (arith, latest.inside))
 capacity-from (s ∷ rest) zero t bytes latest =
@@ -33,11 +33,11 @@ capacity-from (s ∷ rest) (suc k) t bytes latest = capacity-from rest k t (capa
   last = λ i more less. latest.last (suc i) (omega (arith, more)) (omega (arith, less));
 })
 
-pub capacity-is : (steps : List CapStep) (t bytes : ℕ) → IsCapacity steps t bytes → capacity_at steps t ≡ bytes
+pub capacity-is : (steps : List CapacityStep) (t bytes : ℕ) → IsCapacity steps t bytes → capacity_at steps t ≡ bytes
 capacity-is steps t bytes is =
     capacity-from steps is.index t 0 (record { inside = is.inside; begun = is.begun; last = is.last }) ∙ sym is.bytes_are
 
-pub ascends : (steps : List CapStep) (i d : ℕ) → IsProfile steps → i + d < length steps
+pub ascends : (steps : List CapacityStep) (i d : ℕ) → IsProfile steps → i + d < length steps
     → (step_at steps i).from ≤ (step_at steps (i + d)).from
 ascends steps i zero profile inside =
     let at : i + 0 ≡ i = omega arith in
@@ -51,7 +51,7 @@ ascends steps i (suc d) profile inside =
     omega (arith, before, step, same)
 
 -- a step and a later one
-pub ascends-to : (steps : List CapStep) (i j : ℕ) → IsProfile steps → i ≤ j → j < length steps
+pub ascends-to : (steps : List CapacityStep) (i j : ℕ) → IsProfile steps → i ≤ j → j < length steps
     → (step_at steps i).from ≤ (step_at steps j).from
 ascends-to steps i j profile later inside =
     let at : i + (j - i) ≡ j = omega arith in
@@ -59,12 +59,12 @@ ascends-to steps i j profile later inside =
     omega (arith, ascends steps i (j - i) profile (omega (arith, inside)), same)
 
 -- the first i steps begin at or before the slot, and the last of them gives these bytes
-pub record HaveBegun (steps : List CapStep) (i slot bytes : ℕ) : Type 0 where
+pub record HaveBegun (steps : List CapacityStep) (i slot bytes : ℕ) : Type 0 where
   pub begun : (k : ℕ) → k < i → (step_at steps k).from ≤ slot
   pub bytes_are : (k : ℕ) → k + 1 ≡ i → bytes ≡ (step_at steps k).bytes
 
 -- step i begins after it
-pub capacity-before : {steps : List CapStep} {i slot u bytes : ℕ} → IsProfile steps → i < length steps
+pub capacity-before : {steps : List CapacityStep} {i slot u bytes : ℕ} → IsProfile steps → i < length steps
     → HaveBegun steps i slot bytes → slot < (step_at steps i).from → slot ≤ u → u < (step_at steps i).from
     → IsCapacity steps u bytes
 capacity-before {steps} {i} profile inside first after from less =
@@ -84,7 +84,7 @@ capacity-before {steps} {i} profile inside first after from less =
     ]
 
 -- all steps begin at or before the slot
-pub capacity-last : {steps : List CapStep} {i slot u bytes : ℕ} → IsProfile steps → length steps ≡ i
+pub capacity-last : {steps : List CapacityStep} {i slot u bytes : ℕ} → IsProfile steps → length steps ≡ i
     → HaveBegun steps i slot bytes → slot ≤ u → IsCapacity steps u bytes
 capacity-last {steps} {i} profile count all from = record {
   index = i - 1;
@@ -94,7 +94,7 @@ capacity-last {steps} {i} profile count all from = record {
   bytes_are = all.bytes_are (i - 1) (omega (arith, count, profile.some));
 }
 
-pub span-is : (steps : List CapStep) (t bytes until : ℕ) → t < until
+pub span-is : (steps : List CapacityStep) (t bytes until : ℕ) → t < until
     → ((u : ℕ) → t ≤ u → u < until → IsCapacity steps u bytes) → IsSpan steps t bytes until
 span-is steps t bytes until some same = record {
   some = some;
@@ -102,10 +102,10 @@ span-is steps t bytes until some same = record {
   same = λ u from less. capacity-is steps u bytes (same u from less);
 }
 
-pub capacity-small : (steps : List CapStep) (t bytes : ℕ) → IsProfile steps → IsCapacity steps t bytes → bytes ≤ 2 ^ 42
+pub capacity-small : (steps : List CapacityStep) (t bytes : ℕ) → IsProfile steps → IsCapacity steps t bytes → bytes ≤ 2 ^ 42
 capacity-small steps t bytes profile is = omega (arith, is.bytes_are, profile.small is.index is.inside)
 
-fold-most : (steps : List CapStep) (t bytes most : ℕ) → bytes ≤ most
+fold-most : (steps : List CapacityStep) (t bytes most : ℕ) → bytes ≤ most
     → ((i : ℕ) → i < length steps → (step_at steps i).bytes ≤ most) → fold (capacity_after t) bytes steps ≤ most
 fold-most [] t bytes most small rest = small
 fold-most (s ∷ steps) t bytes most small rest =
@@ -118,5 +118,5 @@ fold-most (s ∷ steps) t bytes most small rest =
     fold-most steps t (capacity_after t bytes s) most next (λ i less. rest (suc i) (omega (arith, less)))
 
 -- no slot has more than the greatest capacity
-pub capacity-most : (steps : List CapStep) (t : ℕ) → IsProfile steps → capacity_at steps t ≤ 2 ^ 42
+pub capacity-most : (steps : List CapacityStep) (t : ℕ) → IsProfile steps → capacity_at steps t ≤ 2 ^ 42
 capacity-most steps t profile = fold-most steps t 0 (2 ^ 42) (omega arith) profile.small

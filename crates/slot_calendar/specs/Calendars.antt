@@ -1,7 +1,7 @@
 -- What a calendar tells, and how it stands to the plays that are booked in it.
 use Rattle.std.specs.Prelude.{ℕ, ◌≡◌, ◌+◌, ◌^◌, ◌<◌, ◌≤◌, List}
 use Rattle.plan_cert.specs.declared.Segment.{Segment}
-use Rattle.slot_calendar.specs.declared.profiles.CapStep.{CapStep}
+use Rattle.slot_calendar.specs.declared.profiles.CapacityStep.{CapacityStep}
 use Rattle.slot_calendar.specs.declared.calendar.Overflow.{Overflow}
 use Rattle.slot_calendar.specs.Profiles.{IsProfile, capacity_at}
 use Rattle.slot_calendar.specs.Plays.{Play, asked_at, booked_by}
@@ -11,7 +11,7 @@ use Rattle.slot_calendar.specs.Totals.{total_at}
 -- booked bytes of the slots from there on
 pub record Entries : Type 0 where
   pub first : ℕ
-  pub steps : List CapStep
+  pub steps : List CapacityStep
   pub totals : List ℕ
 
 -- the booked bytes of slot t, from now on; 0 after the calendar's end

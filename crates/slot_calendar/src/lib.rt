@@ -10,7 +10,7 @@ mod ring;
 
 pub use calendar::{Calendar, Overflow};
 pub use laws::{law_capacity, law_one_overflow, law_release, law_room, law_sending, law_shares};
-pub use profiles::{CapStep, MAX_CAPACITY, MAX_STEPS, Profile};
+pub use profiles::{CapacityStep, MAX_CAPACITY, MAX_STEPS, Profile};
 pub use ring::RING_SLOTS;
 
 #[cfg(test)]

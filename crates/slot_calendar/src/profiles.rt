@@ -11,7 +11,7 @@ use vod_base::NoMemory;
 
 /// From slot `from` on, up to the next step, each slot has room for `bytes` bytes.
 #[derive(Clone, Copy, Debug, PartialEq, Eq)]
-pub struct CapStep {
+pub struct CapacityStep {
     /// The step's first slot.
     pub from: u64,
     /// The capacity in bytes a slot.
@@ -30,15 +30,15 @@ pub const MAX_CAPACITY: u64 = 1 << 42;
 /// Contracts see the list of the steps.
 #[derive(Drop)]
 pub struct Profile {
-    steps: Vec<CapStep>,
+    steps: Vec<CapacityStep>,
 }
 
 impl Model for Profile {
     ghost use Rattle.std.specs.Prelude.{List};
-    ghost use Rattle.slot_calendar.specs.declared.profiles.CapStep.{CapStep};
+    ghost use Rattle.slot_calendar.specs.declared.profiles.CapacityStep.{CapacityStep};
     ghost use Rattle.slot_calendar.specs.Profiles.{IsProfile};
 
-    ghost Value = { List CapStep };
+    ghost Value = { List CapacityStep };
 
     ghost view = { λ p. p.steps.items };
 
@@ -55,7 +55,7 @@ pub(crate) struct Span {
 impl Profile {
     /// Whether these steps make a profile: 1 to [`MAX_STEPS`] of them, the first from slot 0,
     /// strictly ascending, each of at most [`MAX_CAPACITY`] bytes.
-    pub fn is_allowed(steps: &[CapStep]) -> bool
+    pub fn is_allowed(steps: &[CapacityStep]) -> bool
         ensures { IsTrue result ↔ IsProfile steps.now }
     {
         !steps.is_empty()
@@ -66,7 +66,7 @@ impl Profile {
     }
 
     /// A profile of these steps, which [`Profile::is_allowed`] allows.
-    pub fn new(steps: Vec<CapStep>) -> Profile
+    pub fn new(steps: Vec<CapacityStep>) -> Profile
         requires { IsProfile steps.items }
         ensures { result ≡ steps.items }
     {
@@ -82,13 +82,13 @@ impl Profile {
         requires { bytes ≤ 2 ^ 42 }
         ensures { IfOk result (λ profile. profile ≡ record { from = 0; bytes = bytes } ∷ []) }
     {
-        let step = CapStep { from: 0, bytes };
+        let step = CapacityStep { from: 0, bytes };
         let steps = Vec::from_slice(alloc, &[step])?;
         Ok(Profile { steps })
     }
 
     /// The steps.
-    pub fn steps(&self) -> &[CapStep]
+    pub fn steps(&self) -> &[CapacityStep]
         ensures value { result.now ≡ self.now }
         ensures profile { IsProfile self.now }
     {
@@ -114,14 +114,14 @@ impl Profile {
 }
 
 /// Whether each step begins after the one before it.
-fn ascend(steps: &[CapStep]) -> bool
+fn ascend(steps: &[CapacityStep]) -> bool
     ensures { IsTrue result ↔ AreAscending steps.now }
 {
     steps.windows(2).all(|pair| pair[0].from < pair[1].from)
 }
 
 /// Whether no step is above the greatest capacity.
-fn are_small(steps: &[CapStep]) -> bool
+fn are_small(steps: &[CapacityStep]) -> bool
     ensures { IsTrue result ↔ AreSmall steps.now }
 {
     steps.iter().all(|step| step.bytes <= MAX_CAPACITY)
@@ -129,7 +129,7 @@ fn are_small(steps: &[CapStep]) -> bool
 
 /// The capacity of a slot, and up to where it stays: the next step's first slot, or the greatest
 /// number.
-fn span_at(steps: &[CapStep], slot: u64) -> Span
+fn span_at(steps: &[CapacityStep], slot: u64) -> Span
     requires { IsProfile steps.now }
     ensures here { IsCapacity steps.now slot result.bytes }
     ensures some { slot < 2 ^ 64 - 1 → slot < result.until }

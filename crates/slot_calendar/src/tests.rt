@@ -23,10 +23,10 @@ fn plan_of(rt: &impl Abort, alloc: Global, pairs: &[(u64, u64)]) -> Result<Plan,
     Ok(Plan::new(segments))
 }
 
-fn steps_of(alloc: Global, pairs: &[(u64, u64)]) -> Result<Vec<CapStep>, AllocError> {
+fn steps_of(alloc: Global, pairs: &[(u64, u64)]) -> Result<Vec<CapacityStep>, AllocError> {
     let mut steps = Vec::new(alloc);
     for (from, bytes) in pairs {
-        steps.push(CapStep {
+        steps.push(CapacityStep {
             from: *from,
             bytes: *bytes,
         })?;
@@ -163,10 +163,10 @@ fn knows_profiles(rt: HostRuntime) -> Result<(), Fail> {
 fn counts_steps(rt: HostRuntime) -> Result<(), Fail> {
     let mut many = steps_of(rt.alloc(), &[])?;
     for from in 0..64 {
-        many.push(CapStep { from, bytes: 1 })?;
+        many.push(CapacityStep { from, bytes: 1 })?;
         assert!(rt; Profile::is_allowed(many.as_slice()));
     }
-    many.push(CapStep { from: 64, bytes: 1 })?;
+    many.push(CapacityStep { from: 64, bytes: 1 })?;
     assert!(rt; !Profile::is_allowed(many.as_slice()));
     Ok(())
 }

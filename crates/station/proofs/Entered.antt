@@ -2,7 +2,7 @@
 use Rattle.std.proofs.Common.{◌≡◌, ℕ, List, [], ◌∷◌, ◌++◌, length, get_or, arith, refl, sym, ap, subst, ◌∙◌, Result, Ok, Err, IfOk, OnErr, false, true≢false}
 use mathlib.Core.List.{IsPrefix}
 use Rattle.plan_cert.specs.declared.Segment.{Segment}
-use Rattle.slot_calendar.specs.declared.profiles.CapStep.{CapStep}
+use Rattle.slot_calendar.specs.declared.profiles.CapacityStep.{CapacityStep}
 use Rattle.admission.specs.declared.entries.Answer.{Answer}
 use Rattle.admission.specs.declared.entries.Command.{Command}
 use Rattle.admission.specs.declared.entries.Command.TheVariants.{Halt}
@@ -65,7 +65,7 @@ entry_made {seat} {old} {new} {more} {command} {place} {answer} at e =
       before = old.entries;
       place_is = e.noted.place_is;
       seen = entries;
-      answer_is = subst (λ (s : List CapStep). IsAnswer s (state_after old.entries) command answer) at.steps e.noted.answer_is;
+      answer_is = subst (λ (s : List CapacityStep). IsAnswer s (state_after old.entries) command answer) at.steps e.noted.answer_is;
       mine = ap (made_by seat.number) entries ∙ (made_own seat.number old.entries last refl
           ∙ (ap (λ (xs : List Placed). xs ++ record { place = length old.entries; entry = last } ∷ []) (sym at.own)
           ∙ ap (λ (k : ℕ). let p : Placed = record { place = k; entry = last } in seat.mine ++ p ∷ []) (sym e.noted.place_is)));

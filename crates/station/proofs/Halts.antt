@@ -4,7 +4,7 @@ use mathlib.Core.Logic.{dite}
 use native.Mathlib.Decide.{dec_le}
 use Rattle.std.proofs.lemmas.List.{get_or_append_left, get_or_push, length-append}
 use Rattle.std.proofs.lemmas.List.Elements.{All-push}
-use Rattle.slot_calendar.specs.declared.profiles.CapStep.{CapStep}
+use Rattle.slot_calendar.specs.declared.profiles.CapacityStep.{CapacityStep}
 use Rattle.admission.specs.declared.entries.Command.TheVariants.{Halt}
 use Rattle.admission.specs.declared.entries.Entry.{Entry}
 use Rattle.admission.specs.Histories.{Halts, IsHalt, IsLegal}
@@ -12,7 +12,7 @@ use Rattle.admission.specs.Makers.{AreHaltsOwn, Placed, Admits, IsOpenAmong}
 use Rattle.admission.proofs.Opens.{halt-later}
 
 -- an entry that halts a play of its own maker leaves the history so, and so does one that halts none
-pub halts-push : (steps : List CapStep) (xs : List Entry) (e : Entry) → IsLegal steps (xs ++ e ∷ []) → AreHaltsOwn xs
+pub halts-push : (steps : List CapacityStep) (xs : List Entry) (e : Entry) → IsLegal steps (xs ++ e ∷ []) → AreHaltsOwn xs
     → ((number keep : ℕ) (none : Entry) → e.command ≡ Halt number keep → e.maker ≡ (get_or xs number none).maker)
     → AreHaltsOwn (xs ++ e ∷ [])
 halts-push steps xs e legal own last = record {

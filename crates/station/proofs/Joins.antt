@@ -1,6 +1,6 @@
 -- A seat to which another was joined.
 use Rattle.std.proofs.Common.{◌≡◌, List, length, ltb, cond, Bool, true, false, sym, subst}
-use Rattle.slot_calendar.specs.declared.profiles.CapStep.{CapStep}
+use Rattle.slot_calendar.specs.declared.profiles.CapacityStep.{CapacityStep}
 use Rattle.admission.specs.declared.entries.Entry.{Entry}
 use Rattle.admission.specs.Histories.{IsLegal}
 use Rattle.admission.specs.Makers.{AreHaltsOwn, made_by}
@@ -23,7 +23,7 @@ pub seat_joins : {back : PassState} (pass other : PassState) → IsSeat (seat_of
 seat_joins {back} pass other p q join = record {
   legal = subst (λ (b : PassState). IsLegal b.terms.steps b.seen) (sym join.is)
       (either_of (IsLegal pass.terms.steps) (ltb (length pass.seen) (length other.seen)) pass.seen other.seen
-      p.legal (subst (λ (s : List CapStep). IsLegal s other.seen) join.same_steps q.legal));
+      p.legal (subst (λ (s : List CapacityStep). IsLegal s other.seen) join.same_steps q.legal));
   halts = subst (λ (b : PassState). AreHaltsOwn b.seen) (sym join.is)
       (either_of AreHaltsOwn (ltb (length pass.seen) (length other.seen)) pass.seen other.seen p.halts q.halts);
   own = join.own;

@@ -4,7 +4,7 @@ use Rattle.std.proofs.lemmas.List.{get_or_append_left, get_or_default, get_or_pu
 use Rattle.std.proofs.lemmas.List.Elements.{All-push, All-weaker}
 use Rattle.plan_cert.specs.declared.Segment.{Segment}
 use Rattle.plan_cert.specs.Slots.{total_bytes}
-use Rattle.slot_calendar.specs.declared.profiles.CapStep.{CapStep}
+use Rattle.slot_calendar.specs.declared.profiles.CapacityStep.{CapacityStep}
 use Rattle.admission.specs.declared.entries.Answer.TheVariants.{Admitted}
 use Rattle.admission.specs.declared.entries.Command.{Command}
 use Rattle.admission.specs.declared.entries.Command.TheVariants.{Play, Halt, Look}
@@ -23,7 +23,7 @@ halt_is number (Play slot segments) same = absurd same
 halt_is number (Look slot) same = absurd same
 
 -- no entry of a legal history halts a play that would come after it
-none-later : {steps : List CapStep} {xs : List Entry} {maker number : ℕ} {d : Entry} → IsLegal steps xs
+none-later : {steps : List CapacityStep} {xs : List Entry} {maker number : ℕ} {d : Entry} → IsLegal steps xs
     → length xs ≤ number + 1 → {p : Placed} → IsAt 0 maker d xs p
     → p.place < number → Halts number p.entry.command → ⊥
 none-later {steps} {xs} {number} {d} legal long {p} h before halts =

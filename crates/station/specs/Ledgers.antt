@@ -9,7 +9,7 @@ use Rattle.admission.specs.Books.{IsNoted, Journal, places_taken}
 use Rattle.admission.specs.declared.entries.Entry.{Entry}
 use Rattle.admission.specs.Histories.{booked_after, open_count, state_after}
 use Rattle.admission.specs.Machine.{start_after}
-use Rattle.slot_calendar.specs.declared.profiles.CapStep.{CapStep}
+use Rattle.slot_calendar.specs.declared.profiles.CapacityStep.{CapacityStep}
 use Rattle.slot_calendar.specs.Profiles.{capacity_at}
 use Rattle.early_start.specs.Offered.{IsOffer, Offers}
 use Rattle.station.specs.declared.answers.Offered.{Offered}
@@ -49,7 +49,7 @@ IsPlayRefused old new maker heard asked (PlayOverflow place slot booked bytes) =
 
 -- an offer in the state after these entries: the earliest start within its wait, from the slot
 -- after the heard one and after now on
-pub record IsOffered (steps : List CapStep) (entries : List Entry) (heard : ℕ) (plan : List Segment)
+pub record IsOffered (steps : List CapacityStep) (entries : List Entry) (heard : ℕ) (plan : List Segment)
     (told : Offered) (found : Offers) : Type 0 where
   pub seen_is : told.seen ≡ length entries
   pub first_is : told.first ≡ start_after (state_after entries) (min heard (2 ^ 62))

@@ -2,7 +2,7 @@
 use Rattle.std.specs.Prelude.{◌≡◌, ℕ, ◌+◌, ◌<◌, List, [], ◌∷◌, ◌++◌, length, slice_index_or}
 use mathlib.Core.List.{IsPrefix}
 use Rattle.atomic_table.specs.Seated.{TableId}
-use Rattle.slot_calendar.specs.declared.profiles.CapStep.{CapStep}
+use Rattle.slot_calendar.specs.declared.profiles.CapacityStep.{CapacityStep}
 use Rattle.admission.specs.declared.entries.Entry.{Entry}
 use Rattle.admission.specs.Histories.{IsLegal}
 use Rattle.admission.specs.Makers.{AreHaltsOwn, Placed, made_by}
@@ -12,7 +12,7 @@ use Rattle.turnstile.specs.Passes.{longer_list}
 -- a station: which one it is, the steps of the link's capacity, and the most entries
 pub record StationState : Type 0 where
   pub id : TableId
-  pub steps : List CapStep
+  pub steps : List CapacityStep
   pub limit : ℕ
 
 -- a seat: its station with the terms, its number, the journal as far as it has seen it, its own
@@ -20,7 +20,7 @@ pub record StationState : Type 0 where
 -- it had made
 pub record SeatState : Type 0 where
   pub id : TableId
-  pub steps : List CapStep
+  pub steps : List CapacityStep
   pub limit : ℕ
   pub number : ℕ
   pub seen : List Entry

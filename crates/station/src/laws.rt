@@ -12,7 +12,7 @@ ghost use Rattle.admission.specs.Makers.{IsOpenAmong, Placed, made_by};
 ghost use Rattle.early_start.specs.declared.Tried.{Tried};
 ghost use Rattle.early_start.specs.Offered.{Offers};
 ghost use Rattle.plan_cert.specs.declared.Segment.{Segment};
-ghost use Rattle.slot_calendar.specs.declared.profiles.CapStep.{CapStep};
+ghost use Rattle.slot_calendar.specs.declared.profiles.CapacityStep.{CapacityStep};
 ghost use Rattle.station.specs.declared.answers.Offered.{Offered};
 ghost use Rattle.station.specs.Answers.{HasMade};
 ghost use Rattle.station.specs.Ledgers.{IsOffered, play_of};
@@ -58,17 +58,17 @@ pub fn law_still_open()
 /// it is asked for so that it begins there; and where another start than the first was found, or
 /// none, it would be refused for the slot that the first start tried names.
 pub fn law_offer_told()
-    ensures first { (steps : List CapStep) (entries : List Entry) (heard start : ℕ)
+    ensures first { (steps : List CapacityStep) (entries : List Entry) (heard start : ℕ)
         (plan : List Segment) (told : Offered) (found : Offers) →
         IsOffered steps entries heard plan told found →
         IsAnswer steps (state_after entries) (play_of heard plan) (Answer.Admitted start) →
         start ≡ told.first }
-    ensures kept { (steps : List CapStep) (entries : List Entry) (heard slot start : ℕ)
+    ensures kept { (steps : List CapacityStep) (entries : List Entry) (heard slot start : ℕ)
         (plan : List Segment) (told : Offered) (found : Offers) →
         IsOffered steps entries heard plan told found → found.start ≡ Some start →
         start ≡ start_after (state_after entries) (min slot (2 ^ 62)) →
         IsAnswer steps (state_after entries) (play_of slot plan) (Answer.Admitted start) }
-    ensures refused { (steps : List CapStep) (entries : List Entry) (heard : ℕ)
+    ensures refused { (steps : List CapacityStep) (entries : List Entry) (heard : ℕ)
         (plan : List Segment) (told : Offered) (found : Offers) (none : Tried) →
         IsOffered steps entries heard plan told found → ¬ (found.start ≡ Some told.first) →
         IsAnswer steps (state_after entries) (play_of heard plan)

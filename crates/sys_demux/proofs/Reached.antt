@@ -429,12 +429,12 @@ failed_at (Video left) fault e = absurd (none-some fault e)
 failed_at End fault e = absurd (none-some fault e)
 failed_at (Failed other) fault e = ap Failed (same_Some other fault e)
 
--- the first byte of a piece was taken, and the rest follows
-pub first_taken : (seen piece more : List ℕ) → 0 < length piece
-    → (seen ++ get_or piece 0 0 ∷ []) ++ (drop 1 piece ++ more) ≡ (seen ++ piece) ++ more
+-- the first byte of a chunk was taken, and the rest follows
+pub first_taken : (seen chunk more : List ℕ) → 0 < length chunk
+    → (seen ++ get_or chunk 0 0 ∷ []) ++ (drop 1 chunk ++ more) ≡ (seen ++ chunk) ++ more
 first_taken seen [] more some = absurd (omega (arith, some))
-first_taken seen (b ∷ piece) more some =
-    append_assoc seen (b ∷ []) (piece ++ more) ∙ sym (append_assoc seen (b ∷ piece) more)
+first_taken seen (b ∷ chunk) more some =
+    append_assoc seen (b ∷ []) (chunk ++ more) ∙ sym (append_assoc seen (b ∷ chunk) more)
 
 -- at the end a fault that bytes show was answered before
 pub end_shown : (state : Place) (item : ℕ) (fault : SystemFault) → end_fault state item ≡ Some fault

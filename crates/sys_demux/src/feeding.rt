@@ -16,7 +16,7 @@ use crate::unwrapper::Unwrapper;
 /// What a call of [`Unwrapper::feed`] took.
 #[derive(Clone, Copy, Debug)]
 pub struct Fed<'p> {
-    /// How many bytes of the piece were taken, at least one.
+    /// How many bytes of the chunk were taken, at least one.
     pub taken: usize,
     /// The video among them: all of them, or none.
     pub video: &'p [u8],
@@ -84,23 +84,23 @@ impl Unwrapper {
         };
     }
 
-    /// Takes bytes from the front of a piece of the stream, at least one, and lends the video among
+    /// Takes bytes from the front of a chunk of the stream, at least one, and lends the video among
     /// them.
     ///
     /// A fault comes as soon as the bytes show it, whatever follows them, and again in each later
     /// call. `Truncated` never comes. At most 2^40 bytes may be fed in all.
-    pub fn feed<'p>(&mut self, piece: &'p [u8]) -> Result<Fed<'p>, SystemFault>
-        requires some { 0 < length piece.now }
-        requires room { self.old.fed + length piece.now ≤ 2 ^ 40 }
-        ensures taken { IfOk result (λ fed. (0 < fed.taken) × (fed.taken ≤ length piece.now)) }
+    pub fn feed<'p>(&mut self, chunk: &'p [u8]) -> Result<Fed<'p>, SystemFault>
+        requires some { 0 < length chunk.now }
+        requires room { self.old.fed + length chunk.now ≤ 2 ^ 40 }
+        ensures taken { IfOk result (λ fed. (0 < fed.taken) × (fed.taken ≤ length chunk.now)) }
         ensures video { IfOk result (λ fed. (fed.video.now ≡ [])
-            ⊎ (fed.video.now ≡ take fed.taken piece.now)) }
+            ⊎ (fed.video.now ≡ take fed.taken chunk.now)) }
         ensures count { IfOk result (λ fed. self.new.fed ≡ self.old.fed + fed.taken) }
         ensures next { (seen video : List ℕ) → WasFed self.old seen video →
             IfOk result (λ fed.
-            WasFed self.new (seen ++ take fed.taken piece.now) (video ++ fed.video.now)) }
+            WasFed self.new (seen ++ take fed.taken chunk.now) (video ++ fed.video.now)) }
         ensures fault { (seen video : List ℕ) → WasFed self.old seen video →
-            IfErr result (λ fault. (more : List ℕ) → IsRefused (seen ++ piece.now ++ more) fault) }
+            IfErr result (λ fault. (more : List ℕ) → IsRefused (seen ++ chunk.now ++ more) fault) }
         ensures shown { (seen video : List ℕ) → WasFed self.old seen video → IfErr result IsShown }
         ensures kept { IfErr result (λ fault. fault_of self.new ≡ Some fault) }
         ensures again { (fault : SystemFault) → fault_of self.old ≡ Some fault →
@@ -109,35 +109,35 @@ impl Unwrapper {
         match self.place {
             Place::Failed(fault) => Err(fault),
             Place::Pass(left) => {
-                let taken = piece.len().min(usize::from(left));
+                let taken = chunk.len().min(usize::from(left));
                 self.skip(taken, pass(left - taken as u16));
                 Ok(Fed {
                     taken,
-                    video: &piece[..0],
+                    video: &chunk[..0],
                 })
             }
             Place::Video(left) => {
-                let taken = piece.len().min(usize::from(left));
+                let taken = chunk.len().min(usize::from(left));
                 self.skip(taken, video(left - taken as u16));
                 Ok(Fed {
                     taken,
-                    video: &piece[..taken],
+                    video: &chunk[..taken],
                 })
             }
             Place::End => {
-                self.skip(piece.len(), Place::End);
+                self.skip(chunk.len(), Place::End);
                 Ok(Fed {
-                    taken: piece.len(),
-                    video: &piece[..0],
+                    taken: chunk.len(),
+                    video: &chunk[..0],
                 })
             }
             _ => {
-                self.take(piece[0]);
+                self.take(chunk[0]);
                 match self.place {
                     Place::Failed(fault) => Err(fault),
                     _ => Ok(Fed {
                         taken: 1,
-                        video: &piece[..0],
+                        video: &chunk[..0],
                     }),
                 }
             }

@@ -1,5 +1,5 @@
-//! The video of MPEG-1 system streams (ISO/IEC 11172-1): packs and packets are taken off piece by
-//! piece, without memory.
+//! The video of MPEG-1 system streams (ISO/IEC 11172-1): packs and packets are taken off chunk by
+//! chunk, without memory.
 #![tactic(auto)]
 
 mod faults;

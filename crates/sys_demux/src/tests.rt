@@ -16,7 +16,7 @@ const PACK: &[u8] = b"\0\0\x01\xba\x21\0\x01\0\x01\x80\0\x03";
 /// The code of the end.
 const END: &[u8] = b"\0\0\x01\xb9";
 
-/// The video of a stream that is fed in pieces of this size, and how it ends: what the bytes are,
+/// The video of a stream that is fed in chunks of this size, and how it ends: what the bytes are,
 /// for every size.
 fn unwrapped(
     alloc: Global,
@@ -31,8 +31,8 @@ fn unwrapped(
     let mut video = Vec::new(alloc);
     let mut rest = bytes;
     while !rest.is_empty() {
-        let piece = &rest[..rest.len().min(size.max(1))];
-        match unwrapper.feed(piece) {
+        let chunk = &rest[..rest.len().min(size.max(1))];
+        match unwrapper.feed(chunk) {
             Ok(fed) => {
                 video.extend_from_slice(fed.video)?;
                 rest = &rest[fed.taken..];

@@ -4,7 +4,7 @@ ghost use Rattle.sys_demux.specs.Sound.{is_sound};
 
 use crate::places::Place;
 
-/// Takes the video bytes out of an MPEG-1 system stream (ISO/IEC 11172-1), piece by piece. It takes
+/// Takes the video bytes out of an MPEG-1 system stream (ISO/IEC 11172-1), chunk by chunk. It takes
 /// no memory.
 #[derive(Drop)]
 pub struct Unwrapper {

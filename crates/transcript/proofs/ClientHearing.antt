@@ -1,11 +1,11 @@
--- What a client has heard, event by event: the pieces in front of the bytes that came.
+-- What a client has heard, event by event: the elements in front of the bytes that came.
 use Rattle.std.proofs.Common.{◌≡◌, ℕ, ◌+◌, ◌<◌, ◌≤◌, ◌==◌, ◌||◌, Bool, true, false, nat_lt, List}
 use Rattle.std.proofs.Common.{[], ◌∷◌, ◌++◌, take, refl, sym, ap, ap₂, subst, ◌∙◌, append_assoc}
 use Rattle.std.proofs.Common.{arith, inl, inr}
 use Rattle.std.proofs.lemmas.Bool.{cond-false, ne_eqb}
 use Rattle.std.proofs.lemmas.List.{append-nil}
 use Rattle.vod_base.specs.Links.{Doing, HeardBytes, HeardEnd, HeardSlot, Sent}
-use Rattle.interleave.specs.Streams.{AreCut, IsPieceLength}
+use Rattle.interleave.specs.Streams.{AreCut, IsElementLength}
 use Rattle.interleave.proofs.Streams.{CutsInTurn, cuts_join}
 use Rattle.rtsp_client.specs.declared.wishes.Wish.{Wish}
 use Rattle.rtsp_client.specs.declared.wishes.Watched.{Watched}
@@ -30,27 +30,27 @@ no_sum = sum_of []
 
 -- where a client stands that heard these bytes
 pub record Heard (bytes : List ℕ) (at : Stage) : Type 0 where
-  pub pieces : List (List ℕ)
-  pub cut : AreCut bytes pieces at.rest
-  pub sum : sum_of at.history ≡ steps no_sum (moments_in pieces)
+  pub elements : List (List ℕ)
+  pub cut : AreCut bytes elements at.rest
+  pub sum : sum_of at.history ≡ steps no_sum (moments_in elements)
   pub gone : HasGoneOn at.history
 
 pub heard-none : Heard [] (stage [] [])
-heard-none = record { pieces = []; cut = refl; sum = refl; gone = tt }
+heard-none = record { elements = []; cut = refl; sum = refl; gone = tt }
 
--- with further pieces
-pub heard-more : {bytes : List ℕ} {old : Stage} {rest : List ℕ} (more : List ℕ) (pieces : List (List ℕ))
-    (heard : Heard bytes old) → AreCut (old.rest ++ more) pieces rest
-    → GoOn old.history (moments_in pieces) → Heard (bytes ++ more) (stage (after old.history (moments_in pieces)) rest)
-heard-more {bytes} {old} {rest} more pieces heard cut good = record {
-  pieces = heard.pieces ++ pieces;
-  cut = let cuts : CutsInTurn bytes more heard.pieces pieces old.rest rest =
+-- with further elements
+pub heard-more : {bytes : List ℕ} {old : Stage} {rest : List ℕ} (more : List ℕ) (elements : List (List ℕ))
+    (heard : Heard bytes old) → AreCut (old.rest ++ more) elements rest
+    → GoOn old.history (moments_in elements) → Heard (bytes ++ more) (stage (after old.history (moments_in elements)) rest)
+heard-more {bytes} {old} {rest} more elements heard cut good = record {
+  elements = heard.elements ++ elements;
+  cut = let cuts : CutsInTurn bytes more heard.elements elements old.rest rest =
       record { first = heard.cut; next = cut } in cuts_join cuts;
-  sum = sum-after old.history (moments_in pieces)
-      ∙ (ap (λ s. steps s (moments_in pieces)) heard.sum
-      ∙ (sym (steps-on no_sum (moments_in heard.pieces) (moments_in pieces))
-      ∙ ap (steps no_sum) (sym (moments-parts heard.pieces pieces))));
-  gone = gone-on old.history (moments_in pieces) heard.gone good;
+  sum = sum-after old.history (moments_in elements)
+      ∙ (ap (λ s. steps s (moments_in elements)) heard.sum
+      ∙ (sym (steps-on no_sum (moments_in heard.elements) (moments_in elements))
+      ∙ ap (steps no_sum) (sym (moments-parts heard.elements elements))));
+  gone = gone-on old.history (moments_in elements) heard.gone good;
 }
 
 same-stage : (new : Stage) (h : History) (rest : List ℕ) → new.history ≡ h → new.rest ≡ rest → stage h rest ≡ new
@@ -71,7 +71,7 @@ heard-event {bytes} {old} {new} (HeardSlot slot) moments heard brings good histo
     let is : stage (Slot slot cut ∷ old.history) old.rest ≡ new =
     same-stage new (Slot slot cut ∷ old.history) old.rest (history ∙ ap (after old.history) brings.0) brings.1 in
     let mid : Heard bytes (stage (Slot slot cut ∷ old.history) old.rest) =
-    record { pieces = heard.pieces; cut = heard.cut; sum = heard.sum; gone = (tt, heard.gone) } in
+    record { elements = heard.elements; cut = heard.cut; sum = heard.sum; gone = (tt, heard.gone) } in
     let B : List ℕ → Type 0 = λ b. Heard b new in
     subst B (sym (append-nil bytes)) (subst (Heard bytes) is mid)
 heard-event {new} HeardEnd moments heard brings good history = absurd brings
@@ -113,13 +113,13 @@ slot-stays h (m ∷ ms) playing = let one = slot-once h m playing in slot-stays 
 
 -- ---- how a watching is done
 
--- the next piece is the last reply
+-- the next element is the last reply
 pub record IsDone (wish : Wish) (watched : Watched) (bytes out : List ℕ) : Type 0 where
   pub at : Stage
   pub heard : Heard bytes at
   pub message : List ℕ
   pub length_ : ℕ
-  pub whole : IsPieceLength at.rest length_
+  pub whole : IsElementLength at.rest length_
   pub moment : moments_of (take length_ at.rest) ≡ Reply message ∷ []
   pub replies_are : replies at.history ≡ 2
   pub complete : is_complete at.history ≡ true

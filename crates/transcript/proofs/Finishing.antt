@@ -46,7 +46,7 @@ record NoReply (ps : List (List ℕ)) : Type 0 where
   sum : Sum
   same : (steps sum (moments_in ps)).replies ≡ sum.replies
 
--- pieces before a reply, and none of them a reply, are all the blocks
+-- elements before a reply, and none of them a reply, are all the blocks
 all-blocks : {bs ps : List (List ℕ)} {m : List ℕ} (later : List (List ℕ)) (reply_then : ReplyThen m) → NoReply ps →
     AreOneBlocks bs → AreTexts later → ps ++ reply_then.block ∷ reply_then.rest ≡ bs ++ later → ps ≡ bs
 all-blocks {bs = []} {ps = []} {m} later reply_then silent are texts all = refl
@@ -68,16 +68,16 @@ all-blocks {bs = b ∷ bs} {ps = y ∷ ys} {m} later reply_then silent are texts
     open silent use {sum as s, same}
 
 -- with the two first replies before them
-all-pieces : {ps : List (List ℕ)} {m : List ℕ} (x : Stream) (p : List ℕ) (tail : List (List ℕ)) → moments_of p ≡ Reply m ∷ []
+all-elements : {ps : List (List ℕ)} {m : List ℕ} (x : Stream) (p : List ℕ) (tail : List (List ℕ)) → moments_of p ≡ Reply m ∷ []
     → all_of x ≡ ps ++ p ∷ tail → (steps no_sum (moments_in ps)).replies ≡ 2 → ps ≡ x.first ∷ x.second ∷ x.blocks
-all-pieces {ps = []} {m} x p tail reply all two = absurd (omega (arith, two))
-all-pieces {ps = a ∷ []} {m} x p tail reply all two =
+all-elements {ps = []} {m} x p tail reply all two = absurd (omega (arith, two))
+all-elements {ps = a ∷ []} {m} x p tail reply all two =
     let first : x.first ≡ a = cc in
     let P : List ℕ → Type 0 = λ q. moments_of q ≡ Reply q ∷ [] in
     let one : steps no_sum (moments_in (a ∷ [])) ≡ steps no_sum (Reply a ∷ []) =
     ap (λ l. steps no_sum (l ++ [])) (subst P first x.first_is.moment) in
     absurd (omega (arith, two, ap (λ (s : Sum). s.replies) one))
-all-pieces {ps = a ∷ b ∷ ps} {m} x p tail reply all two =
+all-elements {ps = a ∷ b ∷ ps} {m} x p tail reply all two =
     let first : x.first ≡ a = cc in
     let second : x.second ≡ b = cc in
     let rest : ps ++ p ∷ tail ≡ x.blocks ++ x.later = cc in
@@ -96,14 +96,14 @@ done-sum {out} x c done is =
     let all = all_of x in
     let k = count_ended c all in
     let p = take done.length_ done.at.rest in
-    let front = cut-front {ps = all} (record { count = c; alone = x.alone; front_is = is }) done.heard.pieces
+    let front = cut-front {ps = all} (record { count = c; alone = x.alone; front_is = is }) done.heard.elements
     done.heard.cut done.whole in
     let tail = front.0 ++ drop k all in
-    let whole : all ≡ done.heard.pieces ++ p ∷ tail =
+    let whole : all ≡ done.heard.elements ++ p ∷ tail =
     sym (take-append-drop k all)
     ∙ (ap (λ l. l ++ drop k all) front.1
-    ∙ (append_assoc (done.heard.pieces ++ p ∷ []) front.0 (drop k all) ∙ append_assoc done.heard.pieces (p ∷ []) tail)) in
-    let two : (steps no_sum (moments_in done.heard.pieces)).replies ≡ 2 =
+    ∙ (append_assoc (done.heard.elements ++ p ∷ []) front.0 (drop k all) ∙ append_assoc done.heard.elements (p ∷ []) tail)) in
+    let two : (steps no_sum (moments_in done.heard.elements)).replies ≡ 2 =
     sym (ap (λ (s : Sum). s.replies) done.heard.sum) ∙ done.replies_are in
-    let are = all-pieces x p tail done.moment whole two in
+    let are = all-elements x p tail done.moment whole two in
     done.heard.sum ∙ (ap (λ l. steps no_sum (moments_in l)) are ∙ two-moments x x.blocks)

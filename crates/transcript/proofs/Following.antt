@@ -9,7 +9,7 @@ pub follows_all : (old new : Stage) (rounds : List Round) → RunsAll old rounds
 follows_all old new [] runs = runs
 follows_all old new (round ∷ rounds) runs = (runs.0, (runs.1.0, follows_all runs.0 new rounds runs.1.2))
 
--- and one more, up to a piece that ends a connection
+-- and one more, up to an element that ends a connection
 pub follows_last : {mid new : Stage} {round : Round} (old : Stage) (rounds : List Round) → RunsAll old rounds mid →
     Runs mid round new → Follows old (rounds ++ round ∷ []) new
 follows_last {new} {round} old [] runs last = (new, (subst (λ s. Runs s round new) runs last, refl))

@@ -16,7 +16,7 @@ use Rattle.session.specs.Sendings.{start_in, stepped_in}
 use Rattle.session.specs.Standings.{Awaits, HaltAnswer, LookAnswer, NoAnswer, OfferAnswer, Open, PlayAnswer, Standing, awaited_answer, open_of}
 use Rattle.session.proofs.SlotCounts.{missed_is}
 use Rattle.session.proofs.Shapes.{HearsAs, Replies, SetsUp, AsksPlay, Stops, AsksLook, AsksOffer, hears_as}
-use Rattle.conn.specs.Rounds.{Comes, Ending, Unheard, PeerEnded, Overfull, AtPiece, InSlot, InReply, Ends, Round, Runs, RunsAll}
+use Rattle.conn.specs.Rounds.{Comes, Ending, Unheard, PeerEnded, Overfull, AtElement, InSlot, InReply, Ends, Round, Runs, RunsAll}
 use Rattle.conn.specs.Turns.{HasHeard, IsAnswered, IsClosed, IsFinished, IsHalted, IsLookAnswered}
 use Rattle.conn.specs.Turns.{IsPlayAnswered, Outcome, Unasked, Entered, WasFull, Offered, Part}
 use Rattle.conn.specs.Turns.{Stage, Taking, Passed, Answered, TakesAll}
@@ -149,7 +149,7 @@ ending-late : (old new : Stage) (count : ℕ) (ending : Ending) (end : ConnEnd) 
 ending-late old new count Unheard end ends = ap (λ (s : Stage). s.session.late) ends.1 ∙ omega arith
 ending-late old new count PeerEnded end ends = ap (λ (s : Stage). s.session.late) ends.1 ∙ omega arith
 ending-late old new count (Overfull bytes) end ends = ap (λ (s : Stage). s.session.late) ends.3 ∙ omega arith
-ending-late old new count (AtPiece round) end ends = round-late old new round ends.0
+ending-late old new count (AtElement round) end ends = round-late old new round ends.0
 ending-late old new count (InSlot slot front) end ends =
     let failed = ends.1 in
     let both : (is_taken old.session slot && is_sending old.session.state) ≡ true =

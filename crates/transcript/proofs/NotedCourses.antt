@@ -14,7 +14,7 @@ use Rattle.session.specs.Sendings.{is_taken, kept_of, sent_due, sent_reply, sent
 use Rattle.session.specs.Sendings.{stepped_in}
 use Rattle.session.specs.Standings.{NoAnswer, Standing, awaited_answer_of, open_in}
 use Rattle.session.specs.Steps.{IsCarried, after_stop}
-use Rattle.conn.specs.Rounds.{Comes, Ending, Unheard, PeerEnded, Overfull, AtPiece, InSlot, InReply}
+use Rattle.conn.specs.Rounds.{Comes, Ending, Unheard, PeerEnded, Overfull, AtElement, InSlot, InReply}
 use Rattle.conn.specs.Rounds.{Ends, Round, Runs, RunsAll, ending_outcomes, round_outcomes}
 use Rattle.conn.specs.Rounds.{rounds_outcomes, takings_outcomes}
 use Rattle.conn.specs.Turns.{IsClosed, IsFinished, IsHalted, Outcome, Unasked, Entered, WasFull}
@@ -216,7 +216,7 @@ ending-carries old new count PeerEnded end ends =
 ending-carries old new count (Overfull bytes) end ends =
     let C : Stage → Type 0 = λ s. CarriesOf old.session [] s.session in
     subst C (sym ends.3) (carries-none old.session.plays old.session.state)
-ending-carries old new count (AtPiece round) end ends = round-carries old new round ends.0
+ending-carries old new count (AtElement round) end ends = round-carries old new round ends.0
 ending-carries old new count (InSlot slot front) end ends =
     let failed = ends.1 in
     to-same old.session old.session new.session [] (record {
@@ -250,7 +250,7 @@ ending-rest : {old : Stage} (ending : Ending) (ended : CourseEnd old ending) →
 ending-rest Unheard ended stands = ap (λ (s : Stage). s.session.awaited) ended.ends.1 ∙ stands.rest
 ending-rest PeerEnded ended stands = ap (λ (s : Stage). s.session.awaited) ended.ends.1 ∙ stands.rest
 ending-rest (Overfull bytes) ended stands = ap (λ (s : Stage). s.session.awaited) ended.ends.3 ∙ stands.rest
-ending-rest {old} (AtPiece round) ended stands = (stands-round old ended.new round ended.ends.0 stands).rest
+ending-rest {old} (AtElement round) ended stands = (stands-round old ended.new round ended.ends.0 stands).rest
 ending-rest (InSlot slot front) ended stands = nothing_of ended.new.session.awaited ended.ends.1.rest
 ending-rest {old} (InReply round message outcome front) ended stands =
     let e = ended.ends.1 in
@@ -357,7 +357,7 @@ ending-outcomes : (old new : Stage) (count : ℕ) (ending : Ending) (end : ConnE
 ending-outcomes old new count Unheard end ends = refl
 ending-outcomes old new count PeerEnded end ends = refl
 ending-outcomes old new count (Overfull bytes) end ends = refl
-ending-outcomes old new count (AtPiece round) end ends = round-outcomes old new round ends.0
+ending-outcomes old new count (AtElement round) end ends = round-outcomes old new round ends.0
 ending-outcomes old new count (InSlot slot front) end ends = refl
 ending-outcomes old new count (InReply round message outcome front) end ends =
     map-append outcome_of (round_turns old round ends.1.mid ends.1.runs) (turn_of ends.1.fails.heard.asking outcome ∷ [])

@@ -1,16 +1,16 @@
--- The pieces of a connection's input that are taken up, one after another: each byte CR or LF, each block, each request.
+-- The elements of a connection's input that are taken up, one after another: each byte CR or LF, each block, each request.
 use Rattle.std.proofs.Common.{◌≡◌, ◌⊎◌, ℕ, zero, suc, ◌<◌, ◌≤◌, ◌++◌, true, false, List, [], ◌∷◌}
 use Rattle.std.proofs.Common.{Ok, Err, length, take, drop, get_or, refl, ap, sym, ◌∙◌, subst, inl}
 use Rattle.std.proofs.Common.{inr, arith}
 use Rattle.std.proofs.lemmas.Bool.{both_ways, true≢false}
 use Rattle.std.proofs.lemmas.List.{append-nil, append_assoc, take-append-le, drop-append-le, length-append, get_or_append_left}
 use Rattle.interleave.specs.Heads.{is_line_end}
-use Rattle.interleave.specs.Pieces.{IsFirst, StartsBlock, StartsRequest, block_length}
-use Rattle.interleave.specs.Streams.{IsPieceLength, LineEnd, WholeBlock, WholeRequest}
-use Rattle.interleave.specs.declared.pieces.Step.TheVariants.{More, Request}
-use Rattle.interleave.specs.declared.pieces.DemuxFault.TheVariants.{HeadTooLong as LongHead, BodyTooLong as LongBody}
+use Rattle.interleave.specs.Elements.{IsFirst, StartsBlock, StartsMessage, block_length}
+use Rattle.interleave.specs.Streams.{IsElementLength, LineEnd, WholeBlock, WholeMessage}
+use Rattle.interleave.specs.declared.elements.Step.TheVariants.{More, Message}
+use Rattle.interleave.specs.declared.elements.DemuxFault.TheVariants.{HeadTooLong as LongHead, BodyTooLong as LongBody}
 use Rattle.interleave.proofs.Cuts.{StartsBlock-append, block_length-append, whole_stays}
-use Rattle.interleave.proofs.Streams.{piece_once, tells_none}
+use Rattle.interleave.proofs.Streams.{element_once, tells_none}
 use Rattle.interleave.proofs.Unique.{clash_block_request, total_once}
 use Rattle.session.specs.declared.asks.Ask.{Ask}
 use Rattle.session.specs.Hearings.{Hears}
@@ -37,18 +37,18 @@ pub record Turn : Type 0 where
   pub outcome : Outcome
   pub answered : Standing
 
-pub data Piece : Type 0 where
-  Over : ℕ → Piece
-  Taken : Turn → Piece
+pub data Element : Type 0 where
+  Over : ℕ → Element
+  Taken : Turn → Element
 
 -- a byte CR or LF is in front, or a block
 pub data IsOver (input : List ℕ) (n : ℕ) : Type 0 where
   AnEnd : n ≡ 1 → 0 < length input → is_line_end (get_or input 0 0) ≡ true → IsOver input n
   ABlock : StartsBlock input → 4 ≤ length input → n ≡ block_length input → n ≤ length input → IsOver input n
 
-pub over_piece : (input : List ℕ) (n : ℕ) → IsOver input n → IsPieceLength input n
-over_piece input n (AnEnd one some end) = LineEnd one some end
-over_piece input n (ABlock starts four size inside) = WholeBlock starts four size inside
+pub over_element : (input : List ℕ) (n : ℕ) → IsOver input n → IsElementLength input n
+over_element input n (AnEnd one some end) = LineEnd one some end
+over_element input n (ABlock starts four size inside) = WholeBlock starts four size inside
 
 over_within : (input : List ℕ) (n : ℕ) → IsOver input n → n ≤ length input
 over_within input n (AnEnd one some end) = omega (arith, one, some)
@@ -62,7 +62,7 @@ over_grows input more n (ABlock starts four size inside) =
     (rw (block_length-append input more four) size)
     (omega (arith, length-append input more, inside))
 
-over_no_request : (input : List ℕ) (n : ℕ) → IsOver input n → StartsRequest input → ⊥
+over_no_request : (input : List ℕ) (n : ℕ) → IsOver input n → StartsMessage input → ⊥
 over_no_request input n (AnEnd one some end) starts = both_ways (is_line_end (get_or input 0 0)) starts.1 end
 over_no_request input n (ABlock block four size inside) starts = clash_block_request input block starts
 
@@ -78,59 +78,59 @@ pub record IsPassing (old : Stage) (n : ℕ) (new : Stage) : Type 0 where
   pub torn : old.session.torn ≡ false
   pub new_is : new ≡ stage old.session (drop n old.input)
 
-abbrev pub Goes : Stage → Piece → Stage → Type 0
+abbrev pub Goes : Stage → Element → Stage → Type 0
 Goes old (Over n) new = IsPassing old n new
 Goes old (Taken turn) new = IsTaken old turn new
 
-abbrev pub GoesAll : Stage → List Piece → Stage → Type 0
+abbrev pub GoesAll : Stage → List Element → Stage → Type 0
 GoesAll old [] new = new ≡ old
-GoesAll old (piece ∷ pieces) new = (mid : Stage) × (Goes old piece mid × GoesAll mid pieces new)
+GoesAll old (element ∷ elements) new = (mid : Stage) × (Goes old element mid × GoesAll mid elements new)
 
 -- what is sent meanwhile, what the station answers, and the requests that are heard
-abbrev pub pieces_bytes : List Piece → List ℕ
-pieces_bytes [] = []
-pieces_bytes (Over n ∷ pieces) = pieces_bytes pieces
-pieces_bytes (Taken turn ∷ pieces) = parts_bytes (reply_parts turn.answered) ++ pieces_bytes pieces
+abbrev pub elements_bytes : List Element → List ℕ
+elements_bytes [] = []
+elements_bytes (Over n ∷ elements) = elements_bytes elements
+elements_bytes (Taken turn ∷ elements) = parts_bytes (reply_parts turn.answered) ++ elements_bytes elements
 
-abbrev pub pieces_answers : List Piece → List Outcome
-pieces_answers [] = []
-pieces_answers (Over n ∷ pieces) = pieces_answers pieces
-pieces_answers (Taken turn ∷ pieces) = answer_in turn.outcome ++ pieces_answers pieces
+abbrev pub elements_answers : List Element → List Outcome
+elements_answers [] = []
+elements_answers (Over n ∷ elements) = elements_answers elements
+elements_answers (Taken turn ∷ elements) = answer_in turn.outcome ++ elements_answers elements
 
-abbrev pub pieces_hearings : List Piece → List Hearing
-pieces_hearings [] = []
-pieces_hearings (Over n ∷ pieces) = pieces_hearings pieces
-pieces_hearings (Taken turn ∷ pieces) = hearing turn.session turn.message turn.ask turn.asking ∷ pieces_hearings pieces
+abbrev pub elements_hearings : List Element → List Hearing
+elements_hearings [] = []
+elements_hearings (Over n ∷ elements) = elements_hearings elements
+elements_hearings (Taken turn ∷ elements) = hearing turn.session turn.message turn.ask turn.asking ∷ elements_hearings elements
 
 -- ---- joined, and with more input
 
--- pieces that are taken up from a stage on
-pub record LaterPieces : Type 0 where
+-- elements that are taken up from a stage on
+pub record LaterElements : Type 0 where
   pub old : Stage
   pub new : Stage
-  pub pieces : List Piece
-  pub leads : GoesAll old pieces new
+  pub elements : List Element
+  pub leads : GoesAll old elements new
 
-pub join_goes : (a : Stage) (later : LaterPieces) (xs : List Piece) → GoesAll a xs later.old →
-    GoesAll a (xs ++ later.pieces) later.new
-join_goes a later [] goes = subst (λ s. GoesAll s later.pieces later.new) goes later.leads
+pub join_goes : (a : Stage) (later : LaterElements) (xs : List Element) → GoesAll a xs later.old →
+    GoesAll a (xs ++ later.elements) later.new
+join_goes a later [] goes = subst (λ s. GoesAll s later.elements later.new) goes later.leads
 join_goes a later (x ∷ xs) goes = (goes.0, (goes.1.0, join_goes goes.0 later xs goes.1.1))
 
-pub join_bytes : (xs ys : List Piece) → pieces_bytes (xs ++ ys) ≡ pieces_bytes xs ++ pieces_bytes ys
+pub join_bytes : (xs ys : List Element) → elements_bytes (xs ++ ys) ≡ elements_bytes xs ++ elements_bytes ys
 join_bytes [] ys = refl
 join_bytes (Over n ∷ xs) ys = join_bytes xs ys
 join_bytes (Taken turn ∷ xs) ys =
     ap (λ bs. parts_bytes (reply_parts turn.answered) ++ bs) (join_bytes xs ys)
-    ∙ sym (append_assoc (parts_bytes (reply_parts turn.answered)) (pieces_bytes xs) (pieces_bytes ys))
+    ∙ sym (append_assoc (parts_bytes (reply_parts turn.answered)) (elements_bytes xs) (elements_bytes ys))
 
-pub join_answers : (xs ys : List Piece) → pieces_answers (xs ++ ys) ≡ pieces_answers xs ++ pieces_answers ys
+pub join_answers : (xs ys : List Element) → elements_answers (xs ++ ys) ≡ elements_answers xs ++ elements_answers ys
 join_answers [] ys = refl
 join_answers (Over n ∷ xs) ys = join_answers xs ys
 join_answers (Taken turn ∷ xs) ys =
     ap (λ os. answer_in turn.outcome ++ os) (join_answers xs ys)
-    ∙ sym (append_assoc (answer_in turn.outcome) (pieces_answers xs) (pieces_answers ys))
+    ∙ sym (append_assoc (answer_in turn.outcome) (elements_answers xs) (elements_answers ys))
 
-pub join_hearings : (xs ys : List Piece) → pieces_hearings (xs ++ ys) ≡ pieces_hearings xs ++ pieces_hearings ys
+pub join_hearings : (xs ys : List Element) → elements_hearings (xs ++ ys) ≡ elements_hearings xs ++ elements_hearings ys
 join_hearings [] ys = refl
 join_hearings (Over n ∷ xs) ys = join_hearings xs ys
 join_hearings (Taken turn ∷ xs) ys = ap (λ hs. hearing turn.session turn.message turn.ask turn.asking ∷ hs) (join_hearings xs ys)
@@ -146,20 +146,20 @@ shorter {new} old session more n inside is =
 
 next_grows : (old : Stage) (message more : List ℕ) → IsNext old message → IsNext (longer old more) message
 next_grows old message more next = record {
-  first = whole_stays old.input more (Ok (Request (length message))) next.first tt;
+  first = whole_stays old.input more (Ok (Message (length message))) next.first tt;
   message_is = next.message_is ∙ sym (take-append-le (length message) old.input more next.first.2);
   replied = next.replied;
   torn = next.torn;
 }
 
-piece_grows : (old new : Stage) (piece : Piece) (more : List ℕ) → Goes old piece new
-    → Goes (longer old more) piece (longer new more)
-piece_grows old new (Over n) more goes = record {
+element_grows : (old new : Stage) (element : Element) (more : List ℕ) → Goes old element new
+    → Goes (longer old more) element (longer new more)
+element_grows old new (Over n) more goes = record {
   over = over_grows old.input more n goes.over;
   torn = goes.torn;
   new_is = shorter old old.session more n (over_within old.input n goes.over) goes.new_is;
 }
-piece_grows old new (Taken turn) more goes = record {
+element_grows old new (Taken turn) more goes = record {
   session_is = goes.session_is;
   next = next_grows old turn.message more goes.next;
   hears = goes.hears;
@@ -167,28 +167,28 @@ piece_grows old new (Taken turn) more goes = record {
   new_is = shorter old (after_reply turn.answered) more (length turn.message) goes.next.first.2 goes.new_is;
 }
 
-pub goes_grow : (old new : Stage) (pieces : List Piece) (more : List ℕ) → GoesAll old pieces new
-    → GoesAll (longer old more) pieces (longer new more)
+pub goes_grow : (old new : Stage) (elements : List Element) (more : List ℕ) → GoesAll old elements new
+    → GoesAll (longer old more) elements (longer new more)
 goes_grow old new [] more goes = ap (λ s. longer s more) goes
-goes_grow old new (piece ∷ pieces) more goes =
-    (longer goes.0 more, (piece_grows old goes.0 piece more goes.1.0, goes_grow goes.0 new pieces more goes.1.1))
+goes_grow old new (element ∷ elements) more goes =
+    (longer goes.0 more, (element_grows old goes.0 element more goes.1.0, goes_grow goes.0 new elements more goes.1.1))
 
 -- ---- what is taken up
 
 pub record Path (old new : Stage) (bytes : List ℕ) (answers : List Outcome) (hearings : List Hearing) : Type 0 where
-  pub pieces : List Piece
-  pub goes : GoesAll old pieces new
-  pub bytes_are : pieces_bytes pieces ≡ bytes
-  pub answers_are : pieces_answers pieces ≡ answers
-  pub hearings_are : pieces_hearings pieces ≡ hearings
+  pub elements : List Element
+  pub goes : GoesAll old elements new
+  pub bytes_are : elements_bytes elements ≡ bytes
+  pub answers_are : elements_answers elements ≡ answers
+  pub hearings_are : elements_hearings elements ≡ hearings
 
 path_none : (s : Stage) → Path s s [] [] []
-path_none s = record { pieces = []; goes = refl; bytes_are = refl; answers_are = refl; hearings_are = refl }
+path_none s = record { elements = []; goes = refl; bytes_are = refl; answers_are = refl; hearings_are = refl }
 
 path_over : {a b c : Stage} {n : ℕ} {bytes : List ℕ} {answers : List Outcome} {hearings : List Hearing} → IsPassing a n b
     → Path b c bytes answers hearings → Path a c bytes answers hearings
 path_over {a} {b} {c} {n} {answers} passing path = record {
-  pieces = Over n ∷ path.pieces;
+  elements = Over n ∷ path.elements;
   goes = (b, (passing, path.goes));
   bytes_are = path.bytes_are;
   answers_are = path.answers_are;
@@ -199,13 +199,13 @@ path_then : {a b c : Stage} {first second : List ℕ} {one two : List Outcome} {
     → Path a b first one heard
     → Path b c second two later → Path a c (first ++ second) (one ++ two) (heard ++ later)
 path_then {a} {b} {c} {first} {second} {one} {heard} {later} path after = record {
-  pieces = path.pieces ++ after.pieces;
-  goes = join_goes a (record { old = b; new = c; pieces = after.pieces; leads = after.goes }) path.pieces path.goes;
-  bytes_are = join_bytes path.pieces after.pieces ∙ ap (λ bs. bs ++ pieces_bytes after.pieces) path.bytes_are
+  elements = path.elements ++ after.elements;
+  goes = join_goes a (record { old = b; new = c; elements = after.elements; leads = after.goes }) path.elements path.goes;
+  bytes_are = join_bytes path.elements after.elements ∙ ap (λ bs. bs ++ elements_bytes after.elements) path.bytes_are
       ∙ ap (λ bs. first ++ bs) after.bytes_are;
-  answers_are = join_answers path.pieces after.pieces ∙ ap (λ os. os ++ pieces_answers after.pieces) path.answers_are
+  answers_are = join_answers path.elements after.elements ∙ ap (λ os. os ++ elements_answers after.elements) path.answers_are
       ∙ ap (λ os. one ++ os) after.answers_are;
-  hearings_are = join_hearings path.pieces after.pieces ∙ ap (λ hs. hs ++ pieces_hearings after.pieces) path.hearings_are
+  hearings_are = join_hearings path.elements after.elements ∙ ap (λ hs. hs ++ elements_hearings after.elements) path.hearings_are
       ∙ ap (λ hs. heard ++ hs) after.hearings_are;
 }
 
@@ -232,7 +232,7 @@ path_taken : (old new : Stage) (message : List ℕ) (outcome : Outcome) (parts :
     → Path old new (parts_bytes parts) (answer_in outcome)
     (hearing old.session message replied.heard.ask replied.heard.asking ∷ [])
 path_taken old new message outcome parts replied = record {
-  pieces = Taken (record {
+  elements = Taken (record {
     session = old.session;
     message = message;
     ask = replied.heard.ask;
@@ -273,41 +273,41 @@ path_of old new (Answered message outcome parts ∷ takings) takes =
 
 -- ---- where nothing more can be taken up
 
-first_piece : (old new : Stage) (piece : Piece) → Goes old piece new → (n : ℕ) × IsPieceLength old.input n
-first_piece old new (Over n) goes = (n, over_piece old.input n goes.over)
-first_piece old new (Taken turn) goes = (length turn.message, WholeRequest goes.next.first.0 goes.next.first.1 goes.next.first.2)
+first_element : (old new : Stage) (element : Element) → Goes old element new → (n : ℕ) × IsElementLength old.input n
+first_element old new (Over n) goes = (n, over_element old.input n goes.over)
+first_element old new (Taken turn) goes = (length turn.message, WholeMessage goes.next.first.0 goes.next.first.1 goes.next.first.2)
 
-goes_on : (old new : Stage) (piece : Piece) → Goes old piece new → old.session.torn ≡ false
+goes_on : (old new : Stage) (element : Element) → Goes old element new → old.session.torn ≡ false
 goes_on old new (Over n) goes = goes.torn
 goes_on old new (Taken turn) goes = goes.next.torn
 
-waits_on : {n : ℕ} (old new : Stage) (piece : Piece) → IsFirst old.input (Ok (Request n))
-    → old.session.waits ≡ true → Goes old piece new → ⊥
+waits_on : {n : ℕ} (old new : Stage) (element : Element) → IsFirst old.input (Ok (Message n))
+    → old.session.waits ≡ true → Goes old element new → ⊥
 waits_on old new (Over m) first waits goes = over_no_request old.input m goes.over first.0
 waits_on old new (Taken turn) first waits goes = true≢false (sym waits ∙ goes.next.replied)
 
-idle_done : (old new : Stage) (piece : Piece)
-    → (IsFirst old.input (Ok More) ⊎ ((n : ℕ) × (IsFirst old.input (Ok (Request n)) × (old.session.waits ≡ true))))
-    → Goes old piece new → ⊥
-idle_done old new piece (inl more) goes =
-    let first = first_piece old new piece goes in tells_none old.input (Ok More) more first.0 first.1
-idle_done old new piece (inr request) goes = waits_on old new piece request.1.0 request.1.1 goes
+idle_done : (old new : Stage) (element : Element)
+    → (IsFirst old.input (Ok More) ⊎ ((n : ℕ) × (IsFirst old.input (Ok (Message n)) × (old.session.waits ≡ true))))
+    → Goes old element new → ⊥
+idle_done old new element (inl more) goes =
+    let first = first_element old new element goes in tells_none old.input (Ok More) more first.0 first.1
+idle_done old new element (inr request) goes = waits_on old new element request.1.0 request.1.1 goes
 
-stopped_done : (old new : Stage) (piece : Piece) (end : ConnEnd) → IsStopped end old → Goes old piece new → ⊥
-stopped_done old new piece Ended stopped goes = absurd stopped
-stopped_done old new piece TornDown stopped goes = true≢false (sym stopped ∙ goes_on old new piece goes)
-stopped_done old new piece LinkFault stopped goes = absurd stopped
-stopped_done old new piece TooMuchInput stopped goes = absurd stopped
-stopped_done old new piece HeadTooLong stopped goes =
-    let first = first_piece old new piece goes in tells_none old.input (Err LongHead) stopped.1 first.0 first.1
-stopped_done old new piece BodyTooLong stopped goes =
-    let first = first_piece old new piece goes in tells_none old.input (Err LongBody) stopped.1 first.0 first.1
-stopped_done old new piece TurnsSpent stopped goes = absurd stopped
-stopped_done old new piece NoMemory stopped goes = absurd stopped
+stopped_done : (old new : Stage) (element : Element) (end : ConnEnd) → IsStopped end old → Goes old element new → ⊥
+stopped_done old new element Ended stopped goes = absurd stopped
+stopped_done old new element TornDown stopped goes = true≢false (sym stopped ∙ goes_on old new element goes)
+stopped_done old new element LinkFault stopped goes = absurd stopped
+stopped_done old new element TooMuchInput stopped goes = absurd stopped
+stopped_done old new element HeadTooLong stopped goes =
+    let first = first_element old new element goes in tells_none old.input (Err LongHead) stopped.1 first.0 first.1
+stopped_done old new element BodyTooLong stopped goes =
+    let first = first_element old new element goes in tells_none old.input (Err LongBody) stopped.1 first.0 first.1
+stopped_done old new element TurnsSpent stopped goes = absurd stopped
+stopped_done old new element NoMemory stopped goes = absurd stopped
 
-done_goes : (old new : Stage) (piece : Piece) → IsDone old → Goes old piece new → ⊥
-done_goes old new piece (inl idle) goes = idle_done old new piece idle.waits goes
-done_goes old new piece (inr stopped) goes = stopped_done old new piece stopped.0 stopped.1 goes
+done_goes : (old new : Stage) (element : Element) → IsDone old → Goes old element new → ⊥
+done_goes old new element (inl idle) goes = idle_done old new element idle.waits goes
+done_goes old new element (inr stopped) goes = stopped_done old new element stopped.0 stopped.1 goes
 
 -- ---- two paths from one place
 
@@ -317,12 +317,12 @@ taken_films old new turn taken =
     ∙ answered_films turn.asking turn.ask turn.outcome turn.answered taken.answered
     ∙ (hears_ground old.session turn.asking turn.message turn.ask taken.hears).films
 
-pub goes_films : (old new : Stage) (pieces : List Piece) → GoesAll old pieces new → new.session.films ≡ old.session.films
+pub goes_films : (old new : Stage) (elements : List Element) → GoesAll old elements new → new.session.films ≡ old.session.films
 goes_films old new [] goes = ap (λ (s : Stage). s.session.films) goes
-goes_films old new (Over n ∷ pieces) goes =
-    goes_films goes.0 new pieces goes.1.1 ∙ ap (λ (s : Stage). s.session.films) goes.1.0.new_is
-goes_films old new (Taken turn ∷ pieces) goes =
-    goes_films goes.0 new pieces goes.1.1 ∙ taken_films old goes.0 turn goes.1.0
+goes_films old new (Over n ∷ elements) goes =
+    goes_films goes.0 new elements goes.1.1 ∙ ap (λ (s : Stage). s.session.films) goes.1.0.new_is
+goes_films old new (Taken turn ∷ elements) goes =
+    goes_films goes.0 new elements goes.1.1 ∙ taken_films old goes.0 turn goes.1.0
 
 pub record SameEnds (one other : Stage) (sent again : List ℕ) (ones others : List Outcome)
     (heard also : List Hearing) : Type 0 where
@@ -380,20 +380,20 @@ turns_same {old} {one} {other} {turn} {again} given films taken also alike =
       both.1,
     )
 
--- these pieces lead from a stage to one at which nothing more can be taken up
-pub record PathDone (old : Stage) (xs : List Piece) (one : Stage) : Type 0 where
+-- these elements lead from a stage to one at which nothing more can be taken up
+pub record PathDone (old : Stage) (xs : List Element) (one : Stage) : Type 0 where
   pub goes : GoesAll old xs one
   pub done : IsDone one
 
 -- two paths that go on with the same answers, and that lack memory alike
-pub record PathsAlike (xs ys : List Piece) (ones others : List Outcome) (heard also : List Hearing) : Type 0 where
-  pub answers : AreSameAnswers (pieces_answers xs ++ ones) (pieces_answers ys ++ others)
-  pub memory : AllLackAlike (pieces_hearings xs ++ heard) (pieces_hearings ys ++ also)
+pub record PathsAlike (xs ys : List Element) (ones others : List Outcome) (heard also : List Hearing) : Type 0 where
+  pub answers : AreSameAnswers (elements_answers xs ++ ones) (elements_answers ys ++ others)
+  pub memory : AllLackAlike (elements_hearings xs ++ heard) (elements_hearings ys ++ also)
 
 pub ends_same : {one other : Stage} {ones others : List Outcome} {heard also : List Hearing} {old : Stage}
-    (xs ys : List Piece) → AreFilms old.session.films → PathDone old xs one → PathDone old ys other →
+    (xs ys : List Element) → AreFilms old.session.films → PathDone old xs one → PathDone old ys other →
     PathsAlike xs ys ones others heard also →
-    SameEnds one other (pieces_bytes xs) (pieces_bytes ys) ones others heard also
+    SameEnds one other (elements_bytes xs) (elements_bytes ys) ones others heard also
 ends_same {one} {other} [] [] films way other_way alike =
     record { last = other_way.goes ∙ sym way.goes; bytes = refl; answers = alike.answers; memory = alike.memory }
 ends_same {one} {other} {old} [] (y ∷ ys) films way other_way alike =
@@ -402,7 +402,7 @@ ends_same {one} {other} {old} (x ∷ xs) [] films way other_way alike =
     absurd (done_goes old way.goes.0 x (subst IsDone other_way.goes other_way.done) way.goes.1.0)
 ends_same {one} {other} {old} (Over n ∷ xs) (Over m ∷ ys) films way other_way alike =
     let mid : Stage = goes.0 in
-    let size : m ≡ n = piece_once old.input m n (over_piece old.input m too.1.0.over) (over_piece old.input n goes.1.0.over) in
+    let size : m ≡ n = element_once old.input m n (over_element old.input m too.1.0.over) (over_element old.input n goes.1.0.over) in
     let same : too.0 ≡ mid = too.1.0.new_is ∙ ap (λ k. stage old.session (drop k old.input)) size ∙ sym goes.1.0.new_is in
     let kept : AreFilms mid.session.films = subst AreFilms (sym (ap (λ (s : Stage). s.session.films) goes.1.0.new_is)) films in
     ends_same xs ys kept (record { goes = goes.1.1; done = done })
@@ -417,13 +417,13 @@ ends_same {one} {other} {old} (Taken turn ∷ xs) (Over m ∷ ys) films way othe
     absurd (over_no_request old.input m other_way.goes.1.0.over way.goes.1.0.next.first.0)
 ends_same {one} {other} {ones} {others} {old} (Taken turn ∷ xs) (Taken again ∷ ys) films way other_way alike =
     let mid : Stage = goes.0 in
-    let split : AreSameAnswers (answer_in turn.outcome ++ (pieces_answers xs ++ ones))
-    (answer_in again.outcome ++ (pieces_answers ys ++ others)) =
-    subst (λ os. AreSameAnswers os (answer_in again.outcome ++ (pieces_answers ys ++ others)))
-    (append_assoc (answer_in turn.outcome) (pieces_answers xs) ones)
-    (subst (λ os. AreSameAnswers ((answer_in turn.outcome ++ pieces_answers xs) ++ ones) os)
-    (append_assoc (answer_in again.outcome) (pieces_answers ys) others) answers) in
-    let both = turns_same (record { ones = pieces_answers xs ++ ones; others = pieces_answers ys ++ others; same = split }) films
+    let split : AreSameAnswers (answer_in turn.outcome ++ (elements_answers xs ++ ones))
+    (answer_in again.outcome ++ (elements_answers ys ++ others)) =
+    subst (λ os. AreSameAnswers os (answer_in again.outcome ++ (elements_answers ys ++ others)))
+    (append_assoc (answer_in turn.outcome) (elements_answers xs) ones)
+    (subst (λ os. AreSameAnswers ((answer_in turn.outcome ++ elements_answers xs) ++ ones) os)
+    (append_assoc (answer_in again.outcome) (elements_answers ys) others) answers) in
+    let both = turns_same (record { ones = elements_answers xs ++ ones; others = elements_answers ys ++ others; same = split }) films
     goes.1.0 other_way.goes.1.0 memory.0 in
     let kept : AreFilms mid.session.films = subst AreFilms (sym (taken_films old mid turn goes.1.0)) films in
     let rest = ends_same xs ys kept (record { goes = goes.1.1; done = done })
@@ -431,7 +431,7 @@ ends_same {one} {other} {ones} {others} {old} (Taken turn ∷ xs) (Taken again �
     (record { answers = both.2; memory = memory.1 }) in
     record {
       last = rest.last;
-      bytes = ap (λ bs. bs ++ pieces_bytes ys) both.1 ∙ ap (λ bs. parts_bytes (reply_parts turn.answered) ++ bs) rest.bytes;
+      bytes = ap (λ bs. bs ++ elements_bytes ys) both.1 ∙ ap (λ bs. parts_bytes (reply_parts turn.answered) ++ bs) rest.bytes;
       answers = rest.answers;
       memory = rest.memory;
     }

@@ -7,8 +7,8 @@ use Rattle.std.proofs.lemmas.Bool.{cases_lt, cond-true, cond-false, eq-eqb, lt-l
 use Rattle.std.proofs.lemmas.List.{get_or-take, length-take-le, take-append-le, take_all}
 use Rattle.std.proofs.Math.Seq.{take-append-add}
 use Rattle.interleave.specs.Heads.{is_line_end}
-use Rattle.interleave.specs.Pieces.{IsRequestLength, StartsRequest}
-use Rattle.interleave.specs.Streams.{IsPieceLength, IsStream, WholeRequest}
+use Rattle.interleave.specs.Elements.{IsMessageLength, StartsMessage}
+use Rattle.interleave.specs.Streams.{IsElementLength, IsStream, WholeMessage}
 use Rattle.interleave.proofs.Streams.{TwoStreams, stream_once}
 use Rattle.film_frames.specs.Runs.{count_ended}
 use Rattle.film_frames.specs.Tracks.{framed_bytes}
@@ -34,13 +34,13 @@ abbrev pub AreTexts : List (List ℕ) → Type 0
 AreTexts [] = Unit {0}
 AreTexts (m ∷ ms) = IsText m × AreTexts ms
 
-pub text-is : (m : List ℕ) → StartsRequest m → IsRequestLength m (length m) → IsText m
+pub text-is : (m : List ℕ) → StartsMessage m → IsMessageLength m (length m) → IsText m
 text-is m starts size = record {
   moment = cond-false (is_line_end (get_or m 0 0)) []
       (cond (get_or m 0 0 == 36) (block_moments (get_or m 1 0) m) (Reply m ∷ [])) starts.1
       ∙ cond-false (get_or m 0 0 == 36) (block_moments (get_or m 1 0) m) (Reply m ∷ []) starts.2;
   other = starts.2;
-  alone = record { some = starts.0; whole = WholeRequest starts size (omega arith) };
+  alone = record { some = starts.0; whole = WholeMessage starts size (omega arith) };
 }
 
 -- ---- the bytes of a block that isn't whole
@@ -177,12 +177,12 @@ reading-film {x} {c} {at} past sum rest few =
           }
     ]
 
-pub reading-of : {x : Stream} {bytes : List ℕ} {c : ℕ} {at : Stage} → Heard bytes at → ((n : ℕ) → IsPieceLength at.rest n → ⊥)
+pub reading-of : {x : Stream} {bytes : List ℕ} {c : ℕ} {at : Stage} → Heard bytes at → ((n : ℕ) → IsElementLength at.rest n → ⊥)
     → bytes ≡ take c (framed_bytes (all_of x)) → 1 < replies at.history → replies at.history ≤ 2 → IsReadingOf x c at
 reading-of {x} {bytes} {c} {at} heard none is playing few =
     let all = all_of x in
     let P : List ℕ → Type 0 = λ b. IsStream b (take (count_ended c all) all) (rest_at c all) in
-    let streams : TwoStreams bytes heard.pieces (take (count_ended c all) all) at.rest (rest_at c all) =
+    let streams : TwoStreams bytes heard.elements (take (count_ended c all) all) at.rest (rest_at c all) =
     record { one = (heard.cut, none); other = subst P (sym is) (cut-at all c x.alone) } in
     let once = stream_once streams in
     let sum : sum_of at.history ≡ steps no_sum (moments_in (take (count_ended c all) all)) =

@@ -7,8 +7,8 @@ use Rattle.std.proofs.lemmas.Bool.{cases_lt, leb-true, ltb-true, and_parts}
 use Rattle.std.proofs.lemmas.List.{append-nil, length-append, length-take, take-append-le, take-take, take_all}
 use Rattle.vod_base.specs.Links.{Doing, HeardBytes, HeardEnd, HeardSlot, Sent}
 use Rattle.interleave.specs.Heads.{is_line_end}
-use Rattle.interleave.specs.Pieces.{IsFirst}
-use Rattle.interleave.specs.declared.pieces.Step.TheVariants.{More}
+use Rattle.interleave.specs.Elements.{IsFirst}
+use Rattle.interleave.specs.declared.elements.Step.TheVariants.{More}
 use Rattle.interleave.proofs.Streams.{tells_none}
 use Rattle.mpeg_scan.specs.declared.films.Film.{Film}
 use Rattle.mpeg_scan.specs.Rates.{picture_time}
@@ -27,7 +27,7 @@ use Rattle.transcript.specs.Requests.{bytes_in}
 use Rattle.transcript.proofs.ClientHearing.{Heard, heard-round, replies-later, rounds_heard, slot-stays}
 use Rattle.transcript.proofs.Reading.{Stream, all_of, begun_sum, film_place, reading-of}
 
--- ---- pieces bring no slot
+-- ---- elements bring no slot
 
 abbrev HasNoSlot : List Moment → Type 0
 HasNoSlot [] = ⊤
@@ -74,9 +74,9 @@ always-more film h (Frame b ∷ ms) none met = always-more film (Frame b ∷ h) 
 always-more film h (Report b ∷ ms) none met = always-more film (Report b ∷ h) ms none met
 always-more film h (Slot t cut ∷ ms) none met = absurd none
 
-pub always-pieces : (wish : Wish) (all : List ℕ) (time : ℕ) (h : History) (ps : List (List ℕ)) → IsBetweenAlways wish all time h
+pub always-elements : (wish : Wish) (all : List ℕ) (time : ℕ) (h : History) (ps : List (List ℕ)) → IsBetweenAlways wish all time h
     → IsBetweenAlways wish all time (after h (moments_in ps))
-always-pieces wish all time h ps met =
+always-elements wish all time h ps met =
     always-more (record { wish = wish; sizes = all; time = time }) h (moments_in ps) (no-slot-in ps) met
 
 -- ---- the film that came
@@ -167,7 +167,7 @@ always-round {event = HeardBytes more} {wish} {film} {old} {new} {round} round_h
     let brings = subst B round_heard.event_is round_heard.runs.brings in
     let A : History → Type 0 = λ h. IsBetweenAlways wish (film_sizes film) (picture_time film.rate) h in
     subst A (sym (round_heard.runs.history_is ∙ ap (after old.history) brings.1.1))
-    (always-pieces wish (film_sizes film) (picture_time film.rate) old.history brings.0 met)
+    (always-elements wish (film_sizes film) (picture_time film.rate) old.history brings.0 met)
 always-round {event = HeardSlot slot} {wish} {film} {begin} {old} {new} {round} round_heard counted front two fed met =
     let B : Doing → Type 0 = λ e. Brings e old.rest round.moments new.rest in
     let brings = subst B round_heard.event_is round_heard.runs.brings in

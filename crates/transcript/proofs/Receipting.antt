@@ -13,7 +13,7 @@ use Rattle.session.specs.declared.settings.Settings.{Settings}
 use Rattle.session.specs.Sendings.{after_play, after_slot, can_reply, is_between, is_sending, is_taken, sent_due, sent_reply, sent_slot, stepped_in}
 use Rattle.session.specs.Standings.{Awaits, HaltAnswer, LookAnswer, NoAnswer, OfferAnswer, Open, PlayAnswer, Standing, awaited_answer, open_of}
 use Rattle.session.proofs.Shapes.{HearsAs, Replies, SetsUp, AsksPlay, Stops, AsksLook, AsksOffer, hears_as}
-use Rattle.conn.specs.Rounds.{Comes, Ending, Unheard, PeerEnded, Overfull, AtPiece, InSlot, InReply}
+use Rattle.conn.specs.Rounds.{Comes, Ending, Unheard, PeerEnded, Overfull, AtElement, InSlot, InReply}
 use Rattle.conn.specs.Rounds.{Ends, Round, Runs, RunsAll, ending_outcomes, round_outcomes}
 use Rattle.conn.specs.Rounds.{rounds_outcomes, takings_outcomes}
 use Rattle.conn.specs.Turns.{HasHeard, IsAnswered, IsClosed, IsFinished, IsHalted, IsLookAnswered}
@@ -236,7 +236,7 @@ logs-ending : (old new : Stage) (count : ℕ) (ending : Ending) (end : ConnEnd) 
 logs-ending old new count Unheard end ends = logs-still old new ends.1
 logs-ending old new count PeerEnded end ends = logs-still old new ends.1
 logs-ending old new count (Overfull bytes) end ends = logs-still old new ends.3
-logs-ending old new count (AtPiece round) end ends = logs-round old new round ends.0
+logs-ending old new count (AtElement round) end ends = logs-round old new round ends.0
 logs-ending old new count (InSlot slot front) end ends = logs-same old.session new.session ends.1.receipts ends.1.offers
 logs-ending old new count (InReply round message outcome front) end ends =
     let e = ends.1 in

@@ -5,10 +5,10 @@ use Rattle.std.proofs.Common.{sym, ◌∙◌, subst, inl, inr, arith}
 use Rattle.std.proofs.lemmas.List.{append-nil, append_assoc, get_or-take}
 use Rattle.vod_base.specs.Links.{Doing, HeardBytes, HeardEnd, HeardSlot, Sent}
 use Rattle.interleave.specs.Heads.{is_line_end}
-use Rattle.interleave.specs.Pieces.{IsFirst, StartsRequest}
-use Rattle.interleave.specs.Streams.{AreCut, IsPieceLength, WholeRequest}
-use Rattle.interleave.specs.declared.pieces.Step.TheVariants.{More, Request}
-use Rattle.interleave.specs.declared.pieces.DemuxFault.TheVariants.{HeadTooLong as LongHead, BodyTooLong as LongBody}
+use Rattle.interleave.specs.Elements.{IsFirst, StartsMessage}
+use Rattle.interleave.specs.Streams.{AreCut, IsElementLength, WholeMessage}
+use Rattle.interleave.specs.declared.elements.Step.TheVariants.{More, Message}
+use Rattle.interleave.specs.declared.elements.DemuxFault.TheVariants.{HeadTooLong as LongHead, BodyTooLong as LongBody}
 use Rattle.interleave.proofs.Streams.{cut_grows, tells_none}
 use Rattle.conn.specs.Rounds.{Comes, IsStopped, Round}
 use Rattle.conn.specs.Turns.{Outcome, Part, Stage, stage}
@@ -17,7 +17,7 @@ use Rattle.conn.specs.declared.reports.ConnEnd.TheVariants.{Ended, TornDown, Lin
 use Rattle.transcript.specs.Courses.{first_stage}
 use Rattle.transcript.specs.Cuttings.{Beginning, Cutting, Hearing, IsDone, TakesUp, hearings_in, takings_hearings}
 use Rattle.transcript.specs.Requests.{AreTaken, AwaitsReply, bytes_in, is_other, message_of, requests_in, rounds_input}
-use Rattle.transcript.proofs.Paths.{GoesAll, IsOver, AnEnd, ABlock, Over, Piece, Taken, over_piece, path_of, pieces_hearings}
+use Rattle.transcript.proofs.Paths.{GoesAll, IsOver, AnEnd, ABlock, Over, Element, Taken, over_element, path_of, elements_hearings}
 
 append_by : (other : Bool) (x : List ℕ) (all xs ys : List (List ℕ)) → all ≡ xs ++ ys
     → (if other then all else x ∷ all) ≡ (if other then xs else x ∷ xs) ++ ys
@@ -30,7 +30,7 @@ requests-append (x ∷ xs) ys =
     append_by (is_other x) x (requests_in (xs ++ ys)) (requests_in xs) (requests_in ys) (requests-append xs ys)
 
 -- a request begins with another byte than CR, LF and `$`
-starts_request : (input : List ℕ) (n : ℕ) → StartsRequest input → 0 < n → is_other (take n input) ≡ false
+starts_request : (input : List ℕ) (n : ℕ) → StartsMessage input → 0 < n → is_other (take n input) ≡ false
 starts_request input n starts some =
     let same : get_or (take n input) 0 0 ≡ get_or input 0 0 = get_or-take n input 0 0 some in
     ap (λ b. is_line_end b || (b == 36)) same ∙ ap (λ b. b || (get_or input 0 0 == 36)) starts.1 ∙ starts.2
@@ -43,64 +43,64 @@ over_other input n (ABlock starts four size inside) =
     let same : get_or (take n input) 0 0 ≡ 36 = get_or-take n input 0 0 (omega (arith, size)) ∙ starts.1 in
     ap (λ b. is_line_end b || (b == 36)) same
 
--- pieces that are taken up are those of the input
+-- elements that are taken up are those of the input
 record Cuts (old new : Stage) (messages : List (List ℕ)) : Type 0 where
-  pieces : List (List ℕ)
-  cut : AreCut old.input pieces new.input
-  requests : requests_in pieces ≡ messages
+  elements : List (List ℕ)
+  cut : AreCut old.input elements new.input
+  requests : requests_in elements ≡ messages
 
-goes_cut : (old new : Stage) (pieces : List Piece) → GoesAll old pieces new
-    → Cuts old new (map message_of (pieces_hearings pieces))
-goes_cut old new [] goes = record { pieces = []; cut = ap (λ (s : Stage). s.input) (sym goes); requests = refl }
-goes_cut old new (Over n ∷ pieces) goes =
+goes_cut : (old new : Stage) (elements : List Element) → GoesAll old elements new
+    → Cuts old new (map message_of (elements_hearings elements))
+goes_cut old new [] goes = record { elements = []; cut = ap (λ (s : Stage). s.input) (sym goes); requests = refl }
+goes_cut old new (Over n ∷ elements) goes =
     let mid : Stage = goes.0 in
-    let rest = goes_cut mid new pieces goes.1.1 in
+    let rest = goes_cut mid new elements goes.1.1 in
     let passing = goes.1.0 in
     record {
-      pieces = take n old.input ∷ rest.pieces;
+      elements = take n old.input ∷ rest.elements;
       cut = (
         n,
         (
-          over_piece old.input n passing.over,
+          over_element old.input n passing.over,
           refl,
-          subst (λ input. AreCut input rest.pieces new.input) (ap (λ (s : Stage). s.input) passing.new_is) rest.cut,
+          subst (λ input. AreCut input rest.elements new.input) (ap (λ (s : Stage). s.input) passing.new_is) rest.cut,
         ),
       );
-      requests = ap (λ b. if b then requests_in rest.pieces else take n old.input ∷ requests_in rest.pieces)
+      requests = ap (λ b. if b then requests_in rest.elements else take n old.input ∷ requests_in rest.elements)
           (over_other old.input n passing.over) ∙ rest.requests;
     }
-goes_cut old new (Taken turn ∷ pieces) goes =
+goes_cut old new (Taken turn ∷ elements) goes =
     let mid : Stage = goes.0 in
-    let rest = goes_cut mid new pieces goes.1.1 in
+    let rest = goes_cut mid new elements goes.1.1 in
     let taken = goes.1.0 in
     let n : ℕ = length turn.message in
     let some : 0 < n = omega (arith, taken.next.first.1.total_is, taken.next.first.1.is_head.some) in
     record {
-      pieces = take n old.input ∷ rest.pieces;
+      elements = take n old.input ∷ rest.elements;
       cut = (
         n,
         (
-          WholeRequest taken.next.first.0 taken.next.first.1 taken.next.first.2,
+          WholeMessage taken.next.first.0 taken.next.first.1 taken.next.first.2,
           refl,
-          subst (λ input. AreCut input rest.pieces new.input) (ap (λ (s : Stage). s.input) taken.new_is) rest.cut,
+          subst (λ input. AreCut input rest.elements new.input) (ap (λ (s : Stage). s.input) taken.new_is) rest.cut,
         ),
       );
-      requests = ap (λ b. if b then requests_in rest.pieces else take n old.input ∷ requests_in rest.pieces)
+      requests = ap (λ b. if b then requests_in rest.elements else take n old.input ∷ requests_in rest.elements)
           (starts_request old.input n taken.next.first.0 some)
           ∙ ap (λ rs. take n old.input ∷ rs) rest.requests
-          ∙ ap (λ m. m ∷ map message_of (pieces_hearings pieces)) (sym taken.next.message_is);
+          ∙ ap (λ m. m ∷ map message_of (elements_hearings elements)) (sym taken.next.message_is);
     }
 
 -- bytes that wait are cut on
 record LaterCut : Type 0 where
   input : List ℕ
-  pieces : List (List ℕ)
+  elements : List (List ℕ)
   rest : List ℕ
-  cut : AreCut input pieces rest
+  cut : AreCut input elements rest
 
 cut_then : (input : List ℕ) (ps : List (List ℕ)) (later : LaterCut) → AreCut input ps later.input →
-    AreCut input (ps ++ later.pieces) later.rest
-cut_then input [] later cut = subst (λ w. AreCut w later.pieces later.rest) (sym cut) later.cut
+    AreCut input (ps ++ later.elements) later.rest
+cut_then input [] later cut = subst (λ w. AreCut w later.elements later.rest) (sym cut) later.cut
 cut_then input (p ∷ ps) later cut = (cut.0, (cut.1.0, cut.1.1, cut_then (drop cut.0 input) ps later cut.1.2))
 
 comes_input : (old opened : Stage) (event : Doing) (due : List Part) (halt : Outcome) → Comes old event due halt opened
@@ -115,70 +115,70 @@ hearings_map [] ys = refl
 hearings_map (x ∷ xs) ys = ap (λ ms. x.message ∷ ms) (hearings_map xs ys)
 
 record CutsAll (heard : List ℕ) (new : Stage) (messages : List (List ℕ)) : Type 0 where
-  pieces : List (List ℕ)
-  cut : AreCut heard pieces new.input
-  requests : requests_in pieces ≡ messages
+  elements : List (List ℕ)
+  cut : AreCut heard elements new.input
+  requests : requests_in elements ≡ messages
 
--- what was heard by a stage is cut into pieces with these requests, and into what waits
+-- what was heard by a stage is cut into elements with these requests, and into what waits
 record HeardCut (old : Stage) (messages : List (List ℕ)) : Type 0 where
   heard : List ℕ
-  pieces : List (List ℕ)
-  cut : AreCut heard pieces old.input
-  requests : requests_in pieces ≡ messages
+  elements : List (List ℕ)
+  cut : AreCut heard elements old.input
+  requests : requests_in elements ≡ messages
 
 rounds_cut : {new : Stage} {messages : List (List ℕ)} (old : Stage) (rounds : List Round)
     (takes : TakesUp old rounds new) (heard_cut : HeardCut old messages) →
     CutsAll (heard_cut.heard ++ rounds_input rounds) new (messages ++ map message_of (hearings_in old rounds new takes))
 rounds_cut {new} {messages} old [] takes heard_cut = record {
-  pieces = pieces;
-  cut = subst (λ w. AreCut w pieces new.input) (sym (append-nil heard))
-      (subst (AreCut heard pieces) (ap (λ (s : Stage). s.input) (sym takes)) cut);
+  elements = elements;
+  cut = subst (λ w. AreCut w elements new.input) (sym (append-nil heard))
+      (subst (AreCut heard elements) (ap (λ (s : Stage). s.input) (sym takes)) cut);
   requests = requests ∙ sym (append-nil messages);
 }
   where
-    open heard_cut use {heard, pieces, cut, requests}
+    open heard_cut use {heard, elements, cut, requests}
 rounds_cut {new} {messages} old (round ∷ rounds) takes heard_cut =
     let mid : Stage = takes.0 in
     let runs = takes.1.0 in
     let opened : Stage = runs.opened in
     let bytes : List ℕ = bytes_in round.event in
-    let grown : AreCut (heard ++ bytes) pieces opened.input =
-    subst (AreCut (heard ++ bytes) pieces)
-    (sym (comes_input old opened round.event round.due round.halt runs.comes)) (cut_grows heard bytes pieces old.input cut) in
+    let grown : AreCut (heard ++ bytes) elements opened.input =
+    subst (AreCut (heard ++ bytes) elements)
+    (sym (comes_input old opened round.event round.due round.halt runs.comes)) (cut_grows heard bytes elements old.input cut) in
     let path = path_of opened mid round.takings runs.takes in
-    let cuts = goes_cut opened mid path.pieces path.goes in
+    let cuts = goes_cut opened mid path.elements path.goes in
     let more : List (List ℕ) = map message_of (takings_hearings opened round.takings mid runs.takes) in
-    let these : requests_in (pieces ++ cuts.pieces) ≡ messages ++ more =
-    requests-append pieces cuts.pieces ∙ ap (λ rs. rs ++ requests_in cuts.pieces) requests
+    let these : requests_in (elements ++ cuts.elements) ≡ messages ++ more =
+    requests-append elements cuts.elements ∙ ap (λ rs. rs ++ requests_in cuts.elements) requests
     ∙ ap (λ rs. messages ++ rs) (cuts.requests ∙ ap (λ hs. map message_of hs) path.hearings_are) in
     let rest = rounds_cut {new = new} {messages = messages ++ more} mid rounds takes.1.2
     (record {
       heard = heard ++ bytes;
-      pieces = pieces ++ cuts.pieces;
-      cut = cut_then (heard ++ bytes) pieces (record {
+      elements = elements ++ cuts.elements;
+      cut = cut_then (heard ++ bytes) elements (record {
         input = opened.input;
-        pieces = cuts.pieces;
+        elements = cuts.elements;
         rest = mid.input;
         cut = cuts.cut;
       }) grown;
       requests = these;
     }) in
     record {
-      pieces = rest.pieces;
-      cut = subst (λ w. AreCut w rest.pieces new.input) (append_assoc heard bytes (rounds_input rounds)) rest.cut;
+      elements = rest.elements;
+      cut = subst (λ w. AreCut w rest.elements new.input) (append_assoc heard bytes (rounds_input rounds)) rest.cut;
       requests = rest.requests ∙ append_assoc messages more (map message_of (hearings_in mid rounds new takes.1.2))
           ∙ ap (λ rs. messages ++ rs)
           (sym (hearings_map (takings_hearings opened round.takings mid runs.takes) (hearings_in mid rounds new takes.1.2)));
     }
   where
-    open heard_cut use {heard, pieces, cut, requests}
+    open heard_cut use {heard, elements, cut, requests}
 
 -- what isn't taken up isn't whole, or waits for a reply
 abbrev IsRest : Stage → Type 0
-IsRest stage = ((n : ℕ) → IsPieceLength stage.input n → ⊥) ⊎ (AwaitsReply stage ⊎ (stage.session.torn ≡ true))
+IsRest stage = ((n : ℕ) → IsElementLength stage.input n → ⊥) ⊎ (AwaitsReply stage ⊎ (stage.session.torn ≡ true))
 
 idle_rest : (stage : Stage)
-    → (IsFirst stage.input (Ok More) ⊎ ((n : ℕ) × (IsFirst stage.input (Ok (Request n)) × (stage.session.waits ≡ true))))
+    → (IsFirst stage.input (Ok More) ⊎ ((n : ℕ) × (IsFirst stage.input (Ok (Message n)) × (stage.session.waits ≡ true))))
     → IsRest stage
 idle_rest stage (inl more) = inl (tells_none stage.input (Ok More) more)
 idle_rest stage (inr request) = inr (inl (record { length = request.0; first = request.1.0; waits = request.1.1 }))
@@ -204,10 +204,10 @@ last_done old new (round ∷ rounds) done takes = last_done takes.0 new rounds t
 pub requests_taken : (beginning : Beginning) (cutting : Cutting beginning) → AreTaken beginning cutting
 requests_taken beginning cutting =
     let first : Stage = first_stage beginning.films beginning.settings beginning.words in
-    let cuts = rounds_cut first cutting.rounds cutting.takes (record { heard = []; pieces = []; cut = refl; requests = refl }) in
+    let cuts = rounds_cut first cutting.rounds cutting.takes (record { heard = []; elements = []; cut = refl; requests = refl }) in
     let begins : IsDone first = inl (record { torn = refl; waits = inl (inl refl) }) in
     record {
-      pieces = cuts.pieces;
+      elements = cuts.elements;
       cut = cuts.cut;
       requests = cuts.requests;
       rest = done_rest cutting.last (last_done first cutting.last cutting.rounds begins cutting.takes);

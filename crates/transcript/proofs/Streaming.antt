@@ -1,35 +1,35 @@
--- A stream of whole pieces, cut at any place.
+-- A stream of whole elements, cut at any place.
 use Rattle.std.proofs.Common.{◌≡◌, ℕ, suc, ◌+◌, ◌-◌, ◌<◌, nat_le, cond, List, [], ◌∷◌, ◌++◌, length, take, drop, refl, sym, ap, subst, ◌∙◌, arith, inl, inr}
 use Rattle.std.proofs.lemmas.Bool.{cases_lt, le-leb, lt-leb}
 use Rattle.std.proofs.lemmas.List.{append-nil, length-take-le, take-append-le, take-append-drop, take_all}
 use Rattle.std.proofs.Math.Seq.{drop-append-add, take-append-add, take-nil}
 use Rattle.film_frames.specs.Runs.{count_ended}
 use Rattle.film_frames.specs.Tracks.{framed_bytes}
-use Rattle.interleave.specs.Streams.{AreCut, IsPieceLength, IsStream, LineEnd, WholeBlock, WholeRequest}
-use Rattle.interleave.proofs.Streams.{TwoCuts, cut_more, cuts_agree, piece_once, piece_stays, piece_within}
+use Rattle.interleave.specs.Streams.{AreCut, IsElementLength, IsStream, LineEnd, WholeBlock, WholeMessage}
+use Rattle.interleave.proofs.Streams.{TwoCuts, cut_more, cuts_agree, element_once, element_stays, element_within}
 
--- a piece by itself, whatever comes after it
-pub record IsAlone (piece : List ℕ) : Type 0 where
-  pub some : 0 < length piece
-  pub whole : IsPieceLength piece (length piece)
+-- an element by itself, whatever comes after it
+pub record IsAlone (element : List ℕ) : Type 0 where
+  pub some : 0 < length element
+  pub whole : IsElementLength element (length element)
 
 abbrev pub AreAlone : List (List ℕ) → Type 0
 AreAlone [] = Unit {0}
-AreAlone (piece ∷ pieces) = IsAlone piece × AreAlone pieces
+AreAlone (element ∷ elements) = IsAlone element × AreAlone elements
 
 pub alone-append : (xs ys : List (List ℕ)) → AreAlone xs → AreAlone ys → AreAlone (xs ++ ys)
 alone-append [] ys one two = two
 alone-append (x ∷ xs) ys one two = (one.0, alone-append xs ys one.1 two)
 
--- the front of a piece at which a stream is cut
+-- the front of an element at which a stream is cut
 abbrev pub rest_at : ℕ → List (List ℕ) → List ℕ
 rest_at c [] = []
-rest_at c (piece ∷ pieces) = cond (nat_le (length piece) c) (rest_at (c - length piece) pieces) (take c piece)
+rest_at c (element ∷ elements) = cond (nat_le (length element) c) (rest_at (c - length element) elements) (take c element)
 
-no-piece : (n : ℕ) → IsPieceLength [] n → ⊥
-no-piece n (LineEnd one some end) = omega (arith, some)
-no-piece n (WholeBlock starts four size inside) = omega (arith, four)
-no-piece n (WholeRequest starts size inside) = omega (arith, starts.0)
+no-element : (n : ℕ) → IsElementLength [] n → ⊥
+no-element n (LineEnd one some end) = omega (arith, some)
+no-element n (WholeBlock starts four size inside) = omega (arith, four)
+no-element n (WholeMessage starts size inside) = omega (arith, starts.0)
 
 stream-cons : (p t : List ℕ) (ps : List (List ℕ)) (r : List ℕ) → IsAlone p → IsStream t ps r → IsStream (p ++ t) (p ∷ ps) r
 stream-cons p t ps r alone stream =
@@ -38,28 +38,28 @@ stream-cons p t ps r alone stream =
     sym (take-append-le (length p) p t (omega arith) ∙ take_all (length p) p (omega arith)) in
     let after : t ≡ drop (length p) (p ++ t) = sym (ap (λ n. drop n (p ++ t)) zero_ ∙ drop-append-add p t 0) in
     let P : List ℕ → Type 0 = λ xs. AreCut xs ps r in
-    ((length p, (piece_stays p t (length p) alone.whole, front, subst P after stream.0)), stream.1)
+    ((length p, (element_stays p t (length p) alone.whole, front, subst P after stream.0)), stream.1)
 
 stream-short : (p t : List ℕ) (c : ℕ) → IsAlone p → c < length p → IsStream (take c (p ++ t)) [] (take c p)
 stream-short p t c alone less =
     let same : take c (p ++ t) ≡ take c p = take-append-le c p t (omega (arith, less)) in
-    let none : (n : ℕ) → IsPieceLength (take c p) n → ⊥ = λ n is.
-    let stays : IsPieceLength (take c p ++ drop c p) n = piece_stays (take c p) (drop c p) n is in
-    let P : List ℕ → Type 0 = λ xs. IsPieceLength xs n in
-    let there : IsPieceLength p n = subst P (take-append-drop c p) stays in
+    let none : (n : ℕ) → IsElementLength (take c p) n → ⊥ = λ n is.
+    let stays : IsElementLength (take c p ++ drop c p) n = element_stays (take c p) (drop c p) n is in
+    let P : List ℕ → Type 0 = λ xs. IsElementLength xs n in
+    let there : IsElementLength p n = subst P (take-append-drop c p) stays in
     omega (
       arith,
-      piece_once p n (length p) there alone.whole,
-      piece_within (take c p) n is,
+      element_once p n (length p) there alone.whole,
+      element_within (take c p) n is,
       length-take-le c p (omega (arith, less)),
       less,
     ) in
     (same, none)
 
--- a front of a stream is its whole pieces in front, and the front of the next one
+-- a front of a stream is its whole elements in front, and the front of the next one
 pub cut-at : (ps : List (List ℕ)) (c : ℕ) → AreAlone ps
     → IsStream (take c (framed_bytes ps)) (take (count_ended c ps) ps) (rest_at c ps)
-cut-at [] c alone = let P : List ℕ → Type 0 = λ xs. IsStream xs [] [] in subst P (sym (take-nil c)) (refl, no-piece)
+cut-at [] c alone = let P : List ℕ → Type 0 = λ xs. IsStream xs [] [] in subst P (sym (take-nil c)) (refl, no-element)
 cut-at (p ∷ ps) c alone =
     elim (cases_lt c (length p)) [
       | inl less ↦
@@ -86,20 +86,20 @@ cut-at (p ∷ ps) c alone =
     ]
 
 front-is : {rest : List ℕ} {all cut : List (List ℕ)} (end : List ℕ) (more : List (List ℕ)) → cut ≡ all ++ more
-    → AreCut rest more end → ((n : ℕ) → IsPieceLength rest n → ⊥)
+    → AreCut rest more end → ((n : ℕ) → IsElementLength rest n → ⊥)
     → ((later : List (List ℕ)) × (all ≡ cut ++ later))
 front-is {all} {cut} end [] is are none = ([], sym (append-nil cut ∙ is ∙ append-nil all))
-front-is {all} {cut} end (piece ∷ more) is are none = absurd (none are.0 are.1.0)
+front-is {all} {cut} end (element ∷ more) is are none = absurd (none are.0 are.1.0)
 
--- bytes that are a front of framed pieces, each of which stands alone
+-- bytes that are a front of framed elements, each of which stands alone
 pub record FramedFront (bytes : List ℕ) (ps : List (List ℕ)) : Type 0 where
   pub count : ℕ
   pub alone : AreAlone ps
   pub front_is : bytes ≡ take count (framed_bytes ps)
 
--- whatever was cut is a front of the pieces
+-- whatever was cut is a front of the elements
 pub cut-front : {bytes rest : List ℕ} {n : ℕ} {ps : List (List ℕ)} (front : FramedFront bytes ps)
-    (cut : List (List ℕ)) → AreCut bytes cut rest → IsPieceLength rest n →
+    (cut : List (List ℕ)) → AreCut bytes cut rest → IsElementLength rest n →
     ((more : List (List ℕ)) × (take (count_ended front.count ps) ps ≡ (cut ++ take n rest ∷ []) ++ more))
 cut-front {bytes} {rest} {n} {ps} front cut are next =
     let all = take (count_ended c ps) ps in

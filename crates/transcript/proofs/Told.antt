@@ -22,7 +22,7 @@ use Rattle.vod_base.specs.Numbers.{number_of}
 use Rattle.vod_base.proofs.Written.{decimal_read}
 use Rattle.rtsp_fields.specs.Descriptions.{seconds_text}
 use Rattle.rtsp_client.specs.Films.{units_until}
-use Rattle.interleave.specs.Pieces.{IsRequestLength}
+use Rattle.interleave.specs.Elements.{IsMessageLength}
 use Rattle.rtsp_text.specs.Fields.{header_value}
 use Rattle.rtsp_text.specs.Replies.{Field, IsPlain, all_fields, reason, reply_front, reply_text, value_named}
 use Rattle.rtsp_text.proofs.ReadBack.{read_back}
@@ -186,7 +186,7 @@ pub record PlayNumbers : Type 0 where
   pub few : slots ≤ 2 ^ 62 + 1
 
 named-read : {message id : List ℕ} (info : List ℕ) (numbers : PlayNumbers) →
-    IsRequestLength message (length message) →
+    IsMessageLength message (length message) →
     All IsPlain (all_fields (Some numbers.sequence)
     (play_named id (codes "npt=0.000-" ++ seconds_text numbers.end_ms) info numbers.slots)) →
     message ≡ reply_text 200 (Some numbers.sequence)
@@ -236,7 +236,7 @@ pub record StreamInfo : Type 0 where
   pub time : ℕ
 
 pub play-read : {message id : List ℕ} (stream_info : StreamInfo) (numbers : PlayNumbers) →
-    IsRequestLength message (length message) →
+    IsMessageLength message (length message) →
     message ≡ play_text numbers.sequence
     (play_fields id 0 numbers.end_ms stream_info.authority stream_info.name stream_info.number
     stream_info.time) numbers.slots →

@@ -12,9 +12,9 @@ use Rattle.transcript.specs.Cuttings.{AllLackAlike, HearAlike, SendAlike, AreSam
 use Rattle.transcript.specs.Cuttings.{Cutting, Hearing, IsDone, TakesUp, all_heard, answer_in}
 use Rattle.transcript.specs.Cuttings.{answers_in, heard_in, hearings_in, takings_hearings}
 use Rattle.transcript.proofs.Once.{stepped_films, steps_same}
-use Rattle.transcript.proofs.Paths.{GoesAll, Path, Piece, ends_same, goes_films, goes_grow}
+use Rattle.transcript.proofs.Paths.{GoesAll, Path, Element, ends_same, goes_films, goes_grow}
 use Rattle.transcript.proofs.Paths.{join_answers, join_bytes, join_goes, join_hearings, longer}
-use Rattle.transcript.proofs.Paths.{path_of, pieces_answers, pieces_bytes, pieces_hearings}
+use Rattle.transcript.proofs.Paths.{path_of, elements_answers, elements_bytes, elements_hearings}
 use Rattle.conn.proofs.Occasions.{EventCome}
 
 -- a slot, and the bytes that came after it
@@ -24,13 +24,13 @@ record Leg : Type 0 where
   halt : Outcome
   opened : Stage
   bytes : List ℕ
-  pieces : List Piece
+  elements : List Element
   until : Stage
 
 record IsLeg (old : Stage) (leg : Leg) : Type 0 where
   stepped : HasStepped old.session leg.slot leg.due leg.halt leg.opened.session
   input : leg.opened.input ≡ old.input
-  goes : GoesAll (longer leg.opened leg.bytes) leg.pieces leg.until
+  goes : GoesAll (longer leg.opened leg.bytes) leg.elements leg.until
   done : IsDone leg.until
 
 abbrev LegsAll : Stage → List Leg → Stage → Type 0
@@ -46,30 +46,30 @@ legs_heard (leg ∷ legs) = HeardSlot leg.slot ∷ (bytes_heard leg.bytes ++ leg
 
 abbrev legs_bytes : List Leg → List ℕ
 legs_bytes [] = []
-legs_bytes (leg ∷ legs) = parts_bytes leg.due ++ (pieces_bytes leg.pieces ++ legs_bytes legs)
+legs_bytes (leg ∷ legs) = parts_bytes leg.due ++ (elements_bytes leg.elements ++ legs_bytes legs)
 
 abbrev legs_answers : List Leg → List Outcome
 legs_answers [] = []
-legs_answers (leg ∷ legs) = answer_in leg.halt ++ (pieces_answers leg.pieces ++ legs_answers legs)
+legs_answers (leg ∷ legs) = answer_in leg.halt ++ (elements_answers leg.elements ++ legs_answers legs)
 
 abbrev legs_hearings : List Leg → List Hearing
 legs_hearings [] = []
-legs_hearings (leg ∷ legs) = pieces_hearings leg.pieces ++ legs_hearings legs
+legs_hearings (leg ∷ legs) = elements_hearings leg.elements ++ legs_hearings legs
 
 -- a course from a place on: the bytes that came before the next slot, and then slot after slot
 record Split (base new : Stage) (heard : List Doing) (bytes : List ℕ) (answers : List Outcome)
     (hearings : List Hearing) : Type 0 where
   first : List ℕ
-  pieces : List Piece
+  elements : List Element
   until : Stage
   legs : List Leg
-  goes : GoesAll (longer base first) pieces until
+  goes : GoesAll (longer base first) elements until
   done : IsDone until
   legs_are : LegsAll until legs new
   heard_is : heard ≡ bytes_heard first ++ legs_heard legs
-  bytes_are : bytes ≡ pieces_bytes pieces ++ legs_bytes legs
-  answers_are : answers ≡ pieces_answers pieces ++ legs_answers legs
-  hearings_are : hearings ≡ pieces_hearings pieces ++ legs_hearings legs
+  bytes_are : bytes ≡ elements_bytes elements ++ legs_bytes legs
+  answers_are : answers ≡ elements_answers elements ++ legs_answers legs
+  hearings_are : hearings ≡ elements_hearings elements ++ legs_hearings legs
 
 split_as : {base new : Stage} {heard heard' : List Doing} {bytes bytes' : List ℕ} {answers answers' : List Outcome}
     {hearings hearings' : List Hearing}
@@ -77,7 +77,7 @@ split_as : {base new : Stage} {heard heard' : List Doing} {bytes bytes' : List �
     → Split base new heard' bytes' answers' hearings'
 split_as {base} {new} {answers} one two three four split = record {
   first = split.first;
-  pieces = split.pieces;
+  elements = split.elements;
   until = split.until;
   legs = split.legs;
   goes = split.goes;
@@ -101,50 +101,50 @@ answers-append (x ∷ xs) ys =
 -- what comes after an event: the course from there, for each place that it begins at
 record Later (mid new : Stage) (heard : List Doing) (bytes : List ℕ) (answers : List Outcome)
     (hearings : List Hearing) : Type 0 where
-  each : (base : Stage) (first : List ℕ) (pieces : List Piece) → GoesAll (longer base first) pieces mid
-      → Split base new (bytes_heard first ++ heard) (pieces_bytes pieces ++ bytes)
-      (pieces_answers pieces ++ answers) (pieces_hearings pieces ++ hearings)
+  each : (base : Stage) (first : List ℕ) (elements : List Element) → GoesAll (longer base first) elements mid
+      → Split base new (bytes_heard first ++ heard) (elements_bytes elements ++ bytes)
+      (elements_answers elements ++ answers) (elements_hearings elements ++ hearings)
 
--- bytes that come first, and the pieces that lead with them from one stage to another
+-- bytes that come first, and the elements that lead with them from one stage to another
 record FrontTaken (base cur : Stage) : Type 0 where
   bytes : List ℕ
-  pieces : List Piece
-  goes : GoesAll (longer base bytes) pieces cur
+  elements : List Element
+  goes : GoesAll (longer base bytes) elements cur
 
 -- bytes came
 bytes_split : {base opened mid new : Stage} {heard : List Doing} {sent taken : List ℕ} {answers more : List Outcome}
     {hearings also : List Hearing} {cur : Stage} (taken_front : FrontTaken base cur) (bytes : List ℕ) →
     opened ≡ longer cur bytes → Path opened mid taken more also → Later mid new heard sent answers hearings →
     Split base new (bytes_heard taken_front.bytes ++ (bytes_heard bytes ++ heard))
-    (pieces_bytes taken_front.pieces ++ (taken ++ sent))
-    (pieces_answers taken_front.pieces ++ (more ++ answers)) (pieces_hearings taken_front.pieces ++ (also ++ hearings))
+    (elements_bytes taken_front.elements ++ (taken ++ sent))
+    (elements_answers taken_front.elements ++ (more ++ answers)) (elements_hearings taken_front.elements ++ (also ++ hearings))
 bytes_split {base} {opened} {mid} {new} {heard} {sent} {taken} {answers} {more} {hearings} {also} {cur}
     taken_front bytes comes path later =
-    let ps : List Piece = path.pieces in
-    let front : GoesAll (longer base (first ++ bytes)) pieces opened =
-    subst (λ s. GoesAll s pieces opened) (ap (λ input. stage base.session input) (append_assoc base.input first bytes))
-    (subst (GoesAll (longer (longer base first) bytes) pieces) (sym comes)
-    (goes_grow (longer base first) cur pieces bytes goes)) in
-    let all : GoesAll (longer base (first ++ bytes)) (pieces ++ ps) mid =
-    join_goes (longer base (first ++ bytes)) (record { old = opened; new = mid; pieces = ps; leads = path.goes }) pieces front in
+    let ps : List Element = path.elements in
+    let front : GoesAll (longer base (first ++ bytes)) elements opened =
+    subst (λ s. GoesAll s elements opened) (ap (λ input. stage base.session input) (append_assoc base.input first bytes))
+    (subst (GoesAll (longer (longer base first) bytes) elements) (sym comes)
+    (goes_grow (longer base first) cur elements bytes goes)) in
+    let all : GoesAll (longer base (first ++ bytes)) (elements ++ ps) mid =
+    join_goes (longer base (first ++ bytes)) (record { old = opened; new = mid; elements = ps; leads = path.goes }) elements front in
     split_as {base = base} {new = new} {heard = bytes_heard (first ++ bytes) ++ heard}
     {heard' = bytes_heard first ++ (bytes_heard bytes ++ heard)}
-    {bytes = pieces_bytes (pieces ++ ps) ++ sent} {bytes' = pieces_bytes pieces ++ (taken ++ sent)}
-    {answers = pieces_answers (pieces ++ ps) ++ answers}
-    {answers' = pieces_answers pieces ++ (more ++ answers)}
-    {hearings = pieces_hearings (pieces ++ ps) ++ hearings} {hearings' = pieces_hearings pieces ++ (also ++ hearings)}
+    {bytes = elements_bytes (elements ++ ps) ++ sent} {bytes' = elements_bytes elements ++ (taken ++ sent)}
+    {answers = elements_answers (elements ++ ps) ++ answers}
+    {answers' = elements_answers elements ++ (more ++ answers)}
+    {hearings = elements_hearings (elements ++ ps) ++ hearings} {hearings' = elements_hearings elements ++ (also ++ hearings)}
     (sym (append_assoc (bytes_heard first) (bytes_heard bytes) heard) ∙ ap (λ ds. ds ++ heard) (sym (heard-append first bytes)))
-    (sym (append_assoc (pieces_bytes pieces) taken sent) ∙ ap (λ bs. (pieces_bytes pieces ++ bs) ++ sent) (sym path.bytes_are)
-    ∙ ap (λ bs. bs ++ sent) (sym (join_bytes pieces ps)))
-    (sym (append_assoc (pieces_answers pieces) more answers)
-    ∙ ap (λ os. (pieces_answers pieces ++ os) ++ answers) (sym path.answers_are)
-    ∙ ap (λ os. os ++ answers) (sym (join_answers pieces ps)))
-    (sym (append_assoc (pieces_hearings pieces) also hearings)
-    ∙ ap (λ hs. (pieces_hearings pieces ++ hs) ++ hearings) (sym path.hearings_are)
-    ∙ ap (λ hs. hs ++ hearings) (sym (join_hearings pieces ps)))
-    (later.each base (first ++ bytes) (pieces ++ ps) all)
+    (sym (append_assoc (elements_bytes elements) taken sent) ∙ ap (λ bs. (elements_bytes elements ++ bs) ++ sent) (sym path.bytes_are)
+    ∙ ap (λ bs. bs ++ sent) (sym (join_bytes elements ps)))
+    (sym (append_assoc (elements_answers elements) more answers)
+    ∙ ap (λ os. (elements_answers elements ++ os) ++ answers) (sym path.answers_are)
+    ∙ ap (λ os. os ++ answers) (sym (join_answers elements ps)))
+    (sym (append_assoc (elements_hearings elements) also hearings)
+    ∙ ap (λ hs. (elements_hearings elements ++ hs) ++ hearings) (sym path.hearings_are)
+    ∙ ap (λ hs. hs ++ hearings) (sym (join_hearings elements ps)))
+    (later.each base (first ++ bytes) (elements ++ ps) all)
   where
-    open taken_front use {bytes as first, pieces, goes}
+    open taken_front use {bytes as first, elements, goes}
 
 -- a slot came
 slot_split : {base cur opened mid new : Stage} {slot : ℕ} {due : List Part} {halt : Outcome} {heard : List Doing}
@@ -152,11 +152,11 @@ slot_split : {base cur opened mid new : Stage} {slot : ℕ} {due : List Part} {h
     IsDone cur → opened.input ≡ cur.input → HasStepped cur.session slot due halt opened.session →
     Path opened mid taken more also → Later mid new heard sent answers hearings →
     Split base new (bytes_heard front.bytes ++ (HeardSlot slot ∷ heard))
-    (pieces_bytes front.pieces ++ (parts_bytes due ++ (taken ++ sent)))
-    (pieces_answers front.pieces ++ (answer_in halt ++ (more ++ answers))) (pieces_hearings front.pieces ++ (also ++ hearings))
+    (elements_bytes front.elements ++ (parts_bytes due ++ (taken ++ sent)))
+    (elements_answers front.elements ++ (answer_in halt ++ (more ++ answers))) (elements_hearings front.elements ++ (also ++ hearings))
 slot_split {base} {cur} {opened} {mid} {new} {slot} {due} {halt} {sent} {taken} {answers} {more} {hearings}
     front done input stepped path later =
-    let ps : List Piece = path.pieces in
+    let ps : List Element = path.elements in
     let there : GoesAll (longer opened []) ps mid =
     subst (λ s. GoesAll s ps mid) (ap (λ i. stage opened.session i) (sym (append-nil opened.input))) path.goes in
     let rest = later.each opened [] ps there in
@@ -167,49 +167,49 @@ slot_split {base} {cur} {opened} {mid} {new} {slot} {due} {halt} {sent} {taken} 
       halt = halt;
       opened = opened;
       bytes = rest.first;
-      pieces = rest.pieces;
+      elements = rest.elements;
       until = rest.until;
     } in
     record {
       first = first;
-      pieces = pieces;
+      elements = elements;
       until = cur;
       legs = leg ∷ rest.legs;
       goes = goes;
       done = done;
       legs_are = (record { stepped = stepped; input = input; goes = rest.goes; done = rest.done }, rest.legs_are);
       heard_is = ap (λ ds. bytes_heard first ++ (HeardSlot slot ∷ ds)) rest.heard_is;
-      bytes_are = ap (λ bs. pieces_bytes pieces ++ (parts_bytes due ++ bs))
+      bytes_are = ap (λ bs. elements_bytes elements ++ (parts_bytes due ++ bs))
           (ap (λ bs. bs ++ sent) (sym path.bytes_are) ∙ rest.bytes_are);
       answers_are =
-          ap (λ os. pieces_answers pieces ++ (answer_in halt ++ os))
+          ap (λ os. elements_answers elements ++ (answer_in halt ++ os))
           (ap (λ os. os ++ answers) (sym path.answers_are) ∙ rest.answers_are);
       hearings_are =
-          ap (λ hs. pieces_hearings pieces ++ hs) (ap (λ hs. hs ++ hearings) (sym path.hearings_are) ∙ rest.hearings_are);
+          ap (λ hs. elements_hearings elements ++ hs) (ap (λ hs. hs ++ hearings) (sym path.hearings_are) ∙ rest.hearings_are);
     }
   where
-    open front use {bytes as first, pieces, goes}
+    open front use {bytes as first, elements, goes}
 
 event_split : {base cur opened mid new : Stage} {heard : List Doing} {sent taken : List ℕ}
     {answers more : List Outcome} {hearings also : List Hearing} {event : Doing} (front : FrontTaken base cur)
     (come : EventCome cur event opened) → IsDone cur → Path opened mid taken more also →
     Later mid new heard sent answers hearings →
     Split base new (bytes_heard front.bytes ++ (heard_in event ++ heard))
-    (pieces_bytes front.pieces ++ (parts_bytes come.due ++ (taken ++ sent)))
-    (pieces_answers front.pieces ++ (answer_in come.halt ++ (more ++ answers)))
-    (pieces_hearings front.pieces ++ (also ++ hearings))
+    (elements_bytes front.elements ++ (parts_bytes come.due ++ (taken ++ sent)))
+    (elements_answers front.elements ++ (answer_in come.halt ++ (more ++ answers)))
+    (elements_hearings front.elements ++ (also ++ hearings))
 event_split {base} {cur} {opened} {new} {heard} {sent} {taken} {answers} {more} {hearings} {also} {event = HeardBytes bytes} front
     come done path later =
     subst (λ ps. Split base new (bytes_heard first ++ (bytes_heard bytes ++ heard))
-    (pieces_bytes pieces ++ (parts_bytes ps ++ (taken ++ sent)))
-    (pieces_answers pieces ++ (answer_in come.halt ++ (more ++ answers)))
-    (pieces_hearings pieces ++ (also ++ hearings))) (sym come.comes.0)
-    (subst (λ h. Split base new (bytes_heard first ++ (bytes_heard bytes ++ heard)) (pieces_bytes pieces ++ (taken ++ sent))
-    (pieces_answers pieces ++ (answer_in h ++ (more ++ answers)))
-    (pieces_hearings pieces ++ (also ++ hearings))) (sym come.comes.1)
+    (elements_bytes elements ++ (parts_bytes ps ++ (taken ++ sent)))
+    (elements_answers elements ++ (answer_in come.halt ++ (more ++ answers)))
+    (elements_hearings elements ++ (also ++ hearings))) (sym come.comes.0)
+    (subst (λ h. Split base new (bytes_heard first ++ (bytes_heard bytes ++ heard)) (elements_bytes elements ++ (taken ++ sent))
+    (elements_answers elements ++ (answer_in h ++ (more ++ answers)))
+    (elements_hearings elements ++ (also ++ hearings))) (sym come.comes.1)
     (bytes_split front bytes come.comes.3 path later))
   where
-    open front use {bytes as first, pieces}
+    open front use {bytes as first, elements}
 event_split {base} {opened} {new} {taken} {answers} {more} {event = HeardSlot slot} front come done path later =
     slot_split front done come.comes.0 come.comes.1 path later
 event_split {base} {opened} {new} {taken} {answers} {more} {event = HeardEnd} front come done path later = absurd come.comes
@@ -220,9 +220,9 @@ rounds_split : (cur new : Stage) (rounds : List Round) (takes : TakesUp cur roun
     → Later cur new (all_heard rounds) (rounds_bytes rounds) (answers_in (rounds_outcomes rounds))
     (hearings_in cur rounds new takes)
 rounds_split cur new [] takes done = record {
-  each = λ base first pieces goes. record {
+  each = λ base first elements goes. record {
     first = first;
-    pieces = pieces;
+    elements = elements;
     until = cur;
     legs = [];
     goes = goes;
@@ -246,13 +246,13 @@ rounds_split cur new (round ∷ rounds) takes done =
     let th : List Hearing = takings_hearings runs.opened round.takings mid runs.takes in
     let rh : List Hearing = hearings_in mid rounds new takes.1.2 in
     record {
-      each = λ base first pieces goes.
+      each = λ base first elements goes.
           split_as
           refl
-          (ap (λ bs. pieces_bytes pieces ++ bs) (append_assoc (parts_bytes round.due) tb rb))
-          (ap (λ os. pieces_answers pieces ++ (answer_in round.halt ++ os))
+          (ap (λ bs. elements_bytes elements ++ bs) (append_assoc (parts_bytes round.due) tb rb))
+          (ap (λ os. elements_answers elements ++ (answer_in round.halt ++ os))
           (answers-append (takings_outcomes round.takings) (rounds_outcomes rounds))) refl
-          (event_split (record { bytes = first; pieces = pieces; goes = goes })
+          (event_split (record { bytes = first; elements = elements; goes = goes })
           (record { due = round.due; halt = round.halt; comes = runs.comes }) done path later);
     }
 
@@ -329,26 +329,26 @@ legs_same {one} {other} {xs = x ∷ xs} {ys = y ∷ ys} old films legs too alike
     let again : IsLeg old y = too.0 in
     let slots : y.slot ≡ x.slot = sym (ap slot_of heard) in
     let cut = heard_split x.bytes y.bytes xs ys (ap tail_of heard) in
-    let step = steps_same (pieces_answers x.pieces ++ legs_answers xs)
-    (pieces_answers y.pieces ++ legs_answers ys) leg.stepped
+    let step = steps_same (elements_answers x.elements ++ legs_answers xs)
+    (elements_answers y.elements ++ legs_answers ys) leg.stepped
     (subst (λ t. HasStepped old.session t y.due y.halt y.opened.session) slots again.stepped) answers in
     let opened : y.opened ≡ x.opened = opened_same x.opened y.opened step.1 (again.input ∙ sym leg.input) in
     let place : longer y.opened y.bytes ≡ longer x.opened x.bytes =
     ap (λ s. longer s y.bytes) opened ∙ ap (λ bs. longer x.opened bs) (sym cut.0) in
     let kept : AreFilms x.opened.session.films =
     subst AreFilms (sym (stepped_films old.session x.slot x.due x.halt x.opened.session leg.stepped)) films in
-    let ends = ends_same x.pieces y.pieces kept (record { goes = leg.goes; done = leg.done })
-    (record { goes = subst (λ s. GoesAll s y.pieces y.until) place again.goes; done = again.done })
+    let ends = ends_same x.elements y.elements kept (record { goes = leg.goes; done = leg.done })
+    (record { goes = subst (λ s. GoesAll s y.elements y.until) place again.goes; done = again.done })
     (record { answers = step.2; memory = memory }) in
     let there : AreFilms x.until.session.films =
-    subst AreFilms (sym (goes_films (longer x.opened x.bytes) x.until x.pieces leg.goes)) kept in
+    subst AreFilms (sym (goes_films (longer x.opened x.bytes) x.until x.elements leg.goes)) kept in
     let rest = legs_same {xs = xs} x.until there legs.1 (subst (λ s. LegsAll s ys other) ends.last too.1)
     (record { heard = cut.1; answers = ends.answers; memory = ends.memory }) in
     record {
       last = rest.last;
-      bytes = ap (λ ps. parts_bytes ps ++ (pieces_bytes y.pieces ++ legs_bytes ys)) step.0
+      bytes = ap (λ ps. parts_bytes ps ++ (elements_bytes y.elements ++ legs_bytes ys)) step.0
           ∙ ap (λ bs. parts_bytes x.due ++ (bs ++ legs_bytes ys)) ends.bytes
-          ∙ ap (λ bs. parts_bytes x.due ++ (pieces_bytes x.pieces ++ bs)) rest.bytes;
+          ∙ ap (λ bs. parts_bytes x.due ++ (elements_bytes x.elements ++ bs)) rest.bytes;
     }
   where
     open alike use {heard, answers, memory}
@@ -361,23 +361,23 @@ splits_same : {base one other : Stage} {heard also : List Doing} {sent again : L
     → heard ≡ also → AreSameAnswers ones others → AllLackAlike hearings too → SameLegs one other sent again
 splits_same {base} {one} {other} {ones} {hearings} films x y same answers memory =
     let cut = heard_split x.first y.first x.legs y.legs (sym x.heard_is ∙ same ∙ y.heard_is) in
-    let ends = ends_same x.pieces y.pieces films (record { goes = x.goes; done = x.done })
-    (record { goes = subst (λ bs. GoesAll (longer base bs) y.pieces y.until) (sym cut.0) y.goes; done = y.done })
+    let ends = ends_same x.elements y.elements films (record { goes = x.goes; done = x.done })
+    (record { goes = subst (λ bs. GoesAll (longer base bs) y.elements y.until) (sym cut.0) y.goes; done = y.done })
     (record {
-      answers = subst (λ os. AreSameAnswers os (pieces_answers y.pieces ++ legs_answers y.legs)) x.answers_are
+      answers = subst (λ os. AreSameAnswers os (elements_answers y.elements ++ legs_answers y.legs)) x.answers_are
           (subst (AreSameAnswers ones) y.answers_are answers);
       memory =
-          subst (λ hs. AllLackAlike hs (pieces_hearings y.pieces ++ legs_hearings y.legs)) x.hearings_are
+          subst (λ hs. AllLackAlike hs (elements_hearings y.elements ++ legs_hearings y.legs)) x.hearings_are
           (subst (AllLackAlike hearings) y.hearings_are memory);
     }) in
     let there : AreFilms x.until.session.films =
-    subst AreFilms (sym (goes_films (longer base x.first) x.until x.pieces x.goes)) films in
+    subst AreFilms (sym (goes_films (longer base x.first) x.until x.elements x.goes)) films in
     let rest = legs_same {xs = x.legs} x.until there x.legs_are (subst (λ s. LegsAll s y.legs other) ends.last y.legs_are)
     (record { heard = cut.1; answers = ends.answers; memory = ends.memory }) in
     record {
       last = rest.last;
       bytes = y.bytes_are ∙ ap (λ bs. bs ++ legs_bytes y.legs) ends.bytes
-          ∙ ap (λ bs. pieces_bytes x.pieces ++ bs) rest.bytes ∙ sym x.bytes_are;
+          ∙ ap (λ bs. elements_bytes x.elements ++ bs) rest.bytes ∙ sym x.bytes_are;
     }
 
 abbrev first_of : Beginning → Stage

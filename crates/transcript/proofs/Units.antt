@@ -10,7 +10,7 @@ use Rattle.mpeg_scan.specs.declared.units.Unit.{Unit as PictureUnit}
 use Rattle.mpeg_scan.specs.Layout.{AreLaid}
 use Rattle.rtp_pack.specs.declared.payloads.Packet.{Packet}
 use Rattle.rtp_pack.specs.declared.filling.Filling.{Filling}
-use Rattle.rtp_pack.specs.Cutting.{first_piece, next_filling}
+use Rattle.rtp_pack.specs.Cutting.{first_portion, next_filling}
 use Rattle.rtp_pack.specs.Laws.{IsLastMarked}
 use Rattle.rtp_pack.specs.Packets.{IsLaid, packets_from, slice_packets, unit_lengths, unit_packets}
 use Rattle.rtp_pack.proofs.MarkLemmas.{last-marked}
@@ -226,7 +226,7 @@ first-there starts unit (p ∷ packets) is some = record { packet = p; packets =
 pub packets-there : (starts : List ℕ) (unit : PictureUnit) → HasPacket starts unit
 packets-there starts unit =
     first-there starts unit (unit_packets starts unit) refl
-    (packets-some unit (first_piece unit.from unit.head_end) (unit_lengths starts unit))
+    (packets-some unit (first_portion unit.from unit.head_end) (unit_lengths starts unit))
 
 unit-marked : (starts : List ℕ) (unit : PictureUnit) → IsLaid starts unit → IsLastMarked (unit_packets starts unit)
 unit-marked starts unit laid =
@@ -289,7 +289,7 @@ units-come {c} {s} from starts (unit ∷ units) laid between =
     let size : length (framed_bytes xs) ≡ w = unit-size {starts = starts} {unit = unit} run f o laid.0.1 laid.0.0 in
     let marked = unit-marked starts unit laid.0.1 in
     let some : 0 < length (unit_packets starts unit) =
-    packets-some unit (first_piece unit.from unit.head_end) (unit_lengths starts unit) in
+    packets-some unit (first_portion unit.from unit.head_end) (unit_lengths starts unit) in
     let Q : List (List ℕ) → Type 0 = λ bs. HasCome (w ∷ sizes) c s (steps s (moments_in (take (count_ended c bs) bs))) in
     let R : ℕ → Type 0 = λ k. HasCome (w ∷ sizes) c s (steps s (moments_in (take k (xs ++ ys)))) in
     let S : List (List ℕ) → Type 0 = λ bs. HasCome (w ∷ sizes) c s (steps s (moments_in bs)) in

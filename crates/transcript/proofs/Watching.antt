@@ -30,7 +30,7 @@ use Rattle.transcript.proofs.Finishing.{done-sum}
 use Rattle.transcript.specs.Requests.{bytes_in}
 use Rattle.transcript.proofs.ClientHearing.{Heard, IsDone, at-done, heard-all, heard-more, heard-none, replies-later, rounds_heard}
 use Rattle.transcript.proofs.Reading.{Stream, all_of}
-use Rattle.transcript.proofs.Readings.{AreFed, always-all, always-pieces, front-of}
+use Rattle.transcript.proofs.Readings.{AreFed, always-all, always-elements, front-of}
 use Rattle.transcript.proofs.Sums.{Sum, steps-payloads, sum-after, sum_of}
 
 -- ---- how the course ends
@@ -65,8 +65,8 @@ end-of {out} mid (inr (inr (bytes, (sent, (stops, doings_are, few))))) = (bytes,
 -- all of a course: the bytes that were heard, and where it is done
 pub record HasWatchedAll (wish : Wish) (watched : Watched) (rounds : List Round) (mid : Stage) (bytes out : List ℕ) : Type 0 where
   pub done : IsDone wish watched (rounds_heard rounds ++ bytes) out
-  pub pieces : List (List ℕ)
-  pub history : done.at.history ≡ after mid.history (moments_in pieces)
+  pub elements : List (List ℕ)
+  pub history : done.at.history ≡ after mid.history (moments_in elements)
 
 all-watched : {wish : Wish} {watched : Watched} {rounds : List Round} {mid : Stage}
     {last sent bytes out : List ℕ} → RunsAll (stage [] []) rounds mid
@@ -75,19 +75,19 @@ all-watched : {wish : Wish} {watched : Watched} {rounds : List Round} {mid : Sta
     → HasWatchedAll wish watched rounds mid bytes out
 all-watched {wish} {watched} {rounds} {mid} {last} {bytes} {out} runs stops out_is =
     let moments = moments_of_rounds rounds in
-    let at = stage (after mid.history (moments_in stops.pieces)) stops.mid in
+    let at = stage (after mid.history (moments_in stops.elements)) stops.mid in
     let heard : Heard (rounds_heard rounds) mid = heard-all [] (stage [] []) mid rounds heard-none runs in
-    let h : Heard (rounds_heard rounds ++ bytes) at = heard-more bytes stops.pieces heard stops.cut stops.good in
-    let told : at.history ≡ after [] (moments ++ moments_in stops.pieces) =
-    ap (λ x. after x (moments_in stops.pieces)) (history-later (stage [] []) mid rounds runs)
-    ∙ sym (after-on [] moments (moments_in stops.pieces)) in
+    let h : Heard (rounds_heard rounds ++ bytes) at = heard-more bytes stops.elements heard stops.cut stops.good in
+    let told : at.history ≡ after [] (moments ++ moments_in stops.elements) =
+    ap (λ x. after x (moments_in stops.elements)) (history-later (stage [] []) mid rounds runs)
+    ∙ sym (after-on [] moments (moments_in stops.elements)) in
     let given = stop-of wish watched at stops.more_sent stops.more_out stops.stops in
-    let all_out : out ≡ payloads_of (moments ++ moments_in stops.pieces) =
+    let all_out : out ≡ payloads_of (moments ++ moments_in stops.elements) =
     out_is ∙ (ap (λ o. payloads_of moments ++ o) (stops.out_is
-    ∙ (ap (λ o. payloads_of (moments_in stops.pieces) ++ o) given.out_none ∙ append-nil (payloads_of (moments_in stops.pieces))))
-    ∙ sym (flat_map-append payload_of moments (moments_in stops.pieces))) in
-    let done = at-done (moments ++ moments_in stops.pieces) h given.next given.gives told all_out in
-    record { done = done.0; pieces = stops.pieces; history = ap (λ (s : Stage). s.history) done.1 }
+    ∙ (ap (λ o. payloads_of (moments_in stops.elements) ++ o) given.out_none ∙ append-nil (payloads_of (moments_in stops.elements))))
+    ∙ sym (flat_map-append payload_of moments (moments_in stops.elements))) in
+    let done = at-done (moments ++ moments_in stops.elements) h given.next given.gives told all_out in
+    record { done = done.0; elements = stops.elements; history = ap (λ (s : Stage). s.history) done.1 }
 
 -- ---- the promise
 
@@ -116,7 +116,7 @@ kept-promise {wish} {film} {x} {rounds} {mid} {bytes} {out} c wished_stream runs
     let sum = done-sum x c done front in
     let whole = whole-of is done.heard.gone sum done.complete in
     let few : replies mid.history ≤ 2 =
-    omega (arith, replies-later mid.history (moments_in all.pieces), ap replies all.history, done.replies_are) in
+    omega (arith, replies-later mid.history (moments_in all.elements), ap replies all.history, done.replies_are) in
     let mine : rounds_heard rounds ≡ take (length (rounds_heard rounds)) (framed_bytes (all_of x)) =
     front-of (rounds_heard rounds) bytes (framed_bytes (all_of x)) c front in
     let always =
@@ -124,7 +124,7 @@ kept-promise {wish} {film} {x} {rounds} {mid} {bytes} {out} c wished_stream runs
     (record { film_is = is; count = whole.count }) (record { few = few; begins = refl }) fed tt in
     let A : History → Type 0 = λ g. IsBetweenAlways wish (film_sizes film) (picture_time film.rate) g in
     let last = subst A (sym all.history)
-    (always-pieces wish (film_sizes film) (picture_time film.rate) mid.history all.pieces always) in
+    (always-elements wish (film_sizes film) (picture_time film.rate) mid.history all.elements always) in
     let some = film-some film.bytes.items film.rate film.units.items film.slice_starts.items film.grammar in
     let quiet = quiet-always wish (film_sizes film) h
     (record { slot_lasts = omega (arith, wished.some_units); picture_lasts = timed })

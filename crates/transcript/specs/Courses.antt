@@ -42,7 +42,7 @@ abbrev pub rounds_bytes : List Round → List ℕ
 rounds_bytes [] = []
 rounds_bytes (round ∷ rounds) = round_bytes round ++ rounds_bytes rounds
 
--- what the station was asked, and its answers: as an event came, as pieces were taken up, and in
+-- what the station was asked, and its answers: as an event came, as elements were taken up, and in
 -- all
 abbrev pub asked_by : Standing → Doing → Awaited
 asked_by session (HeardBytes bytes) = Nothing

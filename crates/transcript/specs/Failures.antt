@@ -5,8 +5,8 @@ use Rattle.conn.specs.Rounds.{IsFront, Round}
 use Rattle.conn.specs.Turns.{Taking}
 use Rattle.transcript.specs.Courses.{Course, rounds_bytes}
 
--- After a course came this event, and then these pieces were taken up. What was sent is all that
--- the course sent, and a front of what the course sends that has this event and these pieces
+-- After a course came this event, and then these elements were taken up. What was sent is all that
+-- the course sent, and a front of what the course sends that has this event and these elements
 -- beside.
 pub record IsCutShort (course : Course) (event : Doing) (takings : List Taking) (sent : List ℕ)
     : Type 0 where

@@ -15,7 +15,7 @@ use Rattle.session.specs.declared.states.State.TheVariants.{Ready}
 use Rattle.session.specs.PlayLaws.{slots_missed}
 use Rattle.session.specs.Sendings.{is_sending, is_taken, after_slot, start_in}
 use Rattle.session.specs.Standings.{Standing}
-use Rattle.conn.specs.Rounds.{Ending, Unheard, PeerEnded, Overfull, AtPiece, InSlot, InReply, Ends}
+use Rattle.conn.specs.Rounds.{Ending, Unheard, PeerEnded, Overfull, AtElement, InSlot, InReply, Ends}
 use Rattle.conn.specs.Rounds.{Round, Runs, RunsAll}
 use Rattle.conn.specs.Turns.{Outcome, Unasked, Entered, WasFull, Offered, Stage, Taking, Passed}
 use Rattle.conn.specs.Turns.{Answered, TakesAll}
@@ -38,7 +38,7 @@ turn_of asking outcome = record { asking = asking; outcome = outcome }
 abbrev pub outcome_of : Turn → Outcome
 outcome_of turn = turn.outcome
 
--- as an event came, as pieces were taken up, and in all
+-- as an event came, as elements were taken up, and in all
 abbrev pub asking_at : Standing → Doing → Standing
 asking_at session (HeardBytes bytes) = session
 asking_at session (HeardSlot slot) = after_slot session slot
@@ -69,7 +69,7 @@ abbrev pub ending_turns : (old : Stage) (count : ℕ) (ending : Ending) (end : C
 ending_turns old count Unheard end new ends = []
 ending_turns old count PeerEnded end new ends = []
 ending_turns old count (Overfull bytes) end new ends = []
-ending_turns old count (AtPiece round) end new ends = round_turns old round new ends.0
+ending_turns old count (AtElement round) end new ends = round_turns old round new ends.0
 ending_turns old count (InSlot slot front) end new ends = []
 ending_turns old count (InReply round message outcome front) end new ends =
     round_turns old round ends.1.mid ends.1.runs ++ turn_of ends.1.fails.heard.asking outcome ∷ []
@@ -148,6 +148,6 @@ abbrev pub ending_missed : Standing → Ending → ℕ
 ending_missed session Unheard = 0
 ending_missed session PeerEnded = 0
 ending_missed session (Overfull bytes) = 0
-ending_missed session (AtPiece round) = missed_by session round.event
+ending_missed session (AtElement round) = missed_by session round.event
 ending_missed session (InSlot slot front) = missed_in session slot
 ending_missed session (InReply round message outcome front) = missed_by session round.event

@@ -2,7 +2,7 @@
 use Rattle.std.specs.Prelude.{◌≡◌, ℕ, ◌≤◌, ⊤, List, [], ◌∷◌, length}
 use Rattle.mpeg_scan.specs.Rates.{picture_time}
 use Rattle.rtp_pack.specs.declared.reports.Identity.{Identity}
-use Rattle.interleave.specs.Pieces.{IsRequestLength, StartsRequest}
+use Rattle.interleave.specs.Elements.{IsMessageLength, StartsMessage}
 use Rattle.film_frames.specs.declared.stores.Stored.{Stored}
 use Rattle.film_frames.specs.Runs.{run_of, run_pieces}
 use Rattle.film_frames.specs.Tracks.{framed_bytes}
@@ -56,8 +56,8 @@ pub record IsWholePlay (wish : Wish) (stored : Stored) (identity : Identity) (pl
 
 -- a message whose end its own bytes tell
 pub record IsMessage (message : List ℕ) : Type 0 where
-  pub starts : StartsRequest message
-  pub size : IsRequestLength message (length message)
+  pub starts : StartsMessage message
+  pub size : IsMessageLength message (length message)
 
 abbrev pub AreAfter : ℕ → List PlacedText → Type 0
 AreAfter place [] = ⊤

@@ -3,9 +3,9 @@ use Rattle.std.specs.Prelude.{ℕ, ◌≡◌, ◌⊎◌, ◌++◌, ◌==◌, ◌
 use Rattle.std.specs.Prelude.{◌∷◌, map, slice_index, Ok}
 use Rattle.vod_base.specs.Links.{Doing, HeardBytes, HeardEnd, HeardSlot, Sent}
 use Rattle.interleave.specs.Heads.{is_line_end}
-use Rattle.interleave.specs.Pieces.{IsFirst}
-use Rattle.interleave.specs.Streams.{AreCut, IsPieceLength}
-use Rattle.interleave.specs.declared.pieces.Step.TheVariants.{Request}
+use Rattle.interleave.specs.Elements.{IsFirst}
+use Rattle.interleave.specs.Streams.{AreCut, IsElementLength}
+use Rattle.interleave.specs.declared.elements.Step.TheVariants.{Message}
 use Rattle.conn.specs.Rounds.{Round}
 use Rattle.conn.specs.Turns.{Stage}
 use Rattle.transcript.specs.Cuttings.{Beginning, Cutting, Hearing, hearings_of}
@@ -21,14 +21,14 @@ abbrev pub rounds_input : List Round → List ℕ
 rounds_input [] = []
 rounds_input (round ∷ rounds) = bytes_in round.event ++ rounds_input rounds
 
--- the requests among pieces: those that begin with another byte than CR, LF and `$`
+-- the requests among elements: those that begin with another byte than CR, LF and `$`
 abbrev pub is_other : List ℕ → Bool
-is_other piece = is_line_end (slice_index piece 0) || (slice_index piece 0 == 36)
+is_other element = is_line_end (slice_index element 0) || (slice_index element 0 == 36)
 
 abbrev pub requests_in : List (List ℕ) → List (List ℕ)
 requests_in [] = []
-requests_in (piece ∷ pieces) = if is_other piece
-    then requests_in pieces else piece ∷ requests_in pieces
+requests_in (element ∷ elements) = if is_other element
+    then requests_in elements else element ∷ requests_in elements
 
 abbrev pub message_of : Hearing → List ℕ
 message_of hearing = hearing.message
@@ -36,14 +36,14 @@ message_of hearing = hearing.message
 -- a request waits for an earlier reply to be sent
 pub record AwaitsReply (stage : Stage) : Type 0 where
   pub length : ℕ
-  pub first : IsFirst stage.input (Ok (Request length))
+  pub first : IsFirst stage.input (Ok (Message length))
   pub waits : stage.session.waits ≡ true
 
--- The input is cut into pieces and a rest, and the requests among them were taken up, all in order.
+-- The input is cut into elements and a rest, and the requests among them were taken up, all in order.
 -- So were all whole ones, unless an earlier reply waits or the 200 of a TEARDOWN was sent.
 pub record AreTaken (beginning : Beginning) (cutting : Cutting beginning) : Type 0 where
-  pub pieces : List (List ℕ)
-  pub cut : AreCut (rounds_input cutting.rounds) pieces cutting.last.input
-  pub requests : requests_in pieces ≡ map message_of (hearings_of beginning cutting)
-  pub rest : ((n : ℕ) → ¬ IsPieceLength cutting.last.input n)
+  pub elements : List (List ℕ)
+  pub cut : AreCut (rounds_input cutting.rounds) elements cutting.last.input
+  pub requests : requests_in elements ≡ map message_of (hearings_of beginning cutting)
+  pub rest : ((n : ℕ) → ¬ IsElementLength cutting.last.input n)
       ⊎ (AwaitsReply cutting.last ⊎ (cutting.last.session.torn ≡ true))

@@ -35,7 +35,7 @@ ghost use Rattle.transcript.specs.Requests.{AreTaken};
 ghost use Rattle.transcript.specs.Replies.{course_replies, course_texts, text_of, waiting_reply};
 ghost use Rattle.transcript.specs.Replies.{with_texts};
 
-/// The events of a connection's course follow one another, with the last one where a piece ended
+/// The events of a connection's course follow one another, with the last one where an element ended
 /// it, and so do those of each front of it.
 pub fn law_follows()
     ensures all { (old new : Stage) (rounds : List Round) → RunsAll old rounds new
@@ -88,7 +88,7 @@ pub fn law_requests_taken()
 {}
 
 /// A connection's course is one of those of which the laws on cuttings speak, with the last event
-/// where a piece ended it, and so is each front of it.
+/// where an element ended it, and so is each front of it.
 pub fn law_cuttings()
     ensures all { (old new : Stage) (rounds : List Round) → RunsAll old rounds new
         → TakesUp old rounds new }

@@ -4,7 +4,7 @@
 ghost use Rattle.std.specs.Prelude.{◌≡◌, ◌≤◌, ◌<◌, ◌-◌, ◌+◌, ◌^◌, ◌++◌, ◌∷◌, All, List, Some, []};
 ghost use Rattle.std.specs.Prelude.{ℕ, codes, decimal, length, take, drop};
 ghost use Rattle.film_frames.specs.declared.stores.Stored.{Stored};
-ghost use Rattle.interleave.specs.Pieces.{IsRequestLength};
+ghost use Rattle.interleave.specs.Elements.{IsMessageLength};
 ghost use Rattle.mpeg_scan.specs.Rates.{picture_time};
 ghost use Rattle.mpeg_scan.specs.declared.films.Film.{Film};
 ghost use Rattle.rtp_pack.specs.Packets.{OfUnit};
@@ -55,7 +55,7 @@ pub fn law_watched_whole()
 /// values have no LF and no blanks around them.
 pub fn law_play_read()
     ensures { (message id authority name : List ℕ) (sequence end_ms number time slots : ℕ)
-        → IsRequestLength message (length message)
+        → IsMessageLength message (length message)
         → message ≡ play_text sequence (play_fields id 0 end_ms authority name number time) slots
         → All IsPlain (all_fields (Some sequence)
         (play_fields id 0 end_ms authority name number time

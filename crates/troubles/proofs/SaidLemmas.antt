@@ -1,4 +1,4 @@
--- What a piece more makes of what was said.
+-- What a part more makes of what was said.
 use Rattle.std.proofs.Common.{◌≡◌, ℕ, ◌+◌, ◌≤◌, Bool, true, false, List, [], ◌++◌, length, take, Option, refl, sym, ap, ◌∙◌, arith, length-append, subst}
 use Rattle.std.proofs.lemmas.Bool.{true≢false}
 use Rattle.std.proofs.Math.Seq.{take-append-add}
@@ -18,10 +18,10 @@ said_nothing faults told =
     }
 
 -- nothing more is said after a fault
-pub said_no_more : {faults faults' : ℕ} {told told' : Option (List ℕ)} {text : List ℕ} (piece : List ℕ) →
+pub said_no_more : {faults faults' : ℕ} {told told' : Option (List ℕ)} {text : List ℕ} (part : List ℕ) →
     IsSaid faults faults' told told' text false →
-    IsSaid faults faults' told told' (text ++ piece) false
-said_no_more {told} {told'} {text} piece said =
+    IsSaid faults faults' told told' (text ++ part) false
+said_no_more {told} {told'} {text} part said =
     let front : IsFrontMore told told' text = said.front refl in
     record {
       count = said.count;
@@ -30,43 +30,43 @@ said_no_more {told} {told'} {text} piece said =
       front = λ _. (
         front.0,
         (
-          omega (arith, front.1.0, length-append text piece),
-          front.1.1 ∙ ap (told_more told) (sym (take-append-le front.0 text piece front.1.0)),
+          omega (arith, front.1.0, length-append text part),
+          front.1.1 ∙ ap (told_more told) (sym (take-append-le front.0 text part front.1.0)),
         ),
       );
     }
 
--- a piece more was written
+-- a part more was written
 pub said_more : {faults faults' faults'' : ℕ} {told told' told'' : Option (List ℕ)} {text : List ℕ}
-    (piece : List ℕ) → IsSaid faults faults' told told' text true →
-    faults' ≤ faults'' → told'' ≡ told_more told' piece → IsSaid faults faults'' told told'' (text ++ piece) true
-said_more {told} {text} piece said count wrote = record {
+    (part : List ℕ) → IsSaid faults faults' told told' text true →
+    faults' ≤ faults'' → told'' ≡ told_more told' part → IsSaid faults faults'' told told'' (text ++ part) true
+said_more {told} {text} part said count wrote = record {
   count = omega (arith, said.count, count);
-  all = λ _. wrote ∙ ap (λ (t : Option (List ℕ)). told_more t piece) (said.all refl) ∙ told_more-append told text piece;
+  all = λ _. wrote ∙ ap (λ (t : Option (List ℕ)). told_more t part) (said.all refl) ∙ told_more-append told text part;
   risen = λ e. absurd (true≢false e);
   front = λ e. absurd (true≢false e);
 }
 
--- a piece more failed
+-- a part more failed
 pub said_part : {faults faults' faults'' : ℕ} {told told' told'' : Option (List ℕ)} {text : List ℕ}
-    (piece : List ℕ) → IsSaid faults faults' told told' text true →
-    faults' ≤ faults'' → HasRisen faults' faults'' → IsFrontMore told' told'' piece
-    → IsSaid faults faults'' told told'' (text ++ piece) false
-said_part {told} {text} piece said count risen wrote = record {
+    (part : List ℕ) → IsSaid faults faults' told told' text true →
+    faults' ≤ faults'' → HasRisen faults' faults'' → IsFrontMore told' told'' part
+    → IsSaid faults faults'' told told'' (text ++ part) false
+said_part {told} {text} part said count risen wrote = record {
   count = omega (arith, said.count, count);
   all = λ e. absurd (true≢false (sym e));
   risen = λ _ end. omega (arith, said.count, risen end);
   front = λ _. (
     length text + wrote.0,
     (
-      omega (arith, wrote.1.0, length-append text piece),
-      wrote.1.1 ∙ ap (λ (t : Option (List ℕ)). told_more t (take wrote.0 piece)) (said.all refl)
-          ∙ told_more-append told text (take wrote.0 piece) ∙ ap (told_more told) (sym (take-append-add text piece wrote.0)),
+      omega (arith, wrote.1.0, length-append text part),
+      wrote.1.1 ∙ ap (λ (t : Option (List ℕ)). told_more t (take wrote.0 part)) (said.all refl)
+          ∙ told_more-append told text (take wrote.0 part) ∙ ap (told_more told) (sym (take-append-add text part wrote.0)),
     ),
   );
 }
 
--- a piece goes on in a text that is named in another grouping
+-- a part goes on in a text that is named in another grouping
 pub said_as : {faults faults' : ℕ} {told told' : Option (List ℕ)} {text text' : List ℕ} {ok : Bool} → text ≡ text' →
     IsSaid faults faults' told told' text ok → IsSaid faults faults' told told' text' ok
 said_as {faults = faults} {faults' = faults'} {told = told} {told' = told'} {ok = ok} e said =

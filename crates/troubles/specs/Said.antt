@@ -1,4 +1,4 @@
--- What was said on a stream, piece by piece up to the first fault.
+-- What was said on a stream, part by part up to the first fault.
 use Rattle.std.specs.Prelude.{◌≡◌, ℕ, ◌≤◌, Bool, true, false, List, ◌++◌, Option, codes, decimal}
 use Rattle.vod_base.specs.Outside.{HasRisen, told_more, IsFrontMore}
 
@@ -18,9 +18,9 @@ pub record IsSaid (faults faults' : ℕ) (told told' : Option (List ℕ)) (text 
   pub risen : whole ≡ false → HasRisen faults faults'
   pub front : whole ≡ false → IsFrontMore told told' text
 
--- a piece was written after what stood in a line, or the line went no further
+-- a part was written after what stood in a line, or the line went no further
 abbrev pub GoesOn : ℕ → ℕ → Option (List ℕ) → Option (List ℕ) → Bool → Bool → List ℕ → Type 0
-GoesOn faults faults' told told' going goes piece =
+GoesOn faults faults' told told' going goes part =
     (first : ℕ) (start : Option (List ℕ)) (text : List ℕ) →
     IsSaid first faults start told text going →
-    IsSaid first faults' start told' (text ++ piece) goes
+    IsSaid first faults' start told' (text ++ part) goes

@@ -10,17 +10,17 @@ use crate::faults::{Fault, Trouble};
 use crate::words::fault_words;
 use vod_base::Sink;
 
-/// Writes a piece of a line, if the line still goes on, and tells whether it goes on after it. It
+/// Writes a part of a line, if the line still goes on, and tells whether it goes on after it. It
 /// takes no memory.
-pub fn add<S: Sink>(sink: &mut S, going: bool, piece: &[u8]) -> bool
+pub fn add<S: Sink>(sink: &mut S, going: bool, part: &[u8]) -> bool
     ensures { GoesOn (S.faults sink.old) (S.faults sink.new) (S.written sink.old)
         (S.written sink.new)
-        going result piece.now }
+        going result part.now }
 {
     if !going {
         return false;
     }
-    match sink.write_all(piece) {
+    match sink.write_all(part) {
         Ok(()) => true,
         Err(_) => false,
     }

@@ -1,7 +1,7 @@
 //! What a pass knows.
 
 use admission::Entry;
-use slot_calendar::CapStep;
+use slot_calendar::CapacityStep;
 use std::collections::LinkedList;
 use std::marker::Model;
 
@@ -9,7 +9,7 @@ use std::marker::Model;
 /// it is made.
 pub struct Terms {
     /// The steps of the capacity.
-    pub steps: LinkedList<CapStep>,
+    pub steps: LinkedList<CapacityStep>,
     /// The most entries.
     pub limit: u64,
 }

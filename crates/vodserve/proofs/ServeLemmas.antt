@@ -24,7 +24,7 @@ use Rattle.vod_base.specs.Outside.{File, HasRisen}
 use Rattle.inputs.specs.Scans.{HoldsVideo}
 use Rattle.vod_base.specs.Gates.{Content}
 use Rattle.vod_base.specs.declared.gates.Opening.{Opening}
-use Rattle.slot_calendar.specs.declared.profiles.CapStep.{CapStep}
+use Rattle.slot_calendar.specs.declared.profiles.CapacityStep.{CapacityStep}
 use Rattle.admission.specs.declared.entries.Entry.{Entry}
 use Rattle.admission.specs.Books.{places_taken}
 use Rattle.admission.specs.Histories.{IsLegal}
@@ -198,7 +198,7 @@ pub closed_journal : {G : Type 0} {told : G → Option Content} {serving : Servi
     AreJoined told hall (length workers) workers seat gate → IsJournalOf seat entries → hall.steps ≡ serving.capacity →
     places_taken entries ≤ serving.journal → length workers ≡ serving.listening.workers → IsJournal serving entries
 closed_journal {entries} back whole steps few count = record {
-  legal = subst (λ (s : List CapStep). IsLegal s entries) (back.steps ∙ steps) whole.legal;
+  legal = subst (λ (s : List CapacityStep). IsLegal s entries) (back.steps ∙ steps) whole.legal;
   few = few;
   halts = whole.halts;
   first = ap (λ (n : ℕ). made_by n entries) (sym back.number) ∙ sym whole.mine ∙ back.mine;

@@ -13,7 +13,7 @@ use Rattle.vod_base.specs.Gates.{Content, Part, after_rejoin, split_off, told_re
 use Rattle.film_frames.specs.declared.stores.Stored.{Stored}
 use Rattle.admission.specs.declared.entries.Entry.{Entry}
 use Rattle.admission.specs.Makers.{made_by}
-use Rattle.slot_calendar.specs.declared.profiles.CapStep.{CapStep}
+use Rattle.slot_calendar.specs.declared.profiles.CapacityStep.{CapacityStep}
 use Rattle.turnstile.specs.Passes.{AllJoined, IsJoined}
 use Rattle.turnstile.specs.declared.view.Joined.{Joined}
 use Rattle.turnstile.proofs.Prefixes.{prefix_trans}
@@ -330,7 +330,7 @@ pub record IsStationOf (serving : Serving) (hall : StationState) : Type 0 where
   pub steps : hall.steps ≡ serving.capacity
   pub limit : hall.limit ≡ serving.journal
 
-abbrev terms_with : List CapStep → ℕ → ℕ → Terms
+abbrev terms_with : List CapacityStep → ℕ → ℕ → Terms
 terms_with steps limit maker = record { steps = steps; limit = limit; maker = maker }
 
 -- so has each seat of it
@@ -338,7 +338,7 @@ seat_terms : {serving : Serving} {hall : StationState} {seat left : SeatState} (
     IsSameSeat seat left → left.steps ≡ hall.steps →
     left.limit ≡ hall.limit → left.number ≡ worker + 1 → terms_of seat ≡ terms_for serving worker
 seat_terms {serving} {seat} {left} worker is same steps limit number =
-    ap (λ (s : List CapStep). terms_with s seat.limit seat.number) (sym same.steps ∙ steps ∙ is.steps)
+    ap (λ (s : List CapacityStep). terms_with s seat.limit seat.number) (sym same.steps ∙ steps ∙ is.steps)
     ∙ ap (λ (l : ℕ). terms_with serving.capacity l seat.number) (sym same.limit ∙ limit ∙ is.limit)
     ∙ ap (λ (n : ℕ). terms_with serving.capacity serving.journal n) (sym same.number ∙ number)
 

@@ -4,7 +4,7 @@ use Rattle.std.specs.Prelude.{◌≡◌, ℕ, ◌≤◌, ◌<◌, ◌^◌, Bool,
 use Rattle.std.specs.Prelude.{Result, Ok, Err, IfSome, ◌⊎◌}
 use Rattle.vod_base.specs.Outside.{File, HasRisen, told_more, IsFrontMore}
 use Rattle.plan_cert.specs.declared.Segment.{Segment}
-use Rattle.slot_calendar.specs.declared.profiles.CapStep.{CapStep}
+use Rattle.slot_calendar.specs.declared.profiles.CapacityStep.{CapacityStep}
 use Rattle.admission.specs.Histories.{IsLegal}
 use Rattle.admission.specs.declared.entries.Entry.{Entry}
 use Rattle.day_run.specs.declared.reels.Source.{Source}
@@ -198,7 +198,7 @@ IsTextWritten out out' err err' text ended =
 
 -- a day that ran: its journal is a legal history over the link's capacity, and what it printed was
 -- written
-pub record HasRun (out out' err err' : Seen (List ℕ)) (capacity : List CapStep)
+pub record HasRun (out out' err err' : Seen (List ℕ)) (capacity : List CapacityStep)
     (IsDayOf : List ℕ → List Entry → Type 0) (ended : Ended) : Type 0 where
   pub legal : IsLegal capacity ended.journal.items
   pub no_reports : ended.reports.items ≡ []

@@ -28,7 +28,7 @@ use conn::{ConnReport, PartEnd};
 use film_frames::Stored;
 use inputs::load_film;
 use session::Settings;
-use slot_calendar::{CapStep, Profile};
+use slot_calendar::{CapacityStep, Profile};
 use station::{Seat, Station};
 use std::alloc::Global;
 use std::sync::Wait;
@@ -219,7 +219,7 @@ fn load_films<'a, L: Library>(
 }
 
 /// A station of that capacity, and its first seat.
-fn make_station(alloc: Global, steps: &[CapStep], limit: u64) -> Result<(Station, Seat), NoMemory>
+fn make_station(alloc: Global, steps: &[CapacityStep], limit: u64) -> Result<(Station, Seat), NoMemory>
     requires profile { IsProfile steps.now }
     requires some { 2 ≤ limit }
     requires few { limit ≤ 1048576 }

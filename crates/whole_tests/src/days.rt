@@ -4,7 +4,7 @@ ghost use Rattle.day_run.specs.Sources.{IsSource};
 
 use crate::films::short_film;
 use day_run::{ScriptRefused, Source, fair, read_script, run_script};
-use slot_calendar::{CapStep, Profile};
+use slot_calendar::{CapacityStep, Profile};
 use std::alloc::Global;
 use std::process::Abort;
 use std::test::Fail;
@@ -13,7 +13,7 @@ use std::test::Fail;
 fn profile_of(rt: &impl Abort, alloc: Global, steps: &[(u64, u64)]) -> Result<Profile, Fail> {
     let mut list = Vec::new(alloc);
     for (from, bytes) in steps {
-        list.push(CapStep {
+        list.push(CapacityStep {
             from: *from,
             bytes: *bytes,
         })?;

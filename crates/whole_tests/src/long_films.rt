@@ -1,4 +1,4 @@
-//! A film of 20,000 pictures, fed to the scanner byte by byte and in large pieces.
+//! A film of 20,000 pictures, fed to the scanner byte by byte and in large chunks.
 
 ghost use Rattle.std.specs.Prelude.{⊤};
 
@@ -48,8 +48,8 @@ impl Found for Listener {
     }
 }
 
-/// What a film tells when it is fed in pieces of that length.
-fn told_in_pieces(alloc: Global, film: &[u8], piece: usize) -> Result<Vec<Told>, ScanRefused> {
+/// What a film tells when it is fed in chunks of that length.
+fn told_in_chunks(alloc: Global, film: &[u8], chunk: usize) -> Result<Vec<Told>, ScanRefused> {
     if film.len() > 1 << 30 {
         return Err(ScanRefused::NoMemory);
     }
@@ -62,7 +62,7 @@ fn told_in_pieces(alloc: Global, film: &[u8], piece: usize) -> Result<Vec<Told>,
         if rest.is_empty() {
             break;
         }
-        let (front, after) = rest.split_at(piece.min(rest.len()));
+        let (front, after) = rest.split_at(chunk.min(rest.len()));
         scanner.feed(front, &mut found)?;
         rest = after;
     }
@@ -70,8 +70,8 @@ fn told_in_pieces(alloc: Global, film: &[u8], piece: usize) -> Result<Vec<Told>,
     Ok(found.told)
 }
 
-/// The sizes of the film's units on the wire, as a scan in pieces of 65,536 bytes gives them.
-fn sizes_in_pieces(alloc: Global, film: &[u8]) -> Result<Vec<u64>, NoMemory> {
+/// The sizes of the film's units on the wire, as a scan in chunks of 65,536 bytes gives them.
+fn sizes_in_chunks(alloc: Global, film: &[u8]) -> Result<Vec<u64>, NoMemory> {
     let mut files = Vec::new(alloc);
     files.push((
         String::from_str(alloc, "film.mpg")?,
@@ -97,14 +97,14 @@ fn sizes_of_held(alloc: Global, film: Vec<u8>) -> Result<Vec<u64>, NoMemory> {
     Ok(sizes)
 }
 
-/// Compares what one film tells in pieces, and what its units take on the wire.
+/// Compares what one film tells in chunks, and what its units take on the wire.
 fn compare<R: Abort>(rt: &R, alloc: Global, number: u64, pictures: u32) -> Result<(), Fail> {
     let film = make_film(alloc, number, pictures)?;
-    let large = told_in_pieces(alloc, &film, 65_536)?;
+    let large = told_in_chunks(alloc, &film, 65_536)?;
     assert_eq!(rt; large.len(), pictures as usize * 6);
-    let small = told_in_pieces(alloc, &film, 1)?;
+    let small = told_in_chunks(alloc, &film, 1)?;
     assert!(rt; large.as_slice() == small.as_slice(), "the calls differ");
-    let sizes = sizes_in_pieces(alloc, &film)?;
+    let sizes = sizes_in_chunks(alloc, &film)?;
     assert_eq!(rt; sizes.len(), pictures as usize);
     let held = sizes_of_held(alloc, film)?;
     assert!(rt; sizes.as_slice() == held.as_slice(), "the sizes differ");
@@ -112,6 +112,6 @@ fn compare<R: Abort>(rt: &R, alloc: Global, number: u64, pictures: u32) -> Resul
 }
 
 #[test]
-fn tells_the_same_in_pieces(rt: HostRuntime) -> Result<(), Fail> {
+fn tells_the_same_in_chunks(rt: HostRuntime) -> Result<(), Fail> {
     compare(&rt, rt.alloc(), 5, 20_000)
 }

@@ -1,7 +1,7 @@
 //! A session that is talked to by a script, with the station's answers handed in.
 
 ghost use Rattle.std.specs.Prelude.{◌≡◌, IfOk, length, true};
-ghost use Rattle.interleave.specs.Pieces.{IsRequestLength};
+ghost use Rattle.interleave.specs.Elements.{IsMessageLength};
 ghost use Rattle.session.specs.Ranges.{AreFilms};
 ghost use Rattle.session.specs.Standings.{AsksFor, IsAtRest, IsHalt, IsLook, IsOffer, IsPlay};
 ghost use Rattle.session.specs.Standings.{awaited_answer, open_of};
@@ -61,14 +61,14 @@ struct Talk<'a> {
 /// Whether a message is one whole request.
 fn is_request(alloc: Global, message: &[u8]) -> Result<bool, NoMemory>
     ensures { IfOk result (λ whole. whole ≡ true →
-        IsRequestLength message.now (length message.now)) }
+        IsMessageLength message.now (length message.now)) }
 {
     let mut input = Demux::new(alloc)?;
     if input.put(message).is_err() {
         return Ok(false);
     }
     match input.look() {
-        Ok(Step::Request(length)) => Ok(length == message.len()),
+        Ok(Step::Message(length)) => Ok(length == message.len()),
         _ => Ok(false),
     }
 }

@@ -1,7 +1,7 @@
 //! Replies, as they are written and read.
 
 ghost use Rattle.std.specs.Prelude.{◌≡◌, ◌≤◌, IsTrue, true, length};
-ghost use Rattle.interleave.specs.Pieces.{IsRequestLength};
+ghost use Rattle.interleave.specs.Elements.{IsMessageLength};
 ghost use Rattle.rtsp_text.specs.Lines.{is_one_line};
 ghost use Rattle.rtsp_text.specs.Replies.{is_code};
 
@@ -149,7 +149,7 @@ fn writes_refusals(rt: HostRuntime) -> Result<(), Fail> {
 /// The answer to a request that requires an option. It repeats the option, and fits whatever that
 /// is.
 fn refuse_option(reply: &mut Reply, message: &[u8])
-    requires { IsRequestLength message.now (length message.now) }
+    requires { IsMessageLength message.now (length message.now) }
 {
     reply.clear();
     let Ok(request) = read_request(message) else {

@@ -1,5 +1,5 @@
 use Rattle.std.proofs.Common.{◌≡◌, ◌<◌, ◌+◌, ℕ, List, arith, subst}
-use Rattle.slot_calendar.specs.declared.profiles.CapStep.{CapStep}
+use Rattle.slot_calendar.specs.declared.profiles.CapacityStep.{CapacityStep}
 use Rattle.slot_calendar.specs.Profiles.{capacity_at}
 use Rattle.slot_calendar.specs.Calendars.{HasRoom, IsFirstOverflow, booked_at}
 use Rattle.admission.specs.Machine.{booked_in, start_after}
@@ -11,7 +11,7 @@ pub returns-in-None-clause-answer : goal.returns-in-None-clause-answer
 returns-in-None-clause-answer c = λ state follows within. (
     let calendar = c.advance.new.self in
     let start = c.max-now.result + 1 in
-    let R : List CapStep → Type 0 =
+    let R : List CapacityStep → Type 0 =
     λ steps. HasRoom calendar.first (booked_at calendar) (capacity_at steps) start c.args.plan.now in
     let after : calendar.first < start = omega arith in
     let at : start ≡ start_after state c.args.slot = omega (arith, follows.now) in (
@@ -32,7 +32,7 @@ pub returns-in-Some-clause-answer : goal.returns-in-Some-clause-answer
 returns-in-Some-clause-answer c = λ state follows within. (
     let calendar = c.advance.new.self in
     let start = c.max-now.result + 1 in
-    let R : List CapStep → Type 0 =
+    let R : List CapacityStep → Type 0 =
     λ steps. IsFirstOverflow calendar.first (booked_at calendar) (capacity_at steps) start c.args.plan.now c.in-Some.over in
     let S : ℕ → Type 0 =
     λ n. IsFirstOverflow 0 (booked_in state) (capacity_at c.args.calendar.now.steps) n c.args.plan.now c.in-Some.over in

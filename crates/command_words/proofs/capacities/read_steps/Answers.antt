@@ -2,7 +2,7 @@ use Rattle.std.proofs.Common.{◌∙◌, ◌==◌, List, Some, sym, ap, subst, l
 use Rattle.std.specs.List.{slice_split, fold}
 use Rattle.std.specs.Prelude.{Option}
 use Rattle.std.proofs.lemmas.Str.Pattern.{split_once_first}
-use Rattle.slot_calendar.specs.declared.profiles.CapStep.{CapStep}
+use Rattle.slot_calendar.specs.declared.profiles.CapacityStep.{CapacityStep}
 use Rattle.command_words.specs.Capacities.{IsFront, part_more, step_of}
 use Rattle.command_words.proofs.CapacityLemmas.{none_front, part_first, part_last, part_bad, profile_of, some_more}
 use Rattle.command_words.proofs.capacities.read_steps.Goals as goal
@@ -20,7 +20,7 @@ pub loop-part-init : goal.loop-part-init
 loop-part-init c = (
   search rules,
   subst IsFront (sym c.new-steps.ensures) none_front,
-  ap (λ (steps : List CapStep). fold part_more (Some steps) (slice_split (λ b. b == 44) c.args.text.now))
+  ap (λ (steps : List CapacityStep). fold part_more (Some steps) (slice_split (λ b. b == 44) c.args.text.now))
       (sym c.new-steps.ensures),
 )
 
@@ -32,7 +32,7 @@ loop-part-preserved c =
       c.put_part.ensures.front,
       c.loop-part.invariant.2
           ∙ part_first c.loop-part.steps c.loop-part.rest.now first.0 first.1 first.2
-          ∙ ap (λ (o : Option (List CapStep)). fold part_more o
+          ∙ ap (λ (o : Option (List CapacityStep)). fold part_more o
           (slice_split (λ b. b == 44) c.in-Some.after.now)) (c.put_part.ensures.put c.if-not-put_part.false),
     )
 

@@ -16,10 +16,10 @@ loop-index-preserved c =
     let words = words_of c.args.number in
     let drawn = c.loop-index.invariant.left in
     let k = c.loop-index.index in
-    let piece = λ (n : ℕ). picture_of (picture_words words n) n in record {
+    let part = λ (n : ℕ). picture_of (picture_words words n) n in record {
       bytes = c.in_ok-write_picture.ensures.bytes
           ∙ ap (λ (w : ℕ → ℕ). c.loop-index.film.items ++ picture_of w k) drawn
-          ∙ ap (λ (l : List ℕ). l ++ piece k) c.loop-index.invariant.bytes ∙ sym (end_to_end-more piece k);
+          ∙ ap (λ (l : List ℕ). l ++ part k) c.loop-index.invariant.bytes ∙ sym (end_to_end-more part k);
       left = c.in_ok-write_picture.ensures.left
           ∙ ap (λ (w : ℕ → ℕ). slice_words (coding_type (k % 12)) w 4) drawn ∙ sym (picture_words-more words k);
     }

@@ -1,6 +1,6 @@
 use Rattle.std.proofs.Common.{ℕ, ◌++◌, ◌+◌, sym, ap, ◌∙◌}
 use Rattle.film_make.specs.Film.{slice_of, slice_words, after_slice}
-use Rattle.film_make.proofs.FilmLemmas.{none-added, end_to_end-none, piece-step, slice_words-none}
+use Rattle.film_make.proofs.FilmLemmas.{none-added, end_to_end-none, part-step, slice_words-none}
 use Rattle.film_make.proofs.FilmLemmas.{slice_words-more}
 use Rattle.film_make.specs.Generator.{words_left}
 use Rattle.film_make.proofs.pictures.write_slices.Goals as goal
@@ -15,7 +15,7 @@ loop-slice-preserved c =
     let drawn = c.loop-slice.invariant.left in record {
       bytes = c.in_ok-write_slice.ensures.bytes
           ∙ ap (λ (w : ℕ → ℕ). c.loop-slice.out.items ++ slice_of w kind (c.loop-slice.slice + 1)) drawn
-          ∙ piece-step _ _ (λ s. slice_of (slice_words kind words s) kind (s + 1)) c.loop-slice.slice
+          ∙ part-step _ _ (λ s. slice_of (slice_words kind words s) kind (s + 1)) c.loop-slice.slice
           c.loop-slice.invariant.bytes;
       left = c.in_ok-write_slice.ensures.left ∙ ap (after_slice kind) drawn
           ∙ sym (slice_words-more kind words c.loop-slice.slice);

@@ -23,7 +23,7 @@ loop-at-preserved g c = record {
   told = λ held is found.
       let so_far : HasLooked held c.args.name.now c.args.size c.loop-at.at c.loop-at.prefix =
       c.loop-at.invariant.told held is found in
-      more_looked c.read_at.new.piece c.in_ok-count.count so_far
+      more_looked c.read_at.new.chunk c.in_ok-count.count so_far
       ((c.in_ok-count.ensures {u = tt}).told held so_far.bytes (c.loop-at.invariant.kept ∙ is) so_far.front
       so_far.long) ((c.in_ok-count.ensures {u = tt}).within)
       ((c.in-NotYet.ensures {u = tt}).opening so_far.bytes so_far.long so_far.unfound);
@@ -51,7 +51,7 @@ returns-in-Pack-clause-opened g c = λ held is found.
     let place : c.in-Pack.place ≤ c.args.size = omega (
       arith,
       (c.in-Pack.ensures {u = tt}).within,
-      length-take-le c.in_ok-count.count c.read_at.new.piece ((c.in_ok-count.ensures {u = tt}).within),
+      length-take-le c.in_ok-count.count c.read_at.new.chunk ((c.in_ok-count.ensures {u = tt}).within),
       (c.in_ok-count.ensures {u = tt}).fits,
     ) in
     found_opened
@@ -62,7 +62,7 @@ pub returns-in-Pack-clause-within : goal.returns-in-Pack-clause-within
 returns-in-Pack-clause-within g c = omega (
   arith,
   (c.in-Pack.ensures {u = tt}).within,
-  length-take-le c.in_ok-count.count c.read_at.new.piece ((c.in_ok-count.ensures {u = tt}).within),
+  length-take-le c.in_ok-count.count c.read_at.new.chunk ((c.in_ok-count.ensures {u = tt}).within),
   (c.in_ok-count.ensures {u = tt}).fits,
 )
 

@@ -12,9 +12,9 @@ returns-in_err-size-clause-trouble g c =
     (λ held name fault told is missing. missing_refused held name fault missing)
     ((c.in_err-size.ensures {u = tt}).trouble))
 
-pub returns-in_err-piece-clause-trouble : goal.returns-in_err-piece-clause-trouble
-returns-in_err-piece-clause-trouble g c =
-    handed_on _ c.from_residual-in_err-piece.result c.from_residual-in_err-piece.ensures.1 tt
+pub returns-in_err-chunk-clause-trouble : goal.returns-in_err-chunk-clause-trouble
+returns-in_err-chunk-clause-trouble g c =
+    handed_on _ c.from_residual-in_err-chunk.result c.from_residual-in_err-chunk.ensures.1 tt
 
 pub returns-in_err-stream-clause-trouble : goal.returns-in_err-stream-clause-trouble
 returns-in_err-stream-clause-trouble g c =

@@ -18,14 +18,14 @@ loop-at-init g c = record {
 
 pub loop-at-preserved : goal.loop-at-preserved
 loop-at-preserved g c = record {
-  kept = c.feed_stream_piece.ensures.library.kept ∙ c.loop-at.invariant.kept;
-  count = omega (arith, c.feed_stream_piece.ensures.library.count, c.loop-at.invariant.count);
+  kept = c.feed_stream_chunk.ensures.library.kept ∙ c.loop-at.invariant.kept;
+  count = omega (arith, c.feed_stream_chunk.ensures.library.count, c.loop-at.invariant.count);
   within = (c.in_ok-count.ensures {u = tt}).within;
   few = (c.in_ok-count.ensures {u = tt}).few;
-  ready = c.feed_stream_piece.ensures.ready;
-  streamed = subst (λ (t : Option (List File)). HasStreamed (g.F.Found.heard c.feed_stream_piece.new.found) t
+  ready = c.feed_stream_chunk.ensures.ready;
+  streamed = subst (λ (t : Option (List File)). HasStreamed (g.F.Found.heard c.feed_stream_chunk.new.found) t
       c.args.file.name.now c.args.file.size c.args.file.from (c.loop-at.at + c.in_ok-count.count)
-      c.feed_stream_piece.new.unwrapper c.feed_stream_piece.new.scanner)
+      c.feed_stream_chunk.new.unwrapper c.feed_stream_chunk.new.scanner)
       c.loop-at.invariant.kept ((c.in_ok-count.ensures {u = tt}).streamed);
 }
 
@@ -37,9 +37,9 @@ returns-clause-streamed g c =
 pub returns-then-count-eq0-clause-streamed : goal.returns-then-count-eq0-clause-streamed
 returns-then-count-eq0-clause-streamed g c =
     all_streamed
-    (subst (λ (t : Option (List File)). HasStreamed (g.F.Found.heard c.feed_stream_piece.new.found) t
+    (subst (λ (t : Option (List File)). HasStreamed (g.F.Found.heard c.feed_stream_chunk.new.found) t
     c.args.file.name.now c.args.file.size c.args.file.from (c.loop-at.at + c.in_ok-count.count)
-    c.feed_stream_piece.new.unwrapper c.feed_stream_piece.new.scanner)
+    c.feed_stream_chunk.new.unwrapper c.feed_stream_chunk.new.scanner)
     c.loop-at.invariant.kept ((c.in_ok-count.ensures {u = tt}).streamed))
     ((c.in_ok-count.ensures {u = tt}).within)
     (λ held is. absurd (omega (
@@ -51,16 +51,16 @@ returns-then-count-eq0-clause-streamed g c =
 pub returns-then-count-eq0-clause-library : goal.returns-then-count-eq0-clause-library
 returns-then-count-eq0-clause-library g c =
     then_read (record { kept = c.loop-at.invariant.kept; count = c.loop-at.invariant.count })
-    c.feed_stream_piece.ensures.library
+    c.feed_stream_chunk.ensures.library
 
 pub returns-in_err-count-clause-trouble : goal.returns-in_err-count-clause-trouble
 returns-in_err-count-clause-trouble g c =
     handed_on _ c.from_residual.result c.from_residual.ensures.1
-    (trouble_on c.args.file.name.now IsFilmRefused (g.L.Library.faults c.feed_stream_piece.new.library) c.in_err-count.field-0.0
+    (trouble_on c.args.file.name.now IsFilmRefused (g.L.Library.faults c.feed_stream_chunk.new.library) c.in_err-count.field-0.0
     (record { kept = c.loop-at.invariant.kept; count = c.loop-at.invariant.count })
     ((c.in_err-count.ensures {u = tt}).trouble))
 
 pub returns-in_err-count-clause-library : goal.returns-in_err-count-clause-library
 returns-in_err-count-clause-library g c =
     then_read (record { kept = c.loop-at.invariant.kept; count = c.loop-at.invariant.count })
-    c.feed_stream_piece.ensures.library
+    c.feed_stream_chunk.ensures.library

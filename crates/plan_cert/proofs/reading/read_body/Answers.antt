@@ -4,8 +4,8 @@ use Rattle.std.proofs.lemmas.Bool.{both_ways}
 use Rattle.std.proofs.lemmas.List.{length_push}
 use Rattle.std.proofs.lemmas.List.Elements.{All-push}
 use Rattle.plan_cert.specs.Reading.{HasRead, MayEnd}
-use Rattle.plan_cert.specs.Reading.MayStand.{Piece}
-use Rattle.plan_cert.proofs.Grammar.{read_more, breaks_missing, breaks_here, goes_after_end, not_piece, not_one_more, piece_text}
+use Rattle.plan_cert.specs.Reading.MayStand.{SegmentLine}
+use Rattle.plan_cert.proofs.Grammar.{read_more, breaks_missing, breaks_here, goes_after_end, not_segment, not_one_more, segment_text}
 use Rattle.plan_cert.proofs.reading.read_body.Goals as goal
 
 pub returns-in_default-clause-refused : goal.returns-in_default-clause-refused
@@ -31,7 +31,7 @@ returns-in_default-segment_in-clause-refused c = λ whole read.
       k,
       omega arith,
       inl (breaks_here (c.loop-count.invariant.read whole read) c.in-Some.ensures
-          (not_piece c.loop-count.count c.in-Some.line.now c.in_default-segment_in.ensures)
+          (not_segment c.loop-count.count c.in-Some.line.now c.in_default-segment_in.ensures)
           (λ ends. both_ways c.is_text.result c.if-is_text.false (c.is_text.ensures.1 ends.words))),
     )
 
@@ -56,12 +56,12 @@ loop-count-preserved c =
       counted = ap length items ∙ length_push c.loop-count.segments.items s ∙ ap (λ n. n + 1) inv.counted;
       small = rw items (All-push (λ x. (x.slots ≤ 2 ^ 42) × (x.bytes ≤ 2 ^ 42)) c.loop-count.segments.items s inv.small
           (c.in-Some-segment_in.ensures.few_slots, c.in-Some-segment_in.ensures.few_bytes));
-      text_is = rw items (piece_text c.in-Some.after.now c.loop-count.segments.items s
+      text_is = rw items (segment_text c.in-Some.after.now c.loop-count.segments.items s
           inv.text_is c.in-Some.ensures.parts c.in-Some-segment_in.ensures.words);
       read = λ whole read.
           let next : HasRead whole (3 + c.loop-count.count + 1) c.in-Some.after.now =
           read_more (inv.read whole read) c.in-Some.ensures
-          (Piece s (omega arith) (omega arith) c.in-Some-segment_in.ensures) in
+          (SegmentLine s (omega arith) (omega arith) c.in-Some-segment_in.ensures) in
           let place : 3 + c.loop-count.count + 1 ≡ 3 + (c.loop-count.count + 1) = omega arith in
           subst (λ n. HasRead whole n c.in-Some.after.now) place next;
     }

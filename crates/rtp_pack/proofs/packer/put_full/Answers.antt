@@ -4,14 +4,14 @@ use Rattle.rtp_pack.specs.Packets.{full_packets}
 use Rattle.rtp_pack.proofs.PackLemmas.{put-full_packet}
 use Rattle.rtp_pack.proofs.packer.put_full.Goals as goal
 
-pub loop-piece-preserved : goal.loop-piece-preserved
-loop-piece-preserved c = record {
+pub loop-portion-preserved : goal.loop-portion-preserved
+loop-portion-preserved c = record {
   last = omega arith;
   packets =
       ap (λ (items : List Packet). items
-      ++ full_packets c.args.unit.now false (c.loop-piece.last + 1380)
-      (c.full_before-piece-end.result - (c.loop-piece.piece + 1)))
-      (c.in_ok-put.ensures ∙ ap (λ (p : Packet). c.loop-piece.packets.items ++ p ∷ []) c.packet.ensures)
-      ∙ put-full_packet c.args.unit.now c.loop-piece.begin c.loop-piece.last c.loop-piece.packets.items c.loop-piece-test.true
-      ∙ c.loop-piece.invariant.packets;
+      ++ full_packets c.args.unit.now false (c.loop-portion.last + 1380)
+      (c.full_before-portion-end.result - (c.loop-portion.portion + 1)))
+      (c.in_ok-put.ensures ∙ ap (λ (p : Packet). c.loop-portion.packets.items ++ p ∷ []) c.packet.ensures)
+      ∙ put-full_packet c.args.unit.now c.loop-portion.begin c.loop-portion.last c.loop-portion.packets.items c.loop-portion-test.true
+      ∙ c.loop-portion.invariant.packets;
 }

@@ -1,6 +1,6 @@
 use Rattle.std.proofs.Common.{◌≤◌, ◌*◌, length, Ok}
-use Rattle.interleave.specs.Pieces.{IsFirst}
-use Rattle.interleave.specs.declared.pieces.Step.TheVariants.{More}
+use Rattle.interleave.specs.Elements.{IsFirst}
+use Rattle.interleave.specs.declared.elements.Step.TheVariants.{More}
 use Rattle.rtsp_client.specs.Standing.{bytes_in}
 use Rattle.rtsp_client.specs.Takings.{HasRun, sight}
 use Rattle.rtsp_client.proofs.viewing.hear_all.Given as goal

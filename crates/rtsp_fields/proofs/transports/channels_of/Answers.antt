@@ -1,12 +1,12 @@
 use Rattle.std.proofs.Common.{◌≡◌, true, false, refl, inr, subst, sym}
 use Rattle.rtsp_fields.specs.Transports.{NamesChannels}
-use Rattle.rtsp_fields.proofs.Parts.{channels_found}
+use Rattle.rtsp_fields.proofs.PartLemmas.{channels_found}
 use Rattle.rtsp_fields.proofs.Places.{HasPassed, passed_every, passed_more, passed_none}
 use Rattle.rtsp_fields.proofs.transports.channels_of.Goals as goal
 
 pub loop-part-init : goal.loop-part-init
 loop-part-init c =
-    let started = c.pieces_of-part-items.ensures in
+    let started = c.parts_of-part-items.ensures in
     subst (HasPassed NamesChannels 59 c.args.text.now) (sym c.into_iter-part-iterator.ensures.into_iter_gives)
     (passed_none NamesChannels started.text started.separator started.from)
 

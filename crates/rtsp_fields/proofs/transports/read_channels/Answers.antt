@@ -1,4 +1,4 @@
-use Rattle.rtsp_fields.proofs.Parts.{pair_or_single}
+use Rattle.rtsp_fields.proofs.PartLemmas.{pair_or_single}
 use Rattle.rtsp_fields.proofs.transports.read_channels.Goals as goal
 
 pub returns-in-None : goal.returns-in-None

@@ -1,12 +1,12 @@
 use Rattle.std.proofs.Common.{subst, sym}
 use Rattle.rtsp_fields.specs.Transports.{CanBeTaken}
-use Rattle.rtsp_fields.proofs.Parts.{no_transport, not_taken, transport_found}
+use Rattle.rtsp_fields.proofs.PartLemmas.{no_transport, not_taken, transport_found}
 use Rattle.rtsp_fields.proofs.Places.{HasPassed, passed_every, passed_more, passed_none}
 use Rattle.rtsp_fields.proofs.transports.read_transport.Goals as goal
 
 pub loop-alternative-init : goal.loop-alternative-init
 loop-alternative-init c =
-    let started = c.pieces_of-alternative-items.ensures in
+    let started = c.parts_of-alternative-items.ensures in
     subst (HasPassed CanBeTaken 44 c.args.value.now) (sym c.into_iter-alternative-iterator.ensures.into_iter_gives)
     (passed_none CanBeTaken started.text started.separator started.from)
 

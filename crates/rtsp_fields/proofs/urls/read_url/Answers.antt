@@ -7,8 +7,8 @@ use Rattle.rtsp_fields.proofs.urls.read_url.Goals as goal
 
 pub returns-clause-authority_line : goal.returns-clause-authority_line
 returns-clause-authority_line c =
-    one_line-url (take (c.piece_end-path.result - 7) (drop 7 c.args.url.now))
-    (all-take is_url_byte (c.piece_end-path.result - 7) (drop 7 c.args.url.now)
+    one_line-url (take (c.part_end-path.result - 7) (drop 7 c.args.url.now))
+    (all-take is_url_byte (c.part_end-path.result - 7) (drop 7 c.args.url.now)
     (all-drop is_url_byte 7 c.args.url.now (sym c.has_url_bytes.ensures ∙ c.if-not-has_url_bytes.false)))
 
 pub returns-clause-name_line : goal.returns-clause-name_line

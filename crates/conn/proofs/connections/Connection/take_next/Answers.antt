@@ -4,8 +4,8 @@ use Rattle.conn.proofs.Counting.{counted_none}
 use Rattle.rtsp_text.proofs.Whole.{fewer, first_is}
 use Rattle.conn.proofs.Cutting.{cuts_drop, cuts_none, cuts_same, drop_is}
 use Rattle.conn.proofs.Keeping.{kept_moved, kept_none}
-use Rattle.interleave.specs.Pieces.{IsFirst}
-use Rattle.interleave.specs.declared.pieces.Step.TheVariants.{Block, Skip}
+use Rattle.interleave.specs.Elements.{IsFirst}
+use Rattle.interleave.specs.declared.elements.Step.TheVariants.{Block, Skip}
 use Rattle.conn.specs.Events.{CutsOn, IsTaken}
 use Rattle.conn.specs.Sights.{TakesNext, sight}
 use Rattle.conn.specs.Turns.{stage}
@@ -22,16 +22,16 @@ returns-in-Ok-Block-clause-cut g c =
     cuts_drop c.in-Ok-Block.field-0 c.in-Ok-Block.ensures.first (ap (λ s. told_length (Ok s)) c.in-Ok-Block.field-0-is)
     (drop_is c.in-Ok-Block.count c.drop_front-in-Ok-Block.ensures c.look.ensures.waiting)
 
-pub returns-in-Ok-Request-clause-cut : goal.returns-in-Ok-Request-clause-cut
-returns-in-Ok-Request-clause-cut g c =
+pub returns-in-Ok-Message-clause-cut : goal.returns-in-Ok-Message-clause-cut
+returns-in-Ok-Message-clause-cut g c =
     subst (λ (i : List ℕ). CutsOn i c.take_whole.new.self.input) c.look.ensures.waiting c.take_whole.ensures.cut
 
 pub returns-in-Ok-More-clause-taken : goal.returns-in-Ok-More-clause-taken
 returns-in-Ok-More-clause-taken g c =
     (search rules, c.requires.lost, inl (first_is c.in-Ok-More.ensures.first c.look.ensures.waiting c.in-Ok-More.field-0-is))
 
-pub returns-in-Ok-Request-clause-taken : goal.returns-in-Ok-Request-clause-taken
-returns-in-Ok-Request-clause-taken g c =
+pub returns-in-Ok-Message-clause-taken : goal.returns-in-Ok-Message-clause-taken
+returns-in-Ok-Message-clause-taken g c =
     subst (λ (i : List ℕ). IsTaken c.take_whole.result (length i) c.take_whole.new.self) c.look.ensures.waiting
     c.take_whole.ensures.taken
 
@@ -76,23 +76,23 @@ returns-in-Ok-Block-clause-takes g c =
       seat = c.args.seat.now;
     }) (drop_is c.in-Ok-Block.count c.drop_front-in-Ok-Block.ensures c.look.ensures.waiting))
 
-pub returns-in-Ok-Request-clause-takes : goal.returns-in-Ok-Request-clause-takes
-returns-in-Ok-Request-clause-takes g c =
+pub returns-in-Ok-Message-clause-takes : goal.returns-in-Ok-Message-clause-takes
+returns-in-Ok-Message-clause-takes g c =
     subst (λ (i : List ℕ). TakesNext c.take_whole.result
     (sight (record { session = c.args.self.now.session; input = i; booking = c.args.self.now.booking })
     (g.K.Link.told c.args.link.now) c.args.seat.now)
     (sight c.take_whole.new.self (g.K.Link.told c.take_whole.new.link) c.take_whole.new.seat))
     c.look.ensures.waiting c.take_whole.ensures.takes
 
-pub returns-in-Ok-Request-clause-kept : goal.returns-in-Ok-Request-clause-kept
-returns-in-Ok-Request-clause-kept g c = record {
+pub returns-in-Ok-Message-clause-kept : goal.returns-in-Ok-Message-clause-kept
+returns-in-Ok-Message-clause-kept g c = record {
   seat = c.take_whole.ensures.kept.seat;
   quiet = c.take_whole.ensures.kept.quiet;
   gone = c.take_whole.ensures.kept.gone;
 }
 
 pub take_whole-requires-clause-first : goal.take_whole-requires-clause-first
-take_whole-requires-clause-first g c = first_is c.in-Ok-Request.ensures.first c.look.ensures.waiting c.in-Ok-Request.field-0-is
+take_whole-requires-clause-first g c = first_is c.in-Ok-Message.ensures.first c.look.ensures.waiting c.in-Ok-Message.field-0-is
 
 pub returns-in-Err-clause-takes : goal.returns-in-Err-clause-takes
 returns-in-Err-clause-takes g c =
@@ -164,5 +164,5 @@ returns-in-Ok-Block-clause-counted g c = counted_none (g.K.Link.faults c.args.li
 pub returns-in-Ok-More-clause-counted : goal.returns-in-Ok-More-clause-counted
 returns-in-Ok-More-clause-counted g c = counted_none (g.K.Link.faults c.args.link.now)
 
-pub returns-in-Ok-Request-clause-counted : goal.returns-in-Ok-Request-clause-counted
-returns-in-Ok-Request-clause-counted g c = c.take_whole.ensures.counted
+pub returns-in-Ok-Message-clause-counted : goal.returns-in-Ok-Message-clause-counted
+returns-in-Ok-Message-clause-counted g c = c.take_whole.ensures.counted

@@ -1,5 +1,5 @@
 use Rattle.std.proofs.Common.{List, ℕ, ap, length, refl, take, sym, subst}
-use Rattle.interleave.specs.Pieces.{IsRequestLength}
+use Rattle.interleave.specs.Elements.{IsMessageLength}
 use Rattle.rtsp_text.proofs.Whole.{request-take}
 use Rattle.conn.specs.Keeping.{IsHeld}
 use Rattle.conn.proofs.Asking.{answered_none, asked_on}
@@ -8,7 +8,7 @@ use Rattle.conn.proofs.connections.Connection.take_request.Goals as goal
 
 pub hear-ask-requires-clause-whole : goal.hear-ask-requires-clause-whole
 hear-ask-requires-clause-whole g c =
-    subst (λ (bytes : List ℕ). IsRequestLength (take c.args.length bytes) (length (take c.args.length bytes)))
+    subst (λ (bytes : List ℕ). IsMessageLength (take c.args.length bytes) (length (take c.args.length bytes)))
     (sym c.waiting.ensures)
     (request-take c.args.self.now.input c.args.length c.requires.within c.requires.whole)
 

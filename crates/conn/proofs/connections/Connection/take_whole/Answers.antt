@@ -1,5 +1,5 @@
 use Rattle.std.proofs.Common.{◌≡◌, ap, inl, inr, refl, rules, sym, ◌∙◌}
-use Rattle.interleave.specs.declared.pieces.Step.TheVariants.{Request}
+use Rattle.interleave.specs.declared.elements.Step.TheVariants.{Message}
 use Rattle.conn.specs.Sights.{sight}
 use Rattle.conn.specs.Turns.{after_reply, stage}
 use Rattle.conn.proofs.Counting.{counted_fault, counted_none}
@@ -11,11 +11,11 @@ use Rattle.conn.proofs.connections.Connection.take_whole.Goals as goal
 
 pub returns-in-Ok-clause-cut : goal.returns-in-Ok-clause-cut
 returns-in-Ok-clause-cut g c =
-    cuts_drop (Request c.args.length) c.requires.first refl c.take_request.ensures.input
+    cuts_drop (Message c.args.length) c.requires.first refl c.take_request.ensures.input
 
 pub returns-in-Err-clause-cut : goal.returns-in-Err-clause-cut
 returns-in-Err-clause-cut g c =
-    cuts_drop (Request c.args.length) c.requires.first refl c.take_request.ensures.input
+    cuts_drop (Message c.args.length) c.requires.first refl c.take_request.ensures.input
 
 pub returns-then-waits-clause-taken : goal.returns-then-waits-clause-taken
 returns-then-waits-clause-taken g c =

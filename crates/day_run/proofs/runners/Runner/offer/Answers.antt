@@ -8,7 +8,7 @@ use Rattle.admission.proofs.Within.{sound-after}
 use Rattle.slot_calendar.proofs.Everywhere.{StandsWithin}
 use Rattle.early_start.proofs.Everywhere.{offer_everywhere}
 use Rattle.early_start.specs.Offered.{IsOffer}
-use Rattle.slot_calendar.specs.declared.profiles.CapStep.{CapStep}
+use Rattle.slot_calendar.specs.declared.profiles.CapacityStep.{CapacityStep}
 use Rattle.day_run.specs.Clients.{IsPlanFor, rest_of}
 use Rattle.day_run.specs.Days.{IsOfferLine, rest_at}
 use Rattle.day_run.specs.Prints.{offer_text}
@@ -28,12 +28,12 @@ returns-in_ok-offers-in-Ok c =
     (sound-after r.book.steps r.book.entries c.entries-legal.ensures.legal).within.each in
     let P : Result (List Segment) CurveFault → Type 0 = λ p. IfOk p (IsPlanFor rest) in
     let planned : IsPlanFor rest plan = subst P c.in-Ok.is c.in_ok-plan.ensures.plan in
-    let S : List CapStep → Type 0 = λ s. (t : ℕ) → booked_in state t ≤ capacity_at s t in
+    let S : List CapacityStep → Type 0 = λ s. (t : ℕ) → booked_in state t ≤ capacity_at s t in
     let late : calendar.first < c.max.result + 1 = omega arith in
     let its : StandsWithin (capacity_at calendar.steps) calendar (plays_of state) =
     record { stands = c.calendar-calendar.ensures.stands; within = subst S (sym c.calendar-calendar.ensures.steps) within } in
     let offer = offer_everywhere its late c.find.ensures.offer in
-    let O : List CapStep → Type 0 = λ s. IsOffer 0 (booked_in state) (capacity_at s) plan (c.max.result + 1) found in
+    let O : List CapacityStep → Type 0 = λ s. IsOffer 0 (booked_in state) (capacity_at s) plan (c.max.result + 1) found in
     let first : c.max.result + 1 ≡ max state.now r.heard + 1 = omega (arith, c.calendar-calendar.ensures.now) in
     let F : ℕ → Type 0 = λ n. IsOffer 0 (booked_in state) (capacity_at r.book.steps) plan n found in
     let at : rest_of rest ≡ rest_at (link_on r) c.args.source c.args.buffer c.args.delay =

@@ -1,6 +1,6 @@
 use Rattle.std.proofs.Common.{ℕ, List, Ok, drop, sym, subst, ◌∙◌}
 use Rattle.interleave.specs.Known.{IsKnown, IsSettled}
-use Rattle.interleave.specs.Pieces.{IsFirst}
+use Rattle.interleave.specs.Elements.{IsFirst}
 use Rattle.interleave.proofs.More.{settled_known}
 use Rattle.interleave.proofs.demux.Demux.look.Goals as goal
 

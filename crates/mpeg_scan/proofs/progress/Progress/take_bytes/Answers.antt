@@ -11,26 +11,26 @@ use Rattle.mpeg_scan.proofs.progress.Progress.take_bytes.Goals as goal
 pub loop-at-preserved : goal.loop-at-preserved
 loop-at-preserved g c =
     let i = c.loop-at.invariant in
-    let piece = c.args.piece.now in
+    let chunk = c.args.chunk.now in
     let at = c.loop-at.at in
     let n = c.skip-at.result in record {
-      within = omega (arith, i.within, c.skip-at.ensures.bound, length-rest piece at);
+      within = omega (arith, i.within, c.skip-at.ensures.bound, length-rest chunk at);
       fed = omega (arith, i.fed, c.skip-at.ensures.fed);
       room = skipped-ahead n c.skip-at.ensures.fed c.skip-at.ensures.prefix c.skip-at.ensures.latest
           c.skip-at.ensures.tally i.room;
       ready = skipped-awaits (g.F.Found.ready_at c.loop-at.found) c.loop-at.self c.skip-at.new.self
           c.skip-at.ensures.latest c.skip-at.ensures.tally i.ready;
-      kept = λ r kept. subst (λ (q : List ℕ). HasRead c.skip-at.new.self q) (read-run r piece at n)
-          (c.skip-at.ensures.kept (read r (take at piece)) (i.kept r kept));
+      kept = λ r kept. subst (λ (q : List ℕ). HasRead c.skip-at.new.self q) (read-run r chunk at n)
+          (c.skip-at.ensures.kept (read r (take at chunk)) (i.kept r kept));
       told = λ r calls kept heard. subst (λ (l : List Call). g.F.Found.heard c.loop-at.found l)
-          (calls-run r piece at n calls (c.skip-at.ensures.quiet (read r (take at piece)) (i.kept r kept)))
+          (calls-run r chunk at n calls (c.skip-at.ensures.quiet (read r (take at chunk)) (i.kept r kept)))
           (i.told r calls kept heard);
     }
 
-pub loop-at-preserved-then-at-piece : goal.loop-at-preserved-then-at-piece
-loop-at-preserved-then-at-piece g c =
+pub loop-at-preserved-then-at-chunk : goal.loop-at-preserved-then-at-chunk
+loop-at-preserved-then-at-chunk g c =
     let i = c.loop-at.invariant in
-    let piece = c.args.piece.now in
+    let chunk = c.args.chunk.now in
     let at = c.loop-at.at in
     let n = c.skip-at.result in
     let b = at + n in record {
@@ -39,33 +39,33 @@ loop-at-preserved-then-at-piece g c =
       room = c.in_ok-take_byte.ensures.room;
       ready = c.in_ok-take_byte.ensures.ready;
       kept = λ r kept. subst (λ (q : List ℕ). HasRead c.take_byte.new.self q)
-          (read-byte r piece b c.if-at-piece.true)
-          (c.in_ok-take_byte.ensures.kept (read r (take b piece))
-          (subst (λ (q : List ℕ). HasRead c.skip-at.new.self q) (read-run r piece at n)
-          (c.skip-at.ensures.kept (read r (take at piece)) (i.kept r kept))));
+          (read-byte r chunk b c.if-at-chunk.true)
+          (c.in_ok-take_byte.ensures.kept (read r (take b chunk))
+          (subst (λ (q : List ℕ). HasRead c.skip-at.new.self q) (read-run r chunk at n)
+          (c.skip-at.ensures.kept (read r (take at chunk)) (i.kept r kept))));
       told = λ r calls kept heard.
           subst (λ (q : List ℕ). g.F.Found.heard c.take_byte.new.found (calls ++ calls_of (codes_of q)))
-          (read-byte r piece b c.if-at-piece.true)
-          (c.in_ok-take_byte.ensures.told (read r (take b piece)) calls
-          (subst (λ (q : List ℕ). HasRead c.skip-at.new.self q) (read-run r piece at n)
-          (c.skip-at.ensures.kept (read r (take at piece)) (i.kept r kept)))
+          (read-byte r chunk b c.if-at-chunk.true)
+          (c.in_ok-take_byte.ensures.told (read r (take b chunk)) calls
+          (subst (λ (q : List ℕ). HasRead c.skip-at.new.self q) (read-run r chunk at n)
+          (c.skip-at.ensures.kept (read r (take at chunk)) (i.kept r kept)))
           (subst (λ (l : List Call). g.F.Found.heard c.loop-at.found l)
-          (calls-run r piece at n calls (c.skip-at.ensures.quiet (read r (take at piece)) (i.kept r kept)))
+          (calls-run r chunk at n calls (c.skip-at.ensures.quiet (read r (take at chunk)) (i.kept r kept)))
           (i.told r calls kept heard)));
     }
 
 pub returns-in_err-take_byte-clause-fault : goal.returns-in_err-take_byte-clause-fault
 returns-in_err-take_byte-clause-fault g c =
     let i = c.loop-at.invariant in
-    let piece = c.args.piece.now in
+    let chunk = c.args.chunk.now in
     let at = c.loop-at.at in
     let n = c.skip-at.result in
     let b = at + n in
     let p = err_from_is_err_and c.from_residual.result c.from_residual.ensures.1 in rw (p.1, p.2) λ f is r kept.
-    fault-rest r piece b f c.if-at-piece.true
-    (c.take_byte.ensures.fault f (c.in_err-take_byte.was ∙ is) (read r (take b piece))
-    (subst (λ (q : List ℕ). HasRead c.skip-at.new.self q) (read-run r piece at n)
-    (c.skip-at.ensures.kept (read r (take at piece)) (i.kept r kept))))
+    fault-rest r chunk b f c.if-at-chunk.true
+    (c.take_byte.ensures.fault f (c.in_err-take_byte.was ∙ is) (read r (take b chunk))
+    (subst (λ (q : List ℕ). HasRead c.skip-at.new.self q) (read-run r chunk at n)
+    (c.skip-at.ensures.kept (read r (take at chunk)) (i.kept r kept))))
 
 pub take_byte-requires : goal.take_byte-requires
 take_byte-requires g c =
@@ -81,23 +81,23 @@ take_byte-requires g c =
 pub returns-in_err-take_byte-clause-told_before : goal.returns-in_err-take_byte-clause-told_before
 returns-in_err-take_byte-clause-told_before g c =
     let i = c.loop-at.invariant in
-    let piece = c.args.piece.now in
+    let chunk = c.args.chunk.now in
     let at = c.loop-at.at in
     let n = c.skip-at.result in
     let b = at + n in
     let p = err_from_is_err_and c.from_residual.result c.from_residual.ensures.1 in rw (p.1, p.2) λ f is r calls kept heard.
-    let here : HasRead c.skip-at.new.self (read r (take b piece)) =
-    subst (λ (q : List ℕ). HasRead c.skip-at.new.self q) (read-run r piece at n)
-    (c.skip-at.ensures.kept (read r (take at piece)) (i.kept r kept)) in
+    let here : HasRead c.skip-at.new.self (read r (take b chunk)) =
+    subst (λ (q : List ℕ). HasRead c.skip-at.new.self q) (read-run r chunk at n)
+    (c.skip-at.ensures.kept (read r (take at chunk)) (i.kept r kept)) in
     let before =
     subst (λ (l : List Call). g.F.Found.heard c.loop-at.found l)
-    (calls-run r piece at n calls (c.skip-at.ensures.quiet (read r (take at piece)) (i.kept r kept)))
+    (calls-run r chunk at n calls (c.skip-at.ensures.quiet (read r (take at chunk)) (i.kept r kept)))
     (i.told r calls kept heard) in
     record {
       count = b;
-      within = c.if-at-piece.true;
+      within = c.if-at-chunk.true;
       accepted = here.accepted;
-      fault = ap (λ (q : List ℕ). first_fault (codes_of q)) (sym (read-byte r piece b c.if-at-piece.true))
-          ∙ c.take_byte.ensures.fault f (c.in_err-take_byte.was ∙ is) (read r (take b piece)) here;
+      fault = ap (λ (q : List ℕ). first_fault (codes_of q)) (sym (read-byte r chunk b c.if-at-chunk.true))
+          ∙ c.take_byte.ensures.fault f (c.in_err-take_byte.was ∙ is) (read r (take b chunk)) here;
       heard = let same = c.take_byte.ensures.untold f (c.in_err-take_byte.was ∙ is) in rw same before;
     }

@@ -9,15 +9,15 @@ use Rattle.mpeg_scan.proofs.progress.Progress.take_bytes.Given as goal
 abbrev pub invariant-loop-at : goal.invariant-loop-at
 invariant-loop-at g l =
     record {
-      within : l.at ≤ length l.piece;
+      within : l.at ≤ length l.chunk;
       fed : l.self.fed ≡ l.initial.self.fed + l.at;
       room : IsAhead l.self;
       ready : AwaitsSlice (g.F.Found.ready_at l.found) (tally_with l.self.latest l.self.tally);
-      kept : (r : List ℕ) → HasRead l.initial.self r → HasRead l.self (read r (take l.at l.piece));
+      kept : (r : List ℕ) → HasRead l.initial.self r → HasRead l.self (read r (take l.at l.chunk));
       told : (r : List ℕ) (calls : List Call) → HasRead l.initial.self r
           → g.F.Found.heard l.initial.found (calls ++ calls_of (codes_of r))
-          → g.F.Found.heard l.found (calls ++ calls_of (codes_of (read r (take l.at l.piece))));
+          → g.F.Found.heard l.found (calls ++ calls_of (codes_of (read r (take l.at l.chunk))));
     }
 
 abbrev pub decreases-loop-at : goal.decreases-loop-at
-decreases-loop-at g l = length l.piece - l.at
+decreases-loop-at g l = length l.chunk - l.at

@@ -1,8 +1,8 @@
 use Rattle.std.proofs.Common.{ℕ, ◌<◌, ◌≤◌, List, Ok, drop, refl, ap, subst, sym, ◌∙◌, arith}
 use Rattle.std.proofs.lemmas.Result.{err_from_is_err_and}
 use Rattle.rtsp_client.specs.Takings.{HasTaken, sight}
-use Rattle.interleave.specs.Pieces.{IsFirst}
-use Rattle.interleave.specs.declared.pieces.Step.TheVariants.{Block, Request, Skip}
+use Rattle.interleave.specs.Elements.{IsFirst}
+use Rattle.interleave.specs.declared.elements.Step.TheVariants.{Block, Message, Skip}
 use Rattle.rtsp_text.proofs.Whole.{fewer, first_is, some_request}
 use Rattle.rtsp_client.proofs.Cutting.{goes-on}
 use Rattle.rtsp_client.proofs.Taking.{keeps-moved, stopped-block, stopped-framing, stopped-reply, taken-block, taken-ends, taken-none, taken-reply}
@@ -58,24 +58,24 @@ returns-in_ok-take_block-in-Ok-Block-clause-taken g c = λ h k.
     (record { replies = refl; session = refl; watching = refl })
     (c.drop_front-in-Ok-Block.ensures ∙ ap (drop c.in-Ok-Block.length) c.take_block.ensures.input))
 
-pub returns-in_err-take_reply-in-Ok-Request-clause-stopped : goal.returns-in_err-take_reply-in-Ok-Request-clause-stopped
-returns-in_err-take_reply-in-Ok-Request-clause-stopped g c =
-    let p = err_from_is_err_and c.from_residual-in_err-take_reply-in-Ok-Request.result
-    c.from_residual-in_err-take_reply-in-Ok-Request.ensures.1 in
+pub returns-in_err-take_reply-in-Ok-Message-clause-stopped : goal.returns-in_err-take_reply-in-Ok-Message-clause-stopped
+returns-in_err-take_reply-in-Ok-Message-clause-stopped g c =
+    let p = err_from_is_err_and c.from_residual-in_err-take_reply-in-Ok-Message.result
+    c.from_residual-in_err-take_reply-in-Ok-Message.ensures.1 in
     rw (p.1, p.2)
     (λ h k.
     rw (← c.look.ensures.waiting)
     (stopped-reply
-    (first_is c.in-Ok-Request.ensures.first c.look.ensures.waiting c.in-Ok-Request.field-0-is)
-    (c.in_err-take_reply-in-Ok-Request.ensures.ended h (g.O.Sink.written c.args.out.now)
+    (first_is c.in-Ok-Message.ensures.first c.look.ensures.waiting c.in-Ok-Message.field-0-is)
+    (c.in_err-take_reply-in-Ok-Message.ensures.ended h (g.O.Sink.written c.args.out.now)
     (keeps-moved k (record { replies = refl; session = refl; watching = refl })))))
 
-pub returns-in_ok-take_reply-in-Ok-Request-clause-taken : goal.returns-in_ok-take_reply-in-Ok-Request-clause-taken
-returns-in_ok-take_reply-in-Ok-Request-clause-taken g c = λ h k.
+pub returns-in_ok-take_reply-in-Ok-Message-clause-taken : goal.returns-in_ok-take_reply-in-Ok-Message-clause-taken
+returns-in_ok-take_reply-in-Ok-Message-clause-taken g c = λ h k.
     subst (λ (i : List ℕ). HasTaken c.args.wish.now h i
     (record {
       alloc = c.take_reply.new.self.alloc;
-      input = c.drop_front-in-Ok-Request.new.self;
+      input = c.drop_front-in-Ok-Message.new.self;
       replies = c.take_reply.new.self.replies;
       session = c.take_reply.new.self.session;
       watching = c.take_reply.new.self.watching;
@@ -83,11 +83,11 @@ returns-in_ok-take_reply-in-Ok-Request-clause-taken g c = λ h k.
     (sight (g.K.Link.told c.args.link.now) (g.O.Sink.written c.args.out.now))
     (sight (g.K.Link.told c.take_reply.new.link) (g.O.Sink.written c.args.out.now))) c.look.ensures.waiting
     (taken-reply
-    (first_is c.in-Ok-Request.ensures.first c.look.ensures.waiting c.in-Ok-Request.field-0-is)
-    (c.in_ok-take_reply-in-Ok-Request.ensures.passed h (g.O.Sink.written c.args.out.now)
+    (first_is c.in-Ok-Message.ensures.first c.look.ensures.waiting c.in-Ok-Message.field-0-is)
+    (c.in_ok-take_reply-in-Ok-Message.ensures.passed h (g.O.Sink.written c.args.out.now)
     (keeps-moved k (record { replies = refl; session = refl; watching = refl })))
     (record { replies = refl; session = refl; watching = refl })
-    (c.drop_front-in-Ok-Request.ensures ∙ ap (drop c.in-Ok-Request.length) c.take_reply.ensures.input))
+    (c.drop_front-in-Ok-Message.ensures ∙ ap (drop c.in-Ok-Message.length) c.take_reply.ensures.input))
 
 pub returns-in-Ok-Skip-clause-going : goal.returns-in-Ok-Skip-clause-going
 returns-in-Ok-Skip-clause-going g c =
@@ -135,28 +135,28 @@ returns-in_ok-take_block-in-Ok-Block-clause-shorter g c =
     (subst (λ n. 0 < n) (sym first.3) (omega arith)) first.4
     (c.drop_front-in-Ok-Block.ensures ∙ ap (drop c.in-Ok-Block.length) (c.take_block.ensures.input ∙ c.look.ensures.waiting))
 
-pub returns-in_ok-take_reply-in-Ok-Request-clause-going : goal.returns-in_ok-take_reply-in-Ok-Request-clause-going
-returns-in_ok-take_reply-in-Ok-Request-clause-going g c =
-    let first : IsFirst c.args.self.now.input (Ok (Request c.in-Ok-Request.length)) =
-    first_is c.in-Ok-Request.ensures.first refl c.in-Ok-Request.field-0-is in
+pub returns-in_ok-take_reply-in-Ok-Message-clause-going : goal.returns-in_ok-take_reply-in-Ok-Message-clause-going
+returns-in_ok-take_reply-in-Ok-Message-clause-going g c =
+    let first : IsFirst c.args.self.now.input (Ok (Message c.in-Ok-Message.length)) =
+    first_is c.in-Ok-Message.ensures.first refl c.in-Ok-Message.field-0-is in
     goes-on {c = c.args.self.now}
     {new = record {
       alloc = c.take_reply.new.self.alloc;
-      input = c.drop_front-in-Ok-Request.new.self;
+      input = c.drop_front-in-Ok-Message.new.self;
       replies = c.take_reply.new.self.replies;
       session = c.take_reply.new.self.session;
       watching = c.take_reply.new.self.watching;
     }}
-    c.in-Ok-Request.length c.in_ok-take_reply-in-Ok-Request.ensures.replies (omega (arith, c.take_reply.ensures.few)) first.2
-    (c.drop_front-in-Ok-Request.ensures ∙ ap (drop c.in-Ok-Request.length) (c.take_reply.ensures.input ∙ c.look.ensures.waiting))
+    c.in-Ok-Message.length c.in_ok-take_reply-in-Ok-Message.ensures.replies (omega (arith, c.take_reply.ensures.few)) first.2
+    (c.drop_front-in-Ok-Message.ensures ∙ ap (drop c.in-Ok-Message.length) (c.take_reply.ensures.input ∙ c.look.ensures.waiting))
 
-pub returns-in_ok-take_reply-in-Ok-Request-clause-shorter : goal.returns-in_ok-take_reply-in-Ok-Request-clause-shorter
-returns-in_ok-take_reply-in-Ok-Request-clause-shorter g c =
-    let first : IsFirst c.args.self.now.input (Ok (Request c.in-Ok-Request.length)) =
-    first_is c.in-Ok-Request.ensures.first refl c.in-Ok-Request.field-0-is in
-    λ _. fewer c.args.self.now.input c.drop_front-in-Ok-Request.new.self c.in-Ok-Request.length
-    (some_request c.args.self.now.input c.in-Ok-Request.length first.1) first.2
-    (c.drop_front-in-Ok-Request.ensures ∙ ap (drop c.in-Ok-Request.length) (c.take_reply.ensures.input ∙ c.look.ensures.waiting))
+pub returns-in_ok-take_reply-in-Ok-Message-clause-shorter : goal.returns-in_ok-take_reply-in-Ok-Message-clause-shorter
+returns-in_ok-take_reply-in-Ok-Message-clause-shorter g c =
+    let first : IsFirst c.args.self.now.input (Ok (Message c.in-Ok-Message.length)) =
+    first_is c.in-Ok-Message.ensures.first refl c.in-Ok-Message.field-0-is in
+    λ _. fewer c.args.self.now.input c.drop_front-in-Ok-Message.new.self c.in-Ok-Message.length
+    (some_request c.args.self.now.input c.in-Ok-Message.length first.1) first.2
+    (c.drop_front-in-Ok-Message.ensures ∙ ap (drop c.in-Ok-Message.length) (c.take_reply.ensures.input ∙ c.look.ensures.waiting))
 
 pub take_reply-requires-clause-message : goal.take_reply-requires-clause-message
-take_reply-requires-clause-message g c = first_is c.in-Ok-Request.ensures.first c.look.ensures.waiting c.in-Ok-Request.field-0-is
+take_reply-requires-clause-message g c = first_is c.in-Ok-Message.ensures.first c.look.ensures.waiting c.in-Ok-Message.field-0-is

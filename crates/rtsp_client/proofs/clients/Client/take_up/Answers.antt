@@ -4,8 +4,8 @@ use Rattle.rtsp_client.specs.Takings.{sight}
 use Rattle.rtsp_client.proofs.Taking.{stopped-on, taken-none, taken-on}
 use Rattle.rtsp_client.proofs.clients.Client.take_up.Goals as goal
 
-pub pieces-init : goal.pieces-init
-pieces-init g c = (
+pub elements-init : goal.elements-init
+elements-init g c = (
   record { replies = c.requires.going.replies; few = omega arith },
   omega arith,
   omega arith,
@@ -18,23 +18,23 @@ returns-in_err-more-clause-stopped g c =
     rw (p.1, p.2)
     (λ h k.
     stopped-on {u = sight (g.K.Link.told c.take_next.new.link) (g.O.Sink.written c.take_next.new.out)}
-    (c.pieces.invariant.3 h k) (λ i ki. c.in_err-more.ensures.stopped i ki))
+    (c.elements.invariant.3 h k) (λ i ki. c.in_err-more.ensures.stopped i ki))
 
 pub returns-then-not-more-clause-taken : goal.returns-then-not-more-clause-taken
 returns-then-not-more-clause-taken g c = λ h k.
     taken-on
-    (c.pieces.invariant.3 h k) (λ i ki. c.in_ok-more.ensures.taken i ki)
+    (c.elements.invariant.3 h k) (λ i ki. c.in_ok-more.ensures.taken i ki)
 
-pub pieces-preserved : goal.pieces-preserved
-pieces-preserved g c = (
+pub elements-preserved : goal.elements-preserved
+elements-preserved g c = (
   record {
     replies = c.in_ok-more.ensures.going.replies;
-    few = omega (arith, c.pieces.invariant.0.few, c.in_ok-more.ensures.going.few);
+    few = omega (arith, c.elements.invariant.0.few, c.in_ok-more.ensures.going.few);
   },
-  omega (arith, c.pieces.invariant.1, c.take_next.ensures.count),
-  omega (arith, c.pieces.invariant.2, c.take_next.ensures.count_out),
+  omega (arith, c.elements.invariant.1, c.take_next.ensures.count),
+  omega (arith, c.elements.invariant.2, c.take_next.ensures.count_out),
   λ h k. taken-on
-      (c.pieces.invariant.3 h k) (λ i ki. c.in_ok-more.ensures.taken i ki),
+      (c.elements.invariant.3 h k) (λ i ki. c.in_ok-more.ensures.taken i ki),
 )
 
 pub returns-then-not-more-clause-idle : goal.returns-then-not-more-clause-idle

@@ -5,8 +5,8 @@ use Rattle.rtsp_client.specs.Standing.{GoesOnFrom}
 use Rattle.rtsp_client.specs.Takings.{HasTaken, sight}
 use Rattle.rtsp_client.proofs.clients.Client.take_up.Given as goal
 
-abbrev pub invariant-pieces : goal.invariant-pieces
-invariant-pieces g l =
+abbrev pub invariant-elements : goal.invariant-elements
+invariant-elements g l =
     GoesOnFrom l.initial.self l.self
     × (g.K.Link.faults l.initial.link ≤ g.K.Link.faults l.link)
     × (g.O.Sink.faults l.initial.out ≤ g.O.Sink.faults l.out)
@@ -14,5 +14,5 @@ invariant-pieces g l =
     (sight (g.K.Link.told l.initial.link) (g.O.Sink.written l.initial.out))
     (sight (g.K.Link.told l.link) (g.O.Sink.written l.out)))
 
-abbrev pub decreases-pieces : goal.decreases-pieces
-decreases-pieces g l = length l.self.input
+abbrev pub decreases-elements : goal.decreases-elements
+decreases-elements g l = length l.self.input

@@ -2,7 +2,7 @@ use Rattle.std.proofs.Common.{arith, ◌≡◌, ◌≤◌, ◌+◌, ℕ, List, l
 use Rattle.std.proofs.lemmas.List.{take_all}
 use Rattle.slot_calendar.specs.Plays.{booked_by}
 use Rattle.slot_calendar.specs.Profiles.{capacity_at}
-use Rattle.slot_calendar.specs.declared.profiles.CapStep.{CapStep}
+use Rattle.slot_calendar.specs.declared.profiles.CapacityStep.{CapacityStep}
 use Rattle.admission.specs.declared.entries.Entry.{Entry}
 use Rattle.admission.specs.Books.{Journal}
 use Rattle.admission.specs.Histories.{booked_after, state_after}
@@ -24,7 +24,7 @@ returns-clause-offered c =
     (take_all (length book.entries) book.entries (omega arith))
     (c.law_never_overbooked.ensures book.steps book.entries (length book.entries) t c.entries-entries.ensures.legal) in
     let within : (t : ℕ) → booked_by plays t ≤ capacity_at cal.steps t = λ t.
-    subst (λ (s : List CapStep). booked_by plays t ≤ capacity_at s t) (sym c.calendar-calendar.ensures.steps) (whole t) in
+    subst (λ (s : List CapacityStep). booked_by plays t ≤ capacity_at s t) (sym c.calendar-calendar.ensures.steps) (whole t) in
     let later = c.max-first.ensures in let first = c.now.ensures.value in
     let offer : IsOffer 0 (booked_by plays) (capacity_at cal.steps) c.args.plan.now told.first c.find.new.self =
     c.law_offer_of_plays.ensures cal plays c.args.plan.now told.first c.find.new.self
@@ -34,6 +34,6 @@ returns-clause-offered c =
       first_is = ap (λ (k : ℕ). k + 1)
           (c.max-first.ensures
           ∙ (ap (λ (m : ℕ). max m c.min.result) now ∙ ap (λ (m : ℕ). max (state_after book.entries).now m) c.min.ensures));
-      offer = subst (λ (s : List CapStep). IsOffer 0 (booked_by plays) (capacity_at s) c.args.plan.now
+      offer = subst (λ (s : List CapacityStep). IsOffer 0 (booked_by plays) (capacity_at s) c.args.plan.now
           told.first c.find.new.self) c.calendar-calendar.ensures.steps offer;
     }

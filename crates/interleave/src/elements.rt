@@ -7,17 +7,17 @@ use thiserror::Error;
 /// What stands in front of the waiting bytes.
 #[derive(Clone, Copy, Debug, PartialEq, Eq)]
 pub enum Step {
-    /// A whole request of this many bytes, head and body.
-    Request(usize),
+    /// A whole message of this many bytes, head and body: a request, or at a client a reply.
+    Message(usize),
     /// A whole interleaved block on this channel, of this many bytes with its head of four.
     Block(u8, usize),
-    /// This many bytes CR or LF, all that wait before the next piece.
+    /// This many bytes CR or LF, all that wait before the next element.
     Skip(usize),
-    /// No whole piece, and no fault.
+    /// No whole element, and no fault.
     More,
 }
 
-/// Why the waiting bytes can't begin a request.
+/// Why the waiting bytes can't begin a message.
 #[derive(Clone, Copy, Debug, PartialEq, Eq, Error)]
 pub enum DemuxFault {
     /// The first 16,384 bytes of a request have no empty line.
@@ -30,7 +30,7 @@ pub enum DemuxFault {
 
 /// The head of an interleaved block (RFC 2326 section 10.12): `$`, the channel, and the number of
 /// the bytes that follow, the high byte first.
-pub fn frame_head(channel: u8, length: u16) -> [u8; 4]
+pub fn block_head(channel: u8, length: u16) -> [u8; 4]
     ensures { result ≡ 36 ∷ channel ∷ (length / 256) ∷ (length % 256) ∷ [] }
 {
     [b'$', channel, (length / 256) as u8, (length % 256) as u8]

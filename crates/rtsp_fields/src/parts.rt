@@ -1,12 +1,12 @@
-//! Texts that a separator cuts into pieces.
+//! Texts that a separator cuts into parts.
 
 ghost use Rattle.std.specs.Prelude.{◌≡◌, ◌+◌, ◌-◌, ◌<◌, ◌≤◌, ◌↔◌, IsTrue, MatchOption, length};
 ghost use Rattle.std.specs.Iterator.{at_most};
-ghost use Rattle.rtsp_fields.specs.Pieces.{IsEnd, IsNextPiece, Begins, lower};
+ghost use Rattle.rtsp_fields.specs.Parts.{IsEnd, IsNextPart, Begins, lower};
 
-/// Where the piece that begins at `from` ends: at the first separator from there on, or at the
+/// Where the part that begins at `from` ends: at the first separator from there on, or at the
 /// text's end.
-pub(crate) fn piece_end(text: &[u8], from: usize, separator: u8) -> usize
+pub(crate) fn part_end(text: &[u8], from: usize, separator: u8) -> usize
     requires { from ≤ length text.now }
     ensures { IsEnd separator text.now from result }
 {
@@ -18,42 +18,42 @@ pub(crate) fn piece_end(text: &[u8], from: usize, separator: u8) -> usize
     text.len()
 }
 
-/// The pieces of a text between separators, in order.
+/// The parts of a text between separators, in order.
 #[derive(Drop)]
-pub(crate) struct Pieces<'a> {
+pub(crate) struct Parts<'a> {
     text: &'a [u8],
     separator: u8,
-    /// Where the next piece begins; past the text's end where none is left.
+    /// Where the next part begins; past the text's end where none is left.
     from: usize,
 }
 
-impl<'a> Iterator for Pieces<'a> {
+impl<'a> Iterator for Parts<'a> {
     type Item = &'a [u8];
 
-    ghost next_gives = { λ old piece new. MatchOption piece (length old.text.now < old.from)
-        (λ piece. IsNextPiece old.separator old.text.now old.from new.from piece.now
+    ghost next_gives = { λ old part new. MatchOption part (length old.text.now < old.from)
+        (λ part. IsNextPart old.separator old.text.now old.from new.from part.now
         × (new.text.now ≡ old.text.now) × (new.separator ≡ old.separator)) };
 
-    ghost remaining = { λ pieces. at_most (length pieces.text.now + 1 - pieces.from) };
+    ghost remaining = { λ parts. at_most (length parts.text.now + 1 - parts.from) };
 
     fn next(&mut self) -> Option<&'a [u8]> {
         if self.from > self.text.len() {
             return None;
         }
-        let end = piece_end(self.text, self.from, self.separator);
-        let piece = &self.text[self.from..end];
+        let end = part_end(self.text, self.from, self.separator);
+        let part = &self.text[self.from..end];
         self.from = end + 1;
-        Some(piece)
+        Some(part)
     }
 }
 
-/// The pieces of a text between separators.
-pub(crate) fn pieces_of(text: &[u8], separator: u8) -> Pieces<'_>
+/// The parts of a text between separators.
+pub(crate) fn parts_of(text: &[u8], separator: u8) -> Parts<'_>
     ensures text { result.text.now ≡ text.now }
     ensures separator { result.separator ≡ separator }
     ensures from { result.from ≡ 0 }
 {
-    Pieces {
+    Parts {
         text,
         separator,
         from: 0,

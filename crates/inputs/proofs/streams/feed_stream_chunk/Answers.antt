@@ -1,16 +1,16 @@
 use Rattle.std.proofs.Common.{◌++◌, take, arith, refl, subst, length-append}
 use Rattle.std.proofs.lemmas.List.{length-take-le}
-use Rattle.inputs.specs.Scans.{IsFilmRefused, IsPieceRefused}
+use Rattle.inputs.specs.Scans.{IsFilmRefused, IsChunkRefused}
 use Rattle.inputs.proofs.ScanLemmas.{ReadOn, handed_on, never_refused}
-use Rattle.inputs.proofs.StreamLemmas.{PieceRead, front_more, more_streamed, piece_fault, streamed_fed}
-use Rattle.inputs.proofs.streams.feed_stream_piece.Goals as goal
+use Rattle.inputs.proofs.StreamLemmas.{ChunkRead, front_more, more_streamed, chunk_fault, streamed_fed}
+use Rattle.inputs.proofs.streams.feed_stream_chunk.Goals as goal
 
-pub unwrap_piece-requires-clause-room : goal.unwrap_piece-requires-clause-room
-unwrap_piece-requires-clause-room g c =
+pub unwrap_chunk-requires-clause-room : goal.unwrap_chunk-requires-clause-room
+unwrap_chunk-requires-clause-room g c =
     omega (
       arith,
       streamed_fed c.requires.streamed,
-      length-take-le c.in_ok-count.count c.read_at.new.piece ((c.in_ok-count.ensures {u = tt}).within),
+      length-take-le c.in_ok-count.count c.read_at.new.chunk ((c.in_ok-count.ensures {u = tt}).within),
       (c.in_ok-count.ensures {u = tt}).fits,
       c.requires.short,
     )
@@ -18,7 +18,7 @@ unwrap_piece-requires-clause-room g c =
 pub returns-in-Ok-clause-streamed : goal.returns-in-Ok-clause-streamed
 returns-in-Ok-clause-streamed g c =
     more_streamed
-    c.read_at.new.piece c.in_ok-count.count c.requires.streamed
+    c.read_at.new.chunk c.in_ok-count.count c.requires.streamed
     (λ held is bytes front long. (c.in_ok-count.ensures {u = tt}).told held bytes is front long)
     ((c.in_ok-count.ensures {u = tt}).within)
     ((c.in-Ok.ensures {u = tt}).next c.requires.streamed.seen c.requires.streamed.unwrapped)
@@ -33,16 +33,16 @@ pub returns-in-Err-Fault-clause-trouble : goal.returns-in-Err-Fault-clause-troub
 returns-in-Err-Fault-clause-trouble g c = (
   refl,
   λ held is.
-      let piece = take c.in_ok-count.count c.read_at.new.piece in
-      let read : PieceRead held c.args.file.name.now c.args.file.size c.args.file.from c.requires.streamed.seen piece = record {
-        front = front_more c.args.file.from c.requires.streamed.seen piece (c.requires.streamed.front held is)
+      let chunk = take c.in_ok-count.count c.read_at.new.chunk in
+      let read : ChunkRead held c.args.file.name.now c.args.file.size c.args.file.from c.requires.streamed.seen chunk = record {
+        front = front_more c.args.file.from c.requires.streamed.seen chunk (c.requires.streamed.front held is)
             c.requires.streamed.long
             (λ bytes front long. (c.in_ok-count.ensures {u = tt}).told held bytes is front long);
         opened = c.requires.opened held is;
         short = c.requires.short;
       } in
-      piece_fault read
-      (subst (IsPieceRefused c.requires.streamed.seen piece) c.in-Err-Fault.field-0-is
+      chunk_fault read
+      (subst (IsChunkRefused c.requires.streamed.seen chunk) c.in-Err-Fault.field-0-is
       ((c.in-Err-Fault.ensures {u = tt}).refused c.requires.streamed.seen c.requires.streamed.unwrapped)) c.move_fault.ensures,
 )
 

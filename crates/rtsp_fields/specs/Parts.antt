@@ -1,4 +1,4 @@
--- Texts that a separator cuts into pieces, and words in any case.
+-- Texts that a separator cuts into parts, and words in any case.
 use Rattle.std.specs.Prelude.{◌≡◌, ◌≢◌, ℕ, ◌+◌, ◌-◌, ◌<◌, ◌≤◌, ◌⊎◌, List, length, take, map}
 use Rattle.std.specs.Prelude.{slice_index, slice_range}
 use Rattle.std.specs.Char.{to_ascii_lowercase}
@@ -7,7 +7,7 @@ use Rattle.std.specs.Char.{to_ascii_lowercase}
 abbrev pub HasNone : ℕ → List ℕ → ℕ → ℕ → Type 0
 HasNone c text from to = (k : ℕ) → from ≤ k → k < to → slice_index text k ≢ c
 
--- a piece may begin at `at`: the text does, or the separator `c` stands directly before
+-- a part may begin at `at`: the text does, or the separator `c` stands directly before
 abbrev pub IsStart : ℕ → List ℕ → ℕ → Type 0
 IsStart c text at = (at ≡ 0) ⊎ ((0 < at) × (slice_index text (at - 1) ≡ c))
 
@@ -18,26 +18,26 @@ pub record IsEnd (c : ℕ) (text : List ℕ) (from to : ℕ) : Type 0 where
   pub none : HasNone c text from to
   pub ends : to < length text → slice_index text to ≡ c
 
--- the bytes from `from` up to `to` are a piece of the text that the separator `c` cuts
-pub record IsPiece (c : ℕ) (text : List ℕ) (from to : ℕ) : Type 0 where
+-- the bytes from `from` up to `to` are a part of the text that the separator `c` cuts
+pub record IsPart (c : ℕ) (text : List ℕ) (from to : ℕ) : Type 0 where
   pub start : IsStart c text from
   pub end : IsEnd c text from to
 
--- `piece` begins at `from`, and ends before the next separator or with the text; `next` is the
+-- `part` begins at `from`, and ends before the next separator or with the text; `next` is the
 -- place after that
-pub record IsNextPiece (c : ℕ) (text : List ℕ) (from next : ℕ) (piece : List ℕ) : Type 0 where
+pub record IsNextPart (c : ℕ) (text : List ℕ) (from next : ℕ) (part : List ℕ) : Type 0 where
   pub end : ℕ
   pub is_end : IsEnd c text from end
   pub next_is : next ≡ end + 1
-  pub piece_is : piece ≡ slice_range text from end
+  pub part_is : part ≡ slice_range text from end
 
--- no piece that begins before `at` is such a text
+-- no part that begins before `at` is such a text
 abbrev pub NoneBefore : ℕ → List ℕ → ℕ → (List ℕ → Type 0) → Type 0
-NoneBefore c text at P = (k end : ℕ) → k < at → IsPiece c text k end → ¬ P (slice_range text k end)
+NoneBefore c text at P = (k end : ℕ) → k < at → IsPart c text k end → ¬ P (slice_range text k end)
 
--- no piece is such a text
-abbrev pub NoPiece : ℕ → List ℕ → (List ℕ → Type 0) → Type 0
-NoPiece c text P = (k end : ℕ) → IsPiece c text k end → ¬ P (slice_range text k end)
+-- no part is such a text
+abbrev pub NoPart : ℕ → List ℕ → (List ℕ → Type 0) → Type 0
+NoPart c text P = (k end : ℕ) → IsPart c text k end → ¬ P (slice_range text k end)
 
 -- a text in lower case
 abbrev pub lower : List ℕ → List ℕ

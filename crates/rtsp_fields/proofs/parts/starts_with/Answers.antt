@@ -1,6 +1,6 @@
 use Rattle.std.proofs.Common.{IsTrue}
 use Rattle.rtsp_fields.proofs.Words.{begins_by_test}
-use Rattle.rtsp_fields.proofs.pieces.starts_with.Goals as goal
+use Rattle.rtsp_fields.proofs.parts.starts_with.Goals as goal
 
 pub returns-then-text-start : goal.returns-then-text-start
 returns-then-text-start c =

@@ -3,12 +3,12 @@ use Rattle.std.proofs.Common.{◌≡◌, ◌≢◌, ℕ, ◌+◌, ◌<◌, ◌�
 use Rattle.std.proofs.lemmas.List.{length-map, length-take}
 use Rattle.std.proofs.lemmas.Option.{same_Some}
 use Rattle.vod_base.specs.Blanks.{without_blanks}
-use Rattle.rtsp_fields.specs.Pieces.{IsEnd, IsPiece, NoneBefore, NoPiece, Begins, lower}
+use Rattle.rtsp_fields.specs.Parts.{IsEnd, IsPart, NoneBefore, NoPart, Begins, lower}
 use Rattle.rtsp_fields.specs.Values.{WritesNumber}
 use Rattle.rtsp_fields.specs.Transports.{IsPair, IsSingle, AreChannels, word, IsOther, NamesChannels, HasChannels, IsTaken, CanBeTaken, IsTransport, after_name}
 use Rattle.rtsp_fields.specs.declared.transports.Channels.{Channels}
-use Rattle.rtsp_fields.specs.declared.pieces.Pieces.{Pieces}
-use Rattle.rtsp_fields.proofs.Places.{GivesNext, HasPassed, end_once, first_once, found_piece}
+use Rattle.rtsp_fields.specs.declared.parts.Parts.{Parts}
+use Rattle.rtsp_fields.proofs.Places.{GivesNext, HasPassed, end_once, first_once, found_part}
 
 -- a pair, cut at its dash
 pub record IsPairAt (text : List ℕ) (dash : ℕ) (channels : Channels) : Type 0 where
@@ -47,7 +47,7 @@ pub name_within : (part : List ℕ) → Begins (codes "interleaved=") (lower par
 name_within part b = let e = simp (length-map, length-take) at (ap length b) in omega (arith, e)
 
 -- the first part that names channels tells them
-pub named_channels : {text : List ℕ} {from to : ℕ} (o : Option Channels) → IsPiece 59 text from to →
+pub named_channels : {text : List ℕ} {from to : ℕ} (o : Option Channels) → IsPart 59 text from to →
     NamesChannels (slice_range text from to) →
     NoneBefore 59 text from NamesChannels →
     MatchOption o
@@ -55,28 +55,28 @@ pub named_channels : {text : List ℕ} {from to : ℕ} (o : Option Channels) →
     ¬ AreChannels (after_name (without_blanks (slice_range text from to))) channels)
     (AreChannels (after_name (without_blanks (slice_range text from to)))) →
     MatchOption o ((channels : Channels) → ¬ HasChannels text channels) (HasChannels text)
-named_channels {text} {from} {to} None piece names first h = λ channels has. elim has [
+named_channels {text} {from} {to} None part names first h = λ channels has. elim has [
   | inl named ↦
-      let same = first_once NamesChannels (record { piece = named.piece; holds = named.names; first = named.first })
-      (record { piece = piece; holds = names; first = first }) in
+      let same = first_once NamesChannels (record { part = named.part; holds = named.names; first = named.first })
+      (record { part = part; holds = names; first = first }) in
       let P : ℕ → Type 0 = λ n. AreChannels (after_name (without_blanks (slice_range text n named.to))) channels in
       let Q : ℕ → Type 0 = λ n. AreChannels (after_name (without_blanks (slice_range text from n))) channels in
       h channels (subst Q same.1 (subst P same.0 named.are))
-  | inr default ↦ default.none from to piece names
+  | inr default ↦ default.none from to part names
 ]
-named_channels {text} {from} {to} (Some channels) piece names first h =
-    inl (record { from = from; to = to; piece = piece; names = names; first = first; are = h })
+named_channels {text} {from} {to} (Some channels) part names first h =
+    inl (record { from = from; to = to; part = part; names = names; first = first; are = h })
 
-pub channels_found : {text piece : List ℕ} {old : Pieces} (o : Option Channels) (new : Pieces) → HasPassed NamesChannels 59 text old →
-    GivesNext old piece new → NamesChannels piece →
+pub channels_found : {text part : List ℕ} {old : Parts} (o : Option Channels) (new : Parts) → HasPassed NamesChannels 59 text old →
+    GivesNext old part new → NamesChannels part →
     MatchOption o
     ((channels : Channels) →
-    ¬ AreChannels (after_name (without_blanks piece)) channels)
-    (AreChannels (after_name (without_blanks piece))) →
+    ¬ AreChannels (after_name (without_blanks part)) channels)
+    (AreChannels (after_name (without_blanks part))) →
     MatchOption o ((channels : Channels) → ¬ HasChannels text channels) (HasChannels text)
 channels_found o new passed gives names are =
-    let found = found_piece new passed gives names in
-    named_channels o found.1.0.piece found.1.0.holds found.1.0.first
+    let found = found_part new passed gives names in
+    named_channels o found.1.0.part found.1.0.holds found.1.0.first
     (subst (λ (t : List ℕ). MatchOption o ((channels : Channels) → ¬ AreChannels (after_name (without_blanks t)) channels)
     (AreChannels (after_name (without_blanks t)))) found.1.1 are)
 
@@ -90,7 +90,7 @@ other_protocol text end channels e other t =
 
 -- an alternative with that first part and no other part is taken with its channels
 pub taken_channels : {text : List ℕ} {end : ℕ} (o : Option Channels) → IsEnd 59 text 0 end →
-    word (take end text) ≡ codes "rtp/avp/tcp" → NoPiece 59 text IsOther →
+    word (take end text) ≡ codes "rtp/avp/tcp" → NoPart 59 text IsOther →
     MatchOption o ((channels : Channels) → ¬ HasChannels text channels) (HasChannels text)
     → MatchOption o ((channels : Channels) → ¬ IsTaken text channels) (IsTaken text)
 taken_channels {text} {end} None e protocol plain h = λ channels t. h channels t.has
@@ -100,17 +100,17 @@ taken_channels {text} {end} (Some channels) e protocol plain h =
 pub not_taken : (text : List ℕ) → ((channels : Channels) → ¬ IsTaken text channels) → ¬ CanBeTaken text
 not_taken text none = λ t. none t.0 t.1
 
-pub no_transport : (value : List ℕ) (channels : Channels) → NoPiece 44 value CanBeTaken → IsTransport value channels → ⊥
-no_transport value channels none t = none t.from t.to t.piece (channels, t.taken)
+pub no_transport : (value : List ℕ) (channels : Channels) → NoPart 44 value CanBeTaken → IsTransport value channels → ⊥
+no_transport value channels none t = none t.from t.to t.part (channels, t.taken)
 
-pub transport_found : {value piece : List ℕ} {old : Pieces} {channels : Channels} (new : Pieces) → HasPassed CanBeTaken 44 value old →
-    GivesNext old piece new → IsTaken piece channels → IsTransport value channels
+pub transport_found : {value part : List ℕ} {old : Parts} {channels : Channels} (new : Parts) → HasPassed CanBeTaken 44 value old →
+    GivesNext old part new → IsTaken part channels → IsTransport value channels
 transport_found {old = old} {channels = channels} new passed gives taken =
-    let found = found_piece new passed gives (channels, taken) in
+    let found = found_part new passed gives (channels, taken) in
     record {
       from = old.from;
       to = found.0;
-      piece = found.1.0.piece;
+      part = found.1.0.part;
       taken = subst (λ (t : List ℕ). IsTaken t channels) found.1.1 taken;
       first = found.1.0.first;
     }

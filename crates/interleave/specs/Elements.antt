@@ -1,21 +1,21 @@
--- The first piece of a connection's input (RFC 2326 sections 4, 6 and 10.12): bytes CR and LF
+-- The first element of a connection's input (RFC 2326 sections 4, 6 and 10.12): bytes CR and LF
 -- before a request, an interleaved block, or a request.
 use Rattle.std.specs.Prelude.{◌≡◌, ℕ, ◌+◌, ◌*◌, ◌<◌, ◌≤◌, ◌==◌, ◌⊎◌, true, false, List, length}
 use Rattle.std.specs.Prelude.{take, slice_index, Result, Ok, Err}
 use Rattle.interleave.specs.Heads.{is_line_end, HasNoHead, IsHead}
 use Rattle.interleave.specs.Lengths.{IsBodyLength, IsLongBody}
-use Rattle.interleave.specs.declared.pieces.Step.{Step}
-use Rattle.interleave.specs.declared.pieces.Step.TheVariants.{Request, Block, Skip, More}
-use Rattle.interleave.specs.declared.pieces.DemuxFault.{DemuxFault}
-use Rattle.interleave.specs.declared.pieces.DemuxFault.TheVariants.{HeadTooLong, BodyTooLong}
+use Rattle.interleave.specs.declared.elements.Step.{Step}
+use Rattle.interleave.specs.declared.elements.Step.TheVariants.{Message, Block, Skip, More}
+use Rattle.interleave.specs.declared.elements.DemuxFault.{DemuxFault}
+use Rattle.interleave.specs.declared.elements.DemuxFault.TheVariants.{HeadTooLong, BodyTooLong}
 
 -- `$` is in front, which begins an interleaved block
 abbrev pub StartsBlock : List ℕ → Type 0
 StartsBlock bytes = (0 < length bytes) × (slice_index bytes 0 ≡ 36)
 
 -- another byte than CR, LF and `$` is in front, which begins a request
-abbrev pub StartsRequest : List ℕ → Type 0
-StartsRequest bytes = (0 < length bytes) × (is_line_end (slice_index bytes 0) ≡ false)
+abbrev pub StartsMessage : List ℕ → Type 0
+StartsMessage bytes = (0 < length bytes) × (is_line_end (slice_index bytes 0) ≡ false)
     × ((slice_index bytes 0 == 36) ≡ false)
 
 -- all bytes CR and LF in front are these `n`
@@ -31,7 +31,7 @@ block_length bytes = 4 + (slice_index bytes 2 * 256 + slice_index bytes 3)
 
 -- the request in front has a whole head of at most 16,384 bytes and a body of at most 65,536, and
 -- this length in all
-pub record IsRequestLength (bytes : List ℕ) (total : ℕ) : Type 0 where
+pub record IsMessageLength (bytes : List ℕ) (total : ℕ) : Type 0 where
   pub head : ℕ
   pub body : ℕ
   pub is_head : IsHead bytes head
@@ -51,7 +51,7 @@ pub record IsBodyTooLong (bytes : List ℕ) : Type 0 where
 abbrev pub IsUnfinished : List ℕ → Type 0
 IsUnfinished bytes =
     (HasNoHead bytes (length bytes) × (length bytes < 16384))
-    ⊎ ((total : ℕ) × (IsRequestLength bytes total × (length bytes < total)))
+    ⊎ ((total : ℕ) × (IsMessageLength bytes total × (length bytes < total)))
 
 -- what stands in front of the waiting bytes
 abbrev pub IsFirst : List ℕ → Result Step DemuxFault → Type 0
@@ -59,28 +59,28 @@ IsFirst bytes (Ok (Skip n)) = (0 < n) × AreLineEnds bytes n
 IsFirst bytes (Ok (Block channel n)) =
     StartsBlock bytes × (4 ≤ length bytes) × (channel ≡ slice_index bytes 1)
     × (n ≡ block_length bytes) × (n ≤ length bytes)
-IsFirst bytes (Ok (Request n)) = StartsRequest bytes × IsRequestLength bytes n × (n ≤ length bytes)
+IsFirst bytes (Ok (Message n)) = StartsMessage bytes × IsMessageLength bytes n × (n ≤ length bytes)
 IsFirst bytes (Ok More) =
     (length bytes ≡ 0)
     ⊎ ((StartsBlock bytes × (4 ≤ length bytes → length bytes < block_length bytes))
-    ⊎ (StartsRequest bytes × IsUnfinished bytes))
-IsFirst bytes (Err HeadTooLong) = StartsRequest bytes × (16384 ≤ length bytes)
+    ⊎ (StartsMessage bytes × IsUnfinished bytes))
+IsFirst bytes (Err HeadTooLong) = StartsMessage bytes × (16384 ≤ length bytes)
     × HasNoHead bytes 16384
-IsFirst bytes (Err BodyTooLong) = StartsRequest bytes × IsBodyTooLong bytes
+IsFirst bytes (Err BodyTooLong) = StartsMessage bytes × IsBodyTooLong bytes
 
--- the answer is a fault or a whole piece, and no byte that comes later belongs to it: after CR and
+-- the answer is a fault or a whole element, and no byte that comes later belongs to it: after CR and
 -- LF another byte waits
-abbrev pub IsWholePiece : List ℕ → Result Step DemuxFault → Type 0
-IsWholePiece bytes (Ok (Skip n)) = n < length bytes
-IsWholePiece bytes (Ok (Block channel n)) = Unit {0}
-IsWholePiece bytes (Ok (Request n)) = Unit {0}
-IsWholePiece bytes (Ok More) = ⊥
-IsWholePiece bytes (Err fault) = Unit {0}
+abbrev pub IsWholeElement : List ℕ → Result Step DemuxFault → Type 0
+IsWholeElement bytes (Ok (Skip n)) = n < length bytes
+IsWholeElement bytes (Ok (Block channel n)) = Unit {0}
+IsWholeElement bytes (Ok (Message n)) = Unit {0}
+IsWholeElement bytes (Ok More) = ⊥
+IsWholeElement bytes (Err fault) = Unit {0}
 
 -- at least `n` bytes CR and LF are in front
 abbrev pub IsLongerSkip : ℕ → Result Step DemuxFault → Type 0
 IsLongerSkip n (Ok (Skip m)) = n ≤ m
 IsLongerSkip n (Ok (Block channel m)) = ⊥
-IsLongerSkip n (Ok (Request m)) = ⊥
+IsLongerSkip n (Ok (Message m)) = ⊥
 IsLongerSkip n (Ok More) = ⊥
 IsLongerSkip n (Err fault) = ⊥

@@ -4,7 +4,7 @@ use Rattle.inputs.specs.Scans.{HasUnwrapped}
 use Rattle.inputs.proofs.Tokens.{slice_from}
 use Rattle.inputs.proofs.ScanLemmas.{handed_on}
 use Rattle.inputs.proofs.StreamLemmas.{part_refused, parts_joined}
-use Rattle.inputs.proofs.streams.unwrap_piece.Goals as goal
+use Rattle.inputs.proofs.streams.unwrap_chunk.Goals as goal
 
 pub loop-at-init : goal.loop-at-init
 loop-at-init g c = record {
@@ -22,8 +22,8 @@ loop-at-preserved g c = record {
   within = omega (
     arith,
     (c.in_ok-taken.ensures {u = tt}).taken.1,
-    ap length (slice_from c.args.piece.now c.loop-at.at),
-    length-drop c.loop-at.at c.args.piece.now,
+    ap length (slice_from c.args.chunk.now c.loop-at.at),
+    length-drop c.loop-at.at c.args.chunk.now,
     c.loop-at.invariant.within,
   );
   count = omega (arith, c.loop-at.invariant.count, (c.in_ok-taken.ensures {u = tt}).count);
@@ -32,18 +32,18 @@ loop-at-preserved g c = record {
   next = λ seen so_far.
       subst (λ (l : List ℕ). HasUnwrapped (g.F.Found.heard c.unwrap_part.new.found) c.unwrap_part.new.unwrapper
       c.unwrap_part.new.scanner l)
-      (parts_joined seen c.args.piece.now c.loop-at.at c.in_ok-taken.taken)
-      ((c.in_ok-taken.ensures {u = tt}).next (seen ++ take c.loop-at.at c.args.piece.now) (c.loop-at.invariant.next seen so_far));
+      (parts_joined seen c.args.chunk.now c.loop-at.at c.in_ok-taken.taken)
+      ((c.in_ok-taken.ensures {u = tt}).next (seen ++ take c.loop-at.at c.args.chunk.now) (c.loop-at.invariant.next seen so_far));
 }
 
 pub returns-in_err-taken-clause-refused : goal.returns-in_err-taken-clause-refused
 returns-in_err-taken-clause-refused g c = λ seen so_far.
     handed_on _ c.from_residual.result c.from_residual.ensures.1
-    (part_refused seen c.args.piece.now c.loop-at.at c.in_err-taken.field-0.0
-    ((c.in_err-taken.ensures {u = tt}).refused (seen ++ take c.loop-at.at c.args.piece.now)
+    (part_refused seen c.args.chunk.now c.loop-at.at c.in_err-taken.field-0.0
+    ((c.in_err-taken.ensures {u = tt}).refused (seen ++ take c.loop-at.at c.args.chunk.now)
     (c.loop-at.invariant.next seen so_far)))
 
 pub returns-clause-next : goal.returns-clause-next
 returns-clause-next g c = λ seen so_far.
     subst (λ (l : List ℕ). HasUnwrapped (g.F.Found.heard c.loop-at.found) c.loop-at.unwrapper c.loop-at.scanner (seen ++ l))
-    (take_all c.loop-at.at c.args.piece.now (omega arith)) (c.loop-at.invariant.next seen so_far)
+    (take_all c.loop-at.at c.args.chunk.now (omega arith)) (c.loop-at.invariant.next seen so_far)

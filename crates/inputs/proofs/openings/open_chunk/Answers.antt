@@ -1,13 +1,13 @@
 use Rattle.std.proofs.Common.{◌≡◌, ◌∙◌, ◌+◌, ◌-◌, Bool, true, false, Some, None, ℕ, cond, eqb, eq-eqb, get_or, sym, ap}
 use Rattle.std.proofs.lemmas.Bool.{ne_eqb}
 use Rattle.inputs.proofs.OpeningLemmas.{IsOpenBefore, found_step, not_whole, open_step}
-use Rattle.inputs.proofs.openings.open_piece.Goals as goal
+use Rattle.inputs.proofs.openings.open_chunk.Goals as goal
 
 pub returns-in-Whole-clause-opening : goal.returns-in-Whole-clause-opening
 returns-in-Whole-clause-opening c = λ seen long so_far.
-    let byte : eqb (get_or c.args.piece.now c.loop-index.index 0) 0xba ≡ true =
-    eq-eqb (get_or c.args.piece.now c.loop-index.index 0) 0xba c.if-byte.true in
-    let before : IsOpenBefore c.loop-index.prefix seen c.args.piece.now c.loop-index.index c.args.at =
+    let byte : eqb (get_or c.args.chunk.now c.loop-index.index 0) 0xba ≡ true =
+    eq-eqb (get_or c.args.chunk.now c.loop-index.index 0) 0xba c.if-byte.true in
+    let before : IsOpenBefore c.loop-index.prefix seen c.args.chunk.now c.loop-index.index c.args.at =
     record { inside = c.loop-index-test.true; long = long; so_far = c.loop-index.invariant seen long so_far } in
     found_step before c.in-Whole.is
     (ap (λ (b : Bool). cond b (Some (c.args.at + c.loop-index.index - 3)) None) byte
@@ -15,16 +15,16 @@ returns-in-Whole-clause-opening c = λ seen long so_far.
 
 pub returns-in-Whole-2-clause-opening : goal.returns-in-Whole-2-clause-opening
 returns-in-Whole-2-clause-opening c = λ seen long so_far.
-    let byte : eqb (get_or c.args.piece.now c.loop-index.index 0) 0xba ≡ false =
-    ne_eqb (get_or c.args.piece.now c.loop-index.index 0) 0xba c.if-byte.false in
-    let before : IsOpenBefore c.loop-index.prefix seen c.args.piece.now c.loop-index.index c.args.at =
+    let byte : eqb (get_or c.args.chunk.now c.loop-index.index 0) 0xba ≡ false =
+    ne_eqb (get_or c.args.chunk.now c.loop-index.index 0) 0xba c.if-byte.false in
+    let before : IsOpenBefore c.loop-index.prefix seen c.args.chunk.now c.loop-index.index c.args.at =
     record { inside = c.loop-index-test.true; long = long; so_far = c.loop-index.invariant seen long so_far } in
     found_step before c.in-Whole.is
     (ap (λ (b : Bool). cond b (Some (c.args.at + c.loop-index.index - 3)) None) byte)
 
 pub loop-index-preserved : goal.loop-index-preserved
 loop-index-preserved c = λ seen long so_far.
-    let before : IsOpenBefore c.loop-index.prefix seen c.args.piece.now c.loop-index.index c.args.at =
+    let before : IsOpenBefore c.loop-index.prefix seen c.args.chunk.now c.loop-index.index c.args.at =
     record { inside = c.loop-index-test.true; long = long; so_far = c.loop-index.invariant seen long so_far } in
     open_step before
     (not_whole c.loop-index.prefix c.in_default.not-Whole) c.then-prefix.ensures
