@@ -37,14 +37,14 @@ first_waits (y ∷ xs) zero x is long some = absurd (omega arith)
 first_waits (y ∷ xs) (suc k) x is long some = ap Some (sym is)
 
 -- where a link is put at the end, it is the last of those that came back
-pub back_grows : {A B : Type 0} (f : A → B) (old new : List A) (waiting : ℕ) (x : A) → new ≡ old ++ x ∷ [] →
-    waiting ≤ length old →
+pub back_grows : {A B : Type 0} {new : List A} (f : A → B) (old : List A) (waiting : ℕ) (x : A) →
+    new ≡ old ++ x ∷ [] → waiting ≤ length old →
     map f (drop waiting new) ≡ map f (drop waiting old) ++ f x ∷ []
-back_grows f old new waiting x is low =
+back_grows f old waiting x is low =
     ap (λ (l : List _). map f (drop waiting l)) is ∙ ap (map f) (drop-append-le waiting old (x ∷ []) low)
     ∙ map-append f (drop waiting old) (x ∷ [])
 
 -- and those that wait stay
-pub waiting_stay : {A : Type 0} (old new : List A) (waiting : ℕ) (x : A) → new ≡ old ++ x ∷ []
+pub waiting_stay : {A : Type 0} {new : List A} (old : List A) (waiting : ℕ) (x : A) → new ≡ old ++ x ∷ []
     → waiting ≤ length old → take waiting new ≡ take waiting old
-waiting_stay old new waiting x is low = ap (take waiting) is ∙ take-append-le waiting old (x ∷ []) low
+waiting_stay old waiting x is low = ap (take waiting) is ∙ take-append-le waiting old (x ∷ []) low

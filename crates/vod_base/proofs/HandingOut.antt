@@ -38,16 +38,16 @@ pub record IsPassed (front new : Front) : Type 0 where
   pub event : new.event ≡ front.event + 1
   pub offset : new.offset ≡ 0
 
-left_passed : (events : List Event) (front new : Front) → IsPassed front new → left_from events new ≡ rest_from events front
-left_passed events front new passed =
+left_passed : (events : List Event) {front new : Front} → IsPassed front new → left_from events new ≡ rest_from events front
+left_passed events {front} passed =
     rw (passed.event, passed.offset) (whole (rest_from events front))
 
 -- an event of which no bytes are left is passed over
-pub empty_passed : (events : List Event) (front new : Front) (bytes : Vec ℕ Global) → IsAt events front.event (Bytes bytes) →
+pub empty_passed : {events : List Event} {front new : Front} {bytes : Vec ℕ Global} → IsAt events front.event (Bytes bytes) →
     length bytes.items ≤ front.offset → IsPassed front new
     → without_empty_front (left_from events new) ≡ without_empty_front (left_from events front)
-empty_passed events front new bytes is none passed =
-    ap without_empty_front (left_passed events front new passed)
+empty_passed {events} {front} {bytes} is none passed =
+    ap without_empty_front (left_passed events passed)
     ∙ sym (ap without_empty_front (left_here events front (Bytes bytes) is)
     ∙ ap (λ (bs : List ℕ). without_empty_front (HeardBytes bs ∷ rest_from events front)) (drop_all front.offset bytes.items none))
 
@@ -56,22 +56,24 @@ pub record IsInFront (events : List Event) (first front : Front) (event : Event)
   pub passed : without_empty_front (left_from events front) ≡ without_empty_front (left_from events first)
   pub is : IsAt events front.event event
 
-in_front : (events : List Event) (first front : Front) (event : Event) → IsInFront events first front event →
-    without_empty_front (left_from events first) ≡ without_empty_front (without_first_bytes front.offset (heard_whole event ∷ rest_from events front))
-in_front events first front event at = sym at.passed ∙ ap without_empty_front (left_here events front event at.is)
+in_front : {events : List Event} {first front : Front} {event : Event} → IsInFront events first front event →
+    without_empty_front (left_from events first)
+    ≡ without_empty_front (without_first_bytes front.offset (heard_whole event ∷ rest_from events front))
+in_front {events} {front} {event} at = sym at.passed ∙ ap without_empty_front (left_here events front event at.is)
 
-pub slot_out : (events : List Event) (first front new : Front) (slot room : ℕ) →
+pub slot_out : {events : List Event} {first front new : Front} {slot : ℕ} (room : ℕ) →
     IsInFront events first front (Slot slot) → IsPassed front new →
     (HeardSlot slot ≡ next_doing room (left_from events first)) × (left_from events new ≡ left_after room (left_from events first))
-slot_out events first front new slot room at passed =
-    let here = in_front events first front (Slot slot) at in
-    (sym (ap (first_out room) here), left_passed events front new passed ∙ sym (ap (rest_left room) here))
+slot_out {events} room at passed =
+    let here = in_front at in
+    (sym (ap (first_out room) here), left_passed events passed ∙ sym (ap (rest_left room) here))
 
-pub end_out : (events : List Event) (first front new : Front) (room : ℕ) → IsInFront events first front End → IsPassed front new →
+pub end_out : {events : List Event} {first front new : Front} (room : ℕ) →
+    IsInFront events first front End → IsPassed front new →
     (HeardEnd ≡ next_doing room (left_from events first)) × (left_from events new ≡ left_after room (left_from events first))
-end_out events first front new room at passed =
-    let here = in_front events first front End at in
-    (sym (ap (first_out room) here), left_passed events front new passed ∙ sym (ap (rest_left room) here))
+end_out {events} room at passed =
+    let here = in_front at in
+    (sym (ap (first_out room) here), left_passed events passed ∙ sym (ap (rest_left room) here))
 
 -- a front of some of which so many bytes were handed out
 pub record IsFrontOut (bytes into : List ℕ) (offset count : ℕ) : Type 0 where
@@ -83,16 +85,16 @@ some_passed : (bytes : List ℕ) (offset : ℕ) (rest : List Doing) → offset <
     without_empty_front (HeardBytes (drop offset bytes) ∷ rest) ≡ HeardBytes (drop offset bytes) ∷ rest
 some_passed bytes offset rest some = rw (drop_more bytes offset 0 some) refl
 
-pub bytes_out : (events : List Event) (first front : Front) (bytes : Vec ℕ Global) (into : List ℕ) (count : ℕ) →
+pub bytes_out : {events : List Event} {first front : Front} {bytes : Vec ℕ Global} {into : List ℕ} {count : ℕ} →
     IsInFront events first front (Bytes bytes) → IsFrontOut bytes.items into front.offset count →
     (HeardBytes (take count into) ≡ next_doing (length into) (left_from events first))
     × (left_from events (record { event = front.event; offset = front.offset + count })
     ≡ left_after (length into) (left_from events first))
-bytes_out events first front bytes into count at out =
+bytes_out {events} {first} {front} {bytes} {into} {count} at out =
     let left : List ℕ = drop front.offset bytes.items in
     let rest : List Doing = rest_from events front in
     let here : without_empty_front (left_from events first) ≡ HeardBytes left ∷ rest =
-    in_front events first front (Bytes bytes) at ∙ some_passed bytes.items front.offset rest out.some in
+    in_front at ∙ some_passed bytes.items front.offset rest out.some in
     let most : min (length into) (length left) ≡ count = rw (length-drop front.offset bytes.items) (sym out.most) in
     let handed_out : take count into ≡ take (length into) left =
     out.front ∙ ap (λ n. take n left) (sym most) ∙ take_min (length into) left in

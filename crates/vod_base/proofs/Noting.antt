@@ -57,10 +57,11 @@ sent_more events old new bytes are =
     )
 
 -- one byte more is noted as sent
-pub noted_more : (old now new : List Noted) (bytes : List ℕ) (i : ℕ) → i < length bytes → now ≡ old ++ map Gone (take i bytes) →
-    new ≡ now ++ Gone (get_or bytes i 0) ∷ [] → new ≡ old ++ map Gone (take (i + 1) bytes)
-noted_more old now new bytes i h was is =
+pub noted_more : {now new : List Noted} (old : List Noted) (bytes : List ℕ) (i : ℕ) → i < length bytes →
+    now ≡ old ++ map Gone (take i bytes) → new ≡ now ++ Gone (get_or bytes i 0) ∷ [] →
+    new ≡ old ++ map Gone (take (i + 1) bytes)
+noted_more old bytes i inside was is =
     let one : List Noted = Gone (get_or bytes i 0) ∷ [] in
     is ∙ ap (λ (l : List Noted). l ++ one) was ∙ append_assoc old (map Gone (take i bytes)) one
     ∙ ap (λ (l : List Noted). old ++ l)
-    (sym (ap (map Gone) (take_more bytes i 0 h) ∙ map-append Gone (take i bytes) (get_or bytes i 0 ∷ [])))
+    (sym (ap (map Gone) (take_more bytes i 0 inside) ∙ map-append Gone (take i bytes) (get_or bytes i 0 ∷ [])))

@@ -10,8 +10,7 @@ loop-bytes-preserved c =
     let none : length c.in-Some-Bytes.bytes.items ≤ c.loop-bytes.front.offset = search rules in
     let passed : IsPassed c.loop-bytes.front c.pass.new.self =
     record { event = c.pass.ensures.event; offset = c.pass.ensures.offset } in
-    empty_passed c.args.events.now c.loop-bytes.front c.pass.new.self c.in-Some-Bytes.bytes at none passed
-    ∙ c.loop-bytes.invariant
+    empty_passed at none passed ∙ c.loop-bytes.invariant
 
 pub returns-in-Some-Bytes-get-clause-front : goal.returns-in-Some-Bytes-get-clause-front
 returns-in-Some-Bytes-get-clause-front c =
@@ -25,8 +24,7 @@ returns-in-Some-Bytes-get-clause-front c =
       most = rw (← c.deref.ensures.value) c.copy_from-count.ensures.most;
       front = rw (← c.deref.ensures.value) c.copy_from-count.ensures.read.front;
     } in
-    bytes_out c.args.events.now c.args.front.now c.loop-bytes.front c.in-Some-Bytes-get.bytes
-    c.copy_from-count.new.into c.copy_from-count.result at out
+    bytes_out at out
 
 pub returns-in-Some-Slot-clause-front : goal.returns-in-Some-Slot-clause-front
 returns-in-Some-Slot-clause-front c =
@@ -34,8 +32,7 @@ returns-in-Some-Slot-clause-front c =
     record { passed = c.loop-bytes.invariant; is = record { inside = search rules; is = search rules } } in
     let passed : IsPassed c.loop-bytes.front c.pass-in-Some-Slot.new.self =
     record { event = c.pass-in-Some-Slot.ensures.event; offset = c.pass-in-Some-Slot.ensures.offset } in
-    slot_out c.args.events.now c.args.front.now c.loop-bytes.front c.pass-in-Some-Slot.new.self
-    c.in-Some-Slot.slot (length c.args.into.now) at passed
+    slot_out (length c.args.into.now) at passed
 
 pub returns-in-Some-End-clause-front : goal.returns-in-Some-End-clause-front
 returns-in-Some-End-clause-front c =
@@ -43,7 +40,7 @@ returns-in-Some-End-clause-front c =
     record { passed = c.loop-bytes.invariant; is = record { inside = search rules; is = search rules } } in
     let passed : IsPassed c.loop-bytes.front c.pass-in-Some-End.new.self =
     record { event = c.pass-in-Some-End.ensures.event; offset = c.pass-in-Some-End.ensures.offset } in
-    end_out c.args.events.now c.args.front.now c.loop-bytes.front c.pass-in-Some-End.new.self (length c.args.into.now) at passed
+    end_out (length c.args.into.now) at passed
 
 pub returns-in-None-clause-front : goal.returns-in-None-clause-front
 returns-in-None-clause-front c =

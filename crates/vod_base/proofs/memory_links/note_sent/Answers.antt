@@ -4,7 +4,7 @@ use Rattle.vod_base.proofs.memory_links.note_sent.Goals as goal
 
 pub loop-byte-preserved : goal.loop-byte-preserved
 loop-byte-preserved c = (
-  noted_more c.args.notes.now.items c.loop-byte.notes.items c.push.new.self.items c.args.bytes.now c.loop-byte.byte-index
+  noted_more c.args.notes.now.items c.args.bytes.now c.loop-byte.byte-index
       c.loop-byte-test.true c.loop-byte.invariant.0 c.in-Ok.ensures.items,
   omega (arith, c.in-Ok.ensures.len, c.loop-byte.invariant.1),
   omega (arith, c.in-Ok.ensures.capacity, c.loop-byte.invariant.2),
