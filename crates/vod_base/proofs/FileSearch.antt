@@ -26,29 +26,26 @@ stored_step items name i item h e =
     named_step (map file_of items) name i (file_of item) (rw length-map h)
     (get_or-map file_of items i item ∙ ap file_of (sym e))
 
--- the search has come to a place of the stored pairs, which stand for the files: this is the pair
-pub record AtStored (files : List File) (items : List (String Global × Vec ℕ Global)) (i : ℕ)
-    (item : String Global × Vec ℕ Global) : Type 0 where
-  pub files_are : files ≡ map file_of items
+-- the search has come to a place of the stored pairs: this is the pair
+pub record AtStored (items : List (String Global × Vec ℕ Global)) (i : ℕ) (item : String Global × Vec ℕ Global) : Type 0 where
   pub inside : i < length items
   pub is : item ≡ get_or items i item
 
-pub stored_here : {files : List File} {items : List (String Global × Vec ℕ Global)} {i : ℕ}
-    {item : String Global × Vec ℕ Global} (name : List ℕ) →
-    AtStored files items i item → bytes_eq (string_bytes item.0) name ≡ true → file_named (drop i files) name ≡ Some item.1.items
+pub stored_here : {items : List (String Global × Vec ℕ Global)} {i : ℕ} {item : String Global × Vec ℕ Global} (name : List ℕ) →
+    AtStored items i item → bytes_eq (string_bytes item.0) name ≡ true
+    → file_named (drop i (map file_of items)) name ≡ Some item.1.items
 stored_here {items} {i} {item} name at same =
-    let step = stored_step items name i item at.inside at.is in
-    rw at.files_are (step ∙ ap (λ b. if b then Some item.1.items else file_named (drop (i + 1) (map file_of items)) name) same)
+    stored_step items name i item at.inside at.is
+    ∙ ap (λ b. if b then Some item.1.items else file_named (drop (i + 1) (map file_of items)) name) same
 
-pub stored_after : {files : List File} {items : List (String Global × Vec ℕ Global)} {i : ℕ}
-    {item : String Global × Vec ℕ Global} (name : List ℕ) →
-    AtStored files items i item → bytes_eq (string_bytes item.0) name ≡ false
-    → file_named (drop i files) name ≡ file_named (drop (i + 1) files) name
+pub stored_after : {items : List (String Global × Vec ℕ Global)} {i : ℕ} {item : String Global × Vec ℕ Global} (name : List ℕ) →
+    AtStored items i item → bytes_eq (string_bytes item.0) name ≡ false
+    → file_named (drop i (map file_of items)) name ≡ file_named (drop (i + 1) (map file_of items)) name
 stored_after {items} {i} {item} name at other =
-    let step = stored_step items name i item at.inside at.is in
-    rw at.files_are (step ∙ ap (λ b. if b then Some item.1.items else file_named (drop (i + 1) (map file_of items)) name) other)
+    stored_step items name i item at.inside at.is
+    ∙ ap (λ b. if b then Some item.1.items else file_named (drop (i + 1) (map file_of items)) name) other
 
-pub stored_none : (files : List File) (items : List (String Global × Vec ℕ Global)) (name : List ℕ) (i : ℕ) →
-    files ≡ map file_of items → length items ≤ i → file_named (drop i files) name ≡ None
-stored_none files items name i are h =
-    rw are (ap (λ (fs : List File). file_named fs name) (drop_all i (map file_of items) (rw length-map h)))
+pub stored_none : (items : List (String Global × Vec ℕ Global)) (name : List ℕ) (i : ℕ) → length items ≤ i →
+    file_named (drop i (map file_of items)) name ≡ None
+stored_none items name i past =
+    ap (λ (fs : List File). file_named fs name) (drop_all i (map file_of items) (rw length-map past))

@@ -72,13 +72,22 @@ impl MemoryLibrary {
     fn file(&self, name: &str) -> Option<&[u8]>
         ensures { option_map (λ bytes. bytes.now) result ≡ file_named self.now.files name.now }
     {
-        for (file_name, bytes) in &self.files {
-            if file_name.as_str() == name {
-                return Some(bytes.as_slice());
-            }
-        }
-        None
+        first_named(&self.files, name)
     }
+}
+
+/// The bytes of the first of these files that has the name.
+fn first_named<'a>(files: &'a [(String, Vec<u8>)], name: &str) -> Option<&'a [u8]>
+    ensures { option_map (λ bytes. bytes.now) result ≡
+        file_named (map (λ f. record { name = string_bytes f.0; bytes = f.1.items }) files.now)
+        name.now }
+{
+    for (file_name, bytes) in files {
+        if file_name.as_str() == name {
+            return Some(bytes.as_slice());
+        }
+    }
+    None
 }
 
 impl Library for MemoryLibrary {
