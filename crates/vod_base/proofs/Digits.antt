@@ -28,9 +28,11 @@ pub digits_value_more : (text : List ℕ) (i : ℕ) → list_all is_ascii_digit 
     × (48 ≤ get_or text i 0)
     × (digits_value 10 (take (i + 1) text) ≤ digits_value 10 text)
 digits_value_more text i all h =
-    let digit : (48 ≤ get_or text i 0) × (get_or text i 0 ≤ 57) × (digit_value (get_or text i 0) ≡ get_or text i 0 - 48) =
+    let digit : (48 ≤ get_or text i 0) × (get_or text i 0 ≤ 57)
+    × (digit_value (get_or text i 0) ≡ get_or text i 0 - 48) =
     digit_value_is (get_or text i 0) (is_digit_at text i all h) in
-    let more : digits_value 10 (take (i + 1) text) ≡ digits_value 10 (take i text) * 10 + digit_value (get_or text i 0) =
+    let more : digits_value 10 (take (i + 1) text)
+    ≡ digits_value 10 (take i text) * 10 + digit_value (get_or text i 0) =
     rw (take_more text i 0 h) (digits_value_push 10 (take i text) (get_or text i 0)) in
     (omega (arith, more, digit.2), digit.0, digits_value-take-le 10 text (i + 1) (omega arith))
 

@@ -38,18 +38,21 @@ pub record IsPassed (front new : Front) : Type 0 where
   pub event : new.event ≡ front.event + 1
   pub offset : new.offset ≡ 0
 
-left_passed : (events : List Event) {front new : Front} → IsPassed front new → left_from events new ≡ rest_from events front
+left_passed : (events : List Event) {front new : Front} → IsPassed front new
+    → left_from events new ≡ rest_from events front
 left_passed events {front} passed =
     rw (passed.event, passed.offset) (whole (rest_from events front))
 
 -- an event of which no bytes are left is passed over
-pub empty_passed : {events : List Event} {front new : Front} {bytes : Vec ℕ Global} → IsAt events front.event (Bytes bytes) →
+pub empty_passed : {events : List Event} {front new : Front} {bytes : Vec ℕ Global}
+    → IsAt events front.event (Bytes bytes) →
     length bytes.items ≤ front.offset → IsPassed front new
     → without_empty_front (left_from events new) ≡ without_empty_front (left_from events front)
 empty_passed {events} {front} {bytes} is none passed =
     ap without_empty_front (left_passed events passed)
     ∙ sym (ap without_empty_front (left_here events front (Bytes bytes) is)
-    ∙ ap (λ (bs : List ℕ). without_empty_front (HeardBytes bs ∷ rest_from events front)) (drop_all front.offset bytes.items none))
+    ∙ ap (λ (bs : List ℕ). without_empty_front (HeardBytes bs ∷ rest_from events front))
+    (drop_all front.offset bytes.items none))
 
 -- what stands in front once events of no bytes were passed over
 pub record IsInFront (events : List Event) (first front : Front) (event : Event) : Type 0 where
@@ -63,14 +66,16 @@ in_front {events} {front} {event} at = sym at.passed ∙ ap without_empty_front 
 
 pub slot_out : {events : List Event} {first front new : Front} {slot : ℕ} (room : ℕ) →
     IsInFront events first front (Slot slot) → IsPassed front new →
-    (HeardSlot slot ≡ next_doing room (left_from events first)) × (left_from events new ≡ left_after room (left_from events first))
+    (HeardSlot slot ≡ next_doing room (left_from events first))
+    × (left_from events new ≡ left_after room (left_from events first))
 slot_out {events} room at passed =
     let here = in_front at in
     (sym (ap (first_out room) here), left_passed events passed ∙ sym (ap (rest_left room) here))
 
 pub end_out : {events : List Event} {first front new : Front} (room : ℕ) →
     IsInFront events first front End → IsPassed front new →
-    (HeardEnd ≡ next_doing room (left_from events first)) × (left_from events new ≡ left_after room (left_from events first))
+    (HeardEnd ≡ next_doing room (left_from events first))
+    × (left_from events new ≡ left_after room (left_from events first))
 end_out {events} room at passed =
     let here = in_front at in
     (sym (ap (first_out room) here), left_passed events passed ∙ sym (ap (rest_left room) here))
@@ -109,7 +114,8 @@ bytes_out {events} {first} {front} {bytes} {into} {count} at out =
 pub none_out : (events : List Event) (first front : Front) (room : ℕ) →
     without_empty_front (left_from events front) ≡ without_empty_front (left_from events first) →
     length events ≤ front.event →
-    (HeardEnd ≡ next_doing room (left_from events first)) × (left_from events front ≡ left_after room (left_from events first))
+    (HeardEnd ≡ next_doing room (left_from events first))
+    × (left_from events front ≡ left_after room (left_from events first))
 none_out events first front room passed past =
     let left : left_from events front ≡ [] =
     ap (without_first_bytes front.offset) (drop_all front.event (map heard_whole events) (rw length-map past)) in

@@ -51,7 +51,8 @@ feed_end : (whole : List ℕ) (at end : ℕ) → (at < end → get_or whole (end
 feed_end whole at end last = grind arith
 
 pub carriage_line : (front text rest : List ℕ) → All (λ byte. byte ≢ 10) text →
-    IsLine (front ++ text ++ (codes "\r\n" ++ rest)) (length front) (length front + length text) (length front + length text + 2)
+    IsLine (front ++ text ++ (codes "\r\n" ++ rest)) (length front) (length front + length text)
+    (length front + length text + 2)
 carriage_line front text rest free =
     let whole : List ℕ = front ++ text ++ (13 ∷ 10 ∷ rest) in
     let end : ℕ = length front + length text in
@@ -75,7 +76,8 @@ carriage_line front text rest free =
 
 pub feed_line : (front text rest : List ℕ) → All (λ byte. byte ≢ 10) text →
     (0 < length text → get_or text (length text - 1) 0 ≢ 13) →
-    IsLine (front ++ text ++ (codes "\n" ++ rest)) (length front) (length front + length text) (length front + length text + 1)
+    IsLine (front ++ text ++ (codes "\n" ++ rest)) (length front) (length front + length text)
+    (length front + length text + 1)
 feed_line front text rest free last =
     let whole : List ℕ = front ++ text ++ (10 ∷ rest) in
     let end : ℕ = length front + length text in
@@ -98,7 +100,8 @@ next_isnt_earlier : {bytes : List ℕ} {at one other next after : ℕ} → IsLin
 next_isnt_earlier {at} {one} {other} {next} is are earlier =
     are.first (next - 1) (omega (arith, is.after)) (omega (arith, is.after)) is.feed
 
-same_next : {bytes : List ℕ} {at one other next after : ℕ} → IsLine bytes at one next → IsLine bytes at other after → next ≡ after
+same_next : {bytes : List ℕ} {at one other next after : ℕ} → IsLine bytes at one next → IsLine bytes at other after
+    → next ≡ after
 same_next {at} {one} {other} {next} {after} is are =
     elim (cases_lt next after) [
       | inl earlier ↦ absurd (next_isnt_earlier is are earlier)
@@ -152,7 +155,8 @@ first_found (file ∷ before) after name bytes others =
     another_name file rest name (All-head (λ (f : File). f.name ≢ name) file before others)
     ∙ first_found before after name bytes (All-tail (λ (f : File). f.name ≢ name) file before others)
 
-pub none_found : (files : List File) (name : List ℕ) → All (λ file. file.name ≢ name) files → file_named files name ≡ None
+pub none_found : (files : List File) (name : List ℕ) → All (λ file. file.name ≢ name) files
+    → file_named files name ≡ None
 none_found [] name others = refl
 none_found (file ∷ files) name others =
     another_name file files name (All-head (λ (f : File). f.name ≢ name) file files others)

@@ -35,7 +35,8 @@ pub heard_more : (events : List Event) (notes : List Noted) (noted : Noted) (hea
     (map (doing_noted events) (notes ++ noted ∷ []) ≡ map (doing_noted events) notes ++ doing_of heard into ∷ [])
     × (sent_of (map (doing_noted events) (notes ++ noted ∷ [])) ≡ sent_of (map (doing_noted events) notes))
 heard_more events notes noted heard into is =
-    let told = map-append (doing_noted events) notes (noted ∷ []) ∙ ap (λ d. map (doing_noted events) notes ++ d ∷ []) is in (
+    let told = map-append (doing_noted events) notes (noted ∷ [])
+    ∙ ap (λ d. map (doing_noted events) notes ++ d ∷ []) is in (
       told,
       rw told
           (sent_of-append (map (doing_noted events) notes) (doing_of heard into ∷ [])

@@ -35,11 +35,13 @@ decimal_read n small =
     cond-true (fits (decimal n)) (Some (digits_value 10 (decimal n))) None test ∙ ap (λ v. Some v) value
 
 -- digits without a zero in front are the decimal text of the number that is read
-pub read_decimal : (ds : List ℕ) (n : ℕ) → number_of ds ≡ Some n → (slice_index ds 0 ≡ 48 → length ds ≡ 1) → ds ≡ decimal n
+pub read_decimal : (ds : List ℕ) (n : ℕ) → number_of ds ≡ Some n → (slice_index ds 0 ≡ 48 → length ds ≡ 1)
+    → ds ≡ decimal n
 read_decimal ds n read lead =
     elim (cases_Bool (fits ds)) [
       | inl good ↦ (
-          let found : number_of ds ≡ Some (digits_value 10 ds) = cond-true (fits ds) (Some (digits_value 10 ds)) None good in
+          let found : number_of ds ≡ Some (digits_value 10 ds) =
+          cond-true (fits ds) (Some (digits_value 10 ds)) None good in
           let same : digits_value 10 ds ≡ n = same_Some (digits_value 10 ds) n (sym found ∙ read) in
           let parts = and_parts (is_decimal ds) (nat_lt (digits_value 10 ds) (2 ^ 64)) good in
           let digits = and_parts (nat_lt 0 (length ds)) (list_all is_ascii_digit ds) parts.0 in
@@ -65,7 +67,8 @@ zero_in_front d ds =
 zeros_in_front : (zeros d : ℕ) (ds : List ℕ) → number_of (replicate zeros 48 ++ d ∷ ds) ≡ number_of (d ∷ ds)
 zeros_in_front zero d ds = refl
 zeros_in_front (suc zero) d ds = zero_in_front d ds
-zeros_in_front (suc (suc zeros)) d ds = zero_in_front 48 (replicate zeros 48 ++ d ∷ ds) ∙ zeros_in_front (suc zeros) d ds
+zeros_in_front (suc (suc zeros)) d ds =
+    zero_in_front 48 (replicate zeros 48 ++ d ∷ ds) ∙ zeros_in_front (suc zeros) d ds
 
 some_byte : (ds : List ℕ) → 0 < length ds → (d : ℕ) × ((rest : List ℕ) × (ds ≡ d ∷ rest))
 some_byte [] some = absurd (omega (arith, some))
@@ -77,7 +80,8 @@ written_read zeros n small =
     ap (λ ds. number_of (replicate zeros 48 ++ ds)) cut.1.1 ∙ zeros_in_front zeros cut.0 cut.1.0
     ∙ ap number_of (sym cut.1.1) ∙ decimal_read n small
 
-pub read_written : (text : List ℕ) (n : ℕ) → number_of text ≡ Some n → (zeros : ℕ) × (text ≡ replicate zeros 48 ++ decimal n)
+pub read_written : (text : List ℕ) (n : ℕ) → number_of text ≡ Some n
+    → (zeros : ℕ) × (text ≡ replicate zeros 48 ++ decimal n)
 read_written [] n read = absurd (none-some n read)
 read_written (x ∷ []) n read = (0, read_decimal (x ∷ []) n read (λ _. refl))
 read_written (x ∷ (y ∷ rest)) n read =
@@ -155,7 +159,8 @@ all-reverse p [] all = refl
 all-reverse p (x ∷ text) all =
     let parts = and_parts (p x) (list_all p text) all in
     ap (list_all p) (reverse-append (x ∷ []) text) ∙ list_all-append p (reverse text) (x ∷ [])
-    ∙ and_from (list_all p (reverse text)) (list_all p (x ∷ [])) (all-reverse p text parts.1) (and_from (p x) true parts.0 refl)
+    ∙ and_from (list_all p (reverse text)) (list_all p (x ∷ [])) (all-reverse p text parts.1)
+    (and_from (p x) true parts.0 refl)
 
 -- a text with these blanks cut at its front, and then, from its end, those of the rest
 both_cut : (text middle back_first : List ℕ) → FrontCut text middle → FrontCut (reverse middle) back_first

@@ -5,5 +5,6 @@ use Rattle.vod_base.proofs.memory_gates.MemoryGateGate.rejoin.Goals as goal
 
 pub returns : goal.returns
 returns c =
-    let set = map-set (option_map part_of) c.self.inside.parts.items c.part.inside.own.number (Some c.part.inside.own) in
+    let set = map-set (option_map part_of) c.self.inside.parts.items c.part.inside.own.number
+    (Some c.part.inside.own) in
     search (rules, set)
