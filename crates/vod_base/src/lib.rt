@@ -34,7 +34,7 @@ pub use memory_libraries::MemoryLibrary;
 pub use memory_links::{Event, MemoryLink};
 pub use memory_sinks::MemorySink;
 pub use names::good_name;
-pub use numbers::{NumberFault, are_digits, is_decimal, read_number};
+pub use numbers::{NumberFault, are_digits, is_decimal, push_number, read_number};
 pub use output::Sink;
 pub use outside::{GateFault, LinkFault, NoMemory, SinkFault, StoreFault};
 pub use splits::split_at_first;

@@ -35,6 +35,17 @@ fn knows_digits(rt: HostRuntime) {
     }
 }
 
+#[test]
+fn appends_numbers(rt: HostRuntime) -> Result<(), Fail> {
+    let mut text = Vec::new(rt.alloc());
+    for number in [0, 17, u64::MAX] {
+        push_number(&mut text, number)?;
+        text.push(b' ')?;
+    }
+    assert_eq!(rt; text.as_slice(), b"0 17 18446744073709551615 ".as_slice());
+    Ok(())
+}
+
 // The ends of the line that begins at a place.
 fn ends_of(text: &[u8], at: usize) -> Option<(usize, usize)> {
     if at > text.len() {
