@@ -14,9 +14,9 @@ use cert_check::{CertFault, check};
 use command_words::Viewer;
 use inputs::read_input;
 use plan_cert::{CertRefused, read_cert};
-use std::alloc::{AllocError, Global};
+use std::alloc::Global;
 use troubles::{Fault, Trouble};
-use vod_base::Library;
+use vod_base::{Library, NoMemory, push_number};
 
 /// The verdict on a certificate of a trace or film.
 ///
@@ -73,7 +73,7 @@ fn cert_fault_words(fault: &CertFault) -> (&'static str, Option<u64>)
 }
 
 /// The line that names the fault of a certificate.
-fn refusal_text(alloc: Global, fault: &CertFault) -> Result<Vec<u8>, AllocError>
+fn refusal_text(alloc: Global, fault: &CertFault) -> Result<Vec<u8>, NoMemory>
     ensures { IfOk result (λ text. text.items ≡
         codes "refused " ++ cert_fault_text fault.now ++ codes "\n") }
 {
@@ -81,9 +81,8 @@ fn refusal_text(alloc: Global, fault: &CertFault) -> Result<Vec<u8>, AllocError>
     let (name, number) = cert_fault_words(fault);
     text.extend_from_slice(name.as_bytes())?;
     if let Some(number) = number {
-        let mut buffer = itoa::Buffer::new();
         text.extend_from_slice(b" ")?;
-        text.extend_from_slice(buffer.format(number).as_bytes())?;
+        push_number(&mut text, number)?;
     }
     text.extend_from_slice(b"\n")?;
     Ok(text)

@@ -1,12 +1,11 @@
 //! The text of a certificate.
 
-ghost use Rattle.std.specs.Prelude.{◌≡◌, ◌++◌, IfOk, OnOk, decimal};
+ghost use Rattle.std.specs.Prelude.{◌≡◌, ◌++◌, IfOk, OnOk};
 ghost use Rattle.plan_cert.specs.Text.{cert_text, cert_head, segment_line};
 
 use crate::{Plan, Segment};
-use itoa::Buffer;
-use std::alloc::{AllocError, Global};
-use vod_base::NoMemory;
+use std::alloc::Global;
+use vod_base::{NoMemory, push_number};
 
 /// The certificate of a plan: a line `smooth 1`, `slots` and `bytes` with the sums, one line
 /// `segment SLOTS BYTES` for each segment, and a line `end`. Each line ends with LF, and numbers
@@ -24,31 +23,25 @@ pub fn write_cert(alloc: Global, plan: &Plan) -> Result<Vec<u8>, NoMemory>
 }
 
 /// The three lines before the segments.
-fn head_bytes(alloc: Global, slots: u64, bytes: u64) -> Result<Vec<u8>, AllocError>
+fn head_bytes(alloc: Global, slots: u64, bytes: u64) -> Result<Vec<u8>, NoMemory>
     ensures { IfOk result (λ text. text.items ≡ cert_head slots bytes) }
 {
-    let mut text = Vec::from_slice(alloc, b"smooth 1")?;
-    push_number(&mut text, b"\nslots ", slots)?;
-    push_number(&mut text, b"\nbytes ", bytes)?;
+    let mut text = Vec::from_slice(alloc, b"smooth 1\nslots ")?;
+    push_number(&mut text, slots)?;
+    text.extend_from_slice(b"\nbytes ")?;
+    push_number(&mut text, bytes)?;
     text.extend_from_slice(b"\n")?;
     Ok(text)
 }
 
 /// Appends the line of one segment.
-fn push_segment(text: &mut Vec<u8>, segment: Segment) -> Result<(), AllocError>
+fn push_segment(text: &mut Vec<u8>, segment: Segment) -> Result<(), NoMemory>
     ensures { OnOk result (text.new.items ≡ text.old.items ++ segment_line segment) }
 {
-    push_number(text, b"segment ", segment.slots)?;
-    push_number(text, b" ", segment.bytes)?;
+    text.extend_from_slice(b"segment ")?;
+    push_number(text, segment.slots)?;
+    text.extend_from_slice(b" ")?;
+    push_number(text, segment.bytes)?;
     text.extend_from_slice(b"\n")?;
-    Ok(())
-}
-
-/// Appends a word and a number.
-fn push_number(text: &mut Vec<u8>, word: &[u8], number: u64) -> Result<(), AllocError>
-    ensures { OnOk result (text.new.items ≡ text.old.items ++ word.now ++ decimal number) }
-{
-    text.extend_from_slice(word)?;
-    text.extend_from_slice(Buffer::new().format(number).as_bytes())?;
     Ok(())
 }

@@ -1,5 +1,5 @@
 -- Texts that are appended one after the other.
-use Rattle.std.proofs.Common.{ℕ, ◌≡◌, List, ◌++◌, Result, Ok, Err, IsErr, append_assoc, sym, ap, subst, ◌∙◌}
+use Rattle.std.proofs.Common.{ℕ, ◌≡◌, List, [], ◌++◌, Result, Ok, Err, OnOk, OnErr, IsErr, append_assoc, append-nil, refl, sym, ap, subst, ◌∙◌}
 use Rattle.std.proofs.lemmas.Bool.{false≢true}
 use Rattle.vod_base.specs.declared.outside.NoMemory.{NoMemory}
 use Rattle.report.specs.Appends.{HasFrontOf, IsAppended}
@@ -60,6 +60,20 @@ handed_on r none cut = handed none cut
 same_text : {before text whole after : List ℕ} {r : Answer} → text ≡ whole → IsAppended before text after r
     → IsAppended before whole after r
 same_text {before} {text} {whole} {after} {r} same done = subst (λ (l : List ℕ). IsAppended before l after r) same done
+
+-- without memory, nothing of a text was appended
+pub none_appended : {before text after : List ℕ} (r : Answer) → IsErr r → after ≡ before → IsAppended before text after r
+none_appended (Ok done) none kept = absurd (false≢true none)
+none_appended {before} {text} (Err e) none kept = record {
+  whole = tt;
+  cut = record { front = []; rest = text; text_is = refl; after_is = kept ∙ sym (append-nil before) };
+}
+
+-- all of a text was appended, or nothing
+pub all_or_none : {before text after : List ℕ} (r : Answer) → OnOk r (after ≡ before ++ text) → OnErr r (after ≡ before)
+    → IsAppended before text after r
+all_or_none (Ok done) whole kept = record { whole = whole; cut = tt }
+all_or_none (Err e) whole kept = none_appended (Err e) refl kept
 
 -- the same text in other words
 pub appended_as : {before text whole after : List ℕ} {r : Answer} → text ≡ whole

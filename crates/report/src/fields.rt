@@ -1,11 +1,10 @@
 //! Texts and numbers that are appended.
 
-ghost use Rattle.std.specs.Prelude.{◌++◌, decimal};
+ghost use Rattle.std.specs.Prelude.{◌++◌};
 ghost use Rattle.report.specs.Appends.{IsAppended};
 ghost use Rattle.report.specs.Fields.{field};
 
-use itoa::Buffer;
-use vod_base::NoMemory;
+use vod_base::{NoMemory, push_number};
 
 /// Appends a text.
 ///
@@ -17,13 +16,6 @@ pub fn push(out: &mut Vec<u8>, text: &[u8]) -> Result<(), NoMemory>
 {
     out.extend_from_slice(text)?;
     Ok(())
-}
-
-/// Appends a number in decimal, without leading zeros. Errors are those of `push`.
-pub fn push_number(out: &mut Vec<u8>, number: u64) -> Result<(), NoMemory>
-    ensures { IsAppended out.old.items (decimal number) out.new.items result }
-{
-    push(out, Buffer::new().format(number).as_bytes())
 }
 
 /// Appends a label and a number in decimal. Errors are those of `push`.

@@ -4,9 +4,8 @@ ghost use Rattle.std.specs.Prelude.{◌≡◌, ◌++◌, IfOk, OnOk, decimal};
 ghost use Rattle.rtsp_client.specs.Requests.{film_url, play_text, setup_text, teardown_text};
 
 use crate::wishes::Wish;
-use itoa::Buffer;
 use std::alloc::Global;
-use vod_base::NoMemory;
+use vod_base::{NoMemory, push_number};
 
 /// A copy of a text.
 pub(crate) fn copy_of(alloc: Global, text: &[u8]) -> Result<Vec<u8>, NoMemory>
@@ -70,19 +69,12 @@ fn put(text: &mut Vec<u8>, bytes: &[u8]) -> Result<(), NoMemory>
     Ok(())
 }
 
-/// Appends a number in decimal.
-fn put_number(text: &mut Vec<u8>, number: u64) -> Result<(), NoMemory>
-    ensures { OnOk result (text.new.items ≡ text.old.items ++ decimal number) }
-{
-    put(text, Buffer::new().format(number).as_bytes())
-}
-
 /// Appends a label and a number in decimal.
 fn put_field(text: &mut Vec<u8>, label: &[u8], number: u64) -> Result<(), NoMemory>
     ensures { OnOk result (text.new.items ≡ text.old.items ++ label.now ++ decimal number) }
 {
     put(text, label)?;
-    put_number(text, number)
+    push_number(text, number)
 }
 
 /// Appends the film's URL.

@@ -1,17 +1,12 @@
 use Rattle.std.proofs.Common.{◌++◌, ap, codes, decimal}
 use Rattle.report.specs.Fields.{field}
 use Rattle.report.specs.EntryLines.{answer_words, command_words}
-use Rattle.report.proofs.AppendLemmas.{appended_as, both, cut_before, handed_on, then_appended}
+use Rattle.report.proofs.AppendLemmas.{appended_as, both, cut_before, handed_on, none_appended, then_appended}
 use Rattle.report.proofs.entries.entry_line.Goals as goal
 
 pub returns-in_err-push_number : goal.returns-in_err-push_number
 returns-in_err-push_number c =
-    let entry = c.args.entry.now in
-    handed_on c.from_residual.result c.from_residual.ensures.0
-    (cut_before (codes "\n")
-    (cut_before (answer_words entry.answer)
-    (cut_before (command_words entry.command)
-    (cut_before (field (codes " seat=") entry.maker) c.in_err-push_number.ensures))))
+    none_appended c.from_residual.result c.from_residual.ensures.0 c.in_err-push_number.ensures.kept
 
 pub returns-in_err-push_field : goal.returns-in_err-push_field
 returns-in_err-push_field c =
