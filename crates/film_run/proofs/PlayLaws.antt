@@ -1,5 +1,5 @@
 -- What a run's plan promises its client.
-use Rattle.std.proofs.Common.{◌≡◌, ℕ, ◌+◌, ◌-◌, ◌<◌, ◌≤◌, List, take, sum, ap, arith}
+use Rattle.std.proofs.Common.{◌≡◌, ℕ, ◌+◌, ◌-◌, ◌≤◌, List, take, sum, ap, arith}
 use Rattle.plan_cert.specs.declared.Segment.{Segment}
 use Rattle.wire_curve.specs.FilmCurves.{IsWithinLimits, due_slot}
 use Rattle.wire_curve.proofs.UseLaws.{due_in_range, due_rises}
@@ -9,26 +9,30 @@ use Rattle.film_run.specs.Runs.{bytes_between}
 use Rattle.film_run.specs.Plans.{IsBestPlanOf, rest_sizes, timing_of}
 use Rattle.film_run.specs.Laws.{AreInTime, DoesFit, IsOnlyPlan, IsSending}
 use Rattle.film_run.proofs.SumLaws.{bytes-first, bytes-join, length-between}
-use Rattle.film_run.proofs.UsedLaws.{IsUnusedFrom, used-least, used-most}
+use Rattle.film_run.proofs.UsedLaws.{AreUsedBefore, IsUnusedFrom, used-least, used-most}
 use Rattle.film_run.proofs.CurveLaws.{KeepsTo, best-of, keeps-to, limits}
 
-pub sending-limits : (sizes : List ℕ) (playback : Playback) (run : Run) (plan : List Segment) → IsSending sizes playback run plan
+pub sending-limits : (sizes : List ℕ) (playback : Playback) (run : Run) (plan : List Segment)
+    → IsSending sizes playback run plan
     → IsWithinLimits (rest_sizes sizes run) (timing_of playback run)
 sending-limits sizes playback run plan is =
     let can = is.can_play in
     limits can.playback_is can.run_is can.fits can.sizes_are.few can.sizes_are.small
 
-pub sending-keeps : (sizes : List ℕ) (playback : Playback) (run : Run) (plan : List Segment) → IsSending sizes playback run plan
+pub sending-keeps : (sizes : List ℕ) (playback : Playback) (run : Run) (plan : List Segment)
+    → IsSending sizes playback run plan
     → KeepsTo (rest_sizes sizes run) (timing_of playback run) plan
 sending-keeps sizes playback run plan is =
     keeps-to (rest_sizes sizes run) (timing_of playback run) plan (sending-limits sizes playback run plan is) is.plan_is
 
-pub sending-best : (sizes : List ℕ) (playback : Playback) (run : Run) (plan : List Segment) → IsSending sizes playback run plan
+pub sending-best : (sizes : List ℕ) (playback : Playback) (run : Run) (plan : List Segment)
+    → IsSending sizes playback run plan
     → IsBestPlanOf sizes playback run plan
 sending-best sizes playback run plan is =
     best-of (rest_sizes sizes run) (timing_of playback run) plan (sending-limits sizes playback run plan is) is.plan_is
 
-pub sending-one : (sizes : List ℕ) (playback : Playback) (run : Run) (plan : List Segment) → IsSending sizes playback run plan
+pub sending-one : (sizes : List ℕ) (playback : Playback) (run : Run) (plan : List Segment)
+    → IsSending sizes playback run plan
     → IsOnlyPlan sizes playback run plan
 sending-one sizes playback run plan is = λ other its. (sending-best sizes playback run plan is).only other its.taut
 
@@ -44,7 +48,8 @@ front-bytes {sizes} {run} end is order within =
     let place = ap (bytes_between sizes run.from_unit) same in
     omega (arith, first, place, its.played_is, bytes-join sizes run.first_unit run.from_unit end its.order order)
 
-pub sending-in-time : (sizes : List ℕ) (playback : Playback) (run : Run) (plan : List Segment) → IsSending sizes playback run plan
+pub sending-in-time : (sizes : List ℕ) (playback : Playback) (run : Run) (plan : List Segment)
+    → IsSending sizes playback run plan
     → AreInTime sizes playback run plan
 sending-in-time sizes playback run plan is = λ unit at.
     let rest = rest_sizes sizes run in
@@ -54,16 +59,19 @@ sending-in-time sizes playback run plan is = λ unit at.
     let count = length-between sizes run.from_unit run.end_unit is.can_play.run_is.within in
     let range = due_in_range rest timing k some (omega (arith, count, at.from, at.before_end)) in
     let above = (sending-keeps sizes playback run plan is).above (due_slot timing k) range in
-    let its = λ (j : ℕ) (lt : j < k + 1). let rises =
-    due_rises timing j k some (omega arith) in let h : due_slot timing j < due_slot timing k + 1 =
-    omega (arith, rises) in h in
-    let least = used-least rest timing (due_slot timing k + 1) (k + 1) some (omega (arith, count, at.from, at.before_end)) its in
+    let its : AreUsedBefore rest timing (due_slot timing k + 1) (k + 1) = record {
+      some = some;
+      fits = omega (arith, count, at.from, at.before_end);
+      used = λ j less. omega (arith, due_rises timing j k some (omega arith));
+    } in
+    let least = used-least its in
     let front = front-bytes (unit + 1) is (omega (arith, at.from)) (omega (arith, at.before_end)) in
     let same : (unit + 1) - run.from_unit ≡ k + 1 = omega (arith, at.from) in
     let place = ap (λ n. sum (take n rest)) same in
     omega (arith, above, least, front, place)
 
-pub sending-fits : (sizes : List ℕ) (playback : Playback) (run : Run) (plan : List Segment) → IsSending sizes playback run plan
+pub sending-fits : (sizes : List ℕ) (playback : Playback) (run : Run) (plan : List Segment)
+    → IsSending sizes playback run plan
     → DoesFit sizes playback run plan
 sending-fits sizes playback run plan is = λ slot unit inside at before.
     let rest = rest_sizes sizes run in

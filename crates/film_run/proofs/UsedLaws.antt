@@ -30,16 +30,23 @@ take-rises sizes n m le =
     let part : sum (take n (take m sizes)) ≡ sum (take n sizes) = ap (λ l. sum l) (take-take n m sizes le) in
     omega (arith, part, sum_by-take-le (λ x. x) (take m sizes) n)
 
--- the first pictures are used before a slot
-pub used-least : (sizes : List ℕ) (timing : Timing) (t n : ℕ) → 1 ≤ timing.slot_units → n ≤ length sizes
-    → ((k : ℕ) → k < n → due_slot timing k < t) → timing.played + sum (take n sizes) ≤ used_before sizes timing t
-used-least sizes timing t n some fits used =
-    let first = some_before sizes timing t some in
+-- at least the first n pictures are used before slot t
+pub record AreUsedBefore (sizes : List ℕ) (timing : Timing) (t n : ℕ) : Type 0 where
+  pub some : 1 ≤ timing.slot_units
+  pub fits : n ≤ length sizes
+  pub used : (k : ℕ) → k < n → due_slot timing k < t
+
+-- so they count
+pub used-least : {sizes : List ℕ} {timing : Timing} {t n : ℕ} → AreUsedBefore sizes timing t n
+    → timing.played + sum (take n sizes) ≤ used_before sizes timing t
+used-least {sizes} {timing} {t} {n} it =
+    let first = some_before sizes timing t it.some in
     let m = first.0 in
     let are = first.1 in
     let is = used_of_first sizes timing m t are in
     elim (cases_lt m n) [
-      | inl less ↦ absurd (let by = used m less in let not = are.unused m (le_refl m) (omega (arith, less, fits)) in omega (arith, by, not))
+      | inl less ↦ absurd (let by = it.used m less in
+          let not = are.unused m (le_refl m) (omega (arith, less, it.fits)) in omega (arith, by, not))
       | inr le ↦ (let more = take-rises sizes n m le in omega (arith, is, more))
     ]
 

@@ -45,11 +45,11 @@ pub fn run_after<U: Units>(
     let stop = stop_slot(plan, last, keep);
     let first = run.from_unit;
     let mut left = *run;
-    left.sent += keep;
     while due_slot(playback, run, (left.from_unit - first) as u64) < stop {
         left.played += units.wire_size(left.from_unit);
         left.from_unit += 1;
     }
+    left.sent += keep;
     left
 }
 
