@@ -1,5 +1,5 @@
 -- Taut as eight absent faults, and taut as a run over the segments: each follows from the other.
-use Rattle.std.proofs.Common.{◌≡◌, ◌<◌, ◌≤◌, ◌+◌, ◌-◌, ◌*◌, ℕ, zero, suc, List, [], ◌∷◌, inl, inr, length, take, arith, sym, ap, subst, ◌∙◌, add-zero, add-one}
+use Rattle.std.proofs.Common.{◌≡◌, ◌↔◌, ◌<◌, ◌≤◌, ◌+◌, ◌-◌, ◌*◌, ℕ, zero, suc, List, [], ◌∷◌, inl, inr, length, take, arith, sym, ap, subst, ◌∙◌, add-zero, add-one}
 use Rattle.std.proofs.Math.Nat.{le_of_mul-le-mul_right, mul-le-mul_right}
 use Rattle.std.proofs.lemmas.Bool.{cases_lt, cases_order}
 use Rattle.std.proofs.lemmas.List.Sums.{sum_by-cons}
@@ -40,11 +40,35 @@ bytes_after s rest i =
 at_after : (s : Segment) (rest : List Segment) (i : ℕ) → segment_at (s ∷ rest) (i + 1) ≡ segment_at rest i
 at_after s rest i = ap (segment_at (s ∷ rest)) (add-one i)
 
+at_further : (s : Segment) (rest : List Segment) (i : ℕ) → segment_at (s ∷ rest) (suc i + 1) ≡ segment_at rest (i + 1)
+at_further s rest i = ap (segment_at (s ∷ rest)) (add-one (suc i)) ∙ ap (segment_at rest) (sym (add-one i))
+
 first_slots : (s : Segment) (rest : List Segment) → total_slots (take (0 + 1) (s ∷ rest)) ≡ s.slots
 first_slots s rest = omega (arith, sum_by-cons (λ x. x.slots) s [])
 
 first_bytes : (s : Segment) (rest : List Segment) → total_bytes (take (0 + 1) (s ∷ rest)) ≡ s.bytes
 first_bytes s rest = omega (arith, sum_by-cons (λ x. x.bytes) s [])
+
+-- the line of the segments, from place k and height v, ends at the curve
+abbrev EndsAt : (ℕ → ℕ) → ℕ → ℕ → List Segment → Type 0
+EndsAt curve k v segments = v + total_bytes segments ≡ curve (k + total_slots segments)
+
+-- after the first segment, and after the first i + 2
+first_ends : (curve : ℕ → ℕ) (k v : ℕ) (s : Segment) (rest : List Segment)
+    → EndsAt curve k v (take (0 + 1) (s ∷ rest)) ↔ (v + s.bytes ≡ curve (k + s.slots))
+first_ends curve k v s rest =
+    let height : v + total_bytes (take (0 + 1) (s ∷ rest)) ≡ v + s.bytes = omega (arith, first_bytes s rest) in
+    let place : k + total_slots (take (0 + 1) (s ∷ rest)) ≡ k + s.slots = omega (arith, first_slots s rest) in
+    (λ ends. sym height ∙ ends ∙ ap curve place, λ ends. height ∙ ends ∙ ap curve (sym place))
+
+further_ends : (curve : ℕ → ℕ) (k v : ℕ) (s : Segment) (rest : List Segment) (i : ℕ)
+    → EndsAt curve k v (take (i + 1 + 1) (s ∷ rest)) ↔ EndsAt curve (k + s.slots) (v + s.bytes) (take (i + 1) rest)
+further_ends curve k v s rest i =
+    let height : v + total_bytes (take (i + 1 + 1) (s ∷ rest)) ≡ v + s.bytes + total_bytes (take (i + 1) rest) =
+    omega (arith, bytes_after s rest i) in
+    let place : k + total_slots (take (i + 1 + 1) (s ∷ rest)) ≡ k + s.slots + total_slots (take (i + 1) rest) =
+    omega (arith, slots_after s rest i) in
+    (λ ends. sym height ∙ ends ∙ ap curve place, λ ends. height ∙ ends ∙ ap curve (sym place))
 
 -- the first segment of a faultless list
 first_stays : {lo hi : ℕ → ℕ} {k v : ℕ} {s : Segment} {rest : List Segment} → Faultless lo hi k v (s ∷ rest)
@@ -117,23 +141,13 @@ rest_faultless {lo} {hi} {k} {v} {s} {rest} clean stays =
           (subst (λ a. IsLevel (slope_of a) (slope_of (segment_at (s ∷ rest) (i + 1 + 1)))) (sym (at_after s rest i))
           (subst (λ a. IsLevel (slope_of (segment_at rest i)) (slope_of a)) (sym (at_after s rest (i + 1))) level));
       rises_on_upper = λ i inside rise.
-          let h = clean.rises_on_upper (i + 1) (omega (arith, inside))
+          (further_ends hi k v s rest i).0 (clean.rises_on_upper (i + 1) (omega (arith, inside))
           (subst (λ a. IsBelow (slope_of a) (slope_of (segment_at (s ∷ rest) (i + 1 + 1)))) (sym (at_after s rest i))
-          (subst (λ a. IsBelow (slope_of (segment_at rest i)) (slope_of a)) (sym (at_after s rest (i + 1))) rise)) in
-          let height : v + total_bytes (take (i + 1 + 1) (s ∷ rest))
-          ≡ v + s.bytes + total_bytes (take (i + 1) rest) = omega (arith, bytes_after s rest i) in
-          let place : k + total_slots (take (i + 1 + 1) (s ∷ rest))
-          ≡ k + s.slots + total_slots (take (i + 1) rest) = omega (arith, slots_after s rest i) in
-          sym height ∙ h ∙ ap hi place;
+          (subst (λ a. IsBelow (slope_of (segment_at rest i)) (slope_of a)) (sym (at_after s rest (i + 1))) rise)));
       falls_on_lower = λ i inside fall.
-          let h = clean.falls_on_lower (i + 1) (omega (arith, inside))
+          (further_ends lo k v s rest i).0 (clean.falls_on_lower (i + 1) (omega (arith, inside))
           (subst (λ a. IsBelow (slope_of (segment_at (s ∷ rest) (i + 1 + 1))) (slope_of a)) (sym (at_after s rest i))
-          (subst (λ a. IsBelow (slope_of a) (slope_of (segment_at rest i))) (sym (at_after s rest (i + 1))) fall)) in
-          let height : v + total_bytes (take (i + 1 + 1) (s ∷ rest))
-          ≡ v + s.bytes + total_bytes (take (i + 1) rest) = omega (arith, bytes_after s rest i) in
-          let place : k + total_slots (take (i + 1 + 1) (s ∷ rest))
-          ≡ k + s.slots + total_slots (take (i + 1) rest) = omega (arith, slots_after s rest i) in
-          sym height ∙ h ∙ ap lo place;
+          (subst (λ a. IsBelow (slope_of a) (slope_of (segment_at rest i))) (sym (at_after s rest (i + 1))) fall)));
     }
   where
     same_place : (k n j : ℕ) → k + (n + j) ≡ k + n + j
@@ -144,13 +158,11 @@ first_bends : {lo hi : ℕ → ℕ} {k v : ℕ} {s : Segment} {rest : List Segme
     → Bends lo hi (k + s.slots) (v + s.bytes) s rest
 first_bends {lo} {s} {rest = []} clean = tt
 first_bends {lo} {hi} {k} {v} {s} {rest = next ∷ rest} clean =
-    let height : v + total_bytes (take (0 + 1) (s ∷ next ∷ rest)) ≡ v + s.bytes = omega (arith, first_bytes s (next ∷ rest)) in
-    let place : k + total_slots (take (0 + 1) (s ∷ next ∷ rest)) ≡ k + s.slots = omega (arith, first_slots s (next ∷ rest)) in
     elim (cases_order (s.bytes * next.slots) (next.bytes * s.slots)) [
       | inl level ↦ absurd (clean.no_equal 0 (omega arith) level)
       | inr other ↦ elim other [
-        | inl rise ↦ inl (rise, sym height ∙ clean.rises_on_upper 0 (omega arith) rise ∙ ap hi place)
-        | inr fall ↦ inr (fall, sym height ∙ clean.falls_on_lower 0 (omega arith) fall ∙ ap lo place)
+        | inl rise ↦ inl (rise, (first_ends hi k v s (next ∷ rest)).0 (clean.rises_on_upper 0 (omega arith) rise))
+        | inr fall ↦ inr (fall, (first_ends lo k v s (next ∷ rest)).0 (clean.falls_on_lower 0 (omega arith) fall))
       ]
     ]
 
@@ -233,7 +245,7 @@ front_faultless {lo} {hi} {k} {v} {s} {rest} stays bend after =
     no_level (next ∷ others) bend after (suc i) inside level =
         after.no_equal i (omega (arith, inside))
         (subst (λ a. IsLevel (slope_of (segment_at (next ∷ others) i)) (slope_of a))
-        (ap (segment_at (s ∷ next ∷ others)) (add-one (suc i)) ∙ ap (segment_at (next ∷ others)) (sym (add-one i))) level)
+        (at_further s (next ∷ others) i) level)
 
     rises : (rest : List Segment) → Bends lo hi (k + s.slots) (v + s.bytes) s rest →
         Faultless lo hi (k + s.slots) (v + s.bytes) rest →
@@ -242,23 +254,17 @@ front_faultless {lo} {hi} {k} {v} {s} {rest} stays bend after =
         v + total_bytes (take (i + 1) (s ∷ rest)) ≡ hi (k + total_slots (take (i + 1) (s ∷ rest)))
     rises [] bend after i inside rise = absurd (omega (arith, inside))
     rises (next ∷ others) bend after zero inside rise =
-        let height : v + total_bytes (take (0 + 1) (s ∷ next ∷ others)) ≡ v + s.bytes =
-        omega (arith, first_bytes s (next ∷ others)) in
-        let place : k + total_slots (take (0 + 1) (s ∷ next ∷ others)) ≡ k + s.slots =
-        omega (arith, first_slots s (next ∷ others)) in
-        elim bend [ inl up ↦ height ∙ up.1 ∙ ap hi (sym place) | inr down ↦ absurd (omega (arith, down.0, rise)) ]
+        elim bend [
+          | inl up ↦ (first_ends hi k v s (next ∷ others)).1 up.1
+          | inr down ↦ absurd (omega (arith, down.0, rise))
+        ]
     rises (next ∷ others) bend after (suc i) inside rise =
-        let h = after.rises_on_upper i (omega (arith, inside))
+        let ends : EndsAt hi (k + s.slots) (v + s.bytes) (take (i + 1) (next ∷ others)) =
+        after.rises_on_upper i (omega (arith, inside))
         (subst (λ a. IsBelow (slope_of (segment_at (next ∷ others) i)) (slope_of a))
-        (ap (segment_at (s ∷ next ∷ others)) (add-one (suc i)) ∙ ap (segment_at (next ∷ others)) (sym (add-one i))) rise) in
-        let count : suc i + 1 ≡ i + 1 + 1 = omega arith in
-        let height : v + total_bytes (take (suc i + 1) (s ∷ next ∷ others))
-        ≡ v + s.bytes + total_bytes (take (i + 1) (next ∷ others)) =
-        ap (λ c. v + total_bytes (take c (s ∷ next ∷ others))) count ∙ omega (arith, bytes_after s (next ∷ others) i) in
-        let place : k + total_slots (take (suc i + 1) (s ∷ next ∷ others))
-        ≡ k + s.slots + total_slots (take (i + 1) (next ∷ others)) =
-        ap (λ c. k + total_slots (take c (s ∷ next ∷ others))) count ∙ omega (arith, slots_after s (next ∷ others) i) in
-        height ∙ h ∙ ap hi (sym place)
+        (at_further s (next ∷ others) i) rise) in
+        subst (λ c. EndsAt hi k v (take c (s ∷ next ∷ others))) (omega arith)
+        ((further_ends hi k v s (next ∷ others) i).1 ends)
 
     falls : (rest : List Segment) → Bends lo hi (k + s.slots) (v + s.bytes) s rest →
         Faultless lo hi (k + s.slots) (v + s.bytes) rest →
@@ -267,23 +273,17 @@ front_faultless {lo} {hi} {k} {v} {s} {rest} stays bend after =
         v + total_bytes (take (i + 1) (s ∷ rest)) ≡ lo (k + total_slots (take (i + 1) (s ∷ rest)))
     falls [] bend after i inside fall = absurd (omega (arith, inside))
     falls (next ∷ others) bend after zero inside fall =
-        let height : v + total_bytes (take (0 + 1) (s ∷ next ∷ others)) ≡ v + s.bytes =
-        omega (arith, first_bytes s (next ∷ others)) in
-        let place : k + total_slots (take (0 + 1) (s ∷ next ∷ others)) ≡ k + s.slots =
-        omega (arith, first_slots s (next ∷ others)) in
-        elim bend [ inl up ↦ absurd (omega (arith, up.0, fall)) | inr down ↦ height ∙ down.1 ∙ ap lo (sym place) ]
+        elim bend [
+          | inl up ↦ absurd (omega (arith, up.0, fall))
+          | inr down ↦ (first_ends lo k v s (next ∷ others)).1 down.1
+        ]
     falls (next ∷ others) bend after (suc i) inside fall =
-        let h = after.falls_on_lower i (omega (arith, inside))
+        let ends : EndsAt lo (k + s.slots) (v + s.bytes) (take (i + 1) (next ∷ others)) =
+        after.falls_on_lower i (omega (arith, inside))
         (subst (λ a. IsBelow (slope_of a) (slope_of (segment_at (next ∷ others) i)))
-        (ap (segment_at (s ∷ next ∷ others)) (add-one (suc i)) ∙ ap (segment_at (next ∷ others)) (sym (add-one i))) fall) in
-        let count : suc i + 1 ≡ i + 1 + 1 = omega arith in
-        let height : v + total_bytes (take (suc i + 1) (s ∷ next ∷ others))
-        ≡ v + s.bytes + total_bytes (take (i + 1) (next ∷ others)) =
-        ap (λ c. v + total_bytes (take c (s ∷ next ∷ others))) count ∙ omega (arith, bytes_after s (next ∷ others) i) in
-        let place : k + total_slots (take (suc i + 1) (s ∷ next ∷ others))
-        ≡ k + s.slots + total_slots (take (i + 1) (next ∷ others)) =
-        ap (λ c. k + total_slots (take c (s ∷ next ∷ others))) count ∙ omega (arith, slots_after s (next ∷ others) i) in
-        height ∙ h ∙ ap lo (sym place)
+        (at_further s (next ∷ others) i) fall) in
+        subst (λ c. EndsAt lo k v (take c (s ∷ next ∷ others))) (omega arith)
+        ((further_ends lo k v s (next ∷ others) i).1 ends)
 
 -- the line's end on both curves starts the induction
 pub faultless_from_runs : {lo hi : ℕ → ℕ} {k v : ℕ} {segments : List Segment} → RunsTaut lo hi k v segments →

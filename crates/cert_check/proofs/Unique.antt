@@ -88,18 +88,19 @@ no_steeper {lo} {hi} {k} {v} {flat} {steep} high low steeper =
       | inr after ↦ apart fork high.far (hi (k + high.far)) high.later high.touches (low.free high.far after)
     ]
 
-first_meets_low : {lo hi : ℕ → ℕ} {k v : ℕ} {s : Segment} → StaysBetween lo hi k v s → v + s.bytes ≡ lo (k + s.slots)
+-- a segment that ends on a curve meets it there
+pub end_meets_low : {lo hi : ℕ → ℕ} {k v : ℕ} {s : Segment} → StaysBetween lo hi k v s → v + s.bytes ≡ lo (k + s.slots)
     → MeetsLower lo hi k v s
-first_meets_low {lo} {k} {v} {s} stays on_low = record {
+end_meets_low {lo} {k} {v} {s} stays on_low = record {
   far = s.slots;
   later = stays.some;
   touches = let e : (v + s.bytes) * s.slots ≡ lo (k + s.slots) * s.slots = ap (λ x. x * s.slots) on_low in omega (arith, e);
   free = stays.below;
 }
 
-first_meets_high : {lo hi : ℕ → ℕ} {k v : ℕ} {s : Segment} → StaysBetween lo hi k v s → v + s.bytes ≡ hi (k + s.slots)
+pub end_meets_high : {lo hi : ℕ → ℕ} {k v : ℕ} {s : Segment} → StaysBetween lo hi k v s → v + s.bytes ≡ hi (k + s.slots)
     → MeetsUpper lo hi k v s
-first_meets_high {lo} {hi} {k} {v} {s} stays on_high = record {
+end_meets_high {lo} {hi} {k} {v} {s} stays on_high = record {
   far = s.slots;
   later = stays.some;
   touches = let e : (v + s.bytes) * s.slots ≡ hi (k + s.slots) * s.slots = ap (λ x. x * s.slots) on_high in omega (arith, e);
@@ -162,12 +163,12 @@ pub meets_low : {lo hi : ℕ → ℕ} {k v : ℕ} {s : Segment} {rest : List Seg
 meets_low {lo} {k} {v} {s} {rest = []} line =
     let e = (line_on line).ends.low in
     let on_low : v + s.bytes ≡ lo (k + s.slots) = sym (ap lo (omega arith) ∙ e ∙ omega arith) in
-    first_meets_low line.runs.0 on_low
+    end_meets_low line.runs.0 on_low
 meets_low {lo} {hi} {k} {v} {s} {rest = next ∷ rest} line =
     elim line.runs.1 [
       | inl rise ↦ low_further next line.runs.0 line.runs.2.0.some (omega (arith, rise.0))
           (meets_low {lo = lo} {hi = hi} {k = k + s.slots} {v = v + s.bytes} {s = next} {rest = rest} (line_on line))
-      | inr fall ↦ first_meets_low line.runs.0 fall.1
+      | inr fall ↦ end_meets_low line.runs.0 fall.1
     ]
 
 -- and meets high
@@ -176,10 +177,10 @@ pub meets_high : {lo hi : ℕ → ℕ} {k v : ℕ} {s : Segment} {rest : List Se
 meets_high {lo} {hi} {k} {v} {s} {rest = []} line =
     let e = (line_on line).ends.high in
     let on_high : v + s.bytes ≡ hi (k + s.slots) = sym (ap hi (omega arith) ∙ e ∙ omega arith) in
-    first_meets_high line.runs.0 on_high
+    end_meets_high line.runs.0 on_high
 meets_high {lo} {hi} {k} {v} {s} {rest = next ∷ rest} line =
     elim line.runs.1 [
-      | inl rise ↦ first_meets_high line.runs.0 rise.1
+      | inl rise ↦ end_meets_high line.runs.0 rise.1
       | inr fall ↦ high_further next line.runs.0 line.runs.2.0.some (omega (arith, fall.0))
           (meets_high {lo = lo} {hi = hi} {k = k + s.slots} {v = v + s.bytes} {s = next} {rest = rest} (line_on line))
     ]
