@@ -4,6 +4,8 @@ use Rattle.std.proofs.Math.Nat.{mul-le-mul_left, mul-le-mul_right, lt_of_mul-lt-
 use Rattle.std.proofs.lemmas.Bool.{cases_lt}
 use Rattle.std.proofs.lemmas.List.Sums.{sum_by_push}
 use Rattle.plan_cert.specs.declared.Segment.{Segment}
+use Rattle.cert_check.specs.Taut.{StaysBetween}
+use Rattle.cert_check.proofs.Unique.{end_meets_high, end_meets_low}
 use Rattle.taut_plan.specs.declared.points.Point.{Point}
 use Rattle.taut_plan.specs.declared.points.Side.{Side}
 use Rattle.taut_plan.specs.declared.points.Side.TheVariants.{Lower, Upper}
@@ -93,6 +95,34 @@ starts_below curve k ray i none le =
   where
     open ray use {height as v, slots as n, bytes as b}
 
+-- the line goes from a point between the curves to one that is no lower, and each curve keeps on its side of the line
+record LeadsBetween (lo hi : ℕ → ℕ) (o b : Point) : Type 0 where
+  pub later : o.place < b.place
+  pub rises : o.height ≤ b.height
+  pub above : lo o.place ≤ o.height
+  pub below : o.height ≤ hi o.place
+  pub low_within : (p : ℕ) → o.place < p → p ≤ b.place → IsWithin Lower o (on_curve lo p) b
+  pub high_within : (p : ℕ) → o.place < p → p ≤ b.place → IsWithin Lower o b (on_curve hi p)
+
+segment_stays : {lo hi : ℕ → ℕ} {o b : Point} → LeadsBetween lo hi o b
+    → StaysBetween lo hi o.place o.height (segment_to o b)
+segment_stays {lo} {hi} {o} {b} keeps =
+    let later = keeps.later in
+    let end : o.place + (b.place - o.place) ≡ b.place = omega (arith, later) in
+    record {
+      some = omega (arith, later);
+      above = λ i upto. elim (cases_lt 0 i) [
+        | inl pos ↦ line_above lo o b i keeps.rises
+            (keeps.low_within (o.place + i) (omega (arith, pos)) (omega (arith, upto, end)))
+        | inr none ↦ starts_above lo o.place (ray_to o b) i none keeps.above
+      ];
+      below = λ i upto. elim (cases_lt 0 i) [
+        | inl pos ↦ line_below hi o b i keeps.rises
+            (keeps.high_within (o.place + i) (omega (arith, pos)) (omega (arith, upto, end)))
+        | inr none ↦ starts_below hi o.place (ray_to o b) i none keeps.below
+      ];
+    }
+
 -- a corner of the upper chain
 pub rise_of_corner : {lo hi : ℕ → ℕ} {t s : ℕ} {o b : Point} → IsCorner Lower lo hi t s o b → t ≤ s + 1
     → lo o.place ≤ o.height → o.height ≤ hi o.place
@@ -108,16 +138,15 @@ rise_of_corner {lo} {hi} {t} {s} {o} {b} corner newest above below up ordered =
     subst (λ p. o.height * n + (t - o.place) * (b.height - o.height) < lo p * n) far
     (line_under lo o b (t - o.place) up (subst (λ p. IsInside Lower o b (on_curve lo p)) (sym far) corner.crossed)) in
     record {
-      some = omega (arith, later);
+      stays = segment_stays (record {
+        later = later;
+        rises = up;
+        above = above;
+        below = below;
+        low_within = λ p after upto. corner.own_within p after (omega (arith, upto, new));
+        high_within = corner.others_beyond;
+      });
       on = let e : o.height + (b.height - o.height) ≡ b.height = omega (arith, up) in e ∙ (corner.on ∙ ap hi (sym end));
-      above = λ i upto. elim (cases_lt 0 i) [
-        | inl pos ↦ line_above lo o b i up (corner.own_within (o.place + i) (omega (arith, pos)) (omega (arith, upto, end, new)))
-        | inr none ↦ starts_above lo o.place (ray_to o b) i none above
-      ];
-      below = λ i upto. elim (cases_lt 0 i) [
-        | inl pos ↦ line_below hi o b i up (corner.others_beyond (o.place + i) (omega (arith, pos)) (omega (arith, upto, end)))
-        | inr none ↦ starts_below hi o.place (ray_to o b) i none below
-      ];
       far = t - o.place;
       later = omega (arith, later, new);
       leaves = subst (λ p. o.height * n + (t - o.place) * (b.height - o.height) < lo p * n) (sym far) leaves;
@@ -147,16 +176,15 @@ fall_of_corner {lo} {hi} {t} {s} {o} {b} corner newest above below up ordered =
     subst (λ p. hi p * n < o.height * n + (t - o.place) * (b.height - o.height)) far
     (line_over hi o b (t - o.place) up (subst (λ p. IsInside Upper o b (on_curve hi p)) (sym far) corner.crossed)) in
     record {
-      some = omega (arith, later);
+      stays = segment_stays (record {
+        later = later;
+        rises = up;
+        above = above;
+        below = below;
+        low_within = corner.others_beyond;
+        high_within = λ p after upto. corner.own_within p after (omega (arith, upto, new));
+      });
       on = let e : o.height + (b.height - o.height) ≡ b.height = omega (arith, up) in e ∙ (corner.on ∙ ap lo (sym end));
-      above = λ i upto. elim (cases_lt 0 i) [
-        | inl pos ↦ line_above lo o b i up (corner.others_beyond (o.place + i) (omega (arith, pos)) (omega (arith, upto, end)))
-        | inr none ↦ starts_above lo o.place (ray_to o b) i none above
-      ];
-      below = λ i upto. elim (cases_lt 0 i) [
-        | inl pos ↦ line_below hi o b i up (corner.own_within (o.place + i) (omega (arith, pos)) (omega (arith, upto, end, new)))
-        | inr none ↦ starts_below hi o.place (ray_to o b) i none below
-      ];
       far = t - o.place;
       later = omega (arith, later, new);
       leaves = subst (λ p. hi p * n < o.height * n + (t - o.place) * (b.height - o.height)) (sym far) leaves;
@@ -269,39 +297,20 @@ path_ends {lo} {hi} {from} {n} {o} {segments} band past path keeps =
     let e : o.height + (hi n - o.height) ≡ hi n = omega (arith, rises) in e ∙ ap hi (sym end) in
     let on_low : o.height + (hi n - o.height) ≡ lo (o.place + d) = let e : o.height + (hi n - o.height) ≡ hi n =
     omega (arith, rises) in e ∙ (sym band.meet ∙ ap lo (sym end)) in
-    let above : (i : ℕ) → i ≤ d → lo (o.place + i) * d ≤ o.height * d + i * (hi n - o.height) = λ i upto. elim (cases_lt 0 i) [
-      | inl pos ↦ line_above lo o (on_curve hi n) i rises
-          (keeps.apart n (o.place + i) past (omega arith) (omega (arith, pos)) (omega (arith, upto, end)))
-      | inr none ↦ starts_above lo o.place (ray_to o (on_curve hi n)) i none path.above
-    ] in
-    let under : (i : ℕ) → i ≤ d → o.height * d + i * (hi n - o.height) ≤ hi (o.place + i) * d = λ i upto. elim (cases_lt 0 i) [
-      | inl pos ↦ line_below hi o (on_curve hi n) i rises
-          (subst (λ h. IsWithin Lower o (record { place = n; height = h }) (on_curve hi (o.place + i))) band.meet
-          (keeps.apart (o.place + i) n (omega (arith, pos)) (omega (arith, upto, end)) past (omega arith)))
-      | inr none ↦ starts_below hi o.place (ray_to o (on_curve hi n)) i none below
-    ] in
-    let some : 1 ≤ d = omega (arith, past) in
+    let stays : StaysBetween lo hi o.place o.height s = segment_stays (record {
+      later = past;
+      rises = rises;
+      above = path.above;
+      below = below;
+      low_within = λ p after upto. keeps.apart n p past (omega arith) after upto;
+      high_within = λ p after upto.
+          subst (λ h. IsWithin Lower o (record { place = n; height = h }) (on_curve hi p)) band.meet
+          (keeps.apart p n after (omega (arith, upto)) past (omega arith));
+    }) in
     record {
       slots = let e = sum_by_push (λ (x : Segment). x.slots) segments s in omega (arith, e, slots, end);
       bytes = let e = sum_by_push (λ (x : Segment). x.bytes) segments s in omega (arith, e, bytes, rises);
-      runs = path.goes_on.on (s ∷ []) (
-        some,
-        record {
-          far = d;
-          later = some;
-          touches =
-              (let e : (o.height + (hi n - o.height)) * d ≡ lo (o.place + d) * d =
-              ap (λ h. h * d) on_low in omega (arith, e));
-          free = under;
-        },
-        record {
-          far = d;
-          later = some;
-          touches =
-              (let e : (o.height + (hi n - o.height)) * d ≡ hi (o.place + d) * d =
-              ap (λ h. h * d) on_high in omega (arith, e));
-          free = above;
-        },
-      )
-          (record { some = some; above = above; below = under }, tt, tt);
+      runs =
+          path.goes_on.on (s ∷ []) (stays.some, end_meets_low stays on_low, end_meets_high stays on_high)
+          (stays, tt, tt);
     }

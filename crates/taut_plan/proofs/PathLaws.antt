@@ -2,27 +2,23 @@
 use Rattle.std.proofs.Common.{◌≡◌, ℕ, ◌+◌, ◌-◌, ◌*◌, ◌<◌, ◌≤◌, List, [], ◌∷◌, ◌++◌, arith, sym, subst, ap, ◌∙◌, inl, inr, append_assoc}
 use Rattle.std.proofs.lemmas.Bool.{cases_lt}
 use Rattle.plan_cert.specs.declared.Segment.{Segment}
-use Rattle.cert_check.specs.Taut.{Bends, RunsTaut}
-use Rattle.cert_check.proofs.Unique.{Bend, above_ray, below_ray}
+use Rattle.cert_check.specs.Taut.{Bends, RunsTaut, StaysBetween}
+use Rattle.cert_check.proofs.Unique.{Bend, above_ray, below_ray, end_meets_high, end_meets_low}
 use Rattle.taut_plan.specs.Path.{HasOneSlope, GoesOn}
 
 -- The line rises at the corner, which stands on the upper curve: n slots and b bytes from place k and height v.
 -- The lower curve stands above the line's ray at offset `far`, and the upper one does on the way there.
 pub record IsRise (lo hi : ℕ → ℕ) (k v : ℕ) (s : Segment) : Type 0 where
-  pub some : 1 ≤ s.slots
+  pub stays : StaysBetween lo hi k v s
   pub on : v + s.bytes ≡ hi (k + s.slots)
-  pub above : (i : ℕ) → i ≤ s.slots → lo (k + i) * s.slots ≤ v * s.slots + i * s.bytes
-  pub below : (i : ℕ) → i ≤ s.slots → v * s.slots + i * s.bytes ≤ hi (k + i) * s.slots
   pub far : ℕ
   pub later : s.slots < far
   pub leaves : v * s.slots + far * s.bytes < lo (k + far) * s.slots
   pub free : (i : ℕ) → s.slots < i → i ≤ far → v * s.slots + i * s.bytes < hi (k + i) * s.slots
 
 pub record IsFall (lo hi : ℕ → ℕ) (k v : ℕ) (s : Segment) : Type 0 where
-  pub some : 1 ≤ s.slots
+  pub stays : StaysBetween lo hi k v s
   pub on : v + s.bytes ≡ lo (k + s.slots)
-  pub above : (i : ℕ) → i ≤ s.slots → lo (k + i) * s.slots ≤ v * s.slots + i * s.bytes
-  pub below : (i : ℕ) → i ≤ s.slots → v * s.slots + i * s.bytes ≤ hi (k + i) * s.slots
   pub far : ℕ
   pub later : s.slots < far
   pub leaves : hi (k + far) * s.slots < v * s.slots + far * s.bytes
@@ -130,43 +126,31 @@ fall_bends {lo} {hi} {k} {v} {s} (next ∷ rest) fall one =
 -- a rise's own ray meets the lower curve where that leaves the ray, and the upper curve at the corner
 rise_slope : {lo hi : ℕ → ℕ} {k v : ℕ} {s : Segment} (rest : List Segment) → IsRise lo hi k v s
     → HasOneSlope lo hi k v (s ∷ rest)
-rise_slope {lo} {hi} {k} {v} {s} rest rise =
+rise_slope {s} rest rise =
     let later = rise.later in (
-      rise.some,
+      rise.stays.some,
       record {
         far = rise.far;
         later = omega (arith, later);
         touches = let h = rise.leaves in omega (arith, h);
         free = λ i near. elim (cases_lt s.slots i)
-            [ inl beyond ↦ (let h = rise.free i beyond near in omega (arith, h)) | inr before ↦ rise.below i before ];
+            [ inl beyond ↦ (let h = rise.free i beyond near in omega (arith, h)) | inr before ↦ rise.stays.below i before ];
       },
-      record {
-        far = s.slots;
-        later = rise.some;
-        touches = let e : (v + s.bytes) * s.slots ≡ hi (k + s.slots) * s.slots =
-            ap (λ h. h * s.slots) rise.on in omega (arith, e);
-        free = rise.above;
-      },
+      end_meets_high rise.stays rise.on,
     )
 
 fall_slope : {lo hi : ℕ → ℕ} {k v : ℕ} {s : Segment} (rest : List Segment) → IsFall lo hi k v s
     → HasOneSlope lo hi k v (s ∷ rest)
-fall_slope {lo} {k} {v} {s} rest fall =
+fall_slope {s} rest fall =
     let later = fall.later in (
-      fall.some,
-      record {
-        far = s.slots;
-        later = fall.some;
-        touches = let e : (v + s.bytes) * s.slots ≡ lo (k + s.slots) * s.slots =
-            ap (λ h. h * s.slots) fall.on in omega (arith, e);
-        free = fall.below;
-      },
+      fall.stays.some,
+      end_meets_low fall.stays fall.on,
       record {
         far = fall.far;
         later = omega (arith, later);
         touches = let h = fall.leaves in omega (arith, h);
         free = λ i near. elim (cases_lt s.slots i)
-            [ inl beyond ↦ (let h = fall.free i beyond near in omega (arith, h)) | inr before ↦ fall.above i before ];
+            [ inl beyond ↦ (let h = fall.free i beyond near in omega (arith, h)) | inr before ↦ fall.stays.above i before ];
       },
     )
 
@@ -179,7 +163,7 @@ pub goes_on_rise : {lo hi : ℕ → ℕ} {from k v : ℕ} {segments : List Segme
 goes_on_rise {lo} {hi} {from} {segments} {s} goes rise = record {
   on = λ rest one runs.
       subst (RunsTaut lo hi 0 from) (regroup segments rest s) (goes.on (s ∷ rest) (rise_slope rest rise)
-      (record { some = rise.some; above = rise.above; below = rise.below }, rise_bends rest rise one, runs));
+      (rise.stays, rise_bends rest rise one, runs));
 }
 
 pub goes_on_fall : {lo hi : ℕ → ℕ} {from k v : ℕ} {segments : List Segment} {s : Segment}
@@ -188,5 +172,5 @@ pub goes_on_fall : {lo hi : ℕ → ℕ} {from k v : ℕ} {segments : List Segme
 goes_on_fall {lo} {hi} {from} {segments} {s} goes fall = record {
   on = λ rest one runs.
       subst (RunsTaut lo hi 0 from) (regroup segments rest s) (goes.on (s ∷ rest) (fall_slope rest fall)
-      (record { some = fall.some; above = fall.above; below = fall.below }, fall_bends rest fall one, runs));
+      (fall.stays, fall_bends rest fall one, runs));
 }

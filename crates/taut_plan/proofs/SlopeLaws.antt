@@ -120,25 +120,20 @@ ahead seen = record {
   third = offset seen.from seen.third;
 }
 
-abbrev mirror : Seen → Ahead
-mirror seen = record {
-  height = seen.from.height;
-  first = offset seen.from seen.third;
-  second = offset seen.from seen.second;
-  third = offset seen.from seen.first;
-}
+abbrev mirror : Seen → Seen
+mirror seen = record { from = seen.from; first = seen.third; second = seen.second; third = seen.first }
 
 pub within_within : (side : Side) (seen : Seen) → seen.from.place < seen.second.place
     → IsWithin side seen.from seen.first seen.second → IsWithin side seen.from seen.second seen.third
     → IsWithin side seen.from seen.first seen.third
 within_within Lower seen later p q = le_le (ahead seen) (omega arith) p q
-within_within Upper seen later p q = le_le (mirror seen) (omega arith) q p
+within_within Upper seen later p q = le_le (ahead (mirror seen)) (omega arith) q p
 
 pub inside_within : (side : Side) (seen : Seen) → seen.from.place < seen.third.place
     → IsInside side seen.from seen.first seen.second → IsWithin side seen.from seen.second seen.third
     → IsInside side seen.from seen.first seen.third
 inside_within Lower seen later p q = lt_le (ahead seen) (omega arith) p q
-inside_within Upper seen later p q = le_lt (mirror seen) (omega arith) q p
+inside_within Upper seen later p q = le_lt (ahead (mirror seen)) (omega arith) q p
 
 pub within_itself : (side : Side) (o a : Point) → IsWithin side o a a
 within_itself Lower o a = omega arith

@@ -1,5 +1,5 @@
 -- The whole list of segments: it is a plan, and taut.
-use Rattle.std.proofs.Common.{◌≡◌, ℕ, ◌+◌, ◌<◌, ◌≤◌, List, [], ◌∷◌, ◌++◌, length, arith, sym, subst, ◌∙◌}
+use Rattle.std.proofs.Common.{◌≡◌, ℕ, ◌<◌, ◌≤◌, List, [], ◌∷◌, ◌++◌, length, arith, sym, subst, ◌∙◌}
 use Rattle.wire_curve.specs.Sound.{IsSound, bound_at}
 use Rattle.plan_cert.specs.declared.Segment.{Segment}
 use Rattle.plan_cert.specs.Plan.{IsPlan}
@@ -27,7 +27,8 @@ pub ends_at : {lo hi : ℕ → ℕ} {from n slot : ℕ} {o : Point} {segments : 
     → point ≡ on_curve hi n → IsEnding lo hi from n o point segments
 ends_at {lo} {hi} {from} {n} {slot} {o} {segments} {lower} {upper} {point} band same path funnel past is =
     let past' : o.place < n = omega (arith, same, past) in
-    let funnel' : IsFunnel Lower lo hi n n o lower upper = subst (λ t. IsFunnel Lower lo hi t t o lower upper) same funnel in
+    let funnel' : IsFunnel Lower lo hi n n o lower upper =
+    subst (λ t. IsFunnel Lower lo hi t t o lower upper) same funnel in
     let turned = funnel_turns funnel' in
     record {
       higher = subst (λ (p : Point). o.height ≤ p.height) (sym is) (path_rises band past' path);
