@@ -21,7 +21,8 @@ use Rattle.cert_check.proofs.OneList.{one_list}
 use Rattle.cert_check.proofs.TautForms.{AreClosed, bound_after, slots_are, runs_from_taut, ends_from_taut, line_from_taut}
 
 -- a segment that stays between curves has slots
-pub no_empties : (lo hi : ℕ → ℕ) (k v : ℕ) (segments : List Segment) → RunsTaut lo hi k v segments → All (λ s. 1 ≤ s.slots) segments
+pub no_empties : (lo hi : ℕ → ℕ) (k v : ℕ) (segments : List Segment) → RunsTaut lo hi k v segments
+    → All (λ s. 1 ≤ s.slots) segments
 no_empties lo hi k v [] runs = All-nil (λ s. 1 ≤ s.slots)
 no_empties lo hi k v (s ∷ rest) runs =
     All-cons (λ x. 1 ≤ x.slots) s rest runs.0.some (no_empties lo hi (k + s.slots) (v + s.bytes) rest runs.2)
@@ -43,7 +44,8 @@ feasible from low up segments slots runs = record {
       omega (arith, keeps.above, at);
   below = λ t inside.
       let keeps = keeps_at low up runs t (omega (arith, slots)) in
-      let at : bound_at from up (0 + (t + 1)) ≡ slice_index up t = ap (bound_at from up) (omega arith) ∙ bound_after from up t in
+      let at : bound_at from up (0 + (t + 1)) ≡ slice_index up t =
+      ap (bound_at from up) (omega arith) ∙ bound_after from up t in
       omega (arith, keeps.below, at);
 }
 
@@ -94,7 +96,8 @@ whole_bytes from low up y fine = record {
 }
 
 -- in m-ths, above a whole threshold
-over_in_parts : {from : ℕ} {low up : List ℕ} {segments : List Segment} → AreClosed low up → IsTaut from low up segments →
+over_in_parts : {from : ℕ} {low up : List ℕ} {segments : List Segment} → AreClosed low up
+    → IsTaut from low up segments →
     {m : ℕ} {y : List ℕ} → IsFeasibleIn m from low up y → (p : ℕ) → m * over p (plan_slots segments) ≤ over (m * p) y
 over_in_parts {from} {low} {up} {segments} closed taut {m} {y} fine p =
     let slots : total_slots segments ≡ length low = slots_are from low up segments taut in
@@ -113,7 +116,8 @@ over_in_parts {from} {low} {up} {segments} closed taut {m} {y} fine p =
 over_whole : {from : ℕ} {low up : List ℕ} {segments : List Segment} → AreClosed low up → IsTaut from low up segments →
     {y : List ℕ} → IsFeasible from low up y → (p : ℕ) → over p (plan_slots segments) ≤ over p y
 over_whole {from} {low} {up} {segments} closed taut {y} fine p =
-    let h : 1 * over p (plan_slots segments) ≤ over (1 * p) y = over_in_parts closed taut (whole_bytes from low up y fine) p in
+    let h : 1 * over p (plan_slots segments) ≤ over (1 * p) y =
+    over_in_parts closed taut (whole_bytes from low up y fine) p in
     let one : over (1 * p) y ≡ over p y = ap (λ c. over c y) (one-mul p) in
     omega (arith, h, one)
 
@@ -131,7 +135,8 @@ excess_any {from} {low} {segments} closed taut {y} fine p q some =
     let mine : excess (plan_slots segments) ((e + r) * a + r) (e + r)
     ≡ e * over a (plan_slots segments) + r * over (a + 1) (plan_slots segments) =
     excess-between a e r (plan_slots segments) (omega arith) in
-    let theirs : excess y ((e + r) * a + r) (e + r) ≡ e * over a y + r * over (a + 1) y = excess-between a e r y (omega arith) in
+    let theirs : excess y ((e + r) * a + r) (e + r) ≡ e * over a y + r * over (a + 1) y =
+    excess-between a e r y (omega arith) in
     let one : e * over a (plan_slots segments) ≤ e * over a y = mul-le-mul_left e (over_whole closed taut fine a) in
     let two : r * over (a + 1) (plan_slots segments) ≤ r * over (a + 1) y =
     mul-le-mul_left r (over_whole closed taut fine (a + 1)) in

@@ -1,6 +1,6 @@
 -- A taut line goes over each whole threshold by no more than any list of numbers that keeps between the same curves.
--- One induction over the segments. A segment is hot where its slope is above the threshold p, else cold. A change from hot to
--- cold stands on the lower curve, one from cold to hot on the upper one.
+-- One induction over the segments. A segment is hot where its slope is above the threshold p, else cold. A change from
+-- hot to cold stands on the lower curve, one from cold to hot on the upper one.
 use Rattle.std.proofs.Common.{◌≡◌, ◌<◌, ◌≤◌, ◌+◌, ◌-◌, ◌*◌, ℕ, List, [], ◌∷◌, ◌++◌, inl, inr, length, take, drop, sum, arith, sym, ap, subst, ◌∙◌, add-zero}
 use Rattle.std.proofs.Math.Nat.{mul-le-mul_right}
 use Rattle.std.proofs.Math.Seq.{take-append-add}
@@ -21,7 +21,8 @@ pub record KeepsBetween (m : ℕ) (lo hi : ℕ → ℕ) (k held : ℕ) (ys : Lis
   pub below : (j : ℕ) → j ≤ length ys → held + sum (take j ys) ≤ m * hi (k + j)
 
 -- taking j numbers of what is left after n numbers
-sum-take-drop : (n j : ℕ) (ys : List ℕ) → n + j ≤ length ys → sum (take n ys) + sum (take j (drop n ys)) ≡ sum (take (n + j) ys)
+sum-take-drop : (n j : ℕ) (ys : List ℕ) → n + j ≤ length ys → sum (take n ys) + sum (take j (drop n ys))
+    ≡ sum (take (n + j) ys)
 sum-take-drop n j ys fits =
     let first : length (take n ys) ≡ n = length-take-le n ys (omega arith) in
     let joined : take n ys ++ drop n ys ≡ ys = take-append-drop n ys in
@@ -32,7 +33,8 @@ sum-take-drop n j ys fits =
     sym (ap sum seam' ∙ sum_by-append (λ b. b) (take n ys) (take j (drop n ys)))
 
 -- what is left after n numbers keeps between the curves from there
-pub keeps_on : {m : ℕ} {lo hi : ℕ → ℕ} {k held : ℕ} {ys : List ℕ} (n : ℕ) → n ≤ length ys → KeepsBetween m lo hi k held ys →
+pub keeps_on : {m : ℕ} {lo hi : ℕ → ℕ} {k held : ℕ} {ys : List ℕ} (n : ℕ) → n ≤ length ys
+    → KeepsBetween m lo hi k held ys →
     KeepsBetween m lo hi (k + n) (held + sum (take n ys)) (drop n ys)
 keeps_on {m} {lo} {hi} {k} {held} {ys} n fits keeps = record {
   above = λ j few.
@@ -40,14 +42,16 @@ keeps_on {m} {lo} {hi} {k} {held} {ys} n fits keeps = record {
       let e : sum (take n ys) + sum (take j (drop n ys)) ≡ sum (take (n + j) ys) = sum-take-drop n j ys (omega arith) in
       let place : k + (n + j) ≡ k + n + j = omega arith in
       let h : m * lo (k + (n + j)) ≤ held + sum (take (n + j) ys) = keeps.above (n + j) (omega arith) in
-      let h' : m * lo (k + n + j) ≤ held + sum (take (n + j) ys) = subst (λ c. m * lo c ≤ held + sum (take (n + j) ys)) place h in
+      let h' : m * lo (k + n + j) ≤ held + sum (take (n + j) ys) =
+      subst (λ c. m * lo c ≤ held + sum (take (n + j) ys)) place h in
       omega (arith, e, h');
   below = λ j few.
       let left : length (drop n ys) ≡ length ys - n = length-drop n ys in
       let e : sum (take n ys) + sum (take j (drop n ys)) ≡ sum (take (n + j) ys) = sum-take-drop n j ys (omega arith) in
       let place : k + (n + j) ≡ k + n + j = omega arith in
       let h : held + sum (take (n + j) ys) ≤ m * hi (k + (n + j)) = keeps.below (n + j) (omega arith) in
-      let h' : held + sum (take (n + j) ys) ≤ m * hi (k + n + j) = subst (λ c. held + sum (take (n + j) ys) ≤ m * hi c) place h in
+      let h' : held + sum (take (n + j) ys) ≤ m * hi (k + n + j) =
+      subst (λ c. held + sum (take (n + j) ys) ≤ m * hi c) place h in
       omega (arith, e, h');
 }
 
@@ -145,7 +149,8 @@ after_cold {m} {p} {lo} {hi} {k} {v} {held} {rest = next ∷ others} {zs} s is_c
 
 -- the induction: the line ends on both curves
 pub bounds : {m p : ℕ} {lo hi : ℕ → ℕ} {k v held : ℕ} {segments : List Segment} {ys : List ℕ} →
-    RunsTaut lo hi k v segments → lo (k + total_slots segments) ≡ v + total_bytes segments → length ys ≡ total_slots segments →
+    RunsTaut lo hi k v segments → lo (k + total_slots segments) ≡ v + total_bytes segments
+    → length ys ≡ total_slots segments →
     KeepsBetween m lo hi k held ys → Bounds m p v held segments ys
 bounds {m} {p} {lo} {k} {v} {held} {segments = []} runs ends same keeps = record {
   hot = λ _.
@@ -193,7 +198,8 @@ bounds {m} {p} {lo} {hi} {k} {v} {held} {segments = s ∷ rest} {ys} runs ends s
           } in
           rw (line, whole) (hot_step here);
       cold = λ is_cold.
-          let after : m * line_over p rest ≤ over (m * p) (drop s.slots ys) = after_cold s is_cold runs.1 keeps' rest' in
+          let after : m * line_over p rest ≤ over (m * p) (drop s.slots ys) =
+          after_cold s is_cold runs.1 keeps' rest' in
           let none : s.bytes - s.slots * p ≡ 0 = omega arith in
           rw (line, whole, none) (omega (arith, after));
     }
@@ -205,7 +211,8 @@ pub record IsTautBeside (lo hi : ℕ → ℕ) (v : ℕ) (segments : List Segment
   pub same_length : length ys ≡ total_slots segments
 
 -- from a place where the curves meet, or where the first segment is cold, the line goes over p by no more than ys
-pub least : {m : ℕ} {lo hi : ℕ → ℕ} {ys : List ℕ} (p v : ℕ) (segments : List Segment) → IsTautBeside lo hi v segments ys →
+pub least : {m : ℕ} {lo hi : ℕ → ℕ} {ys : List ℕ} (p v : ℕ) (segments : List Segment)
+    → IsTautBeside lo hi v segments ys →
     KeepsBetween m lo hi 0 (m * v) ys → m * line_over p segments ≤ over (m * p) ys
 least {m} {lo} {ys} p v segments line keeps =
     let ends' : lo (0 + total_slots segments) ≡ v + total_bytes segments =
@@ -218,6 +225,7 @@ least {m} {lo} {ys} p v segments line keeps =
     from_both (s ∷ rest) both =
         elim (cases_lt (s.slots * p) s.bytes) [
           | inl is_hot ↦
-              (let h : m * line_over p (s ∷ rest) + m * v ≤ over (m * p) ys + m * v = both.hot is_hot in omega (arith, h))
+              (let h : m * line_over p (s ∷ rest) + m * v ≤ over (m * p) ys + m * v =
+              both.hot is_hot in omega (arith, h))
           | inr is_cold ↦ both.cold is_cold
         ]

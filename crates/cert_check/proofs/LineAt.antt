@@ -9,7 +9,8 @@ use Rattle.cert_check.specs.Line.{segment_at, line_top, line_under}
 pub line_top-in : (v : ℕ) (s : Segment) (rest : List Segment) (k : ℕ) → k ≤ s.slots
     → line_top v (s ∷ rest) k ≡ v * s.slots + k * s.bytes
 line_top-in v s rest k h =
-    cond-true (nat_le k s.slots) (v * s.slots + k * s.bytes) (line_top (v + s.bytes) rest (k - s.slots)) (le-leb k s.slots h)
+    cond-true (nat_le k s.slots) (v * s.slots + k * s.bytes) (line_top (v + s.bytes) rest (k - s.slots))
+    (le-leb k s.slots h)
 
 pub line_under-in : (s : Segment) (rest : List Segment) (k : ℕ) → k ≤ s.slots → line_under (s ∷ rest) k ≡ s.slots
 line_under-in s rest k h = cond-true (nat_le k s.slots) s.slots (line_under rest (k - s.slots)) (le-leb k s.slots h)
@@ -62,5 +63,6 @@ line_in {v} {segments = s ∷ rest} {i = suc i} {j} inside some few =
     record {
       top = ap (line_top v (s ∷ rest)) place ∙ line_top-past v s rest (total_slots (take i rest) + j) later ∙ after.top
           ∙ ap (λ x. x + j * (segment_at rest i).bytes) height;
-      under = ap (line_under (s ∷ rest)) place ∙ line_under-past s rest (total_slots (take i rest) + j) later ∙ after.under;
+      under = ap (line_under (s ∷ rest)) place ∙ line_under-past s rest (total_slots (take i rest) + j) later
+          ∙ after.under;
     }

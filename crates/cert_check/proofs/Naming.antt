@@ -21,7 +21,8 @@ first_fall {from} {low} {up} {segments} i within no_equal no_rise first = record
 }
   where
     earlier : (other : CertFault) → kind_of other < 7 → ¬ IsThere from low up segments other
-    earlier (EmptySegment j) less = not_empty {from = from} {low = low} {up = up} {segments = segments} within.whole {i = j}
+    earlier (EmptySegment j) less =
+        not_empty {from = from} {low = low} {up = up} {segments = segments} within.whole {i = j}
     earlier WrongLength less = λ off. off within.whole.slots
     earlier WrongTotal less = λ off. off within.whole.bytes
     earlier (BelowLow j) less = within.not_below j
@@ -30,7 +31,8 @@ first_fall {from} {low} {up} {segments} i within no_equal no_rise first = record
     earlier (RiseOffUpper j) less = no_rise j
     earlier (FallOffLower j) less = absurd (omega (arith, less))
 
-    lesser : (other : CertFault) → kind_of other ≡ 7 → unwrap_or (fault_number other) 0 < i → ¬ IsThere from low up segments other
+    lesser : (other : CertFault) → kind_of other ≡ 7 → unwrap_or (fault_number other) 0 < i
+        → ¬ IsThere from low up segments other
     lesser (EmptySegment j) same less = absurd (omega (arith, same))
     lesser WrongLength same less = absurd (omega (arith, same))
     lesser WrongTotal same less = absurd (omega (arith, same))

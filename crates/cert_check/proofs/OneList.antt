@@ -24,8 +24,10 @@ record SplitSegment : Type 0 where
   pub level : first.bytes * whole.slots ≡ whole.bytes * first.slots
 
 parts_cross : (split : SplitSegment)
-    → split.first.bytes * (split.first.slots + split.last.slots) ≡ (split.first.bytes + split.last.bytes) * split.first.slots
-parts_cross split = ap (λ x. split.first.bytes * x) (sym split.slots) ∙ split.level ∙ ap (λ x. x * split.first.slots) split.bytes
+    → split.first.bytes * (split.first.slots + split.last.slots)
+    ≡ (split.first.bytes + split.last.bytes) * split.first.slots
+parts_cross split = ap (λ x. split.first.bytes * x) (sym split.slots) ∙ split.level
+    ∙ ap (λ x. x * split.first.slots) split.bytes
 
 level_first : (split : SplitSegment) → split.first.bytes * split.last.slots ≡ split.last.bytes * split.first.slots
 level_first split = omega (arith, parts_cross split)
@@ -64,11 +66,13 @@ cut_stays : {lo hi : ℕ → ℕ} {k v : ℕ} (split : SplitSegment) → StaysBe
 cut_stays {lo} {hi} {k} {v} split stays = record {
   some = split.some;
   above = λ j few.
-      let h : lo (k + (n + j)) * t.slots ≤ v * t.slots + (n + j) * t.bytes = stays.above (n + j) (omega (arith, split.slots)) in
+      let h : lo (k + (n + j)) * t.slots ≤ v * t.slots + (n + j) * t.bytes =
+      stays.above (n + j) (omega (arith, split.slots)) in
       let place : lo (k + (n + j)) * t.slots ≡ lo (k + n + j) * t.slots = ap (λ x. lo x * t.slots) (omega arith) in
       cut_below split v j (lo (k + n + j)) stays.some (omega (arith, h, place));
   below = λ j few.
-      let h : v * t.slots + (n + j) * t.bytes ≤ hi (k + (n + j)) * t.slots = stays.below (n + j) (omega (arith, split.slots)) in
+      let h : v * t.slots + (n + j) * t.bytes ≤ hi (k + (n + j)) * t.slots =
+      stays.below (n + j) (omega (arith, split.slots)) in
       let place : hi (k + (n + j)) * t.slots ≡ hi (k + n + j) * t.slots = ap (λ x. hi x * t.slots) (omega arith) in
       cut_above split v j (hi (k + n + j)) stays.some (omega (arith, h, place));
 }
@@ -90,20 +94,31 @@ cut_bends at split (next ∷ rest) some bend =
     elim bend [
       | inl rise ↦ inl (
         at_most_below
-            (record { first = slope_of split.last; between = slope_of split.whole; last = slope_of next; some_slot = some })
+            (record {
+              first = slope_of split.last;
+              between = slope_of split.whole;
+              last = slope_of next;
+              some_slot = some;
+            })
             split.some (le_of_eq (sym (level_last split))) rise.0,
         rise.1,
       )
       | inr fall ↦ inr (
         below_at_most
-            (record { first = slope_of next; between = slope_of split.whole; last = slope_of split.last; some_slot = some })
+            (record {
+              first = slope_of next;
+              between = slope_of split.whole;
+              last = slope_of split.last;
+              some_slot = some;
+            })
             split.some fall.0 (le_of_eq (level_last split)),
         fall.1,
       )
     ]
 
 -- what is left of a taut line after the first part of its first segment is a taut line
-part_line : {lo hi : ℕ → ℕ} {k v : ℕ} (split : SplitSegment) (ys : List Segment) → IsTautLine lo hi k v (split.whole ∷ ys)
+part_line : {lo hi : ℕ → ℕ} {k v : ℕ} (split : SplitSegment) (ys : List Segment)
+    → IsTautLine lo hi k v (split.whole ∷ ys)
     → IsTautLine lo hi (k + split.first.slots) (v + split.first.bytes) (split.last ∷ ys)
 part_line {lo} {hi} {k} {v} split ys line =
     let at : Between = record { lo = lo; hi = hi; place = k + t.slots; height = v + t.bytes } in
@@ -112,7 +127,8 @@ part_line {lo} {hi} {k} {v} split ys line =
     let bend : Bends lo hi (k + t.slots) (v + t.bytes) part ys = cut_bends at split ys line.runs.0.some line.runs.1 in
     let stays : StaysBetween lo hi (k + s.slots) (v + s.bytes) part = cut_stays split line.runs.0 in
     let bend' : Bends lo hi (k + s.slots + n') (v + s.bytes + b') part ys =
-    subst (λ c. Bends lo hi c (v + s.bytes + b') part ys) place (subst (λ c. Bends lo hi (k + t.slots) c part ys) height bend) in
+    subst (λ c. Bends lo hi c (v + s.bytes + b') part ys) place
+    (subst (λ c. Bends lo hi (k + t.slots) c part ys) height bend) in
     let rest' : RunsTaut lo hi (k + s.slots + n') (v + s.bytes + b') ys =
     subst (λ c. RunsTaut lo hi c (v + s.bytes + b') ys) place
     (subst (λ c. RunsTaut lo hi (k + t.slots) c ys) height line.runs.2) in
@@ -135,7 +151,8 @@ part_line {lo} {hi} {k} {v} split ys line =
 no_part : {lo hi : ℕ → ℕ} {k v : ℕ} (split : SplitSegment) (next : Segment) (xs ys : List Segment) →
     IsTautLine lo hi k v (split.first ∷ next ∷ xs) → IsTautLine lo hi k v (split.whole ∷ ys) → ⊥
 no_part split next xs ys line other =
-    let level_n : next.bytes * part.slots ≡ part.bytes * next.slots = one_slope (line_on line) (part_line split ys other) in
+    let level_n : next.bytes * part.slots ≡ part.bytes * next.slots =
+    one_slope (line_on line) (part_line split ys other) in
     let level_ns : next.bytes * s.slots ≡ s.bytes * next.slots =
     level_trans (record {
       first = slope_of next;
@@ -158,7 +175,8 @@ no_longer {lo} {s} {xs = []} {t} {ys} line other same level shorter =
     let slots : total_slots (t ∷ ys) ≡ t.slots + total_slots ys = sum_by-cons (λ x. x.slots) t ys in
     omega (arith, same, slots, shorter)
 no_longer {lo} {s} {xs = next ∷ xs} {t} {ys} line other same level shorter =
-    let fewer : s.bytes * t.slots ≤ t.bytes * t.slots = omega (arith, level, mul-le-mul_left t.bytes (le_of_lt shorter)) in
+    let fewer : s.bytes * t.slots ≤ t.bytes * t.slots =
+    omega (arith, level, mul-le-mul_left t.bytes (le_of_lt shorter)) in
     let pos : 0 < t.slots = omega arith in
     let few : s.bytes ≤ t.bytes = le_of_mul-le-mul_right fewer pos in
     let split : SplitSegment = record {

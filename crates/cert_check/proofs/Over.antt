@@ -48,7 +48,8 @@ pub excess-one : (p : ℕ) (ys : List ℕ) → excess ys p 1 ≡ over p ys
 excess-one p ys = sum_by-agree (λ b. 1 * b - p) (λ b. b - p) ys (λ b. omega arith)
 
 -- one number over the rate ((e + r) * a + r) / (e + r), by the two whole thresholds beside it
-between_above : {b : ℕ} (a e r d : ℕ) → 1 ≤ e → b ≡ a + 1 + d → (e + r) * b - ((e + r) * a + r) ≡ e * (b - a) + r * (b - (a + 1))
+between_above : {b : ℕ} (a e r d : ℕ) → 1 ≤ e → b ≡ a + 1 + d
+    → (e + r) * b - ((e + r) * a + r) ≡ e * (b - a) + r * (b - (a + 1))
 between_above {b} a e r d some is =
     let one : b - a ≡ 1 + d = omega arith in
     let two : b - (a + 1) ≡ d = omega arith in
@@ -68,7 +69,8 @@ between_thresholds a e r b some =
     ]
 
 -- the excess above any rate is put together from that above the two whole rates beside it
-pub excess-between : (a e r : ℕ) (ys : List ℕ) → 1 ≤ e → excess ys ((e + r) * a + r) (e + r) ≡ e * over a ys + r * over (a + 1) ys
+pub excess-between : (a e r : ℕ) (ys : List ℕ) → 1 ≤ e → excess ys ((e + r) * a + r) (e + r)
+    ≡ e * over a ys + r * over (a + 1) ys
 excess-between a e r [] some = omega arith
 excess-between a e r (y ∷ ys) some =
     let whole : excess (y ∷ ys) ((e + r) * a + r) (e + r)
@@ -77,5 +79,6 @@ excess-between a e r (y ∷ ys) some =
     let under : over a (y ∷ ys) ≡ (y - a) + over a ys = sum_by-cons (λ b. b - a) y ys in
     let beyond : over (a + 1) (y ∷ ys) ≡ (y - (a + 1)) + over (a + 1) ys = sum_by-cons (λ b. b - (a + 1)) y ys in
     let first : (e + r) * y - ((e + r) * a + r) ≡ e * (y - a) + r * (y - (a + 1)) = between_thresholds a e r y some in
-    let rest : excess ys ((e + r) * a + r) (e + r) ≡ e * over a ys + r * over (a + 1) ys = excess-between a e r ys some in
+    let rest : excess ys ((e + r) * a + r) (e + r) ≡ e * over a ys + r * over (a + 1) ys =
+    excess-between a e r ys some in
     whole ∙ rw (under, beyond, first, rest) (omega arith)

@@ -46,7 +46,8 @@ over-all_below p f (suc k) below =
     let rest : over p xs ≡ 0 = over-all_below p f k below in
     omega (arith, over_more, here, rest)
 
-slot_is : (s : Segment) (j : ℕ) → 0 < s.slots → (s.bytes / s.slots ≤ slot_of s j) × (slot_of s j ≤ s.bytes / s.slots + 1)
+slot_is : (s : Segment) (j : ℕ) → 0 < s.slots → (s.bytes / s.slots ≤ slot_of s j)
+    × (slot_of s j ≤ s.bytes / s.slots + 1)
 slot_is s j pos =
     let bounds = slot_bounds s.bytes s.slots j pos in
     (omega (arith, bounds.0), omega (arith, bounds.1))
@@ -80,6 +81,8 @@ over-plan_slots p (s ∷ rest) some =
     sum_by-append (λ b. b - p) (slots_of s) (plan_slots rest) in
     let line : line_over p (s ∷ rest) ≡ (s.bytes - s.slots * p) + line_over p rest =
     sum_by-cons (λ x. x.bytes - x.slots * p) s rest in
-    let first : over p (slots_of s) ≡ s.bytes - s.slots * p = over-slots_of p s (All-head (λ x. 1 ≤ x.slots) s rest some) in
-    let others : over p (plan_slots rest) ≡ line_over p rest = over-plan_slots p rest (All-tail (λ x. 1 ≤ x.slots) s rest some) in
+    let first : over p (slots_of s) ≡ s.bytes - s.slots * p =
+    over-slots_of p s (All-head (λ x. 1 ≤ x.slots) s rest some) in
+    let others : over p (plan_slots rest) ≡ line_over p rest =
+    over-plan_slots p rest (All-tail (λ x. 1 ≤ x.slots) s rest some) in
     omega (arith, both, line, first, others)

@@ -36,7 +36,8 @@ slots_are from low up segments taut = not_different (total_slots segments) (leng
 
 pub total_is : (from : ℕ) (low up : List ℕ) (segments : List Segment) → IsTaut from low up segments
     → from + total_bytes segments ≡ slice_index up (length up - 1)
-total_is from low up segments taut = not_different (from + total_bytes segments) (slice_index up (length up - 1)) taut.right_total
+total_is from low up segments taut =
+    not_different (from + total_bytes segments) (slice_index up (length up - 1)) taut.right_total
 
 faultless : (from : ℕ) (low up : List ℕ) (segments : List Segment) → AreClosed low up → IsTaut from low up segments →
     Faultless (bound_at from low) (bound_at from up) 0 from segments
@@ -65,7 +66,8 @@ faultless from low up segments closed taut =
       below = λ j later few.
           let t = j - 1 in
           let is : t + 1 ≡ j = omega arith in
-          let at : bound_at from up (0 + j) ≡ slice_index up t = ap (bound_at from up) (omega arith) ∙ bound_after from up t in
+          let at : bound_at from up (0 + j) ≡ slice_index up t =
+          ap (bound_at from up) (omega arith) ∙ bound_after from up t in
           elim (cases_lt (slice_index up t * line_under segments j) (line_top from segments j)) [
             | inl above ↦
                 absurd (taut.below t (
@@ -86,13 +88,16 @@ faultless from low up segments closed taut =
     }
 
 -- a list without faults runs taut
-pub runs_from_taut : (from : ℕ) (low up : List ℕ) (segments : List Segment) → AreClosed low up → IsTaut from low up segments →
+pub runs_from_taut : (from : ℕ) (low up : List ℕ) (segments : List Segment) → AreClosed low up
+    → IsTaut from low up segments →
     RunsTaut (bound_at from low) (bound_at from up) 0 from segments
 runs_from_taut from low up segments closed taut =
-    runs_from_faultless (bound_at from low) (bound_at from up) 0 from segments (faultless from low up segments closed taut)
+    runs_from_faultless (bound_at from low) (bound_at from up) 0 from segments
+    (faultless from low up segments closed taut)
 
 -- and ends where both curves end
-pub ends_from_taut : (from : ℕ) (low up : List ℕ) (segments : List Segment) → AreClosed low up → IsTaut from low up segments →
+pub ends_from_taut : (from : ℕ) (low up : List ℕ) (segments : List Segment) → AreClosed low up
+    → IsTaut from low up segments →
     EndsOn (bound_at from low) (bound_at from up) 0 from segments
 ends_from_taut from low up segments closed taut =
     let slots : total_slots segments ≡ length low = slots_are from low up segments taut in
@@ -104,10 +109,14 @@ ends_from_taut from low up segments closed taut =
       high = ap (bound_at from up) place ∙ bound_end from up (length low) closed.some_slot ∙ sym total;
     }
 
-pub line_from_taut : (from : ℕ) (low up : List ℕ) (segments : List Segment) → AreClosed low up → IsTaut from low up segments →
+pub line_from_taut : (from : ℕ) (low up : List ℕ) (segments : List Segment) → AreClosed low up
+    → IsTaut from low up segments →
     IsTautLine (bound_at from low) (bound_at from up) 0 from segments
 line_from_taut from low up segments closed taut =
-    record { runs = runs_from_taut from low up segments closed taut; ends = ends_from_taut from low up segments closed taut }
+    record {
+      runs = runs_from_taut from low up segments closed taut;
+      ends = ends_from_taut from low up segments closed taut;
+    }
 
 -- a list that runs taut, over the curves' slots and to their end, has no fault
 pub taut_from_runs : {low up : List ℕ} (from : ℕ) (segments : List Segment) → AreClosed low up →

@@ -1,6 +1,6 @@
 -- Two taut lines between the same curves, from one place and height to one end, are the same list of segments.
--- Along the ray of its first slope a taut line meets the lower curve with the upper one above it all the way, and meets the
--- upper curve with the lower one below it all the way. Two slopes at one place can't both have both.
+-- Along the ray of its first slope a taut line meets the lower curve with the upper one above it all the way, and meets
+-- the upper curve with the lower one below it all the way. Two slopes at one place can't both have both.
 use Rattle.std.proofs.Common.{◌≡◌, ◌<◌, ◌≤◌, ◌+◌, ◌-◌, ◌*◌, ℕ, List, [], ◌∷◌, inl, inr, arith, sym, ap, subst, ◌∙◌}
 use Rattle.std.proofs.Math.Nat.{mul-le-mul_left, mul-le-mul_right, mul-lt-mul_of_pos_left, le_of_mul-le-mul_right}
 use Rattle.std.proofs.lemmas.Bool.{cases_lt, cases_order}
@@ -28,7 +28,8 @@ pub record Bend : Type 0 where
   pub some : 1 ≤ next.slots
 
 -- where a curve stands on or above the ray of a steeper next segment, it stands so above the ray of the first one
-pub above_ray : (bend : Bend) (curve : ℕ → ℕ) (i : ℕ) → bend.first.bytes * bend.next.slots ≤ bend.next.bytes * bend.first.slots
+pub above_ray : (bend : Bend) (curve : ℕ → ℕ) (i : ℕ) → bend.first.bytes * bend.next.slots
+    ≤ bend.next.bytes * bend.first.slots
     → (bend.height + bend.first.bytes) * bend.next.slots + i * bend.next.bytes
     ≤ curve (bend.place + bend.first.slots + i) * bend.next.slots
     → bend.height * bend.first.slots + (bend.first.slots + i) * bend.first.bytes
@@ -44,7 +45,8 @@ above_ray bend curve i steeper above =
     open bend use {place as k, height as v, first.{slots as n, bytes as b}, next.{slots as n', bytes as b'}}
 
 -- the mirror
-pub below_ray : (bend : Bend) (curve : ℕ → ℕ) (i : ℕ) → bend.next.bytes * bend.first.slots ≤ bend.first.bytes * bend.next.slots
+pub below_ray : (bend : Bend) (curve : ℕ → ℕ) (i : ℕ) → bend.next.bytes * bend.first.slots
+    ≤ bend.first.bytes * bend.next.slots
     → curve (bend.place + bend.first.slots + i) * bend.next.slots
     ≤ (bend.height + bend.first.bytes) * bend.next.slots + i * bend.next.bytes
     → curve (bend.place + (bend.first.slots + i)) * bend.first.slots
@@ -79,7 +81,8 @@ apart fork j h some below above =
     open fork use {height as v, flat.{slots as n, bytes as b}, steep.{slots as n', bytes as b'}}
 
 -- so a steeper ray that meets low and a flatter one that meets high don't begin together
-pub no_steeper : {lo hi : ℕ → ℕ} {k v : ℕ} {flat steep : Segment} → MeetsUpper lo hi k v flat → MeetsLower lo hi k v steep
+pub no_steeper : {lo hi : ℕ → ℕ} {k v : ℕ} {flat steep : Segment} → MeetsUpper lo hi k v flat
+    → MeetsLower lo hi k v steep
     → flat.bytes * steep.slots < steep.bytes * flat.slots → ⊥
 no_steeper {lo} {hi} {k} {v} {flat} {steep} high low steeper =
     let fork : Fork = record { height = v; flat = flat; steep = steep; steeper = steeper } in
@@ -94,7 +97,8 @@ pub end_meets_low : {lo hi : ℕ → ℕ} {k v : ℕ} {s : Segment} → StaysBet
 end_meets_low {lo} {k} {v} {s} stays on_low = record {
   far = s.slots;
   later = stays.some;
-  touches = let e : (v + s.bytes) * s.slots ≡ lo (k + s.slots) * s.slots = ap (λ x. x * s.slots) on_low in omega (arith, e);
+  touches = let e : (v + s.bytes) * s.slots ≡ lo (k + s.slots) * s.slots =
+      ap (λ x. x * s.slots) on_low in omega (arith, e);
   free = stays.below;
 }
 
@@ -103,13 +107,15 @@ pub end_meets_high : {lo hi : ℕ → ℕ} {k v : ℕ} {s : Segment} → StaysBe
 end_meets_high {lo} {hi} {k} {v} {s} stays on_high = record {
   far = s.slots;
   later = stays.some;
-  touches = let e : (v + s.bytes) * s.slots ≡ hi (k + s.slots) * s.slots = ap (λ x. x * s.slots) on_high in omega (arith, e);
+  touches = let e : (v + s.bytes) * s.slots ≡ hi (k + s.slots) * s.slots =
+      ap (λ x. x * s.slots) on_high in omega (arith, e);
   free = stays.above;
 }
 
 -- the meeting of a steeper segment's ray, seen along the ray of the segment before it
 low_further : {lo hi : ℕ → ℕ} {k v : ℕ} {s : Segment} (next : Segment) → StaysBetween lo hi k v s → 1 ≤ next.slots →
-    s.bytes * next.slots ≤ next.bytes * s.slots → MeetsLower lo hi (k + s.slots) (v + s.bytes) next → MeetsLower lo hi k v s
+    s.bytes * next.slots ≤ next.bytes * s.slots → MeetsLower lo hi (k + s.slots) (v + s.bytes) next
+    → MeetsLower lo hi k v s
 low_further {lo} {hi} {k} {v} {s} next stays some steeper meets =
     let bend : Bend = record { place = k; height = v; first = s; next = next; some = some } in
     record {
@@ -124,7 +130,8 @@ low_further {lo} {hi} {k} {v} {s} next stays some steeper meets =
     }
 
 high_further : {lo hi : ℕ → ℕ} {k v : ℕ} {s : Segment} (next : Segment) → StaysBetween lo hi k v s → 1 ≤ next.slots →
-    next.bytes * s.slots ≤ s.bytes * next.slots → MeetsUpper lo hi (k + s.slots) (v + s.bytes) next → MeetsUpper lo hi k v s
+    next.bytes * s.slots ≤ s.bytes * next.slots → MeetsUpper lo hi (k + s.slots) (v + s.bytes) next
+    → MeetsUpper lo hi k v s
 high_further {lo} {hi} {k} {v} {s} next stays some flatter meets =
     let bend : Bend = record { place = k; height = v; first = s; next = next; some = some } in
     record {

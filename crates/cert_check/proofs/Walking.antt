@@ -29,7 +29,8 @@ pub record Goes (from : ℕ) (segments : List Segment) (t : ℕ) (walk : Walk) :
   pub some : 1 ≤ walk.passed
 
 -- one slot further
-pub goes_on : {from : ℕ} {low up : List ℕ} {segments : List Segment} {t : ℕ} {walk : Walk} → AddsUp from low up segments →
+pub goes_on : {from : ℕ} {low up : List ℕ} {segments : List Segment} {t : ℕ} {walk : Walk}
+    → AddsUp from low up segments →
     StandsAt from segments t walk → t < length low → Goes from segments (t + 1) (next_walk segments walk)
 goes_on {from} {low} {segments} {t} {walk} whole stands few =
     let s = segment_at segments walk.index in
@@ -42,7 +43,8 @@ goes_on {from} {low} {segments} {t} {walk} whole stands few =
           let next : Walk = record { index = walk.index + 1; passed = 1; height = walk.height + s.bytes } in
           let is : next_walk segments walk ≡ next =
           cond-true (nat_eq walk.passed s.slots) next
-          (record { index = walk.index; passed = walk.passed + 1; height = walk.height }) (eq-eqb walk.passed s.slots over) in
+          (record { index = walk.index; passed = walk.passed + 1; height = walk.height })
+          (eq-eqb walk.passed s.slots over) in
           let after : walk.index + 1 < length segments =
           one_after segments walk.index (omega (arith, ends, stands.place, over, whole.slots, few)) in
           let stands' : Goes from segments (t + 1) next = record {

@@ -21,8 +21,10 @@ pub same-boundaries : {place : ℕ} (part : FilmPart) (one other : Identity)
 same-boundaries {place} part one other b =
     let a_run = run_of film first end one in
     let b_run = run_of film first end other in
-    let a = run-begin {film = film} first end one a_run b.number (record { view = refl; order = order; within = within }) in
-    let c = run-begin {film = film} first end other b_run b.number (record { view = refl; order = order; within = within }) in
+    let a = run-begin {film = film} first end one a_run b.number
+    (record { view = refl; order = order; within = within }) in
+    let c = run-begin {film = film} first end other b_run b.number
+    (record { view = refl; order = order; within = within }) in
     record {
       number = b.number;
       among = omega (

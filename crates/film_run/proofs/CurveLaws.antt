@@ -23,10 +23,15 @@ use Rattle.film_run.proofs.SumLaws.{bytes-join, bytes-most, length-between}
 pub total-of-rest : (sizes : List ℕ) (playback : Playback) (run : Run) → IsRun sizes run
     → total_of (rest_sizes sizes run) (timing_of playback run) ≡ bytes_between sizes run.first_unit run.end_unit
 total-of-rest sizes playback run is =
-    omega (arith, is.played_is, bytes-join sizes run.first_unit run.from_unit run.end_unit is.order (omega (arith, is.rest)))
+    omega (
+      arith,
+      is.played_is,
+      bytes-join sizes run.first_unit run.from_unit run.end_unit is.order (omega (arith, is.rest)),
+    )
 
 -- a run has what its curves ask
-pub limits : {sizes : List ℕ} {playback : Playback} {run : Run} → IsPlayback playback → IsRun sizes run → Fits playback.buffer run
+pub limits : {sizes : List ℕ} {playback : Playback} {run : Run} → IsPlayback playback → IsRun sizes run
+    → Fits playback.buffer run
     → length sizes ≤ 4194304 → sum sizes ≤ 2 ^ 42 → IsWithinLimits (rest_sizes sizes run) (timing_of playback run)
 limits {sizes} {playback} {run} plays is fits few small =
     let count = length-between sizes run.from_unit run.end_unit is.within in
@@ -86,11 +91,13 @@ limits-both {rest} {timing} same_sizes same_timing within =
 -- the curves' numbers
 pub low-at-slot : (sizes : List ℕ) (timing : Timing) (t : ℕ) → t < slot_count sizes timing
     → get_or (low_curve sizes timing) t 0 ≡ low_at sizes timing t
-low-at-slot sizes timing t lt = get_or-map-range_with_len (low_at sizes timing) 0 (slot_count sizes timing) t t 0 lt (omega arith)
+low-at-slot sizes timing t lt =
+    get_or-map-range_with_len (low_at sizes timing) 0 (slot_count sizes timing) t t 0 lt (omega arith)
 
 pub up-at-slot : (sizes : List ℕ) (timing : Timing) (t : ℕ) → t < slot_count sizes timing
     → get_or (up_curve sizes timing) t 0 ≡ up_at sizes timing t
-up-at-slot sizes timing t lt = get_or-map-range_with_len (up_at sizes timing) 0 (slot_count sizes timing) t t 0 lt (omega arith)
+up-at-slot sizes timing t lt =
+    get_or-map-range_with_len (up_at sizes timing) 0 (slot_count sizes timing) t t 0 lt (omega arith)
 
 pub low-slots : (sizes : List ℕ) (timing : Timing) → length (low_curve sizes timing) ≡ slot_count sizes timing
 low-slots sizes timing = length-map-range_with_len (low_at sizes timing) 0 (slot_count sizes timing)
@@ -123,7 +130,8 @@ low-end sizes timing limits ok =
     let value = low-at-slot sizes timing (n - 1) (omega arith) in
     omega (arith, all, place, value, limits.sent_of_total)
 
-pub best-of : (sizes : List ℕ) (timing : Timing) (plan : List Segment) → IsWithinLimits sizes timing → IsTautFor sizes timing plan
+pub best-of : (sizes : List ℕ) (timing : Timing) (plan : List Segment) → IsWithinLimits sizes timing
+    → IsTautFor sizes timing plan
     → IsBestPlan timing.sent (low_curve sizes timing) (up_curve sizes timing) plan
 best-of sizes timing plan limits is =
     let low_slots = low-slots sizes timing in
@@ -142,7 +150,8 @@ best-of sizes timing plan limits is =
 pub record KeepsTo (sizes : List ℕ) (timing : Timing) (plan : List Segment) : Type 0 where
   pub slots : total_slots plan ≡ slot_count sizes timing
   pub bytes : timing.sent + total_bytes plan ≡ total_of sizes timing
-  pub above : (t : ℕ) → t < slot_count sizes timing → used_before sizes timing (t + 1) ≤ timing.sent + sum_through plan t
+  pub above : (t : ℕ) → t < slot_count sizes timing → used_before sizes timing (t + 1)
+      ≤ timing.sent + sum_through plan t
   pub below : (t : ℕ) → t < slot_count sizes timing
       → timing.sent + sum_through plan t ≤ used_before sizes timing t + timing.buffer
 
@@ -154,7 +163,8 @@ keeps-to sizes timing plan limits is =
     let low_slots = low-slots sizes timing in
     let up_last = up-end sizes timing limits is.accepted in
     let whole : timing.sent + total_bytes plan ≡ get_or (up_curve sizes timing) (length (up_curve sizes timing) - 1) 0 =
-    elim (cases_eq (timing.sent + total_bytes plan) (get_or (up_curve sizes timing) (length (up_curve sizes timing) - 1) 0)) [
+    elim (cases_eq (timing.sent + total_bytes plan)
+    (get_or (up_curve sizes timing) (length (up_curve sizes timing) - 1) 0)) [
       | inl same ↦ same
       | inr other ↦ absurd (is.taut.right_total other)
     ] in

@@ -32,7 +32,8 @@ pub stop-ahead : {sizes : List ℕ} {timing : Timing} {plan : List Segment} {sto
     → KeepsTo sizes timing plan → StopsWithin plan last keep stop
     → used_before sizes timing stop ≤ timing.sent + keep
 stop-ahead {sizes} {timing} {stop} None keep limits keeps stops =
-    let first : used_before sizes timing stop ≡ used_before sizes timing 0 = ap (used_before sizes timing) stops.stop_is in
+    let first : used_before sizes timing stop ≡ used_before sizes timing 0 =
+    ap (used_before sizes timing) stops.stop_is in
     omega (arith, first, used_before-none sizes timing, limits.played_was_sent)
 stop-ahead {sizes} {timing} {plan} {stop} (Some last) keep limits keeps stops =
     let halt = stops.halt in
@@ -50,7 +51,8 @@ stop-ahead {sizes} {timing} {plan} {stop} (Some last) keep limits keeps stops =
             | inr from ↦ let rises = sum_through_rises plan t last (omega (arith, is.1.1)) in omega (arith, halt.1)
           ]
       | inr none ↦
-          let first : used_before sizes timing stop ≡ used_before sizes timing 0 = ap (used_before sizes timing) (omega arith) in
+          let first : used_before sizes timing stop ≡ used_before sizes timing 0 =
+          ap (used_before sizes timing) (omega arith) in
           omega (arith, first, used_before-none sizes timing, limits.played_was_sent)
     ]
 
@@ -60,7 +62,8 @@ pub stop-fits : {sizes : List ℕ} {timing : Timing} {plan : List Segment} {stop
     → KeepsTo sizes timing plan → StopsWithin plan last keep stop
     → timing.sent + keep ≤ used_before sizes timing stop + timing.buffer
 stop-fits {sizes} {timing} {stop} None keep limits keeps stops =
-    let first : used_before sizes timing stop ≡ used_before sizes timing 0 = ap (used_before sizes timing) stops.stop_is in
+    let first : used_before sizes timing stop ≡ used_before sizes timing 0 =
+    ap (used_before sizes timing) stops.stop_is in
     omega (arith, first, used_before-none sizes timing, limits.sent_fits_buffer)
 stop-fits {plan} {stop} (Some last) keep limits keeps stops =
     let is = stops.stop_is in
@@ -132,11 +135,13 @@ goes-on {sizes} {playback} {run} {last} from h order within inside used =
 pub record IsPlayedTo (playback : Playback) (run : Run) (from stop : ℕ) : Type 0 where
   pub not_back : run.from_unit ≤ from
   pub within : from < run.end_unit
-  pub used : (unit : ℕ) → run.from_unit ≤ unit → unit < from → due_slot (timing_of playback run) (unit - run.from_unit) < stop
+  pub used : (unit : ℕ) → run.from_unit ≤ unit → unit < from → due_slot (timing_of playback run) (unit - run.from_unit)
+      < stop
   pub unused : stop ≤ due_slot (timing_of playback run) (from - run.from_unit)
 
 -- the bytes that were played
-pub played-by : {sizes : List ℕ} {playback : Playback} {run : Run} {from stop : ℕ} → IsPlayback playback → IsRun sizes run
+pub played-by : {sizes : List ℕ} {playback : Playback} {run : Run} {from stop : ℕ} → IsPlayback playback
+    → IsRun sizes run
     → IsPlayedTo playback run from stop
     → bytes_between sizes run.first_unit from ≡ used_before (rest_sizes sizes run) (timing_of playback run) stop
 played-by {sizes} {playback} {run} {from} {stop} plays is played =
@@ -146,7 +151,8 @@ played-by {sizes} {playback} {run} {from} {stop} plays is played =
     let count = length-between sizes run.from_unit run.end_unit is.within in
     let its = λ (k : ℕ) (lt : k < n).
     let back : (run.from_unit + k) - run.from_unit ≡ k = omega arith in
-    subst (λ u. due_slot (timing_of playback run) u < stop) back (played.used (run.from_unit + k) (omega arith) (omega arith)) in
+    subst (λ u. due_slot (timing_of playback run) u < stop) back
+    (played.used (run.from_unit + k) (omega arith) (omega arith)) in
     let unused : IsUnusedFrom (rest_sizes sizes run) (timing_of playback run) stop n =
     record { some = plays.some_slot_units; fits = omega (arith, count); unused = played.unused } in
     let front = used-front unused its in
@@ -162,7 +168,8 @@ pub left-run : {sizes : List ℕ} {playback : Playback} {run left : Run} {plan :
     → its.stop < total_slots plan
     → left.from_unit < run.end_unit → IsRun sizes left × Fits playback.buffer left
 left-run {sizes} {playback} {run} {left} {plan} {last} {keep} h its inside rest =
-    let stops : StopsWithin plan last keep its.stop = record { halt = h.halt; stop_is = its.stop_is; inside = inside } in
+    let stops : StopsWithin plan last keep its.stop =
+    record { halt = h.halt; stop_is = its.stop_is; inside = inside } in
     let to : IsPlayedTo playback run left.from_unit its.stop =
     record { not_back = its.not_back; within = rest; used = its.used; unused = its.unused } in
     let used_is = played-by h.plays h.is to in

@@ -16,7 +16,8 @@ use Rattle.film_run.proofs.CurveLaws.{total-of-rest}
 use Rattle.film_run.proofs.HaltLaws.{IsHalting, left-run}
 use Rattle.film_run.proofs.PlayLaws.{sending-keeps}
 
-reaches-once : (plan : List Segment) (bytes one other : ℕ) → ReachesAt plan bytes one → ReachesAt plan bytes other → one ≤ other
+reaches-once : (plan : List Segment) (bytes one other : ℕ) → ReachesAt plan bytes one → ReachesAt plan bytes other
+    → one ≤ other
 reaches-once plan bytes one other is its =
     elim (cases_lt other one) [
       | inl less ↦ let h = is.not_before other less in absurd (omega (arith, h, its.reached))
@@ -39,7 +40,8 @@ from-once : {sizes : List ℕ} {playback : Playback} {run left other : Run} {pla
 from-once {left} {other} {plan} {last} {keep} is its =
     let stops = stop-one plan last keep is.stop_is its.stop_is in
     elim (cases_lt other.from_unit left.from_unit) [
-      | inl less ↦ let used = is.used other.from_unit its.not_back less in absurd (omega (arith, used, its.unused, stops))
+      | inl less ↦ let used = is.used other.from_unit its.not_back less in
+          absurd (omega (arith, used, its.unused, stops))
       | inr more ↦ more
     ]
 
@@ -47,7 +49,8 @@ abbrev run-with : ℕ → ℕ → ℕ → ℕ → ℕ → Run
 run-with first end from sent played =
     record { first_unit = first; end_unit = end; from_unit = from; sent = sent; played = played }
 
-run-same : {one other : Run} → one.first_unit ≡ other.first_unit → one.end_unit ≡ other.end_unit → one.from_unit ≡ other.from_unit
+run-same : {one other : Run} → one.first_unit ≡ other.first_unit → one.end_unit ≡ other.end_unit
+    → one.from_unit ≡ other.from_unit
     → one.sent ≡ other.sent → one.played ≡ other.played → one ≡ other
 run-same {one} {other} first end from sent played =
     let a : one ≡ run-with other.first_unit one.end_unit one.from_unit one.sent one.played =
@@ -59,7 +62,8 @@ run-same {one} {other} first end from sent played =
     ap (λ n. run-with other.first_unit other.end_unit other.from_unit other.sent n) played in
     a ∙ b ∙ c ∙ d ∙ e
 
-pub left-one : {sizes : List ℕ} {playback : Playback} {run left other : Run} {plan : List Segment} {last : Option ℕ} {keep : ℕ}
+pub left-one : {sizes : List ℕ} {playback : Playback} {run left other : Run} {plan : List Segment} {last : Option ℕ}
+    {keep : ℕ}
     → IsLeft sizes playback run plan last keep left → IsLeft sizes playback run plan last keep other → other ≡ left
 left-one {sizes} {playback} {run} {plan} {last} {keep} is its =
     let stops = stop-one plan last keep its.stop_is is.stop_is in
@@ -83,7 +87,8 @@ stop-inside {stop} plan (Some last) keep all halt is =
       | inr within ↦ omega (arith, halt.0, is.1.1)
     ]
 
-pub halted-plays : (sizes : List ℕ) (playback : Playback) (run : Run) (plan : List Segment) → IsSending sizes playback run plan
+pub halted-plays : (sizes : List ℕ) (playback : Playback) (run : Run) (plan : List Segment)
+    → IsSending sizes playback run plan
     → LeavesRun sizes playback run plan
 halted-plays sizes playback run plan is = λ last keep left halt its.
     let can = is.can_play in
@@ -123,13 +128,17 @@ halted-plays sizes playback run plan is = λ last keep left halt its.
     let whole = left-run h its inside within in
     record { sizes_are = can.sizes_are; playback_is = can.playback_is; run_is = whole.0; fits = whole.1 }
 
-pub goes-on-after : (sizes : List ℕ) (playback : Playback) (run : Run) (plan : List Segment) → IsSending sizes playback run plan
+pub goes-on-after : (sizes : List ℕ) (playback : Playback) (run : Run) (plan : List Segment)
+    → IsSending sizes playback run plan
     → GoesOn sizes playback run plan
 goes-on-after sizes playback run plan is = λ last keep left rest halt its next_is.
     let next : IsSending sizes playback left rest =
     record { can_play = halted-plays sizes playback run plan is last keep left halt its; plan_is = next_is } in
-    let first = (sending-keeps sizes playback run plan is).bytes ∙ total-of-rest sizes playback run is.can_play.run_is in
-    let second = (sending-keeps sizes playback left rest next).bytes ∙ total-of-rest sizes playback left next.can_play.run_is in
+    let first = (sending-keeps sizes playback run plan is).bytes
+    ∙ total-of-rest sizes playback run is.can_play.run_is in
+    let second = (sending-keeps sizes playback left rest next).bytes
+    ∙ total-of-rest sizes playback left next.can_play.run_is in
     let all : bytes_between sizes left.first_unit left.end_unit ≡ bytes_between sizes run.first_unit run.end_unit =
-    ap (λ f. bytes_between sizes f left.end_unit) its.first_is ∙ ap (λ e. bytes_between sizes run.first_unit e) its.end_is in
+    ap (λ f. bytes_between sizes f left.end_unit) its.first_is
+    ∙ ap (λ e. bytes_between sizes run.first_unit e) its.end_is in
     omega (arith, first, second, all, its.sent_is)

@@ -39,7 +39,14 @@ new-run {sizes} {first} {end} {run} some within begins =
       ahead = omega arith;
       whole = omega arith;
     } in
-    record { first_is = first_is; end_is = end_is; from_is = from_is; sent_is = sent_is; played_is = played_is; run_is = run_is }
+    record {
+      first_is = first_is;
+      end_is = end_is;
+      from_is = from_is;
+      sent_is = sent_is;
+      played_is = played_is;
+      run_is = run_is;
+    }
 
 pub none-at-boundary : (film : Film) (run : Run) → run.sent ≡ 0 → EndsAtBoundary film run
 none-at-boundary film run none = λ identity.
@@ -77,7 +84,8 @@ pub record AsksFor (from : ℕ) (to : Option ℕ) (units : List PictureUnit) (pi
   pub some : first < end
   pub within : end ≤ length units
 
-pub asks_for_run : {film : Film} {from : ℕ} {to : Option ℕ} {run : Run} {units : List PictureUnit} {picture_units first end : ℕ}
+pub asks_for_run : {film : Film} {from : ℕ} {to : Option ℕ} {run : Run} {units : List PictureUnit}
+    {picture_units first end : ℕ}
     → units ≡ film.units.items → picture_units ≡ picture_time film.rate
     → AsksFor from to units picture_units first end → BeginsAt first end run
     → IsAsked film from to run
@@ -87,7 +95,8 @@ asks_for_run {film} {from} {to} {run} {picture_units} {first} {end} units_are ti
     let some : first < end = asks.some in
     let its = times-of asks.rest asks.begins asks.ends asks.within first_is end_is in
     let of_film : Times from to run film.units.items (picture_time film.rate) =
-    subst (λ t. Times from to run film.units.items t) time_is (subst (λ l. Times from to run l picture_units) units_are its) in
+    subst (λ t. Times from to run film.units.items t) time_is
+    (subst (λ l. Times from to run l picture_units) units_are its) in
     let count : length (film_sizes film.slice_starts.items film.units.items) ≡ length film.units.items =
     length-map film.units.items (λ u. wire_size film.slice_starts.items u) in
     record {

@@ -8,7 +8,8 @@ use Rattle.film_run.specs.Seeks.{IsAfter, IsBefore, IsGroupBy, IsGroupFrom, IsPl
 
 -- no unit begins later than this
 pub begins-small : (unit picture_units : ℕ) → unit ≤ 4194304 → picture_units ≤ 360000 → unit * picture_units ≤ 2 ^ 42
-begins-small unit picture_units few fits = let most = mul-le unit picture_units 4194304 360000 few fits in omega (arith, most)
+begins-small unit picture_units few fits =
+    let most = mul-le unit picture_units 4194304 360000 few fits in omega (arith, most)
 
 -- the last group of pictures that begins at a unit or before it, and the first one that begins at one or after it
 pub record IsLastGroup (units : List PictureUnit) (place k : ℕ) : Type 0 where
@@ -34,7 +35,8 @@ group-by {picture_units} {begin} {k} few some fits before found =
           (begins-small k picture_units (omega (arith, starts.within)) fits) (omega arith);
       last = λ other its by_then.
           found.greatest other its (le-div other begin picture_units some
-          (before.all (other * picture_units) (begins-small other picture_units (omega (arith, its.within)) fits) by_then));
+          (before.all (other * picture_units) (begins-small other picture_units (omega (arith, its.within)) fits)
+          by_then));
     }
 
 pub group-from : {units : List PictureUnit} {picture_units time end after place k : ℕ} → length units ≤ 4194304
@@ -52,6 +54,7 @@ group-from {picture_units} {time} {end} {place} {k} few fits later its found = r
   first = λ other past starts from.
       let small = begins-small other picture_units (omega (arith, starts.within)) fits in
       let at : time * 360000 ≤ other * picture_units * 1000000000 =
-      elim (cases_lt (other * picture_units * 1000000000) (time * 360000)) [ inl less ↦ absurd (from less) | inr more ↦ more ] in
+      elim (cases_lt (other * picture_units * 1000000000) (time * 360000))
+      [ inl less ↦ absurd (from less) | inr more ↦ more ] in
       found.least other starts (its.least other past starts.within (later.all (other * picture_units) small at));
 }

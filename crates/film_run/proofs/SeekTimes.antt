@@ -13,7 +13,8 @@ rate code = slice_index_or picture_rates (code - 1) (1, 1)
 
 -- a number of pictures against a time, in units of 1/360,000 second and by the rates
 record Agree (code : ℕ) : Type 0 where
-  past : (k time : ℕ) → k * picture_time code * 1000000000 ≤ time * 360000 → k * (rate code).1 * 1000000000 ≤ time * (rate code).0
+  past : (k time : ℕ) → k * picture_time code * 1000000000 ≤ time * 360000
+      → k * (rate code).1 * 1000000000 ≤ time * (rate code).0
   begun : (k time : ℕ) → k * (rate code).1 * 1000000000 ≤ time * (rate code).0
       → k * picture_time code * 1000000000 ≤ time * 360000
   lasts : (k time : ℕ) → time * 360000 ≤ k * picture_time code * 1000000000
@@ -99,7 +100,8 @@ ended-by film (Some time) first end same is = record {
       (λ early. let h : other * picture_time film.rate * 1000000000 < time * 360000 = early in omega arith);
 }
 
-pub seeks_run : {film : Film} {from : ℕ} {to : Option ℕ} {run : Run} → 1 ≤ film.rate → film.rate ≤ 8 → IsAsked film from to run
+pub seeks_run : {film : Film} {from : ℕ} {to : Option ℕ} {run : Run} → 1 ≤ film.rate → film.rate ≤ 8
+    → IsAsked film from to run
     → IsSought film from to run
 seeks_run {film} {from} {to} {run} least most is =
     let same = agree film.rate least most in

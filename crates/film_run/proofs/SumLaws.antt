@@ -9,7 +9,8 @@ pub bytes-front : (sizes : List ℕ) (from end : ℕ) → from ≤ end
     → sum (take from sizes) + bytes_between sizes from end ≡ sum (take end sizes)
 bytes-front sizes from end order =
     let split = sum_by-take-drop (λ x. x) (take end sizes) from in
-    let front : sum (take from (take end sizes)) ≡ sum (take from sizes) = ap (λ l. sum l) (take-take from end sizes order) in
+    let front : sum (take from (take end sizes)) ≡ sum (take from sizes) =
+    ap (λ l. sum l) (take-take from end sizes order) in
     let last : end ≡ from + (end - from) = omega arith in
     let rest : sum (drop from (take end sizes)) ≡ bytes_between sizes from end =
     ap (λ n. sum (drop from (take n sizes))) last ∙ ap (λ l. sum l) (drop-take from (end - from) sizes) in
@@ -40,7 +41,8 @@ bytes-more sizes from end order within = omega (
 pub bytes-most : (sizes : List ℕ) (from end : ℕ) → from ≤ end → bytes_between sizes from end ≤ sum sizes
 bytes-most sizes from end order = omega (arith, bytes-front sizes from end order, sum_by-take-le (λ x. x) sizes end)
 
-pub length-between : (sizes : List ℕ) (from end : ℕ) → end ≤ length sizes → length (sizes_between sizes from end) ≡ end - from
+pub length-between : (sizes : List ℕ) (from end : ℕ) → end ≤ length sizes
+    → length (sizes_between sizes from end) ≡ end - from
 length-between sizes from end within = omega (arith, length-take (end - from) (drop from sizes), length-drop from sizes)
 
 -- the first of the units between
@@ -48,7 +50,8 @@ pub bytes-first : (sizes : List ℕ) (from end n : ℕ) → n ≤ end - from
     → sum (take n (sizes_between sizes from end)) ≡ bytes_between sizes from (from + n)
 bytes-first sizes from end n inside =
     let same : (from + n) - from ≡ n = omega arith in
-    ap (λ l. sum l) (take-take n (end - from) (drop from sizes) inside) ∙ ap (λ m. sum (take m (drop from sizes))) (sym same)
+    ap (λ l. sum l) (take-take n (end - from) (drop from sizes) inside)
+    ∙ ap (λ m. sum (take m (drop from sizes))) (sym same)
 
 -- one unit more
 pub between-more : (sizes : List ℕ) (from end : ℕ) → from ≤ end → end < length sizes

@@ -16,7 +16,8 @@ is-capped time capped is = record {
   one = elim (cases_lt time (2 ^ 64)) [ inl less ↦ inl (omega arith) | inr more ↦ inr (omega arith) ];
 }
 
-before-by : (time capped place : ℕ) → IsCapped time capped → place ≤ capped * 9 / 25000 → place * 1000000000 ≤ time * 360000
+before-by : (time capped place : ℕ) → IsCapped time capped → place ≤ capped * 9 / 25000
+    → place * 1000000000 ≤ time * 360000
 before-by time capped place is le =
     let floor = div-mul-le_self (capped * 9) 25000 in
     omega (arith, floor, is.most)

@@ -47,7 +47,8 @@ unused-from-stop {stop} picture (Some last) is from its =
   where
     open picture use {playback, run, plan, unit}
 
-pub counts-used : (sizes : List ℕ) (playback : Playback) (run : Run) (plan : List Segment) → IsSending sizes playback run plan
+pub counts-used : (sizes : List ℕ) (playback : Playback) (run : Run) (plan : List Segment)
+    → IsSending sizes playback run plan
     → CountsUsed sizes playback run plan
 counts-used sizes playback run plan is = λ last keep left unit its at.
     let picture : HaltedPicture = record { playback = playback; run = run; plan = plan; keep = keep; unit = unit } in (
@@ -64,11 +65,13 @@ counts-used sizes playback run plan is = λ last keep left unit its at.
     )
 
 -- a picture is used in the slot in which its time begins
-pub used-on-time : (sizes : List ℕ) (playback : Playback) (run : Run) (plan : List Segment) → IsSending sizes playback run plan
+pub used-on-time : (sizes : List ℕ) (playback : Playback) (run : Run) (plan : List Segment)
+    → IsSending sizes playback run plan
     → AreUsedOnTime sizes playback run plan
 used-on-time sizes playback run plan is = λ unit slot at.
     let some = is.can_play.playback_is.some_slot_units in
     let due = due_is (timing_of playback run) (unit - run.from_unit) (slot - playback.delay) some in (
-      (λ e. let both = due.0 (omega (arith, e)) in record { delayed = omega (arith, e); begins = both.0; ends = both.1 }),
+      (λ e. let both = due.0 (omega (arith, e)) in
+          record { delayed = omega (arith, e); begins = both.0; ends = both.1 }),
       (λ its. let same = due.1 (its.begins, its.ends) in omega (arith, same, its.delayed)),
     )

@@ -22,7 +22,8 @@ floor_rises x y n pos h =
     le-div (x / n) y n pos (omega arith)
 
 -- a slot sends the floor of the slope or one byte more
-pub slot_bounds : (b n j : ℕ) → 0 < n → (j * b / n + b / n ≤ (j + 1) * b / n) × ((j + 1) * b / n ≤ j * b / n + b / n + 1)
+pub slot_bounds : (b n j : ℕ) → 0 < n → (j * b / n + b / n ≤ (j + 1) * b / n)
+    × ((j + 1) * b / n ≤ j * b / n + b / n + 1)
 slot_bounds b n j pos =
     let under : j * b / n * n ≤ j * b = div-mul-le_self (j * b) n in
     let over : j * b < j * b / n * n + n = lt-div-mul-add pos in

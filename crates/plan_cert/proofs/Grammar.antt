@@ -18,7 +18,8 @@ pub lines-cut : (front after : List ℕ) → All (λ b. b ≢ 10) front →
 lines-cut [] after none = refl
 lines-cut (x ∷ front) after none =
     let other : (x == 10) ≡ false = ne_eqb x 10 (All-head (λ b. b ≢ 10) x front none) in
-    let rest : lines_of (front ++ 10 ∷ after) ≡ record { whole = front ∷ (lines_of after).whole; rest = (lines_of after).rest } =
+    let rest : lines_of (front ++ 10 ∷ after)
+    ≡ record { whole = front ∷ (lines_of after).whole; rest = (lines_of after).rest } =
     lines-cut front after (All-tail (λ b. b ≢ 10) x front none) in
     cond-false (x == 10)
     (record { whole = [] ∷ (lines_of (front ++ 10 ∷ after)).whole; rest = (lines_of (front ++ 10 ∷ after)).rest })
@@ -63,7 +64,12 @@ something (x ∷ text) some =
 
 -- nothing is read yet
 pub read_none : (text : List ℕ) → HasRead text 0 text
-read_none text = record { within = omega arith; left = refl; after = refl; before = λ j few. absurd (omega (arith, few)) }
+read_none text = record {
+  within = omega arith;
+  left = refl;
+  after = refl;
+  before = λ j few. absurd (omega (arith, few));
+}
 
 -- the next line of the rest is the next one of the text
 pub record IsNext (text : List ℕ) (k : ℕ) (line after : List ℕ) : Type 0 where
@@ -78,12 +84,14 @@ next_is {text} {k} {rest} {line} {after} read cut =
     let lines : lines_of rest ≡ record { whole = line ∷ (lines_of after).whole; rest = (lines_of after).rest } =
     ap lines_of cut.parts ∙ lines-cut line after (none_is 10 line cut.first) in
     let left : drop k (lines_of text).whole ≡ line ∷ (lines_of after).whole = read.left ∙ ap (λ ls. ls.whole) lines in
-    let count : length (drop k (lines_of text).whole) ≡ length (lines_of after).whole + 1 = ap length left ∙ omega arith in
+    let count : length (drop k (lines_of text).whole) ≡ length (lines_of after).whole + 1 =
+    ap length left ∙ omega arith in
     let at : get_or (drop k (lines_of text).whole) 0 [] ≡ get_or (lines_of text).whole (k + 0) [] =
     get_or-drop k (lines_of text).whole 0 [] in
     record {
       inside = omega (arith, count, length-drop k (lines_of text).whole);
-      line_is = ap (λ n. get_or (lines_of text).whole n []) (sym (add-zero k)) ∙ sym at ∙ ap (λ ls. get_or ls 0 []) left;
+      line_is = ap (λ n. get_or (lines_of text).whole n []) (sym (add-zero k)) ∙ sym at
+          ∙ ap (λ ls. get_or ls 0 []) left;
       left = sym (drop-drop 1 k (lines_of text).whole) ∙ ap (drop 1) left;
       rest = read.after ∙ ap (λ ls. ls.rest) lines;
     }
@@ -104,12 +112,14 @@ read_more {text} {k} {line} {after} read cut stands =
 pub breaks_missing : (text : List ℕ) (k : ℕ) (rest : List ℕ) → HasRead text k rest
     → list_all (λ b. not (b == 10)) rest ≡ true → BreaksAt (lines_of text) k
 breaks_missing text k rest read none =
-    let left : drop k (lines_of text).whole ≡ [] = read.left ∙ ap (λ ls. ls.whole) (lines-none rest (none_is 10 rest none)) in
+    let left : drop k (lines_of text).whole ≡ [] =
+    read.left ∙ ap (λ ls. ls.whole) (lines-none rest (none_is 10 rest none)) in
     let count : length (drop k (lines_of text).whole) ≡ 0 = ap length left in
     record { before = read.before; here = inl (omega (arith, count, length-drop k (lines_of text).whole, read.within)) }
 
 -- line k may not be there
-pub breaks_here : {text : List ℕ} {k : ℕ} {rest line after : List ℕ} → HasRead text k rest → IsSplitAtFirst 10 rest line after →
+pub breaks_here : {text : List ℕ} {k : ℕ} {rest line after : List ℕ} → HasRead text k rest
+    → IsSplitAtFirst 10 rest line after →
     (MayStand k line → ⊥) → (MayEnd k line → ⊥) → BreaksAt (lines_of text) k
 breaks_here {text} {k} {line} read cut no_stand no_end =
     let next = next_is read cut in
@@ -189,7 +199,8 @@ head_text {text} {rest} {rest2} rest3 slots bytes given =
     let second : rest ≡ (codes "slots " ++ decimal slots) ++ 10 ∷ ((codes "bytes " ++ decimal bytes) ++ 10 ∷ rest3) =
     cut2 ∙ ap (λ l. l ++ 10 ∷ rest2) slots_is ∙ ap (λ r. (codes "slots " ++ decimal slots) ++ 10 ∷ r) third in
     let first : text
-    ≡ codes "smooth 1" ++ 10 ∷ ((codes "slots " ++ decimal slots) ++ 10 ∷ ((codes "bytes " ++ decimal bytes) ++ 10 ∷ rest3)) =
+    ≡ codes "smooth 1" ++ 10 ∷ ((codes "slots " ++ decimal slots) ++ 10
+    ∷ ((codes "bytes " ++ decimal bytes) ++ 10 ∷ rest3)) =
     cut1 ∙ ap (λ l. l ++ 10 ∷ rest) title_is ∙ ap (λ r. codes "smooth 1" ++ 10 ∷ r) second in
     let joined : codes "smooth 1" ++ 10
     ∷ ((codes "slots " ++ decimal slots) ++ 10 ∷ ((codes "bytes " ++ decimal bytes) ++ 10 ∷ rest3))
@@ -215,7 +226,8 @@ segment_text {text} {line} after segments s so_far cut words =
     ∙ ap (λ x. flat_map segment_line segments ++ x) (append_assoc (segment_words s) (10 ∷ []) after) in
     whole ∙ sym joined
 
-pub whole_text : {text rest : List ℕ} (slots bytes : ℕ) (segments : List Segment) → text ≡ cert_head slots bytes ++ rest →
+pub whole_text : {text rest : List ℕ} (slots bytes : ℕ) (segments : List Segment)
+    → text ≡ cert_head slots bytes ++ rest →
     rest ≡ flat_map segment_line segments ++ codes "end\n"
     → text ≡ cert_head slots bytes ++ flat_map segment_line segments ++ codes "end\n"
 whole_text {text} slots bytes segments head body =

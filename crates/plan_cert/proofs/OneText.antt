@@ -54,10 +54,12 @@ lines-body (s ∷ rest) small =
     ≡ segment_words s ++ 10 ∷ (flat_map segment_line rest ++ codes "end\n") =
     append_assoc (segment_line s) (flat_map segment_line rest) (codes "end\n")
     ∙ append_assoc (segment_words s) (10 ∷ []) (flat_map segment_line rest ++ codes "end\n") in
-    ap lines_of shape ∙ lines-cut (segment_words s) (flat_map segment_line rest ++ codes "end\n") (words_clean s few.0 few.1)
+    ap lines_of shape ∙ lines-cut (segment_words s) (flat_map segment_line rest ++ codes "end\n")
+    (words_clean s few.0 few.1)
     ∙ ap (λ ls. record { whole = segment_words s ∷ ls.whole; rest = ls.rest }) others
 
-pub lines-certificate : (slots bytes : ℕ) (segments : List Segment) → slots ≤ 2 ^ 42 → bytes ≤ 2 ^ 42 → All IsFew segments →
+pub lines-certificate : (slots bytes : ℕ) (segments : List Segment) → slots ≤ 2 ^ 42 → bytes ≤ 2 ^ 42
+    → All IsFew segments →
     lines_of (cert_head slots bytes ++ flat_map segment_line segments ++ codes "end\n") ≡ lines_are slots bytes segments
 lines-certificate slots bytes segments small_slots small_bytes small =
     let body = flat_map segment_line segments ++ codes "end\n" in
@@ -72,7 +74,8 @@ lines-certificate slots bytes segments small_slots small_bytes small =
       bytes_cut = refl;
       bytes_is = refl;
     }) in
-    let whole : cert_head slots bytes ++ flat_map segment_line segments ++ codes "end\n" ≡ codes "smooth 1" ++ 10 ∷ second =
+    let whole : cert_head slots bytes ++ flat_map segment_line segments ++ codes "end\n"
+    ≡ codes "smooth 1" ++ 10 ∷ second =
     append_assoc (cert_head slots bytes) (flat_map segment_line segments) (codes "end\n") ∙ sym shape in
     let clean_slots =
     All-append (λ b. b ≢ 10) (codes "slots ") (decimal slots) (none_is 10 (codes "slots ") refl)
@@ -86,7 +89,8 @@ lines-certificate slots bytes segments small_slots small_bytes small =
     (lines-cut (codes "slots " ++ decimal slots) third clean_slots
     ∙ ap (λ ls. record { whole = (codes "slots " ++ decimal slots) ∷ ls.whole; rest = ls.rest })
     (lines-cut (codes "bytes " ++ decimal bytes) body clean_bytes
-    ∙ ap (λ ls. record { whole = (codes "bytes " ++ decimal bytes) ∷ ls.whole; rest = ls.rest }) (lines-body segments small)))
+    ∙ ap (λ ls. record { whole = (codes "bytes " ++ decimal bytes) ∷ ls.whole; rest = ls.rest })
+    (lines-body segments small)))
 
 -- ---- one text, one list
 abbrev pair : ℕ → ℕ → Segment
@@ -95,7 +99,8 @@ pair n b = record { slots = n; bytes = b }
 same_words : (s t : Segment) → IsFew s → IsFew t → segment_words s ≡ segment_words t → s ≡ t
 same_words s t few few' e =
     let shape : (x : Segment)
-    → segment_words x ≡ codes "segment " ++ (decimal x.slots ++ 32 ∷ decimal x.bytes) = λ (x : Segment). simp append_assoc in
+    → segment_words x ≡ codes "segment " ++ (decimal x.slots ++ 32 ∷ decimal x.bytes) =
+    λ (x : Segment). simp append_assoc in
     let rest : decimal s.slots ++ 32 ∷ decimal s.bytes ≡ decimal t.slots ++ 32 ∷ decimal t.bytes =
     append_cancel_left (codes "segment ") (decimal s.slots ++ 32 ∷ decimal s.bytes)
     (decimal t.slots ++ 32 ∷ decimal t.bytes) (sym (shape s) ∙ e ∙ shape t) in
@@ -103,8 +108,10 @@ same_words s t few few' e =
     λ (n : ℕ) small. not_in_decimal 32 n (omega arith) (λ within. omega (arith, within.0)) in
     let parts = split_once {after = decimal s.bytes} {after' = decimal t.bytes} 32 (decimal s.slots) (decimal t.slots)
     rest (no_space s.slots few.0) (no_space t.slots few'.0) in
-    let slots : s.slots ≡ t.slots = decimal_injective s.slots t.slots (omega (arith, few.0)) (omega (arith, few'.0)) parts.0 in
-    let bytes : s.bytes ≡ t.bytes = decimal_injective s.bytes t.bytes (omega (arith, few.1)) (omega (arith, few'.1)) parts.1 in
+    let slots : s.slots ≡ t.slots =
+    decimal_injective s.slots t.slots (omega (arith, few.0)) (omega (arith, few'.0)) parts.0 in
+    let bytes : s.bytes ≡ t.bytes =
+    decimal_injective s.bytes t.bytes (omega (arith, few.1)) (omega (arith, few'.1)) parts.1 in
     ap (λ n. pair n s.bytes) slots ∙ ap (λ b. pair t.slots b) bytes
 
 same_list : (xs ys : List Segment) → All IsFew xs → All IsFew ys → map segment_words xs ≡ map segment_words ys → xs ≡ ys
@@ -140,8 +147,10 @@ one_text one other e =
     let lines : lines_are slots bytes xs ≡ lines_are slots' bytes' ys =
     sym (lines-certificate slots bytes xs few_slots few_bytes few) ∙ ap lines_of e
     ∙ lines-certificate slots' bytes' ys few_slots' few_bytes' few' in
-    let second : codes "slots " ++ decimal slots ≡ codes "slots " ++ decimal slots' = ap (λ ls. get_or ls.whole 1 []) lines in
-    let third : codes "bytes " ++ decimal bytes ≡ codes "bytes " ++ decimal bytes' = ap (λ ls. get_or ls.whole 2 []) lines in
+    let second : codes "slots " ++ decimal slots ≡ codes "slots " ++ decimal slots' =
+    ap (λ ls. get_or ls.whole 1 []) lines in
+    let third : codes "bytes " ++ decimal bytes ≡ codes "bytes " ++ decimal bytes' =
+    ap (λ ls. get_or ls.whole 2 []) lines in
     let rest : body_of xs ≡ body_of ys = ap (λ ls. drop 3 ls.whole) lines in
     record {
       slots_are = decimal_injective slots slots' (omega (arith, few_slots)) (omega (arith, few_slots'))
@@ -149,12 +158,19 @@ one_text one other e =
       bytes_are = decimal_injective bytes bytes' (omega (arith, few_bytes)) (omega (arith, few_bytes'))
           (append_cancel_left (codes "bytes ") (decimal bytes) (decimal bytes') third);
       segments_are =
-          same_list xs ys few few' (append_cancel_right (map segment_words xs) (map segment_words ys) (codes "end" ∷ []) rest);
+          same_list xs ys few few' (append_cancel_right (map segment_words xs) (map segment_words ys)
+          (codes "end" ∷ []) rest);
     }
   where
     open one use {slots, bytes, segments as xs, few_slots, few_bytes, few}
-    open other use
-        {slots as slots', bytes as bytes', segments as ys, few_slots as few_slots', few_bytes as few_bytes', few as few'}
+    open other use {
+      slots as slots',
+      bytes as bytes',
+      segments as ys,
+      few_slots as few_slots',
+      few_bytes as few_bytes',
+      few as few',
+    }
 
 abbrev contents_of : {text : List ℕ} {slots bytes : ℕ} {segments : List Segment}
     → IsCertificate text slots bytes segments → Contents
@@ -170,7 +186,8 @@ contents_of {segments} certificate = record {
 -- a text is the certificate of one list of segments
 pub one_certificate : {text : List ℕ} {slots bytes slots' bytes' : ℕ} {xs ys : List Segment}
     → IsCertificate text slots bytes xs → IsCertificate text slots' bytes' ys → xs ≡ ys
-one_certificate one other = (one_text (contents_of one) (contents_of other) (sym one.text_is ∙ other.text_is)).segments_are
+one_certificate one other = (one_text (contents_of one) (contents_of other)
+    (sym one.text_is ∙ other.text_is)).segments_are
 
 -- ---- no bad line
 end_is_no_segment : (i : ℕ) (line : List ℕ) → 3 ≤ i → line ≡ codes "end" → MayStand i line → ⊥
@@ -201,7 +218,8 @@ stands {segments} slots bytes small_slots small_bytes small {i = suc (suc (suc j
     get_or_append_left (map segment_words segments) (codes "end" ∷ []) [] j inside'
     ∙ get_or-map segment_words segments j (pair 0 0) [] inside in
     let one : IsFew s = All-get_or IsFew segments j (pair 0 0) inside small.small in
-    SegmentLine s (omega arith) (omega (arith, inside, small.few)) (record { few_slots = one.0; few_bytes = one.1; words = words })
+    SegmentLine s (omega arith) (omega (arith, inside, small.few))
+    (record { few_slots = one.0; few_bytes = one.1; words = words })
 
 ends : (slots bytes : ℕ) (segments : List Segment) (i : ℕ) → i ≡ 3 + length segments
     → line_at (lines_are slots bytes segments) i ≡ codes "end"
@@ -234,7 +252,8 @@ nothing_after : {segments : List Segment} (slots bytes : ℕ) → slots ≤ 2 ^ 
 nothing_after {segments} slots bytes small_slots small_bytes small after =
     elim (cases_lt after.last (3 + length segments)) [
       | inl inside ↦
-          end_is_no_segment after.last (line_at (lines_are slots bytes segments) after.last) after.ends.after_head after.ends.words
+          end_is_no_segment after.last (line_at (lines_are slots bytes segments) after.last) after.ends.after_head
+          after.ends.words
           (stands slots bytes small_slots small_bytes small inside)
       | inr over ↦ elim after.more [
         | inl more ↦ omega (arith, more, over, after.last_is, length-body segments)
@@ -254,7 +273,8 @@ certificate_has_no_bad_line {text} {segments} line cert bad =
     elim bad.2 [
       | inl breaks ↦ no_break s b small_slots small_bytes cert.small (subst (λ ls. BreaksAt ls bad.0) lines breaks)
       | inr other ↦ elim other [
-        | inl after ↦ nothing_after s b small_slots small_bytes cert.small (subst (λ ls. IsAfterEnd ls bad.0) lines after)
+        | inl after ↦ nothing_after s b small_slots small_bytes cert.small
+            (subst (λ ls. IsAfterEnd ls bad.0) lines after)
         | inr wrong ↦ (
             let told : Contents = record {
               slots = wrong.slots;
@@ -264,9 +284,12 @@ certificate_has_no_bad_line {text} {segments} line cert bad =
               few_bytes = wrong.small_bytes;
               few = wrong.small.small;
             } in
-            let same : IsSame told (contents_of cert) = one_text told (contents_of cert) (sym wrong.text_is ∙ cert.text_is) in
-            let slots_are : total_slots wrong.segments ≡ wrong.slots = ap total_slots same.segments_are ∙ sym same.slots_are in
-            let bytes_are : total_bytes wrong.segments ≡ wrong.bytes = ap total_bytes same.segments_are ∙ sym same.bytes_are in
+            let same : IsSame told (contents_of cert) =
+            one_text told (contents_of cert) (sym wrong.text_is ∙ cert.text_is) in
+            let slots_are : total_slots wrong.segments ≡ wrong.slots = ap total_slots same.segments_are
+            ∙ sym same.slots_are in
+            let bytes_are : total_bytes wrong.segments ≡ wrong.bytes = ap total_bytes same.segments_are
+            ∙ sym same.bytes_are in
             elim wrong.wrong [ inl slots ↦ slots.1 slots_are | inr bytes ↦ bytes.2 bytes_are ]
             )
       ]
@@ -275,7 +298,8 @@ certificate_has_no_bad_line {text} {segments} line cert bad =
 -- so a certificate is read, and as its own segments
 pub exact_reading : {text : List ℕ} (read : Result CertText CertRefused) →
     IfOk read (λ cert. IsCertificate text cert.slots cert.bytes cert.segments.items) →
-    IfErr read (IsRefused text) → {slots bytes : ℕ} {segments : List Segment} → IsCertificate text slots bytes segments →
+    IfErr read (IsRefused text) → {slots bytes : ℕ} {segments : List Segment}
+    → IsCertificate text slots bytes segments →
     MatchResult read (λ cert. cert.segments.items ≡ segments) (λ refusal. refusal ≡ NoMemory)
 exact_reading (Ok cert) good bad certificate = one_certificate good certificate
 exact_reading (Err (BadCert line)) good bad certificate = absurd (certificate_has_no_bad_line line certificate bad)

@@ -37,7 +37,8 @@ slot_in (x ∷ rest) (suc i) j at few =
     let place : total_slots (x ∷ take i rest) + j ≡ length (slots_of x) + (total_slots (take i rest) + j) =
     omega (arith, slots, length-slots_of x) in
     let next : slice_index (slots_of x ++ plan_slots rest)
-    (length (slots_of x) + (total_slots (take i rest) + j)) ≡ slice_index (plan_slots rest) (total_slots (take i rest) + j) =
+    (length (slots_of x) + (total_slots (take i rest) + j))
+    ≡ slice_index (plan_slots rest) (total_slots (take i rest) + j) =
     get_or-append-add (slots_of x) (plan_slots rest) (total_slots (take i rest) + j) 0 in
     ap (slice_index (plan_slots (x ∷ rest))) place ∙ next
     ∙ slot_in rest i j (record { inside = omega (arith, at.inside); segment_is = at.segment_is }) few

@@ -13,11 +13,13 @@ use Rattle.plan_cert.specs.Plan.{IsPlan, IsPlace}
 use Rattle.plan_cert.proofs.Floors.{floor_rises}
 
 -- the first k slots of a segment send the floor of the line at their end
-pub sum-first_slots : (s : Segment) (k : ℕ) → 0 < s.slots → sum (map (slot_of s) (range_with_len 0 k)) ≡ k * s.bytes / s.slots
+pub sum-first_slots : (s : Segment) (k : ℕ) → 0 < s.slots → sum (map (slot_of s) (range_with_len 0 k))
+    ≡ k * s.bytes / s.slots
 sum-first_slots s zero pos = sym (ap (λ x. x / s.slots) (zero-mul s.bytes) ∙ zero-div s.slots)
 sum-first_slots s (suc k) pos =
     let more : map (slot_of s) (range_with_len 0 (k + 1))
-    ≡ map (slot_of s) (range_with_len 0 k) ++ slot_of s k ∷ [] = map-range_with_len_more (slot_of s) 0 k k (omega arith) in
+    ≡ map (slot_of s) (range_with_len 0 k) ++ slot_of s k ∷ [] =
+    map-range_with_len_more (slot_of s) 0 k k (omega arith) in
     let more' : map (slot_of s) (range_with_len 0 (suc k))
     ≡ map (slot_of s) (range_with_len 0 k) ++ slot_of s k ∷ [] =
     subst (λ n. map (slot_of s) (range_with_len 0 n)
@@ -35,7 +37,8 @@ sum-first_slots s (suc k) pos =
 pub length-slots_of : (s : Segment) → length (slots_of s) ≡ s.slots
 length-slots_of s = length-map-range_with_len (slot_of s) 0 s.slots
 
-pub sum-take-slots_of : (s : Segment) (k : ℕ) → 0 < s.slots → k ≤ s.slots → sum (take k (slots_of s)) ≡ k * s.bytes / s.slots
+pub sum-take-slots_of : (s : Segment) (k : ℕ) → 0 < s.slots → k ≤ s.slots
+    → sum (take k (slots_of s)) ≡ k * s.bytes / s.slots
 sum-take-slots_of s k pos few = ap sum (take-map-range_with_len (slot_of s) 0 s.slots k few) ∙ sum-first_slots s k pos
 
 -- all slots of a segment send its bytes
@@ -89,7 +92,8 @@ pub record IsSegmentAt (s : Segment) (segments : List Segment) (i : ℕ) : Type 
 -- through j slots of segment i
 pub sum-take-at : {s : Segment} (segments : List Segment) (i j : ℕ) → All (λ x. 1 ≤ x.slots) segments
     → IsSegmentAt s segments i → j ≤ s.slots
-    → sum (take (total_slots (take i segments) + j) (plan_slots segments)) ≡ total_bytes (take i segments) + j * s.bytes / s.slots
+    → sum (take (total_slots (take i segments) + j) (plan_slots segments))
+    ≡ total_bytes (take i segments) + j * s.bytes / s.slots
 sum-take-at {s} [] i j some given few = absurd (omega (arith, given.inside))
 sum-take-at {s} (x ∷ rest) zero j some given few =
     let pos : 0 < x.slots = All-head (λ y. 1 ≤ y.slots) x rest some in
@@ -105,7 +109,8 @@ sum-take-at {s} (x ∷ rest) (suc i) j some given few =
     let bytes : total_bytes (x ∷ take i rest) ≡ x.bytes + total_bytes (take i rest) =
     sum_by-cons (λ y. y.bytes) x (take i rest) in
     let place : total_slots (x ∷ take i rest) + j ≡ x.slots + (total_slots (take i rest) + j) = omega (arith, slots) in
-    let after : sum (take (total_slots (take i rest) + j) (plan_slots rest)) ≡ total_bytes (take i rest) + j * s.bytes / s.slots =
+    let after : sum (take (total_slots (take i rest) + j) (plan_slots rest))
+    ≡ total_bytes (take i rest) + j * s.bytes / s.slots =
     sum-take-at rest i j (All-tail (λ y. 1 ≤ y.slots) x rest some) (record {
       inside = omega (arith, given.inside);
       segment_is = given.segment_is;
@@ -145,10 +150,11 @@ slot-at {segments} {slot} {s} {passed} plan place =
       inside = place.inside;
       segment_is = place.segment_is;
     }) (omega (arith, place.within)) in
-    let up_to : sum (take slot (plan_slots segments)) ≡ total_bytes (take place.index segments) + passed * s.bytes / s.slots =
+    let up_to : sum (take slot (plan_slots segments))
+    ≡ total_bytes (take place.index segments) + passed * s.bytes / s.slots =
     ap (λ n. sum (take n (plan_slots segments))) place.slot_is ∙ h in
-    let within : total_slots (take place.index segments) + (slice_index_or segments place.index s).slots ≤ total_slots segments =
-    sum_by_more_le (λ x. x.slots) segments place.index s place.inside in
+    let within : total_slots (take place.index segments) + (slice_index_or segments place.index s).slots
+    ≤ total_slots segments = sum_by_more_le (λ x. x.slots) segments place.index s place.inside in
     let same : s.slots ≡ (slice_index_or segments place.index s).slots = ap (λ x. x.slots) place.segment_is in
     let inside : slot < length (plan_slots segments) =
     omega (arith, length-plan_slots segments, within, same, place.within, place.slot_is) in
@@ -158,5 +164,7 @@ slot-at {segments} {slot} {s} {passed} plan place =
     omega (arith, through, up_to, more, place.before_is)
 
 -- a slot past the end
-pub slot-past : (segments : List Segment) (slot : ℕ) → total_slots segments ≤ slot → 0 ≡ slice_index (plan_slots segments) slot
-slot-past segments slot past = sym (get_or_past (plan_slots segments) slot 0 (omega (arith, length-plan_slots segments, past)))
+pub slot-past : (segments : List Segment) (slot : ℕ) → total_slots segments ≤ slot
+    → 0 ≡ slice_index (plan_slots segments) slot
+slot-past segments slot past =
+    sym (get_or_past (plan_slots segments) slot 0 (omega (arith, length-plan_slots segments, past)))

@@ -24,7 +24,8 @@ body_lines (s ∷ rest) =
     ∙ ap (λ l. segment_line s ++ l) (body_lines rest)
 
 pub text_lines : (segments : List Segment) → cert_text segments ≡ flat_map with_line_end
-    (codes "smooth 1" ∷ (codes "slots " ++ decimal (total_slots segments)) ∷ (codes "bytes " ++ decimal (total_bytes segments))
+    (codes "smooth 1" ∷ (codes "slots " ++ decimal (total_slots segments))
+    ∷ (codes "bytes " ++ decimal (total_bytes segments))
     ∷ map segment_words segments ++ codes "end" ∷ [])
 text_lines segments =
     let slots = codes "slots " ++ decimal (total_slots segments) in
@@ -33,7 +34,8 @@ text_lines segments =
     let third = with_line_end bytes ++ body in
     let second = with_line_end slots ++ third in
     let whole : cert_text segments ≡ cert_head (total_slots segments) (total_bytes segments) ++ body =
-    append_assoc (cert_head (total_slots segments) (total_bytes segments)) (flat_map segment_line segments) (codes "end\n")
+    append_assoc (cert_head (total_slots segments) (total_bytes segments)) (flat_map segment_line segments)
+    (codes "end\n")
     ∙ ap (λ l. cert_head (total_slots segments) (total_bytes segments) ++ l) (body_lines segments) in
     whole ∙ sym (head_text body (total_slots segments) (total_bytes segments) (record {
       title_cut = refl;

@@ -21,7 +21,8 @@ band_of_sound from low up sound =
             (let le = sound.low_below_up (j - 1) (omega (arith, past, fits)) in
             omega (arith, le, bound_end from low j past, bound_end from up j past))
         | inr none ↦
-            (let e : j ≡ 0 = omega (arith, none) in subst (λ k. bound_at from low k ≤ bound_at from up k) (sym e) (le_refl from))
+            (let e : j ≡ 0 = omega (arith, none) in
+            subst (λ k. bound_at from low k ≤ bound_at from up k) (sym e) (le_refl from))
       ];
       high_rises = λ i j le fits.
           let e : i + (j - i) ≡ j = omega (arith, le) in

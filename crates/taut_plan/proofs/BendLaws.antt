@@ -73,7 +73,8 @@ corner_of {side} {curve} {other} {t} {s} {o} {b} state ordered crossed =
       ];
       on = on;
       own_within =
-          λ i after before. subst (λ h. IsWithin side o (on_curve curve i) (record { place = b.place; height = h })) (sym on)
+          λ i after before.
+          subst (λ h. IsWithin side o (on_curve curve i) (record { place = b.place; height = h })) (sym on)
           (state.apart.apart i b.place after before later near);
       others_beyond = λ j after upto. other_within side o (on_curve other j) b (edge.before j after upto);
       others_after = λ j past upto. other_inside side o (on_curve other j) b (edge.beyond j past upto);
@@ -93,10 +94,12 @@ own_moves {side} {curve} {other} {t} {s} {o} {b} (p ∷ rest) chain corner =
     let gone = corner.before_new in
     elim (cases_lt p.place t) [
       | inl lt ↦ (let within_p : IsWithin side o p b =
-          subst (λ h. IsWithin side o (record { place = p.place; height = h }) b) (sym on) (corner.own_within p.place later lt) in
+          subst (λ h. IsWithin side o (record { place = p.place; height = h }) b) (sym on)
+          (corner.own_within p.place later lt) in
           let seen : Seen = record { from = o; first = on_curve curve t; second = p; third = b } in
           let new = inside_within side seen corner.later (edge.beyond t lt (omega arith)) within_p in
-          absurd (inside_not_within side o b (on_curve curve t) corner.crossed (inside_weaker side o (on_curve curve t) b new)))
+          absurd (inside_not_within side o b (on_curve curve t) corner.crossed
+          (inside_weaker side o (on_curve curve t) b new)))
       | inr ge ↦ (let at : p.place ≡ t = omega (arith, ge, near) in
           let is : p ≡ on_curve curve t = is_on_curve curve p on ∙ ap (on_curve curve) at in
           let out : IsWithin side o b p =
@@ -169,7 +172,8 @@ uncrossed_within {side} {curve} {other} {t} {o} {others = b ∷ rest} state un j
     within_within side seen later un
     (elim (cases_lt b.place j) [
       | inl beyond ↦
-          inside_weaker side o b (on_curve other j) (other_inside side o (on_curve other j) b (edge.beyond j beyond upto))
+          inside_weaker side o b (on_curve other j)
+          (other_inside side o (on_curve other j) b (edge.beyond j beyond upto))
       | inr before ↦ other_within side o (on_curve other j) b (edge.before j after before)
     ])
 

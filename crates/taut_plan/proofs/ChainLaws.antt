@@ -1,4 +1,4 @@
--- How a chain takes in the next place: points leave at its end until it turns the right way, and then the new one joins.
+-- How a chain takes in the next place: points leave at its end until it turns the right way; then the new one joins.
 use Rattle.std.proofs.Common.{◌≡◌, ℕ, ◌+◌, ◌<◌, ◌≤◌, List, [], ◌∷◌, ◌++◌, arith, sym, refl, subst, inl, inr}
 use Rattle.std.proofs.lemmas.Bool.{cases_lt}
 use Rattle.taut_plan.specs.declared.points.Point.{Point}
@@ -15,7 +15,8 @@ IsOpen side curve s o (p ∷ rest) = IsFurthest side curve s o p × IsOpen side 
 
 pub chain_opens : (side : Side) (curve : ℕ → ℕ) (s : ℕ) (o : Point) (chain : List Point)
     → IsChain side curve s o chain → IsOpen side curve s o chain
-chain_opens side curve s o [] at_end = (omega (arith, at_end), λ j later near. absurd (omega (arith, at_end, later, near)))
+chain_opens side curve s o [] at_end =
+    (omega (arith, at_end), λ j later near. absurd (omega (arith, at_end, later, near)))
 chain_opens side curve s o (p ∷ rest) chain = (chain.0, chain_opens side curve s p rest chain.1)
 
 -- a side's curve, and the place up to which it is read
@@ -38,7 +39,8 @@ open_pops read o [] q open_ out =
           let seen : Seen = record { from = o; first = on_curve curve j; second = q; third = on_curve curve (s + 1) } in
           elim (cases_lt q.place j) [
             | inl beyond ↦
-                within_within side seen later (inside_weaker side o (on_curve curve j) q (edge.beyond j beyond upto)) out
+                within_within side seen later (inside_weaker side o (on_curve curve j) q (edge.beyond j beyond upto))
+                out
             | inr before ↦ within_within side seen later (edge.before j after before) out
           ],
     )
@@ -105,7 +107,8 @@ longer {side} {curve} {s} {o} {p} edge turns = record {
   on = edge.on;
   before = edge.before;
   beyond = λ j past upto. elim (cases_lt s j) [
-    | inl new ↦ let e : s + 1 ≡ j = omega (arith, new, upto) in subst (λ i. IsInside side o (on_curve curve i) p) e turns
+    | inl new ↦ let e : s + 1 ≡ j =
+        omega (arith, new, upto) in subst (λ i. IsInside side o (on_curve curve i) p) e turns
     | inr old ↦ edge.beyond j past old
   ];
 }

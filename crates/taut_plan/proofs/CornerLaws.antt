@@ -206,7 +206,8 @@ above_start {z} v t n h lt le =
     let all : t * v < t * h = omega (arith, lt, up) in
     lt_of_mul-lt-mul_left t all
 
--- the new point's place t, after o and of the curves' places up to n: the other chain is read up to s, which is t or t - 1
+-- the new point's place t, after o and of the curves' places up to n: the other chain is read up to s, which is t or
+-- t - 1
 pub record IsNewPlace (n t s : ℕ) (o : Point) : Type 0 where
   pub fits : t ≤ n
   pub newest : t ≤ s + 1
@@ -225,7 +226,8 @@ corner_rises {side = Lower} {lo} {from} {s} {o} {b} band new below corner =
     omega (arith, below, up, on)
 corner_rises {side = Upper} {lo} {hi} {from} {t} {s} {o} {b} band new below corner =
     let up = band.high_rises o.place t (omega (arith, new.beyond)) new.fits in
-    let lt = above_start o.height (t - o.place) (b.place - o.place) b.height corner.crossed (omega (arith, below, up)) in
+    let lt = above_start o.height (t - o.place) (b.place - o.place) b.height corner.crossed
+    (omega (arith, below, up)) in
     omega (arith, lt)
 
 -- the path goes on to a corner
@@ -242,8 +244,10 @@ path_bends {side} {lo} {hi} {from} {n} {t} {s} {o} {b} {segments} band new path 
     let slots = path.slots in
     let bytes = path.bytes in
     record {
-      slots = let e = sum_by_push (λ (x : Segment). x.slots) segments (segment_to o b) in omega (arith, e, slots, place);
-      bytes = let e = sum_by_push (λ (x : Segment). x.bytes) segments (segment_to o b) in omega (arith, e, bytes, height);
+      slots = let e = sum_by_push (λ (x : Segment). x.slots) segments (segment_to o b) in
+          omega (arith, e, slots, place);
+      bytes = let e = sum_by_push (λ (x : Segment). x.bytes) segments (segment_to o b) in
+          omega (arith, e, bytes, height);
       above = stands_above side lo hi band new corner;
       below = stands_below side lo hi band new corner;
       goes_on = subst (λ p. GoesOn lo hi from p b.height (segments ++ segment_to o b ∷ [])) place
@@ -267,7 +271,8 @@ path_bends {side} {lo} {hi} {from} {n} {t} {s} {o} {b} {segments} band new path 
 
     goes : (side : Side) (lo hi : ℕ → ℕ) → IsPath lo hi from o segments → lo t ≤ hi t → o.height ≤ b.height
         → IsCorner side (curve_on lo hi side) (curve_on lo hi (other_side side)) t s o b
-        → GoesOn lo hi from (o.place + (b.place - o.place)) (o.height + (b.height - o.height)) (segments ++ segment_to o b ∷ [])
+        → GoesOn lo hi from (o.place + (b.place - o.place)) (o.height + (b.height - o.height))
+        (segments ++ segment_to o b ∷ [])
     goes Lower lo hi path ordered up corner =
         goes_on_rise path.goes_on (rise_of_corner corner new.newest path.above path.below up ordered)
     goes Upper lo hi path ordered up corner =

@@ -26,7 +26,8 @@ pub edge_of_more : {o : Point} {chain : List Point} {first second : Point} (b : 
 edge_of_more {o} {chain} {first} {second} b many is_first is_second = record {
   front = take (b + 1) chain;
   is = sym (take_all (b + 1 + 1) chain (omega (arith, many)))
-      ∙ (take_more chain (b + 1) second (omega (arith, many)) ∙ ap (λ (p : Point). take (b + 1) chain ++ p ∷ []) (sym is_second));
+      ∙ (take_more chain (b + 1) second (omega (arith, many))
+      ∙ ap (λ (p : Point). take (b + 1) chain ++ p ∷ []) (sym is_second));
   begins = is_first
       ∙ (sym (last_point-push o (take b chain) (get_or chain b first))
       ∙ ap (last_point o) (sym (take_more chain b first (omega (arith, many)))));

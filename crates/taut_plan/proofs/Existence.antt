@@ -95,11 +95,13 @@ crosses {side} {lo} {hi} {from} {n} {t} {s} {o} {segments} {own} {others = corne
     let point = on_curve (curve_on lo hi side) t in
     elim (further side o corner point) [
       | inl out ↦ (
-          let crossed : IsCrossed side o (corner ∷ rest) point corner = record { rest = rest; is = refl; crossed = out } in
+          let crossed : IsCrossed side o (corner ∷ rest) point corner =
+          record { rest = rest; is = refl; crossed = out } in
           let bent = bends_at {left = rest} band path state
           (record { point = point; point_is = refl; fits = fits; crossed = crossed; left_is = refl }) in
           crosses {side = side} {lo = lo} {hi = hi} {from = from} {n = n} {t = t} {s = s} {o = corner}
-          {segments = segments ++ segment_to o corner ∷ []} {own = own} {others = rest} band fits bent.path bent.crossing
+          {segments = segments ++ segment_to o corner ∷ []} {own = own} {others = rest} band fits bent.path
+          bent.crossing
           )
       | inr within ↦ record {
         apex = o;
@@ -189,5 +191,10 @@ one_taut from low up sound =
     let band = band_of_sound from low up sound in
     let r = reaches band (omega arith) in
     let end = ends_at band refl r.path r.funnel (r.after sound.some_slot) refl in
-    let segments = r.segments ++ segment_to r.apex (on_curve hi n) ∷ [] in
-    (segments, (taut_of_whole from low up segments sound end.whole, (best_of_whole from low up segments sound end.whole).only))
+    let segments = r.segments ++ segment_to r.apex (on_curve hi n) ∷ [] in (
+      segments,
+      (
+        taut_of_whole from low up segments sound end.whole,
+        (best_of_whole from low up segments sound end.whole).only,
+      ),
+    )

@@ -22,7 +22,9 @@ known_most Upper slot = omega arith
 pub chain_beyond : (side : Side) (curve : ℕ → ℕ) (t : ℕ) (o : Point) (chain : List Point)
     → IsChain side curve t o chain → o.place ≤ t
 chain_beyond side curve t o [] at_end = omega (arith, at_end)
-chain_beyond side curve t o (p ∷ rest) chain = let later = chain.0.later in let near = chain.0.near in omega (arith, later, near)
+chain_beyond side curve t o (p ∷ rest) chain =
+    let later = chain.0.later in
+    let near = chain.0.near in omega (arith, later, near)
 
 pub crossing_starts : {side : Side} {curve other : ℕ → ℕ} {slot : ℕ} {o : Point} {own joined others : List Point}
     → IsFunnel side curve other slot (others_known side slot) o own others → IsChain side curve (slot + 1) o joined
@@ -67,7 +69,8 @@ bends_at {side} {lo} {hi} {from} {n} {t} {s} {o} {corner} {own} {left} band path
     let crossed = way.crossed in
     let new : IsNewPlace n t s o =
     record { fits = way.fits; newest = state.newest; not_past = state.not_past; beyond = state.beyond } in
-    let state' : IsCrossing side (curve_on lo hi side) (curve_on lo hi (other_side side)) t s o own (corner ∷ crossed.rest) =
+    let state' : IsCrossing side (curve_on lo hi side) (curve_on lo hi (other_side side)) t s o own
+    (corner ∷ crossed.rest) =
     subst (IsCrossing side (curve_on lo hi side) (curve_on lo hi (other_side side)) t s o own) crossed.is state in
     let out : IsInside side o corner (on_curve (curve_on lo hi side) t) =
     subst (λ p. IsInside side o corner p) way.point_is crossed.crossed in

@@ -49,13 +49,15 @@ flatter_by bend i y below above =
 offsets : (curve : ℕ → ℕ) (k n i : ℕ) → curve (k + n + i) ≡ curve (k + (n + i))
 offsets curve k n i = ap curve (omega arith)
 
--- the meeting of the next segment's ray with the curve, at or before the place up to which the curve is beyond this one's
+-- the meeting of the next segment's ray with the curve, at or before the place up to which the curve is beyond the ray
+-- of this one
 record IsMetBy (bend : Bend) (far : ℕ) : Type 0 where
   pub at : ℕ
   pub later : 1 ≤ at
   pub within : bend.first.slots + at ≤ far
 
-steeper_at : {lo hi : ℕ → ℕ} (bend : Bend) (rise : IsRise lo hi bend.place bend.height bend.first) (met : IsMetBy bend rise.far)
+steeper_at : {lo hi : ℕ → ℕ} (bend : Bend) (rise : IsRise lo hi bend.place bend.height bend.first)
+    (met : IsMetBy bend rise.far)
     → hi (bend.place + bend.first.slots + met.at) * bend.next.slots
     ≤ (bend.height + bend.first.bytes) * bend.next.slots + met.at * bend.next.bytes
     → bend.first.bytes * bend.next.slots < bend.next.bytes * bend.first.slots
@@ -66,7 +68,8 @@ steeper_at {hi} bend rise met touches =
   where
     open bend use {place as k, height as v, first as s, next}
 
-flatter_at : {lo hi : ℕ → ℕ} (bend : Bend) (fall : IsFall lo hi bend.place bend.height bend.first) (met : IsMetBy bend fall.far)
+flatter_at : {lo hi : ℕ → ℕ} (bend : Bend) (fall : IsFall lo hi bend.place bend.height bend.first)
+    (met : IsMetBy bend fall.far)
     → (bend.height + bend.first.bytes) * bend.next.slots + met.at * bend.next.bytes
     ≤ lo (bend.place + bend.first.slots + met.at) * bend.next.slots
     → bend.next.bytes * bend.first.slots < bend.first.bytes * bend.next.slots
@@ -133,8 +136,11 @@ rise_slope {s} rest rise =
         far = rise.far;
         later = omega (arith, later);
         touches = let h = rise.leaves in omega (arith, h);
-        free = λ i near. elim (cases_lt s.slots i)
-            [ inl beyond ↦ (let h = rise.free i beyond near in omega (arith, h)) | inr before ↦ rise.stays.below i before ];
+        free = λ i near. elim (cases_lt s.slots i) [
+          | inl beyond ↦ (let h = rise.free i beyond near in omega (arith, h))
+          | inr before ↦ rise.stays.below i
+              before
+        ];
       },
       end_meets_high rise.stays rise.on,
     )
@@ -149,8 +155,11 @@ fall_slope {s} rest fall =
         far = fall.far;
         later = omega (arith, later);
         touches = let h = fall.leaves in omega (arith, h);
-        free = λ i near. elim (cases_lt s.slots i)
-            [ inl beyond ↦ (let h = fall.free i beyond near in omega (arith, h)) | inr before ↦ fall.stays.above i before ];
+        free = λ i near. elim (cases_lt s.slots i) [
+          | inl beyond ↦ (let h = fall.free i beyond near in omega (arith, h))
+          | inr before ↦ fall.stays.above i
+              before
+        ];
       },
     )
 

@@ -12,7 +12,8 @@ abbrev weight : Point → Point → Point → ℕ
 weight first middle last = (last.place - first.place) * middle.height
 
 split : (first middle last : Point) → first.place ≤ middle.place → middle.place ≤ last.place
-    → (last.place - first.place) * first.height ≡ ((last.place - middle.place) + (middle.place - first.place)) * first.height
+    → (last.place - first.place) * first.height
+    ≡ ((last.place - middle.place) + (middle.place - first.place)) * first.height
 split first middle last begins ends = ap (λ d. d * first.height) (omega arith)
 
 below : (first middle last : Point) → first.place ≤ middle.place → middle.place ≤ last.place

@@ -29,8 +29,12 @@ le_le seen pos a b =
     let all : p * (r * y + i * v) ≤ p * (r * v + i * z) = omega (arith, one, two) in
     le_of_mul-le-mul_left all pos
   where
-    open seen use
-        {height as v, first.{place as i, height as y}, second.{place as p, height as h}, third.{place as r, height as z}}
+    open seen use {
+      height as v,
+      first.{place as i, height as y},
+      second.{place as p, height as h},
+      third.{place as r, height as z},
+    }
 
 le_lt : (seen : Ahead) → 0 < seen.first.place → IsFlatAs seen.height seen.first seen.second
     → IsFlatter seen.height seen.second seen.third → IsFlatter seen.height seen.first seen.third
@@ -40,8 +44,12 @@ le_lt seen pos a b =
     let all : p * (r * y + i * v) < p * (r * v + i * z) = omega (arith, one, two) in
     lt_of_mul-lt-mul_left p all
   where
-    open seen use
-        {height as v, first.{place as i, height as y}, second.{place as p, height as h}, third.{place as r, height as z}}
+    open seen use {
+      height as v,
+      first.{place as i, height as y},
+      second.{place as p, height as h},
+      third.{place as r, height as z},
+    }
 
 lt_le : (seen : Ahead) → 0 < seen.third.place → IsFlatter seen.height seen.first seen.second
     → IsFlatAs seen.height seen.second seen.third → IsFlatter seen.height seen.first seen.third
@@ -51,8 +59,12 @@ lt_le seen pos a b =
     let all : p * (r * y + i * v) < p * (r * v + i * z) = omega (arith, one, two) in
     lt_of_mul-lt-mul_left p all
   where
-    open seen use
-        {height as v, first.{place as i, height as y}, second.{place as p, height as h}, third.{place as r, height as z}}
+    open seen use {
+      height as v,
+      first.{place as i, height as y},
+      second.{place as p, height as h},
+      third.{place as r, height as z},
+    }
 
 -- a point ahead of a height by its offset, and two more by their offsets from that point
 record Turn : Type 0 where
@@ -65,8 +77,8 @@ record Turn : Type 0 where
 abbrev beyond : Point → Point → Point
 beyond corner p = record { place = corner.place + p.place; height = p.height }
 
--- Where the one point stands below the ray to the corner, and the other one below the ray from the corner to it, the other
--- one stands below the ray to the corner.
+-- Where the one point stands below the ray to the corner, and the other one below the ray from the corner to it, the
+-- other one stands below the ray to the corner.
 falls_on : (turn : Turn) → 0 < turn.corner.place → 0 < turn.other.place
     → IsFlatter turn.height (beyond turn.corner turn.one) turn.corner → IsFlatter turn.corner.height turn.other turn.one
     → IsFlatter turn.height (beyond turn.corner turn.other) turn.corner
@@ -76,7 +88,12 @@ falls_on turn pos some a b =
     let all : x * (p * z + (p + t) * v) < x * (p * v + (p + t) * h) = omega (arith, one, two) in
     lt_of_mul-lt-mul_left x all
   where
-    open turn use {height as v, corner.{place as p, height as h}, one.{place as x, height as y}, other.{place as t, height as z}}
+    open turn use {
+      height as v,
+      corner.{place as p, height as h},
+      one.{place as x, height as y},
+      other.{place as t, height as z},
+    }
 
 rises_on : (turn : Turn) → 0 < turn.corner.place → 0 < turn.other.place
     → IsFlatter turn.height turn.corner (beyond turn.corner turn.one) → IsFlatter turn.corner.height turn.one turn.other
@@ -87,7 +104,12 @@ rises_on turn pos some a b =
     let all : x * ((p + t) * h + p * v) < x * ((p + t) * v + p * z) = omega (arith, one, two) in
     lt_of_mul-lt-mul_left x all
   where
-    open turn use {height as v, corner.{place as p, height as h}, one.{place as x, height as y}, other.{place as t, height as z}}
+    open turn use {
+      height as v,
+      corner.{place as p, height as h},
+      one.{place as x, height as y},
+      other.{place as t, height as z},
+    }
 
 -- Seen from the corner, one that stood at or below the ray to it is flatter than one that stood at or above.
 turns_at : (turn : Turn) → 0 < turn.corner.place → IsFlatAs turn.height (beyond turn.corner turn.one) turn.corner
@@ -98,7 +120,12 @@ turns_at turn pos a b =
     let all : p * (t * y + j * h) ≤ p * (t * h + j * z) = omega (arith, one, two) in
     le_of_mul-le-mul_left all pos
   where
-    open turn use {height as v, corner.{place as p, height as h}, one.{place as j, height as y}, other.{place as t, height as z}}
+    open turn use {
+      height as v,
+      corner.{place as p, height as h},
+      one.{place as j, height as y},
+      other.{place as t, height as z},
+    }
 
 -- The same laws over points
 abbrev offset : Point → Point → Point
@@ -181,7 +208,8 @@ one_offset : (seen : SeenCorner)
 one_offset seen = omega (arith, seen.ahead, seen.one_beyond)
 
 other_offset : (seen : SeenCorner)
-    → seen.other.place - seen.from.place ≡ (seen.corner.place - seen.from.place) + (seen.other.place - seen.corner.place)
+    → seen.other.place - seen.from.place
+    ≡ (seen.corner.place - seen.from.place) + (seen.other.place - seen.corner.place)
 other_offset seen = omega (arith, seen.ahead, seen.other_beyond)
 
 -- a chain that turns at the corner and again at the one point keeps what is beyond inside
@@ -201,4 +229,5 @@ pub turns_apart : (side : Side) (seen : SeenCorner) → IsWithin side seen.from 
 turns_apart Lower seen h k =
     turns_at (turn_of seen) (omega (arith, seen.ahead)) (rw (one_offset seen) at h) (rw (other_offset seen) at k)
 turns_apart Upper seen h k =
-    turns_at (turn_of (corner_mirror seen)) (omega (arith, seen.ahead)) (rw (other_offset seen) at k) (rw (one_offset seen) at h)
+    turns_at (turn_of (corner_mirror seen)) (omega (arith, seen.ahead)) (rw (other_offset seen) at k)
+    (rw (one_offset seen) at h)

@@ -19,7 +19,8 @@ first_is_one : {sizes : List ℕ} {timing : Timing} {s u l s' u' l' : ℕ} → I
     → IsOverfull sizes timing s' u' l' → s ≤ s'
 first_is_one {s} {l} {s'} a b =
     elim (cases_lt s' s) [
-      | inl lt ↦ absurd (let le = a.first s' lt in let up = b.above_buffer in let is = b.used_is in omega (arith, le, up, is))
+      | inl lt ↦ absurd (let le = a.first s' lt in let up = b.above_buffer in
+          let is = b.used_is in omega (arith, le, up, is))
       | inr le ↦ le
     ]
 
@@ -34,9 +35,11 @@ HasFault-unique sizes timing NoPictures (TooManySlots slots) a b = absurd (omega
 HasFault-unique sizes timing NoPictures (BufferTooSmall slot used least) a b = absurd (omega (arith, b.0))
 HasFault-unique sizes timing (TooManySlots slots) NoPictures a b = absurd (omega (arith, a.0))
 HasFault-unique sizes timing (TooManySlots slots) (TooManySlots slots') a b = ap TooManySlots (a.1 ∙ sym b.1)
-HasFault-unique sizes timing (TooManySlots slots) (BufferTooSmall slot used least) a b = absurd (omega (arith, a.1, a.2, b.1))
+HasFault-unique sizes timing (TooManySlots slots) (BufferTooSmall slot used least) a b =
+    absurd (omega (arith, a.1, a.2, b.1))
 HasFault-unique sizes timing (BufferTooSmall slot used least) NoPictures a b = absurd (omega (arith, a.0))
-HasFault-unique sizes timing (BufferTooSmall slot used least) (TooManySlots slots) a b = absurd (omega (arith, b.1, b.2, a.1))
+HasFault-unique sizes timing (BufferTooSmall slot used least) (TooManySlots slots) a b =
+    absurd (omega (arith, b.1, b.2, a.1))
 HasFault-unique sizes timing (BufferTooSmall slot used least) (BufferTooSmall slot' used' least') a b =
     let one = a.2 in
     let other = b.2 in

@@ -85,8 +85,14 @@ record IsCounted (timing : Timing) (m t n : ℕ) : Type 0 where
   unused : (k : ℕ) → n ≤ k → k < m → t ≤ due_slot timing k
 
 count_used : (timing : Timing) (m t : ℕ) → 1 ≤ timing.slot_units → (n : ℕ) × IsCounted timing m t n
-count_used timing zero t some =
-    (0, record { within = omega arith; used = λ k lt. absurd (omega (arith, lt)); unused = λ k l u. absurd (omega (arith, u)) })
+count_used timing zero t some = (
+  0,
+  record {
+    within = omega arith;
+    used = λ k lt. absurd (omega (arith, lt));
+    unused = λ k l u. absurd (omega (arith, u));
+  },
+)
 count_used timing (suc m) t some =
     let rest = count_used timing m t some in
     let is = rest.1 in
@@ -112,7 +118,8 @@ count_used timing (suc m) t some =
       )
     ]
 
-pub some_before : (sizes : List ℕ) (timing : Timing) (t : ℕ) → 1 ≤ timing.slot_units → (n : ℕ) × AreUsedBefore sizes timing n t
+pub some_before : (sizes : List ℕ) (timing : Timing) (t : ℕ) → 1 ≤ timing.slot_units
+    → (n : ℕ) × AreUsedBefore sizes timing n t
 some_before sizes timing t some =
     let all = count_used timing (length sizes) t some in
     let is = all.1 in

@@ -39,7 +39,8 @@ AreFilmCurves-of_uses {sizes} {timing} {uses} {total} are is of = record {
         omega (arith, is, by)
 
 -- accepted pictures have sound curves
-pub IsSound-of_film : (sizes : List ℕ) (timing : Timing) (curves : Curves) → IsWithinLimits sizes timing → IsAccepted sizes timing
+pub IsSound-of_film : (sizes : List ℕ) (timing : Timing) (curves : Curves) → IsWithinLimits sizes timing
+    → IsAccepted sizes timing
     → AreFilmCurves sizes timing curves → IsSound curves.from curves.low.items curves.up.items
 IsSound-of_film sizes timing curves limits ok are =
     let n = slot_count sizes timing in

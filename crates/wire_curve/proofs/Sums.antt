@@ -35,7 +35,8 @@ sum_by-range-le f g a (suc n) each =
     omega (arith, here, rest, sum_by-cons f a (range_with_len (a + 1) n), sum_by-cons g a (range_with_len (a + 1) n))
 
 -- no terms
-pub sum_by-range-zero : (f : ℕ → ℕ) (a n : ℕ) → ((k : ℕ) → a ≤ k → k < a + n → f k ≡ 0) → sum_by f (range_with_len a n) ≡ 0
+pub sum_by-range-zero : (f : ℕ → ℕ) (a n : ℕ) → ((k : ℕ) → a ≤ k → k < a + n → f k ≡ 0)
+    → sum_by f (range_with_len a n) ≡ 0
 sum_by-range-zero f a zero each = refl
 sum_by-range-zero f a (suc n) each =
     let here = each a (omega arith) (omega arith) in
@@ -43,7 +44,8 @@ sum_by-range-zero f a (suc n) each =
     omega (arith, here, rest, sum_by-cons f a (range_with_len (a + 1) n))
 
 -- the sum by places is the sum of the list
-pub sum_by-range-take : (xs : List ℕ) (n : ℕ) → n ≤ length xs → sum_by (λ k. get_or xs k 0) (range_with_len 0 n) ≡ sum (take n xs)
+pub sum_by-range-take : (xs : List ℕ) (n : ℕ) → n ≤ length xs
+    → sum_by (λ k. get_or xs k 0) (range_with_len 0 n) ≡ sum (take n xs)
 sum_by-range-take xs zero fits = refl
 sum_by-range-take xs (suc n) fits =
     let before = sum_by-range-take xs n (omega arith) in

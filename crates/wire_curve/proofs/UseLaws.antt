@@ -23,11 +23,13 @@ due_rises timing j k some le =
 
 pub due_in_range : (sizes : List ℕ) (timing : Timing) (k : ℕ) → 1 ≤ timing.slot_units → k < length sizes
     → due_slot timing k < slot_count sizes timing
-due_in_range sizes timing k some lt = let le = due_rises timing k (length sizes - 1) some (omega arith) in omega (arith, le)
+due_in_range sizes timing k some lt =
+    let le = due_rises timing k (length sizes - 1) some (omega arith) in omega (arith, le)
 
 -- what the first n pictures use in slot t
 abbrev pub first_used_in : List ℕ → Timing → ℕ → ℕ → ℕ
-first_used_in sizes timing n t = sum_by (λ k. cond (eqb (due_slot timing k) t) (get_or sizes k 0) 0) (range_with_len 0 n)
+first_used_in sizes timing n t =
+    sum_by (λ k. cond (eqb (due_slot timing k) t) (get_or sizes k 0) 0) (range_with_len 0 n)
 
 pub cond_le : (b : Bool) (n : ℕ) → cond b n 0 ≤ n
 cond_le true n = omega arith
@@ -51,7 +53,8 @@ pub record AreFirstUses (sizes : List ℕ) (timing : Timing) (slots n : ℕ) (us
   pub slots_are : length uses ≡ slots
   pub each : (t : ℕ) → t < slots → get_or uses t 0 ≡ first_used_in sizes timing n t
 
-first_uses_at : {sizes : List ℕ} {timing : Timing} {slots n : ℕ} {uses : List ℕ} → AreFirstUses sizes timing slots n uses
+first_uses_at : {sizes : List ℕ} {timing : Timing} {slots n : ℕ} {uses : List ℕ}
+    → AreFirstUses sizes timing slots n uses
     → {s : ℕ} → s ≡ due_slot timing n → s < slots
     → get_or (set uses s (get_or uses s 0 + get_or sizes n 0)) s 0 ≡ first_used_in sizes timing (n + 1) s
 first_uses_at {sizes} {timing} {n} {uses} so_far {s} is in' =
@@ -63,7 +66,8 @@ first_uses_at {sizes} {timing} {n} {uses} so_far {s} is in' =
     cond_same (due_slot timing n) s (get_or sizes n 0) (sym is) in
     omega (arith, at_s, more_s, before_s, yes)
 
-first_uses_off : {sizes : List ℕ} {timing : Timing} {slots n : ℕ} {uses : List ℕ} → AreFirstUses sizes timing slots n uses
+first_uses_off : {sizes : List ℕ} {timing : Timing} {slots n : ℕ} {uses : List ℕ}
+    → AreFirstUses sizes timing slots n uses
     → {s : ℕ} → s ≡ due_slot timing n → (t : ℕ) → t < slots → t ≢ s
     → get_or (set uses s (get_or uses s 0 + get_or sizes n 0)) t 0 ≡ first_used_in sizes timing (n + 1) t
 first_uses_off {sizes} {timing} {n} {uses} so_far {s} is t lt other =
@@ -74,7 +78,8 @@ first_uses_off {sizes} {timing} {n} {uses} so_far {s} is t lt other =
     cond_other (due_slot timing n) t (get_or sizes n 0) (λ e. other (sym (is ∙ e))) in
     omega (arith, same_there, more, before, no)
 
-pub first_uses_more : {sizes : List ℕ} {timing : Timing} {slots n : ℕ} {uses : List ℕ} → AreFirstUses sizes timing slots n uses
+pub first_uses_more : {sizes : List ℕ} {timing : Timing} {slots n : ℕ} {uses : List ℕ}
+    → AreFirstUses sizes timing slots n uses
     → {s : ℕ} → s ≡ due_slot timing n → s < slots → (t : ℕ) → t < slots
     → get_or (set uses s (get_or uses s 0 + get_or sizes n 0)) t 0 ≡ first_used_in sizes timing (n + 1) t
 first_uses_more {sizes} {timing} {n} {uses} so_far {s} is in' t lt =
@@ -124,7 +129,8 @@ used_before-all sizes timing some pictures =
     omega (arith, all, none, sum_by-range-all sizes)
 
 -- numbers that up to the n-th never fall from one to the next
-pub rises_by_steps : (f : ℕ → ℕ) (n : ℕ) → ((t : ℕ) → t + 1 ≤ n → f t ≤ f (t + 1)) → (s d : ℕ) → s + d ≤ n → f s ≤ f (s + d)
+pub rises_by_steps : (f : ℕ → ℕ) (n : ℕ) → ((t : ℕ) → t + 1 ≤ n → f t ≤ f (t + 1)) → (s d : ℕ) → s + d ≤ n
+    → f s ≤ f (s + d)
 rises_by_steps f n _ s zero fits = let e : s ≡ s + zero = omega arith in subst (λ t. f s ≤ f t) e (le_refl (f s))
 rises_by_steps f n step s (suc d) fits =
     let le = le_trans (rises_by_steps f n step s d (omega (arith, fits))) (step (s + d) (omega (arith, fits))) in

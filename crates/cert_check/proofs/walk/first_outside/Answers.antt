@@ -49,7 +49,8 @@ loop-t-preserved c =
             )
         | else-is_none w ↦
             rw w.above-is
-            (first_kept c.loop-t.above (IsAboveUp curves.from curves.up.items segments) c.loop-t.t c.loop-t.invariant.above_is
+            (first_kept c.loop-t.above (IsAboveUp curves.from curves.up.items segments) c.loop-t.t
+            c.loop-t.invariant.above_is
             (λ none. elim w.else-is_none.branch [
               | else-is_none-via-then-is_none+else-height-from-2 w' ↦
                   not_above_there curves.up.items goes c.scaled_height-height.ensures

@@ -19,5 +19,6 @@ returns-clause-found c =
 pub returns-clause-rest : goal.returns-clause-rest
 returns-clause-rest c = λ by_then.
     let small = begins-small (length c.args.units.now) c.args.picture_units c.requires.few c.requires.fits in
-    let within = c.units_before-begin.ensures.whole.all (length c.args.units.now * c.args.picture_units) small by_then in
+    let within = c.units_before-begin.ensures.whole.all (length c.args.units.now * c.args.picture_units) small
+    by_then in
     omega arith

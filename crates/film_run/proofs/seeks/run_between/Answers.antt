@@ -24,4 +24,7 @@ returns-clause-asked c =
 pub returns-clause-run : goal.returns-clause-run
 returns-clause-run c =
     let is = returns-clause-asked c in
-    record { run_is = is.new.run_is; boundary = none-at-boundary c.args.film.now c.new_run.result c.new_run.ensures.sent }
+    record {
+      run_is = is.new.run_is;
+      boundary = none-at-boundary c.args.film.now c.new_run.result c.new_run.ensures.sent;
+    }

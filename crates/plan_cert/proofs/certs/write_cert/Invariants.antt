@@ -6,4 +6,5 @@ use Rattle.plan_cert.proofs.certs.write_cert.Given as goal
 abbrev pub invariant-loop-segment : goal.invariant-loop-segment
 invariant-loop-segment l =
     l.text.items
-    ≡ cert_head (total_slots l.segments) (total_bytes l.segments) ++ flat_map segment_line (take l.segment-index l.segments)
+    ≡ cert_head (total_slots l.segments) (total_bytes l.segments) ++ flat_map segment_line
+    (take l.segment-index l.segments)

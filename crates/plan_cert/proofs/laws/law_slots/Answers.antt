@@ -10,7 +10,8 @@ pub returns-clause-sum : goal.returns-clause-sum
 returns-clause-sum c = λ segments plan. sum-plan_slots segments plan.no_empty
 
 pub returns-clause-place : goal.returns-clause-place
-returns-clause-place c = λ segments s i j inside is few. slot_in segments i j (record { inside = inside; segment_is = is }) few
+returns-clause-place c = λ segments s i j inside is few. slot_in segments i j
+    (record { inside = inside; segment_is = is }) few
 
 pub returns-clause-rounded : goal.returns-clause-rounded
 returns-clause-rounded c = slot_rounded

@@ -8,7 +8,8 @@ use Rattle.plan_cert.proofs.reading.cert_number.Goals as goal
 pub returns-then-has_leading_zero : goal.returns-then-has_leading_zero
 returns-then-has_leading_zero c = λ n few e.
     let lead = c.has_leading_zero.ensures.0 c.if-has_leading_zero.true in
-    no_leading_zero n (omega arith) (subst (λ ds. 1 < length ds) e lead.0) (subst (λ ds. slice_index ds 0 ≡ 48) e lead.1)
+    no_leading_zero n (omega arith) (subst (λ ds. 1 < length ds) e lead.0)
+    (subst (λ ds. slice_index ds 0 ≡ 48) e lead.1)
 
 pub returns-in-Ok : goal.returns-in-Ok
 returns-in-Ok c = (

@@ -19,11 +19,15 @@ returns-in_default-clause-refused c = λ whole read.
 pub returns-then-is_text-clause-refused : goal.returns-then-is_text-clause-refused
 returns-then-is_text-clause-refused c = λ whole read.
     let k = 3 + c.loop-count.count in
-    let ends : MayEnd k c.in-Some.line.now = record { after_head = omega arith; words = c.is_text.ensures.0 c.if-is_text.true } in
+    let ends : MayEnd k c.in-Some.line.now =
+    record { after_head = omega arith; words = c.is_text.ensures.0 c.if-is_text.true } in
     let some : c.in-Some.after.now ≢ [] =
     λ e. both_ways c.is_empty.result c.if-is_empty.false
-    (c.is_empty.ensures ∙ eq-eqb (length c.in-Some.after.now) 0 (ap length e)) in
-    (k + 1, omega arith, inr (inl (goes_after_end (c.loop-count.invariant.read whole read) c.in-Some.ensures ends some)))
+    (c.is_empty.ensures ∙ eq-eqb (length c.in-Some.after.now) 0 (ap length e)) in (
+      k + 1,
+      omega arith,
+      inr (inl (goes_after_end (c.loop-count.invariant.read whole read) c.in-Some.ensures ends some)),
+    )
 
 pub returns-in_default-segment_in-clause-refused : goal.returns-in_default-segment_in-clause-refused
 returns-in_default-segment_in-clause-refused c = λ whole read.

@@ -46,8 +46,12 @@ returns-in_default-split_at_first-2 c =
     let r1 : HasRead text 1 c.in-Some.rest.now =
     read_more (read_none text) c.in-Some.ensures (Title refl (c.is_text.ensures.0 c.if-not-is_text.false)) in
     let r2 : HasRead text 2 c.in-Some-split_at_first.rest.now =
-    read_more r1 c.in-Some-split_at_first.ensures (Slots c.in-Some-number_after.slots refl c.in-Some-number_after.ensures) in
-    (2, omega arith, inl (breaks_missing text 2 c.in-Some-split_at_first.rest.now r2 c.in_default-split_at_first-2.ensures))
+    read_more r1 c.in-Some-split_at_first.ensures
+    (Slots c.in-Some-number_after.slots refl c.in-Some-number_after.ensures) in (
+      2,
+      omega arith,
+      inl (breaks_missing text 2 c.in-Some-split_at_first.rest.now r2 c.in_default-split_at_first-2.ensures),
+    )
 
 pub returns-in_default-number_after-2 : goal.returns-in_default-number_after-2
 returns-in_default-number_after-2 c =
@@ -70,7 +74,8 @@ returns c =
     let r1 : HasRead text 1 c.in-Some.rest.now =
     read_more (read_none text) c.in-Some.ensures (Title refl (c.is_text.ensures.0 c.if-not-is_text.false)) in
     let r2 : HasRead text 2 c.in-Some-split_at_first.rest.now =
-    read_more r1 c.in-Some-split_at_first.ensures (Slots c.in-Some-number_after.slots refl c.in-Some-number_after.ensures) in
+    read_more r1 c.in-Some-split_at_first.ensures
+    (Slots c.in-Some-number_after.slots refl c.in-Some-number_after.ensures) in
     let r3 : HasRead text 3 c.in-Some-split_at_first-2.rest.now =
     read_more r2 c.in-Some-split_at_first-2.ensures
     (Bytes c.in-Some-number_after-2.bytes refl c.in-Some-number_after-2.ensures) in

@@ -10,7 +10,8 @@ use Rattle.plan_cert.proofs.reading.read_lines.Goals as goal
 -- head and body are read, and line i, from 0, has the first sum that isn't theirs
 wrong_sum : {text rest : List ℕ} {slots bytes : ℕ} {segments : List Segment} {i : ℕ}
     → IsHead text slots bytes rest → IsBody rest segments
-    → ((i ≡ 1) × (total_slots segments ≢ slots)) ⊎ ((i ≡ 2) × (total_slots segments ≡ slots) × (total_bytes segments ≢ bytes))
+    → ((i ≡ 1) × (total_slots segments ≢ slots)) ⊎ ((i ≡ 2) × (total_slots segments ≡ slots)
+    × (total_bytes segments ≢ bytes))
     → IsBadLine text (i + 1)
 wrong_sum {text} {slots} {bytes} {segments} {i} head body wrong = (
   i,
@@ -30,7 +31,8 @@ wrong_sum {text} {slots} {bytes} {segments} {i} head body wrong = (
 pub returns-then-not-has_slots-clause-refused : goal.returns-then-not-has_slots-clause-refused
 returns-then-not-has_slots-clause-refused c =
     let wrong = λ (e : total_slots c.in_ok-segments.segments.items ≡ c.in_ok-head.head.slots).
-    both_ways c.has_slots.result c.if-not-has_slots.true (c.has_slots.ensures.1 (ap total_slots c.as_slice.ensures.value ∙ e)) in
+    both_ways c.has_slots.result c.if-not-has_slots.true
+    (c.has_slots.ensures.1 (ap total_slots c.as_slice.ensures.value ∙ e)) in
     wrong_sum
     c.in_ok-head.ensures c.in_ok-segments.ensures.read (inl (refl, wrong))
 

@@ -11,7 +11,8 @@ returns-in-Some-clause-value c =
 
 pub returns-in-None-clause-value : goal.returns-in-None-clause-value
 returns-in-None-clause-value c =
-    let whole = sum_through-past c.args.segments.now c.args.slot c.requires.plan (omega (arith, c.in-None.ensures.place.0)) in
+    let whole = sum_through-past c.args.segments.now c.args.slot c.requires.plan
+    (omega (arith, c.in-None.ensures.place.0)) in
     cc (whole, c.in-None.ensures.place.1)
 
 pub first_bytes-requires-clause-few : goal.first_bytes-requires-clause-few

@@ -8,11 +8,13 @@ use Rattle.taut_plan.proofs.EdgeLaws.{edges_ascend, pop_step, join_step}
 use Rattle.taut_plan.proofs.chains.join.Goals as goal
 
 pub loop-side-init : goal.loop-side-init
-loop-side-init c = chain_opens c.args.side (side_of c.args.curves.now c.args.side) c.args.slot c.args.apex _ c.requires.chain
+loop-side-init c = chain_opens c.args.side (side_of c.args.curves.now c.args.side) c.args.slot c.args.apex _
+    c.requires.chain
 
 pub is_passed-requires-clause-ascend : goal.is_passed-requires-clause-ascend
 is_passed-requires-clause-ascend c =
-    edges_ascend c.args.side (side_of c.args.curves.now c.args.side) c.args.slot c.point_at-point.ensures c.loop-side.invariant
+    edges_ascend c.args.side (side_of c.args.curves.now c.args.side) c.args.slot c.point_at-point.ensures
+    c.loop-side.invariant
 
 pub is_passed-requires-clause-fit : goal.is_passed-requires-clause-fit
 is_passed-requires-clause-fit c =

@@ -34,7 +34,10 @@ crossing-requires-clause-fit c =
     let fits : c.args.slot + 1 ≤ length curves.low.items = omega (arith, slot) in
     first_fits c.in_ok-point.ensures.point c.loop-corner.invariant.crossing fits
     (corner_fits c.requires.sound (omega (arith, beyond, fits)) c.loop-corner.invariant.path.below)
-    (record { own = point_fits c.args.side c.requires.sound; others = point_fits (other_side c.args.side) c.requires.sound })
+    (record {
+      own = point_fits c.args.side c.requires.sound;
+      others = point_fits (other_side c.args.side) c.requires.sound;
+    })
 
 pub bend_at-requires-clause-higher : goal.bend_at-requires-clause-higher
 bend_at-requires-clause-higher c =

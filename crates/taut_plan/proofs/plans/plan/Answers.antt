@@ -7,7 +7,8 @@ use Rattle.taut_plan.proofs.plans.plan.Goals as goal
 pub new-requires : goal.new-requires
 new-requires c =
     let curves = c.args.curves.now in
-    plan_of_whole curves.from curves.low.items curves.up.items c.in_ok-segments.segments.items c.requires c.in_ok-segments.ensures
+    plan_of_whole curves.from curves.low.items curves.up.items c.in_ok-segments.segments.items c.requires
+    c.in_ok-segments.ensures
 
 pub returns-clause-taut : goal.returns-clause-taut
 returns-clause-taut c =

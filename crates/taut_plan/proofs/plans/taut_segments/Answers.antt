@@ -28,4 +28,5 @@ returns c =
     (band_of_sound curves.from curves.low.items curves.up.items c.requires) (omega arith)
     c.loop-slot.invariant.path c.loop-slot.invariant.funnel (c.loop-slot.invariant.beyond (omega arith))
     (c.point_at.ensures ∙ ap (on_curve (upper_of curves)) place) in
-    subst (IsTautPath (lower_of curves) (upper_of curves) curves.from n) (sym c.in_ok-bend_at.ensures.segments) end.whole
+    subst (IsTautPath (lower_of curves) (upper_of curves) curves.from n) (sym c.in_ok-bend_at.ensures.segments)
+    end.whole
