@@ -1,6 +1,7 @@
 mod Turns
 mod Blocks
 pub mod Sending
+mod SlotChanges
 pub mod Shares
 pub mod Capacities
 mod Rooms

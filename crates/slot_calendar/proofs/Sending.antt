@@ -5,7 +5,7 @@ use Rattle.std.proofs.Math.Seq.{take-append-add}
 use Rattle.std.proofs.Math.Nat.{add-mul-div_right, mod-lt}
 use Rattle.std.proofs.lemmas.Nat.{div-add-mod'}
 use Rattle.std.proofs.lemmas.Bool.{cases_lt, cases_eq}
-use Rattle.std.proofs.lemmas.List.{take-append-le, take_all, take-take, take_more, take-append-drop, get_or_past}
+use Rattle.std.proofs.lemmas.List.{take-append-le, take_all, take-take, take_more, take-append-drop, get_or_default, get_or_past}
 use Rattle.std.proofs.lemmas.List.Concat.{flat_map-append}
 use Rattle.std.proofs.lemmas.List.Sums.{sum_by-append, sum_by-take-le, sum_by_more}
 use Rattle.std.proofs.lemmas.List.Elements.{All-head, All-take}
@@ -106,23 +106,39 @@ pub front-next : (segments : List Segment) (i : ℕ) (s : Segment) → i < lengt
     → take (i + 1) segments ≡ take i segments ++ s ∷ []
 front-next segments i s inside is = take_more segments i s inside ∙ ap (λ x. take i segments ++ x ∷ []) (sym is)
 
-pub slots-next : (segments : List Segment) (i : ℕ) (s : Segment) → i < length segments → s ≡ get_or segments i s →
-    total_slots (take (i + 1) segments) ≡ total_slots (take i segments) + s.slots
-slots-next segments i s inside is =
-    ap total_slots (front-next segments i s inside is) ∙ sum_by-append (λ x. x.slots) (take i segments) (s ∷ [])
-    ∙ ap (λ n. total_slots (take i segments) + n) (one-slots s)
-
-pub bytes-next : (segments : List Segment) (i : ℕ) (s : Segment) → i < length segments → s ≡ get_or segments i s →
-    total_bytes (take (i + 1) segments) ≡ total_bytes (take i segments) + s.bytes
-bytes-next segments i s inside is =
-    ap total_bytes (front-next segments i s inside is) ∙ sum_by-append (λ x. x.bytes) (take i segments) (s ∷ [])
-    ∙ ap (λ n. total_bytes (take i segments) + n) (one-bytes s)
-
 -- segment i of a plan that begins in slot `start`, and the slot in which it begins
 pub record IsSegmentFrom (segments : List Segment) (i : ℕ) (s : Segment) (start from : ℕ) : Type 0 where
   pub inside : i < length segments
   pub segment_is : s ≡ get_or segments i s
   pub from_is : from ≡ start + total_slots (take i segments)
+
+abbrev pub no_segment : Segment
+no_segment = record { slots = 0; bytes = 0 }
+
+pub segment-at : {start from : ℕ} (segments : List Segment) (i : ℕ) → i < length segments
+    → from ≡ start + total_slots (take i segments) → IsSegmentFrom segments i (get_or segments i no_segment) start from
+segment-at segments i inside from_is = record {
+  inside = inside;
+  segment_is = get_or_default segments i no_segment (get_or segments i no_segment) inside;
+  from_is = from_is;
+}
+
+-- the slot in which the segment after it begins
+pub from-next : {segments : List Segment} {i : ℕ} {s : Segment} {start from : ℕ} → IsSegmentFrom segments i s start from
+    → from + s.slots ≡ start + total_slots (take (i + 1) segments)
+from-next {segments} {i} {s} at =
+    let slots : total_slots (take (i + 1) segments) ≡ total_slots (take i segments) + s.slots =
+    ap total_slots (front-next segments i s at.inside at.segment_is)
+    ∙ sum_by-append (λ x. x.slots) (take i segments) (s ∷ [])
+    ∙ ap (λ n. total_slots (take i segments) + n) (one-slots s) in
+    omega (arith, slots, at.from_is)
+
+pub bytes-next : {segments : List Segment} {i : ℕ} {s : Segment} {start from : ℕ} → IsSegmentFrom segments i s start from
+    → total_bytes (take (i + 1) segments) ≡ total_bytes (take i segments) + s.bytes
+bytes-next {segments} {i} {s} at =
+    ap total_bytes (front-next segments i s at.inside at.segment_is)
+    ∙ sum_by-append (λ x. x.bytes) (take i segments) (s ∷ [])
+    ∙ ap (λ n. total_bytes (take i segments) + n) (one-bytes s)
 
 -- the first i + 1 segments ask for what the first i do and what segment i does
 pub asked-next : {segments : List Segment} {i : ℕ} {s : Segment} {start from : ℕ} (t : ℕ)
@@ -146,10 +162,9 @@ pub asked-in : {segments : List Segment} {i : ℕ} {s : Segment} {start from : �
 asked-in {segments} {i} {s} {start} t at begun ends =
     let split = asked-front segments (i + 1) start t in
     let front = asked-next t at in
-    let slots = slots-next segments i s at.inside at.segment_is in
     let after : asked_at (drop (i + 1) segments) (start + total_slots (take (i + 1) segments)) t ≡ 0 =
     asked-before (drop (i + 1) segments) (start + total_slots (take (i + 1) segments)) t
-    (omega (arith, slots, at.from_is, ends)) in
+    (omega (arith, from-next at, ends)) in
     let before : asked_at (take i segments) start t ≡ 0 =
     asked-after (take i segments) start t (omega (arith, at.from_is, begun)) in
     omega (arith, split, front, after, before)
@@ -266,63 +281,6 @@ cut-here segments from keep j was is =
     let next : sent_before segments from (from + j + 1) ≡ sent_before segments from (from + (j + 1)) =
     ap (sent_before segments from) (omega arith) in
     omega (arith, was, next, is)
-
--- the totals from slot `first` on at first, before slot `place` was changed and after it: that slot alone was, and none after it before
-pub record OneSlotMore : Type 0 where
-  pub first : ℕ
-  pub place : ℕ
-  pub old : ℕ → ℕ
-  pub mid : ℕ → ℕ
-  pub new : ℕ → ℕ
-  pub others : (t : ℕ) → first ≤ t → t ≢ place → new t ≡ mid t
-  pub rest : (t : ℕ) → first ≤ t → place ≤ t → mid t ≡ old t
-
--- a sum of totals and bytes asked, one slot further
-pub raised-next : (step : OneSlotMore) (asked : ℕ → ℕ) → step.new step.place ≡ step.mid step.place + asked step.place
-    → ((t : ℕ) → step.first ≤ t → t < step.place → step.mid t ≡ step.old t + asked t)
-    → {t : ℕ} → step.first ≤ t → t < step.place + 1 → step.new t ≡ step.old t + asked t
-raised-next step asked here done {t} since less =
-    elim (cases_eq t place) [
-      | inl is ↦ (
-          let at : new t ≡ new place = ap new is in
-          let at_old : old t ≡ old place = ap old is in
-          let at_asked : asked t ≡ asked place = ap asked is in
-          let was : mid place ≡ old place = step.rest place (omega (arith, is)) (omega arith) in
-          omega (arith, at, at_old, at_asked, was, here)
-          )
-      | inr other ↦ step.others t since other ∙ done t since (before t place less other)
-    ]
-  where
-    open step use {first, place, old, mid, new}
-
-    before : (x y : ℕ) → x < y + 1 → x ≢ y → x < y
-    before x y most apart = omega arith
-
-pub lowered-next : (step : OneSlotMore) (cut : ℕ → ℕ)
-    → (step.first ≤ step.place → step.new step.place + cut step.place ≡ step.mid step.place)
-    → ((t : ℕ) → step.first ≤ t → t < step.place → step.mid t + cut t ≡ step.old t) → {t : ℕ} → step.first ≤ t
-    → t < step.place + 1 → step.new t + cut t ≡ step.old t
-lowered-next step cut here done {t} since less =
-    elim (cases_eq t place) [
-      | inl is ↦ (
-          let from : first ≤ place = omega (arith, is, since) in
-          let at : new t ≡ new place = ap new is in
-          let at_old : old t ≡ old place = ap old is in
-          let at_cut : cut t ≡ cut place = ap cut is in
-          let was : mid place ≡ old place = step.rest place from (omega arith) in
-          omega (arith, at, at_old, at_cut, was, here from)
-          )
-      | inr other ↦ ap (λ n. n + cut t) (step.others t since other) ∙ done t since (before t place less other)
-    ]
-  where
-    open step use {first, place, old, mid, new}
-
-    before : (x y : ℕ) → x < y + 1 → x ≢ y → x < y
-    before x y most apart = omega arith
-
-pub unchanged-next : (step : OneSlotMore) {t : ℕ} → step.first ≤ t → step.place + 1 ≤ t → step.new t ≡ step.old t
-unchanged-next step {t} since more =
-    step.others t since (λ e. omega (arith, e, more)) ∙ step.rest t since (omega (arith, more))
 
 pub sent-step : {before sent : ℕ} (segments : List Segment) (from j : ℕ)
     → before ≡ sent_before segments from (from + j) → sent_before segments from (from + (j + 1)) ≡ sent → before ≤ sent

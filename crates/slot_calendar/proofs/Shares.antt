@@ -1,6 +1,7 @@
 -- What lists of plays book, as a play is added or cut.
-use Rattle.std.proofs.Common.{◌≡◌, ◌≤◌, ◌+◌, ◌-◌, ℕ, zero, suc, min, map, sum_by, List, [], ◌∷◌, ◌++◌, arith, refl, sym, ap, ◌∙◌}
+use Rattle.std.proofs.Common.{◌≡◌, ◌≤◌, ◌+◌, ◌-◌, ℕ, zero, suc, min, map, sum_by, List, [], ◌∷◌, ◌++◌, arith, sym, ap, ◌∙◌}
 use Rattle.std.specs.List.{range_with_len}
+use Rattle.std.proofs.lemmas.List.{map-id}
 use Rattle.std.proofs.lemmas.List.FromFn.{sum_by-map-range_with_len_more}
 use Rattle.std.proofs.lemmas.List.Sums.{sum_by-append, sum_by-cons, sum_by_push}
 use Rattle.plan_cert.specs.declared.Segment.{Segment}
@@ -28,21 +29,18 @@ share-cut segments start keep t =
     share_parts (sent_before segments start t) (sent_before segments start (t + 1)) keep
     (sent-rises segments start t (t + 1) (omega arith))
 
--- up to a slot it books what its plan has sent by then, and no more than it keeps
-map_same : (xs : List ℕ) → map (λ (u : ℕ). u) xs ≡ xs
-map_same [] = refl
-map_same (x ∷ xs) = ap (λ l. x ∷ l) (map_same xs)
-
 shares_more : (f : ℕ → ℕ) (t : ℕ) → sum_by f (range_with_len 0 (suc t)) ≡ sum_by f (range_with_len 0 t) + f t
 shares_more f t =
     let at : 0 + t ≡ t = omega arith in
     let count : suc t ≡ t + 1 = omega arith in
-    ap (sum_by f) (sym (map_same (range_with_len 0 (suc t)))) ∙ ap (λ n. sum_by f (map (λ (u : ℕ). u) (range_with_len 0 n))) count
-    ∙ sum_by-map-range_with_len_more f (λ (u : ℕ). u) 0 t t at ∙ ap (λ l. sum_by f l + f t) (map_same (range_with_len 0 t))
+    ap (sum_by f) (sym (map-id (range_with_len 0 (suc t))))
+    ∙ ap (λ n. sum_by f (map (λ (u : ℕ). u) (range_with_len 0 n))) count
+    ∙ sum_by-map-range_with_len_more f (λ (u : ℕ). u) 0 t t at ∙ ap (λ l. sum_by f l + f t) (map-id (range_with_len 0 t))
 
 min_next : (a b k n : ℕ) → a ≤ b → n ≡ min a k → n + (min b k - min a k) ≡ min b k
 min_next a b k n rises is = omega (arith, is)
 
+-- up to a slot it books what its plan has sent by then, and no more than it keeps
 pub shares-first : (segments : List Segment) (start keep t : ℕ)
     → sum_by (λ u. share_at u (cut_play start segments keep)) (range_with_len 0 t) ≡ min (sent_before segments start t) keep
 shares-first segments start keep zero = omega (arith, sent-none segments start 0 (omega arith))

@@ -1,17 +1,14 @@
 use Rattle.std.proofs.lemmas.Grind.{common_steps}
-use Rattle.std.proofs.Common.{◌≡◌, ◌<◌, ◌≤◌, ◌+◌, get_or, length, arith, ◌∙◌, rules}
-use Rattle.plan_cert.specs.declared.Segment.{Segment}
-use Rattle.slot_calendar.proofs.Sending.{IsSegmentFrom, asked-next, asked-front, slots-next}
+use Rattle.std.proofs.Common.{◌≤◌, ◌+◌, arith, ◌∙◌}
+use Rattle.slot_calendar.proofs.Sending.{asked-front, asked-next, from-next, segment-at}
 use Rattle.slot_calendar.proofs.booking.book_segments.Goals as goal
 
 pub book_segment-requires-clause-fits : goal.book_segment-requires-clause-fits
 book_segment-requires-clause-fits c = λ t from. (
     let i = c.loop-segment in
     let segments = c.args.segments.now in
-    let s : Segment = get_or segments i.segment-index (record { slots = 0; bytes = 0 }) in
     let since : c.args.ring.now.first ≤ t = omega (arith, from, i.invariant.first_is) in
-    let at : IsSegmentFrom segments i.segment-index s c.args.start i.from =
-    record { inside = omega arith; segment_is = search rules; from_is = i.invariant.from_is } in
+    let at = segment-at segments i.segment-index (omega arith) i.invariant.from_is in
     let next = asked-next t at in
     omega (
       arith,
@@ -26,13 +23,9 @@ pub loop-segment-preserved : goal.loop-segment-preserved
 loop-segment-preserved c =
     let i = c.loop-segment in
     let segments = c.args.segments.now in
-    let s : Segment = get_or segments i.segment-index (record { slots = 0; bytes = 0 }) in
-    let inside : i.segment-index < length segments = omega arith in
-    let is : s ≡ get_or segments i.segment-index s = search rules in
-    let at : IsSegmentFrom segments i.segment-index s c.args.start i.from =
-    record { inside = inside; segment_is = is; from_is = i.invariant.from_is } in
+    let at = segment-at segments i.segment-index (omega arith) i.invariant.from_is in
     record {
-      from_is = omega (arith, i.invariant.from_is, slots-next segments i.segment-index s inside is);
+      from_is = from-next at;
       first_is = c.book_segment.ensures.now ∙ i.invariant.first_is;
       stale_is = c.book_segment.ensures.stale ∙ i.invariant.stale_is;
       totals = λ t since. (

@@ -1,8 +1,8 @@
 use Rattle.std.proofs.Common.{◌≡◌, ◌≤◌, ◌+◌, ◌-◌, [], ◌∷◌, arith, refl, sym, ap, ◌∙◌, inl, inr}
 use Rattle.std.proofs.lemmas.Bool.{cases_lt}
 use Rattle.slot_calendar.specs.Plays.{cut_at}
-use Rattle.slot_calendar.specs.Totals.{total_at}
-use Rattle.slot_calendar.proofs.Sending.{OneSlotMore, cut-here, cut-after, one-slots, lowered-next, unchanged-next, sent-step}
+use Rattle.slot_calendar.proofs.Sending.{cut-after, cut-here, one-slots, sent-step}
+use Rattle.slot_calendar.proofs.SlotChanges.{OneSlotMore, changed-next, unchanged-next}
 use Rattle.slot_calendar.proofs.booking.release_segment.Goals as goal
 
 pub overflow_sub-over : goal.overflow_sub-over
@@ -28,34 +28,27 @@ pub loop-passed-preserved : goal.loop-passed-preserved
 loop-passed-preserved c =
     let i = c.loop-passed in
     let segments = c.args.segment ∷ [] in
-    let first = c.args.ring.now.first in
     let place = c.args.from + i.passed in
     let by = c.saturating_sub-over.result - i.before in
-    let old = total_at c.args.ring.now.first c.args.ring.now.totals in
-    let mid = total_at i.ring.first i.ring.totals in
-    let new = total_at c.give_back.new.ring.first c.give_back.new.ring.totals in
     let cut : cut_at segments c.args.from c.args.keep place ≡ by =
     cut-here segments c.args.from c.args.keep i.passed i.invariant.before_is
     (c.saturating_sub-over.ensures ∙ ap (λ n. n - c.args.keep) (sym (c.sent_through.ensures.sent c.args.from))) in
     let step : OneSlotMore = record {
-      first = first;
       place = place;
-      old = old;
-      mid = mid;
-      new = new;
-      others = λ t since other. c.give_back.ensures.others t (omega (arith, since, i.invariant.first_is)) other;
+      old = c.args.ring.now;
+      mid = i.ring;
+      new = c.give_back.new.ring;
+      first_is = i.invariant.first_is;
+      others = c.give_back.ensures.others;
       rest = i.invariant.rest;
     } in
-    let here : first ≤ place → new place + by ≡ mid place =
-    λ from. c.give_back.ensures.at (omega (arith, from, i.invariant.first_is)) in
-    let here' : first ≤ place → new place + cut_at segments c.args.from c.args.keep place ≡ mid place =
-    λ from. omega (arith, cut, here from) in
     let at : c.args.from + (i.passed + 1) ≡ place + 1 = omega arith in
     record {
       before_is = c.saturating_sub-over.ensures ∙ ap (λ n. n - c.args.keep) (sym (c.sent_through.ensures.sent c.args.from));
       first_is = c.give_back.ensures.now ∙ i.invariant.first_is;
-      done = λ t since less. lowered-next step (cut_at segments c.args.from c.args.keep) here' i.invariant.done
-          since (omega (arith, less, at));
+      done = λ t since less. changed-next step (λ t was is. is + cut_at segments c.args.from c.args.keep t ≡ was)
+          (λ from. omega (arith, cut, c.give_back.ensures.at (omega (arith, from, i.invariant.first_is))))
+          i.invariant.done since (omega (arith, less, at));
       rest = λ t since more. unchanged-next step since (omega (arith, more, at));
     }
 

@@ -1,10 +1,10 @@
-use Rattle.std.proofs.Common.{◌≡◌, ◌<◌, ◌+◌, List, [], ◌∷◌, length, get_or, take, arith, ap, subst, rules}
+use Rattle.std.proofs.Common.{◌≡◌, ◌+◌, List, [], ◌∷◌, get_or, take, arith, ap, subst}
 use Rattle.std.proofs.lemmas.List.{take_all}
 use Rattle.plan_cert.specs.declared.Segment.{Segment}
 use Rattle.plan_cert.specs.Slots.{total_slots}
 use Rattle.slot_calendar.specs.Profiles.{capacity_at}
 use Rattle.slot_calendar.specs.Calendars.{Entries, booked_at, IsCalendar, FitsIn, HasRoom, IsOverflowIn, IsFirstOverflow}
-use Rattle.slot_calendar.proofs.Sending.{IsSegmentFrom, slots-next}
+use Rattle.slot_calendar.proofs.Sending.{from-next, no_segment, segment-at}
 use Rattle.slot_calendar.proofs.Rooms.{fits-next, first-overflow, room-all}
 use Rattle.slot_calendar.proofs.calendar.Calendar.first_overflow.Goals as goal
 
@@ -13,10 +13,9 @@ returns-in-Some c =
     let i = c.loop-segment in
     let old : Entries = c.args.self.now in
     let segments = c.segments-segments.result.now in
-    let s : Segment = get_or segments i.segment-index (record { slots = 0; bytes = 0 }) in
+    let s : Segment = get_or segments i.segment-index no_segment in
     let over = c.in-Some.over in
-    let at : IsSegmentFrom segments i.segment-index s c.args.start i.from =
-    record { inside = omega arith; segment_is = search rules; from_is = i.invariant.from_is } in
+    let at = segment-at segments i.segment-index (omega arith) i.invariant.from_is in
     let Q : Entries → Type 0 =
     λ e. IsOverflowIn i.from (i.from + s.slots) (booked_at e) (capacity_at e.steps) i.from (s ∷ []) over in
     let P : List Segment → Type 0 = λ l. IsFirstOverflow old.first (booked_at old) (capacity_at old.steps) c.args.start l over in
@@ -29,14 +28,11 @@ loop-segment-preserved c =
     let i = c.loop-segment in
     let old : Entries = c.args.self.now in
     let segments = c.segments-segments.result.now in
-    let s : Segment = get_or segments i.segment-index (record { slots = 0; bytes = 0 }) in
-    let inside : i.segment-index < length segments = omega arith in
-    let is : s ≡ get_or segments i.segment-index s = search rules in
-    let at : IsSegmentFrom segments i.segment-index s c.args.start i.from =
-    record { inside = inside; segment_is = is; from_is = i.invariant.from_is } in
+    let s : Segment = get_or segments i.segment-index no_segment in
+    let at = segment-at segments i.segment-index (omega arith) i.invariant.from_is in
     let Q : Entries → Type 0 = λ e. FitsIn i.from (i.from + s.slots) (booked_at e) (capacity_at e.steps) i.from (s ∷ []) in
     record {
-      from_is = omega (arith, i.invariant.from_is, slots-next segments i.segment-index s inside is);
+      from_is = from-next at;
       fits = fits-next old.first (booked_at old) (capacity_at old.steps) at i.invariant.fits
           (subst Q c.self.view_is c.in_default.ensures);
     }
