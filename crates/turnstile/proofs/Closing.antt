@@ -6,7 +6,7 @@ use mathlib.Core.List.{IsPrefix}
 use mathlib.Core.Option.{some}
 use native.Mathlib.Decide.{ℕ_discrete}
 use lib.ListN.{get_elem?}
-use Rattle.atomic_table.specs.Table.{State, Final, Seen}
+use Rattle.atomic_table.specs.Table.{Final, Me, Seen, State}
 use Rattle.atomic_table.specs.Seated.{TableId}
 use Rattle.admission.specs.declared.entries.Entry.{Entry}
 use Rattle.turnstile.specs.declared.view.Joined.{Joined}
@@ -15,7 +15,8 @@ use Rattle.turnstile.specs.declared.view.Terms.{Terms}
 use Rattle.turnstile.specs.declared.view.View.{View}
 use Rattle.admission.specs.Makers.{made_by}
 use Rattle.turnstile.specs.Turns.{IsLive, IsAway, IsHome, IsRuled}
-use Rattle.turnstile.specs.Passes.{AllJoined, IsJoined, IsWholeList}
+use Rattle.turnstile.specs.Passes.{AllJoined, IsJoined, IsWholeList, PassState}
+use Rattle.turnstile.specs.Sized.{IsFree}
 use Rattle.turnstile.specs.Taken.{stands_as}
 use Rattle.turnstile.proofs.Live.{idle_free, one_at}
 
@@ -36,6 +37,16 @@ pub record HasAll (v : View) : Type 0 where
   pub idle : v.stage ≡ Idle
   pub first : v.number ≡ 0
   pub all : AllJoined v.splits v.joined
+
+-- the first pass takes its seat again, when all others were joined to it
+pub has_all : {B : Type 0} {pass : PassState} {table : TableId} {me : Me (Option B) View} → IsFree me
+    → pass ≡ stands_as table me.0 → pass.number ≡ 0 → AllJoined pass.splits pass.joined → HasAll me.0
+has_all free same first all = record {
+  left = free.left;
+  idle = free.idle;
+  first = ap (λ (p : PassState). p.number) (sym same) ∙ first;
+  all = subst (λ (p : PassState). AllJoined p.splits p.joined) same all;
+}
 
 module _ {B : Type 0} (entries : B → List Entry) (terms_of : B → Terms) (terms : Terms) where
   abbrev Rule : State (Option B) View → Type 0

@@ -13,7 +13,7 @@ use Rattle.turnstile.specs.declared.view.Stage.{Stage}
 use Rattle.turnstile.specs.declared.view.Stage.TheVariants.{Idle, Waits, Holds}
 use Rattle.turnstile.specs.declared.view.Terms.{Terms}
 use Rattle.turnstile.specs.declared.view.View.{View}
-use Rattle.turnstile.specs.Turns.{pass_count, ticket_count, has_ticket, IsLive, IsTicket, InTurn, Fits}
+use Rattle.turnstile.specs.Turns.{pass_count, ticket_count, has_ticket, Apart, IsLive, IsTicket, InTurn, Fits}
 use Rattle.turnstile.specs.Steps.{slot_list}
 use Rattle.turnstile.proofs.Prefixes.{prefix_longer, made_other}
 
@@ -98,6 +98,16 @@ live_set P views id w mine others j u live = ⊎_elim
     (λ (t : (j ≡ id) × (w ≡ u)). subst (λ (x : ℕ × View). P x.0 x.1) (λ i. (sym t.0 i, t.1 i)) mine)
     (λ (t : (j ≢ id) × (get_elem? views j ≡ some u)). others j u t.0 (t.1, live.1))
     (at_set views id j w u live.0)
+
+-- two passes of which one has changed stand apart, where no ticket is of both
+pub apart_both : {w u : View} → w.number ≢ u.number → ((t : ℕ) → IsTicket w.stage t → IsTicket u.stage t → ⊥)
+    → ((k : ℕ) (j : Joined) → get_elem? w.joined k ≡ some j → j.number ≢ u.number)
+    → ((k : ℕ) (j : Joined) → get_elem? u.joined k ≡ some j → j.number ≢ w.number)
+    → Apart w u × Apart u w
+apart_both numbers tickets past past_other = (
+  record { numbers = numbers; tickets = tickets; past = past },
+  record { numbers = λ e. numbers (sym e); tickets = λ t there here. tickets t here there; past = past_other },
+)
 
 -- a pass changes that has the turn neither before nor after
 pub record FreeChange (views : List View) : Type 0 where

@@ -21,7 +21,7 @@ use Rattle.turnstile.specs.Sized.{IsFree}
 use Rattle.turnstile.specs.Steps.{HasTaken, IsTurn, Knows, slot_list}
 use Rattle.turnstile.proofs.Prefixes.{prefix_self, prefix_trans, prefix_longer, made_other}
 use Rattle.turnstile.proofs.Sums.{total_set, tickets_total}
-use Rattle.turnstile.proofs.Live.{lives, waits_in, ticket_or, Free, idle_free, waits_free, ticket_low, turn_more, turn_next, at_inside, one_at, restage, refit}
+use Rattle.turnstile.proofs.Live.{lives, waits_in, ticket_or, Free, idle_free, waits_free, ticket_low, turn_more, turn_next, at_inside, apart_both, one_at, restage, refit}
 use Rattle.turnstile.proofs.Live.{live_set, FreeChange, Waiter, Holder, EmptyWaiter, GrownHolder, longer_list}
 
 module _ {B : Type 0} (entries : B → List Entry) (terms_of : B → Terms) (terms : Terms) where
@@ -152,23 +152,11 @@ module _ {B : Type 0} (entries : B → List Entry) (terms_of : B → Terms) (ter
           makers = r.makers;
           fits = restage f (omega arith, omega arith);
           others = λ j u other l. let g = r.each j u l in let a =
-              r.apart id j v u (λ e. other (sym e)) (at, left) l in let b = r.apart j id u v other l (at, left) in (
-                refit g (turn_more r.served r.drawn u.stage g.turn),
-                record {
-                  numbers = a.numbers;
-                  tickets = λ t here there. let h =
-                      ticket_low r.served r.drawn t u.stage g.turn there in let e : r.drawn ≡ t = here in let z =
-                      h.1 in omega arith;
-                  past = a.past;
-                },
-                record {
-                  numbers = b.numbers;
-                  tickets = λ t there here. let h =
-                      ticket_low r.served r.drawn t u.stage g.turn there in let e : r.drawn ≡ t = here in let z =
-                      h.1 in omega arith;
-                  past = b.past;
-                },
-              );
+              r.apart id j v u (λ e. other (sym e)) (at, left) l in let b = r.apart j id u v other l (at, left) in let both =
+              apart_both {w = w} {u = u} a.numbers (λ t here there. let h =
+              ticket_low r.served r.drawn t u.stage g.turn there in let e : r.drawn ≡ t = here in let z =
+              h.1 in omega arith) a.past b.past in
+              (refit g (turn_more r.served r.drawn u.stage g.turn), both.0, both.1);
           place = place_other r.log s
               (record {
                 id = id;
@@ -244,21 +232,10 @@ module _ {B : Type 0} (entries : B → List Entry) (terms_of : B → Terms) (ter
           turn = (now, drawn);
         };
         others = λ j u other l. let g = r.each j u l in let a =
-            r.apart id j v u (λ e. other (sym e)) (at, left) l in let b = r.apart j id u v other l (at, left) in (
-              g,
-              record {
-                numbers = a.numbers;
-                tickets =
-                    λ x here there. a.tickets x (subst (λ (st : Stage). IsTicket st x) (sym is) here) there;
-                past = a.past;
-              },
-              record {
-                numbers = b.numbers;
-                tickets =
-                    λ x there here. b.tickets x there (subst (λ (st : Stage). IsTicket st x) (sym is) here);
-                past = b.past;
-              },
-            );
+            r.apart id j v u (λ e. other (sym e)) (at, left) l in let b = r.apart j id u v other l (at, left) in let both =
+            apart_both {w = w} {u = u} a.numbers
+            (λ x here there. a.tickets x (subst (λ (st : Stage). IsTicket st x) (sym is) here) there) a.past b.past in
+            (g, both.0, both.1);
         place = inr record {
           home = ap (λ (hs : Homes). set hs 0 none) h.home;
           place = id;
@@ -386,10 +363,11 @@ module _ {B : Type 0} (entries : B → List Entry) (terms_of : B → Terms) (ter
           turn = f.turn;
         };
         others = λ j u other l. let g = r.each j u l in let a =
-            r.apart id j v u (λ z. other (sym z)) live l in let b = r.apart j id u v other l live in (
+            r.apart id j v u (λ z. other (sym z)) live l in let b = r.apart j id u v other l live in let both =
+            apart_both {w = w} {u = u} a.numbers a.tickets a.past b.past in (
               longer_list e g (λ same. a.numbers (sym own ∙ same)) (λ k j' at same. b.past k j' at (sym same ∙ own)),
-              record { numbers = a.numbers; tickets = a.tickets; past = a.past },
-              record { numbers = b.numbers; tickets = b.tickets; past = b.past },
+              both.0,
+              both.1,
             );
         place = inr record {
           home = h.0;
@@ -451,11 +429,9 @@ module _ {B : Type 0} (entries : B → List Entry) (terms_of : B → Terms) (ter
           makers = r.makers;
           fits = restage f tt;
           others = λ j u other l. let g = r.each j u l in let a =
-              r.apart id j v u (λ e. other (sym e)) (at, left) l in let b = r.apart j id u v other l (at, left) in (
-                refit g (turn_next r.served r.drawn u.stage g.turn (not_now j u other l)),
-                record { numbers = a.numbers; tickets = λ x here there. absurd here; past = a.past },
-                record { numbers = b.numbers; tickets = λ x there here. absurd here; past = b.past },
-              );
+              r.apart id j v u (λ e. other (sym e)) (at, left) l in let b = r.apart j id u v other l (at, left) in let both =
+              apart_both {w = w} {u = u} a.numbers (λ x here there. absurd here) a.past b.past in
+              (refit g (turn_next r.served r.drawn u.stage g.turn (not_now j u other l)), both.0, both.1);
           place = inl record {
             value = value;
             home = ap (put_back s.homes) slot ∙ ap (λ (hs : Homes). set hs 0 (some (Some value))) h.0;

@@ -1,8 +1,8 @@
 use Rattle.std.proofs.Common.{◌≡◌, ap, sym, ◌∙◌, Option, Some, None, subst}
 use mathlib.Core.Option.{some-injective}
-use Rattle.turnstile.specs.Passes.{AllJoined, IsWholeList, PassState}
+use Rattle.turnstile.specs.Passes.{IsWholeList}
 use Rattle.turnstile.specs.Taken.{stands_as}
-use Rattle.turnstile.proofs.Closing.{closes}
+use Rattle.turnstile.proofs.Closing.{closes, has_all}
 use Rattle.turnstile.proofs.turnstile.Turnstile.close.Goals as goal
 
 abbrev value_or : {A : Type 0} → A → Option A → A
@@ -11,47 +11,29 @@ value_or d (Some x) = x
 
 pub unreachable-requires : goal.unreachable-requires
 unreachable-requires g c =
-    let v = c.rise.result.me.0 in let free = c.rise.ensures.free in let old = c.rise.ensures.old in
-    let all : AllJoined v.splits v.joined = subst (λ (p : PassState). AllJoined p.splits p.joined) old c.requires.all in
+    let rise = c.rise in
     let last = closes g.B.Kept.entries g.B.Kept.terms (g.B.Kept.terms c.self.inside.table.shared.key.value)
-    c.rise.result.table_id c.rise.result.id
-    {v = v} record {
-      left = free.left;
-      idle = free.idle;
-      first = c.rise.ensures.view.number_is ∙ c.requires.first;
-      all = all;
-    } _ _ c.close_with-closed.ensures.values.2 in
+    rise.result.table_id rise.result.id
+    (has_all rise.ensures.free rise.ensures.old c.requires.first c.requires.all) _ _ c.close_with-closed.ensures.values.2 in
     c.in_default.not-Some last.value (some-injective _ _ (sym c.take-slot.ensures.value ∙ last.slot))
 
 pub returns-clause-whole : goal.returns-clause-whole
 returns-clause-whole g c =
-    let v = c.rise.result.me.0 in let free = c.rise.ensures.free in let old = c.rise.ensures.old in
-    let all : AllJoined v.splits v.joined = subst (λ (p : PassState). AllJoined p.splits p.joined) old c.requires.all in
+    let rise = c.rise in
     let last = closes g.B.Kept.entries g.B.Kept.terms (g.B.Kept.terms c.self.inside.table.shared.key.value)
-    c.rise.result.table_id c.rise.result.id
-    {v = v} record {
-      left = free.left;
-      idle = free.idle;
-      first = c.rise.ensures.view.number_is ∙ c.requires.first;
-      all = all;
-    } _ _ c.close_with-closed.ensures.values.2 in
+    rise.result.table_id rise.result.id
+    (has_all rise.ensures.free rise.ensures.old c.requires.first c.requires.all) _ _ c.close_with-closed.ensures.values.2 in
     let same : c.in-Some.value ≡ last.value =
     ap (value_or c.in-Some.value) (sym c.in-Some.is ∙ some-injective _ _ (sym c.take-slot.ensures.value ∙ last.slot)) in
-    subst (λ pass. IsWholeList pass (g.B.Kept.entries c.in-Some.value)) (sym old)
-    (subst (λ x. IsWholeList (stands_as c.rise.result.table_id v) (g.B.Kept.entries x)) (sym same) last.whole)
+    subst (λ pass. IsWholeList pass (g.B.Kept.entries c.in-Some.value)) (sym rise.ensures.old)
+    (subst (λ x. IsWholeList (stands_as rise.result.table_id rise.result.me.0) (g.B.Kept.entries x)) (sym same) last.whole)
 
 pub returns-clause-terms : goal.returns-clause-terms
 returns-clause-terms g c =
-    let v = c.rise.result.me.0 in let free = c.rise.ensures.free in let old = c.rise.ensures.old in
-    let all : AllJoined v.splits v.joined = subst (λ (p : PassState). AllJoined p.splits p.joined) old c.requires.all in
+    let rise = c.rise in
     let last = closes g.B.Kept.entries g.B.Kept.terms (g.B.Kept.terms c.self.inside.table.shared.key.value)
-    c.rise.result.table_id c.rise.result.id
-    {v = v} record {
-      left = free.left;
-      idle = free.idle;
-      first = c.rise.ensures.view.number_is ∙ c.requires.first;
-      all = all;
-    } _ _ c.close_with-closed.ensures.values.2 in
+    rise.result.table_id rise.result.id
+    (has_all rise.ensures.free rise.ensures.old c.requires.first c.requires.all) _ _ c.close_with-closed.ensures.values.2 in
     let same : c.in-Some.value ≡ last.value =
     ap (value_or c.in-Some.value) (sym c.in-Some.is ∙ some-injective _ _ (sym c.take-slot.ensures.value ∙ last.slot)) in
-    ap g.B.Kept.terms same ∙ (last.terms_are ∙ sym (ap (λ p. p.terms) old))
+    ap g.B.Kept.terms same ∙ (last.terms_are ∙ sym (ap (λ p. p.terms) rise.ensures.old))
