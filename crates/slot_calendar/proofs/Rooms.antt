@@ -6,7 +6,8 @@ use Rattle.plan_cert.specs.Slots.{total_slots}
 use Rattle.slot_calendar.specs.declared.calendar.Overflow.{Overflow}
 use Rattle.slot_calendar.specs.Profiles.{capacity_at}
 use Rattle.slot_calendar.specs.Plays.{Play, asked_at, cut_at}
-use Rattle.slot_calendar.specs.Calendars.{Entries, booked_at, IsCalendar, HasRoom, FitsIn, IsOverflowIn, IsFirstOverflow}
+use Rattle.slot_calendar.specs.Calendars.{Entries, booked_at, IsCalendar, HasRoom, FitsIn, IsOverflowIn}
+use Rattle.slot_calendar.specs.Calendars.{IsFirstOverflow}
 use Rattle.slot_calendar.specs.Totals.{ring_slots}
 use Rattle.slot_calendar.proofs.Capacities.{capacity-most}
 use Rattle.slot_calendar.proofs.Sending.{IsSegmentFrom, asked-in, asked-after, cut-before}

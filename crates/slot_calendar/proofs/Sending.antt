@@ -1,11 +1,13 @@
 -- What plans send slot by slot: a plan's slots are those of its segments, one after the other.
-use Rattle.std.proofs.Common.{◌≡◌, ◌≢◌, ◌<◌, ◌≤◌, ◌+◌, ◌-◌, ◌*◌, ◌/◌, ◌%◌, ℕ, min, List, [], ◌∷◌, ◌++◌, All, length, get_or, take, drop, sum, arith, refl, sym}
+use Rattle.std.proofs.Common.{◌≡◌, ◌≢◌, ◌<◌, ◌≤◌, ◌+◌, ◌-◌, ◌*◌, ◌/◌, ◌%◌, ℕ, min, List, [], ◌∷◌, ◌++◌, All, length}
+use Rattle.std.proofs.Common.{get_or, take, drop, sum, arith, refl, sym}
 use Rattle.std.proofs.Common.{ap, ◌∙◌, inl, inr}
 use Rattle.std.proofs.Math.Seq.{take-append-add}
 use Rattle.std.proofs.Math.Nat.{add-mul-div_right, mod-lt}
 use Rattle.std.proofs.lemmas.Nat.{div-add-mod'}
 use Rattle.std.proofs.lemmas.Bool.{cases_lt, cases_eq}
-use Rattle.std.proofs.lemmas.List.{take-append-le, take_all, take-take, take_more, take-append-drop, get_or_default, get_or_past}
+use Rattle.std.proofs.lemmas.List.{take-append-le, take_all, take-take, take_more, take-append-drop, get_or_default}
+use Rattle.std.proofs.lemmas.List.{get_or_past}
 use Rattle.std.proofs.lemmas.List.Concat.{flat_map-append}
 use Rattle.std.proofs.lemmas.List.Sums.{sum_by-append, sum_by-take-le, sum_by_more}
 use Rattle.std.proofs.lemmas.List.Elements.{All-head, All-take}
@@ -173,7 +175,8 @@ asked-in {segments} {i} {s} {start} t at begun ends =
 pub all-front : (segments : List Segment) (i : ℕ) → All (λ s. 1 ≤ s.slots) segments → All (λ s. 1 ≤ s.slots) (take i segments)
 all-front segments i some = All-take (λ s. 1 ≤ s.slots) i segments some
 
--- the first segments of a play that begins in slot `start` and keeps `keep` bytes: where they end, and what they leave of these
+-- the first segments of a play that begins in slot `start` and keeps `keep` bytes: where they end, and what they leave of
+-- these
 pub record IsFrontOf (xs : List Segment) (start keep from left : ℕ) : Type 0 where
   pub some : All (λ s. 1 ≤ s.slots) xs
   pub from_is : from ≡ start + total_slots xs

@@ -1,9 +1,11 @@
 -- A list that is kept rotation: slot t at place t modulo its length.
-use Rattle.std.proofs.Common.{◌≡◌, ◌≢◌, ◌<◌, ◌≤◌, ◌+◌, ◌-◌, ◌*◌, ◌/◌, ◌%◌, ℕ, Option, List, length, get_or, take, drop, set, arith, sym, ap, ◌∙◌, inl, inr}
+use Rattle.std.proofs.Common.{◌≡◌, ◌≢◌, ◌<◌, ◌≤◌, ◌+◌, ◌-◌, ◌*◌, ◌/◌, ◌%◌, ℕ, Option, List, length, get_or, take}
+use Rattle.std.proofs.Common.{drop, set, arith, sym, ap, ◌∙◌, inl, inr}
 use Rattle.std.proofs.Math.Nat.{lt_of_mul-lt-mul_right}
 use Rattle.std.proofs.lemmas.Nat.{div-add-mod', mod-mul-add, mod_below, field_of}
 use Rattle.std.proofs.lemmas.Bool.{cases_lt, cases_eq}
-use Rattle.std.proofs.lemmas.List.{length-set, get_or-set_same, get_or-set_other, length-drop, length-take-le, length-append, get_or_append_left}
+use Rattle.std.proofs.lemmas.List.{length-set, get_or-set_same, get_or-set_other, length-drop, length-take-le}
+use Rattle.std.proofs.lemmas.List.{length-append, get_or_append_left}
 use Rattle.std.proofs.lemmas.List.{get_or-append_right, get_or-drop, get_or-take, get_or_past}
 use Rattle.slot_calendar.specs.Rings.{IsTopped, rotation}
 use Rattle.slot_calendar.specs.Totals.{ring_slots, total_at}
@@ -150,7 +152,8 @@ total-bounded {xs} {tops} {first} {slot} {t} topped from since same =
       | inl inside ↦ (
           let here = total-in {first = first} places (record { from = omega arith; inside = inside }) in
           let bound = topped.bounded (t % ring_slots) (mod_below t ring_slots (omega arith)) in
-          let block : t % ring_slots / 1024 ≡ slot % ring_slots / 1024 = block_of t ∙ ap (λ b. b % 1024) same ∙ sym (block_of slot) in
+          let block : t % ring_slots / 1024 ≡ slot % ring_slots / 1024 =
+          block_of t ∙ ap (λ b. b % 1024) same ∙ sym (block_of slot) in
           let top : get_or tops (t % ring_slots / 1024) 0 ≡ get_or tops (slot % ring_slots / 1024) 0 =
           ap (λ b. get_or tops b 0) block in
           omega (arith, here, bound, top)

@@ -3,7 +3,8 @@ use Rattle.std.proofs.lemmas.List.{take_all}
 use Rattle.plan_cert.specs.declared.Segment.{Segment}
 use Rattle.plan_cert.specs.Slots.{total_slots}
 use Rattle.slot_calendar.specs.Profiles.{capacity_at}
-use Rattle.slot_calendar.specs.Calendars.{Entries, booked_at, IsCalendar, FitsIn, HasRoom, IsOverflowIn, IsFirstOverflow}
+use Rattle.slot_calendar.specs.Calendars.{Entries, booked_at, IsCalendar, FitsIn, HasRoom, IsOverflowIn}
+use Rattle.slot_calendar.specs.Calendars.{IsFirstOverflow}
 use Rattle.slot_calendar.proofs.Sending.{from-next, no_segment, segment-at}
 use Rattle.slot_calendar.proofs.Rooms.{fits-next, first-overflow, room-all}
 use Rattle.slot_calendar.proofs.calendar.Calendar.first_overflow.Goals as goal
