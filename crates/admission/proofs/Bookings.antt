@@ -1,5 +1,6 @@
 -- What an entry more does to what is booked; where a play begins.
-use Rattle.std.proofs.Common.{◌≡◌, ◌<◌, ◌+◌, ℕ, false, List, [], ◌∷◌, ◌++◌, Some, max, length, get_or, map, take, arith, refl, sym, ap, subst, ◌∙◌}
+use Rattle.std.proofs.Common.{◌≡◌, ◌<◌, ◌+◌, ℕ, false, List, [], ◌∷◌, ◌++◌, Some, max, length, get_or, map, take}
+use Rattle.std.proofs.Common.{arith, refl, sym, ap, subst, ◌∙◌}
 use Rattle.std.proofs.lemmas.Bool.{false≢true}
 use Rattle.std.proofs.lemmas.List.{map-append}
 use Rattle.std.proofs.lemmas.List.Sums.{fold_more}
@@ -13,7 +14,8 @@ use Rattle.admission.specs.declared.entries.Command.{Command}
 use Rattle.admission.specs.declared.entries.Command.TheVariants.{Play, Halt, Look}
 use Rattle.admission.specs.declared.entries.Answer.{Answer}
 use Rattle.admission.specs.declared.entries.Answer.TheVariants.{Admitted, Overflow, Halted, Looked}
-use Rattle.admission.specs.Machine.{State, CanHalt, IsAnswer, admitted_play, booked_in, halted_play, held_as, next_state, plays_of, with_halted}
+use Rattle.admission.specs.Machine.{State, CanHalt, IsAnswer, admitted_play, booked_in, halted_play, held_as}
+use Rattle.admission.specs.Machine.{next_state, plays_of, with_halted}
 use Rattle.admission.specs.Histories.{IsLegal, asked_in, booked_after, is_admission, is_halt, latest_asked, state_after}
 use Rattle.admission.proofs.Admissions.{admission_of}
 use Rattle.admission.proofs.Calendars.{plays-around}

@@ -1,5 +1,6 @@
 -- The play that a halt closes, among the plays before and after it.
-use Rattle.std.proofs.Common.{◌≡◌, ◌≤◌, ℕ, true, eqb, List, [], ◌∷◌, ◌++◌, length, map, All, Option, Some, None, IsSomeAnd, arith, refl, sym, ap, subst, ◌∙◌}
+use Rattle.std.proofs.Common.{◌≡◌, ◌≤◌, ℕ, true, eqb, List, [], ◌∷◌, ◌++◌, length, map, All, Option, Some, None}
+use Rattle.std.proofs.Common.{IsSomeAnd, arith, refl, sym, ap, subst, ◌∙◌}
 use Rattle.std.proofs.Common.{inl, inr}
 use Rattle.std.proofs.lemmas.Bool.{cases_Bool, cond-true, cond-false, eqb-true}
 use Rattle.std.proofs.lemmas.List.{drop_at, get_or_at, length-append, map-append, take_at}

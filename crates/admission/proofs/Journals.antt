@@ -6,6 +6,7 @@ use Rattle.plan_cert.specs.declared.Segment.{Segment}
 use Rattle.slot_calendar.specs.declared.profiles.CapacityStep.{CapacityStep}
 use Rattle.slot_calendar.specs.Calendars.{Entries as Calendar}
 use Rattle.admission.specs.declared.entries.Entry.{Entry}
+use Rattle.admission.specs.declared.entries.Full.{Full}
 use Rattle.admission.specs.declared.entries.Noted.{Noted}
 use Rattle.admission.specs.declared.entries.Command.{Command}
 use Rattle.admission.specs.declared.entries.Command.TheVariants.{Play, Halt}
@@ -13,8 +14,8 @@ use Rattle.admission.specs.declared.entries.Answer.{Answer}
 use Rattle.admission.specs.declared.entries.Answer.TheVariants.{Admitted, Overflow, Halted, Looked}
 use Rattle.admission.specs.Machine.{State, Held, CanHalt, IsAnswer, halted_play, next_state, open_plays, admitted_play}
 use Rattle.admission.specs.Histories.{IsAnswered, IsLegal, is_admission, open_count, state_after}
-use Rattle.admission.specs.Books.{IsNoted, Journal}
-use Rattle.admission.specs.Kept.{Follows, IsKept}
+use Rattle.admission.specs.Books.{IsFull, IsNoted, Journal}
+use Rattle.admission.specs.Kept.{Follows, IsBookKept}
 use Rattle.admission.proofs.Runs.{Machine, legal-push, next_of, state-push}
 use Rattle.admission.proofs.Halts.{halting, split}
 
@@ -50,7 +51,8 @@ open-halted state place number keep can =
     omega (arith, old, new, one)
 
 -- ---- one entry more
--- the calendar and the entries of a book, with one entry more, and how many of its plays are open and how many entries have room
+-- the calendar and the entries of a book, with one entry more, and how many of its plays are open and how many entries
+-- have room
 pub record HasGrown (calendar new : Calendar) (xs ys : List Entry) (e : Entry) (limit room more wide : ℕ) : Type 0 where
   pub entries_are : ys ≡ xs ++ e ∷ []
   pub answered : IsAnswered calendar.steps (state_after xs) e
@@ -60,9 +62,18 @@ pub record HasGrown (calendar new : Calendar) (xs ys : List Entry) (e : Entry) (
   pub fits : length xs + 1 + more ≤ limit
   pub wide_is : wide ≡ room
 
+-- what a book tells of its counts, by its fields
+pub counts-kept : {calendar : Calendar} {xs : List Entry} {journal : Journal} {full : Full} {limit count room : ℕ}
+    → IsBookKept calendar xs limit count room → xs ≡ journal.entries → IsFull journal full
+    → (full.entries ≡ length xs) × (full.open_plays ≡ count)
+counts-kept kept same full = (
+  full.entries_are ∙ ap length (sym same),
+  full.open_is ∙ ap open_count (sym same) ∙ sym kept.count_is,
+)
+
 pub kept-push : {calendar new : Calendar} {xs ys : List Entry} {e : Entry} {limit count more room wide : ℕ}
-    → IsKept calendar xs limit count room → HasGrown calendar new xs ys e limit room more wide
-    → IsKept new ys limit more wide
+    → IsBookKept calendar xs limit count room → HasGrown calendar new xs ys e limit room more wide
+    → IsBookKept new ys limit more wide
 kept-push {calendar} {new} {xs} {ys} {e} {more} kept grown =
     let is = grown.entries_are in
     let steps = grown.steps_are in

@@ -1,5 +1,6 @@
 -- The entries of a maker, and what they tell of the whole history.
-use Rattle.std.proofs.Common.{◌≡◌, ◌<◌, ◌+◌, ℕ, zero, suc, eqb, List, [], ◌∷◌, length, get_or, All, Some, map, filter, arith, refl, sym, ap, subst, ◌∙◌, inl}
+use Rattle.std.proofs.Common.{◌≡◌, ◌<◌, ◌+◌, ℕ, zero, suc, eqb, List, [], ◌∷◌, length, get_or, All, Some, map}
+use Rattle.std.proofs.Common.{filter, arith, refl, sym, ap, subst, ◌∙◌, inl}
 use Rattle.std.proofs.Common.{inr, eq-eqb}
 use Rattle.std.proofs.lemmas.Bool.{cases_Bool, cond-true, cond-false, eqb-true}
 use Rattle.std.proofs.lemmas.List.{get_or_default}

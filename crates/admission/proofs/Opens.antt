@@ -1,5 +1,6 @@
 -- A play is open from the entry that admits it to the entry that halts it.
-use Rattle.std.proofs.Common.{◌≡◌, ◌≤◌, ◌<◌, ℕ, zero, suc, Bool, true, false, List, [], ◌∷◌, ◌++◌, max, length, get_or, take, All, Option, Some, IsSomeAnd}
+use Rattle.std.proofs.Common.{◌≡◌, ◌≤◌, ◌<◌, ℕ, zero, suc, Bool, true, false, List, [], ◌∷◌, ◌++◌, max, length}
+use Rattle.std.proofs.Common.{get_or, take, All, Option, Some, IsSomeAnd}
 use Rattle.std.proofs.Common.{arith, refl, sym, ap, subst, ◌∙◌, inl, inr}
 use Rattle.std.proofs.lemmas.Bool.{cases_order}
 use Rattle.std.proofs.lemmas.List.{get_or_default, length-take, take_all}
@@ -13,9 +14,12 @@ use Rattle.admission.specs.declared.entries.Command.{Command}
 use Rattle.admission.specs.declared.entries.Command.TheVariants.{Play, Halt, Look}
 use Rattle.admission.specs.declared.entries.Answer.{Answer}
 use Rattle.admission.specs.declared.entries.Answer.TheVariants.{Admitted, Overflow, Halted, Looked}
-use Rattle.admission.specs.Machine.{State, Held, CanHalt, IsAnswer, halted_play, with_halted, held_as, next_state, admitted_play}
-use Rattle.admission.specs.Histories.{Halts, IsAdmission, IsHalt, IsLegal, IsStillOpen, IsUnhalted, play_admitted, state_after}
-use Rattle.admission.proofs.Runs.{Machine, PlayAdmitted, machine_after, legal-at, legal-take, no_entry, state-next, state-push}
+use Rattle.admission.specs.Machine.{State, Held, CanHalt, IsAnswer, halted_play, with_halted, held_as, next_state}
+use Rattle.admission.specs.Machine.{admitted_play}
+use Rattle.admission.specs.Histories.{Halts, IsAdmission, IsHalt, IsLegal, IsStillOpen, IsUnhalted, play_admitted}
+use Rattle.admission.specs.Histories.{state_after}
+use Rattle.admission.proofs.Runs.{Machine, PlayAdmitted, machine_after, legal-at, legal-take, no_entry, state-next}
+use Rattle.admission.proofs.Runs.{state-push}
 use Rattle.admission.proofs.Halts.{halting, holds-of, split}
 use Rattle.admission.proofs.Within.{IsWhole, sound-after}
 use Rattle.admission.proofs.Admissions.{IsKnown, admission_of, known-after, known-at, open-inside}

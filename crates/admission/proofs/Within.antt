@@ -1,5 +1,6 @@
 -- No slot is booked above its capacity: not in the beginning, and not after a step of the machine.
-use Rattle.std.proofs.Common.{◌≡◌, ◌≤◌, ◌<◌, ◌+◌, ◌-◌, ℕ, zero, suc, min, true, List, [], ◌∷◌, ◌++◌, length, get_or, map, take, All, Some, arith, refl, sym, ap}
+use Rattle.std.proofs.Common.{◌≡◌, ◌≤◌, ◌<◌, ◌+◌, ◌-◌, ℕ, zero, suc, min, true, List, [], ◌∷◌, ◌++◌, length, get_or}
+use Rattle.std.proofs.Common.{map, take, All, Some, arith, refl, sym, ap}
 use Rattle.std.proofs.Common.{subst, ◌∙◌}
 use Rattle.std.proofs.lemmas.List.{map-append, take_all}
 use Rattle.std.proofs.lemmas.List.Elements.{All-nil, All-push}
@@ -15,7 +16,8 @@ use Rattle.admission.specs.declared.entries.Command.{Command}
 use Rattle.admission.specs.declared.entries.Command.TheVariants.{Play, Halt, Look}
 use Rattle.admission.specs.declared.entries.Answer.{Answer}
 use Rattle.admission.specs.declared.entries.Answer.TheVariants.{Admitted, Overflow, Halted, Looked}
-use Rattle.admission.specs.Machine.{State, Held, plays_of, booked_in, IsNeverOverbooked, admitted_play, halted_play, held_as, with_halted, IsAnswer, next_state}
+use Rattle.admission.specs.Machine.{State, Held, plays_of, booked_in, IsNeverOverbooked, admitted_play, halted_play}
+use Rattle.admission.specs.Machine.{held_as, with_halted, IsAnswer, next_state}
 use Rattle.admission.specs.Histories.{IsLegal, state_after}
 use Rattle.admission.proofs.Runs.{Machine, machine_after, no_entry, state-next, legal-at}
 use Rattle.admission.proofs.Halts.{halting, split, holds-of, all-halted, play_of, plays-split}

@@ -13,7 +13,8 @@ pub record Follows (calendar : Calendar) (state : State) : Type 0 where
   pub stands : StandsFor calendar (plays_of state)
 
 -- what holds of each book; the journal has room for all entries without memory
-pub record IsKept (calendar : Calendar) (entries : List Entry) (limit count room : ℕ) : Type 0 where
+pub record IsBookKept (calendar : Calendar) (entries : List Entry) (limit count room : ℕ)
+    : Type 0 where
   pub legal : IsLegal calendar.steps entries
   pub follows : Follows calendar (state_after entries)
   pub count_is : count ≡ open_count entries

@@ -5,6 +5,22 @@ use Rattle.admission.specs.Histories.{state_after}
 use Rattle.admission.proofs.Admissions.{open-entry, open-inside}
 use Rattle.admission.proofs.Calendars.{HoldsWhole, cut-allowed, stands-halted}
 use Rattle.admission.proofs.keeping.give_back.Goals as goal
+use Rattle.admission.proofs.keeping.give_back.Goals.{After-law_release}
+
+-- the play stands whole, as its entry tells it
+whole : (c : After-law_release)
+    → HoldsWhole (state_after c.args.entries.now) c.args.number c.in-Admitted.start c.in-Play.plan
+whole c =
+    let found = open-entry c.requires.legal c.requires.can c.index-entries-number.is in
+    let play = found.held.play in
+    let plan : c.in-Play.plan ≡ play.segments = cc (c.in-Play.is, found.command_is) in
+    let start : c.in-Admitted.start ≡ play.start = cc (c.in-Admitted.is, found.answer_is) in
+    record {
+      held = found.held;
+      is = found.is;
+      play_is = found.play_is ∙ ap (λ s. whole_play s play.segments) (sym start)
+          ∙ ap (λ p. whole_play c.in-Admitted.start p) (sym plan);
+    }
 
 pub offset_bounds-entries-number : goal.offset_bounds-entries-number
 offset_bounds-entries-number c =
@@ -38,32 +54,13 @@ release-requires-clause-keep c =
 
 pub release-requires-clause-booked : goal.release-requires-clause-booked
 release-requires-clause-booked c =
-    let entry = c.index-entries-number in
-    let found = open-entry c.requires.legal c.requires.can entry.is in
-    let play = found.held.play in
-    let plan : c.in-Play.plan ≡ play.segments = cc (c.in-Play.is, found.command_is) in
-    let start : c.in-Admitted.start ≡ play.start = cc (c.in-Admitted.is, found.answer_is) in
-    let same : play ≡ whole_play c.in-Admitted.start c.in-Play.plan =
-    found.play_is ∙ ap (λ s. whole_play s play.segments) (sym start) ∙ ap (λ p. whole_play c.in-Admitted.start p) (sym plan) in
-    let whole : HoldsWhole (state_after c.args.entries.now) c.args.number c.in-Admitted.start c.in-Play.plan =
-    record { held = found.held; is = found.is; play_is = same } in
-    cut-allowed c.args.keep whole c.requires.follows.stands
+    cut-allowed c.args.keep (whole (goal.at.release-requires-clause-booked c).After-law_release) c.requires.follows.stands
     (λ before after. c.law_release.ensures c.args.calendar.now before after c.in-Play.plan
     c.in-Admitted.start c.args.keep c.segments-plan.ensures.plan)
 
 pub returns-clause-next : goal.returns-clause-next
-returns-clause-next c = λ place. (
-    let entry = c.index-entries-number in
-    let found = open-entry c.requires.legal c.requires.can entry.is in
-    let play = found.held.play in
-    let plan : c.in-Play.plan ≡ play.segments = cc (c.in-Play.is, found.command_is) in
-    let start : c.in-Admitted.start ≡ play.start = cc (c.in-Admitted.is, found.answer_is) in
-    let same : play ≡ whole_play c.in-Admitted.start c.in-Play.plan =
-    found.play_is ∙ ap (λ s. whole_play s play.segments) (sym start) ∙ ap (λ p. whole_play c.in-Admitted.start p) (sym plan) in
-    let whole : HoldsWhole (state_after c.args.entries.now) c.args.number c.in-Admitted.start c.in-Play.plan =
-    record { held = found.held; is = found.is; play_is = same } in
-    record {
-      now = c.release.ensures.now ∙ c.requires.follows.now;
-      stands = stands-halted c.args.keep whole c.requires.follows.stands c.release.ensures.stands;
-    }
-    )
+returns-clause-next c = λ place. record {
+  now = c.release.ensures.now ∙ c.requires.follows.now;
+  stands = stands-halted c.args.keep (whole (goal.at.returns-clause-next c).After-law_release)
+      c.requires.follows.stands c.release.ensures.stands;
+}

@@ -1,49 +1,42 @@
-use Rattle.std.proofs.Common.{◌≡◌, ℕ, length, arith, refl, ap, subst}
+use Rattle.std.proofs.Common.{ℕ, arith, refl, ap, subst}
+use Rattle.admission.specs.declared.entries.Answer.TheVariants.{Looked}
 use Rattle.admission.specs.declared.entries.Command.TheVariants.{Look}
 use Rattle.admission.specs.Books.{IsNoted, Journal}
-use Rattle.admission.specs.Histories.{open_count}
+use Rattle.admission.specs.Histories.{state_after}
+use Rattle.admission.specs.Machine.{IsAnswer}
 use Rattle.admission.proofs.Calendars.{look-answer}
-use Rattle.admission.proofs.Journals.{kept-push, noted-push}
+use Rattle.admission.proofs.Journals.{counts-kept, kept-push, noted-push}
 use Rattle.admission.proofs.book.Book.look.Goals as goal
+use Rattle.admission.proofs.book.Book.look.Goals.{After-note}
+
+answered : (c : After-note)
+    → IsAnswer c.self.inside.calendar.steps (state_after c.self.inside.entries.items) (Look c.min-slot.result)
+    (Looked c.now-now.result c.max-at.result c.booked_bytes-booked.result)
+answered c =
+    look-answer c.self.inside.calendar.steps c.min-slot.result
+    c.self.invariant.follows c.now-now.ensures.value c.max-at.ensures c.booked_bytes-booked.ensures.value
 
 pub invariant_of-self : goal.invariant_of-self
 invariant_of-self c =
-    let book = c.self.inside in
-    let entries : length book.entries.items ≡ length c.args.self.now.entries =
-    ap (λ (j : Journal). length j.entries) c.self.view_is in
-    let count : open_count book.entries.items ≡ open_count c.args.self.now.entries =
-    ap (λ (j : Journal). open_count j.entries) c.self.view_is in
+    let counts = counts-kept c.self.invariant (ap (λ (j : Journal). j.entries) c.self.view_is) c.counts-full.ensures.full in
     kept-push c.self.invariant (record {
       entries_are = c.note.ensures.items;
-      answered = look-answer book.calendar.steps c.min-slot.result
-          c.self.invariant.follows c.now-now.ensures.value c.max-at.ensures c.booked_bytes-booked.ensures.value;
+      answered = answered (goal.at.invariant_of-self c).After-note;
       steps_are = refl;
       follows = c.self.invariant.follows;
       more_is = c.self.invariant.count_is;
-      fits = omega (
-        arith,
-        c.if-full-self.false,
-        c.counts-full.ensures.full.entries_are,
-        c.counts-full.ensures.full.open_is,
-        c.self.invariant.count_is,
-        entries,
-        count,
-      );
+      fits = omega (arith, c.if-full-self.false, counts.0, counts.1);
       wide_is = c.note.ensures.room;
     })
 
 pub returns-clause-noted : goal.returns-clause-noted
 returns-clause-noted c =
     let book = c.self.inside in
-    let P : Journal → Type 0 =
-    λ j. IsNoted j c.args.maker (Look c.min-slot.result) c.note.result
-    (record { steps = book.calendar.steps; limit = book.limit; entries = c.note.new.entries.items }) in
-    let S : ℕ → Type 0 =
-    λ n. IsNoted c.args.self.now c.args.maker (Look n) c.note.result
-    (record { steps = book.calendar.steps; limit = book.limit; entries = c.note.new.entries.items }) in
+    let new : Journal = record { steps = book.calendar.steps; limit = book.limit; entries = c.note.new.entries.items } in
+    let P : Journal → Type 0 = λ j. IsNoted j c.args.maker (Look c.min-slot.result) c.note.result new in
+    let S : ℕ → Type 0 = λ n. IsNoted c.args.self.now c.args.maker (Look n) c.note.result new in
     subst S c.min-slot.ensures
     (subst P c.self.view_is (noted-push book.limit
     c.self.invariant.legal
-    (look-answer book.calendar.steps c.min-slot.result
-    c.self.invariant.follows c.now-now.ensures.value c.max-at.ensures c.booked_bytes-booked.ensures.value)
+    (answered (goal.at.returns-clause-noted c).After-note)
     (record { place_is = c.note.ensures.place; answer_is = c.note.ensures.answer; entries_are = c.note.ensures.items }) refl))

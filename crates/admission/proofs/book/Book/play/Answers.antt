@@ -3,25 +3,30 @@ use Rattle.admission.specs.declared.entries.Answer.{Answer}
 use Rattle.admission.specs.declared.entries.Answer.TheVariants.{Admitted}
 use Rattle.admission.specs.declared.entries.Command.TheVariants.{Play}
 use Rattle.admission.specs.declared.entries.Entry.{Entry}
-use Rattle.admission.specs.Machine.{CanHalt}
+use Rattle.admission.specs.Machine.{CanHalt, IsAnswer}
 use Rattle.admission.specs.Books.{IsNoted, Journal}
-use Rattle.admission.specs.Histories.{open_count, state_after}
+use Rattle.admission.specs.Histories.{state_after}
 use Rattle.admission.proofs.Runs.{Machine}
-use Rattle.admission.proofs.Journals.{kept-push, noted-push, open-asked, opens-most}
+use Rattle.admission.proofs.Journals.{counts-kept, kept-push, noted-push, open-asked, opens-most}
 use Rattle.admission.proofs.Opens.{opened-last}
 use Rattle.admission.proofs.Within.{sound-after}
 use Rattle.admission.proofs.book.Book.play.Goals as goal
+use Rattle.admission.proofs.book.Book.play.Goals.{After-note}
+
+answered : (c : After-note)
+    → IsAnswer c.self.inside.calendar.steps (state_after c.self.inside.entries.items)
+    (Play c.min-slot.result c.args.plan) c.admit-answer.result
+answered c =
+    let book = c.self.inside in
+    c.admit-answer.ensures.answer (state_after book.entries.items) c.self.invariant.follows
+    (sound-after book.calendar.steps book.entries.items c.self.invariant.legal).within
 
 pub invariant_of-self : goal.invariant_of-self
 invariant_of-self c =
     let book = c.self.inside in
     let state = state_after book.entries.items in
-    let entries : length book.entries.items ≡ length c.args.self.now.entries =
-    ap (λ (j : Journal). length j.entries) c.self.view_is in
-    let count : open_count book.entries.items ≡ open_count c.args.self.now.entries =
-    ap (λ (j : Journal). open_count j.entries) c.self.view_is in
-    let within = (sound-after book.calendar.steps book.entries.items c.self.invariant.legal).within in
-    let answer = c.admit-answer.ensures.answer state c.self.invariant.follows within in
+    let counts = counts-kept c.self.invariant (ap (λ (j : Journal). j.entries) c.self.view_is) c.counts-full.ensures.full in
+    let answer = answered (goal.at.invariant_of-self c).After-note in
     let machine : Machine = record { steps = book.calendar.steps; state = state } in
     let asked = open-asked machine (length book.entries.items) c.min-slot.result c.args.plan c.admit-answer.result answer in
     kept-push c.self.invariant (record {
@@ -33,11 +38,8 @@ invariant_of-self c =
       fits = omega (
         arith,
         c.if-full-self.false,
-        c.counts-full.ensures.full.entries_are,
-        c.counts-full.ensures.full.open_is,
-        c.self.invariant.count_is,
-        entries,
-        count,
+        counts.0,
+        counts.1,
         c.plays_opened.ensures,
         opens-most c.admit-answer.result,
       );
@@ -47,16 +49,14 @@ invariant_of-self c =
 pub returns-clause-noted : goal.returns-clause-noted
 returns-clause-noted c =
     let book = c.self.inside in
-    let state = state_after book.entries.items in
-    let within = (sound-after book.calendar.steps book.entries.items c.self.invariant.legal).within in
-    let answer = c.admit-answer.ensures.answer state c.self.invariant.follows within in
     let new : Journal =
     record { steps = c.admit-answer.new.calendar.steps; limit = book.limit; entries = c.note.new.entries.items } in
     let P : Journal → Type 0 = λ j. IsNoted j c.args.maker (Play c.min-slot.result c.args.plan) c.note.result new in
     let S : ℕ → Type 0 = λ n. IsNoted c.args.self.now c.args.maker (Play n c.args.plan) c.note.result new in
     subst S c.min-slot.ensures
     (subst P c.self.view_is (noted-push book.limit
-    c.self.invariant.legal answer
+    c.self.invariant.legal
+    (answered (goal.at.returns-clause-noted c).After-note)
     (record { place_is = c.note.ensures.place; answer_is = c.note.ensures.answer; entries_are = c.note.ensures.items })
     c.admit-answer.ensures.steps))
 
