@@ -1,12 +1,13 @@
 -- The text of a journal, line by line.
-use Rattle.std.proofs.Common.{ℕ, zero, suc, ◌+◌, ◌<◌, ◌≤◌, ◌≡◌, Err, List, [], ◌∷◌, ◌++◌, drop, flat_map, get_or, length, append_assoc, append-nil, sym, ap}
-use Rattle.std.proofs.Common.{refl, ◌∙◌, arith}
-use Rattle.std.proofs.lemmas.List.{drop_all, drop_more}
+use Rattle.std.proofs.Common.{ℕ, zero, suc, ◌+◌, ◌<◌, ◌≤◌, ◌≡◌, Err, List, [], ◌∷◌, ◌++◌, drop, flat_map, get_or}
+use Rattle.std.proofs.Common.{length, append_assoc, append-nil, sym, ap, subst, refl, ◌∙◌, arith}
+use Rattle.std.proofs.lemmas.List.{drop_all, drop_more, get_or-drop, length-drop}
 use Rattle.vod_base.specs.declared.outside.NoMemory.{NoMemory}
 use Rattle.admission.specs.declared.entries.Entry.{Entry}
 use Rattle.report.specs.Appends.{IsAppended}
 use Rattle.report.specs.EntryLines.{entry_line}
 use Rattle.report.specs.JournalTexts.{IsJournalTold, journal_text}
+use Rattle.report.specs.Kinds.{AreOfKind, IsOfKind}
 use Rattle.report.proofs.AppendLemmas.{appended_as, both, cut_before, then_appended}
 
 -- the lines of entries, each by itself
@@ -40,49 +41,72 @@ journal_told place entries = record {
   text_is = text_of place entries;
 }
 
--- what was appended of the text so far, before the line at a place
-pub record HasAppended (entries : List Entry) (from place : ℕ) (before after : List ℕ) : Type 0 where
+-- the entries from a place on, which have answers of their kinds as all of them have
+pub kinds_from : (entries : List Entry) (from : ℕ) → AreOfKind entries → AreOfKind (drop from entries)
+kinds_from entries from kinds i none inside =
+    let within : from + i < length entries = omega (arith, inside, length-drop from entries) in
+    subst (λ (e : Entry). IsOfKind e.command e.answer) (sym (get_or-drop from entries i none)) (kinds (from + i) none within)
+
+pub kind_at : (entries : List Entry) (i : ℕ) (entry : Entry) → AreOfKind entries → i < length entries
+    → entry ≡ get_or entries i entry → IsOfKind entry.command entry.answer
+kind_at entries i entry kinds inside at =
+    subst (λ (e : Entry). IsOfKind e.command e.answer) (sym at) (kinds i entry inside)
+
+-- what was appended so far of the text of entries, of which the first stands at `from`: the lines of the first `passed`
+pub record HasAppended (entries : List Entry) (from passed : ℕ) (before after : List ℕ) : Type 0 where
   pub done : List ℕ
   pub after_is : after ≡ before ++ done
-  pub whole : done ++ journal_text place (drop place entries) ≡ journal_text from (drop from entries)
+  pub whole : done ++ journal_text (from + passed) (drop passed entries) ≡ journal_text from entries
 
-pub none_yet : (entries : List Entry) (from : ℕ) (before : List ℕ) → HasAppended entries from from before before
-none_yet entries from before = record { done = []; after_is = sym (append-nil before); whole = refl }
-
--- the line at a place, and those after it
-text_from : (entries : List Entry) (i : ℕ) (entry : Entry) → i < length entries → entry ≡ get_or entries i entry →
-    journal_text i (drop i entries) ≡ entry_line i entry ++ journal_text (i + 1) (drop (i + 1) entries)
-text_from entries i entry inside at =
-    ap (journal_text i) (drop_more entries i entry inside)
-    ∙ ap (λ (e : Entry). entry_line i e ++ journal_text (i + 1) (drop (i + 1) entries)) (sym at)
-
--- a line more
-pub one_more : {entries : List Entry} {from place : ℕ} {before mid after : List ℕ} (entry : Entry) →
-    HasAppended entries from place before mid →
-    place < length entries → entry ≡ get_or entries place entry → after ≡ mid ++ entry_line place entry
-    → HasAppended entries from (place + 1) before after
-one_more {entries = entries} {place = place} {before = before} entry so_far inside at is = record {
-  done = so_far.done ++ entry_line place entry;
-  after_is = both before so_far.done (entry_line place entry) so_far.after_is is;
-  whole = append_assoc so_far.done (entry_line place entry) (journal_text (place + 1) (drop (place + 1) entries))
-      ∙ ap (λ (l : List ℕ). so_far.done ++ l) (sym (text_from entries place entry inside at)) ∙ so_far.whole;
+pub none_yet : (entries : List Entry) (from : ℕ) (before : List ℕ) → HasAppended entries from 0 before before
+none_yet entries from before = record {
+  done = [];
+  after_is = sym (append-nil before);
+  whole = let at : from + 0 ≡ from = omega arith in ap (λ n. journal_text n entries) at;
 }
 
--- a front of the line at a place is one of the text
-pub line_cut : {entries : List Entry} {from place : ℕ} {before mid after : List ℕ} {e : NoMemory}
-    (entry : Entry) → HasAppended entries from place before mid →
-    place < length entries → entry ≡ get_or entries place entry → IsAppended mid (entry_line place entry) after (Err e) →
-    IsAppended before (journal_text from (drop from entries)) after (Err e)
-line_cut {entries = entries} {place = place} entry so_far inside at cut =
-    appended_as (ap (λ (l : List ℕ). so_far.done ++ l) (sym (text_from entries place entry inside at)) ∙ so_far.whole)
-    (then_appended so_far.done so_far.after_is (cut_before (journal_text (place + 1) (drop (place + 1) entries)) cut))
+-- the next line, and those after it
+text_next : (entries : List Entry) (from i : ℕ) (entry : Entry) → i < length entries → entry ≡ get_or entries i entry →
+    journal_text (from + i) (drop i entries)
+    ≡ entry_line (from + i) entry ++ journal_text (from + (i + 1)) (drop (i + 1) entries)
+text_next entries from i entry inside at =
+    let next : from + i + 1 ≡ from + (i + 1) = omega arith in
+    ap (journal_text (from + i)) (drop_more entries i entry inside)
+    ∙ ap (λ (e : Entry). entry_line (from + i) e ++ journal_text (from + i + 1) (drop (i + 1) entries)) (sym at)
+    ∙ ap (λ n. entry_line (from + i) entry ++ journal_text n (drop (i + 1) entries)) next
+
+-- a line more
+pub one_more : {entries : List Entry} {from passed : ℕ} {before mid after : List ℕ} (entry : Entry) →
+    HasAppended entries from passed before mid →
+    passed < length entries → entry ≡ get_or entries passed entry → after ≡ mid ++ entry_line (from + passed) entry
+    → HasAppended entries from (passed + 1) before after
+one_more {entries = entries} {from = from} {passed = passed} {before = before} entry so_far inside at is =
+    let line = entry_line (from + passed) entry in
+    let rest = journal_text (from + (passed + 1)) (drop (passed + 1) entries) in
+    record {
+      done = so_far.done ++ line;
+      after_is = both before so_far.done line so_far.after_is is;
+      whole = append_assoc so_far.done line rest
+          ∙ ap (λ (l : List ℕ). so_far.done ++ l) (sym (text_next entries from passed entry inside at)) ∙ so_far.whole;
+    }
+
+-- a front of the next line is one of the text
+pub line_cut : {entries : List Entry} {from passed : ℕ} {before mid after : List ℕ} {e : NoMemory}
+    (entry : Entry) → HasAppended entries from passed before mid →
+    passed < length entries → entry ≡ get_or entries passed entry
+    → IsAppended mid (entry_line (from + passed) entry) after (Err e) →
+    IsAppended before (journal_text from entries) after (Err e)
+line_cut {entries = entries} {from = from} {passed = passed} entry so_far inside at cut =
+    appended_as (ap (λ (l : List ℕ). so_far.done ++ l) (sym (text_next entries from passed entry inside at)) ∙ so_far.whole)
+    (then_appended so_far.done so_far.after_is
+    (cut_before (journal_text (from + (passed + 1)) (drop (passed + 1) entries)) cut))
 
 -- after the last line
-pub all_appended : {entries : List Entry} {from place : ℕ} {before after : List ℕ} →
-    HasAppended entries from place before after → length entries ≤ place →
-    after ≡ before ++ journal_text from (drop from entries)
-all_appended {entries = entries} {place = place} {before = before} so_far past =
-    let none : journal_text place (drop place entries) ≡ [] = ap (journal_text place) (drop_all place entries past) in
+pub all_appended : {entries : List Entry} {from passed : ℕ} {before after : List ℕ} →
+    HasAppended entries from passed before after → length entries ≤ passed → after ≡ before ++ journal_text from entries
+all_appended {entries = entries} {from = from} {passed = passed} {before = before} so_far past =
+    let none : journal_text (from + passed) (drop passed entries) ≡ [] =
+    ap (journal_text (from + passed)) (drop_all passed entries past) in
     so_far.after_is
     ∙ ap (λ (l : List ℕ). before ++ l)
     (sym (append-nil so_far.done) ∙ ap (λ (l : List ℕ). so_far.done ++ l) (sym none) ∙ so_far.whole)

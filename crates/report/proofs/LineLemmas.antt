@@ -1,18 +1,21 @@
 -- The lines of a calendar's text: which slots they tell, and what of each.
-use Rattle.std.proofs.Common.{ℕ, zero, suc, ◌+◌, ◌^◌, ◌<◌, ◌≤◌, ◌≡◌, ◌≢◌, not, ◌==◌, nat_lt, Bool, true, false, cond, List, [], ◌∷◌, ◌++◌, All, map, flat_map}
+use Rattle.std.proofs.Common.{ℕ, zero, suc, ◌+◌, ◌^◌, ◌<◌, ◌≤◌, ◌≡◌, ◌≢◌, not, ◌==◌, nat_lt, Bool, true, false}
+use Rattle.std.proofs.Common.{cond, List, [], ◌∷◌, ◌++◌, All, map, flat_map}
 use Rattle.std.proofs.Common.{get_or, codes, decimal, append_assoc, sym, ap, refl, subst, ◌∙◌, arith, inl, inr}
 use Rattle.std.specs.List.{Contains, list_all, range_with_len}
 use Rattle.std.proofs.lemmas.Bool.{cases_lt, lt-ltb, ltb-true}
 use Rattle.std.proofs.lemmas.Fmt.{decimal_injective}
 use Rattle.std.proofs.lemmas.List.{append_cancel_left, get_or-map, length-map}
-use Rattle.std.proofs.lemmas.List.Elements.{All-append, All-cons, All-get_or, All-head, All-nil, All-tail, Contains-append_left, Contains-append_right}
+use Rattle.std.proofs.lemmas.List.Elements.{All-append, All-cons, All-get_or, All-head, All-nil, All-tail}
+use Rattle.std.proofs.lemmas.List.Elements.{Contains-append_left, Contains-append_right}
 use Rattle.plan_cert.specs.Reading.{Lines, lines_of}
 use Rattle.vod_base.proofs.FirstBytes.{none_is, split_once}
 use Rattle.plan_cert.proofs.Decimals.{not_in_decimal}
 use Rattle.plan_cert.proofs.Grammar.{lines-cut}
 use Rattle.report.specs.Fields.{field}
 use Rattle.slot_calendar.specs.Totals.{ring_slots}
-use Rattle.report.specs.CalendarTexts.{AreBookings, booked_among, booked_slots, calendar_lines, calendar_text, first_words, slot_line, slot_words}
+use Rattle.report.specs.CalendarTexts.{AreBookings, booked_among, booked_slots, calendar_lines, calendar_text}
+use Rattle.report.specs.CalendarTexts.{first_words, slot_line, slot_words}
 
 -- ---- words without LF
 abbrev pub IsClean : List ℕ → Type 0
@@ -128,7 +131,8 @@ same_words {s} {b} {t} {c} small few small' few' e =
     (decimal t ++ 32 ∷ (codes "booked=" ++ decimal c)) (sym (shape s b) ∙ e ∙ shape t c) in
     let no_space : (n : ℕ) → n < 2 ^ 64 → All (λ b. b ≢ 32) (decimal n) =
     λ (n : ℕ) small. not_in_decimal 32 n small (λ within. omega (arith, within.0)) in
-    let parts = split_once {after = codes "booked=" ++ decimal b} {after' = codes "booked=" ++ decimal c} 32 (decimal s) (decimal t) rest
+    let parts = split_once {after = codes "booked=" ++ decimal b} {after' = codes "booked=" ++ decimal c} 32
+    (decimal s) (decimal t) rest
     (no_space s small) (no_space t small') in (
       decimal_injective s t small small' parts.0,
       decimal_injective b c few few' (append_cancel_left (codes "booked=") (decimal b) (decimal c) parts.1),

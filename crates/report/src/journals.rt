@@ -1,6 +1,6 @@
 //! The text of a journal: the lines of its entries, in their order.
 
-ghost use Rattle.std.specs.Prelude.{drop};
+ghost use Rattle.std.specs.Prelude.{◌≡◌, drop};
 ghost use Rattle.report.specs.Appends.{IsAppended};
 ghost use Rattle.report.specs.JournalTexts.{journal_text};
 ghost use Rattle.report.specs.Kinds.{AreOfKind};
@@ -20,8 +20,16 @@ pub fn journal_text(from: usize, entries: &[Entry], out: &mut Vec<u8>) -> Result
     ensures { IsAppended out.old.items (journal_text from (drop from entries.now)) out.new.items
         result }
 {
-    for place in from..entries.len() {
-        entry_line(place as u64, &entries[place], out)?;
+    let rest = entries_from(entries, from);
+    for (passed, entry) in rest.iter().enumerate() {
+        entry_line((from + passed) as u64, entry, out)?;
     }
     Ok(())
+}
+
+/// The entries from the place `from` on; none where the journal ends before it.
+fn entries_from(entries: &[Entry], from: usize) -> &[Entry]
+    ensures { result.now ≡ drop from entries.now }
+{
+    entries.get(from..).unwrap_or(&[])
 }

@@ -1,21 +1,32 @@
-use Rattle.std.proofs.Common.{arith}
-use Rattle.report.proofs.AppendLemmas.{handed_on}
-use Rattle.report.proofs.JournalLemmas.{all_appended, line_cut, none_yet, one_more}
+use Rattle.std.proofs.Common.{ap, arith, subst, sym}
+use Rattle.report.specs.JournalTexts.{journal_text}
+use Rattle.report.specs.Kinds.{AreOfKind}
+use Rattle.report.proofs.AppendLemmas.{appended_as, handed_on}
+use Rattle.report.proofs.JournalLemmas.{all_appended, kind_at, kinds_from, line_cut, none_yet, one_more}
 use Rattle.report.proofs.journals.journal_text.Goals as goal
 
-pub loop-place-init : goal.loop-place-init
-loop-place-init c = none_yet c.args.entries.now c.args.from c.args.out.now.items
+pub entry_line-requires : goal.entry_line-requires
+entry_line-requires c =
+    let kinds : AreOfKind c.entries_from-rest.result.now =
+    subst AreOfKind (sym c.entries_from-rest.ensures) (kinds_from c.args.entries.now c.args.from c.requires) in
+    kind_at c.entries_from-rest.result.now c.loop-passed.passed c.index-rest-passed.result kinds c.loop-passed-test.true c.index-rest-passed.is
 
-pub loop-place-preserved : goal.loop-place-preserved
-loop-place-preserved c =
-    one_more c.index-entries-place.result c.loop-place.invariant c.loop-place-test.true c.index-entries-place.is
+pub loop-passed-init : goal.loop-passed-init
+loop-passed-init c = none_yet c.entries_from-rest.result.now c.args.from c.args.out.now.items
+
+pub loop-passed-preserved : goal.loop-passed-preserved
+loop-passed-preserved c =
+    one_more c.index-rest-passed.result c.loop-passed.invariant c.loop-passed-test.true c.index-rest-passed.is
     c.in_ok-entry_line.ensures.whole
 
 pub returns-in_err-entry_line : goal.returns-in_err-entry_line
 returns-in_err-entry_line c =
     handed_on c.from_residual.result c.from_residual.ensures.0
-    (line_cut c.index-entries-place.result c.loop-place.invariant c.loop-place-test.true
-    c.index-entries-place.is c.in_err-entry_line.ensures)
+    (appended_as (ap (journal_text c.args.from) c.entries_from-rest.ensures)
+    (line_cut c.index-rest-passed.result c.loop-passed.invariant c.loop-passed-test.true
+    c.index-rest-passed.is c.in_err-entry_line.ensures))
 
 pub returns : goal.returns
-returns c = record { whole = all_appended c.loop-place.invariant (omega (arith, c.loop-place-test.false)); cut = tt }
+returns c =
+    appended_as (ap (journal_text c.args.from) c.entries_from-rest.ensures)
+    (record { whole = all_appended c.loop-passed.invariant (omega (arith, c.loop-passed-test.false)); cut = tt })
