@@ -12,7 +12,7 @@ use Rattle.session.specs.Hearings.{after_admission}
 use Rattle.session.specs.Standings.{IsHandedIn, Open, PlayAnswer, Standing, awaited_answer, booking_of}
 use Rattle.session.specs.Standings.{CanKeep, open_of}
 use Rattle.session.specs.Steps.{IsPlayIn}
-use Rattle.station.specs.Answers.{IsRefused, HasMade}
+use Rattle.station.specs.Answers.{IsSeatRefused, HasMade}
 use Rattle.station.specs.Ledgers.{play_of}
 use Rattle.station.specs.Seats.{IsSameSeat, IsSeat, SeatState}
 use Rattle.station.specs.declared.answers.Booking.{Booking}
@@ -54,7 +54,7 @@ pub record HasToldRefusal (refused : PlayRefused) (before after : Connection) : 
   pub booking : after.booking ≡ before.booking
 
 gone_refused : {before after : Connection} (seat next : SeatState) (heard : ℕ) (plan : List Segment) (refused : PlayRefused) →
-    IsRefused seat next heard plan refused → before.booking ≡ None → HasToldRefusal refused before after →
+    IsSeatRefused seat next heard plan refused → before.booking ≡ None → HasToldRefusal refused before after →
     HasGone (business seat.mine before) (business next.mine after)
 gone_refused seat next heard plan (JournalFull asked entries open_plays) is none told =
     gone_full entries open_plays is.1.mine told.booking told.handed.receipts
@@ -62,7 +62,7 @@ gone_refused seat next heard plan (Overflow place slot booked bytes) is none tol
     gone_overflow none told.booking (record { mine = is.mine; receipts = told.handed.receipts })
 
 pub kept_refused : {seat next : SeatState} {before after : Connection} {refused : PlayRefused} (heard : ℕ) (plan : List Segment) →
-    IsAsking seat next before → IsRefused seat next heard plan refused → HasToldRefusal refused before after →
+    IsAsking seat next before → IsSeatRefused seat next heard plan refused → HasToldRefusal refused before after →
     KeepsBusiness seat next before after
 kept_refused {seat} {next} {before} {refused} heard plan asking is told =
     let none = held_none seat.mine before.booking (open_of before.session) asking.closed asking.held in
@@ -74,7 +74,7 @@ kept_refused {seat} {next} {before} {refused} heard plan asking is told =
 
 pub answered_refused : {plan : List Segment} {seat next : SeatState} {after : Standing} (before : Connection)
     (refused : PlayRefused) →
-    IsAsking seat next before → IsRefused seat next before.session.heard plan refused →
+    IsAsking seat next before → IsSeatRefused seat next before.session.heard plan refused →
     after ≡ after_refusal before.session refused →
     HasAnswered before.session (AskPlay plan) after seat next
 answered_refused before (JournalFull asked entries open_plays) asking is told = answered_full asking.same is.1 (told, refl)

@@ -18,7 +18,7 @@ use Rattle.station.specs.declared.answers.Looked.{Looked as Seen}
 use Rattle.station.specs.declared.answers.PlayRefused.{PlayRefused}
 use Rattle.station.specs.declared.answers.PlayRefused.TheVariants.{JournalFull, Overflow as PlayOverflow}
 use Rattle.station.specs.Ledgers.{IsEntered, IsFullFor, IsPlayRefused, look_at, play_of}
-use Rattle.station.specs.Answers.{IsFull, IsRefused, HasMade}
+use Rattle.station.specs.Answers.{IsFull, IsSeatRefused, HasMade}
 use Rattle.station.specs.Inside.{seat_of}
 use Rattle.station.specs.Seats.{IsSameSeat, SeatState}
 use Rattle.station.proofs.Entered.{IsAt, entry_made, full_for, refused_for, seat_after}
@@ -140,9 +140,9 @@ visit_open {back} {lent} {new} {number} {start} {keep} heard plan is e small =
 
 pub visit_refused : {seat : SeatState} {back : PassState} {lent new : Journal} {maker : ℕ} (heard : ℕ)
     (plan : List Segment) (why : PlayRefused) → IsVisit seat back lent new maker
-    → IsPlayRefused lent new maker heard plan why → IsRefused seat (seat_of back) heard plan why
+    → IsPlayRefused lent new maker heard plan why → IsSeatRefused seat (seat_of back) heard plan why
 visit_refused {seat} {back} {lent} {new} heard plan why is e =
-    subst (λ s. IsRefused seat s heard plan why) (sym is.back_is)
+    subst (λ s. IsSeatRefused seat s heard plan why) (sym is.back_is)
     (refused_for new heard plan why is.at (subst (λ k. IsPlayRefused lent new k heard plan why) is.maker_is e))
 
 pub visit_full : {seat : SeatState} {back : PassState} {lent new : Journal} {maker more entries live_plays : ℕ}

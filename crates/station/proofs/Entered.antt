@@ -15,7 +15,7 @@ use Rattle.admission.specs.Makers.{AreHaltsOwn, Placed, made_by}
 use Rattle.turnstile.proofs.Prefixes.{made_own}
 use Rattle.station.specs.declared.answers.PlayRefused.{PlayRefused}
 use Rattle.station.specs.declared.answers.PlayRefused.TheVariants.{JournalFull, Overflow as PlayOverflow}
-use Rattle.station.specs.Answers.{IsFull, IsRefused, HasMade}
+use Rattle.station.specs.Answers.{IsFull, IsSeatRefused, HasMade}
 use Rattle.station.specs.Ledgers.{IsEntered, IsFullFor, IsPlayRefused}
 use Rattle.station.specs.Seats.{SeatState}
 use Rattle.station.proofs.Halts.{halts-push}
@@ -85,6 +85,6 @@ full_for {seat} {old} {new} {more} at f =
 
 pub refused_for : {seat : SeatState} {old : Journal} (new : Journal) (heard : ℕ) (plan : List Segment)
     (why : PlayRefused) → IsAt seat old
-    → IsPlayRefused old new seat.number heard plan why → IsRefused seat (seat_after seat new) heard plan why
+    → IsPlayRefused old new seat.number heard plan why → IsSeatRefused seat (seat_after seat new) heard plan why
 refused_for new heard plan (JournalFull back entries live_plays) at f = (f.0, full_for at f.1)
 refused_for new heard plan (PlayOverflow place slot booked asked) at e = entry_made at e

@@ -40,8 +40,8 @@ pub record IsFull (old new : SeatState) (more entries open_plays : ℕ) : Type 0
   pub full : old.limit < entries + open_plays + more
 
 -- why a play is refused
-abbrev pub IsRefused : SeatState → SeatState → ℕ → List Segment → PlayRefused → Type 0
-IsRefused old new heard asked (JournalFull plan entries open_plays) = (plan ≡ asked)
+abbrev pub IsSeatRefused : SeatState → SeatState → ℕ → List Segment → PlayRefused → Type 0
+IsSeatRefused old new heard asked (JournalFull plan entries open_plays) = (plan ≡ asked)
     × IsFull old new 2 entries open_plays
-IsRefused old new heard asked (PlayOverflow place slot booked bytes) =
+IsSeatRefused old new heard asked (PlayOverflow place slot booked bytes) =
     HasMade old new 2 (play_of heard asked) place (Overflow slot booked bytes)

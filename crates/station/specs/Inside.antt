@@ -20,6 +20,6 @@ seat_of pass = record {
 abbrev pub sitting_of : Inside → SeatState
 sitting_of seat = seat_of seat.pass
 
-pub record IsKept (seat : Inside) : Type 0 where
+pub record IsSeatKept (seat : Inside) : Type 0 where
   pub rests : seat.pass.has_turn ≡ false
   pub sits : IsSeat (sitting_of seat)

@@ -13,7 +13,7 @@ use admission::{Answer, Book, Full, Noted, PlayFull, law_never_overbooked, law_o
 use early_start::{Offers, law_offer_of_plays};
 use plan_cert::Plan;
 use std::marker::Model;
-use turnstile::Kept;
+use turnstile::KeptValue;
 use vod_base::LATEST_SLOT;
 
 /// The book that a station's seats share. Each play in it is halted by its own maker.
@@ -33,7 +33,7 @@ impl Model for Ledger {
     ghost invariant = { λ l. AreHaltsOwn l.book.entries };
 }
 
-impl Kept for Ledger {
+impl KeptValue for Ledger {
     ghost entries = { λ j. j.entries };
 
     ghost terms = { λ j. record { steps = j.steps; limit = j.limit } };

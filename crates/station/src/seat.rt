@@ -21,11 +21,11 @@ impl Model for Seat {
 
     ghost Value = { SeatState };
 
-    ghost use Rattle.station.specs.Inside.{sitting_of, IsKept};
+    ghost use Rattle.station.specs.Inside.{sitting_of, IsSeatKept};
 
     ghost view = { sitting_of };
 
-    ghost invariant = { IsKept };
+    ghost invariant = { IsSeatKept };
 }
 
 impl Seat {

@@ -6,7 +6,7 @@ ghost use Rattle.plan_cert.specs.Slots.{total_bytes};
 ghost use Rattle.admission.specs.declared.entries.Answer.{Answer};
 ghost use Rattle.admission.specs.declared.entries.Command.{Command};
 ghost use Rattle.admission.specs.Makers.{IsOpenAmong};
-ghost use Rattle.station.specs.Answers.{IsFull, IsRefused, HasMade};
+ghost use Rattle.station.specs.Answers.{IsFull, IsSeatRefused, HasMade};
 ghost use Rattle.station.specs.Ledgers.{IsOffered, look_at, play_of};
 ghost use Rattle.station.specs.Seats.{IsJournalOf, IsSameSeat, IsSeat, after_join};
 ghost use Rattle.station.specs.Seats.{after_split, first_seat, new_seat};
@@ -86,7 +86,7 @@ impl Station {
             (Answer.Admitted booking.start)) }
         ensures open { IfOk result (λ booking. (keep : ℕ) → keep ≤ total_bytes plan →
             IsOpenAmong seat.new.mine booking.number keep) }
-        ensures refused { IfErr result (IsRefused seat.old seat.new heard plan) }
+        ensures refused { IfErr result (IsSeatRefused seat.old seat.new heard plan) }
     {
         let mut turn = self.turns.enter(rt, &mut seat.pass);
         let maker = seat.pass.number();

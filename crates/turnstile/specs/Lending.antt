@@ -2,7 +2,7 @@
 use Rattle.std.specs.Borrow.{Fml, Lends, MutBor}
 use denote.RattleType.{RattleType}
 use Rattle.turnstile.specs.Passes.{TurnState}
-use Rattle.turnstile.specs.declared.kept.Kept.{Ghosts}
+use Rattle.turnstile.specs.declared.kept.KeptValue.{Ghosts}
 use Rattle.turnstile.specs.contracts.turn.Turn.{the_row}
 
 abbrev pub turn_with : {B : Type 0} → TurnState B → B → TurnState B

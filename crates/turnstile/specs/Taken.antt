@@ -27,7 +27,7 @@ pub record IsViewOf (number splits : ℕ) (v : View) : Type 0 where
   pub own : v.mine ≡ made_by v.number v.seen
 
 -- the pass has the turn, the slot is empty, and so long was the list
-pub record IsTaken {B : Type 0} (seat : Seat (Option B) View) (before : ℕ) : Type 0 where
+pub record IsTurnTaken {B : Type 0} (seat : Seat (Option B) View) (before : ℕ) : Type 0 where
   pub turn : IsTurn seat.me None
   pub before_is : before ≡ length seat.me.0.seen
   pub own : seat.me.0.mine ≡ made_by seat.me.0.number seat.me.0.seen

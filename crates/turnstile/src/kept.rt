@@ -5,7 +5,7 @@ ghost use Rattle.admission.specs.declared.entries.Entry.{Entry};
 ghost use Rattle.turnstile.specs.declared.view.Terms.{Terms};
 
 /// A value that all share: a list of entries that grows, and what stays.
-pub trait Kept {
+pub trait KeptValue {
     ghost entries: { Self → List Entry };
 
     ghost terms: { Self → Terms };

@@ -13,7 +13,7 @@ mod turn;
 mod turnstile;
 mod view;
 
-pub use kept::Kept;
+pub use kept::KeptValue;
 pub use pass::Pass;
 pub use turn::Turn;
 pub use turnstile::Turnstile;

@@ -7,7 +7,7 @@ ghost use Rattle.turnstile.specs.Sized.{IsSame, IsSeated, IsFree};
 ghost use Rattle.turnstile.specs.Steps.{HasDrawn, HasLeft, HasLooked, HasRaised, HasRead, IsTurn};
 ghost use Rattle.turnstile.specs.Steps.{IsWaiting, Knows, after_raise, slot_list};
 
-use crate::kept::Kept;
+use crate::kept::KeptValue;
 use crate::table::{ENTRIES, Place, SERVING, TICKETS, Top};
 use crate::view::View;
 use atomic_table::Play;
@@ -25,7 +25,7 @@ pub(crate) struct Looks<B> {
     marker: PhantomData<B>,
 }
 
-impl<B: Kept> Play<Option<B>, View> for Looks<B> {
+impl<B: KeptValue> Play<Option<B>, View> for Looks<B> {
     ghost then = { λ _. HasLooked B.entries B.terms };
 }
 
@@ -34,7 +34,7 @@ pub(crate) struct Raises<B> {
     marker: PhantomData<B>,
 }
 
-impl<B: Kept> Play<Option<B>, View> for Raises<B> {
+impl<B: KeptValue> Play<Option<B>, View> for Raises<B> {
     ghost then = { λ _. HasRaised B.entries };
 }
 
@@ -53,7 +53,7 @@ impl<B> Play<Option<B>, View> for Tells {
 }
 
 /// Draws a ticket.
-pub(crate) fn draw<B: Kept>(top: &Top<B>, place: &mut Place<B>) -> u64
+pub(crate) fn draw<B: KeptValue>(top: &Top<B>, place: &mut Place<B>) -> u64
     requires seat { IsSeated top.now.table_id place.old }
     requires free { IsFree place.old.me }
     ensures same { IsSame place.old place.new }
@@ -64,7 +64,7 @@ pub(crate) fn draw<B: Kept>(top: &Top<B>, place: &mut Place<B>) -> u64
 
 /// Looks whose turn it is: where it is that of this pass's ticket, the pass has the turn and the
 /// slot.
-pub(crate) fn look<B: Kept>(top: &Top<B>, place: &mut Place<B>, ticket: u64) -> u64
+pub(crate) fn look<B: KeptValue>(top: &Top<B>, place: &mut Place<B>, ticket: u64) -> u64
     requires seat { IsSeated top.now.table_id place.old }
     requires waits { IsWaiting place.old.me ticket }
     ensures same { IsSame place.old place.new }
@@ -74,7 +74,7 @@ pub(crate) fn look<B: Kept>(top: &Top<B>, place: &mut Place<B>, ticket: u64) -> 
 }
 
 /// Counts the entry that the value in the slot has more.
-pub(crate) fn raise<B: Kept>(top: &Top<B>, place: &mut Place<B>)
+pub(crate) fn raise<B: KeptValue>(top: &Top<B>, place: &mut Place<B>)
     requires seat { IsSeated top.now.table_id place.old }
     requires turn { (value : B) × IsTurn place.old.me (Some value) }
     requires one { (e : Entry)
@@ -87,7 +87,7 @@ pub(crate) fn raise<B: Kept>(top: &Top<B>, place: &mut Place<B>)
 }
 
 /// Gives the slot back, and the turn to the next ticket. Answers the ticket whose turn it was.
-pub(crate) fn give_back<B: Kept>(top: &Top<B>, place: &mut Place<B>) -> u64
+pub(crate) fn give_back<B: KeptValue>(top: &Top<B>, place: &mut Place<B>) -> u64
     requires seat { IsSeated top.now.table_id place.old }
     requires turn { (value : B) × IsTurn place.old.me (Some value)
         × (B.entries value ≡ place.old.me.0.seen) × (B.terms value ≡ place.old.me.0.terms) }
@@ -99,7 +99,7 @@ pub(crate) fn give_back<B: Kept>(top: &Top<B>, place: &mut Place<B>) -> u64
 }
 
 /// Reads what the pass knows, which stays.
-pub(crate) fn tell<B: Kept>(top: &Top<B>, place: &mut Place<B>)
+pub(crate) fn tell<B: KeptValue>(top: &Top<B>, place: &mut Place<B>)
     requires seat { IsSeated top.now.table_id place.old }
     requires left { place.old.me.0.spent ≡ false }
     ensures same { IsSame place.old place.new }
@@ -109,7 +109,7 @@ pub(crate) fn tell<B: Kept>(top: &Top<B>, place: &mut Place<B>)
 }
 
 /// Counts the entry that the value in the slot has more, if it has one.
-pub(crate) fn settle<B: Kept>(top: &Top<B>, place: &mut Place<B>, grown: bool)
+pub(crate) fn settle<B: KeptValue>(top: &Top<B>, place: &mut Place<B>, grown: bool)
     requires seat { IsSeated top.now.table_id place.old }
     requires turn { (value : B) × IsTurn place.old.me (Some value) }
     requires own { place.old.me.0.mine ≡ made_by place.old.me.0.number place.old.me.0.seen }

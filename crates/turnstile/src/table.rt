@@ -1,5 +1,5 @@
 //! The table of the turn: the words tickets, serving and entries, and one slot for the value.
-use crate::kept::Kept;
+use crate::kept::KeptValue;
 use crate::view::View;
 use atomic_table::{Join, Play, Seat, Shared, Split, Table, TableRule};
 use std::alloc::Global;
@@ -23,7 +23,7 @@ pub(crate) struct Turns<B> {
     marker: PhantomData<B>,
 }
 
-impl<B: Kept> TableRule<Option<B>, View, Snapshot<B>> for Turns<B> {
+impl<B: KeptValue> TableRule<Option<B>, View, Snapshot<B>> for Turns<B> {
     ghost use Rattle.turnstile.specs.Turns.{IsRuled};
     ghost use Rattle.turnstile.specs.Steps.{first_view};
 

@@ -7,7 +7,7 @@ ghost use mathlib.Core.List.{IsPrefix};
 ghost use Rattle.turnstile.specs.Taken.{stands_as};
 
 use crate::bells::Bells;
-use crate::kept::Kept;
+use crate::kept::KeptValue;
 use crate::steps::{draw, look};
 use crate::table::{Place, Top, VALUE};
 use crate::turn::Turn;
@@ -19,7 +19,7 @@ use std::sync::Wait;
 const SPINS: u32 = 64;
 
 /// Draws a ticket, waits for its turn and takes the value.
-pub(crate) fn take<B: Kept, R: Wait>(
+pub(crate) fn take<B: KeptValue, R: Wait>(
     rt: &R,
     top: &Top<B>,
     bells: &Bells,
@@ -44,7 +44,7 @@ pub(crate) fn take<B: Kept, R: Wait>(
 /// Waits until it is the turn of the ticket, asleep at its bell. The pass that is next stays awake
 /// for a short time; one that has others before it sleeps at once, since one of them may need the
 /// processor that it runs on.
-fn wait<B: Kept, R: Wait>(
+fn wait<B: KeptValue, R: Wait>(
     rt: &R,
     top: &Top<B>,
     bell: &EventCount,

@@ -10,7 +10,7 @@ ghost use Rattle.turnstile.specs.Steps.{IsTurn};
 ghost use Rattle.turnstile.specs.Taken.{IsViewOf, stands_as};
 
 use crate::bells::Bells;
-use crate::kept::Kept;
+use crate::kept::KeptValue;
 use crate::steps::{give_back, settle};
 use crate::table::{Place, Top, VALUE};
 use std::marker::Model;
@@ -18,26 +18,26 @@ use std::marker::Model;
 /// The turn of a pass, with the value. It must be handed to `Turnstile::leave`.
 ///
 /// Contracts see the pass as it was when it took the turn, and the value.
-pub struct Turn<B: Kept> {
+pub struct Turn<B: KeptValue> {
     seat: Place<B>,
     value: B,
     /// How many entries its list had when the turn was taken.
     before: u64,
 }
 
-impl<B: Kept> Model for Turn<B> {
+impl<B: KeptValue> Model for Turn<B> {
     ghost use Rattle.turnstile.specs.Passes.{TurnState};
 
     ghost Value = { TurnState B };
 
-    ghost use Rattle.turnstile.specs.Taken.{IsTaken, stands_as};
+    ghost use Rattle.turnstile.specs.Taken.{IsTurnTaken, stands_as};
 
     ghost view = { λ t. record { pass = stands_as t.seat.table_id t.seat.me.0; value = t.value } };
 
-    ghost invariant = { λ t. IsTaken t.seat t.before };
+    ghost invariant = { λ t. IsTurnTaken t.seat t.before };
 }
 
-impl<B: Kept> Turn<B> {
+impl<B: KeptValue> Turn<B> {
     /// The turn of a pass that has emptied the slot, with the value from it.
     pub(crate) fn begin(seat: Place<B>, value: B) -> Turn<B>
         requires turn { IsTurn seat.me None }
@@ -85,7 +85,7 @@ impl<B: Kept> Turn<B> {
 
     /// The value.
     pub fn value(&mut self) -> &mut B
-        ensures* writes_back { sem 𝓛 (LendsValue B.row B.Kept self.entry result) }
+        ensures* writes_back { sem 𝓛 (LendsValue B.row B.KeptValue self.entry result) }
         ensures value { result.now ≡ self.old.value }
     {
         &mut self.value

@@ -7,7 +7,7 @@ ghost use Rattle.turnstile.specs.Passes.{AllJoined, IsWholeList, MayLeave, after
 ghost use Rattle.turnstile.specs.Passes.{first_pass, new_pass};
 
 use crate::bells::Bells;
-use crate::kept::Kept;
+use crate::kept::KeptValue;
 use crate::pass::Pass;
 use crate::splits::{Joins, Splits};
 use crate::steps::tell;
@@ -26,12 +26,12 @@ use vod_base::NoMemory;
 ///
 /// Contracts see which turnstile it is, and what stays of the value.
 #[derive(Drop)]
-pub struct Turnstile<B: Kept> {
+pub struct Turnstile<B: KeptValue> {
     table: Board<B>,
     bells: Bells,
 }
 
-impl<B: Kept> Model for Turnstile<B> {
+impl<B: KeptValue> Model for Turnstile<B> {
     ghost use Rattle.turnstile.specs.Passes.{TurnstileState};
 
     ghost Value = { TurnstileState };
@@ -46,7 +46,7 @@ impl<B: Kept> Model for Turnstile<B> {
     ghost invariant = { λ t. IsSized t.table.shared.table_id };
 }
 
-impl<B: Kept> Turnstile<B> {
+impl<B: KeptValue> Turnstile<B> {
     /// A turnstile round a value whose list is empty, and its first pass.
     ///
     /// # Errors

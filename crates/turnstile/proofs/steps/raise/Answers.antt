@@ -7,7 +7,7 @@ fetch_add-requires g c = let seat = c.requires.seat in let words = seat.sized.wo
     c.requires.turn.1 in let one = c.requires.one in (
       seat.here,
       omega arith,
-      raises g.B.Kept.entries g.B.Kept.terms (g.B.Kept.terms c.args.top.now.key.value) c.args.place.now.id
+      raises g.B.KeptValue.entries g.B.KeptValue.terms (g.B.KeptValue.terms c.args.top.now.key.value) c.args.place.now.id
           c.args.top.now.table_id.slots c.args.place.now.me
           record { ticket = turn.number; entry = one.0; left = turn.left; holds = turn.stage; own = one.2; list_is = one.1 },
     )

@@ -6,6 +6,6 @@ pub load-requires : goal.load-requires
 load-requires g c = let seat = c.requires.seat in let words = seat.sized.words in (
   seat.here,
   omega arith,
-  tells g.B.Kept.entries g.B.Kept.terms (g.B.Kept.terms c.args.top.now.key.value) c.args.place.now.id
+  tells g.B.KeptValue.entries g.B.KeptValue.terms (g.B.KeptValue.terms c.args.top.now.key.value) c.args.place.now.id
       c.args.top.now.table_id.slots c.args.place.now.me c.requires.left,
 )

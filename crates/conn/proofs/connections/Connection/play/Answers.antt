@@ -1,6 +1,6 @@
 use Rattle.std.proofs.Common.{refl, rules, subst}
 use Rattle.admission.specs.declared.entries.Answer.TheVariants.{Admitted}
-use Rattle.station.specs.Answers.{IsRefused, HasMade}
+use Rattle.station.specs.Answers.{IsSeatRefused, HasMade}
 use Rattle.station.specs.Ledgers.{play_of}
 use Rattle.conn.proofs.Admitting.{answered_admitted, answered_refused, kept_admitted, kept_refused}
 use Rattle.conn.proofs.connections.Connection.play.Goals as goal
@@ -59,5 +59,5 @@ returns-in-Err-clause-answered g c =
       same = c.play.ensures.same;
       held = c.requires.held;
       closed = c.requires.closed;
-    }) (subst (λ heard. IsRefused c.args.seat.now c.play.new.seat heard c.args.plan c.in-Err.refused)
+    }) (subst (λ heard. IsSeatRefused c.args.seat.now c.play.new.seat heard c.args.plan c.in-Err.refused)
     c.heard_slot.ensures.slot c.in-Err.ensures.refused) c.hear_refusal.ensures.exact

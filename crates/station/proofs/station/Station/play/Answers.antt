@@ -3,7 +3,7 @@ use Rattle.std.proofs.lemmas.Result.{IfErr-weaker, IfOk-weaker}
 use Rattle.plan_cert.specs.Slots.{total_bytes}
 use Rattle.admission.specs.Makers.{IsOpenAmong}
 use Rattle.admission.specs.declared.entries.Answer.TheVariants.{Admitted}
-use Rattle.station.specs.Answers.{IsRefused, HasMade}
+use Rattle.station.specs.Answers.{IsSeatRefused, HasMade}
 use Rattle.station.specs.Ledgers.{IsEntered, IsPlayRefused, play_of}
 use Rattle.station.proofs.Backs.{BookCall, play_longer, visit, visit_made, visit_open, visit_refused, visit_same}
 use Rattle.station.specs.Inside.{seat_of}
@@ -57,6 +57,6 @@ returns-clause-refused g c =
     (c.number-maker.ensures ∙ turn.number) in
     IfErr-weaker c.play-told.result
     (IsPlayRefused c.value.result.now c.play-told.new.self c.number-maker.result c.args.heard c.args.plan)
-    (IsRefused c.args.seat.now (seat_of c.leave.new.pass) c.args.heard c.args.plan)
+    (IsSeatRefused c.args.seat.now (seat_of c.leave.new.pass) c.args.heard c.args.plan)
     (λ why e. visit_refused c.args.heard c.args.plan why is e)
     c.play-told.ensures.refused

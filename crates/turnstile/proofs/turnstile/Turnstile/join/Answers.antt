@@ -10,7 +10,7 @@ join_seat-requires g c =
       sym (ap (λ p. p.id) c.rise-theirs.ensures.old) ∙ (c.requires.other ∙ sym (ap (λ x. x.id) c.self.view_is)),
       theirs.empty,
       omega arith,
-      joins g.B.Kept.entries g.B.Kept.terms (g.B.Kept.terms c.self.inside.table.shared.key.value)
+      joins g.B.KeptValue.entries g.B.KeptValue.terms (g.B.KeptValue.terms c.self.inside.table.shared.key.value)
           c.rise-place.result.id c.rise-place.result.me.0
           c.rise-theirs.result.id c.rise-theirs.result.me.0 record { left = free.left; idle = free.idle }
           record { left = theirs.left; idle = theirs.idle },
