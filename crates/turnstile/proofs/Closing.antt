@@ -1,5 +1,6 @@
 -- What the last state tells the first pass.
-use Rattle.std.proofs.Common.{◌≡◌, ◌≢◌, ℕ, zero, suc, ◌<◌, List, [], ◌∷◌, length, get_or, Option, Some, false, refl, ap, sym, ◌∙◌, subst, ⊎_elim, inl, inr}
+use Rattle.std.proofs.Common.{◌≡◌, ◌≢◌, ℕ, zero, suc, ◌<◌, List, [], ◌∷◌, length, get_or, Option, Some, false, refl}
+use Rattle.std.proofs.Common.{ap, sym, ◌∙◌, subst, ⊎_elim, inl, inr}
 use Rattle.std.proofs.Common.{arith}
 use mathlib.Core.Logic.{dite}
 use mathlib.Core.List.{IsPrefix}

@@ -1,5 +1,6 @@
 -- What a live pass is to the turn, and the facts that all live passes share.
-use Rattle.std.proofs.Common.{◌≡◌, ◌≢◌, ℕ, zero, suc, ◌+◌, ◌<◌, ◌≤◌, List, [], ◌∷◌, ◌++◌, length, set, Option, Bool, false, ap, sym, ◌∙◌, subst, ⊎_elim, arith}
+use Rattle.std.proofs.Common.{◌≡◌, ◌≢◌, ℕ, zero, suc, ◌+◌, ◌<◌, ◌≤◌, List, [], ◌∷◌, ◌++◌, length, set, Option, Bool}
+use Rattle.std.proofs.Common.{false, ap, sym, ◌∙◌, subst, ⊎_elim, arith}
 use Rattle.std.proofs.Common.{cond}
 use mathlib.Core.Logic.{dite}
 use mathlib.Core.Option.{some, some-injective, some-ne-none}

@@ -1,5 +1,6 @@
 -- Passes that are split and joined keep the rule; the first state has it, and what the last one tells.
-use Rattle.std.proofs.Common.{◌≡◌, ◌≢◌, ◌⊎◌, ℕ, zero, suc, ◌+◌, ◌^◌, ◌<◌, ◌≤◌, List, [], ◌∷◌, ◌++◌, length, set, Option, Some, Bool, true, false, refl, ap, sym}
+use Rattle.std.proofs.Common.{◌≡◌, ◌≢◌, ◌⊎◌, ℕ, zero, suc, ◌+◌, ◌^◌, ◌<◌, ◌≤◌, List, [], ◌∷◌, ◌++◌, length, set}
+use Rattle.std.proofs.Common.{Option, Some, Bool, true, false, refl, ap, sym}
 use Rattle.std.proofs.Common.{◌∙◌, subst, ⊎_elim, inl, inr, arith, cond, length-set, true≢false}
 use mathlib.Core.Logic.{dite}
 use mathlib.Core.List.{IsPrefix}
@@ -17,7 +18,8 @@ use Rattle.turnstile.specs.declared.view.View.{View}
 use Rattle.admission.specs.Makers.{made_by}
 use Rattle.turnstile.specs.Turns.{pass_count, ticket_count, has_ticket, IsLive, IsPast, Fits, Apart, IsRuled}
 use Rattle.turnstile.specs.Passes.{longer_list}
-use Rattle.turnstile.specs.Steps.{shorter_list, first_view, view_after_split, split_view, past_of, view_after_join, spent_view}
+use Rattle.turnstile.specs.Steps.{shorter_list, first_view, view_after_split, split_view, past_of, view_after_join}
+use Rattle.turnstile.specs.Steps.{spent_view}
 use Rattle.turnstile.proofs.Prefixes.{prefix_shorter, made_nothing, made_between}
 use Rattle.turnstile.proofs.Sums.{total_set, total_push}
 use Rattle.turnstile.proofs.Live.{lives, waits_in, idle_free, Free, one_at, EachLive, live_set}

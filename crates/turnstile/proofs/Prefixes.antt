@@ -1,5 +1,6 @@
 -- Beginnings of one list, and what one maker has made in them.
-use Rattle.std.proofs.Common.{◌≡◌, ◌≢◌, ℕ, ◌+◌, ◌≤◌, List, [], ◌∷◌, ◌++◌, length, refl, ap, sym, ◌∙◌, arith, append_assoc, append-nil, true, false, Bool}
+use Rattle.std.proofs.Common.{◌≡◌, ◌≢◌, ℕ, ◌+◌, ◌≤◌, List, [], ◌∷◌, ◌++◌, length, refl, ap, sym, ◌∙◌, arith}
+use Rattle.std.proofs.Common.{append_assoc, append-nil, true, false, Bool}
 use Rattle.std.proofs.Common.{if◌then◌else◌, ◌==◌, eq-eqb, ne_eqb}
 use mathlib.Core.List.{IsPrefix, append_cancel_left}
 use Rattle.admission.specs.declared.entries.Entry.{Entry}

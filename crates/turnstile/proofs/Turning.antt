@@ -1,5 +1,6 @@
 -- Each kind of step keeps the rule.
-use Rattle.std.proofs.Common.{◌≡◌, ◌≢◌, ◌⊎◌, ℕ, ◌+◌, ◌%◌, ◌^◌, ◌<◌, ◌≤◌, List, [], ◌∷◌, ◌++◌, length, set, get_or, Option, Some, false, refl, ap, sym, ◌∙◌}
+use Rattle.std.proofs.Common.{◌≡◌, ◌≢◌, ◌⊎◌, ℕ, ◌+◌, ◌%◌, ◌^◌, ◌<◌, ◌≤◌, List, [], ◌∷◌, ◌++◌, length, set, get_or}
+use Rattle.std.proofs.Common.{Option, Some, false, refl, ap, sym, ◌∙◌}
 use Rattle.std.proofs.Common.{subst, ⊎_elim, inl, inr, arith, length-append}
 use mathlib.Core.Logic.{dite}
 use mathlib.Core.List.{IsPrefix}
@@ -16,12 +17,14 @@ use Rattle.turnstile.specs.declared.view.Stage.TheVariants.{Idle, Waits, Holds}
 use Rattle.turnstile.specs.declared.view.Terms.{Terms}
 use Rattle.turnstile.specs.declared.view.View.{View}
 use Rattle.admission.specs.Makers.{made_by}
-use Rattle.turnstile.specs.Turns.{total, pass_count, ticket_count, has_ticket, IsLive, IsTicket, InTurn, Fits, Apart, IsAway, IsHome, IsRuled}
+use Rattle.turnstile.specs.Turns.{total, pass_count, ticket_count, has_ticket, IsLive, IsTicket, InTurn, Fits}
+use Rattle.turnstile.specs.Turns.{Apart, IsAway, IsHome, IsRuled}
 use Rattle.turnstile.specs.Sized.{IsFree}
 use Rattle.turnstile.specs.Steps.{HasTaken, IsTurn, Knows, slot_list}
 use Rattle.turnstile.proofs.Prefixes.{prefix_self, prefix_trans, prefix_longer, made_other}
 use Rattle.turnstile.proofs.Sums.{total_set, tickets_total}
-use Rattle.turnstile.proofs.Live.{lives, waits_in, ticket_or, Free, idle_free, waits_free, ticket_low, turn_more, turn_next, at_inside, apart_both, one_at, restage, refit}
+use Rattle.turnstile.proofs.Live.{lives, waits_in, ticket_or, Free, idle_free, waits_free, ticket_low, turn_more}
+use Rattle.turnstile.proofs.Live.{turn_next, at_inside, apart_both, one_at, restage, refit}
 use Rattle.turnstile.proofs.Live.{live_set, FreeChange, Waiter, Holder, EmptyWaiter, GrownHolder, longer_list}
 
 module _ {B : Type 0} (entries : B → List Entry) (terms_of : B → Terms) (terms : Terms) where

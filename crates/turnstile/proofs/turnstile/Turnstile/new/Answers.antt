@@ -15,4 +15,5 @@ new-requires g c =
     one_item {A = Option g.row.B.Denot} (Some c.args.kept) c.push_reserved.ensures.items c.in_ok-slots.ensures.items in
     subst (λ (xs : List (Option g.row.B.Denot)). IsRuled g.B.KeptValue.entries g.B.KeptValue.terms terms
     (opening (0 ∷ 0 ∷ 0 ∷ []) xs (first_view terms))) (sym items)
-    (starts g.B.KeptValue.entries g.B.KeptValue.terms terms c.args.kept c.requires (ap g.B.KeptValue.terms (sym c.of-about.ensures)))
+    (starts g.B.KeptValue.entries g.B.KeptValue.terms terms c.args.kept c.requires
+    (ap g.B.KeptValue.terms (sym c.of-about.ensures)))
