@@ -97,7 +97,7 @@ pub record IsVisit (seat : SeatState) (back : PassState) (lent new : Journal) (m
   pub maker_is : maker ≡ seat.number
 
 -- a pass took the turn, and `old` is the book as it was then
-pub record HasTaken (p taken : PassState) (old : Journal) : Type 0 where
+pub record HasTakenTurn (p taken : PassState) (old : Journal) : Type 0 where
   pub pass : taken ≡ record p { seen = old.entries }
   pub longer : IsPrefix p.seen old.entries
   pub own : p.mine ≡ made_by p.number old.entries
@@ -109,8 +109,9 @@ pub record HasGivenBack (taken back : PassState) (old lent last new : Journal) :
   pub last_is : last ≡ new
   pub lent_is : lent ≡ old
 
-pub visit : {taken back : PassState} {seat : SeatState} {lent old last new : Journal} {maker : ℕ} (p : PassState) → seat_of p ≡ seat
-    → HasTaken p taken old → HasGivenBack taken back old lent last new → maker ≡ p.number → IsVisit seat back lent new maker
+pub visit : {taken back : PassState} {seat : SeatState} {lent old last new : Journal} {maker : ℕ} (p : PassState)
+    → seat_of p ≡ seat
+    → HasTakenTurn p taken old → HasGivenBack taken back old lent last new → maker ≡ p.number → IsVisit seat back lent new maker
 visit {taken} {seat} {old} {new} p v turn given maker_is = record {
   at = subst (IsAt seat) (sym given.lent_is) (back_at p v turn.longer turn.own turn.terms);
   back_is = back_seat p old new v turn.pass

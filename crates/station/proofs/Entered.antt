@@ -1,5 +1,6 @@
 -- What a call at the book leaves of the seat that made it.
-use Rattle.std.proofs.Common.{◌≡◌, ℕ, List, [], ◌∷◌, ◌++◌, length, get_or, arith, refl, sym, ap, subst, ◌∙◌, Result, Ok, Err, IfOk, OnErr, false, true≢false}
+use Rattle.std.proofs.Common.{◌≡◌, ℕ, List, [], ◌∷◌, ◌++◌, length, get_or, arith, refl, sym, ap, subst, ◌∙◌, Result}
+use Rattle.std.proofs.Common.{Ok, Err, IfOk, OnErr, false, true≢false}
 use mathlib.Core.List.{IsPrefix}
 use Rattle.plan_cert.specs.declared.Segment.{Segment}
 use Rattle.slot_calendar.specs.declared.profiles.CapacityStep.{CapacityStep}
@@ -57,7 +58,8 @@ pub record IsAt (seat : SeatState) (book : Journal) : Type 0 where
 abbrev pub seat_after : SeatState → Journal → SeatState
 seat_after seat book = record seat { seen = book.entries; mine = made_by seat.number book.entries }
 
-pub entry_made : {seat : SeatState} {old new : Journal} {more : ℕ} {command : Command} {place : ℕ} {answer : Answer} → IsAt seat old
+pub entry_made : {seat : SeatState} {old new : Journal} {more : ℕ} {command : Command} {place : ℕ} {answer : Answer}
+    → IsAt seat old
     → IsEntered old new seat.number more command place answer → HasMade seat (seat_after seat new) more command place answer
 entry_made {seat} {old} {new} {more} {command} {place} {answer} at e =
     let last : Entry = record { maker = seat.number; command = command; answer = answer } in

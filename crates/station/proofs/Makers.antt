@@ -1,5 +1,6 @@
 -- The maker of a play that is open among a maker's entries.
-use Rattle.std.proofs.Common.{◌≡◌, ◌<◌, ◌+◌, ℕ, suc, eqb, List, [], ◌∷◌, length, get_or, All, arith, refl, sym, ap, subst, ◌∙◌, inl, inr}
+use Rattle.std.proofs.Common.{◌≡◌, ◌<◌, ◌+◌, ℕ, suc, eqb, List, [], ◌∷◌, length, get_or, All, arith, refl, sym, ap}
+use Rattle.std.proofs.Common.{subst, ◌∙◌, inl, inr}
 use Rattle.std.proofs.lemmas.Bool.{cases_Bool, cond-true, cond-false, eqb-true}
 use Rattle.std.proofs.lemmas.List.Elements.{All-nil, All-cons, All-weaker}
 use Rattle.admission.specs.declared.entries.Entry.{Entry}

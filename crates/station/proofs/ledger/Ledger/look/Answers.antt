@@ -1,26 +1,23 @@
 use Rattle.std.proofs.Common.{refl, min, ◌^◌}
 use Rattle.admission.specs.declared.entries.Command.TheVariants.{Look}
+use Rattle.admission.specs.Makers.{AreHaltsOwn}
 use Rattle.station.proofs.Entered.{HaltlessCall, halts-told}
 use Rattle.station.proofs.ledger.Ledger.look.Goals as goal
+use Rattle.station.proofs.ledger.Ledger.look.Goals.{After-look}
+
+told : (c : After-look) → AreHaltsOwn c.look.new.self.entries
+told c =
+    let call : HaltlessCall = record {
+      old = c.self.inside.book;
+      new = c.look.new.self;
+      maker = c.args.maker;
+      command = Look (min c.args.slot (2 ^ 62));
+      no_halt = refl;
+    } in
+    halts-told c.look.result call c.look.ensures.noted c.look.ensures.left c.self.invariant
 
 pub invariant_of-self : goal.invariant_of-self
-invariant_of-self c =
-    let call : HaltlessCall = record {
-      old = c.self.inside.book;
-      new = c.look.new.self;
-      maker = c.args.maker;
-      command = Look (min c.args.slot (2 ^ 62));
-      no_halt = refl;
-    } in
-    halts-told c.look.result call c.look.ensures.noted c.look.ensures.left c.self.invariant
+invariant_of-self c = told (goal.at.invariant_of-self c).After-look
 
 pub invariant_of-self-2 : goal.invariant_of-self-2
-invariant_of-self-2 c =
-    let call : HaltlessCall = record {
-      old = c.self.inside.book;
-      new = c.look.new.self;
-      maker = c.args.maker;
-      command = Look (min c.args.slot (2 ^ 62));
-      no_halt = refl;
-    } in
-    halts-told c.look.result call c.look.ensures.noted c.look.ensures.left c.self.invariant
+invariant_of-self-2 c = told (goal.at.invariant_of-self-2 c).After-look

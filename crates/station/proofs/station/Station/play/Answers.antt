@@ -5,28 +5,30 @@ use Rattle.admission.specs.Makers.{IsOpenAmong}
 use Rattle.admission.specs.declared.entries.Answer.TheVariants.{Admitted}
 use Rattle.station.specs.Answers.{IsSeatRefused, HasMade}
 use Rattle.station.specs.Ledgers.{IsEntered, IsPlayRefused, play_of}
-use Rattle.station.proofs.Backs.{BookCall, play_longer, visit, visit_made, visit_open, visit_refused, visit_same}
+use Rattle.station.proofs.Backs.{IsVisit, BookCall, play_longer, visit, visit_made, visit_open, visit_refused, visit_same}
 use Rattle.station.specs.Inside.{seat_of}
 use Rattle.station.proofs.station.Station.play.Goals as goal
+use Rattle.station.proofs.station.Station.play.Goals.{After-leave}
+
+visited : (g : _) (c : After-leave g)
+    → IsVisit c.args.seat.now c.leave.new.pass c.value.result.now c.play-told.new.self c.number-maker.result
+visited g c =
+    let turn = c.enter-turn.ensures in
+    visit c.seat.inside.pass c.seat.view_is
+    (record { pass = turn.pass; longer = turn.longer; own = turn.own; terms = turn.terms })
+    (record { left = c.leave.ensures; last_is = c.value-2.ensures.value; lent_is = c.value.ensures.value })
+    (c.number-maker.ensures ∙ turn.number)
 
 pub returns-clause-same : goal.returns-clause-same
 returns-clause-same g c =
-    let turn = c.enter-turn.ensures in
-    let is = visit c.seat.inside.pass c.seat.view_is
-    (record { pass = turn.pass; longer = turn.longer; own = turn.own; terms = turn.terms })
-    (record { left = c.leave.ensures; last_is = c.value-2.ensures.value; lent_is = c.value.ensures.value })
-    (c.number-maker.ensures ∙ turn.number) in
+    let is = visited g (goal.at.returns-clause-same g c).After-leave in
     let call : BookCall = record { old = c.value.result.now; new = c.play-told.new.self; maker = c.number-maker.result } in
     visit_same is
     (play_longer c.play-told.result call c.args.heard c.args.plan c.play-told.ensures.made c.play-told.ensures.refused)
 
 pub returns-clause-made : goal.returns-clause-made
 returns-clause-made g c =
-    let turn = c.enter-turn.ensures in
-    let is = visit c.seat.inside.pass c.seat.view_is
-    (record { pass = turn.pass; longer = turn.longer; own = turn.own; terms = turn.terms })
-    (record { left = c.leave.ensures; last_is = c.value-2.ensures.value; lent_is = c.value.ensures.value })
-    (c.number-maker.ensures ∙ turn.number) in
+    let is = visited g (goal.at.returns-clause-made g c).After-leave in
     IfOk-weaker c.play-told.result
     (λ b. IsEntered c.value.result.now c.play-told.new.self c.number-maker.result 2
     (play_of c.args.heard c.args.plan) b.number (Admitted b.start))
@@ -36,11 +38,7 @@ returns-clause-made g c =
 
 pub returns-clause-open : goal.returns-clause-open
 returns-clause-open g c =
-    let turn = c.enter-turn.ensures in
-    let is = visit c.seat.inside.pass c.seat.view_is
-    (record { pass = turn.pass; longer = turn.longer; own = turn.own; terms = turn.terms })
-    (record { left = c.leave.ensures; last_is = c.value-2.ensures.value; lent_is = c.value.ensures.value })
-    (c.number-maker.ensures ∙ turn.number) in
+    let is = visited g (goal.at.returns-clause-open g c).After-leave in
     IfOk-weaker c.play-told.result
     (λ b. IsEntered c.value.result.now c.play-told.new.self c.number-maker.result 2
     (play_of c.args.heard c.args.plan) b.number (Admitted b.start))
@@ -50,11 +48,7 @@ returns-clause-open g c =
 
 pub returns-clause-refused : goal.returns-clause-refused
 returns-clause-refused g c =
-    let turn = c.enter-turn.ensures in
-    let is = visit c.seat.inside.pass c.seat.view_is
-    (record { pass = turn.pass; longer = turn.longer; own = turn.own; terms = turn.terms })
-    (record { left = c.leave.ensures; last_is = c.value-2.ensures.value; lent_is = c.value.ensures.value })
-    (c.number-maker.ensures ∙ turn.number) in
+    let is = visited g (goal.at.returns-clause-refused g c).After-leave in
     IfErr-weaker c.play-told.result
     (IsPlayRefused c.value.result.now c.play-told.new.self c.number-maker.result c.args.heard c.args.plan)
     (IsSeatRefused c.args.seat.now (seat_of c.leave.new.pass) c.args.heard c.args.plan)

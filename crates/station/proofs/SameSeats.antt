@@ -1,0 +1,28 @@
+-- What calls leave of a seat.
+use Rattle.std.proofs.Common.{refl, ◌∙◌}
+use Rattle.turnstile.proofs.Prefixes.{prefix_self, prefix_trans}
+use Rattle.station.specs.Seats.{IsSameSeat, SeatState}
+
+-- no call
+pub seat_none : (seat : SeatState) → IsSameSeat seat seat
+seat_none seat = record {
+  id = refl;
+  steps = refl;
+  limit = refl;
+  number = refl;
+  splits = refl;
+  joined = refl;
+  longer = prefix_self seat.seen;
+}
+
+-- one call after another
+pub seat_on : (a b c : SeatState) → IsSameSeat a b → IsSameSeat b c → IsSameSeat a c
+seat_on a b c first second = record {
+  id = second.id ∙ first.id;
+  steps = second.steps ∙ first.steps;
+  limit = second.limit ∙ first.limit;
+  number = second.number ∙ first.number;
+  splits = second.splits ∙ first.splits;
+  joined = second.joined ∙ first.joined;
+  longer = prefix_trans a.seen b.seen c.seen first.longer second.longer;
+}
