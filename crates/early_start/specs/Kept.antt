@@ -6,7 +6,7 @@ use Rattle.early_start.specs.declared.Offers.TheInside.{Inside}
 abbrev pub found_of : Inside → Offers
 found_of offers = record { wait = offers.wait; start = offers.start; tried = offers.tried.items }
 
-pub record IsKept (offers : Inside) : Type 0 where
+pub record AreOffersKept (offers : Inside) : Type 0 where
   pub few : offers.wait ≤ 255
   pub few_tried : length offers.tried.items ≤ offers.wait + 1
   pub room : offers.wait + 1 ≤ vec_capacity offers.tried

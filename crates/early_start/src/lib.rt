@@ -36,13 +36,13 @@ pub struct Offers {
 
 impl Model for Offers {
     ghost use Rattle.early_start.specs.Offered.{Offers};
-    ghost use Rattle.early_start.specs.Kept.{found_of, IsKept};
+    ghost use Rattle.early_start.specs.Kept.{found_of, AreOffersKept};
 
     ghost Value = { Offers };
 
     ghost view = { found_of };
 
-    ghost invariant = { IsKept };
+    ghost invariant = { AreOffersKept };
 }
 
 /// The most slots that a play may start later than the first one.
