@@ -7,7 +7,7 @@ use Rattle.slot_calendar.specs.Profiles.{capacity_at}
 use Rattle.admission.specs.Histories.{booked_after, state_after}
 use Rattle.admission.specs.Machine.{start_after}
 use Rattle.early_start.specs.declared.Tried.{Tried}
-use Rattle.early_start.specs.Offered.{AreRefusals, IsStart}
+use Rattle.early_start.specs.Offered.{AreRefusals, CanStart, IsStart}
 use Rattle.early_start.proofs.Refusals.{no_room_tried}
 use Rattle.day_run.specs.DayLaws.{IsCount, IsLeast, IsOfferTold}
 use Rattle.day_run.specs.Days.{IsFaulty, IsOfferLine, Link, Moment}
@@ -15,7 +15,7 @@ use Rattle.day_run.specs.ClientStates.{Rest}
 
 start-least : {booked capacity : ℕ → ℕ} {plan : List Segment} {first : ℕ} {tried : List Tried} (wait : ℕ)
     (start : Option ℕ) → AreRefusals 0 booked capacity plan first tried
-    → IsStart 0 booked capacity plan first wait (length tried) start
+    → IsStart (CanStart 0 booked capacity plan) first wait (length tried) start
     → IsLeast (λ s. HasRoom 0 booked capacity s plan) first (first + wait) start
 start-least {booked} {capacity} {plan} {first} {tried} wait None refusals is = λ start begun within room.
     no_room_tried refusals begun (omega (arith, is, within)) room
@@ -26,20 +26,10 @@ start-least {booked} {capacity} {plan} {first} {tried} wait (Some start) refusal
   λ earlier begun before room. no_room_tried refusals begun (omega (arith, is.1, before)) room,
 )
 
--- a search for a start: what is booked, the capacity, the plan, and how far it has come
-record StartSearch : Type 0 where
-  pub booked : ℕ → ℕ
-  pub capacity : ℕ → ℕ
-  pub plan : List Segment
-  pub first : ℕ
-  pub wait : ℕ
-  pub count : ℕ
-
-start-count : (query : StartSearch) (start : Option ℕ)
-    → IsStart 0 query.booked query.capacity query.plan query.first query.wait query.count start
-    → IsCount query.first (query.first + query.wait) start query.count
-start-count query None is = omega (arith, is)
-start-count query (Some start) is = sym is.1
+start-count : (is_fit : ℕ → Type 0) (first wait tried : ℕ) (start : Option ℕ)
+    → IsStart is_fit first wait tried start → IsCount first (first + wait) start tried
+start-count is_fit first wait tried None is = omega (arith, is)
+start-count is_fit first wait tried (Some start) is = sym is.1
 
 pub offer-told : {link : Link} {rest : Rest} {wait : ℕ} {old new : Moment} {text : List ℕ}
     → IsOfferLine link rest wait old new text
@@ -52,7 +42,7 @@ offer-told {link} {wait} {old} {new} {text} (inr offered) =
     let found = offered.found in
     let first = start_after (state_after old.entries) old.heard in
     let refusals : AreRefusals 0 booked capacity plan first found.tried = offered.found_is.refusals in
-    let W : ℕ → Type 0 = λ w. IsStart 0 booked capacity plan first w (length found.tried) found.start in
+    let W : ℕ → Type 0 = λ w. IsStart (CanStart 0 booked capacity plan) first w (length found.tried) found.start in
     let start : W wait = subst W offered.wait_is offered.found_is.start in
     inr (record {
       plan = plan;
@@ -62,14 +52,7 @@ offer-told {link} {wait} {old} {new} {text} (inr offered) =
       start = found.start;
       least = start-least wait found.start refusals start;
       tried = found.tried;
-      count = start-count (record {
-        booked = booked;
-        capacity = capacity;
-        plan = plan;
-        first = first;
-        wait = wait;
-        count = length found.tried;
-      }) found.start start;
+      count = start-count (CanStart 0 booked capacity plan) first wait (length found.tried) found.start start;
       each = λ i none inside.
           let O : ℕ → Type 0 = λ s. IsFirstOverflow 0 booked capacity s plan (get_or found.tried i none).over in
           record {

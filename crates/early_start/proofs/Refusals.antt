@@ -1,5 +1,6 @@
 -- One more start at which a plan does not fit; and a plan has one answer.
-use Rattle.std.proofs.Common.{◌≡◌, ℕ, ◌+◌, ◌-◌, ◌<◌, ◌≤◌, List, [], ◌∷◌, ◌++◌, Option, Some, None, length, get_or, refl, sym, ◌∙◌, ap, subst, arith, inl, inr}
+use Rattle.std.proofs.Common.{◌≡◌, ℕ, ◌+◌, ◌-◌, ◌<◌, ◌≤◌, List, [], ◌∷◌, ◌++◌, Option, Some, None, length, get_or}
+use Rattle.std.proofs.Common.{refl, sym, ◌∙◌, ap, subst, arith, inl, inr}
 use Rattle.std.proofs.lemmas.Bool.{cases_order}
 use Rattle.std.proofs.lemmas.List.{get_or_append_left, get_or-append_right, length-append, same_lists}
 use Rattle.plan_cert.specs.declared.Segment.{Segment}
@@ -62,7 +63,7 @@ no_room_tried {from} {booked} {capacity} {segments} {first} {tried} {start} all 
 
 -- the start after those that were tried is no refusal
 nothing_next : {from : ℕ} {booked capacity : ℕ → ℕ} {segments : List Segment} {wait n : ℕ} {t : Tried} (first : ℕ)
-    (o : Option ℕ) → IsStart from booked capacity segments first wait n o → n ≤ wait →
+    (o : Option ℕ) → IsStart (CanStart from booked capacity segments) first wait n o → n ≤ wait →
     t.start ≡ first + n → IsRefusal from booked capacity segments t → ⊥
 nothing_next {from} {capacity} first None is few start refusal = omega (arith, is, few)
 nothing_next {from} {booked} {capacity} {segments} {t} first (Some s) is few start refusal =
@@ -72,7 +73,7 @@ few_tried : {from : ℕ} {booked capacity : ℕ → ℕ} {segments : List Segmen
     IsOffer from booked capacity segments first found → length found.tried ≤ found.wait + 1
 few_tried {from} {booked} {capacity} {segments} {first} {found} offer = few found.start offer.start
   where
-    few : (start : Option ℕ) → IsStart from booked capacity segments first found.wait (length found.tried) start
+    few : (start : Option ℕ) → IsStart (CanStart from booked capacity segments) first found.wait (length found.tried) start
         → length found.tried ≤ found.wait + 1
     few None is = omega (arith, is)
     few (Some s) is = omega (arith, is.0)
@@ -100,12 +101,12 @@ pub same_start : {from : ℕ} {booked capacity : ℕ → ℕ} {segments : List S
     → a.wait ≡ b.wait → IsOffer from booked capacity segments first a → IsOffer from booked capacity segments first b
     → a.start ≡ b.start
 same_start {from} {booked} {capacity} {segments} {first} {a} {b} wait x y =
-    let W : ℕ → Type 0 = λ w. IsStart from booked capacity segments first w (length a.tried) a.start in
-    let N : ℕ → Type 0 = λ n. IsStart from booked capacity segments first b.wait n a.start in
+    let W : ℕ → Type 0 = λ w. IsStart (CanStart from booked capacity segments) first w (length a.tried) a.start in
+    let N : ℕ → Type 0 = λ n. IsStart (CanStart from booked capacity segments) first b.wait n a.start in
     once a.start b.start (subst N (as_many wait x y) (subst W wait x.start)) y.start
   where
-    once : (one other : Option ℕ) → IsStart from booked capacity segments first b.wait (length b.tried) one →
-        IsStart from booked capacity segments first b.wait (length b.tried) other → one ≡ other
+    once : (one other : Option ℕ) → IsStart (CanStart from booked capacity segments) first b.wait (length b.tried) one →
+        IsStart (CanStart from booked capacity segments) first b.wait (length b.tried) other → one ≡ other
     once None None p q = refl
     once None (Some t) p q = let bad : ⊥ = omega (arith, p, q.0) in absurd bad
     once (Some t) None p q = let bad : ⊥ = omega (arith, q, p.0) in absurd bad

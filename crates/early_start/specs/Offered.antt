@@ -31,11 +31,11 @@ pub record AreRefusals (from : ℕ) (booked capacity : ℕ → ℕ) (segments : 
       IsRefusal from booked capacity segments (slice_index_or tried i none)
 
 -- no start is found where all have been tried; else it is the one after those that were tried, and
--- the plan can start there
-abbrev pub IsStart : ℕ → (ℕ → ℕ) → (ℕ → ℕ) → List Segment → ℕ → ℕ → ℕ → Option ℕ → Type 0
-IsStart from booked capacity segments first wait tried None = tried ≡ wait + 1
-IsStart from booked capacity segments first wait tried (Some start) =
-    (tried ≤ wait) × (start ≡ first + tried) × CanStart from booked capacity segments start
+-- it is fit
+abbrev pub IsStart : (ℕ → Type 0) → ℕ → ℕ → ℕ → Option ℕ → Type 0
+IsStart is_fit first wait tried None = tried ≡ wait + 1
+IsStart is_fit first wait tried (Some start) =
+    (tried ≤ wait) × (start ≡ first + tried) × is_fit start
 
 -- What is found for a plan that may start from `first` to `first + wait`, where the slots from
 -- `from` on have these booked bytes and capacities: the least start where it fits, and for each
@@ -43,7 +43,7 @@ IsStart from booked capacity segments first wait tried (Some start) =
 pub record IsOffer (from : ℕ) (booked capacity : ℕ → ℕ) (segments : List Segment) (first : ℕ)
     (found : Offers) : Type 0 where
   pub refusals : AreRefusals from booked capacity segments first found.tried
-  pub start : IsStart from booked capacity segments first found.wait
+  pub start : IsStart (CanStart from booked capacity segments) first found.wait
       (length found.tried) found.start
 
 -- what is found in a calendar
@@ -60,5 +60,5 @@ AreRefusalsIn calendar segments first tried =
 -- the start that is found in a calendar
 abbrev pub IsStartIn : Entries → List Segment → ℕ → ℕ → ℕ → Option ℕ → Type 0
 IsStartIn calendar segments first wait tried start =
-    IsStart calendar.first (booked_at calendar)
-    (capacity_at calendar.steps) segments first wait tried start
+    IsStart (CanStart calendar.first (booked_at calendar) (capacity_at calendar.steps) segments)
+    first wait tried start

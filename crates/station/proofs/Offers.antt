@@ -3,7 +3,7 @@ use Rattle.std.proofs.Common.{◌≡◌, ℕ, zero, suc, ◌<◌, List, Option, 
 use Rattle.plan_cert.specs.declared.Segment.{Segment}
 use Rattle.slot_calendar.specs.Calendars.{IsFirstOverflow}
 use Rattle.early_start.specs.declared.Tried.{Tried}
-use Rattle.early_start.specs.Offered.{IsOffer, IsStart, Offers}
+use Rattle.early_start.specs.Offered.{CanStart, IsOffer, IsStart, Offers}
 
 -- where another start than the first is found, or none, a start was tried
 some-tried : {from : ℕ} {booked capacity : ℕ → ℕ} {segments : List Segment} {first : ℕ} {found : Offers}
@@ -11,7 +11,7 @@ some-tried : {from : ℕ} {booked capacity : ℕ → ℕ} {segments : List Segme
 some-tried {from} {booked} {capacity} {segments} {first} {found} offer other =
     tried found.start (length found.tried) offer.start other
   where
-    tried : (start : Option ℕ) (n : ℕ) → IsStart from booked capacity segments first found.wait n start
+    tried : (start : Option ℕ) (n : ℕ) → IsStart (CanStart from booked capacity segments) first found.wait n start
         → (start ≡ Some first → ⊥) → 0 < n
     tried None n is other = omega (arith, is)
     tried (Some s) zero is other = let same : s ≡ first = omega (arith, is.1) in absurd (other (ap (λ k. Some k) same))
