@@ -23,5 +23,5 @@ fn law_shown(stored: &Stored)
 {
     // the contracts of these two calls say it
     let _units = stored.count();
-    let _time = stored.film.picture_units();
+    let _time = stored.film.picture_time();
 }

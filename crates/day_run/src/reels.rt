@@ -70,7 +70,7 @@ impl<'s> Reel<'s> {
         ensures value { result ≡ reel_units slot_units self.now }
     {
         match self {
-            Reel::Film(stored) => stored.film.picture_units(),
+            Reel::Film(stored) => stored.film.picture_time(),
             Reel::Trace(_) => slot_units,
         }
     }

@@ -4,7 +4,7 @@ use Rattle.std.proofs.Common.{slice_get, refl, sym, ap, subst, ◌∙◌, arith}
 use Rattle.std.proofs.lemmas.List.Sums.{sum_by-cons}
 use Rattle.mpeg_scan.specs.declared.units.Unit.{Unit as PictureUnit}
 use Rattle.mpeg_scan.specs.declared.films.Film.{Film}
-use Rattle.mpeg_scan.specs.Codes.{read, codes_of}
+use Rattle.mpeg_scan.specs.Codes.{read_after, codes_of}
 use Rattle.mpeg_scan.specs.Tiles.{first_of}
 use Rattle.mpeg_scan.proofs.BoundLemmas.{film-bytes, film-units, film-pictures}
 use Rattle.mpeg_scan.specs.Layout.{AreChained, AreLaid, IsLaid}
@@ -16,7 +16,7 @@ use Rattle.film_frames.proofs.PieceLemmas.{unit-sound, unit-wire, wire-append}
 
 -- where the units of a film begin, and that they lie one after another from there
 pub film-from : Film → ℕ
-film-from film = first_of (codes_of (read [] film.bytes.items))
+film-from film = first_of (codes_of (read_after [] film.bytes.items))
 
 pub film-in_order : (film : Film) → AreChained (film-from film) film.units.items (length film.bytes.items)
 unfolding film-from
@@ -87,7 +87,7 @@ film-wire film = units-wire (length film.bytes.items) film.slice_starts.items fi
 pub film-few : (film : Film) → length film.units.items ≤ 4194304
 film-few film =
     let units = ap (λ (l : List PictureUnit). length l) film.grammar.units ∙ film-units film.bytes.items film.grammar.accepted in
-    omega (arith, units, film-pictures (read [] film.bytes.items) film.grammar.accepted)
+    omega (arith, units, film-pictures (read_after [] film.bytes.items) film.grammar.accepted)
 
 pub film-bound : (film : Film) → sum (map (λ u. wire_size film.slice_starts.items u) film.units.items) ≤ 2 ^ 42
 film-bound film =

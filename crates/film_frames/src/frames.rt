@@ -178,7 +178,7 @@ impl<'a> Frames<'a> {
     fn picture_time(&self) -> u32
         ensures { result ≡ picture_time self.now.rate }
     {
-        self.stored.film.picture_units()
+        self.stored.film.picture_time()
     }
 }
 

@@ -32,7 +32,7 @@ pub fn run_between(film: &Film, from: u128, to: Option<u128>) -> Option<Run>
     if is_reversed(from, to) {
         return None;
     }
-    let time = u64::from(film.picture_units());
+    let time = u64::from(film.picture_time());
     let units = film.units.as_slice();
     let first_unit = last_group_by(units, time, from)?;
     let end_unit = end_of(units, time, to, first_unit);

@@ -4,7 +4,7 @@ use Rattle.std.specs.Prelude.{IfSome, option_map}
 use Rattle.std.proofs.lemmas.Bool.{cases_Bool}
 use Rattle.std.proofs.lemmas.List.{length-take-le, take_more, take-append-drop}
 use Rattle.mpeg_scan.specs.declared.codes.Code.{Code}
-use Rattle.mpeg_scan.specs.Codes.{codes_of, is_whole, latest_prefix, next_prefix, note, note_latest, read}
+use Rattle.mpeg_scan.specs.Codes.{codes_of, is_whole, latest_prefix, next_prefix, note, note_latest, read_after}
 use Rattle.mpeg_scan.proofs.CodeLemmas.{matched-more}
 use Rattle.mpeg_scan.proofs.FilmLemmas.{length-read}
 use Rattle.mpeg_scan.proofs.ReadLemmas.{read-append}
@@ -27,11 +27,11 @@ open_none = record { none = codes-none; prefix_is = refl }
 pub open_more : {prefix next : Prefix} {seen : List ℕ} (byte : ℕ) → HasNoCode prefix seen → is_whole prefix ≡ false →
     next ≡ next_prefix prefix byte → HasNoCode next (seen ++ byte ∷ [])
 open_more {next} {seen} byte so_far part is =
-    let joined : read [] (seen ++ byte ∷ []) ≡ byte ∷ read [] seen = read-append [] seen (byte ∷ []) in
-    let plain : is_whole (latest_prefix (read [] seen)) ≡ false = ap is_whole (sym so_far.prefix_is) ∙ part in
+    let joined : read_after [] (seen ++ byte ∷ []) ≡ byte ∷ read_after [] seen = read-append [] seen (byte ∷ []) in
+    let plain : is_whole (latest_prefix (read_after [] seen)) ≡ false = ap is_whole (sym so_far.prefix_is) ∙ part in
     record {
-      none = ap codes_of joined ∙ codes-plain byte (read [] seen) plain ∙ ap (λ (l : List Code). note_latest l byte) so_far.none;
-      prefix_is = is ∙ ap (λ p. next_prefix p byte) so_far.prefix_is ∙ sym (matched-more byte (read [] seen))
+      none = ap codes_of joined ∙ codes-plain byte (read_after [] seen) plain ∙ ap (λ (l : List Code). note_latest l byte) so_far.none;
+      prefix_is = is ∙ ap (λ p. next_prefix p byte) so_far.prefix_is ∙ sym (matched-more byte (read_after [] seen))
           ∙ ap latest_prefix (sym joined);
     }
 
@@ -65,21 +65,21 @@ older-more r x pack has =
       }
     ]
 
-pack-stays : (more r : List ℕ) (pack : Option ℕ) → HasOlder r pack → pack_of (codes_of (read r more)) ≡ pack
+pack-stays : (more r : List ℕ) (pack : Option ℕ) → HasOlder r pack → pack_of (codes_of (read_after r more)) ≡ pack
 pack-stays [] r pack has = ap pack_of has.are ∙ has.pack_is
 pack-stays (x ∷ more) r pack has = pack-stays more (x ∷ r) pack (older-more r x pack has)
 
 -- a byte that is the kind of the first code
 first_code : (prefix : Prefix) (seen : List ℕ) (byte : ℕ) → HasNoCode prefix seen → prefix ≡ Whole →
-    HasOlder (byte ∷ read [] seen) (cond (eqb byte 0xba) (Some (length seen - 3)) None)
+    HasOlder (byte ∷ read_after [] seen) (cond (eqb byte 0xba) (Some (length seen - 3)) None)
 first_code prefix seen byte so_far whole =
-    let is : is_whole (latest_prefix (read [] seen)) ≡ true = ap is_whole (sym so_far.prefix_is ∙ whole) in
-    let long : length (read [] seen) ≡ length seen = length-read seen [] ∙ omega arith in
+    let is : is_whole (latest_prefix (read_after [] seen)) ≡ true = ap is_whole (sym so_far.prefix_is ∙ whole) in
+    let long : length (read_after [] seen) ≡ length seen = length-read seen [] ∙ omega arith in
     record {
-      code = record { place = length (read [] seen) - 3; kind = byte; text = [] };
+      code = record { place = length (read_after [] seen) - 3; kind = byte; text = [] };
       older = [];
-      are = codes-code byte (read [] seen) is
-          ∙ ap (λ (l : List Code). (record { place = length (read [] seen) - 3; kind = byte; text = [] })
+      are = codes-code byte (read_after [] seen) is
+          ∙ ap (λ (l : List Code). (record { place = length (read_after [] seen) - 3; kind = byte; text = [] })
           ∷ note_latest l byte) so_far.none;
       pack_is = ap (λ n. cond (eqb byte 0xba) (Some (n - 3)) None) long;
     }
@@ -89,10 +89,10 @@ pub first_found : {prefix : Prefix} {seen : List ℕ} {pack : Option ℕ} (byte 
     HasNoCode prefix seen → prefix ≡ Whole →
     cond (eqb byte 0xba) (Some (length seen - 3)) None ≡ pack → pack_in ((seen ++ byte ∷ []) ++ more) ≡ pack
 first_found {prefix} {seen} byte more so_far whole is =
-    let joined : read [] ((seen ++ byte ∷ []) ++ more) ≡ read (byte ∷ read [] seen) more =
-    read-append [] (seen ++ byte ∷ []) more ∙ ap (λ (r : List ℕ). read r more) (read-append [] seen (byte ∷ [])) in
+    let joined : read_after [] ((seen ++ byte ∷ []) ++ more) ≡ read_after (byte ∷ read_after [] seen) more =
+    read-append [] (seen ++ byte ∷ []) more ∙ ap (λ (r : List ℕ). read_after r more) (read-append [] seen (byte ∷ [])) in
     ap (λ (r : List ℕ). pack_of (codes_of r)) joined
-    ∙ pack-stays more (byte ∷ read [] seen) (cond (eqb byte 0xba) (Some (length seen - 3)) None)
+    ∙ pack-stays more (byte ∷ read_after [] seen) (cond (eqb byte 0xba) (Some (length seen - 3)) None)
     (first_code prefix seen byte so_far whole) ∙ is
 
 -- bytes without a start code begin no system stream

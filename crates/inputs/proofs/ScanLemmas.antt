@@ -7,7 +7,7 @@ use Rattle.mpeg_scan.specs.declared.faults.FilmFault.{FilmFault}
 use Rattle.mpeg_scan.specs.declared.faults.FilmFault.TheVariants.{TooLong}
 use Rattle.mpeg_scan.specs.declared.scanner.Ending.{Ending}
 use Rattle.mpeg_scan.specs.declared.scanner.Scanner.{Scanner}
-use Rattle.mpeg_scan.specs.Codes.{read, codes_of}
+use Rattle.mpeg_scan.specs.Codes.{read_after, codes_of}
 use Rattle.mpeg_scan.specs.Calls.{Call, calls_of, all_calls}
 use Rattle.mpeg_scan.specs.Faults.{first_fault, refusal_of}
 use Rattle.mpeg_scan.specs.Words.{rate_of}
@@ -51,16 +51,16 @@ plain_refused {held} {name} {size} {whole} opened found short refused =
 -- a chunk more
 pub more_told : {Heard Heard' : List Call → Type 0} {scanner scanner' : Scanner} {video : List ℕ}
     (more : List ℕ) → HasTold Heard scanner video →
-    ((r : List ℕ) → HasScannedBytes scanner r → HasScannedBytes scanner' (read r more)) →
+    ((r : List ℕ) → HasScannedBytes scanner r → HasScannedBytes scanner' (read_after r more)) →
     ((r : List ℕ) (calls : List Call) → HasScannedBytes scanner r → Heard (calls ++ calls_of (codes_of r)) →
-    Heard' (calls ++ calls_of (codes_of (read r more)))) →
+    Heard' (calls ++ calls_of (codes_of (read_after r more)))) →
     HasTold Heard' scanner' (video ++ more)
 more_told {Heard} {Heard'} {scanner'} {video} more so_far kept tells =
-    let joined : read [] (video ++ more) ≡ read (read [] video) more = read-append [] video more in
+    let joined : read_after [] (video ++ more) ≡ read_after (read_after [] video) more = read-append [] video more in
     record {
-      fed = subst (λ (r : List ℕ). HasScannedBytes scanner' r) (sym joined) (kept (read [] video) so_far.fed);
+      fed = subst (λ (r : List ℕ). HasScannedBytes scanner' r) (sym joined) (kept (read_after [] video) so_far.fed);
       heard = subst (λ (r : List ℕ). Heard' (calls_of (codes_of r))) (sym joined)
-          (tells (read [] video) [] so_far.fed so_far.heard);
+          (tells (read_after [] video) [] so_far.fed so_far.heard);
     }
 
 pub more_scanned : {Heard Heard' : List Call → Type 0} {told' : Option (List File)} {name : List ℕ} {size place : ℕ}
@@ -68,9 +68,9 @@ pub more_scanned : {Heard Heard' : List Call → Type 0} {told' : Option (List F
     (so_far : HasScanned Heard told' name size place scanner) →
     ((held : List File) → told' ≡ Some held → IsFront held name size (so_far.bytes ++ take count chunk)) →
     count ≤ length chunk →
-    ((r : List ℕ) → HasScannedBytes scanner r → HasScannedBytes scanner' (read r (take count chunk))) →
+    ((r : List ℕ) → HasScannedBytes scanner r → HasScannedBytes scanner' (read_after r (take count chunk))) →
     ((r : List ℕ) (calls : List Call) → HasScannedBytes scanner r → Heard (calls ++ calls_of (codes_of r)) →
-    Heard' (calls ++ calls_of (codes_of (read r (take count chunk))))) →
+    Heard' (calls ++ calls_of (codes_of (read_after r (take count chunk))))) →
     HasScanned Heard' told' name size (place + count) scanner'
 more_scanned {Heard} {Heard'} {name} {place} {count} chunk so_far front within kept tells = record {
   bytes = so_far.bytes ++ take count chunk;
@@ -87,23 +87,23 @@ scanned_fed {Heard} {name} {place} so_far =
 
 -- what is refused at a code of a front of the bytes is refused
 pub front_refused : (front rest : List ℕ) (fault : FilmFault) → length (front ++ rest) ≤ 2 ^ 40 →
-    first_fault (codes_of (read [] front)) ≡ Some fault →
+    first_fault (codes_of (read_after [] front)) ≡ Some fault →
     refusal (front ++ rest) ≡ Some fault
 front_refused front rest fault short is =
     refusal-at_code (front ++ rest) fault short
-    (ap (λ (r : List ℕ). first_fault (codes_of r)) (read-append [] front rest) ∙ fault-stays rest (read [] front) fault is)
+    (ap (λ (r : List ℕ). first_fault (codes_of r)) (read-append [] front rest) ∙ fault-stays rest (read_after [] front) fault is)
 
 pub chunk_refused : {Heard : List Call → Type 0} {held : List File} {name : List ℕ} {size : ℕ} {scanner : Scanner}
     {bytes : List ℕ} {fault : FilmFault} (chunk : List ℕ) →
     HasTold Heard scanner bytes → IsOpened held name size None → IsFront held name size (bytes ++ chunk) → size ≤ 2 ^ 40 →
-    ((r : List ℕ) → HasScannedBytes scanner r → first_fault (codes_of (read r chunk)) ≡ Some fault)
+    ((r : List ℕ) → HasScannedBytes scanner r → first_fault (codes_of (read_after r chunk)) ≡ Some fault)
     → IsFilmRefused held name (Film fault)
 chunk_refused {Heard} {held} {name} {size} {bytes} {fault} chunk so_far opened front short is =
     let rest : List ℕ = drop (length (bytes ++ chunk)) front.whole in
     let whole : (bytes ++ chunk) ++ rest ≡ front.whole = front_rest held name size (bytes ++ chunk) front in
     let few : length front.whole ≤ 2 ^ 40 = omega (arith, front.sized, short) in
-    let at : first_fault (codes_of (read [] (bytes ++ chunk))) ≡ Some fault =
-    ap (λ (r : List ℕ). first_fault (codes_of r)) (read-append [] bytes chunk) ∙ is (read [] bytes) so_far.fed in
+    let at : first_fault (codes_of (read_after [] (bytes ++ chunk))) ≡ Some fault =
+    ap (λ (r : List ℕ). first_fault (codes_of r)) (read-append [] bytes chunk) ∙ is (read_after [] bytes) so_far.fed in
     plain_refused opened front.found few
     (ap refusal (sym whole) ∙ front_refused (bytes ++ chunk) rest fault (omega (arith, few, ap length whole)) at)
 
@@ -142,13 +142,13 @@ pub told_ended : {Heard Heard' : List Call → Type 0} {scanner : Scanner} {vide
     Heard' (calls ++ all_calls r)) →
     HasEnded Heard' video size rate
 told_ended {Heard} {video} {size} {rate} so_far ended tells =
-    let end : (refusal_of (read [] video) ≡ None) × (rate ≡ rate_of (codes_of (read [] video)))
-    × (size ≡ length (read [] video)) = ended (read [] video) so_far.fed in
+    let end : (refusal_of (read_after [] video) ≡ None) × (rate ≡ rate_of (codes_of (read_after [] video)))
+    × (size ≡ length (read_after [] video)) = ended (read_after [] video) so_far.fed in
     record {
       accepted = end.0;
       sized = omega (arith, end.2, length-read video []);
       rate_is = end.1;
-      heard = tells (read [] video) [] so_far.fed so_far.heard;
+      heard = tells (read_after [] video) [] so_far.fed so_far.heard;
     }
 
 pub refused_ended : (scanner : Scanner) (video : List ℕ) → length video ≤ 2 ^ 40

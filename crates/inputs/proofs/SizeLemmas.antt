@@ -4,7 +4,7 @@ use Rattle.std.proofs.lemmas.List.{append-nil, length-map}
 use Rattle.std.proofs.lemmas.Bool.{and_parts, false≢true, eqb-true}
 use Rattle.mpeg_scan.specs.declared.units.Unit.{Unit as PictureUnit}
 use Rattle.mpeg_scan.specs.Calls.{Call, head_call, slice_call, unit_call}
-use Rattle.mpeg_scan.specs.Codes.{read, codes_of}
+use Rattle.mpeg_scan.specs.Codes.{read_after, codes_of}
 use Rattle.mpeg_scan.specs.Counts.{Count, counts_after, group_of, no_count}
 use Rattle.mpeg_scan.specs.Films.{IsFilm, refusal, slices_in, film_calls, units_in}
 use Rattle.mpeg_scan.specs.Layout.{unit_starts}
@@ -135,10 +135,10 @@ sizes-told (unit_call unit ∷ calls) s {part = within from head_end at n} {k} {
 pub film-sizes : (film : List ℕ) (unit : Measure) (sizes : List ℕ) → refusal film ≡ None
     → IsSized unit sizes (film_calls film) → sizes ≡ sizes_of film
 film-sizes film unit sizes accepted sized =
-    let start : MeasuredSoFar (between (first_of (codes_of (read [] film)))) no_count [] first_sizing.unit =
+    let start : MeasuredSoFar (between (first_of (codes_of (read_after [] film)))) no_count [] first_sizing.unit =
     record { slices = refl; measures = tt } in
     sized.sizes_are
-    ∙ sizes-told (film_calls film) first_sizing (film-tiles (read [] film) accepted) (film-numbered (read [] film) accepted) start
+    ∙ sizes-told (film_calls film) first_sizing (film-tiles (read_after [] film) accepted) (film-numbered (read_after [] film) accepted) start
 
 -- a part more
 pub sized-more : {calls : List Call} {unit unit' : Measure} {sizes sizes' : List ℕ} (call : Call) → IsSized unit sizes calls →
@@ -160,18 +160,18 @@ sized-more {calls} {unit} {sizes} call so_far unit_is sizes_are =
 
 -- ---- the limits of a film's sizes
 
-pub film-limits : (film : List ℕ) (rate : ℕ) → refusal film ≡ None → rate ≡ rate_of (codes_of (read [] film))
+pub film-limits : (film : List ℕ) (rate : ℕ) → refusal film ≡ None → rate ≡ rate_of (codes_of (read_after [] film))
     → AreSizesWithin rate (sizes_of film)
 film-limits film rate accepted is =
     let units : List PictureUnit = units_in (film_calls film) in
     let starts : List ℕ = slices_in (film_calls film) in
     let grammar : IsFilm film rate units starts = record { accepted = accepted; rate = is; units = refl; slices = refl } in
-    let its = film-rate (read [] film) accepted in
-    let are : AreUnits (length film) starts units (first_of (codes_of (read [] film))) (length film) = record {
+    let its = film-rate (read_after [] film) accepted in
+    let are : AreUnits (length film) starts units (first_of (codes_of (read_after [] film))) (length film) = record {
       laid = film-laid film rate units starts grammar;
       chained = film-chained film rate units starts grammar;
     } in
-    let few : length units ≤ 4194304 = omega (arith, film-units film accepted, film-pictures (read [] film) accepted) in
+    let few : length units ≤ 4194304 = omega (arith, film-units film accepted, film-pictures (read_after [] film) accepted) in
     record {
       slowest = omega (arith, is, its.0);
       fastest = omega (arith, is, its.1);

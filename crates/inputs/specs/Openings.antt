@@ -1,15 +1,15 @@
 -- The first start code of a file, looked for from its front on.
 use Rattle.std.specs.Prelude.{◌≡◌, ℕ, ◌≤◌, List, [], ◌++◌, Some, None}
 use Rattle.mpeg_scan.specs.declared.codes.Prefix.{Prefix}
-use Rattle.mpeg_scan.specs.Codes.{codes_of, latest_prefix, read}
+use Rattle.mpeg_scan.specs.Codes.{codes_of, latest_prefix, read_after}
 use Rattle.inputs.specs.Videos.{pack_in}
 use Rattle.inputs.specs.declared.openings.FirstCode.{FirstCode}
 use Rattle.inputs.specs.declared.openings.FirstCode.TheVariants.{NotYet, Pack, Other}
 
 -- no start code stands among these bytes, which end with so much of a prefix
 pub record HasNoCode (prefix : Prefix) (seen : List ℕ) : Type 0 where
-  pub none : codes_of (read [] seen) ≡ []
-  pub prefix_is : prefix ≡ latest_prefix (read [] seen)
+  pub none : codes_of (read_after [] seen) ≡ []
+  pub prefix_is : prefix ≡ latest_prefix (read_after [] seen)
 
 -- what these bytes show of the first start code, whatever follows them
 abbrev pub IsFirstCode : FirstCode → List ℕ → Type 0

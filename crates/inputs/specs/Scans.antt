@@ -6,7 +6,7 @@ use Rattle.mpeg_scan.specs.declared.faults.FilmFault.{FilmFault}
 use Rattle.mpeg_scan.specs.declared.faults.ScanRefused.TheVariants.{Fault as FaultAnswer}
 use Rattle.mpeg_scan.specs.declared.units.Unit.{Unit as PictureUnit}
 use Rattle.mpeg_scan.specs.declared.scanner.Scanner.{Scanner}
-use Rattle.mpeg_scan.specs.Codes.{read, codes_of}
+use Rattle.mpeg_scan.specs.Codes.{read_after, codes_of}
 use Rattle.mpeg_scan.specs.Calls.{Call, calls_of}
 use Rattle.mpeg_scan.specs.Faults.{first_fault}
 use Rattle.mpeg_scan.specs.Films.{IsFilm, refusal, film_calls}
@@ -47,7 +47,7 @@ pub record HoldsFilm (held : List File) (name : List ℕ) (size rate : ℕ) (uni
 pub record HoldsSizes (held : List File) (name : List ℕ) (rate : ℕ) (sizes : List ℕ) : Type 0 where
   pub video : List ℕ
   pub holds : HoldsVideo held name video
-  pub rate_is : rate ≡ rate_of (codes_of (read [] video))
+  pub rate_is : rate ≡ rate_of (codes_of (read_after [] video))
   pub sizes_are : sizes ≡ sizes_of video
 
 -- what keeps a film of that name from being scanned
@@ -59,8 +59,8 @@ IsScanTrouble name told faults faults' trouble =
 
 -- all that ended in the video so far was told
 pub record HasTold (Heard : List Call → Type 0) (scanner : Scanner) (video : List ℕ) : Type 0 where
-  pub fed : HasScannedBytes scanner (read [] video)
-  pub heard : Heard (calls_of (codes_of (read [] video)))
+  pub fed : HasScannedBytes scanner (read_after [] video)
+  pub heard : Heard (calls_of (codes_of (read_after [] video)))
 
 -- a code of a front of the video is refused, and the scanner answers so from then on
 pub record HasRefused (scanner : Scanner) (video : List ℕ) : Type 0 where
@@ -69,7 +69,7 @@ pub record HasRefused (scanner : Scanner) (video : List ℕ) : Type 0 where
   pub front : List ℕ
   pub rest : List ℕ
   pub video_is : video ≡ front ++ rest
-  pub refused : first_fault (codes_of (read [] front)) ≡ Some fault
+  pub refused : first_fault (codes_of (read_after [] front)) ≡ Some fault
 
 abbrev pub HasTaken : (List Call → Type 0) → Scanner → List ℕ → Type 0
 HasTaken Heard scanner video = HasTold Heard scanner video ⊎ HasRefused scanner video
@@ -143,7 +143,7 @@ WasOpened told name size from = (held : List File) → told ≡ Some held → Is
 pub record HasEnded (Heard : List Call → Type 0) (video : List ℕ) (size rate : ℕ) : Type 0 where
   pub accepted : refusal video ≡ None
   pub sized : size ≡ length video
-  pub rate_is : rate ≡ rate_of (codes_of (read [] video))
+  pub rate_is : rate ≡ rate_of (codes_of (read_after [] video))
   pub heard : Heard (film_calls video)
 
 abbrev pub IsRefusedAtEnd : (List Call → Type 0) → Scanner → FilmFault → Type 0

@@ -5,7 +5,7 @@ use Rattle.std.specs.Prelude.{length, drop, Option, Some, None}
 use Rattle.vod_base.specs.Outside.{File, file_named}
 use Rattle.mpeg_scan.specs.declared.codes.Code.{Code}
 use Rattle.mpeg_scan.specs.declared.faults.FilmFault.TheVariants.{TooLong}
-use Rattle.mpeg_scan.specs.Codes.{codes_of, read}
+use Rattle.mpeg_scan.specs.Codes.{codes_of, read_after}
 use Rattle.mpeg_scan.specs.Films.{refusal}
 use Rattle.sys_demux.specs.Streams.{IsSystem, IsRefused}
 use Rattle.sys_demux.specs.declared.faults.SystemFault.{SystemFault}
@@ -24,7 +24,7 @@ pack_of (code ∷ (older ∷ codes)) = pack_of (older ∷ codes)
 
 -- where in a file a system stream begins
 abbrev pub pack_in : List ℕ → Option ℕ
-pack_in file = pack_of (codes_of (read [] file))
+pack_in file = pack_of (codes_of (read_after [] file))
 
 abbrev pub IsVideoFrom : Option ℕ → List ℕ → List ℕ → Type 0
 IsVideoFrom None file video = video ≡ file

@@ -90,7 +90,7 @@ fn open_chunk(before: Prefix, at: u64, chunk: &[u8]) -> FirstCode
                 return FirstCode::Pack((at + index as u64).saturating_sub(3));
             }
             Prefix::Whole => return FirstCode::Other,
-            _ => prefix = prefix.then(*byte),
+            _ => prefix = prefix.next(*byte),
         }
     }
     FirstCode::NotYet(prefix)

@@ -7,7 +7,7 @@ use Rattle.std.proofs.lemmas.List.Elements.{All-take}
 use Rattle.std.proofs.lemmas.Option.{none-some}
 use Rattle.vod_base.specs.Numbers.{number_of}
 use Rattle.vod_base.specs.Outside.{File}
-use Rattle.mpeg_scan.specs.Codes.{codes_of, read}
+use Rattle.mpeg_scan.specs.Codes.{codes_of, read_after}
 use Rattle.mpeg_scan.specs.Films.{film_calls, units_in}
 use Rattle.mpeg_scan.specs.Rates.{picture_time}
 use Rattle.mpeg_scan.specs.Words.{rate_of}
@@ -57,7 +57,7 @@ film_once : {held : List File} {name : List ℕ} {rate rate' : ℕ} {sizes sizes
 film_once {held} {name} p q =
     let same : p.video ≡ q.video = held_once held name p.video q.video p.holds q.holds in
     record {
-      rates = p.rate_is ∙ ap (λ (v : List ℕ). rate_of (codes_of (read [] v))) same ∙ sym q.rate_is;
+      rates = p.rate_is ∙ ap (λ (v : List ℕ). rate_of (codes_of (read_after [] v))) same ∙ sym q.rate_is;
       same = p.sizes_are ∙ ap sizes_of same ∙ sym q.sizes_are;
     }
 
@@ -165,7 +165,7 @@ scanned_once held film t t' p q =
     let same : p.holds.video ≡ q.holds.video = held_once held film p.holds.video q.holds.video p.holds.holds q.holds.holds in
     let sizes : p.size ≡ q.size = p.holds.sized ∙ ap (λ (v : List ℕ). length v) same ∙ sym q.holds.sized in
     let rates : p.rate ≡ q.rate =
-    p.holds.grammar.rate ∙ ap (λ (v : List ℕ). rate_of (codes_of (read [] v))) same ∙ sym q.holds.grammar.rate in
+    p.holds.grammar.rate ∙ ap (λ (v : List ℕ). rate_of (codes_of (read_after [] v))) same ∙ sym q.holds.grammar.rate in
     let units : p.units ≡ q.units =
     p.holds.grammar.units ∙ ap (λ (v : List ℕ). units_in (film_calls v)) same ∙ sym q.holds.grammar.units in
     p.printed ∙ ap (λ n. scan_text n p.rate p.units) sizes ∙ ap (λ n. scan_text q.size n p.units) rates

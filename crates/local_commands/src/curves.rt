@@ -16,7 +16,7 @@ ghost use Rattle.local_commands.specs.Pictures.{MayHaveCurves, pictures_of};
 use crate::traces::load_trace;
 use command_words::{Source, Viewer};
 use inputs::size_film;
-use mpeg_scan::picture_units;
+use mpeg_scan::picture_time;
 use std::alloc::Global;
 use troubles::{Fault, Trouble};
 use vod_base::Library;
@@ -109,7 +109,7 @@ fn film_pictures<'a, L: Library>(
 {
     let film = size_film(alloc, library, name)?;
     Ok(Pictures {
-        picture_units: picture_units(film.rate),
+        picture_units: picture_time(film.rate),
         sizes: film.sizes,
         slot_units: slot,
     })

@@ -7,8 +7,8 @@ use Rattle.std.proofs.lemmas.Bool.{cases_lt, eqb-true, eq-eqb, ltb-true, lt-ltb,
 use Rattle.std.proofs.lemmas.Bool.{and_parts, and_from, false≢true, true≢false}
 use Rattle.mpeg_scan.specs.declared.codes.Code.{Code}
 use Rattle.mpeg_scan.specs.declared.tallies.Header.{Header}
-use Rattle.mpeg_scan.specs.Words.{begins_unit, header_of, is_head, is_slice, picture_of, slices_of}
-use Rattle.mpeg_scan.specs.Words.{unit_of}
+use Rattle.mpeg_scan.specs.Words.{begins_unit, header_of, is_head, is_slice, latest_picture, slice_count}
+use Rattle.mpeg_scan.specs.Words.{latest_unit}
 use Rattle.mpeg_scan.specs.Places.{HasCode}
 use Rattle.mpeg_scan.specs.Refusals.{BeginsUnit, IsItsPicture, IsLatest, IsOpenHead, IsPicture}
 use Rattle.mpeg_scan.specs.Standard.{AnyKind, IsFirstCode, IsHeadKind, IsSliceKind, NoneIn}
@@ -170,10 +170,10 @@ slice-by {h = false} {s = false} {Has} {c} {past} {at} head slice k spaced befor
     }
 
 pub slice-there : (Has : ℕ → ℕ → Type 0) (past : List Code) (at : ℕ) → Knows Has past at →
-    Spaced past → 0 < slices_of past → HasSlice Has at
+    Spaced past → 0 < slice_count past → HasSlice Has at
 slice-there Has [] at k spaced some = absurd (omega (arith, some))
 slice-there Has (c ∷ past) at k spaced some =
-    slice-by {n = slices_of past} refl refl k spaced
+    slice-by {n = slice_count past} refl refl k spaced
     (slice-there Has past c.place (older Has c past at k spaced) spaced.1) some
 
 -- ---- the latest unit's head
@@ -273,13 +273,13 @@ left-zero true s n e b = elim (cases_lt 0 n) [
 left-zero false s n e b = (none-left false s n e refl).1
 
 open-by : {b : Bool} {Has : ℕ → ℕ → Type 0} {c : Code} {past : List Code} {at unit : ℕ} →
-    (is_head c.kind && ltb 0 (slices_of past)) ≡ b → Knows Has (c ∷ past) at → Spaced (c ∷ past) →
-    slices_of (c ∷ past) ≡ 0
-    → (slices_of past ≡ 0 → IsOpenHead Has unit c.place) → IsOpenHead Has (cond b c.place unit) at
+    (is_head c.kind && ltb 0 (slice_count past)) ≡ b → Knows Has (c ∷ past) at → Spaced (c ∷ past) →
+    slice_count (c ∷ past) ≡ 0
+    → (slice_count past ≡ 0 → IsOpenHead Has unit c.place) → IsOpenHead Has (cond b c.place unit) at
 open-by {b = true} {Has} {c} {past} {at} e k spaced none before =
-    let parts = and_parts (is_head c.kind) (ltb 0 (slices_of past)) e in
+    let parts = and_parts (is_head c.kind) (ltb 0 (slice_count past)) e in
     let s = slice-there Has past c.place (older Has c past at k spaced) spaced.1
-    (ltb-true 0 (slices_of past) parts.1) in
+    (ltb-true 0 (slice_count past) parts.1) in
     open-new k spaced (head-no-slice c.kind parts.0)
     (inr (
       (c.kind, (has-new Has c past at k, head-kind c.kind parts.0)),
@@ -287,12 +287,12 @@ open-by {b = true} {Has} {c} {past} {at} e k spaced none before =
     ))
 open-by {b = false} {Has} {c} {past} {at} e k spaced none before =
     open-with k spaced
-    (not-slice-by (slices_of past) refl refl none)
-    (before (left-zero (is_head c.kind) (is_slice c.kind) (slices_of past) none e))
+    (not-slice-by (slice_count past) refl refl none)
+    (before (left-zero (is_head c.kind) (is_slice c.kind) (slice_count past) none e))
 
 pub open-head : {Has : ℕ → ℕ → Type 0} {c : Code} {past : List Code} {at : ℕ} →
-    Knows Has (c ∷ past) at → Spaced (c ∷ past) → slices_of (c ∷ past) ≡ 0 →
-    IsOpenHead Has (unit_of (c ∷ past)) at
+    Knows Has (c ∷ past) at → Spaced (c ∷ past) → slice_count (c ∷ past) ≡ 0 →
+    IsOpenHead Has (latest_unit (c ∷ past)) at
 open-head {Has} {c} {past = []} {at} k spaced none =
     open-new k spaced
     (not-slice-by 0 refl refl none)
@@ -347,11 +347,11 @@ unit-below-by true m n at one other = one
 unit-below-by false m n at one other = other
 
 unit-below : (Has : ℕ → ℕ → Type 0) (c : Code) (past : List Code) (at : ℕ) →
-    Knows Has (c ∷ past) at → Spaced (c ∷ past) → unit_of (c ∷ past) < at
+    Knows Has (c ∷ past) at → Spaced (c ∷ past) → latest_unit (c ∷ past) < at
 unit-below Has c [] at k spaced = new-below Has c [] at k
 unit-below Has c (d ∷ past) at k spaced =
     let below = new-below Has c (d ∷ past) at k in
-    unit-below-by (begins_unit c (d ∷ past)) c.place (unit_of (d ∷ past)) at below
+    unit-below-by (begins_unit c (d ∷ past)) c.place (latest_unit (d ∷ past)) at below
     (omega (
       arith,
       below,
@@ -361,14 +361,14 @@ unit-below Has c (d ∷ past) at k spaced =
 
 pub picture-there : (Has : ℕ → ℕ → Type 0) (c : Code) (past : List Code) (at : ℕ) →
     Knows Has (c ∷ past) at → Spaced (c ∷ past) →
-    PictureThere Has (unit_of (c ∷ past)) at (picture_of (c ∷ past))
+    PictureThere Has (latest_unit (c ∷ past)) at (latest_picture (c ∷ past))
 picture-there Has c [] at k spaced =
     picture-by {z = eqb c.kind 0} {b = true} {Has = Has} {c = c} {past = []} {at = at} {unit = 0} None refl k spaced (λ e.
     absurd (true≢false e)) (λ e. absurd (true≢false e))
 picture-there Has c (d ∷ past) at k spaced =
     let k' = older Has c (d ∷ past) at k spaced in
     picture-by
-    (picture_of (d ∷ past)) refl k spaced
+    (latest_picture (d ∷ past)) refl k spaced
     (λ _. picture-there Has d past c.place k' spaced.1) (λ _.
     omega (arith, unit-below Has d past c.place k' spaced.1))
 

@@ -8,8 +8,8 @@ use Rattle.mpeg_scan.specs.declared.codes.Code.{Code}
 use Rattle.mpeg_scan.specs.declared.faults.FilmFault.{FilmFault}
 use Rattle.mpeg_scan.specs.declared.faults.FilmFault.TheVariants.{Empty, ShortHeader, BadRate}
 use Rattle.mpeg_scan.specs.declared.faults.FilmFault.TheVariants.{TooLong}
-use Rattle.mpeg_scan.specs.Codes.{read, codes_of}
-use Rattle.mpeg_scan.specs.Words.{first_rate, pictures_of, rate_after, rate_code, rate_of, tally_of}
+use Rattle.mpeg_scan.specs.Codes.{read_after, codes_of}
+use Rattle.mpeg_scan.specs.Words.{first_rate, picture_count, rate_after, rate_code, rate_of, tally_of}
 use Rattle.mpeg_scan.specs.Faults.{first_refusal, rate_fault, picture_fault, header_fault}
 use Rattle.mpeg_scan.specs.Faults.{latest_fault, last_fault, code_fault, fault_at, first_fault}
 use Rattle.mpeg_scan.specs.Faults.{end_fault, refusal_of}
@@ -94,7 +94,7 @@ bytes-bound r e =
     ltb-false (2 ^ 40) (length r) (some-cond-none (ltb (2 ^ 40) (length r)) TooLong rest some.1).0
 
 pub film-bytes : (bytes : List ℕ) → refusal bytes ≡ None → length bytes ≤ 2 ^ 40
-film-bytes bytes e = omega (arith, length-read bytes [], bytes-bound (read [] bytes) e)
+film-bytes bytes e = omega (arith, length-read bytes [], bytes-bound (read_after [] bytes) e)
 
 -- ---- the units
 
@@ -116,12 +116,12 @@ units-counted (unit_call unit ∷ calls) k last e =
     omega (arith, units-counted calls next last (count-goes b next calls last e))
 
 pub film-units : (bytes : List ℕ) → refusal bytes ≡ None
-    → length (units_in (film_calls bytes)) ≡ pictures_of (codes_of (read [] bytes))
+    → length (units_in (film_calls bytes)) ≡ picture_count (codes_of (read_after [] bytes))
 film-units bytes e =
-    let whole = film-count (read [] bytes) e in
+    let whole = film-count (read_after [] bytes) e in
     omega (arith, units-counted (film_calls bytes) no_count whole.last whole.counted, whole.units)
 
-pub film-pictures : (r : List ℕ) → refusal_of r ≡ None → pictures_of (codes_of r) ≤ 4194304
+pub film-pictures : (r : List ℕ) → refusal_of r ≡ None → picture_count (codes_of r) ≤ 4194304
 film-pictures r e =
     pictures-bound (codes_of r)
     (otherwise-first (first_fault (codes_of r)) (end_fault (codes_of r) (length r)) (accepted-whole r e))

@@ -7,9 +7,9 @@ use Rattle.std.proofs.lemmas.Bool.{cases_lt, eqb-true, ltb-true, false≢true}
 use Rattle.mpeg_scan.specs.declared.codes.Code.{Code}
 use Rattle.mpeg_scan.specs.declared.tallies.Header.{Header}
 use Rattle.mpeg_scan.specs.declared.units.Unit.{Unit as PictureUnit}
-use Rattle.mpeg_scan.specs.Words.{all_slices_of, has_sequence, head_end_of, header_of, is_head}
-use Rattle.mpeg_scan.specs.Words.{is_slice, kind_of, picture_of, slices_of, starts_group, tally_of}
-use Rattle.mpeg_scan.specs.Words.{temporal_of, type_of, unit_of, vectors_of}
+use Rattle.mpeg_scan.specs.Words.{film_slice_count, has_sequence, head_end_of, header_of, is_head}
+use Rattle.mpeg_scan.specs.Words.{is_slice, kind_of, latest_picture, slice_count, starts_group, tally_of}
+use Rattle.mpeg_scan.specs.Words.{temporal_of, type_of, latest_unit, vectors_of}
 use Rattle.mpeg_scan.specs.Faults.{end_fault, first_fault, last_fault, latest_fault}
 use Rattle.mpeg_scan.specs.Calls.{Call, head_call, slice_call, calls_at, no_header, calls_of}
 use Rattle.mpeg_scan.specs.Calls.{unit_at, unit_end}
@@ -33,7 +33,7 @@ use Rattle.mpeg_scan.proofs.SinceLemmas.{all-slices, counts-same, few-slices, ow
 
 abbrev OpenOf : List Code → Type 0
 OpenOf past =
-    Open past (unit_of past) (head_end_of past) (slices_of past) (picture_of past) (has_sequence past) (starts_group past)
+    Open past (latest_unit past) (head_end_of past) (slice_count past) (latest_picture past) (has_sequence past) (starts_group past)
 
 open-three : (c : Code) → c.kind ≡ 0xb3 → OpenOf (c ∷ [])
 open-three c is =
@@ -49,7 +49,7 @@ open-codes c [] accepted spaced = open-first c accepted
 open-codes c (d ∷ past) accepted spaced =
     let older : List Code = d ∷ past in
     let t = tally_of older in
-    let n = slices_of older in
+    let n = slice_count older in
     let fault = code-accepted c older accepted in
     step-open
     (kinds-of c.kind) (all-below older spaced.1 spaced.0)
@@ -157,26 +157,26 @@ close-by {past} {unit} {n} {o = Some h} open_ some header below own all = record
 }
 
 -- the slices after the latest head are those from its first slice on
-own-first : {past : List Code} {to from place : ℕ} → OpenOf past → 0 < slices_of past
+own-first : {past : List Code} {to from place : ℕ} → OpenOf past → 0 < slice_count past
     → ((place kind : ℕ) → HasCode place kind past → place < to) → NoneIn (Has past) from to IsHeadKind
     → StandsThere (Has past) place IsSliceKind → from ≤ place → head_end_of past ≤ place
 own-first {past} {from} {place} open_ some below none slice far = elim (cases_lt place (head_end_of past)) [
-  | inl less ↦ elim (cases_lt (unit_of past) from) [
+  | inl less ↦ elim (cases_lt (latest_unit past) from) [
     | inl after ↦ absurd (open_.head some place slice.0 slice.1.0 (omega (arith, after, far)) less slice.1.1)
     | inr before ↦
         absurd (let head =
-        open_.begins in none (unit_of past) head.0 head.1.0 before (below (unit_of past) head.0 head.1.0) head.1.1)
+        open_.begins in none (latest_unit past) head.0 head.1.0 before (below (latest_unit past) head.0 head.1.0) head.1.1)
   ]
   | inr more ↦ more
 ]
 
-close : (past : List Code) (to : ℕ) → OpenOf past → Spaced past → 0 < slices_of past
+close : (past : List Code) (to : ℕ) → OpenOf past → Spaced past → 0 < slice_count past
     → ((place kind : ℕ) → HasCode place kind past → place < to) → Closed past (unit_at (tally_of past) to)
 close past to open_ spaced some below =
     let k : Knows (Has past) past to =
     record { there = λ place kind has. has; below = below; back = λ place kind has before. has } in
-    let count : all_slices_of past ≡ all_slices_of past - slices_of past + slices_of past = omega (arith, few-slices past) in
-    let header : HasHeader (unit_at (tally_of past) to) (unwrap_or (picture_of past) no_header) =
+    let count : film_slice_count past ≡ film_slice_count past - slice_count past + slice_count past = omega (arith, few-slices past) in
+    let header : HasHeader (unit_at (tally_of past) to) (unwrap_or (latest_picture past) no_header) =
     record { temporal = refl; kind = refl; vectors = refl } in
     close-by open_ some header below
     (own-slices k spaced (λ place kind has after before is. open_.sliced some place kind has after is)
@@ -332,10 +332,10 @@ closed-step c d past open_ spaced below =
     let older : List Code = d ∷ past in
     let t = tally_of older in
     let unit = unit_at t c.place in
-    closed-call (eqb (slices_of older) 0) (told_at t c.place) (slice-apart c.kind)
+    closed-call (eqb (slice_count older) 0) (told_at t c.place) (slice-apart c.kind)
     (λ head some. (
       closed-grows c older unit (omega arith)
-          (close older c.place open_ spaced (ltb-true 0 (slices_of older) some) below),
+          (close older c.place open_ spaced (ltb-true 0 (slice_count older) some) below),
       omega arith,
     ))
 

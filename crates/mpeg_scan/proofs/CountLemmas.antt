@@ -12,8 +12,8 @@ use Rattle.mpeg_scan.specs.declared.tallies.Header.{Header}
 use Rattle.mpeg_scan.specs.declared.tallies.Tally.{Tally}
 use Rattle.mpeg_scan.specs.declared.units.Unit.{Unit as PictureUnit}
 use Rattle.mpeg_scan.specs.Codes.{codes_of}
-use Rattle.mpeg_scan.specs.Words.{is_head, is_slice, tally_of, slices_of, all_slices_of, picture_of}
-use Rattle.mpeg_scan.specs.Words.{pictures_of, before_group_of, starts_group, header_of, slice_of}
+use Rattle.mpeg_scan.specs.Words.{is_head, is_slice, tally_of, slice_count, film_slice_count, latest_picture}
+use Rattle.mpeg_scan.specs.Words.{picture_count, before_group_of, starts_group, header_of, latest_slice}
 use Rattle.mpeg_scan.specs.Faults.{first_refusal, kind_fault, second_fault, first_slice_fault}
 use Rattle.mpeg_scan.specs.Faults.{count_fault, code_fault, head_fault, left_without_slices}
 use Rattle.mpeg_scan.specs.Faults.{first_fault, end_fault, last_fault, latest_fault, refusal_of}
@@ -269,58 +269,58 @@ second-accepted t place kind e =
 -- the count of codes
 abbrev CountedBy : Count → List Call → List Code → Type 0
 CountedBy k calls past =
-    Counted k calls (pictures_of past) (is_some (picture_of past)) (all_slices_of past) (slices_of past)
+    Counted k calls (picture_count past) (is_some (latest_picture past)) (film_slice_count past) (slice_count past)
     (before_group_of past) (starts_group past)
 
 pub empty-count : (n : ℕ) → ltb 0 n ≡ false → n ≡ 0
 empty-count n h = let none = ltb-false 0 n h in omega arith
 
 pub code-fits : (c d : Code) (past : List Code) → code_fault (tally_of (d ∷ past)) c.place c.kind ≡ None
-    → CodeFits (is_slice c.kind) (is_head c.kind) (ltb 0 (slices_of (d ∷ past))) (is_some (picture_of (d ∷ past)))
+    → CodeFits (is_slice c.kind) (is_head c.kind) (ltb 0 (slice_count (d ∷ past))) (is_some (latest_picture (d ∷ past)))
 code-fits c d past e =
     let t = tally_of (d ∷ past) in
     record {
       apart = slice-apart c.kind;
       alone = λ head bare. second-none t c.kind (second-accepted t c.place c.kind e) head
-          (empty-count (slices_of (d ∷ past)) bare);
+          (empty-count (slice_count (d ∷ past)) bare);
       with_picture =
           λ slice bare. first-some t c.place c.kind (first_slice-accepted t c.place c.kind e) slice
-          (empty-count (slices_of (d ∷ past)) bare);
+          (empty-count (slice_count (d ∷ past)) bare);
     }
 
 code-count : (c d : Code) (past : List Code) (k : Count)
     → code_fault (tally_of (d ∷ past)) c.place c.kind ≡ None
-    → Agrees (pictures_of (d ∷ past)) (is_some (picture_of (d ∷ past))) (all_slices_of (d ∷ past))
-    (slices_of (d ∷ past)) (before_group_of (d ∷ past)) (starts_group (d ∷ past)) k
+    → Agrees (picture_count (d ∷ past)) (is_some (latest_picture (d ∷ past))) (film_slice_count (d ∷ past))
+    (slice_count (d ∷ past)) (before_group_of (d ∷ past)) (starts_group (d ∷ past)) k
     → CountedBy k (calls_at (tally_of (d ∷ past)) c.place c.kind) (c ∷ (d ∷ past))
 unfolding calls_at
 code-count c d past k e agrees =
     let older : List Code = d ∷ past in
     let t = tally_of older in
-    let n = slices_of older in
+    let n = slice_count older in
     let q = ltb 0 n in
     let u = unit_at t c.place in
     let code : NextCode (eqb c.kind 0) (eqb c.kind 0xb3) (eqb c.kind 0xb8) (is_slice c.kind) q
-    (is_some (picture_of older)) n = record {
+    (is_some (latest_picture older)) n = record {
       fits = code-fits c d past e;
       other = λ group. ap (λ m. eqb m 0) (eqb-true c.kind 0xb8 group);
       some = ltb-true 0 n;
       none = empty-count n;
     } in
-    let next : IsNext u (all_slices_of older) n (before_group_of older) (starts_group older) =
+    let next : IsNext u (film_slice_count older) n (before_group_of older) (starts_group older) =
     record { first = refl; slices = refl; group = refl; shown = refl } in
     let raw = raw-count (told_at t c.place) agrees code next in
     let calls : List Call =
     cond (is_slice c.kind) (cond (not q) (head_call t.unit c.place ∷ []) (slice_call t.slice c.place ∷ []))
     (cond (is_head c.kind && q) (slice_call t.slice c.place ∷ unit_call u ∷ []) []) in
     let with_has =
-    subst (λ b. Counted k calls (pictures_of (c ∷ older)) b (all_slices_of (c ∷ older))
-    (slices_of (c ∷ older)) (before_group_of (c ∷ older))
+    subst (λ b. Counted k calls (picture_count (c ∷ older)) b (film_slice_count (c ∷ older))
+    (slice_count (c ∷ older)) (before_group_of (c ∷ older))
     (cond (eqb c.kind 0xb8) true (cond (is_head c.kind && q) false (starts_group older))))
-    (sym (some-cond (eqb c.kind 0) (is_head c.kind && q) (header_of c) (picture_of older))) raw in
+    (sym (some-cond (eqb c.kind 0) (is_head c.kind && q) (header_of c) (latest_picture older))) raw in
     let with_starts =
-    subst (λ b. Counted k calls (pictures_of (c ∷ older)) (is_some (picture_of (c ∷ older)))
-    (all_slices_of (c ∷ older)) (slices_of (c ∷ older)) (before_group_of (c ∷ older))
+    subst (λ b. Counted k calls (picture_count (c ∷ older)) (is_some (latest_picture (c ∷ older)))
+    (film_slice_count (c ∷ older)) (slice_count (c ∷ older)) (before_group_of (c ∷ older))
     (cond b true (cond (is_head c.kind && q) false (starts_group older)))) (sym (or-false (eqb c.kind 0xb8))) with_has in
     subst (λ b. CountedBy k
     (cond (is_slice c.kind) (cond b (head_call t.unit c.place ∷ []) (slice_call t.slice c.place ∷ []))
@@ -378,7 +378,7 @@ calls-counted c (d ∷ past) accepted =
 pub record WholeCount (past : List Code) (end : ℕ) : Type 0 where
   pub last : Count
   pub counted : counts_after (Some no_count) (calls_of past ++ unit_end (tally_of past) end) ≡ Some last
-  pub units : last.units ≡ pictures_of past
+  pub units : last.units ≡ picture_count past
 
 whole-count : (past : List Code) (n : ℕ) → first_fault past ≡ None → end_fault past n ≡ None → WholeCount past n
 unfolding end_fault after_unit
@@ -387,9 +387,9 @@ whole-count (c ∷ past) n accepted ended =
     let all : List Code = c ∷ past in
     let some = ended-none (tally_of all) (otherwise-second (latest_fault all n) (last_fault (tally_of all)) ended) in
     let k = calls-counted c past accepted in
-    let next : IsNext (unit_at (tally_of all) n) (all_slices_of all) (slices_of all) (before_group_of all)
+    let next : IsNext (unit_at (tally_of all) n) (film_slice_count all) (slice_count all) (before_group_of all)
     (starts_group all) = record { first = refl; slices = refl; group = refl; shown = refl } in
-    let end = unit-counted (slice_of all) n k.agrees some next in record {
+    let end = unit-counted (latest_slice all) n k.agrees some next in record {
       last = after_unit k.count (starts_group all);
       counted = counts-append (Some no_count) (calls_of all) (unit_end (tally_of all) n)
           ∙ ap (λ (o : Option Count). counts_after o (unit_end (tally_of all) n)) k.told ∙ end;

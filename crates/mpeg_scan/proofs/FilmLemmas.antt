@@ -5,7 +5,7 @@ use Rattle.mpeg_scan.specs.declared.faults.FilmFault.{FilmFault}
 use Rattle.mpeg_scan.specs.declared.faults.ScanRefused.{ScanRefused}
 use Rattle.mpeg_scan.specs.declared.faults.FilmFault.TheVariants.{TooLong}
 use Rattle.mpeg_scan.specs.declared.units.Unit.{Unit as PictureUnit}
-use Rattle.mpeg_scan.specs.Codes.{read, codes_of}
+use Rattle.mpeg_scan.specs.Codes.{read_after, codes_of}
 use Rattle.mpeg_scan.specs.Faults.{first_refusal, first_fault, end_fault, refusal_of}
 use Rattle.mpeg_scan.specs.Calls.{Call, head_call, slice_call, unit_call, calls_of}
 use Rattle.mpeg_scan.specs.Films.{units_in, slices_in, refusal}
@@ -17,7 +17,7 @@ pub same-error : {T : Type 0} {e f : ScanRefused} (r : Result T ScanRefused) →
     r ≡ Err f → e ≡ f
 same-error r p q = cc
 
-pub length-read : (xs r : List ℕ) → length (read r xs) ≡ length r + length xs
+pub length-read : (xs r : List ℕ) → length (read_after r xs) ≡ length r + length xs
 length-read [] r = omega arith
 length-read (x ∷ xs) r = length-read xs (x ∷ r) ∙ omega arith
 
@@ -57,8 +57,8 @@ refusal-at [] f short is = absurd (apart f is)
 refusal-at (x ∷ r) f short is = refusal-some (x ∷ r) f (omega arith) short is
 
 pub refusal-at_code : (bytes : List ℕ) (f : FilmFault) → length bytes ≤ 2 ^ 40
-    → first_fault (codes_of (read [] bytes)) ≡ Some f → refusal bytes ≡ Some f
-refusal-at_code bytes f short is = refusal-at (read [] bytes) f (omega (arith, length-read bytes [])) is
+    → first_fault (codes_of (read_after [] bytes)) ≡ Some f → refusal bytes ≡ Some f
+refusal-at_code bytes f short is = refusal-at (read_after [] bytes) f (omega (arith, length-read bytes [])) is
 
 pub refusal-too_long : (bytes : List ℕ) → 2 ^ 40 < length bytes → refusal bytes ≡ Some TooLong
-refusal-too_long bytes long = refusal-of_many (read [] bytes) (omega (arith, length-read bytes []))
+refusal-too_long bytes long = refusal-of_many (read_after [] bytes) (omega (arith, length-read bytes []))

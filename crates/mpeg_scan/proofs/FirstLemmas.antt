@@ -7,9 +7,9 @@ use Rattle.std.proofs.lemmas.Bool.{true≢false, eq-eqb, ltb-false}
 use Rattle.mpeg_scan.specs.declared.codes.Code.{Code}
 use Rattle.mpeg_scan.specs.declared.faults.FilmFault.TheVariants.{ShortHeader}
 use Rattle.mpeg_scan.specs.declared.units.Unit.{Unit as PictureUnit}
-use Rattle.mpeg_scan.specs.Codes.{read, codes_of}
+use Rattle.mpeg_scan.specs.Codes.{read_after, codes_of}
 use Rattle.mpeg_scan.specs.Words.{is_head, is_slice, first_rate, rate_after, rate_code, rate_of}
-use Rattle.mpeg_scan.specs.Words.{slices_of, starts_group, tally_of}
+use Rattle.mpeg_scan.specs.Words.{slice_count, starts_group, tally_of}
 use Rattle.mpeg_scan.specs.Faults.{end_fault, first_fault, header_fault, last_fault, latest_fault}
 use Rattle.mpeg_scan.specs.Faults.{picture_fault, rate_fault}
 use Rattle.mpeg_scan.specs.Calls.{Call, head_call, slice_call, calls_at, calls_of, unit_at}
@@ -89,7 +89,7 @@ first-step c d past units first =
     let t = tally_of older in
     let apart : SliceApart (is_slice c.kind) (is_head c.kind) (eqb c.kind 0xb8) =
     record { no_head = slice-apart c.kind; no_group = slice-other c.kind } in
-    raw-first (ltb 0 (slices_of older)) (eqb (slices_of older) 0) units (told_at t c.place) apart first
+    raw-first (ltb 0 (slice_count older)) (eqb (slice_count older) 0) units (told_at t c.place) apart first
 
 first-code : (c : Code) → c.kind ≡ 0xb3 → FirstStarts (units_in (calls_at (tally_of []) c.place c.kind)) (starts_group (c ∷ []))
 unfolding calls_at
@@ -142,7 +142,7 @@ starts-first (u ∷ units) starts unit is = let same : u ≡ unit = cc in ap (λ
 film-starts : (bytes : List ℕ) (rate : ℕ) (units : List PictureUnit) (starts : List ℕ)
     → IsFilm bytes rate units starts → StartsGroup units
 film-starts bytes rate units starts film =
-    let r = read [] bytes in
+    let r = read_after [] bytes in
     let none = accepted-whole r film.accepted in
     subst (λ (l : List PictureUnit). StartsGroup l) (sym film.units)
     (whole-first (codes_of r) (length r)
@@ -212,8 +212,8 @@ long-header rate c end is e =
     (cond (eqb c.kind 0) (picture_fault c end) None)) test e) in
     omega (arith, ltb-false (end - c.place) 12 judged.0)
 
-first-there : (bytes : List ℕ) (past : List Code) → codes_of (read [] bytes) ≡ past → Spaced past
-    → end_fault past (length (read [] bytes)) ≡ None
+first-there : (bytes : List ℕ) (past : List Code) → codes_of (read_after [] bytes) ≡ past → Spaced past
+    → end_fault past (length (read_after [] bytes)) ≡ None
     → StandsThere (StandsAt bytes) (first_of past) AnyKind × IsFirstCode (StandsAt bytes) (first_of past)
 unfolding end_fault
 first-there bytes [] codes spaced ended = absurd (omega (arith, ended-none (tally_of []) ended))
@@ -234,10 +234,10 @@ first-there bytes (c ∷ past) codes spaced ended =
 
 -- the first unit begins at the first code
 pub film-first : (bytes : List ℕ) (rate : ℕ) (units : List PictureUnit) (starts : List ℕ) → IsFilm bytes rate units starts
-    → StandsThere (StandsAt bytes) (first_of (codes_of (read [] bytes))) AnyKind
-    × IsFirstCode (StandsAt bytes) (first_of (codes_of (read [] bytes)))
+    → StandsThere (StandsAt bytes) (first_of (codes_of (read_after [] bytes))) AnyKind
+    × IsFirstCode (StandsAt bytes) (first_of (codes_of (read_after [] bytes)))
 film-first bytes rate units starts film =
-    let r = read [] bytes in
+    let r = read_after [] bytes in
     first-there bytes (codes_of r) refl (placed-codes r).spaced
     (otherwise-second (first_fault (codes_of r)) (end_fault (codes_of r) (length r)) (accepted-whole r film.accepted))
 
@@ -278,12 +278,12 @@ first_in-text {past = d ∷ past} are = first_in-text {c = d} {past = past} (old
 record Begins (bytes : List ℕ) (past : List Code) : Type 0 where
   begins : BeginsSequence bytes (rate_of past) (first_of past)
 
-codes-begin : (bytes : List ℕ) (past : List Code) → codes_of (read [] bytes) ≡ past → first_fault past ≡ None
-    → end_fault past (length (read [] bytes)) ≡ None → TextsAre (read [] bytes) (length (read [] bytes)) past → Begins bytes past
+codes-begin : (bytes : List ℕ) (past : List Code) → codes_of (read_after [] bytes) ≡ past → first_fault past ≡ None
+    → end_fault past (length (read_after [] bytes)) ≡ None → TextsAre (read_after [] bytes) (length (read_after [] bytes)) past → Begins bytes past
 unfolding end_fault
 codes-begin bytes [] codes accepted ended texts = absurd (omega (arith, ended-none (tally_of []) ended))
 codes-begin bytes (c ∷ past) codes accepted ended texts =
-    let r = read [] bytes in
+    let r = read_after [] bytes in
     let n = length r in
     let judged = otherwise-first (latest_fault (c ∷ past) n) (last_fault (tally_of (c ∷ past))) ended in
     let f = first_in c past in
@@ -318,7 +318,7 @@ chained-first from to (u ∷ units) unit is chained = let same : u ≡ unit =
 pub film-begins : {bytes : List ℕ} {rate : ℕ} {units : List PictureUnit} {starts : List ℕ}
     → IsFilm bytes rate units starts → (unit : PictureUnit) → slice_get units 0 ≡ Some unit → BeginsSequence bytes rate unit.from
 film-begins {bytes} {rate} {units} {starts} film unit is =
-    let r = read [] bytes in
+    let r = read_after [] bytes in
     let none = accepted-whole r film.accepted in
     let begins =
     codes-begin bytes (codes_of r) refl

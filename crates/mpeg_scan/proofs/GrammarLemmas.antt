@@ -5,7 +5,7 @@ use Rattle.std.specs.Option.{is_some}
 use Rattle.std.proofs.lemmas.Bool.{lt-ltb, false≢true, true≢false}
 use Rattle.mpeg_scan.specs.declared.codes.Code.{Code}
 use Rattle.mpeg_scan.specs.Codes.{codes_of}
-use Rattle.mpeg_scan.specs.Words.{is_head, is_slice, tally_of, slices_of, picture_of, header_of}
+use Rattle.mpeg_scan.specs.Words.{is_head, is_slice, tally_of, slice_count, latest_picture, header_of}
 use Rattle.mpeg_scan.specs.Faults.{code_fault, first_fault, end_fault, last_fault, latest_fault}
 use Rattle.mpeg_scan.specs.Faults.{refusal_of}
 use Rattle.mpeg_scan.specs.Grammar.{Phase, nowhere, in_head, after_picture, in_slices, next_phase}
@@ -55,19 +55,19 @@ raw-phase {s = false} {q = false} {has = true} false false n is fits = ap (λ b.
 raw-phase {s = false} {q = false} {has = false} false false n is fits = ap (λ b. Some (phase_by b false)) (sym is)
 
 abbrev pub phase_of : List Code → Phase
-phase_of past = phase_by (ltb 0 (slices_of past)) (is_some (picture_of past))
+phase_of past = phase_by (ltb 0 (slice_count past)) (is_some (latest_picture past))
 
 phase-step : (c d : Code) (past : List Code) → code_fault (tally_of (d ∷ past)) c.place c.kind ≡ None
     → next_phase (phase_of (d ∷ past)) c.kind ≡ Some (phase_of (c ∷ (d ∷ past)))
 phase-step c d past e =
     let older : List Code = d ∷ past in
     let t = tally_of older in
-    let n = slices_of older in
+    let n = slice_count older in
     let q = ltb 0 n in
-    next-raw q (is_some (picture_of older)) c.kind
+    next-raw q (is_some (latest_picture older)) c.kind
     ∙ raw-phase (eqb c.kind 0) (eqb c.kind 0xb3 || eqb c.kind 0xb8) n refl (code-fits c d past e)
-    ∙ ap (λ b. Some (phase_by (ltb 0 (slices_of (c ∷ older))) b))
-    (sym (some-cond (eqb c.kind 0) (is_head c.kind && q) (header_of c) (picture_of older)))
+    ∙ ap (λ b. Some (phase_by (ltb 0 (slice_count (c ∷ older))) b))
+    (sym (some-cond (eqb c.kind 0) (is_head c.kind && q) (header_of c) (latest_picture older)))
 
 first-phase : (c : Code) → c.kind ≡ 0xb3 → next_phase nowhere c.kind ≡ Some (phase_of (c ∷ []))
 first-phase c is =
@@ -88,7 +88,7 @@ whole-phase (c ∷ past) n accepted ended =
     let some = ended-none (tally_of (c ∷ past))
     (otherwise-second (latest_fault (c ∷ past) n) (last_fault (tally_of (c ∷ past))) ended) in
     phase-is c past accepted
-    ∙ ap (λ b. Some (phase_by b (is_some (picture_of (c ∷ past))))) (lt-ltb 0 (slices_of (c ∷ past)) some)
+    ∙ ap (λ b. Some (phase_by b (is_some (latest_picture (c ∷ past))))) (lt-ltb 0 (slice_count (c ∷ past)) some)
 
 -- the codes of an accepted film stand in their order
 pub film-grammatical : (r : List ℕ) → refusal_of r ≡ None → IsGrammatical r

@@ -8,7 +8,7 @@ use Rattle.std.proofs.Math.Seq.{drop-append_seam, take-append_seam}
 use Rattle.std.proofs.lemmas.Bool.{and_parts, false≢true, eqb-true, ltb-true, leb-true}
 use Rattle.mpeg_scan.specs.declared.units.Unit.{Unit as PictureUnit}
 use Rattle.mpeg_scan.specs.Calls.{Call, head_call, slice_call, unit_call, all_calls}
-use Rattle.mpeg_scan.specs.Codes.{read, codes_of}
+use Rattle.mpeg_scan.specs.Codes.{read_after, codes_of}
 use Rattle.mpeg_scan.specs.Counts.{Count, counts_after, group_of, no_count}
 use Rattle.mpeg_scan.specs.Films.{IsFilm, slices_in, units_in}
 use Rattle.mpeg_scan.specs.Tiles.{Part, between, within, first_of, parts_after}
@@ -226,13 +226,13 @@ part-laid (unit_call unit ∷ calls) {part = within from head_end at n} {k} {to}
 pub film-laid : (bytes : List ℕ) (rate : ℕ) (units : List PictureUnit) (starts : List ℕ)
     → IsFilm bytes rate units starts → AreLaid (length bytes) starts units
 film-laid bytes rate units starts film =
-    let calls = all_calls (read [] bytes) in
-    let end : length (read [] bytes) ≡ length bytes = length-read bytes [] ∙ omega arith in
-    let start : SoFar (between (first_of (codes_of (read [] bytes)))) no_count [] = record { slices = refl; stands = tt } in
-    let laid = part-laid calls (film-tiles (read [] bytes) film.accepted) (film-numbered (read [] bytes) film.accepted) start in
+    let calls = all_calls (read_after [] bytes) in
+    let end : length (read_after [] bytes) ≡ length bytes = length-read bytes [] ∙ omega arith in
+    let start : SoFar (between (first_of (codes_of (read_after [] bytes)))) no_count [] = record { slices = refl; stands = tt } in
+    let laid = part-laid calls (film-tiles (read_after [] bytes) film.accepted) (film-numbered (read_after [] bytes) film.accepted) start in
     subst (λ e. AreLaid e starts units) end
-    (subst (λ (l : List ℕ). AreLaid (length (read [] bytes)) l units) (sym film.slices)
-    (subst (λ (l : List PictureUnit). AreLaid (length (read [] bytes)) (slices_in calls) l) (sym film.units) laid))
+    (subst (λ (l : List ℕ). AreLaid (length (read_after [] bytes)) l units) (sym film.slices)
+    (subst (λ (l : List PictureUnit). AreLaid (length (read_after [] bytes)) (slices_in calls) l) (sym film.units) laid))
 
 -- ---- units lie one after another
 
@@ -270,10 +270,10 @@ parts-chained (unit_call unit ∷ calls) (within from head_end at n) to parts =
     )
 
 pub film-chained : (bytes : List ℕ) (rate : ℕ) (units : List PictureUnit) (starts : List ℕ)
-    → IsFilm bytes rate units starts → AreChained (first_of (codes_of (read [] bytes))) units (length bytes)
+    → IsFilm bytes rate units starts → AreChained (first_of (codes_of (read_after [] bytes))) units (length bytes)
 unfolding begin_of_part
 film-chained bytes rate units starts film =
-    let r = read [] bytes in
+    let r = read_after [] bytes in
     let end : length r ≡ length bytes = length-read bytes [] ∙ omega arith in
     let chained = parts-chained (all_calls r) (between (first_of (codes_of r))) (length r) (film-tiles r film.accepted) in
     let P : List PictureUnit → Type 0 = λ l. AreChained (first_of (codes_of r)) l (length bytes) in

@@ -7,7 +7,7 @@ use Rattle.mpeg_scan.specs.declared.units.Kind.{Kind}
 use Rattle.mpeg_scan.specs.declared.units.Kind.TheVariants.{I, P, B, D}
 use Rattle.mpeg_scan.specs.declared.units.Unit.{Unit as PictureUnit}
 use Rattle.mpeg_scan.specs.Words.{kind_of}
-use Rattle.mpeg_scan.specs.Codes.{codes_of, read}
+use Rattle.mpeg_scan.specs.Codes.{codes_of, read_after}
 use Rattle.mpeg_scan.specs.Films.{IsFilm}
 use Rattle.mpeg_scan.specs.Layout.{AreChained}
 use Rattle.mpeg_scan.specs.Places.{StandsAt}
@@ -295,7 +295,7 @@ pub film-units_of : (bytes : List ℕ) (rate : ℕ) (units : List PictureUnit) (
     IsFilm bytes rate units starts → AreUnitsOf bytes units
 film-units_of bytes rate units starts film =
     let first = film-first bytes rate units starts film in record {
-      from = first_of (codes_of (read [] bytes));
+      from = first_of (codes_of (read_after [] bytes));
       code = first.0;
       first = first.1;
       chained = film-chained bytes rate units starts film;

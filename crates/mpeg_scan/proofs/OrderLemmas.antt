@@ -4,7 +4,7 @@ use Rattle.std.proofs.Common.{None, IsSome, length, sym, refl, subst}
 use Rattle.std.proofs.lemmas.Bool.{eqb-true, and_parts}
 use Rattle.mpeg_scan.specs.declared.codes.Code.{Code}
 use Rattle.mpeg_scan.specs.declared.units.Unit.{Unit as PictureUnit}
-use Rattle.mpeg_scan.specs.Codes.{read, codes_of}
+use Rattle.mpeg_scan.specs.Codes.{read_after, codes_of}
 use Rattle.mpeg_scan.specs.Calls.{Call, head_call, slice_call, unit_call, all_calls}
 use Rattle.mpeg_scan.specs.Counts.{Count, counts_after, group_of, no_count}
 use Rattle.mpeg_scan.specs.Films.{IsFilm, units_in}
@@ -42,6 +42,6 @@ counts-present (unit_call unit ∷ calls) k some =
 pub film-presented : (bytes : List ℕ) (rate : ℕ) (units : List PictureUnit) (starts : List ℕ)
     → IsFilm bytes rate units starts → ArePresented 0 0 units
 film-presented bytes rate units starts film =
-    let r = read [] bytes in
+    let r = read_after [] bytes in
     subst (λ (l : List PictureUnit). ArePresented 0 0 l) (sym film.units)
     (counts-present (all_calls r) no_count (film-numbered r film.accepted))

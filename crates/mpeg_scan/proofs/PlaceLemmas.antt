@@ -7,7 +7,7 @@ use Rattle.std.proofs.lemmas.Bool.{and_from, false≢true}
 use Rattle.std.proofs.lemmas.List.{get_or_past}
 use Rattle.mpeg_scan.specs.declared.codes.Code.{Code}
 use Rattle.mpeg_scan.specs.declared.codes.Prefix.TheVariants.{Nothing, Zero, Zeros, Whole}
-use Rattle.mpeg_scan.specs.Codes.{read, byte_back, latest_prefix, is_whole, note_latest, codes_of}
+use Rattle.mpeg_scan.specs.Codes.{read_after, byte_back, latest_prefix, is_whole, note_latest, codes_of}
 use Rattle.mpeg_scan.specs.Places.{StandsAt, HasCode}
 use Rattle.mpeg_scan.proofs.StepLemmas.{codes-none, codes-plain, codes-code}
 use Rattle.mpeg_scan.proofs.FilmLemmas.{length-read}
@@ -36,17 +36,17 @@ at-back [] i k sum = absurd (omega arith)
 at-back (x ∷ r) i zero sum = sym (at-last x r i (omega arith))
 at-back (x ∷ r) i (suc k) sum = at-back r i k (omega arith) ∙ sym (at-older x r i (λ e. absurd (omega arith)))
 
-at-stays : (xs r : List ℕ) (i : ℕ) → i < length r → at (read r xs) i ≡ at r i
+at-stays : (xs r : List ℕ) (i : ℕ) → i < length r → at (read_after r xs) i ≡ at r i
 at-stays [] r i below = refl
 at-stays (x ∷ xs) r i below = at-stays xs (x ∷ r) i (omega arith) ∙ at-older x r i (λ e. absurd (omega arith))
 
 -- and in order
-at-read : (xs r : List ℕ) (i : ℕ) → at (read r xs) (length r + i) ≡ get_or xs i 256
+at-read : (xs r : List ℕ) (i : ℕ) → at (read_after r xs) (length r + i) ≡ get_or xs i 256
 at-read [] r i = at-past r (length r + i) (omega arith)
 at-read (x ∷ xs) r zero = at-stays xs (x ∷ r) (length r + zero) (omega arith) ∙ at-last x r (length r + zero) (omega arith)
 at-read (x ∷ xs) r (suc i) =
     let same : length r + suc i ≡ suc (length r) + i = omega arith in
-    ap (at (read (x ∷ r) xs)) same ∙ at-read xs (x ∷ r) i
+    ap (at (read_after (x ∷ r) xs)) same ∙ at-read xs (x ∷ r) i
 
 -- ---- a code of bytes that are given the latest first
 record Stands (r : List ℕ) (i k : ℕ) : Type 0 where
@@ -175,20 +175,20 @@ stands-has (x ∷ r) i k s = elim (cases_lt (i + 3) (length r)) [
       new-has x r i k (stands-last x r i k ends s) (sym (at-last x r (i + 3) ends) ∙ s.fourth))
 ]
 
-pub at-bytes : (bytes : List ℕ) (i : ℕ) → at (read [] bytes) i ≡ get_or bytes i 256
-at-bytes bytes i = ap (at (read [] bytes)) (omega arith) ∙ at-read bytes [] i
+pub at-bytes : (bytes : List ℕ) (i : ℕ) → at (read_after [] bytes) i ≡ get_or bytes i 256
+at-bytes bytes i = ap (at (read_after [] bytes)) (omega arith) ∙ at-read bytes [] i
 
 -- the codes of a film's bytes are those that stand in them
-pub codes-stand : (bytes : List ℕ) (i k : ℕ) → HasCode i k (codes_of (read [] bytes)) ↔ StandsAt bytes i k
+pub codes-stand : (bytes : List ℕ) (i k : ℕ) → HasCode i k (codes_of (read_after [] bytes)) ↔ StandsAt bytes i k
 codes-stand bytes i k = (
-  λ h. let s = has-stands (read [] bytes) i k h in record {
+  λ h. let s = has-stands (read_after [] bytes) i k h in record {
     fits = omega (arith, s.fits, length-read bytes []);
     first = sym (at-bytes bytes i) ∙ s.first;
     second = sym (at-bytes bytes (i + 1)) ∙ s.second;
     third = sym (at-bytes bytes (i + 2)) ∙ s.third;
     fourth = sym (at-bytes bytes (i + 3)) ∙ s.fourth;
   },
-  λ s. stands-has (read [] bytes) i k (record {
+  λ s. stands-has (read_after [] bytes) i k (record {
     fits = omega (arith, s.fits, length-read bytes []);
     first = at-bytes bytes i ∙ s.first;
     second = at-bytes bytes (i + 1) ∙ s.second;

@@ -10,7 +10,7 @@ use Rattle.mpeg_scan.specs.declared.codes.Code.{Code}
 use Rattle.mpeg_scan.specs.declared.codes.Prefix.TheVariants.{Nothing, Zero}
 use Rattle.mpeg_scan.specs.declared.faults.FilmFault.{FilmFault}
 use Rattle.mpeg_scan.specs.declared.progress.Progress.{Progress}
-use Rattle.mpeg_scan.specs.Codes.{read, latest_prefix, next_prefix, is_whole, note_latest, codes_of}
+use Rattle.mpeg_scan.specs.Codes.{read_after, latest_prefix, next_prefix, is_whole, note_latest, codes_of}
 use Rattle.mpeg_scan.specs.Faults.{first_refusal, fault_at, first_fault}
 use Rattle.mpeg_scan.specs.Calls.{Call, calls_of}
 use Rattle.mpeg_scan.specs.Steps.{latest_of, older_of}
@@ -19,24 +19,24 @@ use Rattle.mpeg_scan.specs.Scans.{HasRead, is_text_full}
 use Rattle.mpeg_scan.proofs.CodeLemmas.{matched-more, noted-full}
 use Rattle.mpeg_scan.proofs.StepLemmas.{codes-plain, codes-code, first_fault-note}
 
-pub read-append : (r xs ys : List ℕ) → read r (xs ++ ys) ≡ read (read r xs) ys
+pub read-append : (r xs ys : List ℕ) → read_after r (xs ++ ys) ≡ read_after (read_after r xs) ys
 read-append r [] ys = refl
 read-append r (x ∷ xs) ys = read-append (x ∷ r) xs ys
 
 -- a run of a chunk after its front, and one byte after it
 pub read-run : (r chunk : List ℕ) (a n : ℕ)
-    → read (read r (take a chunk)) (take n (take (length chunk - a) (drop a chunk))) ≡ read r (take (a + n) chunk)
+    → read_after (read_after r (take a chunk)) (take n (take (length chunk - a) (drop a chunk))) ≡ read_after r (take (a + n) chunk)
 read-run r chunk a n =
-    ap (λ (l : List ℕ). read (read r (take a chunk)) (take n l)) (take_rest chunk a)
-    ∙ sym (read-append r (take a chunk) (take n (drop a chunk))) ∙ ap (read r) (sym (take-add a n chunk))
+    ap (λ (l : List ℕ). read_after (read_after r (take a chunk)) (take n l)) (take_rest chunk a)
+    ∙ sym (read-append r (take a chunk) (take n (drop a chunk))) ∙ ap (read_after r) (sym (take-add a n chunk))
 
 pub read-byte : (r chunk : List ℕ) (b : ℕ) → b < length chunk
-    → get_or chunk b 0 ∷ read r (take b chunk) ≡ read r (take (b + 1) chunk)
+    → get_or chunk b 0 ∷ read_after r (take b chunk) ≡ read_after r (take (b + 1) chunk)
 read-byte r chunk b within =
-    sym (read-append r (take b chunk) (get_or chunk b 0 ∷ [])) ∙ ap (read r) (sym (take_more chunk b 0 within))
+    sym (read-append r (take b chunk) (get_or chunk b 0 ∷ [])) ∙ ap (read_after r) (sym (take_more chunk b 0 within))
 
-pub read-rest : (r chunk : List ℕ) (a : ℕ) → read (read r (take a chunk)) (drop a chunk) ≡ read r chunk
-read-rest r chunk a = sym (read-append r (take a chunk) (drop a chunk)) ∙ ap (read r) (take-append-drop a chunk)
+pub read-rest : (r chunk : List ℕ) (a : ℕ) → read_after (read_after r (take a chunk)) (drop a chunk) ≡ read_after r chunk
+read-rest r chunk a = sym (read-append r (take a chunk) (drop a chunk)) ∙ ap (read_after r) (take-append-drop a chunk)
 
 -- ---- runs
 
@@ -65,7 +65,7 @@ abbrev AreNonzero : List ℕ → ℕ → Type 0
 AreNonzero xs n = (k : ℕ) → k < n → get_or xs k 0 ≡ 0 → ⊥
 
 quiet-run : (xs r : List ℕ) → AreNonzero xs (length xs) → latest_prefix r ≡ Nothing
-    → is_text_full (latest_of (codes_of r)) ≡ true → Quiet r (read r xs) (length xs)
+    → is_text_full (latest_of (codes_of r)) ≡ true → Quiet r (read_after r xs) (length xs)
 quiet-run [] r nonzero none full = record { same = refl; none = none; more = omega arith }
 quiet-run (x ∷ xs) r nonzero none full =
     let same : codes_of (x ∷ r) ≡ codes_of r = codes-plain x r (ap is_whole none) ∙ note-full (codes_of r) x full in
@@ -81,17 +81,17 @@ front-nonzero xs n bound nonzero k within zero_there =
     nonzero k below (sym (get_or-take n xs k 0 below) ∙ zero_there)
 
 skipped : {s : Progress} {r : List ℕ} (xs : List ℕ) (n : ℕ) → n ≤ length xs → AreNonzero xs n
-    → (s.prefix ≡ Nothing) × (is_text_full s.latest ≡ true) → HasRead s r → Quiet r (read r (take n xs)) (length (take n xs))
+    → (s.prefix ≡ Nothing) × (is_text_full s.latest ≡ true) → HasRead s r → Quiet r (read_after r (take n xs)) (length (take n xs))
 skipped {s} {r} xs n bound nonzero quiet kept =
     quiet-run (take n xs) r (front-nonzero xs n bound nonzero) (sym kept.prefix ∙ quiet.0)
     (sym (ap is_text_full kept.latest) ∙ quiet.1)
 
 pub skipped-same : {s : Progress} {r : List ℕ} (xs : List ℕ) (n : ℕ) → n ≤ length xs → AreNonzero xs n
-    → (s.prefix ≡ Nothing) × (is_text_full s.latest ≡ true) → HasRead s r → codes_of (read r (take n xs)) ≡ codes_of r
+    → (s.prefix ≡ Nothing) × (is_text_full s.latest ≡ true) → HasRead s r → codes_of (read_after r (take n xs)) ≡ codes_of r
 skipped-same {s} {r} xs n bound nonzero quiet kept = (skipped xs n bound nonzero quiet kept).same
 
 pub skipped-kept : {s : Progress} {r : List ℕ} (xs : List ℕ) (n : ℕ) → n ≤ length xs → AreNonzero xs n
-    → (s.prefix ≡ Nothing) × (is_text_full s.latest ≡ true) → HasRead s r → HasRead (skipped_scan s n) (read r (take n xs))
+    → (s.prefix ≡ Nothing) × (is_text_full s.latest ≡ true) → HasRead s r → HasRead (skipped_scan s n) (read_after r (take n xs))
 skipped-kept {s} {r} xs n bound nonzero quiet kept =
     let run = skipped xs n bound nonzero quiet kept in record {
       fed = omega (arith, run.more, length-take-le n xs bound, kept.fed);
@@ -116,7 +116,7 @@ fault-stays-byte x r f is = elim (cases_Bool (is_whole (latest_prefix r))) [
 ]
 
 pub fault-stays : (xs r : List ℕ) (f : FilmFault) → first_fault (codes_of r) ≡ Some f
-    → first_fault (codes_of (read r xs)) ≡ Some f
+    → first_fault (codes_of (read_after r xs)) ≡ Some f
 fault-stays [] r f is = is
 fault-stays (x ∷ xs) r f is = fault-stays xs (x ∷ r) f (fault-stays-byte x r f is)
 
@@ -126,16 +126,16 @@ pub length-rest : (chunk : List ℕ) (a : ℕ) → length (take (length chunk - 
 length-rest chunk a = ap (λ (l : List ℕ). length l) (take_rest chunk a) ∙ length-drop a chunk
 
 pub calls-run : (r chunk : List ℕ) (a n : ℕ) (calls : List Call)
-    → codes_of (read (read r (take a chunk)) (take n (take (length chunk - a) (drop a chunk))))
-    ≡ codes_of (read r (take a chunk))
-    → calls ++ calls_of (codes_of (read r (take a chunk))) ≡ calls ++ calls_of (codes_of (read r (take (a + n) chunk)))
+    → codes_of (read_after (read_after r (take a chunk)) (take n (take (length chunk - a) (drop a chunk))))
+    ≡ codes_of (read_after r (take a chunk))
+    → calls ++ calls_of (codes_of (read_after r (take a chunk))) ≡ calls ++ calls_of (codes_of (read_after r (take (a + n) chunk)))
 calls-run r chunk a n calls same =
     ap (λ (l : List Code). calls ++ calls_of l) (sym same ∙ ap codes_of (read-run r chunk a n))
 
 pub fault-rest : (r chunk : List ℕ) (b : ℕ) (f : FilmFault) → b < length chunk
-    → first_fault (codes_of (get_or chunk b 0 ∷ read r (take b chunk))) ≡ Some f → first_fault (codes_of (read r chunk)) ≡ Some f
+    → first_fault (codes_of (get_or chunk b 0 ∷ read_after r (take b chunk))) ≡ Some f → first_fault (codes_of (read_after r chunk)) ≡ Some f
 fault-rest r chunk b f within is =
-    let there : first_fault (codes_of (read r (take (b + 1) chunk))) ≡ Some f =
+    let there : first_fault (codes_of (read_after r (take (b + 1) chunk))) ≡ Some f =
     ap (λ (q : List ℕ). first_fault (codes_of q)) (sym (read-byte r chunk b within)) ∙ is in
     ap (λ (q : List ℕ). first_fault (codes_of q)) (sym (read-rest r chunk (b + 1)))
-    ∙ fault-stays (drop (b + 1) chunk) (read r (take (b + 1) chunk)) f there
+    ∙ fault-stays (drop (b + 1) chunk) (read_after r (take (b + 1) chunk)) f there

@@ -12,8 +12,8 @@ use Rattle.mpeg_scan.specs.declared.faults.FilmFault.TheVariants.{NoSequence, Pi
 use Rattle.mpeg_scan.specs.declared.faults.FilmFault.TheVariants.{HeadTooLong, GroupTooLong}
 use Rattle.mpeg_scan.specs.declared.faults.FilmFault.TheVariants.{TooLong, HeadWithoutPicture}
 use Rattle.mpeg_scan.specs.declared.tallies.Header.{Header}
-use Rattle.mpeg_scan.specs.Words.{before_group_of, is_head, is_none_yet, is_slice, picture_of}
-use Rattle.mpeg_scan.specs.Words.{pictures_of, slices_of, tally_of, unit_of}
+use Rattle.mpeg_scan.specs.Words.{before_group_of, is_head, is_none_yet, is_slice, latest_picture}
+use Rattle.mpeg_scan.specs.Words.{picture_count, slice_count, tally_of, latest_unit}
 use Rattle.mpeg_scan.specs.Faults.{code_fault, count_fault, fault_at, first_fault}
 use Rattle.mpeg_scan.specs.Faults.{first_slice_fault, head_fault, kind_fault, latest_fault}
 use Rattle.mpeg_scan.specs.Faults.{left_without_slices, first_refusal, second_fault}
@@ -106,9 +106,9 @@ kind-decides Has past at kind c =
 
 -- the latest unit has no slice
 slices-left : {Has : ℕ → ℕ → Type 0} {past : List Code} {at unit : ℕ} → Knows Has past at →
-    Spaced past → eqb (slices_of past) 0 ≡ false → IsOpenHead Has unit at → ⊥
+    Spaced past → eqb (slice_count past) 0 ≡ false → IsOpenHead Has unit at → ⊥
 slices-left {Has} {past} {at} {unit} k spaced some o =
-    not-open Has unit at (slice-there Has past at k spaced (positive (slices_of past) some)) o
+    not-open Has unit at (slice-there Has past at k spaced (positive (slice_count past) some)) o
 
 -- the picture of an open head decides
 pub picture-slices : (Has : ℕ → ℕ → Type 0) (at unit : ℕ) (o : Option Header) →
@@ -142,24 +142,24 @@ pub begins-after : (Has : ℕ → ℕ → Type 0) (at unit : ℕ) → Knows Has 
 begins-after Has at unit k o = begins-by Has at unit k o.before o.begins
 
 slices-decide : (Has : ℕ → ℕ → Type 0) (past : List Code) (at : ℕ) → Knows Has past at →
-    Spaced past → slices_of past ≡ 0 →
-    Decides (LacksSlices Has at) (option_map left_without_slices (picture_of past))
+    Spaced past → slice_count past ≡ 0 →
+    Decides (LacksSlices Has at) (option_map left_without_slices (latest_picture past))
 slices-decide Has [] at k spaced none =
     none-of (LacksSlices Has at) (λ f p. begins-after Has at p.unit k p.open_head)
 slices-decide Has (d ∷ past) at k spaced none =
-    picture-slices Has at (unit_of (d ∷ past)) (picture_of (d ∷ past))
+    picture-slices Has at (latest_unit (d ∷ past)) (latest_picture (d ∷ past))
     (open-head k spaced none) (picture-there Has d past at k spaced)
 
 second-decides : (Has : ℕ → ℕ → Type 0) (past : List Code) (at kind : ℕ) → AtCode Has past at kind →
     Decides (SecondRefusal Has at) (second_fault (tally_of past) kind)
 second-decides Has past at kind c =
     decide-if (SecondRefusal Has at) (is_head kind
-    && eqb (slices_of past) 0) (option_map left_without_slices (picture_of past))
-    (λ e. let parts = and_parts (is_head kind) (eqb (slices_of past) 0) e in
+    && eqb (slice_count past) 0) (option_map left_without_slices (latest_picture past))
+    (λ e. let parts = and_parts (is_head kind) (eqb (slice_count past) 0) e in
     decide-with (StandsThere Has at IsHeadKind) (LacksSlices Has at)
-    (option_map left_without_slices (picture_of past)) (kind, (c.code, head-kind kind parts.0))
-    (slices-decide Has past at c.knows c.spaced (eqb-true (slices_of past) 0 parts.1)))
-    (λ e f p. elim (and_cases (is_head kind) (eqb (slices_of past) 0) e) [
+    (option_map left_without_slices (latest_picture past)) (kind, (c.code, head-kind kind parts.0))
+    (slices-decide Has past at c.knows c.spaced (eqb-true (slice_count past) 0 parts.1)))
+    (λ e f p. elim (and_cases (is_head kind) (eqb (slice_count past) 0) e) [
       | inl other ↦ no-head kind other (subst IsHeadKind (c.one p.0.0 p.0.1.0) p.0.1.1)
       | inr some ↦ slices-left c.knows c.spaced some p.1.open_head
     ])
@@ -167,7 +167,7 @@ second-decides Has past at kind c =
 -- ---- a unit's first slice
 
 head-decides : {Has : ℕ → ℕ → Type 0} {t_unit at : ℕ} (past : List Code) (o : Option Header) →
-    unit_of past ≡ t_unit → IsOpenHead Has t_unit at → PictureThere Has t_unit at o
+    latest_unit past ≡ t_unit → IsOpenHead Has t_unit at → PictureThere Has t_unit at o
     → Decides (Otherwise (LacksPicture Has at) (IsLongHead Has at))
     (head_fault (tally_of past) at o)
 head-decides {Has} {t_unit = unit} {at} past None is head none =
@@ -245,17 +245,17 @@ slice-decides Has [] at kind c none =
     (λ e f p. lacks-none Has at (λ unit o. begins-after Has at unit c.knows o) f p.1)
 slice-decides Has (d ∷ past) at kind c none =
     let all : List Code = d ∷ past in
-    let o = picture_of all in
+    let o = latest_picture all in
     decide-if (SliceRefusal Has at) (is_slice kind
-    && eqb (slices_of all) 0) (head_fault (tally_of all) at o)
-    (λ e. let parts = and_parts (is_slice kind) (eqb (slices_of all) 0) e in
+    && eqb (slice_count all) 0) (head_fault (tally_of all) at o)
+    (λ e. let parts = and_parts (is_slice kind) (eqb (slice_count all) 0) e in
     decide-with (StandsThere Has at IsSliceKind)
     (Otherwise (LacksPicture Has at) (IsLongHead Has at)) (head_fault (tally_of all) at o)
     (kind, (c.code, slice-kind kind parts.0))
     (head-decides all o refl
-    (open-head c.knows c.spaced (eqb-true (slices_of all) 0 parts.1))
+    (open-head c.knows c.spaced (eqb-true (slice_count all) 0 parts.1))
     (picture-there Has d past at c.knows c.spaced)))
-    (λ e f p. elim (and_cases (is_slice kind) (eqb (slices_of all) 0) e) [
+    (λ e f p. elim (and_cases (is_slice kind) (eqb (slice_count all) 0) e) [
       | inl other ↦ no-slice kind other (subst IsSliceKind (c.one p.0.0 p.0.1.0) p.0.1.1)
       | inr some ↦ lacks-none Has at (λ unit o.
           slices-left c.knows c.spaced some o) f p.1
@@ -264,7 +264,7 @@ slice-decides Has (d ∷ past) at kind c none =
 -- ---- the number of pictures
 
 group-test : (Has : ℕ → ℕ → Type 0) (past : List Code) (at : ℕ) → Knows Has past at → Spaced past →
-    leb 1024 (pictures_of past - before_group_of past) ≡ true → IsLongGroup Has at (GroupTooLong at)
+    leb 1024 (picture_count past - before_group_of past) ≡ true → IsLongGroup Has at (GroupTooLong at)
 group-test Has past at k spaced e =
     let it = codes-since group-tests k spaced in record {
       from = it.from;
@@ -277,7 +277,7 @@ group-test Has past at k spaced e =
             it.long,
             since-group past,
             leb-true 1024
-                (pictures_of past - before_group_of past) e,
+                (picture_count past - before_group_of past) e,
           ),
         ),
       );
@@ -288,17 +288,17 @@ group-test Has past at k spaced e =
 
 test-group : {Has : ℕ → ℕ → Type 0} {past : List Code} {at : ℕ} {f : FilmFault} →
     Knows Has past at → Spaced past → IsLongGroup Has at f →
-    leb 1024 (pictures_of past - before_group_of past) ≡ true
+    leb 1024 (picture_count past - before_group_of past) ≡ true
 test-group {Has} {past} {at} k spaced p =
     let most = most-since p.pictures.0
     group-tests k spaced p.pictures.1.0
     (λ place kind has after before is.
     p.none place kind has after before (eqb-true kind 0xb8 is)) in
-    le-leb 1024 (pictures_of past - before_group_of past)
+    le-leb 1024 (picture_count past - before_group_of past)
     (omega (arith, most, since-group past, p.pictures.1.1))
 
 film-test : (Has : ℕ → ℕ → Type 0) (past : List Code) (at : ℕ) → Knows Has past at → Spaced past →
-    leb 4194304 (pictures_of past) ≡ true → HasPictures Has 0 at 4194304
+    leb 4194304 (picture_count past) ≡ true → HasPictures Has 0 at 4194304
 film-test Has past at k spaced e =
     let it = codes-since picture-tests k spaced in (
       it.places,
@@ -306,23 +306,23 @@ film-test Has past at k spaced e =
         codes-from it.places (λ place has far before.
             omega arith) it.are,
         omega
-            (arith, it.long, since-all past, leb-true 4194304 (pictures_of past) e),
+            (arith, it.long, since-all past, leb-true 4194304 (picture_count past) e),
       ),
     )
 
 test-film : (Has : ℕ → ℕ → Type 0) (past : List Code) (at : ℕ) → Knows Has past at → Spaced past →
-    HasPictures Has 0 at 4194304 → leb 4194304 (pictures_of past) ≡ true
+    HasPictures Has 0 at 4194304 → leb 4194304 (picture_count past) ≡ true
 test-film Has past at k spaced p =
     let most = most-since p.0
     picture-tests k spaced p.1.0
     (λ place kind has after before is. false≢true is) in
-    le-leb 4194304 (pictures_of past) (omega (arith, most, since-all past, p.1.1))
+    le-leb 4194304 (picture_count past) (omega (arith, most, since-all past, p.1.1))
 
 count-decides : (Has : ℕ → ℕ → Type 0) (past : List Code) (at kind : ℕ) → AtCode Has past at kind →
     Decides (CountRefusal Has at) (count_fault (tally_of past) at kind)
 count-decides Has past at kind c =
-    let many = leb 4194304 (pictures_of past) in
-    let full = leb 1024 (pictures_of past - before_group_of past) in
+    let many = leb 4194304 (picture_count past) in
+    let full = leb 1024 (picture_count past - before_group_of past) in
     let o = cond full (Some (GroupTooLong at)) (cond many (Some TooLong) None) in
     decide-if (CountRefusal Has at) (eqb kind 0) o
     (λ e. decide-with (Has at 0) (Otherwise (IsLongGroup Has at) (IsLongFilm Has at)) o (subst (λ k.

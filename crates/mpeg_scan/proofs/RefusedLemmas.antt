@@ -6,8 +6,8 @@ use Rattle.mpeg_scan.specs.declared.codes.Code.{Code}
 use Rattle.mpeg_scan.specs.declared.faults.FilmFault.{FilmFault}
 use Rattle.mpeg_scan.specs.declared.faults.FilmFault.TheVariants.{NoSequence, HeadWithoutPicture}
 use Rattle.mpeg_scan.specs.declared.tallies.Header.{Header}
-use Rattle.mpeg_scan.specs.Codes.{read, codes_of, latest_prefix}
-use Rattle.mpeg_scan.specs.Words.{picture_of, slices_of, tally_of, unit_of}
+use Rattle.mpeg_scan.specs.Codes.{read_after, codes_of, latest_prefix}
+use Rattle.mpeg_scan.specs.Words.{latest_picture, slice_count, tally_of, latest_unit}
 use Rattle.mpeg_scan.specs.Faults.{end_fault, fault_at, first_fault, last_fault, latest_fault}
 use Rattle.mpeg_scan.specs.Faults.{left_without_slices, open_fault, first_refusal, refusal_of}
 use Rattle.mpeg_scan.specs.Films.{refusal}
@@ -147,7 +147,7 @@ first-decides {past = c ∷ past} film =
 -- ---- the end
 
 open-decides : {Has : ℕ → ℕ → Type 0} {end unit : ℕ} (past : List Code) (o : Option Header) →
-    unit_of past ≡ unit → IsOpenHead Has unit end → PictureThere Has unit end o
+    latest_unit past ≡ unit → IsOpenHead Has unit end → PictureThere Has unit end o
     → Decides (Otherwise (LacksSlices Has end) (LacksPicture Has end))
     (Some (open_fault (tally_of past) o))
 open-decides {Has} {end} {unit} past None is head none =
@@ -173,17 +173,17 @@ open-decides {Has} {end} {unit} past (Some h) is head picture =
     (one-head Has unit p.unit end head p.open_head) picture.after) picture.before refl)
 
 unfinished : {b : Bool} {Has : ℕ → ℕ → Type 0} {c : Code} {past : List Code} {end : ℕ} →
-    ltb 0 (slices_of (c ∷ past)) ≡ b → Knows Has (c ∷ past) end → Spaced (c ∷ past)
+    ltb 0 (slice_count (c ∷ past)) ≡ b → Knows Has (c ∷ past) end → Spaced (c ∷ past)
     → Decides (Otherwise (LacksSlices Has end) (LacksPicture Has end))
-    (cond b None (Some (open_fault (tally_of (c ∷ past)) (picture_of (c ∷ past)))))
+    (cond b None (Some (open_fault (tally_of (c ∷ past)) (latest_picture (c ∷ past)))))
 unfinished {b = true} {Has} {c} {past} {end} some k spaced =
-    let s = slice-there Has (c ∷ past) end k spaced (ltb-true 0 (slices_of (c ∷ past)) some) in
+    let s = slice-there Has (c ∷ past) end k spaced (ltb-true 0 (slice_count (c ∷ past)) some) in
     none-of (Otherwise (LacksSlices Has end) (LacksPicture Has end))
     (neither (LacksSlices Has end) (LacksPicture Has end)
     (λ f p. not-open Has p.unit end s p.open_head) (λ f p. not-open Has p.unit end s p.open_head))
 unfinished {b = false} {Has} {c} {past} {end} some k spaced =
-    open-decides (c ∷ past) (picture_of (c ∷ past)) refl
-    (open-head k spaced (omega (arith, ltb-false 0 (slices_of (c ∷ past)) some)))
+    open-decides (c ∷ past) (latest_picture (c ∷ past)) refl
+    (open-head k spaced (omega (arith, ltb-false 0 (slice_count (c ∷ past)) some)))
     (picture-there Has c past end k spaced)
 
 last-decides : (Has : ℕ → ℕ → Type 0) (past : List Code) (end : ℕ) → Knows Has past end →
@@ -255,10 +255,10 @@ code-below bytes n place kind long has = omega (arith, has.fits, long)
 codes-decide : (bytes : List ℕ) →
     Decides (Otherwise (FirstRefusal (StandsAt bytes) bytes)
     (EndRefusal (StandsAt bytes) bytes (length bytes)))
-    (first_refusal (first_fault (codes_of (read [] bytes)))
-    (end_fault (codes_of (read [] bytes)) (length (read [] bytes))))
+    (first_refusal (first_fault (codes_of (read_after [] bytes)))
+    (end_fault (codes_of (read_after [] bytes)) (length (read_after [] bytes))))
 codes-decide bytes =
-    let r = read [] bytes in
+    let r = read_after [] bytes in
     let n = length r in
     let past = codes_of r in
     let Has = StandsAt bytes in
@@ -284,10 +284,10 @@ codes-decide bytes =
     (first-anywhere Has bytes n (first_fault past) all (first-decides film))
     (λ none. end-decides film all none))
 
-film-decides : (bytes : List ℕ) → Decides (IsRefusedFor bytes) (refusal_of (read [] bytes))
+film-decides : (bytes : List ℕ) → Decides (IsRefusedFor bytes) (refusal_of (read_after [] bytes))
 unfolding refusal_of
 film-decides bytes =
-    let r = read [] bytes in
+    let r = read_after [] bytes in
     let long : length r ≡ length bytes = length-read bytes [] ∙ omega arith in
     let judged = first_refusal (first_fault (codes_of r)) (end_fault (codes_of r) (length r)) in
     let Codes = Otherwise (FirstRefusal (StandsAt bytes) bytes)

@@ -3,8 +3,8 @@ use Rattle.std.proofs.Common.{ℕ, suc, Bool, true, false, cond, eqb, ◌+◌, �
 use Rattle.std.proofs.Common.{◌∷◌, length, sym, ◌∙◌, ap, refl, subst, arith}
 use Rattle.std.proofs.lemmas.Bool.{eqb-true, eq-eqb, ne_eqb, false≢true, true≢false}
 use Rattle.mpeg_scan.specs.declared.codes.Code.{Code}
-use Rattle.mpeg_scan.specs.Words.{all_slices_of, before_group_of, is_head, is_slice, pictures_of}
-use Rattle.mpeg_scan.specs.Words.{slices_of}
+use Rattle.mpeg_scan.specs.Words.{film_slice_count, before_group_of, is_head, is_slice, picture_count}
+use Rattle.mpeg_scan.specs.Words.{slice_count}
 use Rattle.mpeg_scan.specs.Refusals.{IsPicture}
 use Rattle.mpeg_scan.specs.Standard.{AreCodes, Counts, IsHeadKind, IsSliceKind, NoneIn, StandsThere}
 use Rattle.mpeg_scan.proofs.TileLemmas.{slice-apart}
@@ -175,13 +175,13 @@ group-by {z = false} {b = true} {p} q n apart e = omega arith
 group-by {z = false} {b = false} {p} q n apart e = e
 
 pub since-group : (past : List Code) →
-    pictures_of past ≡ before_group_of past + since is_picture is_group past
+    picture_count past ≡ before_group_of past + since is_picture is_group past
 since-group [] = refl
 since-group (c ∷ past) =
     group-by (before_group_of past)
     (since is_picture is_group past) (group-tests.apart c.kind) (since-group past)
 
-pub since-all : (past : List Code) → since is_picture is_nothing past ≡ pictures_of past
+pub since-all : (past : List Code) → since is_picture is_nothing past ≡ picture_count past
 since-all [] = refl
 since-all (c ∷ past) = ap (λ n. cond (eqb c.kind 0) (n + 1) n) (since-all past)
 
@@ -200,13 +200,13 @@ slices-by true false n apart = refl
 slices-by false true n apart = refl
 slices-by false false n apart = refl
 
-since-slices : (past : List Code) → since is_slice is_head past ≡ slices_of past
+since-slices : (past : List Code) → since is_slice is_head past ≡ slice_count past
 since-slices [] = refl
 since-slices (c ∷ past) =
     ap (λ n. cond (is_slice c.kind) (n + 1) (cond (is_head c.kind) 0 n)) (since-slices past)
-    ∙ slices-by (is_slice c.kind) (is_head c.kind) (slices_of past) (slice-apart c.kind)
+    ∙ slices-by (is_slice c.kind) (is_head c.kind) (slice_count past) (slice-apart c.kind)
 
-since-every : (past : List Code) → since is_slice is_nothing past ≡ all_slices_of past
+since-every : (past : List Code) → since is_slice is_nothing past ≡ film_slice_count past
 since-every [] = refl
 since-every (c ∷ past) = ap (λ n. cond (is_slice c.kind) (n + 1) n) (since-every past)
 
@@ -215,10 +215,10 @@ few-by true s n m low = omega arith
 few-by false true n m low = omega (arith, low)
 few-by false false n m low = low
 
-pub few-slices : (past : List Code) → slices_of past ≤ all_slices_of past
+pub few-slices : (past : List Code) → slice_count past ≤ film_slice_count past
 few-slices [] = omega arith
 few-slices (c ∷ past) =
-    few-by (is_head c.kind) (is_slice c.kind) (slices_of past) (all_slices_of past)
+    few-by (is_head c.kind) (is_slice c.kind) (slice_count past) (film_slice_count past)
     (few-slices past)
 
 -- from a place on which none of them stands before
@@ -237,7 +237,7 @@ pub own-slices : {Has : ℕ → ℕ → Type 0} {past : List Code} {head_end at 
     Spaced past → NoneIn Has head_end at IsHeadKind
     → ((from : ℕ) → NoneIn Has from at IsHeadKind → (place : ℕ) →
     StandsThere Has place IsSliceKind → from ≤ place → place < at → head_end ≤ place)
-    → Counts Has IsSliceKind head_end at (slices_of past)
+    → Counts Has IsSliceKind head_end at (slice_count past)
 own-slices {Has} {past} {at} k spaced none first =
     let it = codes-since unit-tests k spaced in record {
       places = it.places;
@@ -255,7 +255,7 @@ own-slices {Has} {past} {at} k spaced none first =
     }
 
 pub all-slices : (Has : ℕ → ℕ → Type 0) (past : List Code) (at : ℕ) → Knows Has past at →
-    Spaced past → Counts Has IsSliceKind 0 at (all_slices_of past)
+    Spaced past → Counts Has IsSliceKind 0 at (film_slice_count past)
 all-slices Has past at k spaced =
     let it = codes-since slice-tests k spaced in
     record {

@@ -7,8 +7,8 @@ use Rattle.std.proofs.lemmas.Bool.{true≢false, false≢true, and_parts, and_fr
 use Rattle.std.proofs.lemmas.List.{append-nil}
 use Rattle.mpeg_scan.specs.declared.codes.Code.{Code}
 use Rattle.mpeg_scan.specs.declared.units.Unit.{Unit as PictureUnit}
-use Rattle.mpeg_scan.specs.Codes.{read, codes_of}
-use Rattle.mpeg_scan.specs.Words.{is_slice, slice_of, slices_of, tally_of}
+use Rattle.mpeg_scan.specs.Codes.{read_after, codes_of}
+use Rattle.mpeg_scan.specs.Words.{is_slice, latest_slice, slice_count, tally_of}
 use Rattle.mpeg_scan.specs.Faults.{end_fault, first_fault, last_fault, latest_fault}
 use Rattle.mpeg_scan.specs.Calls.{calls_at, calls_of, unit_end}
 use Rattle.mpeg_scan.specs.Films.{IsFilm, slices_in}
@@ -66,19 +66,19 @@ raw-slices {s = false} {h = false} {e} told before apart counted is =
     ∙ ap (λ l. l ++ cond e [] (told.slice ∷ [])) (append-nil before) ∙ is
 
 step-slices : (c : Code) (past : List Code)
-    → slices_in (calls_of past) ++ pending (slices_of past) (slice_of past) ≡ slice_places past
+    → slices_in (calls_of past) ++ pending (slice_count past) (latest_slice past) ≡ slice_places past
     → (slices_in (calls_of past) ++ slices_in (calls_at (tally_of past) c.place c.kind))
-    ++ pending (slices_of (c ∷ past)) (slice_of (c ∷ past)) ≡ slice_places (c ∷ past)
+    ++ pending (slice_count (c ∷ past)) (latest_slice (c ∷ past)) ≡ slice_places (c ∷ past)
 unfolding calls_at
 step-slices c past is =
-    let n = slices_of past in
+    let n = slice_count past in
     let counted : IsCounted (eqb n 0) (ltb 0 n) n = record { is = refl; none = none-count n; some = some-count n } in
     raw-slices (told_at (tally_of past) c.place) (slices_in (calls_of past)) (slice-apart c.kind) counted is
 
-calls-slices : (past : List Code) → slices_in (calls_of past) ++ pending (slices_of past) (slice_of past) ≡ slice_places past
+calls-slices : (past : List Code) → slices_in (calls_of past) ++ pending (slice_count past) (latest_slice past) ≡ slice_places past
 calls-slices [] = ap (λ l. slices_in l ++ []) calls-nil
 calls-slices (c ∷ past) =
-    ap (λ l. l ++ pending (slices_of (c ∷ past)) (slice_of (c ∷ past)))
+    ap (λ l. l ++ pending (slice_count (c ∷ past)) (latest_slice (c ∷ past)))
     (ap slices_in (calls-cons c past) ∙ slices_in-append (calls_of past) (calls_at (tally_of past) c.place c.kind))
     ∙ step-slices c past (calls-slices past)
 
@@ -88,12 +88,12 @@ unfolding end_fault
 whole-slices past n ended =
     let some = ended-none (tally_of past) (otherwise-second (latest_fault past n) (last_fault (tally_of past)) ended) in
     slices_in-append (calls_of past) (unit_end (tally_of past) n)
-    ∙ ap (λ l. slices_in (calls_of past) ++ l) (sym (pending-some (slices_of past) (slice_of past) some)) ∙ calls-slices past
+    ∙ ap (λ l. slices_in (calls_of past) ++ l) (sym (pending-some (slice_count past) (latest_slice past) some)) ∙ calls-slices past
 
 pub film-slices : (bytes : List ℕ) (rate : ℕ) (units : List PictureUnit) (starts : List ℕ)
-    → IsFilm bytes rate units starts → starts ≡ slice_places (codes_of (read [] bytes))
+    → IsFilm bytes rate units starts → starts ≡ slice_places (codes_of (read_after [] bytes))
 film-slices bytes rate units starts film =
-    let r = read [] bytes in
+    let r = read_after [] bytes in
     film.slices ∙ whole-slices (codes_of r) (length r)
     (otherwise-second (first_fault (codes_of r)) (end_fault (codes_of r) (length r)) (accepted-whole r film.accepted))
 
@@ -156,7 +156,7 @@ there-among (c ∷ past) place kind (inr old) is =
 pub film-slice_codes : (bytes : List ℕ) (rate : ℕ) (units : List PictureUnit) (starts : List ℕ)
     → IsFilm bytes rate units starts → (place : ℕ) → IsAmong place starts ↔ StandsThere (StandsAt bytes) place IsSliceKind
 film-slice_codes bytes rate units starts film place =
-    let past = codes_of (read [] bytes) in
+    let past = codes_of (read_after [] bytes) in
     let same = film-slices bytes rate units starts film in (
       λ among. let it =
           among-there past place (subst (λ l. IsAmong place l) same among) in

@@ -8,7 +8,7 @@ use Rattle.mpeg_scan.specs.declared.codes.Prefix.{Prefix}
 use Rattle.mpeg_scan.specs.declared.codes.Prefix.TheVariants.{Nothing, Zero, Zeros, Whole}
 use Rattle.mpeg_scan.specs.Codes.{latest_prefix, next_prefix, after_one, after_zero, is_whole}
 use Rattle.mpeg_scan.specs.Codes.{note_latest, codes_of}
-use Rattle.mpeg_scan.specs.Words.{is_head, is_slice, begins_unit, slices_of, unit_of, slice_of}
+use Rattle.mpeg_scan.specs.Words.{is_head, is_slice, begins_unit, slice_count, latest_unit, latest_slice}
 use Rattle.mpeg_scan.specs.Places.{HasCode}
 use Rattle.mpeg_scan.proofs.CodeLemmas.{matched-more}
 use Rattle.mpeg_scan.proofs.StepLemmas.{codes-none, codes-plain, codes-code}
@@ -43,10 +43,10 @@ either-before : (b : Bool) (m n at : ℕ) → m + 3 ≤ at → n + 3 ≤ at → 
 either-before true m n at h i = h
 either-before false m n at h i = i
 
-pub unit-before : (d : Code) (past : List Code) (at : ℕ) → Spaced (d ∷ past) → After at (d ∷ past) → unit_of (d ∷ past) + 3 ≤ at
+pub unit-before : (d : Code) (past : List Code) (at : ℕ) → Spaced (d ∷ past) → After at (d ∷ past) → latest_unit (d ∷ past) + 3 ≤ at
 unit-before d [] at spaced after = omega (arith, three (eqb d.kind 0), after)
 unit-before d (e ∷ past) at spaced after =
-    either-before (begins_unit d (e ∷ past)) d.place (unit_of (e ∷ past)) at (omega (arith, three (eqb d.kind 0), after))
+    either-before (begins_unit d (e ∷ past)) d.place (latest_unit (e ∷ past)) at (omega (arith, three (eqb d.kind 0), after))
     (omega (arith, three (eqb d.kind 0), after, unit-before e past d.place spaced.1 spaced.0))
 
 span-slice : (d : Code) → is_slice d.kind ≡ true → span d ≡ 4
@@ -60,10 +60,10 @@ slice-case {s} true p q here before some = absurd (omega arith)
 slice-case {s = true} false p q here before some = here refl
 slice-case {s = false} false p q here before some = before some
 
-pub slice-before : (past : List Code) (at : ℕ) → Spaced past → After at past → 0 < slices_of past → slice_of past + 4 ≤ at
+pub slice-before : (past : List Code) (at : ℕ) → Spaced past → After at past → 0 < slice_count past → latest_slice past + 4 ≤ at
 slice-before [] at spaced after some = absurd (omega arith)
 slice-before (d ∷ past) at spaced after some =
-    slice-case {s = is_slice d.kind} {n = slices_of past} {at = at} (is_head d.kind) d.place (slice_of past)
+    slice-case {s = is_slice d.kind} {n = slice_count past} {at = at} (is_head d.kind) d.place (latest_slice past)
     (λ slice. omega (arith, span-slice d slice, after))
     (λ more. omega (arith, three (eqb d.kind 0), after, slice-before past d.place spaced.1 spaced.0 more)) some
 

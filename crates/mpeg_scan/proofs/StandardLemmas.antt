@@ -10,7 +10,7 @@ use Rattle.mpeg_scan.specs.declared.faults.FilmFault.{FilmFault}
 use Rattle.mpeg_scan.specs.declared.faults.FilmFault.TheVariants.{BadType, ShortHeader}
 use Rattle.mpeg_scan.specs.declared.units.Kind.{Kind}
 use Rattle.mpeg_scan.specs.declared.units.Unit.{Unit as PictureUnit}
-use Rattle.mpeg_scan.specs.Codes.{read, codes_of, latest_prefix}
+use Rattle.mpeg_scan.specs.Codes.{read_after, codes_of, latest_prefix}
 use Rattle.mpeg_scan.specs.Words.{first_rate, kind_of, tally_of, type_of, vectors_by}
 use Rattle.mpeg_scan.specs.Faults.{end_fault, first_fault, header_fault, last_fault, latest_fault}
 use Rattle.mpeg_scan.specs.Faults.{rate_fault}
@@ -140,9 +140,9 @@ type-fits {bytes} {place} {forward} {backward} (four_type e) both =
 
 -- the fields of a picture's code are those of its header's bytes
 fields-fit : {past : List Code} {place : ℕ} {unit : PictureUnit} (bytes : List ℕ)
-    (f : CodeFields past place unit) → CodeText (read [] bytes) f.code → HasFields bytes place unit
+    (f : CodeFields past place unit) → CodeText (read_after [] bytes) f.code → HasFields bytes place unit
 fields-fit {place} bytes f text =
-    let r = read [] bytes in
+    let r = read_after [] bytes in
     let c = f.code in
     let at = f.place_is in
     let long = picture-long text.rate c text.end f.zero_is text.judged in
@@ -202,7 +202,7 @@ group-codes bytes past from to both (inl firsts) = inl (λ place kind has. first
 group-codes bytes past from to both (inr it) = inr (stands-codes past both it)
 
 unit-bytes : (bytes : List ℕ) (past : List Code) (unit : PictureUnit)
-    → ((place kind : ℕ) → HasCode place kind past ↔ StandsAt bytes place kind) → AreTexts (read [] bytes) past
+    → ((place kind : ℕ) → HasCode place kind past ↔ StandsAt bytes place kind) → AreTexts (read_after [] bytes) past
     → Closed past unit → IsUnitOf bytes unit
 unit-bytes bytes past unit both texts closed =
     let u = closed.unit_is in
@@ -250,7 +250,7 @@ whole-texts r (d ∷ past) n accepted ended texts c m =
 pub film-standard : {bytes : List ℕ} {rate : ℕ} {units : List PictureUnit} {starts : List ℕ}
     → IsFilm bytes rate units starts → (k : ℕ) {unit : PictureUnit} → slice_get units k ≡ Some unit → IsUnitOf bytes unit
 film-standard {bytes} {units} {starts} film k {unit} is =
-    let r = read [] bytes in
+    let r = read_after [] bytes in
     let past = codes_of r in
     let none = accepted-whole r film.accepted in
     let accepted = otherwise-first (first_fault past) (end_fault past (length r)) none in

@@ -12,7 +12,7 @@ use Rattle.mpeg_scan.specs.declared.faults.FilmFault.TheVariants.{Empty, GroupTo
 use Rattle.mpeg_scan.specs.declared.progress.Progress.{Progress}
 use Rattle.mpeg_scan.specs.declared.tallies.Tally.{Tally}
 use Rattle.mpeg_scan.specs.Codes.{latest_prefix, next_prefix, is_whole, note, note_latest, codes_of}
-use Rattle.mpeg_scan.specs.Words.{tally_of, pictures_of, before_group_of}
+use Rattle.mpeg_scan.specs.Words.{tally_of, picture_count, before_group_of}
 use Rattle.mpeg_scan.specs.Faults.{first_refusal, latest_fault, kind_fault, second_fault}
 use Rattle.mpeg_scan.specs.Faults.{first_slice_fault, count_fault, code_fault, fault_at}
 use Rattle.mpeg_scan.specs.Faults.{first_fault, end_fault, last_fault, refusal_of}
@@ -114,10 +114,10 @@ counted true true place test none bound = absurd (cc)
 counted {q = true} true false place test none bound = absurd (cc)
 counted {q = false} {p} true false place test none bound = omega (arith, leb-false 4194304 p test)
 
-pub pictures-bound : (past : List Code) → first_fault past ≡ None → pictures_of past ≤ 4194304
+pub pictures-bound : (past : List Code) → first_fault past ≡ None → picture_count past ≤ 4194304
 pictures-bound [] e = omega arith
 pictures-bound (c ∷ past) e =
-    counted {p = pictures_of past} (eqb c.kind 0) (leb 1024 (pictures_of past - before_group_of past)) c.place
+    counted {p = picture_count past} (eqb c.kind 0) (leb 1024 (picture_count past - before_group_of past)) c.place
     refl (count-accepted (tally_of past) c.place c.kind (code-accepted c past e))
     (pictures-bound past (accepted-older c past e))
 

@@ -12,8 +12,8 @@ use Rattle.mpeg_scan.specs.declared.tallies.Header.{Header}
 use Rattle.mpeg_scan.specs.declared.tallies.Tally.{Tally}
 use Rattle.mpeg_scan.specs.declared.units.Unit.{Unit as PictureUnit}
 use Rattle.mpeg_scan.specs.Codes.{latest_prefix, codes_of}
-use Rattle.mpeg_scan.specs.Words.{is_head, is_slice, tally_of, slices_of, unit_of, head_end_of}
-use Rattle.mpeg_scan.specs.Words.{slice_of}
+use Rattle.mpeg_scan.specs.Words.{is_head, is_slice, tally_of, slice_count, latest_unit, head_end_of}
+use Rattle.mpeg_scan.specs.Words.{latest_slice}
 use Rattle.mpeg_scan.specs.Faults.{first_refusal, latest_fault, kind_fault, second_fault}
 use Rattle.mpeg_scan.specs.Faults.{first_slice_fault, count_fault, code_fault, head_fault}
 use Rattle.mpeg_scan.specs.Faults.{open_fault, last_fault, first_fault, end_fault, refusal_of}
@@ -161,7 +161,7 @@ parts-append (Some part) [] b = refl
 parts-append (Some part) (call ∷ a) b = parts-append (next_part part call) a b
 
 abbrev pub part_of : List Code → Part
-part_of past = part_by (slices_of past) (unit_of past) (head_end_of past) (slice_of past)
+part_of past = part_by (slice_count past) (latest_unit past) (head_end_of past) (latest_slice past)
 
 pub slice-apart : (kind : ℕ) → is_slice kind ≡ true → is_head kind ≡ false
 slice-apart kind slice =
@@ -203,7 +203,7 @@ code-step : (c d : Code) (past : List Code) → code_fault (tally_of (d ∷ past
 unfolding calls_at
 code-step c d past e spaced =
     let older : List Code = d ∷ past in
-    let may : MayStand (is_slice c.kind) (is_head c.kind) (slices_of older) (head_end_of older)
+    let may : MayStand (is_slice c.kind) (is_head c.kind) (slice_count older) (head_end_of older)
     (told_at (tally_of older) c.place) = record {
       apart = slice-apart c.kind;
       head = λ slice none. (
@@ -213,7 +213,7 @@ code-step c d past e spaced =
       spaced = slice-before older c.place spaced.1 spaced.0;
       ends = record { from = refl; head = refl; to = refl; slices = refl };
     } in
-    raw-step may (count-cases (slices_of older))
+    raw-step may (count-cases (slice_count older))
 
 first-kind : (a b q : Bool) (place : ℕ)
     → cond a (Some (SystemCode place)) (cond b (Some (Mpeg2 place)) (cond (not q) (Some NoSequence) None)) ≡ None → q ≡ true
@@ -269,16 +269,16 @@ ended-none t e =
     (none-cond (ltb 0 t.slices) open_
     (some-cond-none (not t.begun) NoSequence (cond (ltb 0 t.slices) None (Some open_)) e).1)
 
-end-step : (past : List Code) (n : ℕ) → 0 < slices_of past → slice_of past + 4 ≤ n
+end-step : (past : List Code) (n : ℕ) → 0 < slice_count past → latest_slice past + 4 ≤ n
     → parts_after (Some (part_of past)) (unit_end (tally_of past) n) ≡ Some (between n)
-end-step past n some apart = elim (count-cases (slices_of past)) [
+end-step past n some apart = elim (count-cases (slice_count past)) [
   | inl none ↦ absurd (omega arith)
   | inr more ↦
-      (let ends : EndsAs (unit_at (tally_of past) n) (unit_of past) (head_end_of past) n (slices_of past) =
+      (let ends : EndsAs (unit_at (tally_of past) n) (latest_unit past) (head_end_of past) n (slice_count past) =
       record { from = refl; head = refl; to = refl; slices = refl } in
       ap (λ (p : Part). parts_after (Some p) (unit_end (tally_of past) n))
-      (part_by-some (slices_of past) more.0 (unit_of past) (head_end_of past) (slice_of past) more.1)
-      ∙ takes-slice (unit_of past) (head_end_of past) (slice_of past) more.0 (unit_call (unit_at (tally_of past) n) ∷ []) apart
+      (part_by-some (slice_count past) more.0 (latest_unit past) (head_end_of past) (latest_slice past) more.1)
+      ∙ takes-slice (latest_unit past) (head_end_of past) (latest_slice past) more.0 (unit_call (unit_at (tally_of past) n) ∷ []) apart
       ∙ takes-unit more.0 ends more.1)
 ]
 

@@ -7,9 +7,9 @@ use Rattle.mpeg_scan.specs.declared.codes.Prefix.{Prefix}
 use Rattle.mpeg_scan.specs.declared.codes.Prefix.TheVariants.{Nothing, Zero, Zeros, Whole}
 
 -- the bytes in xs read after those in r, the latest first
-abbrev pub read : List ℕ → List ℕ → List ℕ
-read r [] = r
-read r (x ∷ xs) = read (x ∷ r) xs
+abbrev pub read_after : List ℕ → List ℕ → List ℕ
+read_after r [] = r
+read_after r (x ∷ xs) = read_after (x ∷ r) xs
 
 -- the byte i places back from the latest one, or 256 where there is none
 abbrev pub byte_back : List ℕ → ℕ → ℕ

@@ -2,7 +2,7 @@
 use Rattle.std.specs.Prelude.{ℕ, ◌≡◌, List, [], ◌∷◌, Option, None}
 use Rattle.mpeg_scan.specs.declared.faults.FilmFault.{FilmFault}
 use Rattle.mpeg_scan.specs.declared.units.Unit.{Unit as PictureUnit}
-use Rattle.mpeg_scan.specs.Codes.{read, codes_of}
+use Rattle.mpeg_scan.specs.Codes.{read_after, codes_of}
 use Rattle.mpeg_scan.specs.Words.{rate_of}
 use Rattle.mpeg_scan.specs.Faults.{refusal_of}
 use Rattle.mpeg_scan.specs.Calls.{Call, head_call, slice_call, unit_call, all_calls}
@@ -23,16 +23,16 @@ slices_in (unit_call unit ∷ calls) = slices_in calls
 
 -- the refusal of a film, or none
 abbrev pub refusal : List ℕ → Option FilmFault
-refusal bytes = refusal_of (read [] bytes)
+refusal bytes = refusal_of (read_after [] bytes)
 
 -- all that is told of a film
 abbrev pub film_calls : List ℕ → List Call
-film_calls bytes = all_calls (read [] bytes)
+film_calls bytes = all_calls (read_after [] bytes)
 
 -- a film with its rate, its units and the places of its slices
 pub record IsFilm (bytes : List ℕ) (its_rate : ℕ) (its_units : List PictureUnit)
     (its_slices : List ℕ) : Type 0 where
   pub accepted : refusal bytes ≡ None
-  pub rate : its_rate ≡ rate_of (codes_of (read [] bytes))
+  pub rate : its_rate ≡ rate_of (codes_of (read_after [] bytes))
   pub units : its_units ≡ units_in (film_calls bytes)
   pub slices : its_slices ≡ slices_in (film_calls bytes)

@@ -7,7 +7,7 @@ use Rattle.mpeg_scan.specs.declared.faults.ScanRefused.{ScanRefused}
 use Rattle.mpeg_scan.specs.declared.progress.Progress.{Progress}
 use Rattle.mpeg_scan.specs.declared.scanner.Scanner.{Scanner}
 use Rattle.mpeg_scan.specs.Calls.{Call, calls_of}
-use Rattle.mpeg_scan.specs.Codes.{latest_prefix, next_prefix, note, codes_of, read}
+use Rattle.mpeg_scan.specs.Codes.{latest_prefix, next_prefix, note, codes_of, read_after}
 use Rattle.mpeg_scan.specs.Words.{tally_of}
 use Rattle.mpeg_scan.specs.Faults.{first_fault}
 use Rattle.mpeg_scan.specs.Steps.{latest_of, older_of, tally_with}
@@ -66,9 +66,9 @@ pub record IsRefusedInChunk (Heard : List Call → Type 0) (r chunk : List ℕ) 
     (f : FilmFault) : Type 0 where
   pub count : ℕ
   pub within : count < length chunk
-  pub accepted : first_fault (codes_of (read r (take count chunk))) ≡ None
-  pub fault : first_fault (codes_of (read r (take (count + 1) chunk))) ≡ Some f
-  pub heard : Heard (calls ++ calls_of (codes_of (read r (take count chunk))))
+  pub accepted : first_fault (codes_of (read_after r (take count chunk))) ≡ None
+  pub fault : first_fault (codes_of (read_after r (take (count + 1) chunk))) ≡ Some f
+  pub heard : Heard (calls ++ calls_of (codes_of (read_after r (take count chunk))))
 
 -- whether a code takes no further byte for its text
 abbrev pub is_text_full : Option Code → Bool

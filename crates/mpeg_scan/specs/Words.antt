@@ -23,45 +23,47 @@ abbrev pub is_slice : ℕ → Bool
 is_slice kind = nat_le 1 kind && nat_le kind 0xaf
 
 -- the slices of the latest unit
-abbrev pub slices_of : List Code → ℕ
-slices_of [] = 0
-slices_of (c ∷ past) =
-    if is_head c.kind then 0 else (if is_slice c.kind then slices_of past + 1 else slices_of past)
+abbrev pub slice_count : List Code → ℕ
+slice_count [] = 0
+slice_count (c ∷ past) =
+    if is_head c.kind then 0
+    else (if is_slice c.kind then slice_count past + 1 else slice_count past)
 
 -- whether the code c begins a unit after these
 abbrev pub begins_unit : Code → List Code → Bool
-begins_unit c past = is_none_yet past || (is_head c.kind && nat_lt 0 (slices_of past))
+begins_unit c past = is_none_yet past || (is_head c.kind && nat_lt 0 (slice_count past))
 
 -- the place of the latest unit
-abbrev pub unit_of : List Code → ℕ
-unit_of [] = 0
-unit_of (c ∷ past) = if begins_unit c past then c.place else unit_of past
+abbrev pub latest_unit : List Code → ℕ
+latest_unit [] = 0
+latest_unit (c ∷ past) = if begins_unit c past then c.place else latest_unit past
 
 -- the pictures of the film
-abbrev pub pictures_of : List Code → ℕ
-pictures_of [] = 0
-pictures_of (c ∷ past) = if c.kind == 0 then pictures_of past + 1 else pictures_of past
+abbrev pub picture_count : List Code → ℕ
+picture_count [] = 0
+picture_count (c ∷ past) = if c.kind == 0 then picture_count past + 1 else picture_count past
 
 -- the pictures before the latest group: a group begins with the film and at each group header
 abbrev pub before_group_of : List Code → ℕ
 before_group_of [] = 0
-before_group_of (c ∷ past) = if c.kind == 0xb8 then pictures_of past else before_group_of past
+before_group_of (c ∷ past) = if c.kind == 0xb8 then picture_count past else before_group_of past
 
 -- the slices of the film
-abbrev pub all_slices_of : List Code → ℕ
-all_slices_of [] = 0
-all_slices_of (c ∷ past) = if is_slice c.kind then all_slices_of past + 1 else all_slices_of past
+abbrev pub film_slice_count : List Code → ℕ
+film_slice_count [] = 0
+film_slice_count (c ∷ past) =
+    if is_slice c.kind then film_slice_count past + 1 else film_slice_count past
 
 -- the place of the latest unit's first slice
 abbrev pub head_end_of : List Code → ℕ
 head_end_of [] = 0
 head_end_of (c ∷ past) =
-    if is_slice c.kind && slices_of past == 0 then c.place else head_end_of past
+    if is_slice c.kind && slice_count past == 0 then c.place else head_end_of past
 
 -- the place of the latest slice
-abbrev pub slice_of : List Code → ℕ
-slice_of [] = 0
-slice_of (c ∷ past) = if is_slice c.kind then c.place else slice_of past
+abbrev pub latest_slice : List Code → ℕ
+latest_slice [] = 0
+latest_slice (c ∷ past) = if is_slice c.kind then c.place else latest_slice past
 
 -- whether the latest unit has a sequence header
 abbrev pub has_sequence : List Code → Bool
@@ -134,25 +136,25 @@ header_of c = record {
 }
 
 -- the picture header of the latest unit
-abbrev pub picture_of : List Code → Option Header
-picture_of [] = None
-picture_of (c ∷ past) =
+abbrev pub latest_picture : List Code → Option Header
+latest_picture [] = None
+latest_picture (c ∷ past) =
     if c.kind == 0 then Some (header_of c)
-    else (if begins_unit c past then None else picture_of past)
+    else (if begins_unit c past then None else latest_picture past)
 
 -- all of these together
 abbrev pub tally_of : List Code → Tally
 tally_of past = record {
   begun = not (is_none_yet past);
   rate = first_rate past;
-  unit = unit_of past;
-  picture = picture_of past;
-  pictures = pictures_of past;
+  unit = latest_unit past;
+  picture = latest_picture past;
+  pictures = picture_count past;
   before_group = before_group_of past;
-  slices = slices_of past;
-  all_slices = all_slices_of past;
+  slices = slice_count past;
+  all_slices = film_slice_count past;
   head_end = head_end_of past;
-  slice = slice_of past;
+  slice = latest_slice past;
   has_sequence = has_sequence past;
   starts_group = starts_group past;
 }

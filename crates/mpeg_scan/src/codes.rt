@@ -19,7 +19,7 @@ pub enum Prefix {
 
 impl Prefix {
     /// The same, once `byte` is read.
-    pub fn then(self, byte: u8) -> Prefix
+    pub fn next(self, byte: u8) -> Prefix
         ensures { result ≡ next_prefix self byte }
     {
         match byte {

@@ -1,7 +1,7 @@
 //! A film in memory, scanned whole.
 ghost use Rattle.std.specs.Prelude.{◌≡◌, ◌≤◌, ℕ, ◌↔◌, [], Some, Err, IfOk};
 ghost use Rattle.mpeg_scan.specs.Films.{IsFilm, refusal, film_calls};
-ghost use Rattle.mpeg_scan.specs.Codes.{codes_of, read};
+ghost use Rattle.mpeg_scan.specs.Codes.{codes_of, read_after};
 ghost use Rattle.mpeg_scan.specs.Places.{HasCode, StandsAt};
 ghost use Rattle.mpeg_scan.specs.Grammar.{IsGrammatical};
 ghost use Rattle.mpeg_scan.specs.Counts.{AreNumbered};
@@ -12,7 +12,7 @@ use crate::collector::Collector;
 use crate::faults::{FilmFault, ScanRefused};
 use crate::laws::law_film;
 use crate::scanner::Scanner;
-use crate::units::{MAX_FILM_BYTES, Unit, picture_units};
+use crate::units::{MAX_FILM_BYTES, Unit, picture_time};
 use std::alloc::Global;
 
 /// An accepted film, with what the grammar says of its bytes.
@@ -32,13 +32,13 @@ pub struct Film {
 impl Film {
     /// The time of a picture in 1/360,000 second, by the code of its rate (ISO/IEC 11172-2,
     /// 2.4.3.2).
-    pub fn picture_units(&self) -> u32
+    pub fn picture_time(&self) -> u32
         ensures value { result ≡ picture_time self.now.rate }
         ensures some { 1 ≤ result }
         ensures fits { result ≤ 360000 }
     {
         law_film(self);
-        picture_units(self.rate)
+        picture_time(self.rate)
     }
 }
 
@@ -50,10 +50,10 @@ impl Film {
 /// [`ScanRefused::NoMemory`] where there is none for its units and slices.
 pub fn scan(alloc: Global, bytes: Vec<u8>) -> Result<Film, ScanRefused>
     ensures film { IfOk result (λ film. film.bytes.items ≡ bytes.items) }
-    ensures grammatical { IfOk result (λ film. IsGrammatical (read [] film.bytes.items)) }
+    ensures grammatical { IfOk result (λ film. IsGrammatical (read_after [] film.bytes.items)) }
     ensures numbered { IfOk result (λ film. AreNumbered (film_calls film.bytes.items)) }
     ensures tiled { IfOk result (λ film.
-        Tiles (read [] film.bytes.items) (film_calls film.bytes.items)) }
+        Tiles (read_after [] film.bytes.items) (film_calls film.bytes.items)) }
     ensures fault { (f : FilmFault) → result ≡ Err (ScanRefused.Fault f) →
         refusal bytes.items ≡ Some f }
 {
@@ -76,7 +76,7 @@ pub fn scan(alloc: Global, bytes: Vec<u8>) -> Result<Film, ScanRefused>
 /// at its place: the bytes 00 00 01, and a kind.
 pub fn law_start_codes(bytes: &[u8])
     ensures { (place : ℕ) (kind : ℕ) →
-        HasCode place kind (codes_of (read [] bytes.now)) ↔ StandsAt bytes.now place kind }
+        HasCode place kind (codes_of (read_after [] bytes.now)) ↔ StandsAt bytes.now place kind }
 {
     let _ = bytes;
 }

@@ -2,7 +2,7 @@
 ghost use Rattle.std.specs.Prelude.{◌≡◌, ◌↔◌, ℕ, ◌+◌, ◌^◌, ◌<◌, ◌≤◌, ◌++◌, [], List, None, Some};
 ghost use Rattle.std.specs.Prelude.{length, true};
 ghost use Rattle.mpeg_scan.specs.declared.units.Unit.{Unit as PictureUnit};
-ghost use Rattle.mpeg_scan.specs.Codes.{codes_of, read};
+ghost use Rattle.mpeg_scan.specs.Codes.{codes_of, read_after};
 ghost use Rattle.mpeg_scan.specs.Counts.{AreNumbered};
 ghost use Rattle.mpeg_scan.specs.Faults.{first_fault};
 ghost use Rattle.mpeg_scan.specs.Films.{refusal, film_calls};
@@ -15,7 +15,7 @@ ghost use Rattle.mpeg_scan.specs.Standard.{IsSliceKind, IsUnitOf};
 ghost use Rattle.mpeg_scan.specs.Standard.{StandsThere, slice_places};
 ghost use Rattle.mpeg_scan.specs.Refusals.{IsRefusedFor};
 ghost use Rattle.mpeg_scan.specs.Tiles.{Tiles};
-ghost use Rattle.mpeg_scan.specs.Words.{pictures_of};
+ghost use Rattle.mpeg_scan.specs.Words.{picture_count};
 
 use crate::faults::FilmFault;
 use crate::films::Film;
@@ -29,10 +29,10 @@ pub fn law_film(film: &Film)
     ensures bytes { length film.now.bytes.items ≤ 2 ^ 40 }
     ensures units { length film.now.units.items ≤ 4194304 }
     ensures pictures { length film.now.units.items ≡
-        pictures_of (codes_of (read [] film.now.bytes.items)) }
-    ensures grammatical { IsGrammatical (read [] film.now.bytes.items) }
+        picture_count (codes_of (read_after [] film.now.bytes.items)) }
+    ensures grammatical { IsGrammatical (read_after [] film.now.bytes.items) }
     ensures numbered { AreNumbered (film_calls film.now.bytes.items) }
-    ensures tiled { Tiles (read [] film.now.bytes.items) (film_calls film.now.bytes.items) }
+    ensures tiled { Tiles (read_after [] film.now.bytes.items) (film_calls film.now.bytes.items) }
 {
     let _read = film.bytes.len();
 }
@@ -58,7 +58,7 @@ pub fn law_units(film: &Film)
 /// film, whatever comes later; and so is that of bytes which are too many.
 pub fn law_refused_early()
     ensures code { (front rest : List ℕ) (f : FilmFault) → length (front ++ rest) ≤ 2 ^ 40
-        → first_fault (codes_of (read [] front)) ≡ Some f → refusal (front ++ rest) ≡ Some f }
+        → first_fault (codes_of (read_after [] front)) ≡ Some f → refusal (front ++ rest) ≡ Some f }
     ensures long { (bytes : List ℕ) → 2 ^ 40 < length bytes
         → refusal bytes ≡ Some FilmFault.TooLong }
 {}
@@ -90,14 +90,14 @@ pub fn law_picture_rates()
 
 /// The start codes of bytes are listed in their order, each once.
 pub fn law_codes_in_order()
-    ensures { (bytes : List ℕ) → AreFalling (codes_of (read [] bytes)) }
+    ensures { (bytes : List ℕ) → AreFalling (codes_of (read_after [] bytes)) }
 {}
 
 /// The places of a film's slices are those of the slice codes that stand in its bytes, in their
 /// order: a slice begins exactly where a slice code stands.
 pub fn law_slices(film: &Film)
     ensures places { film.now.slice_starts.items ≡
-        slice_places (codes_of (read [] film.now.bytes.items)) }
+        slice_places (codes_of (read_after [] film.now.bytes.items)) }
     ensures codes { (place : ℕ) → IsAmong place film.now.slice_starts.items
         ↔ StandsThere (StandsAt film.now.bytes.items) place IsSliceKind }
 {

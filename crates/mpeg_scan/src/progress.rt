@@ -4,7 +4,7 @@ ghost use Rattle.std.specs.Prelude.{length, take, slice_index, IsSome, IsTrue, t
 ghost use Rattle.std.specs.Prelude.{MatchResult, OnOk, ◌≢◌};
 ghost use Rattle.std.specs.Option.{ForSome};
 ghost use Rattle.mpeg_scan.specs.Calls.{Call, calls_at, calls_of};
-ghost use Rattle.mpeg_scan.specs.Codes.{codes_of, read};
+ghost use Rattle.mpeg_scan.specs.Codes.{codes_of, read_after};
 ghost use Rattle.mpeg_scan.specs.Faults.{first_fault, refusal_of};
 ghost use Rattle.mpeg_scan.specs.Room.{AwaitsSlice, AwaitsSliceAfter, HasCounts, HasRoomWith};
 ghost use Rattle.mpeg_scan.specs.Room.{IsAhead};
@@ -58,7 +58,7 @@ impl Progress {
         if let Some(code) = &mut self.latest {
             code.text.note(byte);
         }
-        self.prefix = self.prefix.then(byte);
+        self.prefix = self.prefix.next(byte);
         self.fed += 1;
     }
 
@@ -78,7 +78,7 @@ impl Progress {
     {
         match &self.latest {
             None => self.tally,
-            Some(code) => self.tally.then(code),
+            Some(code) => self.tally.next(code),
         }
     }
 
@@ -182,9 +182,9 @@ impl Progress {
         requires { self.old.fed + length rest.now < 2 ^ 41 }
         ensures bound { result ≤ length rest.now }
         ensures kept { (r : List ℕ) → HasRead self.old r →
-            HasRead self.new (read r (take result rest.now)) }
+            HasRead self.new (read_after r (take result rest.now)) }
         ensures quiet { (r : List ℕ) → HasRead self.old r →
-            codes_of (read r (take result rest.now)) ≡ codes_of r }
+            codes_of (read_after r (take result rest.now)) ≡ codes_of r }
         ensures fed { self.new.fed ≡ self.old.fed + result }
         ensures prefix { self.new.prefix ≡ self.old.prefix }
         ensures latest { self.new.latest ≡ self.old.latest }
@@ -208,13 +208,13 @@ impl Progress {
         requires room { IsAhead self.old }
         requires ready { AwaitsSlice (F.ready_at found.old) (tally_now self.old) }
         ensures kept { OnOk result ((r : List ℕ) → HasRead self.old r →
-            HasRead self.new (read r chunk.now)) }
+            HasRead self.new (read_after r chunk.now)) }
         ensures told { OnOk result ((r : List ℕ) (calls : List Call) → HasRead self.old r →
             F.heard found.old (calls ++ calls_of (codes_of r))
-            → F.heard found.new (calls ++ calls_of (codes_of (read r chunk.now)))) }
+            → F.heard found.new (calls ++ calls_of (codes_of (read_after r chunk.now)))) }
         ensures fault { (f : FilmFault) → result ≡ Err (ScanRefused.Fault f) → (r : List ℕ) →
             HasRead self.old r
-            → first_fault (codes_of (read r chunk.now)) ≡ Some f }
+            → first_fault (codes_of (read_after r chunk.now)) ≡ Some f }
         ensures told_before { (f : FilmFault) → result ≡ Err (ScanRefused.Fault f) →
             (r : List ℕ) (calls : List Call)
             → HasRead self.old r → F.heard found.old (calls ++ calls_of (codes_of r))

@@ -20,7 +20,7 @@ impl Scanner {
     ghost use Rattle.std.specs.Prelude.{◌+◌, ◌^◌, ◌≤◌, ◌++◌, ℕ, List, [], Some, Err, IfOk, OnOk};
     ghost use Rattle.std.specs.Prelude.{length};
     ghost use Rattle.mpeg_scan.specs.Calls.{Call, all_calls, calls_of};
-    ghost use Rattle.mpeg_scan.specs.Codes.{codes_of, read};
+    ghost use Rattle.mpeg_scan.specs.Codes.{codes_of, read_after};
     ghost use Rattle.mpeg_scan.specs.Counts.{AreNumbered};
     ghost use Rattle.mpeg_scan.specs.Faults.{first_fault, refusal_of};
     ghost use Rattle.mpeg_scan.specs.Grammar.{IsGrammatical};
@@ -52,13 +52,13 @@ impl Scanner {
         requires short { bytes_fed self.old + length chunk.now ≤ 2 ^ 40 }
         requires ready { IsReady (F.ready_at found.old) self.old }
         ensures kept { OnOk result ((r : List ℕ) → HasScannedBytes self.old r →
-            HasScannedBytes self.new (read r chunk.now)) }
+            HasScannedBytes self.new (read_after r chunk.now)) }
         ensures told { OnOk result ((r : List ℕ) (calls : List Call) → HasScannedBytes self.old r →
             F.heard found.old (calls ++ calls_of (codes_of r))
-            → F.heard found.new (calls ++ calls_of (codes_of (read r chunk.now)))) }
+            → F.heard found.new (calls ++ calls_of (codes_of (read_after r chunk.now)))) }
         ensures fault { (f : FilmFault) → result ≡ Err (ScanRefused.Fault f) → (r : List ℕ) →
             HasScannedBytes self.old r
-            → first_fault (codes_of (read r chunk.now)) ≡ Some f }
+            → first_fault (codes_of (read_after r chunk.now)) ≡ Some f }
         ensures told_before { (f : FilmFault) → result ≡ Err (ScanRefused.Fault f) →
             (r : List ℕ) (calls : List Call)
             → HasScannedBytes self.old r → F.heard found.old (calls ++ calls_of (codes_of r))

@@ -143,7 +143,7 @@ impl Tally {
 
     /// The same with one code more, whose text is complete.
     #[tactic(auto, unfolding(crate::specs::Steps::next))]
-    pub(crate) fn then(&self, code: &Code) -> Tally
+    pub(crate) fn next(&self, code: &Code) -> Tally
         requires { HasCounts self.now (2 ^ 41) }
         ensures { result ≡ next self.now code.now }
     {

@@ -6,7 +6,7 @@ ghost use Rattle.std.specs.Prelude.{⊤, ◌<◌};
 mod refusals;
 
 use crate::{
-    FilmFault, Found, Kind, ScanRefused, Scanner, Unit, law_film, law_start_codes, picture_units,
+    FilmFault, Found, Kind, ScanRefused, Scanner, Unit, law_film, law_start_codes, picture_time,
     scan,
 };
 use std::alloc::{AllocError, Global};
@@ -141,7 +141,7 @@ fn units_of_films(rt: HostRuntime) -> Result<(), Fail> {
     law_start_codes(&bytes);
     let film = scan(rt.alloc(), bytes)?;
     assert_eq!(rt; film.rate, 3);
-    assert_eq!(rt; film.picture_units(), 14400);
+    assert_eq!(rt; film.picture_time(), 14400);
     assert_eq!(rt; film.bytes.len(), 34);
     assert_eq!(rt; film.units.as_slice(), [UNIT_A].as_slice());
     assert_eq!(rt; film.slice_starts.as_slice(), [28].as_slice());
@@ -299,6 +299,6 @@ fn times_of_pictures(rt: HostRuntime) {
         (7, 6006),
         (8, 6000),
     ] {
-        assert_eq!(rt; picture_units(rate), units);
+        assert_eq!(rt; picture_time(rate), units);
     }
 }

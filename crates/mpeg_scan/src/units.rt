@@ -86,7 +86,7 @@ pub struct Unit {
 
 /// The time of a picture in 1/360,000 second, by the picture rate code of a sequence header, 1 to 8
 /// (ISO/IEC 11172-2, 2.4.3.2).
-pub fn picture_units(rate: u8) -> u32
+pub fn picture_time(rate: u8) -> u32
     requires low { 1 ≤ rate }
     requires high { rate ≤ 8 }
     ensures { result ≡ picture_time rate }

@@ -5,7 +5,7 @@ ghost use Rattle.rtsp_client.specs.Sound.{IsSoundSource};
 ghost use Rattle.rtsp_client.specs.Films.{begins_film, units_until};
 ghost use Rattle.rtsp_client.specs.States.{first_source, next_source};
 
-use mpeg_scan::{MAX_FILM_PICTURES, picture_units};
+use mpeg_scan::{MAX_FILM_PICTURES, picture_time};
 use rtp_pack::{FRAME_HEADS, Head};
 
 /// The bytes of a block's head: `$`, the channel and the length (RFC 2326 section 10.12).
@@ -42,7 +42,7 @@ impl Source {
         if !begins_film(payload) {
             return None;
         }
-        let picture_units = picture_units(payload[7] % 16);
+        let picture_units = picture_time(payload[7] % 16);
         let units = units_until(end_ms, picture_units);
         if units < 1 || units > u128::from(MAX_FILM_PICTURES) {
             return None;

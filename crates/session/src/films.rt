@@ -36,7 +36,7 @@ pub(crate) fn milliseconds_at(film: &Film, unit: usize) -> u64
     requires { unit ≤ 4194304 }
     ensures { result ≡ milliseconds_at film.now unit }
 {
-    unit as u64 * u64::from(film.picture_units()) / 360
+    unit as u64 * u64::from(film.picture_time()) / 360
 }
 
 /// How long a film is, in whole milliseconds.
@@ -53,7 +53,7 @@ pub(crate) fn timestamp_at(film: &Film, source: Source, unit: usize) -> u32
     requires { unit ≤ 4194304 }
     ensures { result ≡ timestamp_at film.now source unit }
 {
-    let since = unit as u64 * u64::from(film.picture_units()) / 4;
+    let since = unit as u64 * u64::from(film.picture_time()) / 4;
     source.timestamp.wrapping_add((since % (1 << 32)) as u32)
 }
 

@@ -38,7 +38,7 @@ pub(crate) fn playback_of(film: &Film, settings: &Settings, setup: &Setup) -> Pl
     ensures ranges { IsPlayback result }
 {
     Playback {
-        picture_units: film.picture_units(),
+        picture_units: film.picture_time(),
         slot_units: settings.slot_units,
         buffer: setup.buffer,
         delay: setup.delay,

@@ -1,7 +1,7 @@
 -- The plan with which a session asks for a whole film is that of the client for whom it was set up.
 use Rattle.std.proofs.Common.{◌≡◌, ℕ, [], List, refl, ap, subst, ◌∙◌, arith}
 use Rattle.std.proofs.lemmas.List.{length-map}
-use Rattle.mpeg_scan.specs.Codes.{read}
+use Rattle.mpeg_scan.specs.Codes.{read_after}
 use Rattle.mpeg_scan.proofs.BoundLemmas.{film-rate}
 use Rattle.film_frames.specs.declared.stores.Stored.{Stored}
 use Rattle.film_frames.specs.Pieces.{wire_size}
@@ -39,7 +39,7 @@ asked-plan {wish} {stored} {settings} {setup} {plan} wished set is =
     let sizes = stored_sizes stored in
     let same : session_playback film settings setup ≡ playback_of wish stored =
     playback-same (session_playback film settings setup) (playback_of wish stored) refl set.slots set.buffer set.delay in
-    let rate = film-rate (read [] film.bytes.items) film.grammar.accepted in
+    let rate = film-rate (read_after [] film.bytes.items) film.grammar.accepted in
     let time = time_bounds film.rate (omega (arith, film.grammar.rate, rate.0)) (omega (arith, film.grammar.rate, rate.1)) in
     let P : Playback → Type 0 = λ p. IsPlanOf sizes p (whole_run stored) plan in
     let F : ℕ → Type 0 = λ b. Fits b (whole_run stored) in

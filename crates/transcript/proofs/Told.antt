@@ -11,7 +11,7 @@ use Rattle.std.proofs.lemmas.Fmt.{decimal_digit, decimal_nonempty}
 use Rattle.std.proofs.lemmas.List.{append-nil, length-append, get_or_append_left, get_or-append_right, take_at, drop_at}
 use Rattle.std.proofs.Math.Nat.{mul-le-mul_right}
 use Rattle.mpeg_scan.specs.declared.films.Film.{Film}
-use Rattle.mpeg_scan.specs.Codes.{read}
+use Rattle.mpeg_scan.specs.Codes.{read_after}
 use Rattle.mpeg_scan.specs.Rates.{picture_time}
 use Rattle.mpeg_scan.proofs.BoundLemmas.{film-rate}
 use Rattle.session.specs.Films.{length_ms}
@@ -269,6 +269,6 @@ time-long (suc (suc (suc (suc (suc (suc (suc (suc (suc n))))))))) low high = abs
 
 pub film-counted : (film : Film) → units_until (length_ms film) (picture_time film.rate) ≡ length film.units.items
 film-counted film =
-    let rate = film-rate (read [] film.bytes.items) film.grammar.accepted in
+    let rate = film-rate (read_after [] film.bytes.items) film.grammar.accepted in
     units-counted (length film.units.items) (picture_time film.rate)
     (time-long film.rate (omega (arith, film.grammar.rate, rate.0)) (omega (arith, film.grammar.rate, rate.1)))

@@ -4,7 +4,7 @@ use Rattle.std.proofs.Math.ListN.{get_or-map}
 use Rattle.std.proofs.lemmas.Bool.{true≢false}
 use Rattle.std.proofs.lemmas.List.{length-map}
 use Rattle.vod_base.specs.Outside.{File}
-use Rattle.mpeg_scan.specs.Codes.{codes_of, read}
+use Rattle.mpeg_scan.specs.Codes.{codes_of, read_after}
 use Rattle.mpeg_scan.specs.Films.{IsFilm, slices_in, film_calls, units_in}
 use Rattle.mpeg_scan.specs.Rates.{picture_time}
 use Rattle.mpeg_scan.specs.Words.{rate_of}
@@ -47,7 +47,7 @@ content_as video rate units slices = record {
 
 abbrev content_in : List ℕ → ReelContent
 content_in video =
-    content_as video (rate_of (codes_of (read [] video))) (units_in (film_calls video)) (slices_in (film_calls video))
+    content_as video (rate_of (codes_of (read_after [] video))) (units_in (film_calls video)) (slices_in (film_calls video))
 
 content_is : (slot : ℕ) (stored : Stored) → source_content slot (Film stored) ≡ content_in stored.film.bytes.items
 content_is slot stored =
@@ -55,8 +55,8 @@ content_is slot stored =
     let slices : List ℕ = stored.film.slice_starts.items in
     let is : IsFilm video stored.film.rate stored.film.units.items slices = stored.film.grammar in
     ap (λ (r : ℕ). content_as video r stored.film.units.items slices) is.rate
-    ∙ ap (λ (us : List PictureUnit). content_as video (rate_of (codes_of (read [] video))) us slices) is.units
-    ∙ ap (λ (ss : List ℕ). content_as video (rate_of (codes_of (read [] video))) (units_in (film_calls video)) ss) is.slices
+    ∙ ap (λ (us : List PictureUnit). content_as video (rate_of (codes_of (read_after [] video))) us slices) is.units
+    ∙ ap (λ (ss : List ℕ). content_as video (rate_of (codes_of (read_after [] video))) (units_in (film_calls video)) ss) is.slices
 
 -- what is held under a name is played in one way
 content_once : (held : List File) (film : Bool) (name : List ℕ) (slot : ℕ) (a b : Source) →

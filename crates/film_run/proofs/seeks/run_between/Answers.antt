@@ -4,7 +4,7 @@ use Rattle.film_run.proofs.seeks.run_between.Goals as goal
 
 pub returns-clause-asked : goal.returns-clause-asked
 returns-clause-asked c =
-    asks_for_run c.as_slice-units.ensures.value (c.from-time.ensures ∙ c.picture_units.ensures.value)
+    asks_for_run c.as_slice-units.ensures.value (c.from-time.ensures ∙ c.picture_time.ensures.value)
     (record {
       order = c.if-is_reversed.ensures;
       rest = c.in_ok-first_unit.ensures.rest;

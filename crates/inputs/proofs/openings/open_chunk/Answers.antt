@@ -27,4 +27,4 @@ loop-index-preserved c = λ seen long so_far.
     let before : IsOpenBefore c.loop-index.prefix seen c.args.chunk.now c.loop-index.index c.args.at =
     record { inside = c.loop-index-test.true; long = long; so_far = c.loop-index.invariant seen long so_far } in
     open_step before
-    (not_whole c.loop-index.prefix c.in_default.not-Whole) c.then-prefix.ensures
+    (not_whole c.loop-index.prefix c.in_default.not-Whole) c.next-prefix.ensures

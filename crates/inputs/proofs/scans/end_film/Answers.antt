@@ -1,7 +1,7 @@
 use Rattle.std.proofs.Common.{◌≡◌, ◌∙◌, Some, Err, [], inl, inr, ap}
 use Rattle.mpeg_scan.specs.declared.faults.FilmFault.{FilmFault}
 use Rattle.mpeg_scan.specs.declared.faults.ScanRefused.TheVariants.{Fault as FaultAnswer}
-use Rattle.mpeg_scan.specs.Codes.{read}
+use Rattle.mpeg_scan.specs.Codes.{read_after}
 use Rattle.inputs.proofs.ScanLemmas.{film_trouble_map, told_ended, refused_ended}
 use Rattle.inputs.proofs.scans.end_film.Goals as goal
 
@@ -18,7 +18,7 @@ pub returns-in-Err-clause-trouble : goal.returns-in-Err-clause-trouble
 returns-in-Err-clause-trouble g c =
     film_trouble_map c.args.name.now c.scan_trouble.result
     (λ fault is video short taken. elim taken [
-      | inl so_far ↦ c.finish.ensures.fault fault (cc) (read [] video) so_far.fed
+      | inl so_far ↦ c.finish.ensures.fault fault (cc) (read_after [] video) so_far.fed
       | inr so_far ↦
           (let answered : c.finish.result ≡ Err (FaultAnswer so_far.fault) =
           (c.finish.ensures.again (FaultAnswer so_far.fault) so_far.answers).0 in

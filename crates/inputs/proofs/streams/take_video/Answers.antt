@@ -1,7 +1,7 @@
 use Rattle.std.proofs.Common.{◌≡◌, ◌∙◌, ℕ, List, [], ◌++◌, Err, inl, inr, sym, ap}
 use Rattle.std.proofs.lemmas.List.{append-nil}
 use Rattle.mpeg_scan.specs.declared.faults.ScanRefused.TheVariants.{Fault as FaultAnswer}
-use Rattle.mpeg_scan.specs.Codes.{codes_of, read}
+use Rattle.mpeg_scan.specs.Codes.{codes_of, read_after}
 use Rattle.mpeg_scan.specs.Faults.{first_fault}
 use Rattle.mpeg_scan.proofs.ReadLemmas.{read-append}
 use Rattle.inputs.proofs.ScanLemmas.{more_told}
@@ -26,7 +26,7 @@ returns-in-Err-Fault-clause-taken g c = λ seen taken. elim taken [
     rest = [];
     video_is = sym (append-nil (seen ++ c.args.video.now));
     refused = ap (λ (r : List ℕ). first_fault (codes_of r)) (read-append [] seen c.args.video.now)
-        ∙ c.feed.ensures.fault c.in-Err-Fault.field-0-0 (cc) (read [] seen) so_far.fed;
+        ∙ c.feed.ensures.fault c.in-Err-Fault.field-0-0 (cc) (read_after [] seen) so_far.fed;
   })
   | inr so_far ↦
       inr (refused_more c.args.scanner.now c.feed.new.self seen c.args.video.now

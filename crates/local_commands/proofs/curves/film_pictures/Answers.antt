@@ -6,7 +6,7 @@ use Rattle.local_commands.proofs.curves.film_pictures.Goals as goal
 pub returns-clause-limits : goal.returns-clause-limits
 returns-clause-limits g c =
     subst (λ (time : ℕ). MayHaveCurves
-    (record { sizes = c.in_ok-film.film.sizes.items; picture_units = time; slot_units = c.args.slot })) (sym c.picture_units.ensures)
+    (record { sizes = c.in_ok-film.film.sizes.items; picture_units = time; slot_units = c.args.slot })) (sym c.picture_time.ensures)
     (film_limits c.in_ok-film.film.rate c.args.slot c.in_ok-film.film.sizes.items
     ((c.in_ok-film.ensures {u = tt}).limits) c.requires)
 
@@ -14,6 +14,6 @@ pub returns-clause-pictures : goal.returns-clause-pictures
 returns-clause-pictures g c = λ held told. record {
   rate = c.in_ok-film.film.rate;
   holds = (c.in_ok-film.ensures {u = tt}).film held told;
-  picture_units_are = c.picture_units.ensures;
+  picture_units_are = c.picture_time.ensures;
   slot_units_are = refl;
 }

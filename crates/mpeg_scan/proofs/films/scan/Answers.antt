@@ -2,7 +2,7 @@ use Rattle.std.proofs.Common.{◌≡◌, [], ℕ, List, subst, Some, Err, sym, a
 use Rattle.std.proofs.lemmas.Result.{err_from_is_err_and}
 use Rattle.mpeg_scan.specs.declared.faults.FilmFault.TheVariants.{TooLong}
 use Rattle.mpeg_scan.specs.declared.faults.ScanRefused.TheVariants.{Fault}
-use Rattle.mpeg_scan.specs.Codes.{read, codes_of}
+use Rattle.mpeg_scan.specs.Codes.{read_after, codes_of}
 use Rattle.mpeg_scan.specs.Calls.{calls_of}
 use Rattle.mpeg_scan.specs.Faults.{first_fault}
 use Rattle.mpeg_scan.specs.Scans.{HasScannedBytes}
@@ -20,20 +20,20 @@ pub returns-in_err-feed-clause-fault : goal.returns-in_err-feed-clause-fault
 returns-in_err-feed-clause-fault c =
     let p = err_from_is_err_and c.from_residual.result c.from_residual.ensures.1 in λ f is.
     refusal-at_code c.args.bytes.items f (omega arith)
-    (ap (λ (l : List ℕ). first_fault (codes_of (read [] l))) (sym c.deref.ensures.value)
+    (ap (λ (l : List ℕ). first_fault (codes_of (read_after [] l))) (sym c.deref.ensures.value)
     ∙ c.feed.ensures.fault f
     (c.in_err-feed.was ∙ ap Err (sym p.2 ∙ same-error c.from_residual.result p.1 is)) [] c.new-scanner.ensures.fed)
 
 pub invariant_of-result : goal.invariant_of-result
 invariant_of-result c =
-    let r = read [] c.args.bytes.items in
-    let kept = subst (λ (l : List ℕ). HasScannedBytes c.feed.new.self (read [] l)) c.deref.ensures.value
+    let r = read_after [] c.args.bytes.items in
+    let kept = subst (λ (l : List ℕ). HasScannedBytes c.feed.new.self (read_after [] l)) c.deref.ensures.value
     (c.in_ok-feed.ensures.kept [] c.new-scanner.ensures.fed) in
     let first = c.in_ok-feed.ensures.told [] [] c.new-scanner.ensures.fed
     (c.new-found.ensures.units ∙ sym (ap units_in calls-none), c.new-found.ensures.slices ∙ sym (ap slices_in calls-none)) in
     let start = subst (λ (l : List ℕ).
-    (c.feed.new.found.units.items ≡ units_in (calls_of (codes_of (read [] l))))
-    × (c.feed.new.found.slices.items ≡ slices_in (calls_of (codes_of (read [] l))))) c.deref.ensures.value first in
+    (c.feed.new.found.units.items ≡ units_in (calls_of (codes_of (read_after [] l))))
+    × (c.feed.new.found.slices.items ≡ slices_in (calls_of (codes_of (read_after [] l))))) c.deref.ensures.value first in
     let all = c.in_ok-ending.ensures.told r [] kept start in
     let ended = c.in_ok-ending.ensures.ended r kept in
     record { grammar = record { accepted = ended.0; rate = ended.1; units = all.0; slices = all.1 } }
@@ -43,24 +43,24 @@ returns-in_err-ending-clause-fault c =
     let p = err_from_is_err_and c.from_residual-in_err-ending.result c.from_residual-in_err-ending.ensures.1 in λ f is.
     c.finish.ensures.fault f
     (c.in_err-ending.was ∙ ap Err (sym p.2 ∙ same-error c.from_residual-in_err-ending.result p.1 is))
-    (read [] c.args.bytes.items)
-    (subst (λ (l : List ℕ). HasScannedBytes c.feed.new.self (read [] l)) c.deref.ensures.value
+    (read_after [] c.args.bytes.items)
+    (subst (λ (l : List ℕ). HasScannedBytes c.feed.new.self (read_after [] l)) c.deref.ensures.value
     (c.in_ok-feed.ensures.kept [] c.new-scanner.ensures.fed))
 
 pub returns-clause-tiled : goal.returns-clause-tiled
 returns-clause-tiled c =
-    c.in_ok-ending.ensures.tiled (read [] c.args.bytes.items)
-    (subst (λ (l : List ℕ). HasScannedBytes c.feed.new.self (read [] l)) c.deref.ensures.value
+    c.in_ok-ending.ensures.tiled (read_after [] c.args.bytes.items)
+    (subst (λ (l : List ℕ). HasScannedBytes c.feed.new.self (read_after [] l)) c.deref.ensures.value
     (c.in_ok-feed.ensures.kept [] c.new-scanner.ensures.fed))
 
 pub returns-clause-numbered : goal.returns-clause-numbered
 returns-clause-numbered c =
-    c.in_ok-ending.ensures.numbered (read [] c.args.bytes.items)
-    (subst (λ (l : List ℕ). HasScannedBytes c.feed.new.self (read [] l)) c.deref.ensures.value
+    c.in_ok-ending.ensures.numbered (read_after [] c.args.bytes.items)
+    (subst (λ (l : List ℕ). HasScannedBytes c.feed.new.self (read_after [] l)) c.deref.ensures.value
     (c.in_ok-feed.ensures.kept [] c.new-scanner.ensures.fed))
 
 pub returns-clause-grammatical : goal.returns-clause-grammatical
 returns-clause-grammatical c =
-    c.in_ok-ending.ensures.grammatical (read [] c.args.bytes.items)
-    (subst (λ (l : List ℕ). HasScannedBytes c.feed.new.self (read [] l)) c.deref.ensures.value
+    c.in_ok-ending.ensures.grammatical (read_after [] c.args.bytes.items)
+    (subst (λ (l : List ℕ). HasScannedBytes c.feed.new.self (read_after [] l)) c.deref.ensures.value
     (c.in_ok-feed.ensures.kept [] c.new-scanner.ensures.fed))

@@ -1,6 +1,6 @@
 use Rattle.std.proofs.Common.{List, [], ap, length, ◌∙◌, arith}
 use Rattle.mpeg_scan.specs.declared.units.Unit.{Unit as PictureUnit}
-use Rattle.mpeg_scan.specs.Codes.{read}
+use Rattle.mpeg_scan.specs.Codes.{read_after}
 use Rattle.mpeg_scan.proofs.BoundLemmas.{film-rate, film-bytes, film-units, film-pictures}
 use Rattle.mpeg_scan.proofs.CountLemmas.{film-numbered}
 use Rattle.mpeg_scan.proofs.GrammarLemmas.{film-grammatical}
@@ -10,7 +10,7 @@ use Rattle.mpeg_scan.proofs.laws.law_film.Goals as goal
 pub returns : goal.returns
 returns c =
     let film = c.args.film.now in
-    let r = read [] film.bytes.items in
+    let r = read_after [] film.bytes.items in
     let accepted = film.grammar.accepted in
     let rate = film-rate r accepted in
     let units = ap (λ (l : List PictureUnit). length l) film.grammar.units ∙ film-units film.bytes.items accepted in

@@ -1,5 +1,5 @@
 use Rattle.std.proofs.Common.{ℕ, List, [], Some, ◌++◌, ◌≡◌, ap, ◌∙◌}
-use Rattle.mpeg_scan.specs.Codes.{codes_of, read}
+use Rattle.mpeg_scan.specs.Codes.{codes_of, read_after}
 use Rattle.mpeg_scan.specs.Faults.{first_fault}
 use Rattle.mpeg_scan.proofs.ReadLemmas.{fault-stays, read-append}
 use Rattle.mpeg_scan.proofs.FilmLemmas.{refusal-at_code, refusal-too_long}
@@ -8,8 +8,8 @@ use Rattle.mpeg_scan.proofs.laws.law_refused_early.Goals as goal
 pub returns : goal.returns
 returns c = record {
   code = λ front rest f short is.
-      let whole : first_fault (codes_of (read [] (front ++ rest))) ≡ Some f =
-      ap (λ (l : List ℕ). first_fault (codes_of l)) (read-append [] front rest) ∙ fault-stays rest (read [] front) f is in
+      let whole : first_fault (codes_of (read_after [] (front ++ rest))) ≡ Some f =
+      ap (λ (l : List ℕ). first_fault (codes_of l)) (read-append [] front rest) ∙ fault-stays rest (read_after [] front) f is in
       refusal-at_code (front ++ rest) f short whole;
   long = λ bytes far. refusal-too_long bytes far;
 }

@@ -1,4 +1,4 @@
-use Rattle.mpeg_scan.specs.Codes.{codes_of, read}
+use Rattle.mpeg_scan.specs.Codes.{codes_of, read_after}
 use Rattle.mpeg_scan.specs.Tiles.{first_of}
 use Rattle.mpeg_scan.proofs.FirstLemmas.{film-begins, film-group, film-some}
 use Rattle.mpeg_scan.proofs.LaidLemmas.{film-chained, film-laid, laid-at}
@@ -15,7 +15,7 @@ returns c =
       some = film-some bytes film.rate units starts film.grammar;
       group = film-group film.grammar;
       begins = film-begins film.grammar;
-      chained = (first_of (codes_of (read [] bytes)), film-chained bytes film.rate units starts film.grammar);
+      chained = (first_of (codes_of (read_after [] bytes)), film-chained bytes film.rate units starts film.grammar);
       within = λ k u is. (laid-at (length bytes) starts units k is (film-laid bytes film.rate units starts film.grammar)).0;
       laid = λ k u is. (laid-at (length bytes) starts units k is (film-laid bytes film.rate units starts film.grammar)).1;
     }

@@ -1,7 +1,7 @@
 use Rattle.std.proofs.Common.{◌+◌, ◌++◌, List, ℕ, take, subst, sym, ap, ◌∙◌, arith}
 use Rattle.std.proofs.lemmas.Result.{err_from_is_err_and}
 use Rattle.mpeg_scan.specs.Calls.{Call, calls_of}
-use Rattle.mpeg_scan.specs.Codes.{codes_of, read}
+use Rattle.mpeg_scan.specs.Codes.{codes_of, read_after}
 use Rattle.mpeg_scan.specs.Faults.{first_fault}
 use Rattle.mpeg_scan.specs.Scans.{HasRead}
 use Rattle.mpeg_scan.proofs.ReadLemmas.{read-run, read-byte, calls-run, fault-rest, length-rest}
@@ -21,9 +21,9 @@ loop-at-preserved g c =
       ready = skipped-awaits (g.F.Found.ready_at c.loop-at.found) c.loop-at.self c.skip-at.new.self
           c.skip-at.ensures.latest c.skip-at.ensures.tally i.ready;
       kept = λ r kept. subst (λ (q : List ℕ). HasRead c.skip-at.new.self q) (read-run r chunk at n)
-          (c.skip-at.ensures.kept (read r (take at chunk)) (i.kept r kept));
+          (c.skip-at.ensures.kept (read_after r (take at chunk)) (i.kept r kept));
       told = λ r calls kept heard. subst (λ (l : List Call). g.F.Found.heard c.loop-at.found l)
-          (calls-run r chunk at n calls (c.skip-at.ensures.quiet (read r (take at chunk)) (i.kept r kept)))
+          (calls-run r chunk at n calls (c.skip-at.ensures.quiet (read_after r (take at chunk)) (i.kept r kept)))
           (i.told r calls kept heard);
     }
 
@@ -40,17 +40,17 @@ loop-at-preserved-then-at-chunk g c =
       ready = c.in_ok-take_byte.ensures.ready;
       kept = λ r kept. subst (λ (q : List ℕ). HasRead c.take_byte.new.self q)
           (read-byte r chunk b c.if-at-chunk.true)
-          (c.in_ok-take_byte.ensures.kept (read r (take b chunk))
+          (c.in_ok-take_byte.ensures.kept (read_after r (take b chunk))
           (subst (λ (q : List ℕ). HasRead c.skip-at.new.self q) (read-run r chunk at n)
-          (c.skip-at.ensures.kept (read r (take at chunk)) (i.kept r kept))));
+          (c.skip-at.ensures.kept (read_after r (take at chunk)) (i.kept r kept))));
       told = λ r calls kept heard.
           subst (λ (q : List ℕ). g.F.Found.heard c.take_byte.new.found (calls ++ calls_of (codes_of q)))
           (read-byte r chunk b c.if-at-chunk.true)
-          (c.in_ok-take_byte.ensures.told (read r (take b chunk)) calls
+          (c.in_ok-take_byte.ensures.told (read_after r (take b chunk)) calls
           (subst (λ (q : List ℕ). HasRead c.skip-at.new.self q) (read-run r chunk at n)
-          (c.skip-at.ensures.kept (read r (take at chunk)) (i.kept r kept)))
+          (c.skip-at.ensures.kept (read_after r (take at chunk)) (i.kept r kept)))
           (subst (λ (l : List Call). g.F.Found.heard c.loop-at.found l)
-          (calls-run r chunk at n calls (c.skip-at.ensures.quiet (read r (take at chunk)) (i.kept r kept)))
+          (calls-run r chunk at n calls (c.skip-at.ensures.quiet (read_after r (take at chunk)) (i.kept r kept)))
           (i.told r calls kept heard)));
     }
 
@@ -63,9 +63,9 @@ returns-in_err-take_byte-clause-fault g c =
     let b = at + n in
     let p = err_from_is_err_and c.from_residual.result c.from_residual.ensures.1 in rw (p.1, p.2) λ f is r kept.
     fault-rest r chunk b f c.if-at-chunk.true
-    (c.take_byte.ensures.fault f (c.in_err-take_byte.was ∙ is) (read r (take b chunk))
+    (c.take_byte.ensures.fault f (c.in_err-take_byte.was ∙ is) (read_after r (take b chunk))
     (subst (λ (q : List ℕ). HasRead c.skip-at.new.self q) (read-run r chunk at n)
-    (c.skip-at.ensures.kept (read r (take at chunk)) (i.kept r kept))))
+    (c.skip-at.ensures.kept (read_after r (take at chunk)) (i.kept r kept))))
 
 pub take_byte-requires : goal.take_byte-requires
 take_byte-requires g c =
@@ -86,18 +86,18 @@ returns-in_err-take_byte-clause-told_before g c =
     let n = c.skip-at.result in
     let b = at + n in
     let p = err_from_is_err_and c.from_residual.result c.from_residual.ensures.1 in rw (p.1, p.2) λ f is r calls kept heard.
-    let here : HasRead c.skip-at.new.self (read r (take b chunk)) =
+    let here : HasRead c.skip-at.new.self (read_after r (take b chunk)) =
     subst (λ (q : List ℕ). HasRead c.skip-at.new.self q) (read-run r chunk at n)
-    (c.skip-at.ensures.kept (read r (take at chunk)) (i.kept r kept)) in
+    (c.skip-at.ensures.kept (read_after r (take at chunk)) (i.kept r kept)) in
     let before =
     subst (λ (l : List Call). g.F.Found.heard c.loop-at.found l)
-    (calls-run r chunk at n calls (c.skip-at.ensures.quiet (read r (take at chunk)) (i.kept r kept)))
+    (calls-run r chunk at n calls (c.skip-at.ensures.quiet (read_after r (take at chunk)) (i.kept r kept)))
     (i.told r calls kept heard) in
     record {
       count = b;
       within = c.if-at-chunk.true;
       accepted = here.accepted;
       fault = ap (λ (q : List ℕ). first_fault (codes_of q)) (sym (read-byte r chunk b c.if-at-chunk.true))
-          ∙ c.take_byte.ensures.fault f (c.in_err-take_byte.was ∙ is) (read r (take b chunk)) here;
+          ∙ c.take_byte.ensures.fault f (c.in_err-take_byte.was ∙ is) (read_after r (take b chunk)) here;
       heard = let same = c.take_byte.ensures.untold f (c.in_err-take_byte.was ∙ is) in rw same before;
     }

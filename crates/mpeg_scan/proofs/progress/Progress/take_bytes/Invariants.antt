@@ -1,6 +1,6 @@
 use Rattle.std.proofs.Common.{◌≡◌, ◌≤◌, ◌+◌, ◌-◌, ◌++◌, List, ℕ, length, take}
 use Rattle.mpeg_scan.specs.Calls.{Call, calls_of}
-use Rattle.mpeg_scan.specs.Codes.{codes_of, read}
+use Rattle.mpeg_scan.specs.Codes.{codes_of, read_after}
 use Rattle.mpeg_scan.specs.Room.{AwaitsSlice, IsAhead}
 use Rattle.mpeg_scan.specs.Scans.{HasRead}
 use Rattle.mpeg_scan.specs.Steps.{tally_with}
@@ -13,10 +13,10 @@ invariant-loop-at g l =
       fed : l.self.fed ≡ l.initial.self.fed + l.at;
       room : IsAhead l.self;
       ready : AwaitsSlice (g.F.Found.ready_at l.found) (tally_with l.self.latest l.self.tally);
-      kept : (r : List ℕ) → HasRead l.initial.self r → HasRead l.self (read r (take l.at l.chunk));
+      kept : (r : List ℕ) → HasRead l.initial.self r → HasRead l.self (read_after r (take l.at l.chunk));
       told : (r : List ℕ) (calls : List Call) → HasRead l.initial.self r
           → g.F.Found.heard l.initial.found (calls ++ calls_of (codes_of r))
-          → g.F.Found.heard l.found (calls ++ calls_of (codes_of (read r (take l.at l.chunk))));
+          → g.F.Found.heard l.found (calls ++ calls_of (codes_of (read_after r (take l.at l.chunk))));
     }
 
 abbrev pub decreases-loop-at : goal.decreases-loop-at

@@ -1,6 +1,6 @@
 use Rattle.std.proofs.Common.{◌≡◌, sym, ap, arith}
 use Rattle.mpeg_scan.specs.Rates.{picture_time}
-use Rattle.mpeg_scan.proofs.units.picture_units.Goals as goal
+use Rattle.mpeg_scan.proofs.units.picture_time.Goals as goal
 
 pub returns-in-1 : goal.returns-in-1
 returns-in-1 c = sym (ap picture_time c.in-1.is)
