@@ -52,9 +52,9 @@ older-more r x pack has =
     let noted : note_latest (codes_of r) x ≡ note has.code x ∷ has.older = ap (λ (l : List Code). note_latest l x) has.are in
     elim (cases_Bool (is_whole (latest_prefix r))) [
       | inl e ↦ record {
-        code = record { place = length r - 3; kind = x; text = [] };
+        code = record { place = length r - 3; kind = x; header = [] };
         older = note has.code x ∷ has.older;
-        are = codes-code x r e ∙ ap (λ (l : List Code). (record { place = length r - 3; kind = x; text = [] }) ∷ l) noted;
+        are = codes-code x r e ∙ ap (λ (l : List Code). (record { place = length r - 3; kind = x; header = [] }) ∷ l) noted;
         pack_is = pack-note has.code has.older x ∙ has.pack_is;
       }
       | inr e ↦ record {
@@ -76,10 +76,10 @@ first_code prefix seen byte so_far whole =
     let is : is_whole (latest_prefix (read_after [] seen)) ≡ true = ap is_whole (sym so_far.prefix_is ∙ whole) in
     let long : length (read_after [] seen) ≡ length seen = length-read seen [] ∙ omega arith in
     record {
-      code = record { place = length (read_after [] seen) - 3; kind = byte; text = [] };
+      code = record { place = length (read_after [] seen) - 3; kind = byte; header = [] };
       older = [];
       are = codes-code byte (read_after [] seen) is
-          ∙ ap (λ (l : List Code). (record { place = length (read_after [] seen) - 3; kind = byte; text = [] })
+          ∙ ap (λ (l : List Code). (record { place = length (read_after [] seen) - 3; kind = byte; header = [] })
           ∷ note_latest l byte) so_far.none;
       pack_is = ap (λ n. cond (eqb byte 0xba) (Some (n - 3)) None) long;
     }

@@ -1,10 +1,10 @@
--- What a byte more makes of the prefix at the end, of the latest text, and of the codes.
+-- What a byte more makes of the prefix at the end, of the latest header, and of the codes.
 use Rattle.std.proofs.Common.{ℕ, Bool, true, false, cond, eqb, ltb, ◌&&◌, ◌+◌, ◌<◌, ◌≤◌, ◌≡◌, List}
 use Rattle.std.proofs.Common.{[], ◌∷◌, ◌++◌, length, take, set, sym, ◌∙◌, ap, refl, arith}
 use Rattle.std.proofs.lemmas.List.{take_more_set, length-take-le}
 use Rattle.std.proofs.lemmas.Bool.{false≢true, eqb-true, lt-ltb, le-ltb}
 use Rattle.mpeg_scan.specs.declared.codes.Prefix.TheVariants.{Nothing, Zero, Zeros, Whole}
-use Rattle.mpeg_scan.specs.Texts.{text_with}
+use Rattle.mpeg_scan.specs.HeaderBytes.{header_with}
 use Rattle.mpeg_scan.specs.Codes.{byte_back, latest_prefix, after_one, after_zero, next_prefix}
 
 -- p1, p0: the byte is 1, 0; a1, a0: so is the one before it; z1, z2: the two before that are 0
@@ -37,12 +37,12 @@ unfolding latest_prefix
 matched-more x r =
     table (eqb (byte_back r 1) 0) (eqb (byte_back r 2) 0) (apart x) (apart (byte_back r 0))
 
-pub noted-by : (b : Bool) (text : List ℕ) (x : ℕ) → ltb (length text) 5 ≡ b → text_with text x ≡ cond b (text ++ x ∷ []) text
-unfolding text_with
-noted-by b text x e = ap (λ v. cond v (text ++ x ∷ []) text) e
+pub noted-by : (b : Bool) (header : List ℕ) (x : ℕ) → ltb (length header) 5 ≡ b → header_with header x ≡ cond b (header ++ x ∷ []) header
+unfolding header_with
+noted-by b header x e = ap (λ v. cond v (header ++ x ∷ []) header) e
 
--- a text with room, and a full one
-pub noted-room : (bytes : List ℕ) (n x : ℕ) → n < 5 → length bytes ≡ 5 → take (n + 1) (set bytes n x) ≡ text_with (take n bytes) x
+-- a header with room, and a full one
+pub noted-room : (bytes : List ℕ) (n x : ℕ) → n < 5 → length bytes ≡ 5 → take (n + 1) (set bytes n x) ≡ header_with (take n bytes) x
 noted-room bytes n x room five =
     let within : n < length bytes = omega arith in
     let held : n ≤ length bytes = omega arith in
@@ -50,5 +50,5 @@ noted-room bytes n x room five =
     lt-ltb (length (take n bytes)) 5 (omega (arith, length-take-le n bytes held)) in
     take_more_set bytes n x within ∙ sym (noted-by true (take n bytes) x some)
 
-pub noted-full : (text : List ℕ) (x : ℕ) → 5 ≤ length text → text ≡ text_with text x
-noted-full text x full = sym (noted-by false text x (le-ltb (length text) 5 full))
+pub noted-full : (header : List ℕ) (x : ℕ) → 5 ≤ length header → header ≡ header_with header x
+noted-full header x full = sym (noted-by false header x (le-ltb (length header) 5 full))

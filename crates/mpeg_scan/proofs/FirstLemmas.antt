@@ -29,7 +29,7 @@ use Rattle.mpeg_scan.proofs.SpaceLemmas.{Spaced, all-below, placed-codes}
 use Rattle.mpeg_scan.proofs.BoundLemmas.{older-judged, sequence-judged}
 use Rattle.mpeg_scan.proofs.FilmLemmas.{length-read, units_in-append}
 use Rattle.mpeg_scan.proofs.PlaceLemmas.{at-bytes, codes-stand}
-use Rattle.mpeg_scan.proofs.TextLemmas.{Same, TextIs, TextsAre, codes-texts, text-byte}
+use Rattle.mpeg_scan.proofs.HeaderByteLemmas.{Same, HeaderIs, HeadersAre, codes-headers, header-byte}
 use Rattle.mpeg_scan.proofs.LaidLemmas.{film-chained}
 
 -- ---- the first unit starts a group
@@ -241,18 +241,18 @@ film-first bytes rate units starts film =
     first-there bytes (codes_of r) refl (placed-codes r).spaced
     (otherwise-second (first_fault (codes_of r)) (end_fault (codes_of r) (length r)) (accepted-whole r film.accepted))
 
--- the first code's text, and the bytes that its header has at least
-pub record FirstText (r : List ℕ) (c : Code) : Type 0 where
+-- the header bytes of the first code, and how many they are at least
+pub record FirstHeader (r : List ℕ) (c : Code) : Type 0 where
   pub stop : ℕ
-  pub is : TextIs r stop c
+  pub is : HeaderIs r stop c
   pub long : c.place + 12 ≤ stop
 
--- codes that are accepted up to an end, and their texts in so many bytes
+-- codes that are accepted up to an end, and their headers in so many bytes
 pub record AreJudged (r : List ℕ) (c : Code) (past : List Code) (end stop : ℕ) : Type 0 where
   pub accepted : first_fault (c ∷ past) ≡ None
   pub judged : latest_fault (c ∷ past) end ≡ None
   pub far : end ≤ stop
-  pub texts : TextsAre r stop (c ∷ past)
+  pub headers : HeadersAre r stop (c ∷ past)
 
 -- so those before the latest
 pub older-are_judged : {r : List ℕ} {c d : Code} {past : List Code} {end stop : ℕ}
@@ -261,49 +261,49 @@ older-are_judged {c} {d} {past} are = record {
   accepted = accepted-older c (d ∷ past) are.accepted;
   judged = older-judged c (d ∷ past) are.accepted;
   far = omega arith;
-  texts = are.texts.1;
+  headers = are.headers.1;
 }
 
-pub first_in-text : {r : List ℕ} {c : Code} {past : List Code} {end stop : ℕ} → AreJudged r c past end stop
-    → FirstText r (first_in c past)
+pub first_in-header : {r : List ℕ} {c : Code} {past : List Code} {end stop : ℕ} → AreJudged r c past end stop
+    → FirstHeader r (first_in c past)
 unfolding first_in
-first_in-text {c} {past = []} {end} {stop} are =
+first_in-header {c} {past = []} {end} {stop} are =
     record {
       stop = stop;
-      is = are.texts.0;
+      is = are.headers.0;
       long = omega (arith, are.far, long-header None c end (first-is c are.accepted) are.judged);
     }
-first_in-text {past = d ∷ past} are = first_in-text {c = d} {past = past} (older-are_judged are)
+first_in-header {past = d ∷ past} are = first_in-header {c = d} {past = past} (older-are_judged are)
 
 record Begins (bytes : List ℕ) (past : List Code) : Type 0 where
   begins : BeginsSequence bytes (rate_of past) (first_of past)
 
 codes-begin : (bytes : List ℕ) (past : List Code) → codes_of (read_after [] bytes) ≡ past → first_fault past ≡ None
-    → end_fault past (length (read_after [] bytes)) ≡ None → TextsAre (read_after [] bytes) (length (read_after [] bytes)) past → Begins bytes past
+    → end_fault past (length (read_after [] bytes)) ≡ None → HeadersAre (read_after [] bytes) (length (read_after [] bytes)) past → Begins bytes past
 unfolding end_fault
-codes-begin bytes [] codes accepted ended texts = absurd (omega (arith, ended-none (tally_of []) ended))
-codes-begin bytes (c ∷ past) codes accepted ended texts =
+codes-begin bytes [] codes accepted ended headers = absurd (omega (arith, ended-none (tally_of []) ended))
+codes-begin bytes (c ∷ past) codes accepted ended headers =
     let r = read_after [] bytes in
     let n = length r in
     let judged = otherwise-first (latest_fault (c ∷ past) n) (last_fault (tally_of (c ∷ past))) ended in
     let f = first_in c past in
-    let are : AreJudged r c past n n = record { accepted = accepted; judged = judged; far = omega arith; texts = texts } in
-    let text = first_in-text are in
+    let are : AreJudged r c past n n = record { accepted = accepted; judged = judged; far = omega arith; headers = headers } in
+    let header = first_in-header are in
     let long : length r ≡ length bytes = length-read bytes [] ∙ omega arith in
     let place : first_of (c ∷ past) ≡ f.place = first_in-place c past in
     let has : HasCode f.place 0xb3 (codes_of r) =
     subst (λ (l : List Code). HasCode f.place 0xb3 l) (sym codes)
     (subst (λ k. HasCode f.place k (c ∷ past)) (first_in-kind c past accepted) (first_in-has c past)) in
     let same : Same bytes r = record { byte = at-bytes bytes; long = long } in
-    let byte : get_or f.text 3 0 ≡ get_or bytes (f.place + 4 + 3) 0 =
-    text-byte 3 same (omega arith) (omega (arith, text.long)) text.is in
+    let byte : get_or f.header 3 0 ≡ get_or bytes (f.place + 4 + 3) 0 =
+    header-byte 3 same (omega arith) (omega (arith, header.long)) header.is in
     let here : f.place + 4 + 3 ≡ f.place + 7 = omega arith in
     let rate : rate_of (c ∷ past) ≡ get_or bytes (f.place + 7) 0 % 16 =
     ap (λ (o : Option ℕ). unwrap_or o 0) (first_in-rate c past accepted) ∙ ap (λ b. b % 16) (byte ∙ ap (λ i. get_or bytes i 0) here) in
     record {
       begins = subst (λ p. BeginsSequence bytes (rate_of (c ∷ past)) p) (sym place) (record {
         code = (codes-stand bytes f.place 0xb3).0 has;
-        fits = omega (arith, text.long, text.is.within, long);
+        fits = omega (arith, header.long, header.is.within, long);
         rate_is = sym rate;
       });
     }
@@ -323,7 +323,7 @@ film-begins {bytes} {rate} {units} {starts} film unit is =
     let begins =
     codes-begin bytes (codes_of r) refl
     (otherwise-first (first_fault (codes_of r)) (end_fault (codes_of r) (length r)) none)
-    (otherwise-second (first_fault (codes_of r)) (end_fault (codes_of r) (length r)) none) (codes-texts r) in
+    (otherwise-second (first_fault (codes_of r)) (end_fault (codes_of r) (length r)) none) (codes-headers r) in
     let from : unit.from ≡ first_of (codes_of r) =
     chained-first (first_of (codes_of r)) (length bytes) units unit is (film-chained bytes rate units starts film) in
     subst (λ p. BeginsSequence bytes rate p) (sym from)

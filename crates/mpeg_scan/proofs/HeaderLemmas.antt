@@ -18,18 +18,18 @@ use Rattle.mpeg_scan.specs.Refusals.{header_bytes, picture_rate}
 use Rattle.mpeg_scan.specs.Standard.{IsHeadKind, NoneIn, picture_coding_type}
 use Rattle.mpeg_scan.proofs.BoundLemmas.{older-judged}
 use Rattle.mpeg_scan.proofs.FirstLemmas.{AreJudged, first_in, first_in-has, first_in-kind}
-use Rattle.mpeg_scan.proofs.FirstLemmas.{first_in-rate, first_in-text, first-least}
+use Rattle.mpeg_scan.proofs.FirstLemmas.{first_in-rate, first_in-header, first-least}
 use Rattle.mpeg_scan.proofs.StepLemmas.{accepted-older}
-use Rattle.mpeg_scan.proofs.TextLemmas.{Same, TextIs, TextsAre, text-byte}
+use Rattle.mpeg_scan.proofs.HeaderByteLemmas.{Same, HeaderIs, HeadersAre, header-byte}
 use Rattle.mpeg_scan.proofs.SpaceLemmas.{Spaced}
 use Rattle.mpeg_scan.proofs.DecideLemmas.{Decides, both-cond, decide, neither, none-of, only-first}
 use Rattle.mpeg_scan.proofs.DecideLemmas.{only-second}
 use Rattle.mpeg_scan.proofs.BeforeLemmas.{Knows, latest-is, latest-new, older}
 
--- the text of a code is the bytes after it, as far as a place
+-- the header bytes of a code are those after it, as far as a place
 abbrev pub Fits : List ℕ → ℕ → Code → Type 0
 Fits bytes to c = (k : ℕ) → k < 5 → c.place + 4 + k < to →
-    get_or c.text k 0 ≡ get_or bytes (c.place + 4 + k) 0
+    get_or c.header k 0 ≡ get_or bytes (c.place + 4 + k) 0
 
 rate-fits : (bytes : List ℕ) (to : ℕ) (c : Code) → Fits bytes to c → c.place + 8 ≤ to →
     rate_code c ≡ picture_rate bytes c.place
@@ -400,22 +400,22 @@ header-decides {Has} {c} {at} h =
 
 -- ---- the header before a place
 
-text-fits : {bytes r : List ℕ} {stop to : ℕ} {c : Code} → Same bytes r → TextIs r stop c →
+header-fits : {bytes r : List ℕ} {stop to : ℕ} {c : Code} → Same bytes r → HeaderIs r stop c →
     to ≤ stop → Fits bytes to c
-text-fits same text far k small below =
-    text-byte k same small (omega (arith, below, far)) text
+header-fits same header far k small below =
+    header-byte k same small (omega (arith, below, far)) header
 
 rate-known : {Has : ℕ → ℕ → Type 0} {bytes r : List ℕ} {past : List Code} {at : ℕ} → Same bytes r →
-    Knows Has past at → Spaced past → TextsAre r (at + 4) past → first_fault past ≡ None →
+    Knows Has past at → Spaced past → HeadersAre r (at + 4) past → first_fault past ≡ None →
     latest_fault past at ≡ None → RateIs Has bytes at (first_rate past)
-rate-known {Has} {r} {past = []} {at} same k spaced texts accepted judged =
+rate-known {Has} {r} {past = []} {at} same k spaced headers accepted judged =
     no_rate refl (λ place kind has after before is. absurd (k.back place kind has before))
-rate-known {Has} {bytes} {r} {past = c ∷ past} {at} same k spaced texts accepted judged =
+rate-known {Has} {bytes} {r} {past = c ∷ past} {at} same k spaced headers accepted judged =
     let first = first_in c past in
     let has = first_in-has c past in
     let are : AreJudged r c past at (at + 4) =
-    record { accepted = accepted; judged = judged; far = omega arith; texts = texts } in
-    let text = first_in-text are in
+    record { accepted = accepted; judged = judged; far = omega arith; headers = headers } in
+    let header = first_in-header are in
     its_rate (record {
       first = first.place;
       code = subst (λ m.
@@ -428,15 +428,15 @@ rate-known {Has} {bytes} {r} {past = c ∷ past} {at} same k spaced texts accept
                 (k.back place kind code (omega (arith, before, k.below first.place first.kind has))),
           );
       before = k.below first.place first.kind has;
-      is = first_in-rate c past accepted ∙ ap Some (rate-fits bytes text.stop first
-          (text-fits same text.is (omega arith))
-          (omega (arith, text.long)));
+      is = first_in-rate c past accepted ∙ ap Some (rate-fits bytes header.stop first
+          (header-fits same header.is (omega arith))
+          (omega (arith, header.long)));
     })
 
 pub latest-decides : {Has : ℕ → ℕ → Type 0} {bytes r : List ℕ} {past : List Code} {at stop : ℕ} →
-    Same bytes r → Knows Has past at → Spaced past → TextsAre r stop past → at ≤ stop →
+    Same bytes r → Knows Has past at → Spaced past → HeadersAre r stop past → at ≤ stop →
     first_fault past ≡ None → Decides (HeaderRefusal Has bytes at) (latest_fault past at)
-latest-decides {Has} {bytes} {r} {past = []} {at} {stop} same k spaced texts far accepted =
+latest-decides {Has} {bytes} {r} {past = []} {at} {stop} same k spaced headers far accepted =
     none-of (HeaderRefusal Has bytes at)
     (neither (IsShortHeader Has bytes at)
     (Otherwise (IsBadRate Has bytes at) (IsBadType Has bytes at))
@@ -444,12 +444,12 @@ latest-decides {Has} {bytes} {r} {past = []} {at} {stop} same k spaced texts far
     (neither (IsBadRate Has bytes at) (IsBadType Has bytes at) (λ f p.
     k.back p.place 0xb3 p.latest.code p.latest.before) (λ f p.
     k.back p.place 0 p.latest.code p.latest.before)))
-latest-decides {Has} {r} {past = c ∷ past} {at} {stop} same k spaced texts far accepted =
+latest-decides {Has} {r} {past = c ∷ past} {at} {stop} same k spaced headers far accepted =
     header-decides (record {
       knows = k;
       spaced = spaced;
-      fits = text-fits same texts.0 far;
+      fits = header-fits same headers.0 far;
       rate_is = rate-known same
-          (older Has c past at k spaced) spaced.1 texts.1 (accepted-older c past accepted)
+          (older Has c past at k spaced) spaced.1 headers.1 (accepted-older c past accepted)
           (older-judged c past accepted);
     })

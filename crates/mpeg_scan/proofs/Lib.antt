@@ -9,7 +9,7 @@ mod PlaceLemmas
 mod GrammarLemmas
 pub mod BoundLemmas
 pub mod LaidLemmas
-mod TextLemmas
+mod HeaderByteLemmas
 pub mod FirstLemmas
 mod NextLemmas
 mod RoomLemmas

@@ -15,7 +15,7 @@ use Rattle.mpeg_scan.specs.Faults.{first_refusal, fault_at, first_fault}
 use Rattle.mpeg_scan.specs.Calls.{Call, calls_of}
 use Rattle.mpeg_scan.specs.Steps.{latest_of, older_of}
 use Rattle.mpeg_scan.specs.Words.{tally_of}
-use Rattle.mpeg_scan.specs.Scans.{HasRead, is_text_full}
+use Rattle.mpeg_scan.specs.Scans.{HasRead, is_header_full}
 use Rattle.mpeg_scan.proofs.CodeLemmas.{matched-more, noted-full}
 use Rattle.mpeg_scan.proofs.StepLemmas.{codes-plain, codes-code, first_fault-note}
 
@@ -40,11 +40,11 @@ read-rest r chunk a = sym (read-append r (take a chunk) (drop a chunk)) ∙ ap (
 
 -- ---- runs
 
-note-full : (past : List Code) (x : ℕ) → is_text_full (latest_of past) ≡ true → note_latest past x ≡ past
+note-full : (past : List Code) (x : ℕ) → is_header_full (latest_of past) ≡ true → note_latest past x ≡ past
 note-full [] x full = refl
 note-full (c ∷ past) x full =
-    let room : 5 ≤ length c.text = ltb-false (length c.text) 5 (not-true (ltb (length c.text) 5) full) in
-    ap (λ (t : List ℕ). record c { text = t } ∷ past) (sym (noted-full c.text x room))
+    let room : 5 ≤ length c.header = ltb-false (length c.header) 5 (not-true (ltb (length c.header) 5) full) in
+    ap (λ (t : List ℕ). record c { header = t } ∷ past) (sym (noted-full c.header x room))
 
 next-other : (b : Bool) (x : ℕ) → (x ≡ 0 → ⊥) → eqb x 1 ≡ b → next_prefix Nothing x ≡ Nothing
 next-other true x other is = ap (λ t. cond t Nothing (cond (eqb x 0) Zero Nothing)) is
@@ -65,14 +65,14 @@ abbrev AreNonzero : List ℕ → ℕ → Type 0
 AreNonzero xs n = (k : ℕ) → k < n → get_or xs k 0 ≡ 0 → ⊥
 
 quiet-run : (xs r : List ℕ) → AreNonzero xs (length xs) → latest_prefix r ≡ Nothing
-    → is_text_full (latest_of (codes_of r)) ≡ true → Quiet r (read_after r xs) (length xs)
+    → is_header_full (latest_of (codes_of r)) ≡ true → Quiet r (read_after r xs) (length xs)
 quiet-run [] r nonzero none full = record { same = refl; none = none; more = omega arith }
 quiet-run (x ∷ xs) r nonzero none full =
     let same : codes_of (x ∷ r) ≡ codes_of r = codes-plain x r (ap is_whole none) ∙ note-full (codes_of r) x full in
     let still : latest_prefix (x ∷ r) ≡ Nothing =
     matched-more x r ∙ ap (λ p. next_prefix p x) none ∙ next-other (eqb x 1) x (nonzero 0 (omega arith)) refl in
     let rest = quiet-run xs (x ∷ r) (λ k within. nonzero (suc k) (omega arith)) still
-    (ap (λ (l : List Code). is_text_full (latest_of l)) same ∙ full) in
+    (ap (λ (l : List Code). is_header_full (latest_of l)) same ∙ full) in
     record { same = rest.same ∙ same; none = rest.none; more = omega (arith, rest.more) }
 
 front-nonzero : (xs : List ℕ) (n : ℕ) → n ≤ length xs → AreNonzero xs n → AreNonzero (take n xs) (length (take n xs))
@@ -81,17 +81,17 @@ front-nonzero xs n bound nonzero k within zero_there =
     nonzero k below (sym (get_or-take n xs k 0 below) ∙ zero_there)
 
 skipped : {s : Progress} {r : List ℕ} (xs : List ℕ) (n : ℕ) → n ≤ length xs → AreNonzero xs n
-    → (s.prefix ≡ Nothing) × (is_text_full s.latest ≡ true) → HasRead s r → Quiet r (read_after r (take n xs)) (length (take n xs))
+    → (s.prefix ≡ Nothing) × (is_header_full s.latest ≡ true) → HasRead s r → Quiet r (read_after r (take n xs)) (length (take n xs))
 skipped {s} {r} xs n bound nonzero quiet kept =
     quiet-run (take n xs) r (front-nonzero xs n bound nonzero) (sym kept.prefix ∙ quiet.0)
-    (sym (ap is_text_full kept.latest) ∙ quiet.1)
+    (sym (ap is_header_full kept.latest) ∙ quiet.1)
 
 pub skipped-same : {s : Progress} {r : List ℕ} (xs : List ℕ) (n : ℕ) → n ≤ length xs → AreNonzero xs n
-    → (s.prefix ≡ Nothing) × (is_text_full s.latest ≡ true) → HasRead s r → codes_of (read_after r (take n xs)) ≡ codes_of r
+    → (s.prefix ≡ Nothing) × (is_header_full s.latest ≡ true) → HasRead s r → codes_of (read_after r (take n xs)) ≡ codes_of r
 skipped-same {s} {r} xs n bound nonzero quiet kept = (skipped xs n bound nonzero quiet kept).same
 
 pub skipped-kept : {s : Progress} {r : List ℕ} (xs : List ℕ) (n : ℕ) → n ≤ length xs → AreNonzero xs n
-    → (s.prefix ≡ Nothing) × (is_text_full s.latest ≡ true) → HasRead s r → HasRead (skipped_scan s n) (read_after r (take n xs))
+    → (s.prefix ≡ Nothing) × (is_header_full s.latest ≡ true) → HasRead s r → HasRead (skipped_scan s n) (read_after r (take n xs))
 skipped-kept {s} {r} xs n bound nonzero quiet kept =
     let run = skipped xs n bound nonzero quiet kept in record {
       fed = omega (arith, run.more, length-take-le n xs bound, kept.fed);

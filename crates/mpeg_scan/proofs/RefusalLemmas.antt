@@ -25,7 +25,7 @@ use Rattle.mpeg_scan.specs.Refusals.{LacksPicture, LacksSequence, LacksSlices, O
 use Rattle.mpeg_scan.specs.Refusals.{SecondRefusal, SliceRefusal}
 use Rattle.mpeg_scan.specs.Standard.{IsFirstCode, IsHeadKind, IsSliceKind, StandsThere}
 use Rattle.mpeg_scan.proofs.StepLemmas.{positive}
-use Rattle.mpeg_scan.proofs.TextLemmas.{Same, TextsAre}
+use Rattle.mpeg_scan.proofs.HeaderByteLemmas.{Same, HeadersAre}
 use Rattle.mpeg_scan.proofs.SpaceLemmas.{Spaced}
 use Rattle.std.proofs.lemmas.Option.{same_Some}
 use Rattle.mpeg_scan.proofs.DecideLemmas.{Decides, both, both-cond, decide, decide-if, decide-with}
@@ -338,16 +338,16 @@ count-decides Has past at kind c =
 -- ---- a code
 
 pub code-decides : {Has : ℕ → ℕ → Type 0} {bytes r : List ℕ} {past : List Code} {at kind : ℕ} →
-    Same bytes r → AtCode Has past at kind → TextsAre r (at + 4) past → first_fault past ≡ None →
+    Same bytes r → AtCode Has past at kind → HeadersAre r (at + 4) past → first_fault past ≡ None →
     Decides (CodeRefusal Has bytes at) (fault_at past at kind)
 unfolding fault_at
-code-decides {Has} {bytes} {past} {at} {kind} same c texts accepted =
+code-decides {Has} {bytes} {past} {at} {kind} same c headers accepted =
     let t = tally_of past in
     both (HeaderRefusal Has bytes at)
     (Otherwise (KindRefusal Has at)
     (Otherwise (SecondRefusal Has at) (Otherwise (SliceRefusal Has at) (CountRefusal Has at))))
     (latest_fault past at) (code_fault t at kind)
-    (latest-decides same c.knows c.spaced texts (omega arith) accepted)
+    (latest-decides same c.knows c.spaced headers (omega arith) accepted)
     (λ _. both (KindRefusal Has at)
     (Otherwise (SecondRefusal Has at) (Otherwise (SliceRefusal Has at) (CountRefusal Has at)))
     (kind_fault t at kind)

@@ -19,7 +19,7 @@ use Rattle.mpeg_scan.specs.Standard.{AnyKind, StandsThere}
 use Rattle.mpeg_scan.proofs.FilmLemmas.{length-read}
 use Rattle.mpeg_scan.proofs.StepLemmas.{accepted-older, otherwise-second}
 use Rattle.mpeg_scan.proofs.PlaceLemmas.{at-bytes, codes-stand}
-use Rattle.mpeg_scan.proofs.TextLemmas.{Same, TextsAre, codes-texts}
+use Rattle.mpeg_scan.proofs.HeaderByteLemmas.{Same, HeadersAre, codes-headers}
 use Rattle.mpeg_scan.proofs.SpaceLemmas.{Spaced, all-below, placed-codes, room-after}
 use Rattle.std.proofs.lemmas.Option.{same_Some}
 use Rattle.mpeg_scan.proofs.DecideLemmas.{Decides, both, both-cond, neither, no-more, none-of}
@@ -37,7 +37,7 @@ record Film (Has : ℕ → ℕ →
   single : (place kind other : ℕ) → Has place kind → Has place other → other ≡ kind
   knows : Knows Has past end
   spaced : Spaced past
-  texts : TextsAre r stop past
+  headers : HeadersAre r stop past
   far : end ≤ stop
 
 film-older : {Has : ℕ → ℕ → Type 0} {bytes r : List ℕ} {c : Code} {past : List Code} {end stop : ℕ} →
@@ -47,7 +47,7 @@ film-older {Has} {r} {c} {past} {end} {stop} film = record {
   single = film.single;
   knows = older Has c past end film.knows film.spaced;
   spaced = film.spaced.1;
-  texts = film.texts.1;
+  headers = film.headers.1;
   far = omega arith;
 }
 
@@ -63,7 +63,7 @@ latest-code {Has} {bytes} {r} {c} {past} {end} {stop} film accepted =
       code = code;
       one = λ other has. film.single c.place c.kind other code has;
     } in
-    code-decides film.same at_code film.texts.1 accepted
+    code-decides film.same at_code film.headers.1 accepted
 
 -- where none of them is refused, none is
 abbrev Clear : (ℕ → ℕ → Type 0) → List ℕ → ℕ → Type 0
@@ -219,7 +219,7 @@ end-decides {Has} {bytes} {past} {end} film all accepted =
     both (HeaderRefusal Has bytes end)
     (Otherwise (LacksCodes Has) (Otherwise (LacksSlices Has end) (LacksPicture Has end)))
     (latest_fault past end) (last_fault (tally_of past))
-    (latest-decides film.same film.knows film.spaced film.texts film.far
+    (latest-decides film.same film.knows film.spaced film.headers film.far
     accepted)
     (λ _. last-decides Has past end film.knows film.spaced all)
 
@@ -275,7 +275,7 @@ codes-decide bytes =
         back = λ place kind has before. (codes-stand bytes place kind).1 has;
       };
       spaced = placed.spaced;
-      texts = codes-texts r;
+      headers = codes-headers r;
       far = omega arith;
     } in
     subst (λ m. Decides (Otherwise (FirstRefusal Has bytes) (EndRefusal Has bytes m))

@@ -27,7 +27,7 @@ use Rattle.mpeg_scan.proofs.SpaceLemmas.{whole-is}
 use Rattle.mpeg_scan.proofs.StepLemmas.{otherwise-second}
 use Rattle.mpeg_scan.proofs.TileLemmas.{ended-none, first_slice-accepted, first_slice-head}
 
--- ---- a byte more of a text changes none of it
+-- ---- a byte more of a header changes none of it
 record SamePlaces (t u : Tally) : Type 0 where
   begun : t.begun ≡ u.begun
   unit : t.unit ≡ u.unit
@@ -177,11 +177,11 @@ slice-by {s = false} true slice prefix at before some = absurd (omega (arith, so
 slice-by {s = false} false slice prefix at before some = omega (arith, prefix.short, at, before some)
 
 code-room : (t : Tally) (place kind fed : ℕ) → place + 3 ≤ fed → HasRoom t place → code_fault t place kind ≡ None
-    → HasRoomWith (Some (record { place = place; kind = kind; text = [] })) t
+    → HasRoomWith (Some (record { place = place; kind = kind; header = [] })) t
     (fed + 1 - prefix_length (next_prefix Whole kind))
 unfolding next
 code-room t place kind fed at room e =
-    let c : Code = record { place = place; kind = kind; text = [] } in
+    let c : Code = record { place = place; kind = kind; header = [] } in
     let short = length-kind kind in
     let far : place + 1 ≤ fed + 1 - prefix_length (next_prefix Whole kind) = omega (arith, short, at) in record {
       code = λ d is. omega (arith, far, ap (λ (v : Code). v.place) (same_Some c d is));

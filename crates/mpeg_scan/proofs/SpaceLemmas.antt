@@ -157,7 +157,7 @@ placed-plain past p n x plain placed =
     record { spaced = spaced-note past x placed.spaced; room = room-byte past p n x plain placed.room }
 
 placed-code : (past : List Code) (n x : ℕ) → Placed past Whole n
-    → Placed (record { place = n - 3; kind = x; text = [] } ∷ note_latest past x) (next_prefix Whole x) (suc n)
+    → Placed (record { place = n - 3; kind = x; header = [] } ∷ note_latest past x) (next_prefix Whole x) (suc n)
 placed-code past n x placed =
     let after = after-code past n x placed.room in record {
       spaced = (after.0, spaced-note past x placed.spaced);
@@ -178,7 +178,7 @@ placed-codes (x ∷ r) =
           subst (λ (past : List Code). Placed past (latest_prefix (x ∷ r)) (suc (length r)))
           (sym (codes-code x r e))
           (subst (λ (p : Prefix). Placed
-          (record { place = length r - 3; kind = x; text = [] } ∷ note_latest (codes_of r) x) p
+          (record { place = length r - 3; kind = x; header = [] } ∷ note_latest (codes_of r) x) p
           (suc (length r)))
           (sym (matched-more x r ∙ ap (λ (p : Prefix). next_prefix p x) (whole-is (latest_prefix r) e)))
           (placed-code (codes_of r) (length r) x at_whole)))

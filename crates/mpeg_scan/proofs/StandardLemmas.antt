@@ -25,31 +25,31 @@ use Rattle.mpeg_scan.proofs.SpaceLemmas.{placed-codes, room-after}
 use Rattle.mpeg_scan.proofs.FilmLemmas.{length-read}
 use Rattle.mpeg_scan.proofs.FirstLemmas.{AreJudged, older-are_judged}
 use Rattle.mpeg_scan.proofs.PlaceLemmas.{at-bytes, codes-stand}
-use Rattle.mpeg_scan.proofs.TextLemmas.{Same, TextIs, TextsAre, codes-texts, text-byte}
+use Rattle.mpeg_scan.proofs.HeaderByteLemmas.{Same, HeaderIs, HeadersAre, codes-headers, header-byte}
 use Rattle.mpeg_scan.proofs.OpenLemmas.{Member}
 use Rattle.mpeg_scan.proofs.SinceLemmas.{counts-same}
 use Rattle.mpeg_scan.proofs.ClosedLemmas.{AllClosed, Closed, CodeFields, Has, all-at, whole-closed}
 
--- a code's text and what its header has at least
-record CodeText (r : List ℕ) (c : Code) : Type 0 where
+-- a code's header bytes, and how many they are at least
+record CodeHeader (r : List ℕ) (c : Code) : Type 0 where
   stop : ℕ
   end : ℕ
   rate : Option ℕ
-  is : TextIs r stop c
+  is : HeaderIs r stop c
   judged : header_fault rate c end ≡ None
   far : end ≤ stop
 
-code-text : {r : List ℕ} {c its : Code} {past : List Code} {end stop : ℕ} → AreJudged r c past end stop
-    → Member its (c ∷ past) → CodeText r its
-code-text {r} {c} {past} {end} {stop} are (inl same) =
-    subst (λ (v : Code). CodeText r v) same
-    (record { stop = stop; end = end; rate = first_rate past; is = are.texts.0; judged = are.judged; far = are.far })
-code-text {past = []} are (inr m) = absurd m
-code-text {past = d ∷ past} are (inr m) = code-text {c = d} {past = past} (older-are_judged are) m
+code-header : {r : List ℕ} {c its : Code} {past : List Code} {end stop : ℕ} → AreJudged r c past end stop
+    → Member its (c ∷ past) → CodeHeader r its
+code-header {r} {c} {past} {end} {stop} are (inl same) =
+    subst (λ (v : Code). CodeHeader r v) same
+    (record { stop = stop; end = end; rate = first_rate past; is = are.headers.0; judged = are.judged; far = are.far })
+code-header {past = []} are (inr m) = absurd m
+code-header {past = d ∷ past} are (inr m) = code-header {c = d} {past = past} (older-are_judged are) m
 
 -- of each of these codes
-abbrev AreTexts : List ℕ → List Code → Type 0
-AreTexts r past = (c : Code) → Member c past → CodeText r c
+abbrev AreHeaders : List ℕ → List Code → Type 0
+AreHeaders r past = (c : Code) → Member c past → CodeHeader r c
 
 picture-judged : {a b z : Bool} {h : Option FilmFault} (f g : Option FilmFault) → a ≡ false → b ≡ false
     → z ≡ true → cond a f (cond b g (cond z h None)) ≡ None → h ≡ None
@@ -140,31 +140,31 @@ type-fits {bytes} {place} {forward} {backward} (four_type e) both =
 
 -- the fields of a picture's code are those of its header's bytes
 fields-fit : {past : List Code} {place : ℕ} {unit : PictureUnit} (bytes : List ℕ)
-    (f : CodeFields past place unit) → CodeText (read_after [] bytes) f.code → HasFields bytes place unit
-fields-fit {place} bytes f text =
+    (f : CodeFields past place unit) → CodeHeader (read_after [] bytes) f.code → HasFields bytes place unit
+fields-fit {place} bytes f header =
     let r = read_after [] bytes in
     let c = f.code in
     let at = f.place_is in
-    let long = picture-long text.rate c text.end f.zero_is text.judged in
+    let long = picture-long header.rate c header.end f.zero_is header.judged in
     let same : Same bytes r = record { byte = at-bytes bytes; long = length-read bytes [] ∙ omega arith } in
-    let here = λ (k p : ℕ) (small : k < 5) (far : c.place + 4 + k < text.stop) (where_ : c.place + 4 + k ≡ p).
-    text-byte k same small far text.is ∙ ap (λ i. get_or bytes i 0) where_ in
-    let b0 : get_or c.text 0 0 ≡ get_or bytes (place + 4) 0 =
-    here 0 (place + 4) (omega arith) (omega (arith, long.eight, text.far)) (omega (arith, at)) in
-    let b1 : get_or c.text 1 0 ≡ get_or bytes (place + 5) 0 =
-    here 1 (place + 5) (omega arith) (omega (arith, long.eight, text.far)) (omega (arith, at)) in
-    let b3 : get_or c.text 3 0 ≡ get_or bytes (place + 7) 0 =
-    here 3 (place + 7) (omega arith) (omega (arith, long.eight, text.far)) (omega (arith, at)) in
+    let here = λ (k p : ℕ) (small : k < 5) (far : c.place + 4 + k < header.stop) (where_ : c.place + 4 + k ≡ p).
+    header-byte k same small far header.is ∙ ap (λ i. get_or bytes i 0) where_ in
+    let b0 : get_or c.header 0 0 ≡ get_or bytes (place + 4) 0 =
+    here 0 (place + 4) (omega arith) (omega (arith, long.eight, header.far)) (omega (arith, at)) in
+    let b1 : get_or c.header 1 0 ≡ get_or bytes (place + 5) 0 =
+    here 1 (place + 5) (omega arith) (omega (arith, long.eight, header.far)) (omega (arith, at)) in
+    let b3 : get_or c.header 3 0 ≡ get_or bytes (place + 7) 0 =
+    here 3 (place + 7) (omega arith) (omega (arith, long.eight, header.far)) (omega (arith, at)) in
     let type_is : type_of c ≡ get_or bytes (place + 5) 0 / 8 % 8 = ap (λ b. b / 8 % 8) b1 in
     let fits = type-fits {bytes = bytes} {place = place} (four-types (type_of c) long.low long.high)
-    (λ two. let b4 : get_or c.text 4 0 ≡ get_or bytes (place + 8) 0 =
-    here 4 (place + 8) (omega arith) (omega (arith, long.nine two, text.far)) (omega (arith, at)) in (
-      ap (λ b. b % 8 * 2 + get_or c.text 4 0 / 128) b3
+    (λ two. let b4 : get_or c.header 4 0 ≡ get_or bytes (place + 8) 0 =
+    here 4 (place + 8) (omega arith) (omega (arith, long.nine two, header.far)) (omega (arith, at)) in (
+      ap (λ b. b % 8 * 2 + get_or c.header 4 0 / 128) b3
           ∙ ap (λ b. get_or bytes (place + 7) 0 % 8 * 2 + b / 128) b4,
       ap (λ b. b / 8 % 16) b4,
     )) in
     record {
-      temporal = f.temporal ∙ ap (λ b. b * 4 + get_or c.text 1 0 / 64) b0 ∙ ap (λ b. get_or bytes (place + 4) 0 * 4 + b / 64) b1;
+      temporal = f.temporal ∙ ap (λ b. b * 4 + get_or c.header 1 0 / 64) b0 ∙ ap (λ b. get_or bytes (place + 4) 0 * 4 + b / 64) b1;
       kind = ap type_number f.kind ∙ fits.number ∙ type_is;
       vectors = f.vectors ∙ fits.vectors ∙ ap (λ (v : Kind). vector_fields bytes place v) (sym f.kind);
     }
@@ -202,9 +202,9 @@ group-codes bytes past from to both (inl firsts) = inl (λ place kind has. first
 group-codes bytes past from to both (inr it) = inr (stands-codes past both it)
 
 unit-bytes : (bytes : List ℕ) (past : List Code) (unit : PictureUnit)
-    → ((place kind : ℕ) → HasCode place kind past ↔ StandsAt bytes place kind) → AreTexts (read_after [] bytes) past
+    → ((place kind : ℕ) → HasCode place kind past ↔ StandsAt bytes place kind) → AreHeaders (read_after [] bytes) past
     → Closed past unit → IsUnitOf bytes unit
-unit-bytes bytes past unit both texts closed =
+unit-bytes bytes past unit both headers closed =
     let u = closed.unit_is in
     let p = u.picture in
     let f = p.fields in
@@ -225,7 +225,7 @@ unit-bytes bytes past unit both texts closed =
         before = p.before;
         only = λ other has after before. p.only other ((both other 0).1 has) after before;
         last = none-bytes past both p.last;
-        fields = fields-fit bytes f (texts f.code f.member);
+        fields = fields-fit bytes f (headers f.code f.member);
       };
       sequence = (λ e. stands-bytes past both (u.sequence.0 e), λ it. u.sequence.1 (stands-codes past both it));
       group = (
@@ -234,18 +234,18 @@ unit-bytes bytes past unit both texts closed =
       );
     }
 
-whole-texts : (r : List ℕ) (past : List Code) (n : ℕ) → first_fault past ≡ None → end_fault past n ≡ None
-    → TextsAre r n past → AreTexts r past
+whole-headers : (r : List ℕ) (past : List Code) (n : ℕ) → first_fault past ≡ None → end_fault past n ≡ None
+    → HeadersAre r n past → AreHeaders r past
 unfolding end_fault
-whole-texts r [] n accepted ended texts c m = absurd m
-whole-texts r (d ∷ past) n accepted ended texts c m =
+whole-headers r [] n accepted ended headers c m = absurd m
+whole-headers r (d ∷ past) n accepted ended headers c m =
     let are : AreJudged r d past n n = record {
       accepted = accepted;
       judged = otherwise-first (latest_fault (d ∷ past) n) (last_fault (tally_of (d ∷ past))) ended;
       far = omega arith;
-      texts = texts;
+      headers = headers;
     } in
-    code-text are m
+    code-header are m
 
 pub film-standard : {bytes : List ℕ} {rate : ℕ} {units : List PictureUnit} {starts : List ℕ}
     → IsFilm bytes rate units starts → (k : ℕ) {unit : PictureUnit} → slice_get units k ≡ Some unit → IsUnitOf bytes unit
@@ -261,4 +261,4 @@ film-standard {bytes} {units} {starts} film k {unit} is =
     let mine : AllClosed past (length r) units =
     subst (λ (l : List PictureUnit). AllClosed past (length r) l) (sym film.units) all in
     unit-bytes bytes past unit (codes-stand bytes)
-    (whole-texts r past (length r) accepted ended (codes-texts r)) (all-at (length r) units k is mine)
+    (whole-headers r past (length r) accepted ended (codes-headers r)) (all-at (length r) units k is mine)

@@ -40,14 +40,14 @@ none-cond false f e = absurd (cc)
 pub codes-plain : (x : ℕ) (r : List ℕ) → is_whole (latest_prefix r) ≡ false → codes_of (x ∷ r) ≡ note_latest (codes_of r) x
 unfolding codes_of
 codes-plain x r e =
-    let new : List Code = record { place = length r - 3; kind = x; text = [] } ∷ note_latest (codes_of r) x in
+    let new : List Code = record { place = length r - 3; kind = x; header = [] } ∷ note_latest (codes_of r) x in
     cond-false (is_whole (latest_prefix r)) new (note_latest (codes_of r) x) e
 
 pub codes-code : (x : ℕ) (r : List ℕ) → is_whole (latest_prefix r) ≡ true
-    → codes_of (x ∷ r) ≡ record { place = length r - 3; kind = x; text = [] } ∷ note_latest (codes_of r) x
+    → codes_of (x ∷ r) ≡ record { place = length r - 3; kind = x; header = [] } ∷ note_latest (codes_of r) x
 unfolding codes_of
 codes-code x r e =
-    let new : List Code = record { place = length r - 3; kind = x; text = [] } ∷ note_latest (codes_of r) x in
+    let new : List Code = record { place = length r - 3; kind = x; header = [] } ∷ note_latest (codes_of r) x in
     cond-true (is_whole (latest_prefix r)) new (note_latest (codes_of r) x) e
 
 pub latest-note : (past : List Code) (x : ℕ) → latest_of (note_latest past x) ≡ option_map (λ c. note c x) (latest_of past)
@@ -177,7 +177,7 @@ tally-noted s r x kept =
     ∙ tally_now-is past
 
 first_fault-code : (past : List Code) (place kind : ℕ) → first_fault past ≡ None
-    → first_fault (record { place = place; kind = kind; text = [] } ∷ past) ≡ fault_at past place kind
+    → first_fault (record { place = place; kind = kind; header = [] } ∷ past) ≡ fault_at past place kind
 unfolding first_fault
 first_fault-code past place kind accepted = ap (λ (f : Option FilmFault). first_refusal f (fault_at past place kind)) accepted
 
@@ -199,7 +199,7 @@ fed-code {s} {r} {x} kept whole none =
     let past = note_latest (codes_of r) x in record {
       fed = omega (arith, kept.fed);
       prefix = ap (λ p. next_prefix p x) kept.prefix ∙ sym (matched-more x r);
-      latest = ap (λ n. latest_of (record { place = n - 3; kind = x; text = [] } ∷ past)) kept.fed ∙ ap latest_of (sym codes);
+      latest = ap (λ n. latest_of (record { place = n - 3; kind = x; header = [] } ∷ past)) kept.fed ∙ ap latest_of (sym codes);
       tally = tally-noted s r x kept ∙ ap (λ (l : List Code). tally_of (older_of l)) (sym codes);
       accepted = first_fault-at s r x kept whole ∙ none;
     }
@@ -218,7 +218,7 @@ pub calls-at_code : (s : Progress) (r : List ℕ) (x : ℕ) → HasRead s r
     ≡ calls_of (codes_of r) ++ calls_at (tally_with (scan_with_byte s x).latest s.tally) (s.fed - 3) x
 calls-at_code s r x kept whole =
     let past = note_latest (codes_of r) x in
-    ap calls_of (codes-code x r whole) ∙ calls-cons (record { place = length r - 3; kind = x; text = [] }) past
+    ap calls_of (codes-code x r whole) ∙ calls-cons (record { place = length r - 3; kind = x; header = [] }) past
     ∙ ap (λ (l : List Call). l ++ calls_at (tally_of past) (length r - 3) x) (calls-note (codes_of r) x)
     ∙ ap (λ (t : Tally). calls_of (codes_of r) ++ calls_at t (length r - 3) x) (sym (tally-noted s r x kept))
     ∙ ap (λ n. calls_of (codes_of r) ++ calls_at (tally_with (scan_with_byte s x).latest s.tally) (n - 3) x) (sym kept.fed)

@@ -1,7 +1,7 @@
 -- The start codes of MPEG-1 video (ISO/IEC 11172-2, 2.4.2.1).
 use Rattle.std.specs.Prelude.{ℕ, ◌-◌, ◌==◌, ◌&&◌, Bool, true, false, List, [], ◌∷◌, if◌then◌else◌}
 use Rattle.std.specs.Prelude.{length, slice_index_or}
-use Rattle.mpeg_scan.specs.Texts.{text_with}
+use Rattle.mpeg_scan.specs.HeaderBytes.{header_with}
 use Rattle.mpeg_scan.specs.declared.codes.Code.{Code}
 use Rattle.mpeg_scan.specs.declared.codes.Prefix.{Prefix}
 use Rattle.mpeg_scan.specs.declared.codes.Prefix.TheVariants.{Nothing, Zero, Zeros, Whole}
@@ -44,11 +44,11 @@ is_whole Nothing = false
 is_whole Zero = false
 is_whole Zeros = false
 
--- a byte more for the text of a code
+-- a byte more for the header bytes of a code
 abbrev pub note : Code → ℕ → Code
-note c x = record c { text = text_with c.text x }
+note c x = record c { header = header_with c.header x }
 
--- a byte more, for the text of the latest code
+-- a byte more, for those of the latest code
 abbrev pub note_latest : List Code → ℕ → List Code
 note_latest [] x = []
 note_latest (c ∷ past) x = note c x ∷ past
@@ -59,5 +59,5 @@ unfoldable pub codes_of : List ℕ → List Code
 codes_of [] = []
 codes_of (x ∷ r) =
     if is_whole (latest_prefix r)
-    then record { place = length r - 3; kind = x; text = [] } ∷ note_latest (codes_of r) x
+    then record { place = length r - 3; kind = x; header = [] } ∷ note_latest (codes_of r) x
     else note_latest (codes_of r) x

@@ -1,4 +1,4 @@
-pub mod Texts
+pub mod HeaderBytes
 pub mod Codes
 pub mod Words
 pub mod Faults

@@ -36,7 +36,7 @@ scan_with_byte s x = record s {
 -- a code
 abbrev pub scan_with_code : Progress → ℕ → ℕ → Progress
 scan_with_code s place kind = record s {
-  latest = Some (record { place = place; kind = kind; text = [] });
+  latest = Some (record { place = place; kind = kind; header = [] });
   tally = tally_with s.latest s.tally;
 }
 
@@ -70,7 +70,7 @@ pub record IsRefusedInChunk (Heard : List Call → Type 0) (r chunk : List ℕ) 
   pub fault : first_fault (codes_of (read_after r (take (count + 1) chunk))) ≡ Some f
   pub heard : Heard (calls ++ calls_of (codes_of (read_after r (take count chunk))))
 
--- whether a code takes no further byte for its text
-abbrev pub is_text_full : Option Code → Bool
-is_text_full None = true
-is_text_full (Some c) = not (nat_lt (length c.text) 5)
+-- whether a code takes no further byte as one of its header
+abbrev pub is_header_full : Option Code → Bool
+is_header_full None = true
+is_header_full (Some c) = not (nat_lt (length c.header) 5)

@@ -67,7 +67,7 @@ next t c = record {
   starts_group = next_starts_group t c;
 }
 
--- the tally with the latest code, of which the scanner keeps the text apart
+-- the tally with the latest code, of which the scanner keeps the header bytes apart
 abbrev pub tally_with : Option Code → Tally → Tally
 tally_with None t = t
 tally_with (Some c) t = next t c

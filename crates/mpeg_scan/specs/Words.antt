@@ -80,7 +80,7 @@ starts_group (c ∷ past) =
 
 -- the picture rate code of a sequence header: the low four bits of its eighth byte
 abbrev pub rate_code : Code → ℕ
-rate_code c = slice_index c.text 3 % 16
+rate_code c = slice_index c.header 3 % 16
 
 -- the rate code of the first sequence header, with one code more
 abbrev pub rate_after : Option ℕ → Code → Option ℕ
@@ -100,16 +100,16 @@ rate_of past = unwrap_or (first_rate past) 0
 -- picture_coding_type the next 3; vbv_delay has 16; then, for types 2 and 3, full_pel_forward 1 and
 -- forward_f_code 3, and for type 3 full_pel_backward 1 and backward_f_code 3
 abbrev pub temporal_of : Code → ℕ
-temporal_of c = slice_index c.text 0 * 4 + slice_index c.text 1 / 64
+temporal_of c = slice_index c.header 0 * 4 + slice_index c.header 1 / 64
 
 abbrev pub type_of : Code → ℕ
-type_of c = slice_index c.text 1 / 8 % 8
+type_of c = slice_index c.header 1 / 8 % 8
 
 abbrev pub forward_of : Code → ℕ
-forward_of c = slice_index c.text 3 % 8 * 2 + slice_index c.text 4 / 128
+forward_of c = slice_index c.header 3 % 8 * 2 + slice_index c.header 4 / 128
 
 abbrev pub backward_of : Code → ℕ
-backward_of c = slice_index c.text 4 / 8 % 16
+backward_of c = slice_index c.header 4 / 8 % 16
 
 -- the kind of a picture of type 1 to 4
 abbrev pub kind_of : ℕ → Kind

@@ -58,5 +58,5 @@ pub(crate) struct Code {
     /// The byte after the prefix.
     pub(crate) kind: u8,
     /// The bytes after it, as far as they are kept.
-    pub(crate) text: HeaderBytes,
+    pub(crate) header: HeaderBytes,
 }

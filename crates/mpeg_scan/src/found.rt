@@ -76,7 +76,7 @@ pub(crate) fn tell<F: Found>(
     requires within { place ≤ 2 ^ 40 }
     requires ready { AwaitsSlice (F.ready_at found.old) tally.now }
     ensures ready { OnOk result (AwaitsSliceAfter (F.ready_at found.new) tally.now place kind) }
-    ensures told { OnOk result ((calls : List Call) → F.heard found.old calls →
+    ensures heard { OnOk result ((calls : List Call) → F.heard found.old calls →
         F.heard found.new (calls ++ calls_at tally.now place kind)) }
 {
     if is_slice(kind) {

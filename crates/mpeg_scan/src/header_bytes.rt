@@ -1,7 +1,7 @@
 //! The first bytes after a start code, where the fields of its header stand.
 ghost use Rattle.std.specs.Prelude.{◌≡◌, ℕ, ◌<◌, ◌≤◌, List, [], length, take, slice_index, not};
 ghost use Rattle.std.specs.Prelude.{nat_lt};
-ghost use Rattle.mpeg_scan.specs.Texts.{text_with};
+ghost use Rattle.mpeg_scan.specs.HeaderBytes.{header_with};
 
 use std::marker::Model;
 
@@ -44,7 +44,7 @@ impl HeaderBytes {
 
     /// Adds a byte, where there is room.
     pub(crate) fn note(&mut self, byte: u8)
-        ensures { self.new ≡ text_with self.old byte }
+        ensures { self.new ≡ header_with self.old byte }
     {
         if self.len < LONGEST {
             self.bytes[usize::from(self.len)] = byte;

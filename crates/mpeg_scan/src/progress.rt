@@ -10,7 +10,7 @@ ghost use Rattle.mpeg_scan.specs.Room.{AwaitsSlice, AwaitsSliceAfter, HasCounts,
 ghost use Rattle.mpeg_scan.specs.Room.{IsAhead};
 ghost use Rattle.mpeg_scan.specs.Steps.{judgement, last_judgement, latest_header_fault, tally_now};
 ghost use Rattle.mpeg_scan.specs.Words.{tally_of};
-ghost use Rattle.mpeg_scan.specs.Scans.{HasRead, IsRefusedInChunk, scan_with_code, is_text_full};
+ghost use Rattle.mpeg_scan.specs.Scans.{HasRead, IsRefusedInChunk, scan_with_code, is_header_full};
 ghost use Rattle.mpeg_scan.specs.Scans.{scan_with_byte};
 
 use crate::codes::{Code, Prefix};
@@ -56,7 +56,7 @@ impl Progress {
         ensures { self.new ≡ scan_with_byte self.old byte }
     {
         if let Some(code) = &mut self.latest {
-            code.text.note(byte);
+            code.header.note(byte);
         }
         self.prefix = self.prefix.next(byte);
         self.fed += 1;
@@ -113,11 +113,11 @@ impl Progress {
         requires ready { AwaitsSlice (F.ready_at found.old) (tally_now self.old) }
         ensures taken { OnOk result ((judgement self.old place kind ≡ None)
             × (self.new ≡ scan_with_code self.old place kind)) }
-        ensures told { OnOk result ((calls : List Call) → F.heard found.old calls
+        ensures heard { OnOk result ((calls : List Call) → F.heard found.old calls
             → F.heard found.new (calls ++ calls_at (tally_now self.old) place kind)) }
         ensures fault { (f : FilmFault) → result ≡ Err (ScanRefused.Fault f) →
             judgement self.old place kind ≡ Some f }
-        ensures untold { (f : FilmFault) → result ≡ Err (ScanRefused.Fault f) →
+        ensures unheard { (f : FilmFault) → result ≡ Err (ScanRefused.Fault f) →
             found.new ≡ found.old }
         ensures fed { self.new.fed ≡ self.old.fed }
         ensures ready { OnOk result
@@ -129,7 +129,7 @@ impl Progress {
         self.latest = Some(Code {
             place,
             kind,
-            text: HeaderBytes::new(),
+            header: HeaderBytes::new(),
         });
         Ok(())
     }
@@ -141,13 +141,13 @@ impl Progress {
         requires ready { AwaitsSlice (F.ready_at found.old) (tally_now self.old) }
         ensures kept { OnOk result ((r : List ℕ) → HasRead self.old r →
             HasRead self.new (byte ∷ r)) }
-        ensures told { OnOk result ((r : List ℕ) (calls : List Call) → HasRead self.old r →
+        ensures heard { OnOk result ((r : List ℕ) (calls : List Call) → HasRead self.old r →
             F.heard found.old (calls ++ calls_of (codes_of r))
             → F.heard found.new (calls ++ calls_of (codes_of (byte ∷ r)))) }
         ensures fault { (f : FilmFault) → result ≡ Err (ScanRefused.Fault f) → (r : List ℕ) →
             HasRead self.old r
             → first_fault (codes_of (byte ∷ r)) ≡ Some f }
-        ensures untold { (f : FilmFault) → result ≡ Err (ScanRefused.Fault f) →
+        ensures unheard { (f : FilmFault) → result ≡ Err (ScanRefused.Fault f) →
             found.new ≡ found.old }
         ensures fed { self.new.fed ≡ self.old.fed + 1 }
         ensures room { OnOk result
@@ -164,20 +164,20 @@ impl Progress {
         self.take_code(place, byte, found)
     }
 
-    /// Whether nothing of a prefix stands at the end, and the latest text is full.
+    /// Whether nothing of a prefix stands at the end, and the latest header is full.
     fn is_quiet(&self) -> bool
         ensures { IsTrue result → (self.now.prefix ≡ Prefix.Nothing)
-            × (is_text_full self.now.latest ≡ true) }
+            × (is_header_full self.now.latest ≡ true) }
     {
         self.prefix.is_nothing()
             && match &self.latest {
                 None => true,
-                Some(code) => code.text.is_full(),
+                Some(code) => code.header.is_full(),
             }
     }
 
     /// Passes over the bytes in front of `rest` that change nothing but the place, and says how
-    /// many: those before its first zero byte, where no prefix and no text takes them.
+    /// many: those before its first zero byte, where no prefix and no header takes them.
     fn skip(&mut self, rest: &[u8]) -> usize
         requires { self.old.fed + length rest.now < 2 ^ 41 }
         ensures bound { result ≤ length rest.now }
@@ -209,13 +209,13 @@ impl Progress {
         requires ready { AwaitsSlice (F.ready_at found.old) (tally_now self.old) }
         ensures kept { OnOk result ((r : List ℕ) → HasRead self.old r →
             HasRead self.new (read_after r chunk.now)) }
-        ensures told { OnOk result ((r : List ℕ) (calls : List Call) → HasRead self.old r →
+        ensures heard { OnOk result ((r : List ℕ) (calls : List Call) → HasRead self.old r →
             F.heard found.old (calls ++ calls_of (codes_of r))
             → F.heard found.new (calls ++ calls_of (codes_of (read_after r chunk.now)))) }
         ensures fault { (f : FilmFault) → result ≡ Err (ScanRefused.Fault f) → (r : List ℕ) →
             HasRead self.old r
             → first_fault (codes_of (read_after r chunk.now)) ≡ Some f }
-        ensures told_before { (f : FilmFault) → result ≡ Err (ScanRefused.Fault f) →
+        ensures heard_before { (f : FilmFault) → result ≡ Err (ScanRefused.Fault f) →
             (r : List ℕ) (calls : List Call)
             → HasRead self.old r → F.heard found.old (calls ++ calls_of (codes_of r))
             → IsRefusedInChunk (F.heard found.new) r chunk.now calls f }

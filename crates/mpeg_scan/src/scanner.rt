@@ -53,13 +53,13 @@ impl Scanner {
         requires ready { IsReady (F.ready_at found.old) self.old }
         ensures kept { OnOk result ((r : List ℕ) → HasScannedBytes self.old r →
             HasScannedBytes self.new (read_after r chunk.now)) }
-        ensures told { OnOk result ((r : List ℕ) (calls : List Call) → HasScannedBytes self.old r →
+        ensures heard { OnOk result ((r : List ℕ) (calls : List Call) → HasScannedBytes self.old r →
             F.heard found.old (calls ++ calls_of (codes_of r))
             → F.heard found.new (calls ++ calls_of (codes_of (read_after r chunk.now)))) }
         ensures fault { (f : FilmFault) → result ≡ Err (ScanRefused.Fault f) → (r : List ℕ) →
             HasScannedBytes self.old r
             → first_fault (codes_of (read_after r chunk.now)) ≡ Some f }
-        ensures told_before { (f : FilmFault) → result ≡ Err (ScanRefused.Fault f) →
+        ensures heard_before { (f : FilmFault) → result ≡ Err (ScanRefused.Fault f) →
             (r : List ℕ) (calls : List Call)
             → HasScannedBytes self.old r → F.heard found.old (calls ++ calls_of (codes_of r))
             → IsRefusedInChunk (F.heard found.new) r chunk.now calls f }
@@ -97,12 +97,12 @@ impl Scanner {
             IsGrammatical r) }
         ensures numbered { OnOk result ((r : List ℕ) → HasScannedBytes self r →
             AreNumbered (all_calls r)) }
-        ensures told { OnOk result ((r : List ℕ) (calls : List Call) → HasScannedBytes self r →
+        ensures heard { OnOk result ((r : List ℕ) (calls : List Call) → HasScannedBytes self r →
             F.heard found.old (calls ++ calls_of (codes_of r))
             → F.heard found.new (calls ++ all_calls r)) }
         ensures fault { (f : FilmFault) → result ≡ Err (ScanRefused.Fault f) → (r : List ℕ) →
             HasScannedBytes self r → refusal_of r ≡ Some f }
-        ensures untold { (f : FilmFault) → result ≡ Err (ScanRefused.Fault f) →
+        ensures unheard { (f : FilmFault) → result ≡ Err (ScanRefused.Fault f) →
             found.new ≡ found.old }
         ensures again { (e : ScanRefused) → refused_by self ≡ Some e → (result ≡ Err e)
             × (found.new ≡ found.old) }

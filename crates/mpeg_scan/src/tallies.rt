@@ -46,14 +46,14 @@ pub(crate) fn is_slice(kind: u8) -> bool
 pub(crate) fn rate_code(code: &Code) -> u8
     ensures { result ≡ rate_code code.now }
 {
-    code.text.byte(3) % 16
+    code.header.byte(3) % 16
 }
 
 /// The type in a picture header.
 pub(crate) fn type_of(code: &Code) -> u8
     ensures { result ≡ type_of code.now }
 {
-    code.text.byte(1) / 8 % 8
+    code.header.byte(1) / 8 % 8
 }
 
 /// What a unit's picture header says.
@@ -71,16 +71,16 @@ pub(crate) struct Header {
 }
 
 impl Header {
-    /// What a picture's start code and the text after it say.
+    /// What a picture's start code and the header after it say.
     fn of_picture(code: &Code) -> Header
         ensures { result ≡ header_of code.now }
     {
-        let forward = code.text.byte(3) % 8 * 2 + code.text.byte(4) / 128;
-        let backward = code.text.byte(4) / 8 % 16;
+        let forward = code.header.byte(3) % 8 * 2 + code.header.byte(4) / 128;
+        let backward = code.header.byte(4) / 8 % 16;
         let kind = Kind::from_code(type_of(code));
         Header {
             place: code.place,
-            temporal: u16::from(code.text.byte(0)) * 4 + u16::from(code.text.byte(1) / 64),
+            temporal: u16::from(code.header.byte(0)) * 4 + u16::from(code.header.byte(1) / 64),
             kind,
             vectors: match kind {
                 Kind::I | Kind::D => 0,
@@ -141,7 +141,7 @@ impl Tally {
         }
     }
 
-    /// The same with one code more, whose text is complete.
+    /// The same with one code more, whose header is complete.
     #[tactic(auto, unfolding(crate::specs::Steps::next))]
     pub(crate) fn next(&self, code: &Code) -> Tally
         requires { HasCounts self.now (2 ^ 41) }

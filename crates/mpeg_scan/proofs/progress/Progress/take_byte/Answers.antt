@@ -26,8 +26,8 @@ returns-clause-kept g c =
     } in
     taken-code code h) c.take_code.ensures.taken
 
-pub returns-clause-told : goal.returns-clause-told
-returns-clause-told g c =
+pub returns-clause-heard : goal.returns-clause-heard
+returns-clause-heard g c =
     on_ok_weaker c.take_code.result (λ h r calls kept heard.
     let code : CodeNoted c.args.self.now c.note-2.new.self r c.args.byte (c.args.self.now.fed - 3) = record {
       whole = sym c.if-not-is_whole.ensures;
@@ -36,7 +36,7 @@ returns-clause-told g c =
       kept = kept;
     } in
     subst (λ (l : List Call). g.F.Found.heard c.take_code.new.found l) (taken-calls code calls) (h _ heard))
-    c.take_code.ensures.told
+    c.take_code.ensures.heard
 
 pub returns-clause-fault : goal.returns-clause-fault
 returns-clause-fault g c =
@@ -65,8 +65,8 @@ pub returns-then-not-is_whole-clause-kept : goal.returns-then-not-is_whole-claus
 returns-then-not-is_whole-clause-kept g c =
     λ r kept. taken-plain (sym c.if-not-is_whole.ensures) c.note.ensures kept
 
-pub returns-then-not-is_whole-clause-told : goal.returns-then-not-is_whole-clause-told
-returns-then-not-is_whole-clause-told g c =
+pub returns-then-not-is_whole-clause-heard : goal.returns-then-not-is_whole-clause-heard
+returns-then-not-is_whole-clause-heard g c =
     λ r calls kept heard. subst (λ (l : List Call). g.F.Found.heard c.args.found.now l)
     (taken-none c.args.byte (sym c.if-not-is_whole.ensures) kept calls) heard
 

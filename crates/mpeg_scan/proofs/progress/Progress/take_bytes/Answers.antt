@@ -22,9 +22,9 @@ loop-at-preserved g c =
           c.skip-at.ensures.latest c.skip-at.ensures.tally i.ready;
       kept = λ r kept. subst (λ (q : List ℕ). HasRead c.skip-at.new.self q) (read-run r chunk at n)
           (c.skip-at.ensures.kept (read_after r (take at chunk)) (i.kept r kept));
-      told = λ r calls kept heard. subst (λ (l : List Call). g.F.Found.heard c.loop-at.found l)
+      heard = λ r calls kept heard. subst (λ (l : List Call). g.F.Found.heard c.loop-at.found l)
           (calls-run r chunk at n calls (c.skip-at.ensures.quiet (read_after r (take at chunk)) (i.kept r kept)))
-          (i.told r calls kept heard);
+          (i.heard r calls kept heard);
     }
 
 pub loop-at-preserved-then-at-chunk : goal.loop-at-preserved-then-at-chunk
@@ -43,15 +43,15 @@ loop-at-preserved-then-at-chunk g c =
           (c.in_ok-take_byte.ensures.kept (read_after r (take b chunk))
           (subst (λ (q : List ℕ). HasRead c.skip-at.new.self q) (read-run r chunk at n)
           (c.skip-at.ensures.kept (read_after r (take at chunk)) (i.kept r kept))));
-      told = λ r calls kept heard.
+      heard = λ r calls kept heard.
           subst (λ (q : List ℕ). g.F.Found.heard c.take_byte.new.found (calls ++ calls_of (codes_of q)))
           (read-byte r chunk b c.if-at-chunk.true)
-          (c.in_ok-take_byte.ensures.told (read_after r (take b chunk)) calls
+          (c.in_ok-take_byte.ensures.heard (read_after r (take b chunk)) calls
           (subst (λ (q : List ℕ). HasRead c.skip-at.new.self q) (read-run r chunk at n)
           (c.skip-at.ensures.kept (read_after r (take at chunk)) (i.kept r kept)))
           (subst (λ (l : List Call). g.F.Found.heard c.loop-at.found l)
           (calls-run r chunk at n calls (c.skip-at.ensures.quiet (read_after r (take at chunk)) (i.kept r kept)))
-          (i.told r calls kept heard)));
+          (i.heard r calls kept heard)));
     }
 
 pub returns-in_err-take_byte-clause-fault : goal.returns-in_err-take_byte-clause-fault
@@ -78,8 +78,8 @@ take_byte-requires g c =
           c.skip-at.ensures.latest c.skip-at.ensures.tally i.ready;
     }
 
-pub returns-in_err-take_byte-clause-told_before : goal.returns-in_err-take_byte-clause-told_before
-returns-in_err-take_byte-clause-told_before g c =
+pub returns-in_err-take_byte-clause-heard_before : goal.returns-in_err-take_byte-clause-heard_before
+returns-in_err-take_byte-clause-heard_before g c =
     let i = c.loop-at.invariant in
     let chunk = c.args.chunk.now in
     let at = c.loop-at.at in
@@ -92,12 +92,12 @@ returns-in_err-take_byte-clause-told_before g c =
     let before =
     subst (λ (l : List Call). g.F.Found.heard c.loop-at.found l)
     (calls-run r chunk at n calls (c.skip-at.ensures.quiet (read_after r (take at chunk)) (i.kept r kept)))
-    (i.told r calls kept heard) in
+    (i.heard r calls kept heard) in
     record {
       count = b;
       within = c.if-at-chunk.true;
       accepted = here.accepted;
       fault = ap (λ (q : List ℕ). first_fault (codes_of q)) (sym (read-byte r chunk b c.if-at-chunk.true))
           ∙ c.take_byte.ensures.fault f (c.in_err-take_byte.was ∙ is) (read_after r (take b chunk)) here;
-      heard = let same = c.take_byte.ensures.untold f (c.in_err-take_byte.was ∙ is) in rw same before;
+      heard = let same = c.take_byte.ensures.unheard f (c.in_err-take_byte.was ∙ is) in rw same before;
     }

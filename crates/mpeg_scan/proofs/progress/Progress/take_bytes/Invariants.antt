@@ -14,7 +14,7 @@ invariant-loop-at g l =
       room : IsAhead l.self;
       ready : AwaitsSlice (g.F.Found.ready_at l.found) (tally_with l.self.latest l.self.tally);
       kept : (r : List ℕ) → HasRead l.initial.self r → HasRead l.self (read_after r (take l.at l.chunk));
-      told : (r : List ℕ) (calls : List Call) → HasRead l.initial.self r
+      heard : (r : List ℕ) (calls : List Call) → HasRead l.initial.self r
           → g.F.Found.heard l.initial.found (calls ++ calls_of (codes_of r))
           → g.F.Found.heard l.found (calls ++ calls_of (codes_of (read_after r (take l.at l.chunk))));
     }

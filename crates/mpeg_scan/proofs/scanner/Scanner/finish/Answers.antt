@@ -40,9 +40,9 @@ returns-in-Some g c = record {
   tiled = tt;
   grammatical = tt;
   numbered = tt;
-  told = tt;
+  heard = tt;
   fault = λ f e r k. absurd (none-some c.in-Some.refused (sym k.unrefused ∙ c.in-Some.is));
-  untold = λ f e. refl;
+  unheard = λ f e. refl;
   again = λ e is. (ap Err (same_Some c.in-Some.refused e (sym c.in-Some.is ∙ is)), refl);
 }
 
