@@ -1,8 +1,7 @@
 //! A film in memory, scanned whole.
-ghost use Rattle.std.specs.Prelude.{◌≡◌, ◌≤◌, ℕ, ◌↔◌, [], Some, Err, IfOk};
+ghost use Rattle.std.specs.Prelude.{◌≡◌, ◌≤◌, [], Some, Err, IfOk};
 ghost use Rattle.mpeg_scan.specs.Films.{IsFilm, refusal, film_calls};
-ghost use Rattle.mpeg_scan.specs.Codes.{codes_of, read_after};
-ghost use Rattle.mpeg_scan.specs.Places.{HasCode, StandsAt};
+ghost use Rattle.mpeg_scan.specs.Codes.{read_after};
 ghost use Rattle.mpeg_scan.specs.Grammar.{IsGrammatical};
 ghost use Rattle.mpeg_scan.specs.Counts.{AreNumbered};
 ghost use Rattle.mpeg_scan.specs.Rates.{picture_time};
@@ -70,13 +69,4 @@ pub fn scan(alloc: Global, bytes: Vec<u8>) -> Result<Film, ScanRefused>
         units: found.units,
         slice_starts: found.slices,
     })
-}
-
-/// A law on the definitions: the start codes of a film's bytes are those that stand in them, each
-/// at its place: the bytes 00 00 01, and a kind.
-pub fn law_start_codes(bytes: &[u8])
-    ensures { (place : ℕ) (kind : ℕ) →
-        HasCode place kind (codes_of (read_after [] bytes.now)) ↔ StandsAt bytes.now place kind }
-{
-    let _ = bytes;
 }

@@ -8,7 +8,7 @@ ghost use Rattle.mpeg_scan.specs.Faults.{first_fault};
 ghost use Rattle.mpeg_scan.specs.Films.{refusal, film_calls};
 ghost use Rattle.mpeg_scan.specs.Grammar.{IsGrammatical};
 ghost use Rattle.mpeg_scan.specs.Layout.{AreInFilm, BeginsSequence, IsLaid, OfUnit};
-ghost use Rattle.mpeg_scan.specs.Places.{StandsAt};
+ghost use Rattle.mpeg_scan.specs.Places.{HasCode, StandsAt};
 ghost use Rattle.mpeg_scan.specs.Rates.{AreStandardTimes, picture_time};
 ghost use Rattle.mpeg_scan.specs.Standard.{AreFalling, ArePresented, AreUnitsOf, IsAmong};
 ghost use Rattle.mpeg_scan.specs.Standard.{IsSliceKind, IsUnitOf};
@@ -86,6 +86,13 @@ pub fn law_one_list_of_units()
 /// 1/360,000 second.
 pub fn law_picture_rates()
     ensures { AreStandardTimes picture_time }
+{}
+
+/// The start codes of a film's bytes are those that stand in them, each at its place: the bytes 00
+/// 00 01, and a kind.
+pub fn law_start_codes()
+    ensures { (bytes : List ℕ) (place kind : ℕ) →
+        HasCode place kind (codes_of (read_after [] bytes)) ↔ StandsAt bytes place kind }
 {}
 
 /// The start codes of bytes are listed in their order, each once.

@@ -16,11 +16,11 @@ mod units;
 
 pub use codes::Prefix;
 pub use faults::{FilmFault, ScanRefused};
-pub use films::{Film, law_start_codes, scan};
+pub use films::{Film, scan};
 pub use found::Found;
 pub use laws::{
     law_codes_in_order, law_film, law_one_list_of_units, law_picture_rates, law_refusals,
-    law_refused_early, law_slices, law_standard_units, law_units,
+    law_refused_early, law_slices, law_standard_units, law_start_codes, law_units,
 };
 pub use scanner::{Ending, Scanner};
 pub use units::{

@@ -54,7 +54,7 @@ const UNIT_B: Unit = Unit {
 };
 
 #[derive(Debug, PartialEq, Eq, Clone, Copy)]
-enum Told {
+enum Call {
     Head(u64, u64),
     Slice(u64, u64),
     Unit(Unit),
@@ -62,7 +62,7 @@ enum Told {
 
 #[derive(Drop)]
 struct Listener {
-    told: Vec<Told>,
+    calls: Vec<Call>,
     pictures: u64,
     keeps: bool,
 }
@@ -70,17 +70,17 @@ struct Listener {
 impl Listener {
     fn new(alloc: Global, keeps: bool) -> Listener {
         Listener {
-            told: Vec::new(alloc),
+            calls: Vec::new(alloc),
             pictures: 0,
             keeps,
         }
     }
 
-    fn hear(&mut self, told: Told) -> Result<(), NoMemory> {
+    fn hear(&mut self, call: Call) -> Result<(), NoMemory> {
         if !self.keeps {
             return Ok(());
         }
-        self.told.push(told)?;
+        self.calls.push(call)?;
         Ok(())
     }
 }
@@ -89,16 +89,16 @@ impl Found for Listener {
     ghost heard = { λ _ _. ⊤ };
 
     fn head(&mut self, from: u64, to: u64) -> Result<(), NoMemory> {
-        self.hear(Told::Head(from, to))
+        self.hear(Call::Head(from, to))
     }
 
     fn slice(&mut self, from: u64, to: u64) -> Result<(), NoMemory> {
-        self.hear(Told::Slice(from, to))
+        self.hear(Call::Slice(from, to))
     }
 
     fn unit(&mut self, unit: Unit) -> Result<(), NoMemory> {
         self.pictures = self.pictures.saturating_add(1);
-        self.hear(Told::Unit(unit))
+        self.hear(Call::Unit(unit))
     }
 }
 
@@ -138,7 +138,7 @@ fn picture_of(kind: u8) -> [u8; 8]
 #[test]
 fn units_of_films(rt: HostRuntime) -> Result<(), Fail> {
     let bytes = joined(rt.alloc(), &[&SEQUENCE, &GROUP, &PICTURE_I, &SLICE])?;
-    law_start_codes(&bytes);
+    law_start_codes();
     let film = scan(rt.alloc(), bytes)?;
     assert_eq!(rt; film.rate, 3);
     assert_eq!(rt; film.picture_time(), 14400);
@@ -228,11 +228,11 @@ fn fields_of_headers(rt: HostRuntime) -> Result<(), Fail> {
 }
 
 /// What a film tells when it is fed in two chunks, or byte by byte.
-fn told_in_chunks(
+fn calls_in_chunks(
     alloc: Global,
     film: &[u8],
     cut: Option<usize>,
-) -> Result<Vec<Told>, ScanRefused> {
+) -> Result<Vec<Call>, ScanRefused> {
     if 1000 < film.len() {
         return Err(ScanRefused::NoMemory);
     }
@@ -251,7 +251,7 @@ fn told_in_chunks(
         }
     }
     scanner.finish(&mut found)?;
-    Ok(found.told)
+    Ok(found.calls)
 }
 
 #[test]
@@ -261,18 +261,18 @@ fn cuts_change_nothing(rt: HostRuntime) -> Result<(), Fail> {
         &[&SEQUENCE, &GROUP, &PICTURE_I, &SLICE, &PICTURE_P, &SLICE],
     )?;
     let want = [
-        Told::Head(0, 28),
-        Told::Slice(28, 34),
-        Told::Unit(UNIT_A),
-        Told::Head(34, 43),
-        Told::Slice(43, 49),
-        Told::Unit(UNIT_B),
+        Call::Head(0, 28),
+        Call::Slice(28, 34),
+        Call::Unit(UNIT_A),
+        Call::Head(34, 43),
+        Call::Slice(43, 49),
+        Call::Unit(UNIT_B),
     ];
     for cut in 0..=film.len() {
-        let got = told_in_chunks(rt.alloc(), &film, Some(cut))?;
+        let got = calls_in_chunks(rt.alloc(), &film, Some(cut))?;
         assert_eq!(rt; got.as_slice(), want.as_slice(), "cut at {cut}");
     }
-    let got = told_in_chunks(rt.alloc(), &film, None)?;
+    let got = calls_in_chunks(rt.alloc(), &film, None)?;
     assert_eq!(rt; got.as_slice(), want.as_slice());
     Ok(())
 }

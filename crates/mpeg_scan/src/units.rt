@@ -84,6 +84,10 @@ pub struct Unit {
     pub starts_group: bool,
 }
 
+/// The times of a picture in 1/360,000 second, for the picture rate codes from 1 on (ISO/IEC
+/// 11172-2, 2.4.3.2).
+const PICTURE_TIMES: [u32; 8] = [15015, 15000, 14400, 12012, 12000, 7200, 6006, 6000];
+
 /// The time of a picture in 1/360,000 second, by the picture rate code of a sequence header, 1 to 8
 /// (ISO/IEC 11172-2, 2.4.3.2).
 pub fn picture_time(rate: u8) -> u32
@@ -91,14 +95,5 @@ pub fn picture_time(rate: u8) -> u32
     requires high { rate ≤ 8 }
     ensures { result ≡ picture_time rate }
 {
-    match rate {
-        1 => 15015,
-        2 => 15000,
-        3 => 14400,
-        4 => 12012,
-        5 => 12000,
-        6 => 7200,
-        7 => 6006,
-        _ => 6000,
-    }
+    PICTURE_TIMES[usize::from(rate) - 1]
 }
