@@ -363,8 +363,8 @@ pub picture-there : (Has : ℕ → ℕ → Type 0) (c : Code) (past : List Code)
     Knows Has (c ∷ past) at → Spaced (c ∷ past) →
     PictureThere Has (latest_unit (c ∷ past)) at (latest_picture (c ∷ past))
 picture-there Has c [] at k spaced =
-    picture-by {z = eqb c.kind 0} {b = true} {Has = Has} {c = c} {past = []} {at = at} {unit = 0} None refl k spaced (λ e.
-    absurd (true≢false e)) (λ e. absurd (true≢false e))
+    picture-by {z = eqb c.kind 0} {b = true} {Has = Has} {c = c} {past = []} {at = at}
+    {unit = 0} None refl k spaced (λ e. absurd (true≢false e)) (λ e. absurd (true≢false e))
 picture-there Has c (d ∷ past) at k spaced =
     let k' = older Has c (d ∷ past) at k spaced in
     picture-by

@@ -19,8 +19,8 @@ use Rattle.mpeg_scan.specs.Standard.{Counts, HasPicture, IsFirstCode, IsHeadKind
 use Rattle.mpeg_scan.specs.Standard.{NoneIn, StandsIn, StandsThere, UnitIs}
 use Rattle.mpeg_scan.proofs.StepLemmas.{accepted-older, code-accepted, otherwise-second, positive}
 use Rattle.mpeg_scan.proofs.StepLemmas.{calls-cons}
-use Rattle.mpeg_scan.proofs.TileLemmas.{Told, ended-none, first-is, first_slice-accepted, raw_calls}
-use Rattle.mpeg_scan.proofs.TileLemmas.{slice-apart, calls-nil, told_at}
+use Rattle.mpeg_scan.proofs.TileLemmas.{CodeEnds, ended-none, first-is, first_slice-accepted, raw_calls}
+use Rattle.mpeg_scan.proofs.TileLemmas.{slice-apart, calls-nil, ends_at}
 use Rattle.mpeg_scan.proofs.SpaceLemmas.{After, Spaced, all-below}
 use Rattle.mpeg_scan.proofs.CountLemmas.{empty-count, first-some, second-accepted, second-none}
 use Rattle.mpeg_scan.proofs.FilmLemmas.{units_in-append}
@@ -33,7 +33,8 @@ use Rattle.mpeg_scan.proofs.SinceLemmas.{all-slices, counts-same, few-slices, ow
 
 abbrev OpenOf : List Code → Type 0
 OpenOf past =
-    Open past (latest_unit past) (head_end_of past) (slice_count past) (latest_picture past) (has_sequence past) (starts_group past)
+    Open past (latest_unit past) (head_end_of past) (slice_count past) (latest_picture past) (has_sequence past)
+    (starts_group past)
 
 open-three : (c : Code) → c.kind ≡ 0xb3 → OpenOf (c ∷ [])
 open-three c is =
@@ -105,7 +106,8 @@ close-picture {past} {h} some header is = record {
 }
 
 in-head : {past : List Code} {n place kind : ℕ} {o : Option Header} {seq grp : Bool} (unit : PictureUnit)
-    → Open past unit.from unit.head_end n o seq grp → 0 < n → HasCode place kind past → IsHeadKind kind → place < unit.head_end
+    → Open past unit.from unit.head_end n o seq grp → 0 < n → HasCode place kind past → IsHeadKind kind
+    → place < unit.head_end
 in-head {place} {kind} {seq} unit open_ some has head = elim (cases_lt place unit.head_end) [
   | inl before ↦ before
   | inr after ↦ absurd (open_.sliced some place kind has after head)
@@ -117,7 +119,12 @@ group-closed : {past : List Code} {n : ℕ} {o : Option Header} (unit : PictureU
     → IsFirstCode (Has past) unit.from ⊎ StandsIn (Has past) unit.from unit.head_end 0xb8
 group-closed unit open_ some (inl firsts) = inl firsts
 group-closed unit open_ some (inr it) =
-    inr (record { place = it.0; code = it.1.0; after = it.1.1; before = in-head unit open_ some it.1.0 (inr (inr refl)) })
+    inr (record {
+      place = it.0;
+      code = it.1.0;
+      after = it.1.1;
+      before = in-head unit open_ some it.1.0 (inr (inr refl));
+    })
 
 group-open : (past : List Code) (unit : PictureUnit) (n : ℕ) (o : Option Header)
     → Open past unit.from unit.head_end n o unit.has_sequence unit.starts_group
@@ -126,7 +133,8 @@ group-open past unit n o open_ (inl firsts) = open_.grp_first firsts
 group-open past unit n o open_ (inr it) = open_.grp_set it.place it.code it.after
 
 close-by : {past : List Code} {unit : PictureUnit} {n : ℕ} {o : Option Header}
-    → Open past unit.from unit.head_end n o unit.has_sequence unit.starts_group → 0 < n → HasHeader unit (unwrap_or o no_header)
+    → Open past unit.from unit.head_end n o unit.has_sequence unit.starts_group → 0 < n
+    → HasHeader unit (unwrap_or o no_header)
     → ((place kind : ℕ) → HasCode place kind past → place < unit.to)
     → Counts (Has past) IsSliceKind unit.head_end unit.to unit.slices
     → Counts (Has past) IsSliceKind 0 unit.to (unit.first_slice + unit.slices) → Closed past unit
@@ -144,7 +152,12 @@ close-by {past} {unit} {n} {o = Some h} open_ some header below own all = record
     sequence = (
       λ e. let it =
           open_.seq_there e in
-          record { place = it.0; code = it.1.0; after = it.1.1; before = in-head unit open_ some it.1.0 (inr (inl refl)) },
+          record {
+            place = it.0;
+            code = it.1.0;
+            after = it.1.1;
+            before = in-head unit open_ some it.1.0 (inr (inl refl));
+          },
       λ it. open_.seq_set it.place it.code it.after,
     );
     group = (
@@ -165,7 +178,8 @@ own-first {past} {from} {place} open_ some below none slice far = elim (cases_lt
     | inl after ↦ absurd (open_.head some place slice.0 slice.1.0 (omega (arith, after, far)) less slice.1.1)
     | inr before ↦
         absurd (let head =
-        open_.begins in none (latest_unit past) head.0 head.1.0 before (below (latest_unit past) head.0 head.1.0) head.1.1)
+        open_.begins in none (latest_unit past) head.0 head.1.0 before
+        (below (latest_unit past) head.0 head.1.0) head.1.1)
   ]
   | inr more ↦ more
 ]
@@ -175,7 +189,8 @@ close : (past : List Code) (to : ℕ) → OpenOf past → Spaced past → 0 < sl
 close past to open_ spaced some below =
     let k : Knows (Has past) past to =
     record { there = λ place kind has. has; below = below; back = λ place kind has before. has } in
-    let count : film_slice_count past ≡ film_slice_count past - slice_count past + slice_count past = omega (arith, few-slices past) in
+    let count : film_slice_count past ≡ film_slice_count past - slice_count past + slice_count past =
+    omega (arith, few-slices past) in
     let header : HasHeader (unit_at (tally_of past) to) (unwrap_or (latest_picture past) no_header) =
     record { temporal = refl; kind = refl; vectors = refl } in
     close-by open_ some header below
@@ -192,12 +207,14 @@ none-grows {from} c past far none place kind (inr old) after before is = none pl
 
 stands-grows : (c : Code) (past : List Code) (from to kind : ℕ) → StandsIn (Has past) from to kind
     → StandsIn (Has (c ∷ past)) from to kind
-stands-grows c past from to kind it = record { place = it.place; code = inr it.code; after = it.after; before = it.before }
+stands-grows c past from to kind it =
+    record { place = it.place; code = inr it.code; after = it.after; before = it.before }
 
 shrinks-by : {from to kind place : ℕ} (c : Code) (past : List Code) → to ≤ c.place
     → HasCode place kind (c ∷ past) → from ≤ place → place < to → StandsIn (Has past) from to kind
 shrinks-by {from} {place} c past far (inl new) after before = absurd (omega (arith, new.0, far, before))
-shrinks-by {from} {place} c past far (inr old) after before = record { place = place; code = old; after = after; before = before }
+shrinks-by {from} {place} c past far (inr old) after before =
+    record { place = place; code = old; after = after; before = before }
 
 stands-shrinks : {from to kind : ℕ} (c : Code) (past : List Code) → to ≤ c.place
     → StandsIn (Has (c ∷ past)) from to kind → StandsIn (Has past) from to kind
@@ -239,7 +256,8 @@ counts-grow : {from to count : ℕ} (c : Code) (past : List Code) → to ≤ c.p
 counts-grow {from} {to} c past far =
     counts-same (λ place kind before has. inr has) (λ place kind before has. counts-back c past to far before has)
 
-closed-grows : (c : Code) (past : List Code) (unit : PictureUnit) → unit.to ≤ c.place → Closed past unit → Closed (c ∷ past) unit
+closed-grows : (c : Code) (past : List Code) (unit : PictureUnit) → unit.to ≤ c.place → Closed past unit
+    → Closed (c ∷ past) unit
 closed-grows c past unit far closed =
     let u = closed.unit_is in
     let p = u.picture in
@@ -306,7 +324,8 @@ all-append past at (x ∷ xs) ys one other = (one.0, all-append past at xs ys on
 all-later : (past : List Code) (at to : ℕ) (units : List PictureUnit) → at ≤ to → AllClosed past at units
     → AllClosed past to units
 all-later past at to [] far all = tt
-all-later past at to (unit ∷ units) far all = ((all.0.0, omega (arith, far, all.0.1)), all-later past at to units far all.1)
+all-later past at to (unit ∷ units) far all =
+    ((all.0.0, omega (arith, far, all.0.1)), all-later past at to units far all.1)
 
 pub all-at : {past : List Code} {unit : PictureUnit} (at : ℕ) (units : List PictureUnit) (k : ℕ)
     → slice_get units k ≡ Some unit → AllClosed past at units → Closed past unit
@@ -316,14 +335,14 @@ all-at {past} {unit} at (u ∷ units) zero is all = let same : u ≡ unit =
 all-at {past} {unit} at (u ∷ units) (suc k) is all = all-at {past = past} {unit = unit} at units k is all.1
 
 -- the unit that ends at a code, by tests: s, h: it is a slice, a head code; q, e: there were slices, there were none
-closed-call : {s h q : Bool} {c : Code} {past : List Code} (e : Bool) (told : Told) → (s ≡ true → h ≡ false)
-    → (h ≡ true → q ≡ true → Closed (c ∷ past) told.ended × (told.ended.to ≤ c.place))
-    → AllClosed (c ∷ past) c.place (units_in (raw_calls s h q e told))
-closed-call {s = true} {h} {c} true told apart closed = tt
-closed-call {s = true} {h} {c} false told apart closed = tt
-closed-call {s = false} {h = true} {q = true} {c} e told apart closed = (closed refl refl, tt)
-closed-call {s = false} {h = true} {q = false} {c} e told apart closed = tt
-closed-call {s = false} {h = false} {c} e told apart closed = tt
+closed-call : {s h q : Bool} {c : Code} {past : List Code} (e : Bool) (here : CodeEnds) → (s ≡ true → h ≡ false)
+    → (h ≡ true → q ≡ true → Closed (c ∷ past) here.ended × (here.ended.to ≤ c.place))
+    → AllClosed (c ∷ past) c.place (units_in (raw_calls s h q e here))
+closed-call {s = true} {h} {c} true here apart closed = tt
+closed-call {s = true} {h} {c} false here apart closed = tt
+closed-call {s = false} {h = true} {q = true} {c} e here apart closed = (closed refl refl, tt)
+closed-call {s = false} {h = true} {q = false} {c} e here apart closed = tt
+closed-call {s = false} {h = false} {c} e here apart closed = tt
 
 closed-step : (c d : Code) (past : List Code) → OpenOf (d ∷ past) → Spaced (d ∷ past) → Below c (d ∷ past)
     → AllClosed (c ∷ (d ∷ past)) c.place (units_in (calls_at (tally_of (d ∷ past)) c.place c.kind))
@@ -332,14 +351,15 @@ closed-step c d past open_ spaced below =
     let older : List Code = d ∷ past in
     let t = tally_of older in
     let unit = unit_at t c.place in
-    closed-call (eqb (slice_count older) 0) (told_at t c.place) (slice-apart c.kind)
+    closed-call (eqb (slice_count older) 0) (ends_at t c.place) (slice-apart c.kind)
     (λ head some. (
       closed-grows c older unit (omega arith)
           (close older c.place open_ spaced (ltb-true 0 (slice_count older) some) below),
       omega arith,
     ))
 
-closed-first : (c : Code) → c.kind ≡ 0xb3 → AllClosed (c ∷ []) c.place (units_in (calls_at (tally_of []) c.place c.kind))
+closed-first : (c : Code) → c.kind ≡ 0xb3
+    → AllClosed (c ∷ []) c.place (units_in (calls_at (tally_of []) c.place c.kind))
 unfolding calls_at
 closed-first c is =
     subst (λ m. AllClosed (c ∷ []) c.place
@@ -360,7 +380,8 @@ calls-closed c (d ∷ past) accepted spaced =
     subst (λ (l : List PictureUnit). AllClosed (c ∷ older) c.place l)
     (sym (ap units_in (calls-cons c older) ∙ units_in-append (calls_of older) calls))
     (all-append (c ∷ older) c.place (units_in (calls_of older)) (units_in calls)
-    (all-grow c older d.place (units_in (calls_of older)) (omega (arith, below d.place d.kind (inl (refl, refl)))) before)
+    (all-grow c older d.place (units_in (calls_of older))
+    (omega (arith, below d.place d.kind (inl (refl, refl)))) before)
     (closed-step c d past (open-codes d past (accepted-older c older accepted) spaced.1) spaced.1 below))
 
 pub whole-closed : (past : List Code) (n : ℕ) → first_fault past ≡ None → end_fault past n ≡ None → Spaced past
@@ -373,7 +394,8 @@ whole-closed (c ∷ past) n accepted ended spaced after =
     let below = all-below all spaced after in
     let last : AllClosed all n (units_in (unit_end (tally_of all) n)) =
     ((close all n (open-codes c past accepted spaced) spaced some below, omega arith), tt) in
-    subst (λ (l : List PictureUnit). AllClosed all n l) (sym (units_in-append (calls_of all) (unit_end (tally_of all) n)))
+    subst (λ (l : List PictureUnit). AllClosed all n l)
+    (sym (units_in-append (calls_of all) (unit_end (tally_of all) n)))
     (all-append all n (units_in (calls_of all)) (units_in (unit_end (tally_of all) n))
     (all-later all c.place n (units_in (calls_of all))
     (omega (arith, below c.place c.kind (inl (refl, refl)))) (calls-closed c past accepted spaced)) last)

@@ -37,12 +37,14 @@ unfolding latest_prefix
 matched-more x r =
     table (eqb (byte_back r 1) 0) (eqb (byte_back r 2) 0) (apart x) (apart (byte_back r 0))
 
-pub noted-by : (b : Bool) (header : List ℕ) (x : ℕ) → ltb (length header) 5 ≡ b → header_with header x ≡ cond b (header ++ x ∷ []) header
+pub noted-by : (b : Bool) (header : List ℕ) (x : ℕ) → ltb (length header) 5 ≡ b
+    → header_with header x ≡ cond b (header ++ x ∷ []) header
 unfolding header_with
 noted-by b header x e = ap (λ v. cond v (header ++ x ∷ []) header) e
 
 -- a header with room, and a full one
-pub noted-room : (bytes : List ℕ) (n x : ℕ) → n < 5 → length bytes ≡ 5 → take (n + 1) (set bytes n x) ≡ header_with (take n bytes) x
+pub noted-room : (bytes : List ℕ) (n x : ℕ) → n < 5 → length bytes ≡ 5
+    → take (n + 1) (set bytes n x) ≡ header_with (take n bytes) x
 noted-room bytes n x room five =
     let within : n < length bytes = omega arith in
     let held : n ≤ length bytes = omega arith in

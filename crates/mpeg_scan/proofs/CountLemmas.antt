@@ -20,21 +20,30 @@ use Rattle.mpeg_scan.specs.Faults.{first_fault, end_fault, last_fault, latest_fa
 use Rattle.mpeg_scan.specs.Calls.{Call, head_call, slice_call, unit_call, unit_at, unit_end}
 use Rattle.mpeg_scan.specs.Calls.{calls_at, calls_of, all_calls}
 use Rattle.mpeg_scan.specs.Counts.{Count, group_of, next_count, counts_after, no_count, AreNumbered}
-use Rattle.mpeg_scan.proofs.TileLemmas.{Told, raw_calls, told_at, slice-apart, first_slice-accepted}
+use Rattle.mpeg_scan.proofs.TileLemmas.{CodeEnds, raw_calls, ends_at, slice-apart, first_slice-accepted}
 use Rattle.mpeg_scan.proofs.TileLemmas.{first-is, calls-nil, ended-none}
 use Rattle.mpeg_scan.proofs.StepLemmas.{accepted-older, code-accepted, otherwise-first}
 use Rattle.mpeg_scan.proofs.StepLemmas.{otherwise-second, calls-cons}
 use Rattle.mpeg_scan.proofs.StepLemmas.{accepted-whole}
 
--- what a count has to do with the pictures, slices and groups of the codes: `has` says that the latest
--- unit has its picture, n are its slices
-pub record Agrees (pictures : ℕ) (has : Bool) (all n before : ℕ) (starts : Bool) (k : Count) : Type 0 where
-  pub units : pictures ≡ k.units + cond has 1 0
-  pub ended : n ≡ 0 → all ≡ k.slices
-  pub open_slice : 0 < n → all ≡ k.slices + 1
-  pub held : n ≤ all
-  pub group : before ≡ cond starts k.units k.before_group
-  pub sliced : 0 < n → has ≡ true
+-- what codes sum up to: the pictures, all slices, those of the latest unit, the pictures before its group,
+-- whether it has its picture, and whether it starts a group
+record Sums : Type 0 where
+  pictures : ℕ
+  all : ℕ
+  slices : ℕ
+  before : ℕ
+  pictured : Bool
+  starts : Bool
+
+-- what a count has to do with them
+record Agrees (s : Sums) (k : Count) : Type 0 where
+  units : s.pictures ≡ k.units + cond s.pictured 1 0
+  ended : s.slices ≡ 0 → s.all ≡ k.slices
+  open_slice : 0 < s.slices → s.all ≡ k.slices + 1
+  held : s.slices ≤ s.all
+  group : s.before ≡ cond s.starts k.units k.before_group
+  sliced : 0 < s.slices → s.pictured ≡ true
 
 -- ---- the calls, one by one
 
@@ -57,29 +66,32 @@ after_unit k starts = record {
 }
 
 -- a unit of the latest slices, numbered in its group
-record IsNext (u : PictureUnit) (all n before : ℕ) (starts : Bool) : Type 0 where
-  first : u.first_slice ≡ all - n
-  slices : u.slices ≡ n
-  group : u.starts_group ≡ starts
-  shown : u.presentation ≡ before + u.temporal
+record IsNext (u : PictureUnit) (s : Sums) : Type 0 where
+  first : u.first_slice ≡ s.all - s.slices
+  slices : u.slices ≡ s.slices
+  group : u.starts_group ≡ s.starts
+  shown : u.presentation ≡ s.before + u.temporal
 
-unit-counted : {pictures all n before : ℕ} {has starts : Bool} {k : Count} {u : PictureUnit} (from to : ℕ) →
-    Agrees pictures has all n before starts k → 0 < n → IsNext u all n before starts →
-    counts_after (Some k) (slice_call from to ∷ unit_call u ∷ []) ≡ Some (after_unit k starts)
+unit-counted : {s : Sums} {k : Count} {u : PictureUnit} (from to : ℕ) → Agrees s k → 0 < s.slices → IsNext u s
+    → counts_after (Some k) (slice_call from to ∷ unit_call u ∷ []) ≡ Some (after_unit k s.starts)
 unfolding after_unit
-unit-counted {starts} {k} {u} from to agrees some next =
+unit-counted {s} {k} {u} from to agrees some next =
     let grown : Count = record k { slices = k.slices + 1 } in
-    let same : group_of grown u ≡ cond starts k.units k.before_group = ap (λ b. cond b k.units k.before_group) group in
+    let same : group_of grown u ≡ cond s.starts k.units k.before_group =
+    ap (λ b. cond b k.units k.before_group) group in
     counts-unit grown u (omega (arith, first, slices, agrees.open_slice some, agrees.held))
     (shown ∙ ap (λ m. m + u.temporal) (agrees.group ∙ sym same))
     ∙ ap (λ m. Some (record { units = k.units + 1; slices = k.slices + 1; before_group = m })) same
   where
     open next use {first, slices, group, shown}
 
-unit-agrees : {pictures all n before : ℕ} {has starts : Bool} {k : Count}
-    → Agrees pictures has all n before starts k → 0 < n → Agrees pictures false all 0 before false (after_unit k starts)
+-- the sums before the head of a unit that is to come
+abbrev unit_ended : Sums → Sums
+unit_ended s = record s { slices = 0; pictured = false; starts = false }
+
+unit-agrees : {s : Sums} {k : Count} → Agrees s k → 0 < s.slices → Agrees (unit_ended s) (after_unit k s.starts)
 unfolding after_unit
-unit-agrees {k} agrees some = record {
+unit-agrees {s} {k} agrees some = record {
   units = agrees.units ∙ ap (λ b. k.units + cond b 1 0) (agrees.sliced some) ∙ omega arith;
   ended = λ none. agrees.open_slice some;
   open_slice = λ more. absurd (omega arith);
@@ -88,33 +100,44 @@ unit-agrees {k} agrees some = record {
   sliced = λ more. absurd (omega arith);
 }
 
+-- in a head without slices
+none-agrees : {s : Sums} {k : Count} → Agrees s k → s.slices ≡ 0 → Agrees (record s { slices = 0 }) k
+none-agrees agrees none = record {
+  units = agrees.units;
+  ended = λ e. agrees.ended none;
+  open_slice = λ more. absurd (omega arith);
+  held = omega arith;
+  group = agrees.group;
+  sliced = λ more. absurd (omega arith);
+}
+
 -- a picture, and a group header, in a head without a picture
-picture-agrees : (pictures all before : ℕ) (starts : Bool) (k : Count)
-    → Agrees pictures false all 0 before starts k → Agrees (pictures + 1) true all 0 before starts k
-picture-agrees pictures all before starts k agrees = record {
-  units = omega (arith, agrees.units);
-  ended = agrees.ended;
+picture-agrees : {s : Sums} {k : Count} → Agrees s k → s.slices ≡ 0 → s.pictured ≡ false
+    → Agrees (record s { pictures = s.pictures + 1; slices = 0; pictured = true }) k
+picture-agrees {s} {k} agrees none bare = record {
+  units = ap (λ n. n + 1) (agrees.units ∙ ap (λ b. k.units + cond b 1 0) bare) ∙ omega arith;
+  ended = λ e. agrees.ended none;
   open_slice = λ more. absurd (omega arith);
   held = omega arith;
   group = agrees.group;
   sliced = λ more. refl;
 }
 
-group-agrees : (pictures all before : ℕ) (starts : Bool) (k : Count)
-    → Agrees pictures false all 0 before starts k → Agrees pictures false all 0 pictures true k
-group-agrees pictures all before starts k agrees = record {
+group-agrees : {s : Sums} {k : Count} → Agrees s k → s.slices ≡ 0 → s.pictured ≡ false
+    → Agrees (record s { slices = 0; before = s.pictures; starts = true }) k
+group-agrees {s} {k} agrees none bare = record {
   units = agrees.units;
-  ended = agrees.ended;
+  ended = λ e. agrees.ended none;
   open_slice = λ more. absurd (omega arith);
   held = omega arith;
-  group = omega (arith, agrees.units);
+  group = agrees.units ∙ ap (λ b. k.units + cond b 1 0) bare ∙ omega arith;
   sliced = λ more. absurd (omega arith);
 }
 
 -- a slice
-first-agrees : {pictures all n before : ℕ} {has starts : Bool} {k : Count}
-    → Agrees pictures has all n before starts k → n ≡ 0 → has ≡ true → Agrees pictures has (all + 1) (n + 1) before starts k
-first-agrees {all} {starts} agrees none with_picture = record {
+first-agrees : {s : Sums} {k : Count} → Agrees s k → s.slices ≡ 0 → s.pictured ≡ true
+    → Agrees (record s { all = s.all + 1; slices = s.slices + 1 }) k
+first-agrees agrees none with_picture = record {
   units = agrees.units;
   ended = λ e. absurd (omega arith);
   open_slice = λ more. omega (arith, agrees.ended none);
@@ -123,10 +146,9 @@ first-agrees {all} {starts} agrees none with_picture = record {
   sliced = λ more. with_picture;
 }
 
-later-agrees : {pictures all n before : ℕ} {has starts : Bool} {k : Count}
-    → Agrees pictures has all n before starts k → 0 < n
-    → Agrees pictures has (all + 1) (n + 1) before starts (record k { slices = k.slices + 1 })
-later-agrees {all} {starts} agrees some = record {
+later-agrees : {s : Sums} {k : Count} → Agrees s k → 0 < s.slices
+    → Agrees (record s { all = s.all + 1; slices = s.slices + 1 }) (record k { slices = k.slices + 1 })
+later-agrees agrees some = record {
   units = agrees.units;
   ended = λ e. absurd (omega arith);
   open_slice = λ more. omega (arith, agrees.open_slice some);
@@ -135,29 +157,14 @@ later-agrees {all} {starts} agrees some = record {
   sliced = λ more. agrees.sliced some;
 }
 
--- ---- one code, over plain values: t0, t3, t8: it is a picture, a sequence header, a group header; s: a
+-- ---- one code, over plain values: t0, t3, t8: it is a picture, a sequence header, a group header; t: a
 -- slice; q: there were slices
-pub record Counted (k : Count) (calls : List Call) (pictures : ℕ) (has : Bool) (all n before : ℕ) (starts : Bool) : Type 0 where
-  pub count : Count
-  pub told : counts_after (Some k) calls ≡ Some count
-  pub agrees : Agrees pictures has all n before starts count
 
--- in a head without slices, and without a picture
-none-left : {pictures all n before : ℕ} {has starts : Bool} {k : Count}
-    → Agrees pictures has all n before starts k → n ≡ 0 → Agrees pictures has all 0 before starts k
-none-left {pictures} {all} {before} {has} {starts} {k} agrees none =
-    subst (λ m. Agrees pictures has all m before starts k) none agrees
-
-bare : {pictures all n before : ℕ} {has starts : Bool} {k : Count} → Agrees pictures has all n before starts k
-    → n ≡ 0 → has ≡ false → Agrees pictures false all 0 before starts k
-bare {pictures} {all} {before} {starts} {k} agrees none alone =
-    subst (λ b. Agrees pictures b all 0 before starts k) alone (none-left agrees none)
-
-group-bare : {pictures all n before : ℕ} {has starts : Bool} {k : Count}
-    → Agrees pictures has all n before starts k → n ≡ 0 → has ≡ false → Agrees pictures has all 0 pictures true k
-group-bare {pictures} {all} {before} {starts} {k} agrees none alone =
-    subst (λ b. Agrees pictures b all 0 pictures true k) (sym alone)
-    (group-agrees pictures all before starts k (bare agrees none alone))
+-- the count after these calls agrees with those sums
+record Counted (k : Count) (calls : List Call) (s : Sums) : Type 0 where
+  count : Count
+  count_is : counts_after (Some k) calls ≡ Some count
+  agrees : Agrees s count
 
 -- a code that fits what stands before it: s, h: it is a slice, a head code; q, has: the latest unit has slices, a
 -- picture
@@ -166,65 +173,81 @@ pub record CodeFits (s h q has : Bool) : Type 0 where
   pub alone : h ≡ true → q ≡ false → has ≡ false
   pub with_picture : s ≡ true → q ≡ false → has ≡ true
 
--- the same of a code by all those tests, after a unit of n slices
-record NextCode (t0 t3 t8 s q has : Bool) (n : ℕ) : Type 0 where
-  fits : CodeFits s (t0 || (t3 || t8)) q has
+-- the same of a code by all those tests, after codes of these sums
+record NextCode (t0 t3 t8 t q : Bool) (s : Sums) : Type 0 where
+  fits : CodeFits t (t0 || (t3 || t8)) q s.pictured
   other : t8 ≡ true → t0 ≡ false
-  some : q ≡ true → 0 < n
-  none : q ≡ false → n ≡ 0
+  some : q ≡ true → 0 < s.slices
+  none : q ≡ false → s.slices ≡ 0
 
-raw-count : {t0 t3 t8 s q : Bool} {pictures all n before : ℕ} {has starts : Bool} {k : Count} (told : Told)
-    → Agrees pictures has all n before starts k → NextCode t0 t3 t8 s q has n
-    → IsNext told.ended all n before starts
-    → Counted k (raw_calls s (t0 || (t3 || t8)) q (not q) told)
-    (cond t0 (pictures + 1) pictures) (cond t0 true (cond ((t0 || (t3 || t8)) && q) false has))
-    (cond s (all + 1) all) (cond (t0 || (t3 || t8)) 0 (cond s (n + 1) n)) (cond t8 pictures before)
-    (cond t8 true (cond ((t0 || (t3 || t8)) && q) false starts))
-raw-count {t0 = true} {s = true} told agrees code next = absurd (true≢false (code.fits.apart refl))
-raw-count {t0 = false} {t3 = true} {s = true} told agrees code next = absurd (true≢false (code.fits.apart refl))
-raw-count {t0 = false} {t3 = false} {t8 = true} {s = true} told agrees code next = absurd (true≢false (code.fits.apart refl))
-raw-count {t0 = false} {t3 = false} {t8 = false} {s = true} {q = true} {k} told agrees code next =
-    record { count = record k { slices = k.slices + 1 }; told = refl; agrees = later-agrees agrees (code.some refl) }
-raw-count {t0 = false} {t3 = false} {t8 = false} {s = true} {q = false} {k} told agrees code next =
-    record { count = k; told = refl; agrees = first-agrees agrees (code.none refl) (code.fits.with_picture refl refl) }
-raw-count {t0 = true} {t8 = true} {s = false} told agrees code next = absurd (true≢false (code.other refl))
-raw-count {t0 = true} {t8 = false} {s = false} {q = true} {pictures} {all} {before} {starts} {k} told agrees code next = record {
-  count = after_unit k starts;
-  told = unit-counted told.slice told.place agrees (code.some refl) next;
-  agrees = picture-agrees pictures all before false (after_unit k starts) (unit-agrees agrees (code.some refl));
+-- the sums after such a code
+abbrev sums_next : Bool → Bool → Bool → Bool → Bool → Sums → Sums
+sums_next t0 t3 t8 t q s = record {
+  pictures = cond t0 (s.pictures + 1) s.pictures;
+  all = cond t (s.all + 1) s.all;
+  slices = cond (t0 || (t3 || t8)) 0 (cond t (s.slices + 1) s.slices);
+  before = cond t8 s.pictures s.before;
+  pictured = cond t0 true (cond ((t0 || (t3 || t8)) && q) false s.pictured);
+  starts = cond t8 true (cond ((t0 || (t3 || t8)) && q) false s.starts);
 }
-raw-count {t0 = false} {t3 = true} {t8 = true} {s = false} {q = true} {pictures} {all} {before} {starts} {k}
-    told agrees code next = record {
-      count = after_unit k starts;
-      told = unit-counted told.slice told.place agrees (code.some refl) next;
-      agrees = group-agrees pictures all before false (after_unit k starts) (unit-agrees agrees (code.some refl));
-    }
-raw-count {t0 = false} {t3 = false} {t8 = true} {s = false} {q = true} {pictures} {all} {before} {starts} {k}
-    told agrees code next = record {
-      count = after_unit k starts;
-      told = unit-counted told.slice told.place agrees (code.some refl) next;
-      agrees = group-agrees pictures all before false (after_unit k starts) (unit-agrees agrees (code.some refl));
-    }
-raw-count {t0 = false} {t3 = true} {t8 = false} {s = false} {q = true} {starts} {k} told agrees code next = record {
-  count = after_unit k starts;
-  told = unit-counted told.slice told.place agrees (code.some refl) next;
+
+raw-count : {t0 t3 t8 t q : Bool} {s : Sums} {k : Count} (here : CodeEnds) → Agrees s k → NextCode t0 t3 t8 t q s
+    → IsNext here.ended s
+    → Counted k (raw_calls t (t0 || (t3 || t8)) q (not q) here) (sums_next t0 t3 t8 t q s)
+raw-count {t0 = true} {t = true} here agrees code next = absurd (true≢false (code.fits.apart refl))
+raw-count {t0 = false} {t3 = true} {t = true} here agrees code next = absurd (true≢false (code.fits.apart refl))
+raw-count {t0 = false} {t3 = false} {t8 = true} {t = true} here agrees code next =
+    absurd (true≢false (code.fits.apart refl))
+raw-count {t0 = false} {t3 = false} {t8 = false} {t = true} {q = true} {k} here agrees code next = record {
+  count = record k { slices = k.slices + 1 };
+  count_is = refl;
+  agrees = later-agrees agrees (code.some refl);
+}
+raw-count {t0 = false} {t3 = false} {t8 = false} {t = true} {q = false} {k} here agrees code next = record {
+  count = k;
+  count_is = refl;
+  agrees = first-agrees agrees (code.none refl) (code.fits.with_picture refl refl);
+}
+raw-count {t0 = true} {t8 = true} {t = false} here agrees code next = absurd (true≢false (code.other refl))
+raw-count {t0 = true} {t8 = false} {t = false} {q = true} {s} {k} here agrees code next = record {
+  count = after_unit k s.starts;
+  count_is = unit-counted here.slice here.place agrees (code.some refl) next;
+  agrees = picture-agrees (unit-agrees agrees (code.some refl)) refl refl;
+}
+raw-count {t0 = false} {t3 = true} {t8 = true} {t = false} {q = true} {s} {k} here agrees code next = record {
+  count = after_unit k s.starts;
+  count_is = unit-counted here.slice here.place agrees (code.some refl) next;
+  agrees = group-agrees (unit-agrees agrees (code.some refl)) refl refl;
+}
+raw-count {t0 = false} {t3 = false} {t8 = true} {t = false} {q = true} {s} {k} here agrees code next = record {
+  count = after_unit k s.starts;
+  count_is = unit-counted here.slice here.place agrees (code.some refl) next;
+  agrees = group-agrees (unit-agrees agrees (code.some refl)) refl refl;
+}
+raw-count {t0 = false} {t3 = true} {t8 = false} {t = false} {q = true} {s} {k} here agrees code next = record {
+  count = after_unit k s.starts;
+  count_is = unit-counted here.slice here.place agrees (code.some refl) next;
   agrees = unit-agrees agrees (code.some refl);
 }
-raw-count {t0 = true} {t8 = false} {s = false} {q = false} {pictures} {all} {before} {starts} {k} told agrees
-    code next = record {
-      count = k;
-      told = refl;
-      agrees =
-          picture-agrees pictures all before starts k (bare agrees (code.none refl) (code.fits.alone refl refl));
-    }
-raw-count {t0 = false} {t3 = true} {t8 = true} {s = false} {q = false} {k} told agrees code next =
-    record { count = k; told = refl; agrees = group-bare agrees (code.none refl) (code.fits.alone refl refl) }
-raw-count {t0 = false} {t3 = false} {t8 = true} {s = false} {q = false} {k} told agrees code next =
-    record { count = k; told = refl; agrees = group-bare agrees (code.none refl) (code.fits.alone refl refl) }
-raw-count {t0 = false} {t3 = true} {t8 = false} {s = false} {q = false} {k} told agrees code next =
-    record { count = k; told = refl; agrees = none-left agrees (code.none refl) }
-raw-count {t0 = false} {t3 = false} {t8 = false} {s = false} {k} told agrees code next =
-    record { count = k; told = refl; agrees = agrees }
+raw-count {t0 = true} {t8 = false} {t = false} {q = false} {k} here agrees code next = record {
+  count = k;
+  count_is = refl;
+  agrees = picture-agrees agrees (code.none refl) (code.fits.alone refl refl);
+}
+raw-count {t0 = false} {t3 = true} {t8 = true} {t = false} {q = false} {k} here agrees code next = record {
+  count = k;
+  count_is = refl;
+  agrees = group-agrees agrees (code.none refl) (code.fits.alone refl refl);
+}
+raw-count {t0 = false} {t3 = false} {t8 = true} {t = false} {q = false} {k} here agrees code next = record {
+  count = k;
+  count_is = refl;
+  agrees = group-agrees agrees (code.none refl) (code.fits.alone refl refl);
+}
+raw-count {t0 = false} {t3 = true} {t8 = false} {t = false} {q = false} {k} here agrees code next =
+    record { count = k; count_is = refl; agrees = none-agrees agrees (code.none refl) }
+raw-count {t0 = false} {t3 = false} {t8 = false} {t = false} {k} here agrees code next =
+    record { count = k; count_is = refl; agrees = agrees }
 
 -- ---- all codes
 
@@ -266,11 +289,16 @@ second-accepted t place kind e =
     (otherwise-second (kind_fault t place kind)
     (first_refusal (second_fault t kind) (first_refusal (first_slice_fault t place kind) (count_fault t place kind))) e)
 
--- the count of codes
-abbrev CountedBy : Count → List Call → List Code → Type 0
-CountedBy k calls past =
-    Counted k calls (picture_count past) (is_some (latest_picture past)) (film_slice_count past) (slice_count past)
-    (before_group_of past) (starts_group past)
+-- what these codes sum up to
+abbrev sums_of : List Code → Sums
+sums_of past = record {
+  pictures = picture_count past;
+  all = film_slice_count past;
+  slices = slice_count past;
+  before = before_group_of past;
+  pictured = is_some (latest_picture past);
+  starts = starts_group past;
+}
 
 pub empty-count : (n : ℕ) → ltb 0 n ≡ false → n ≡ 0
 empty-count n h = let none = ltb-false 0 n h in omega arith
@@ -289,10 +317,8 @@ code-fits c d past e =
     }
 
 code-count : (c d : Code) (past : List Code) (k : Count)
-    → code_fault (tally_of (d ∷ past)) c.place c.kind ≡ None
-    → Agrees (picture_count (d ∷ past)) (is_some (latest_picture (d ∷ past))) (film_slice_count (d ∷ past))
-    (slice_count (d ∷ past)) (before_group_of (d ∷ past)) (starts_group (d ∷ past)) k
-    → CountedBy k (calls_at (tally_of (d ∷ past)) c.place c.kind) (c ∷ (d ∷ past))
+    → code_fault (tally_of (d ∷ past)) c.place c.kind ≡ None → Agrees (sums_of (d ∷ past)) k
+    → Counted k (calls_at (tally_of (d ∷ past)) c.place c.kind) (sums_of (c ∷ (d ∷ past)))
 unfolding calls_at
 code-count c d past k e agrees =
     let older : List Code = d ∷ past in
@@ -300,45 +326,53 @@ code-count c d past k e agrees =
     let n = slice_count older in
     let q = ltb 0 n in
     let u = unit_at t c.place in
-    let code : NextCode (eqb c.kind 0) (eqb c.kind 0xb3) (eqb c.kind 0xb8) (is_slice c.kind) q
-    (is_some (latest_picture older)) n = record {
+    let s : Sums = sums_of (c ∷ older) in
+    let code : NextCode (eqb c.kind 0) (eqb c.kind 0xb3) (eqb c.kind 0xb8) (is_slice c.kind) q (sums_of older) =
+    record {
       fits = code-fits c d past e;
       other = λ group. ap (λ m. eqb m 0) (eqb-true c.kind 0xb8 group);
       some = ltb-true 0 n;
       none = empty-count n;
     } in
-    let next : IsNext u (film_slice_count older) n (before_group_of older) (starts_group older) =
-    record { first = refl; slices = refl; group = refl; shown = refl } in
-    let raw = raw-count (told_at t c.place) agrees code next in
+    let next : IsNext u (sums_of older) = record { first = refl; slices = refl; group = refl; shown = refl } in
+    let raw = raw-count (ends_at t c.place) agrees code next in
     let calls : List Call =
     cond (is_slice c.kind) (cond (not q) (head_call t.unit c.place ∷ []) (slice_call t.slice c.place ∷ []))
     (cond (is_head c.kind && q) (slice_call t.slice c.place ∷ unit_call u ∷ []) []) in
-    let with_has =
-    subst (λ b. Counted k calls (picture_count (c ∷ older)) b (film_slice_count (c ∷ older))
-    (slice_count (c ∷ older)) (before_group_of (c ∷ older))
-    (cond (eqb c.kind 0xb8) true (cond (is_head c.kind && q) false (starts_group older))))
+    let rest : Bool = cond (is_head c.kind && q) false (starts_group older) in
+    let with_picture =
+    subst (λ b. Counted k calls (record s { pictured = b; starts = cond (eqb c.kind 0xb8) true rest }))
     (sym (some-cond (eqb c.kind 0) (is_head c.kind && q) (header_of c) (latest_picture older))) raw in
     let with_starts =
-    subst (λ b. Counted k calls (picture_count (c ∷ older)) (is_some (latest_picture (c ∷ older)))
-    (film_slice_count (c ∷ older)) (slice_count (c ∷ older)) (before_group_of (c ∷ older))
-    (cond b true (cond (is_head c.kind && q) false (starts_group older)))) (sym (or-false (eqb c.kind 0xb8))) with_has in
-    subst (λ b. CountedBy k
+    subst (λ b. Counted k calls (record s { starts = cond b true rest })) (sym (or-false (eqb c.kind 0xb8)))
+    with_picture in
+    subst (λ b. Counted k
     (cond (is_slice c.kind) (cond b (head_call t.unit c.place ∷ []) (slice_call t.slice c.place ∷ []))
-    (cond (is_head c.kind && q) (slice_call t.slice c.place ∷ unit_call u ∷ []) [])) (c ∷ older))
+    (cond (is_head c.kind && q) (slice_call t.slice c.place ∷ unit_call u ∷ []) [])) s)
     (sym (none-or-some n)) with_starts
 
-first-count : (c : Code) → c.kind ≡ 0xb3 → CountedBy no_count (calls_at (tally_of []) c.place c.kind) (c ∷ [])
+-- the sums of one code of a kind
+abbrev first_sums : Code → ℕ → Sums
+first_sums c kind = record {
+  pictures = cond (eqb kind 0) (0 + 1) 0;
+  all = cond (is_slice kind) (0 + 1) 0;
+  slices = cond (is_head kind) 0 (cond (is_slice kind) (0 + 1) 0);
+  before = cond (eqb kind 0xb8) 0 0;
+  pictured =
+      is_some (cond (eqb kind 0) (Some (header_of c)) (cond (true || (is_head kind && ltb 0 0)) None None));
+  starts = cond (eqb kind 0xb8 || true) true (cond (true || (is_head kind && ltb 0 0)) false false);
+}
+
+first-count : (c : Code) → c.kind ≡ 0xb3
+    → Counted no_count (calls_at (tally_of []) c.place c.kind) (sums_of (c ∷ []))
 unfolding calls_at
 first-count c is =
     subst (λ m. Counted no_count
     (cond (is_slice m) (cond (eqb 0 0) (head_call 0 c.place ∷ []) (slice_call 0 c.place ∷ []))
-    (cond (is_head m && ltb 0 0) (unit_end (tally_of []) c.place) [])) (cond (eqb m 0) (0 + 1) 0)
-    (is_some (cond (eqb m 0) (Some (header_of c)) (cond (true || (is_head m && ltb 0 0)) None None)))
-    (cond (is_slice m) (0 + 1) 0) (cond (is_head m) 0 (cond (is_slice m) (0 + 1) 0)) (cond (eqb m 0xb8) 0 0)
-    (cond (eqb m 0xb8 || true) true (cond (true || (is_head m && ltb 0 0)) false false))) (sym is)
+    (cond (is_head m && ltb 0 0) (unit_end (tally_of []) c.place) [])) (first_sums c m)) (sym is)
     (record {
       count = no_count;
-      told = refl;
+      count_is = refl;
       agrees = record {
         units = refl;
         ended = λ e. refl;
@@ -359,18 +393,20 @@ counts-append None a b =
 counts-append (Some k) [] b = refl
 counts-append (Some k) (call ∷ a) b = counts-append (next_count k call) a b
 
-calls-counted : (c : Code) (past : List Code) → first_fault (c ∷ past) ≡ None → CountedBy no_count (calls_of (c ∷ past)) (c ∷ past)
+calls-counted : (c : Code) (past : List Code) → first_fault (c ∷ past) ≡ None
+    → Counted no_count (calls_of (c ∷ past)) (sums_of (c ∷ past))
 calls-counted c [] accepted =
     let start = first-count c (first-is c accepted) in
-    subst (λ (l : List Call). CountedBy no_count l (c ∷ []))
+    subst (λ (l : List Call). Counted no_count l (sums_of (c ∷ [])))
     (sym (calls-cons c [] ∙ ap (λ (l : List Call). l ++ calls_at (tally_of []) c.place c.kind) calls-nil)) start
 calls-counted c (d ∷ past) accepted =
     let before = calls-counted d past (accepted-older c (d ∷ past) accepted) in
     let more = code-count c d past before.count (code-accepted c (d ∷ past) accepted) before.agrees in record {
       count = more.count;
-      told = ap (counts_after (Some no_count)) (calls-cons c (d ∷ past))
+      count_is = ap (counts_after (Some no_count)) (calls-cons c (d ∷ past))
           ∙ counts-append (Some no_count) (calls_of (d ∷ past)) (calls_at (tally_of (d ∷ past)) c.place c.kind)
-          ∙ ap (λ (o : Option Count). counts_after o (calls_at (tally_of (d ∷ past)) c.place c.kind)) before.told ∙ more.told;
+          ∙ ap (λ (o : Option Count). counts_after o (calls_at (tally_of (d ∷ past)) c.place c.kind)) before.count_is
+          ∙ more.count_is;
       agrees = more.agrees;
     }
 
@@ -387,12 +423,12 @@ whole-count (c ∷ past) n accepted ended =
     let all : List Code = c ∷ past in
     let some = ended-none (tally_of all) (otherwise-second (latest_fault all n) (last_fault (tally_of all)) ended) in
     let k = calls-counted c past accepted in
-    let next : IsNext (unit_at (tally_of all) n) (film_slice_count all) (slice_count all) (before_group_of all)
-    (starts_group all) = record { first = refl; slices = refl; group = refl; shown = refl } in
+    let next : IsNext (unit_at (tally_of all) n) (sums_of all) =
+    record { first = refl; slices = refl; group = refl; shown = refl } in
     let end = unit-counted (latest_slice all) n k.agrees some next in record {
       last = after_unit k.count (starts_group all);
       counted = counts-append (Some no_count) (calls_of all) (unit_end (tally_of all) n)
-          ∙ ap (λ (o : Option Count). counts_after o (unit_end (tally_of all) n)) k.told ∙ end;
+          ∙ ap (λ (o : Option Count). counts_after o (unit_end (tally_of all) n)) k.count_is ∙ end;
       units = sym (k.agrees.units ∙ ap (λ b. k.count.units + cond b 1 0) (k.agrees.sliced some));
     }
 

@@ -52,7 +52,8 @@ refusal-some r f some short is =
 apart : (f : FilmFault) → first_fault (codes_of []) ≡ Some f → ⊥
 apart f is = let none = first_fault-none in cc
 
-refusal-at : (r : List ℕ) (f : FilmFault) → length r ≤ 2 ^ 40 → first_fault (codes_of r) ≡ Some f → refusal_of r ≡ Some f
+refusal-at : (r : List ℕ) (f : FilmFault) → length r ≤ 2 ^ 40 → first_fault (codes_of r) ≡ Some f
+    → refusal_of r ≡ Some f
 refusal-at [] f short is = absurd (apart f is)
 refusal-at (x ∷ r) f short is = refusal-some (x ∷ r) f (omega arith) short is
 

@@ -23,8 +23,8 @@ use Rattle.mpeg_scan.proofs.StepLemmas.{accepted-older, otherwise-first, otherwi
 use Rattle.mpeg_scan.proofs.StepLemmas.{calls-cons}
 use Rattle.mpeg_scan.proofs.StepLemmas.{some-cond-none}
 use Rattle.mpeg_scan.proofs.StepLemmas.{accepted-whole}
-use Rattle.mpeg_scan.proofs.TileLemmas.{Told, ended-none, first-is, raw_calls}
-use Rattle.mpeg_scan.proofs.TileLemmas.{slice-apart, calls-nil, told_at}
+use Rattle.mpeg_scan.proofs.TileLemmas.{CodeEnds, ended-none, first-is, raw_calls}
+use Rattle.mpeg_scan.proofs.TileLemmas.{slice-apart, calls-nil, ends_at}
 use Rattle.mpeg_scan.proofs.SpaceLemmas.{Spaced, all-below, placed-codes}
 use Rattle.mpeg_scan.proofs.BoundLemmas.{older-judged, sequence-judged}
 use Rattle.mpeg_scan.proofs.FilmLemmas.{length-read, units_in-append}
@@ -58,20 +58,26 @@ record SliceApart (s h b8 : Bool) : Type 0 where
   no_group : s ≡ true → b8 ≡ false
 
 -- one code more, by those tests; q, e: there were slices, there were none
-raw-first : {s h b8 : Bool} (q e : Bool) (units : List PictureUnit) (told : Told) → SliceApart s h b8
-    → FirstStarts units told.ended.starts_group
-    → FirstStarts (units ++ units_in (raw_calls s h q e told))
-    (cond (b8 || false) true (cond (h && q) false told.ended.starts_group))
-raw-first {s = true} {h = true} q e units told apart first = absurd (true≢false (apart.no_head refl))
-raw-first {s = true} {h = false} {b8 = true} q e units told apart first = absurd (true≢false (apart.no_group refl))
-raw-first {s = true} {h = false} {b8 = false} q true units told apart first = first-same units told.ended.starts_group first
-raw-first {s = true} {h = false} {b8 = false} q false units told apart first = first-same units told.ended.starts_group first
-raw-first {s = false} {h = true} {b8} true e units told apart first =
-    first-more units told.ended told.ended.starts_group (cond (b8 || false) true false) first refl
-raw-first {s = false} {h = true} {b8 = true} false e units told apart first = first-true units told.ended.starts_group first
-raw-first {s = false} {h = true} {b8 = false} false e units told apart first = first-same units told.ended.starts_group first
-raw-first {s = false} {h = false} {b8 = true} q e units told apart first = first-true units told.ended.starts_group first
-raw-first {s = false} {h = false} {b8 = false} q e units told apart first = first-same units told.ended.starts_group first
+raw-first : {s h b8 : Bool} (q e : Bool) (units : List PictureUnit) (here : CodeEnds) → SliceApart s h b8
+    → FirstStarts units here.ended.starts_group
+    → FirstStarts (units ++ units_in (raw_calls s h q e here))
+    (cond (b8 || false) true (cond (h && q) false here.ended.starts_group))
+raw-first {s = true} {h = true} q e units here apart first = absurd (true≢false (apart.no_head refl))
+raw-first {s = true} {h = false} {b8 = true} q e units here apart first = absurd (true≢false (apart.no_group refl))
+raw-first {s = true} {h = false} {b8 = false} q true units here apart first =
+    first-same units here.ended.starts_group first
+raw-first {s = true} {h = false} {b8 = false} q false units here apart first =
+    first-same units here.ended.starts_group first
+raw-first {s = false} {h = true} {b8} true e units here apart first =
+    first-more units here.ended here.ended.starts_group (cond (b8 || false) true false) first refl
+raw-first {s = false} {h = true} {b8 = true} false e units here apart first =
+    first-true units here.ended.starts_group first
+raw-first {s = false} {h = true} {b8 = false} false e units here apart first =
+    first-same units here.ended.starts_group first
+raw-first {s = false} {h = false} {b8 = true} q e units here apart first =
+    first-true units here.ended.starts_group first
+raw-first {s = false} {h = false} {b8 = false} q e units here apart first =
+    first-same units here.ended.starts_group first
 
 head-other : (a b c : Bool) → (a || (b || c)) ≡ false → c ≡ false
 head-other true b c e = absurd (true≢false e)
@@ -89,9 +95,10 @@ first-step c d past units first =
     let t = tally_of older in
     let apart : SliceApart (is_slice c.kind) (is_head c.kind) (eqb c.kind 0xb8) =
     record { no_head = slice-apart c.kind; no_group = slice-other c.kind } in
-    raw-first (ltb 0 (slice_count older)) (eqb (slice_count older) 0) units (told_at t c.place) apart first
+    raw-first (ltb 0 (slice_count older)) (eqb (slice_count older) 0) units (ends_at t c.place) apart first
 
-first-code : (c : Code) → c.kind ≡ 0xb3 → FirstStarts (units_in (calls_at (tally_of []) c.place c.kind)) (starts_group (c ∷ []))
+first-code : (c : Code) → c.kind ≡ 0xb3 → FirstStarts (units_in (calls_at (tally_of []) c.place c.kind))
+    (starts_group (c ∷ []))
 unfolding calls_at
 first-code c is =
     subst (λ m. FirstStarts
@@ -128,7 +135,8 @@ whole-first [] n accepted ended = absurd (omega (arith, ended-none (tally_of [])
 whole-first (c ∷ past) n accepted ended =
     let all : List Code = c ∷ past in
     subst (λ (l : List PictureUnit). StartsGroup l) (sym (units_in-append (calls_of all) (unit_end (tally_of all) n)))
-    (first-last (units_in (calls_of all)) (unit_at (tally_of all) n) (starts_group all) (calls-first c past accepted) refl)
+    (first-last (units_in (calls_of all)) (unit_at (tally_of all) n) (starts_group all)
+    (calls-first c past accepted) refl)
 
 starts-some : (units : List PictureUnit) → StartsGroup units → 0 < length units
 starts-some [] starts = absurd starts
@@ -137,7 +145,8 @@ starts-some (unit ∷ units) starts = omega arith
 starts-first : (units : List PictureUnit) → StartsGroup units → (unit : PictureUnit)
     → slice_get units 0 ≡ Some unit → unit.starts_group ≡ true
 starts-first [] starts unit is = cc
-starts-first (u ∷ units) starts unit is = let same : u ≡ unit = cc in ap (λ (v : PictureUnit). v.starts_group) (sym same) ∙ starts
+starts-first (u ∷ units) starts unit is =
+    let same : u ≡ unit = cc in ap (λ (v : PictureUnit). v.starts_group) (sym same) ∙ starts
 
 film-starts : (bytes : List ℕ) (rate : ℕ) (units : List PictureUnit) (starts : List ℕ)
     → IsFilm bytes rate units starts → StartsGroup units
@@ -201,7 +210,8 @@ first_in-rate c [] accepted =
 first_in-rate c (d ∷ past) accepted =
     ap (λ (rate : Option ℕ). rate_after rate c) (first_in-rate d past (accepted-older c (d ∷ past) accepted))
 
-long-header : (rate : Option ℕ) (c : Code) (end : ℕ) → c.kind ≡ 0xb3 → header_fault rate c end ≡ None → c.place + 12 ≤ end
+long-header : (rate : Option ℕ) (c : Code) (end : ℕ) → c.kind ≡ 0xb3 → header_fault rate c end ≡ None
+    → c.place + 12 ≤ end
 long-header rate c end is e =
     let test : eqb c.kind 0xb3 ≡ true = eq-eqb c.kind 0xb3 is in
     let judged =
@@ -233,7 +243,8 @@ first-there bytes (c ∷ past) codes spaced ended =
     )
 
 -- the first unit begins at the first code
-pub film-first : (bytes : List ℕ) (rate : ℕ) (units : List PictureUnit) (starts : List ℕ) → IsFilm bytes rate units starts
+pub film-first : (bytes : List ℕ) (rate : ℕ) (units : List PictureUnit) (starts : List ℕ)
+    → IsFilm bytes rate units starts
     → StandsThere (StandsAt bytes) (first_of (codes_of (read_after [] bytes))) AnyKind
     × IsFirstCode (StandsAt bytes) (first_of (codes_of (read_after [] bytes)))
 film-first bytes rate units starts film =
@@ -279,7 +290,8 @@ record Begins (bytes : List ℕ) (past : List Code) : Type 0 where
   begins : BeginsSequence bytes (rate_of past) (first_of past)
 
 codes-begin : (bytes : List ℕ) (past : List Code) → codes_of (read_after [] bytes) ≡ past → first_fault past ≡ None
-    → end_fault past (length (read_after [] bytes)) ≡ None → HeadersAre (read_after [] bytes) (length (read_after [] bytes)) past → Begins bytes past
+    → end_fault past (length (read_after [] bytes)) ≡ None
+    → HeadersAre (read_after [] bytes) (length (read_after [] bytes)) past → Begins bytes past
 unfolding end_fault
 codes-begin bytes [] codes accepted ended headers = absurd (omega (arith, ended-none (tally_of []) ended))
 codes-begin bytes (c ∷ past) codes accepted ended headers =
@@ -287,7 +299,8 @@ codes-begin bytes (c ∷ past) codes accepted ended headers =
     let n = length r in
     let judged = otherwise-first (latest_fault (c ∷ past) n) (last_fault (tally_of (c ∷ past))) ended in
     let f = first_in c past in
-    let are : AreJudged r c past n n = record { accepted = accepted; judged = judged; far = omega arith; headers = headers } in
+    let are : AreJudged r c past n n =
+    record { accepted = accepted; judged = judged; far = omega arith; headers = headers } in
     let header = first_in-header are in
     let long : length r ≡ length bytes = length-read bytes [] ∙ omega arith in
     let place : first_of (c ∷ past) ≡ f.place = first_in-place c past in
@@ -299,7 +312,8 @@ codes-begin bytes (c ∷ past) codes accepted ended headers =
     header-byte 3 same (omega arith) (omega (arith, header.long)) header.is in
     let here : f.place + 4 + 3 ≡ f.place + 7 = omega arith in
     let rate : rate_of (c ∷ past) ≡ get_or bytes (f.place + 7) 0 % 16 =
-    ap (λ (o : Option ℕ). unwrap_or o 0) (first_in-rate c past accepted) ∙ ap (λ b. b % 16) (byte ∙ ap (λ i. get_or bytes i 0) here) in
+    ap (λ (o : Option ℕ). unwrap_or o 0) (first_in-rate c past accepted)
+    ∙ ap (λ b. b % 16) (byte ∙ ap (λ i. get_or bytes i 0) here) in
     record {
       begins = subst (λ p. BeginsSequence bytes (rate_of (c ∷ past)) p) (sym place) (record {
         code = (codes-stand bytes f.place 0xb3).0 has;
@@ -316,7 +330,8 @@ chained-first from to (u ∷ units) unit is chained = let same : u ≡ unit =
 
 -- the first unit begins with the sequence header of the film's rate
 pub film-begins : {bytes : List ℕ} {rate : ℕ} {units : List PictureUnit} {starts : List ℕ}
-    → IsFilm bytes rate units starts → (unit : PictureUnit) → slice_get units 0 ≡ Some unit → BeginsSequence bytes rate unit.from
+    → IsFilm bytes rate units starts → (unit : PictureUnit) → slice_get units 0 ≡ Some unit
+    → BeginsSequence bytes rate unit.from
 film-begins {bytes} {rate} {units} {starts} film unit is =
     let r = read_after [] bytes in
     let none = accepted-whole r film.accepted in

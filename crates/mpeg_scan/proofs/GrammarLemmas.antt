@@ -75,13 +75,15 @@ first-phase c is =
     ≡ Some (phase_by (ltb 0 (cond (is_head m) 0 (cond (is_slice m) (0 + 1) 0)))
     (is_some (cond (eqb m 0) (Some (header_of c)) (cond (true || (is_head m && ltb 0 0)) None None))))) (sym is) refl
 
-phase-is : (c : Code) (past : List Code) → first_fault (c ∷ past) ≡ None → phase_after (c ∷ past) ≡ Some (phase_of (c ∷ past))
+phase-is : (c : Code) (past : List Code) → first_fault (c ∷ past) ≡ None
+    → phase_after (c ∷ past) ≡ Some (phase_of (c ∷ past))
 phase-is c [] accepted = first-phase c (first-is c accepted)
 phase-is c (d ∷ past) accepted =
     ap (λ (o : Option Phase). then_phase o c.kind) (phase-is d past (accepted-older c (d ∷ past) accepted))
     ∙ phase-step c d past (code-accepted c (d ∷ past) accepted)
 
-whole-phase : (past : List Code) (n : ℕ) → first_fault past ≡ None → end_fault past n ≡ None → phase_after past ≡ Some in_slices
+whole-phase : (past : List Code) (n : ℕ) → first_fault past ≡ None → end_fault past n ≡ None
+    → phase_after past ≡ Some in_slices
 unfolding end_fault
 whole-phase [] n accepted ended = absurd (omega (arith, ended-none (tally_of []) ended))
 whole-phase (c ∷ past) n accepted ended =

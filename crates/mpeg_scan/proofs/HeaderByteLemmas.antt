@@ -32,7 +32,8 @@ header-stays x r stop c is = record {
       ∙ sym (at-older x r (c.place + 4 + k) (λ e. absurd (omega (arith, is.within, is.after, is.count))));
 }
 
-headers-stay : (x : ℕ) (r : List ℕ) (stop : ℕ) (past : List Code) → HeadersAre r stop past → HeadersAre (x ∷ r) stop past
+headers-stay : (x : ℕ) (r : List ℕ) (stop : ℕ) (past : List Code) → HeadersAre r stop past
+    → HeadersAre (x ∷ r) stop past
 headers-stay x r stop [] are = tt
 headers-stay x r stop (c ∷ past) are = (header-stays x r stop c are.0, headers-stay x r (c.place + 4) past are.1)
 
@@ -55,7 +56,8 @@ room-more x r c room is = record {
   ];
 }
 
-full-more : (x : ℕ) (r : List ℕ) (c : Code) → 5 ≤ length c.header → HeaderIs r (length r) c → HeaderIs (x ∷ r) (suc (length r)) c
+full-more : (x : ℕ) (r : List ℕ) (c : Code) → 5 ≤ length c.header → HeaderIs r (length r) c
+    → HeaderIs (x ∷ r) (suc (length r)) c
 full-more x r c full is = record {
   after = omega (arith, is.after);
   within = omega arith;
@@ -92,8 +94,11 @@ codes-headers (x ∷ r) = elim (cases_Bool (is_whole (latest_prefix r))) [
         count = omega (arith, ends);
         each = λ k below. absurd (omega (arith, below));
       } in
-      subst (λ (l : List Code). HeadersAre (x ∷ r) (suc (length r)) l) (sym (codes-code x r e))
-      (one, subst (λ s. HeadersAre (x ∷ r) s (note_latest (codes_of r) x)) stop (headers-more x r (codes_of r) (codes-headers r))))
+      subst (λ (l : List Code). HeadersAre (x ∷ r) (suc (length r)) l) (sym (codes-code x r e)) (
+        one,
+        subst (λ s. HeadersAre (x ∷ r) s (note_latest (codes_of r) x)) stop
+            (headers-more x r (codes_of r) (codes-headers r)),
+      ))
   | inr e ↦ subst (λ (l : List Code). HeadersAre (x ∷ r) (suc (length r)) l) (sym (codes-plain x r e))
       (headers-more x r (codes_of r) (codes-headers r))
 ]

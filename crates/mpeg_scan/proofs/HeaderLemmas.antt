@@ -138,13 +138,15 @@ pub record Header (Has : ℕ → ℕ →
   pub fits : Fits bytes at c
   pub rate_is : RateIs Has bytes c.place rate
 
-kind-is : {Has : ℕ → ℕ → Type 0} {bytes : List ℕ} {c : Code} {past : List Code} {at : ℕ} {rate : Option ℕ} {place kind : ℕ} →
+kind-is : {Has : ℕ → ℕ → Type 0} {bytes : List ℕ} {c : Code} {past : List Code} {at : ℕ} {rate : Option ℕ}
+    {place kind : ℕ} →
     Header Has bytes c past at rate → IsLatest Has place kind at → (c.place ≡ place)
     × (c.kind ≡ kind)
 kind-is {Has} {c} {at} {place} h l =
     latest-is h.knows h.spaced l
 
-latest-kind : {Has : ℕ → ℕ → Type 0} {bytes : List ℕ} {c : Code} {past : List Code} {at : ℕ} {rate : Option ℕ} {kind : ℕ} →
+latest-kind : {Has : ℕ → ℕ → Type 0} {bytes : List ℕ} {c : Code} {past : List Code} {at : ℕ} {rate : Option ℕ}
+    {kind : ℕ} →
     Header Has bytes c past at rate → c.kind ≡ kind → IsLatest Has c.place kind at
 latest-kind {Has} {c} {past} {at} h is =
     subst (λ k. IsLatest Has c.place k at) is (latest-new Has c past at h.knows h.spaced)
@@ -162,7 +164,8 @@ no-type {Has} {c} {at} h other f p =
     other (kind-is h p.latest).1
 
 -- the fewest bytes of a header
-short-new : {Has : ℕ → ℕ → Type 0} {bytes : List ℕ} {c : Code} {past : List Code} {at : ℕ} {rate : Option ℕ} {kind : ℕ} →
+short-new : {Has : ℕ → ℕ → Type 0} {bytes : List ℕ} {c : Code} {past : List Code} {at : ℕ} {rate : Option ℕ}
+    {kind : ℕ} →
     Header Has bytes c past at rate → c.kind ≡ kind → IsHeadKind kind →
     at < c.place + header_bytes bytes c.place kind →
     IsShortHeader Has bytes at (ShortHeader c.place)
@@ -207,10 +210,15 @@ sequence-decides {Has} {bytes} {c} {past} {at} {rate} h is =
     let short = short-here h in
     both-cond {P = IsShortHeader Has bytes at} {Q = Otherwise (IsBadRate Has bytes at) (IsBadType Has bytes at)}
     {b = ltb (at - c.place) 12} {h = ShortHeader c.place} {o = rate_fault rate c}
-    (λ e. short-new {Has = Has} {bytes = bytes} {c = c} {past = past} {at = at} {rate = rate} {kind = 0xb3} h is (inr (inl refl))
+    (λ e. short-new {Has = Has} {bytes = bytes} {c = c} {past = past} {at = at} {rate = rate} {kind = 0xb3} h is
+    (inr (inl refl))
     (omega (arith, ltb-true (at - c.place) 12 e)))
     (λ g p. (
-      lt-ltb (at - c.place) 12 (omega (arith, short-at {bytes = bytes} {c = c} {at = at} {kind = 0xb3} {f = g} is (short g p))),
+      lt-ltb (at - c.place) 12 (omega (
+        arith,
+        short-at {bytes = bytes} {c = c} {at = at} {kind = 0xb3} {f = g} is
+            (short g p),
+      )),
       (short g p).is,
     ))
     (λ e. let far : c.place + 12 ≤ at = omega (arith, ltb-false (at - c.place) 12 e) in
@@ -244,10 +252,15 @@ group-decides {Has} {bytes} {c} {past} {at} {rate} h is =
     let short = short-here h in
     both-cond {P = IsShortHeader Has bytes at} {Q = Otherwise (IsBadRate Has bytes at) (IsBadType Has bytes at)}
     {b = ltb (at - c.place) 8} {h = ShortHeader c.place} {o = None}
-    (λ e. short-new {Has = Has} {bytes = bytes} {c = c} {past = past} {at = at} {rate = rate} {kind = 0xb8} h is (inr (inr refl))
+    (λ e. short-new {Has = Has} {bytes = bytes} {c = c} {past = past} {at = at} {rate = rate} {kind = 0xb8} h is
+    (inr (inr refl))
     (omega (arith, ltb-true (at - c.place) 8 e)))
     (λ g p. (
-      lt-ltb (at - c.place) 8 (omega (arith, short-at {bytes = bytes} {c = c} {at = at} {kind = 0xb8} {f = g} is (short g p))),
+      lt-ltb (at - c.place) 8 (omega (
+        arith,
+        short-at {bytes = bytes} {c = c} {at = at} {kind = 0xb8} {f = g} is
+            (short g p),
+      )),
       (short g p).is,
     ))
     (λ _. none-of (Otherwise (IsBadRate Has bytes at) (IsBadType Has bytes at))

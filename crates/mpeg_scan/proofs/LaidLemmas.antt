@@ -26,7 +26,8 @@ laid-at {unit} end starts (first ∷ units) zero is laid =
 laid-at end starts (first ∷ units) (suc k) is laid = laid-at end starts units k is laid.1
 
 -- one slice more
-in_order-more : (cur : List ℕ) (head at b : ℕ) → AreInOrder head cur at → at + 4 ≤ b → AreInOrder head (cur ++ at ∷ []) b
+in_order-more : (cur : List ℕ) (head at b : ℕ) → AreInOrder head cur at → at + 4 ≤ b
+    → AreInOrder head (cur ++ at ∷ []) b
 in_order-more [] head at b order least = (sym order, (omega (arith, order, least), refl))
 in_order-more (s ∷ []) head at b order least = (order.0, (order.1.0, (refl, (least, refl))))
 in_order-more (s ∷ (next ∷ cur)) head at b order least =
@@ -58,7 +59,8 @@ Stands (within from head_end at n) past = Inside from head_end at n past
 
 -- where the parts go on to an end, the next one fits
 pub part-fits : (b : Bool) (p : Part) (calls : List Call) (to : ℕ)
-    → parts_after (cond b (Some p) None) calls ≡ Some (between to) → (b ≡ true) × (parts_after (Some p) calls ≡ Some (between to))
+    → parts_after (cond b (Some p) None) calls ≡ Some (between to)
+    → (b ≡ true) × (parts_after (Some p) calls ≡ Some (between to))
 part-fits true p calls to e = (refl, e)
 part-fits false p [] to e = cc
 part-fits false p (call ∷ calls) to e = cc
@@ -68,7 +70,8 @@ place_of : Part → ℕ
 place_of (between at) = at
 place_of (within from head_end at n) = at
 
-part-below : (calls : List Call) (part : Part) (to : ℕ) → parts_after (Some part) calls ≡ Some (between to) → place_of part ≤ to
+part-below : (calls : List Call) (part : Part) (to : ℕ) → parts_after (Some part) calls ≡ Some (between to)
+    → place_of part ≤ to
 unfolding place_of
 part-below [] (between at) to parts = let same : at ≡ to = cc in omega (arith, same)
 part-below [] (within from head_end at n) to parts = cc
@@ -81,14 +84,22 @@ part-below (head_call a b ∷ calls) (between at) to parts =
       ltb-true a b (and_parts (ltb a b) (leb (b - a) 1380) first.1).0,
       part-below calls (within a b b 0) to fits.1,
     )
-part-below (slice_call a b ∷ calls) (between at) to parts = absurd (false≢true (part-fits false (between at) calls to parts).0)
-part-below (unit_call unit ∷ calls) (between at) to parts = absurd (false≢true (part-fits false (between at) calls to parts).0)
+part-below (slice_call a b ∷ calls) (between at) to parts =
+    absurd (false≢true (part-fits false (between at) calls to parts).0)
+part-below (unit_call unit ∷ calls) (between at) to parts =
+    absurd (false≢true (part-fits false (between at) calls to parts).0)
 part-below (head_call a b ∷ calls) (within from head_end at n) to parts =
     absurd (false≢true (part-fits false (between at) calls to parts).0)
 part-below (slice_call a b ∷ calls) (within from head_end at n) to parts =
     let fits = part-fits (eqb a at && leb (a + 4) b) (within from head_end b (n + 1)) calls to parts in
     let first = and_parts (eqb a at) (leb (a + 4) b) fits.0 in
-    omega (arith, eqb-true a at first.0, leb-true (a + 4) b first.1, part-below calls (within from head_end b (n + 1)) to fits.1)
+    omega (
+      arith,
+      eqb-true a at first.0,
+      leb-true (a + 4) b first.1,
+      part-below calls
+          (within from head_end b (n + 1)) to fits.1,
+    )
 part-below (unit_call unit ∷ calls) (within from head_end at n) to parts =
     let fits = part-fits
     ((eqb unit.from from && (eqb unit.head_end head_end && eqb unit.to at))
@@ -207,7 +218,8 @@ part-laid (unit_call unit ∷ calls) {part = within from head_end at n} {k} {to}
     ((eqb unit.from from && (eqb unit.head_end head_end && eqb unit.to at))
     && (eqb unit.slices n && ltb 0 n)) (between at) calls to parts in
     let agrees =
-    count-fits (eqb (unit.first_slice + unit.slices) k.slices && eqb unit.presentation (group_of k unit + unit.temporal))
+    count-fits (eqb (unit.first_slice + unit.slices) k.slices && eqb unit.presentation
+    (group_of k unit + unit.temporal))
     (record { units = k.units + 1; slices = k.slices; before_group = group_of k unit }) calls counts in
     let count = eqb-true (unit.first_slice + unit.slices) k.slices
     (and_parts (eqb (unit.first_slice + unit.slices) k.slices)
@@ -228,11 +240,15 @@ pub film-laid : (bytes : List ℕ) (rate : ℕ) (units : List PictureUnit) (star
 film-laid bytes rate units starts film =
     let calls = all_calls (read_after [] bytes) in
     let end : length (read_after [] bytes) ≡ length bytes = length-read bytes [] ∙ omega arith in
-    let start : SoFar (between (first_of (codes_of (read_after [] bytes)))) no_count [] = record { slices = refl; stands = tt } in
-    let laid = part-laid calls (film-tiles (read_after [] bytes) film.accepted) (film-numbered (read_after [] bytes) film.accepted) start in
+    let start : SoFar (between (first_of (codes_of (read_after [] bytes)))) no_count [] =
+    record { slices = refl; stands = tt } in
+    let laid =
+    part-laid calls (film-tiles (read_after [] bytes) film.accepted)
+    (film-numbered (read_after [] bytes) film.accepted) start in
     subst (λ e. AreLaid e starts units) end
     (subst (λ (l : List ℕ). AreLaid (length (read_after [] bytes)) l units) (sym film.slices)
-    (subst (λ (l : List PictureUnit). AreLaid (length (read_after [] bytes)) (slices_in calls) l) (sym film.units) laid))
+    (subst (λ (l : List PictureUnit). AreLaid (length (read_after [] bytes)) (slices_in calls) l)
+    (sym film.units) laid))
 
 -- ---- units lie one after another
 
@@ -249,8 +265,10 @@ parts-chained (head_call a b ∷ calls) (between at) to parts =
     let fits = part-fits (eqb a at && (ltb a b && leb (b - a) 1380)) (within a b b 0) calls to parts in
     let here = eqb-true a at (and_parts (eqb a at) (ltb a b && leb (b - a) 1380) fits.0).0 in
     subst (λ f. AreChained f (units_in calls) to) here (parts-chained calls (within a b b 0) to fits.1)
-parts-chained (slice_call a b ∷ calls) (between at) to parts = absurd (false≢true (part-fits false (between at) calls to parts).0)
-parts-chained (unit_call unit ∷ calls) (between at) to parts = absurd (false≢true (part-fits false (between at) calls to parts).0)
+parts-chained (slice_call a b ∷ calls) (between at) to parts =
+    absurd (false≢true (part-fits false (between at) calls to parts).0)
+parts-chained (unit_call unit ∷ calls) (between at) to parts =
+    absurd (false≢true (part-fits false (between at) calls to parts).0)
 parts-chained (head_call a b ∷ calls) (within from head_end at n) to parts =
     absurd (false≢true (part-fits false (between at) calls to parts).0)
 parts-chained (slice_call a b ∷ calls) (within from head_end at n) to parts =
@@ -275,6 +293,7 @@ unfolding begin_of_part
 film-chained bytes rate units starts film =
     let r = read_after [] bytes in
     let end : length r ≡ length bytes = length-read bytes [] ∙ omega arith in
-    let chained = parts-chained (all_calls r) (between (first_of (codes_of r))) (length r) (film-tiles r film.accepted) in
+    let chained =
+    parts-chained (all_calls r) (between (first_of (codes_of r))) (length r) (film-tiles r film.accepted) in
     let P : List PictureUnit → Type 0 = λ l. AreChained (first_of (codes_of r)) l (length bytes) in
     subst P (sym film.units) (subst (λ e. AreChained (first_of (codes_of r)) (units_in (all_calls r)) e) end chained)

@@ -132,28 +132,36 @@ counts-next t c e counts far = record {
   all = all-by (is_slice c.kind) counts.all far;
 }
 
--- a picture, a head code, a slice: z, h, s; the film has begun: q
-picture-by : {z h s q : Bool} {n : ℕ} (header : Header) (o : Option Header) → (h ≡ false → z ≡ false)
-    → (h ≡ false → q ≡ true) → (s ≡ true → n ≡ 0 → IsSome o) → (0 < n → IsSome o)
+-- what is known of the picture of a unit of n slices at a code that isn't refused: z, h, s: it is a picture, a
+-- head code, a slice; q: the film has begun
+record KnowsPicture (z h s q : Bool) (n : ℕ) (o : Option Header) : Type 0 where
+  head : h ≡ false → z ≡ false
+  begun : h ≡ false → q ≡ true
+  first : s ≡ true → n ≡ 0 → IsSome o
+  later : 0 < n → IsSome o
+
+picture-by : {z h s q : Bool} {n : ℕ} (header : Header) (o : Option Header) → KnowsPicture z h s q n o
     → 0 < cond h 0 (cond s (n + 1) n)
     → IsSome (cond z (Some header) (cond (not q || (h && ltb 0 n)) None o))
-picture-by {z = true} header o head begun first later some = refl
-picture-by {z = false} {h = true} header o head begun first later some = absurd (omega (arith, some))
-picture-by {z = false} {h = false} {q = false} header o head begun first later some = absurd (false≢true (begun refl))
-picture-by {z = false} {h = false} {s = true} {q = true} {n = zero} header o head begun first later some = first refl refl
-picture-by {z = false} {h = false} {s = true} {q = true} {n = suc m} header o head begun first later some =
-    later (omega arith)
-picture-by {z = false} {h = false} {s = false} {q = true} header o head begun first later some = later some
+picture-by {z = true} header o known some = refl
+picture-by {z = false} {h = true} header o known some = absurd (omega (arith, some))
+picture-by {z = false} {h = false} {q = false} header o known some = absurd (false≢true (known.begun refl))
+picture-by {z = false} {h = false} {s = true} {q = true} {n = zero} header o known some = known.first refl refl
+picture-by {z = false} {h = false} {s = true} {q = true} {n = suc m} header o known some = known.later (omega arith)
+picture-by {z = false} {h = false} {s = false} {q = true} header o known some = known.later some
 
 pub picture-next : (t : Tally) (c : Code) → code_fault t c.place c.kind ≡ None → (0 < t.slices → IsSome t.picture)
     → 0 < next_slices t c → IsSome (next_picture t c)
 picture-next t c e before some =
     let rest = eqb c.kind 0xb3 || eqb c.kind 0xb8 in
-    picture-by (header_of c) t.picture (λ other. (or_parts (eqb c.kind 0) rest other).0)
-    (λ other. code-begun t c.place c.kind e
-    (or_parts (eqb c.kind 0xb3) (eqb c.kind 0xb8) (or_parts (eqb c.kind 0) rest other).1).0)
-    (λ slice none. first-some t c.place c.kind (first_slice-accepted t c.place c.kind e) slice none)
-    before some
+    let known : KnowsPicture (eqb c.kind 0) (is_head c.kind) (is_slice c.kind) t.begun t.slices t.picture = record {
+      head = λ other. (or_parts (eqb c.kind 0) rest other).0;
+      begun = λ other. code-begun t c.place c.kind e
+          (or_parts (eqb c.kind 0xb3) (eqb c.kind 0xb8) (or_parts (eqb c.kind 0) rest other).1).0;
+      first = λ slice none. first-some t c.place c.kind (first_slice-accepted t c.place c.kind e) slice none;
+      later = before;
+    } in
+    picture-by (header_of c) t.picture known some
 
 rate-by : {b begun : Bool} (rate : Option ℕ) (c : Code) → eqb c.kind 0xb3 ≡ b → (b ≡ false → begun ≡ true)
     → (begun ≡ true → IsSome rate) → IsSome (rate_after rate c)

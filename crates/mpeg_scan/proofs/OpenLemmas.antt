@@ -78,7 +78,9 @@ kinds-of kind = record {
   zero_is = eqb-true kind 0;
   three_is = eqb-true kind 0xb3;
   eight_is = eqb-true kind 0xb8;
-  slice_is = λ e. let parts = and_parts (leb 1 kind) (leb kind 0xaf) e in (leb-true 1 kind parts.0, leb-true kind 0xaf parts.1);
+  slice_is =
+      λ e. let parts = and_parts (leb 1 kind) (leb kind 0xaf) e in
+      (leb-true 1 kind parts.0, leb-true kind 0xaf parts.1);
   is_zero = eq-eqb kind 0;
   is_three = eq-eqb kind 0xb3;
   is_eight = eq-eqb kind 0xb8;
@@ -99,7 +101,8 @@ none-more c past from OfKind other none place kind (inr old) after is = none pla
 
 -- none of the older codes stands from the new one on
 none-new : (c : Code) (past : List Code) (OfKind : ℕ → Type 0)
-    → ((place kind : ℕ) → HasCode place kind past → place < c.place) → (OfKind c.kind → ⊥) → NoneFrom (c ∷ past) c.place OfKind
+    → ((place kind : ℕ) → HasCode place kind past → place < c.place) → (OfKind c.kind → ⊥)
+    → NoneFrom (c ∷ past) c.place OfKind
 none-new c past OfKind below other place kind (inl new) after is = other (subst (λ k. OfKind k) (sym new.1) is)
 none-new c past OfKind below other place kind (inr old) after is = omega (arith, below place kind old, after)
 
@@ -130,7 +133,8 @@ pictured-only c past from other only place (inr old) after = only place old afte
 picture-more : {past : List Code} {from head_end n m : ℕ} {o : Option Header} {seq grp : Bool} (c : Code) →
     Open past from head_end n o seq grp → (IsHeadKind c.kind → ⊥) → (0 < m → 0 < n) →
     PictureIs (c ∷ past) from head_end m o
-picture-more {past} {from} {o = None} c open_ other grows = none-more c past from Zero (λ e. other (inl e)) open_.picture_is
+picture-more {past} {from} {o = None} c open_ other grows =
+    none-more c past from Zero (λ e. other (inl e)) open_.picture_is
 picture-more {past} {from} {o = Some h} c open_ other grows =
     let is = open_.picture_is in
     record {
@@ -159,7 +163,9 @@ picture-first {past} {from} {o = Some h} c open_ below other some =
       after = is.after;
       only = pictured-only c past from (λ e. other (inl e)) is.only;
       last = none-more c past (is.code.place + 1) IsHeadKind other is.last;
-      before = λ _. below is.code.place 0 (subst (λ k. HasCode is.code.place k past) is.kind (member-has is.code past is.member));
+      before =
+          λ _. below is.code.place 0 (subst (λ k. HasCode is.code.place k past) is.kind
+          (member-has is.code past is.member));
     }
 
 new-only : {from place : ℕ} (c : Code) (past : List Code) → NoneFrom past from Zero → HasCode place 0 (c ∷ past)
@@ -167,7 +173,8 @@ new-only : {from place : ℕ} (c : Code) (past : List Code) → NoneFrom past fr
 new-only {from} {place} c past none (inl new) after = sym new.0
 new-only {from} {place} c past none (inr old) after = absurd (none place 0 old after refl)
 
-new-last : {place kind : ℕ} (c : Code) (past : List Code) → Below c past → HasCode place kind (c ∷ past) → c.place + 1 ≤ place → ⊥
+new-last : {place kind : ℕ} (c : Code) (past : List Code) → Below c past → HasCode place kind (c ∷ past)
+    → c.place + 1 ≤ place → ⊥
 new-last {place} c past below (inl new) far = omega (arith, new.0, far)
 new-last {place} {kind} c past below (inr old) far = omega (arith, below place kind old, far)
 
@@ -296,7 +303,8 @@ picture-head : {t0 t3 t8 : Bool} {past : List Code} {from head_end n : ℕ} {o :
     (c : Code) → Open past from head_end n o seq grp → Kinds t0 t3 t8 false c.kind → Below c past →
     from ≤ c.place → is_some o ≡ false → PictureIs (c ∷ past) from head_end 0 (cond t0 (Some (header_of c)) o)
 picture-head {o = Some h} c open_ kinds below after none = absurd (true≢false none)
-picture-head {t0 = true} {o = None} c open_ kinds below after none = picture-new below (kinds.zero_is refl) after open_.picture_is
+picture-head {t0 = true} {o = None} c open_ kinds below after none =
+    picture-new below (kinds.zero_is refl) after open_.picture_is
 picture-head {t0 = false} {past} {from} {o = None} c open_ kinds below after none =
     none-more c past from Zero (λ e. false≢true (kinds.is_zero e)) open_.picture_is
 
@@ -367,7 +375,8 @@ begun-group t c past is e = inr (begun-flag t c past 0xb8 is e)
 
 -- a new unit
 new-unit : {t0 t3 t8 : Bool} {c : Code} {past : List Code} {from head_end n : ℕ} {o : Option Header}
-    {seq grp : Bool} → Below c past → Kinds t0 t3 t8 false c.kind → IsHeadKind c.kind → Open past from head_end n o seq grp
+    {seq grp : Bool} → Below c past → Kinds t0 t3 t8 false c.kind → IsHeadKind c.kind
+    → Open past from head_end n o seq grp
     → Open (c ∷ past) c.place head_end 0 (cond t0 (Some (header_of c)) None) (cond t3 true false) (cond t8 true false)
 new-unit {t3} {t8} {c} {past} {from} {head_end} below kinds head open_ =
     record {
@@ -384,7 +393,12 @@ new-unit {t3} {t8} {c} {past} {from} {head_end} below kinds head open_ =
       grp_there = begun-group t8 c past kinds.eight_is;
       grp_set = flag-set c past c.place kinds.is_eight (nothing-there c past 0xb8 below);
       grp_first = λ firsts. absurd
-          (omega (arith, below from open_.begins.0 open_.begins.1.0, firsts from open_.begins.0 (inr open_.begins.1.0)));
+          (omega (
+            arith,
+            below from open_.begins.0 open_.begins.1.0,
+            firsts from open_.begins.0
+                (inr open_.begins.1.0),
+          ));
     }
 
 only-slice : (c : Code) (place kind : ℕ) → c.kind ≡ 0xb3 → HasCode place kind (c ∷ []) → IsSliceKind kind → ⊥
@@ -465,8 +479,10 @@ step-open {t0 = false} {t3 = true} {t8 = true} {s = false} {c} kinds below slice
 step-open {t0 = false} {t3 = true} {t8 = false} {s = false} {q = true} {c} kinds below sliced alone with_
     open_ = new-unit below kinds (inr (inl (kinds.three_is refl))) open_
 step-open {t0 = false} {t3 = true} {t8 = false} {s = false} {q = false} {c} kinds below sliced alone with_
-    open_ = more-head below kinds (inr (inl (kinds.three_is refl))) (sliced.none refl) (alone refl (sliced.none refl)) open_
+    open_ =
+    more-head below kinds (inr (inl (kinds.three_is refl))) (sliced.none refl) (alone refl (sliced.none refl)) open_
 step-open {t0 = false} {t3 = false} {t8 = true} {s = false} {q = true} {c} kinds below sliced alone with_
     open_ = new-unit below kinds (inr (inr (kinds.eight_is refl))) open_
 step-open {t0 = false} {t3 = false} {t8 = true} {s = false} {q = false} {c} kinds below sliced alone with_
-    open_ = more-head below kinds (inr (inr (kinds.eight_is refl))) (sliced.none refl) (alone refl (sliced.none refl)) open_
+    open_ =
+    more-head below kinds (inr (inr (kinds.eight_is refl))) (sliced.none refl) (alone refl (sliced.none refl)) open_

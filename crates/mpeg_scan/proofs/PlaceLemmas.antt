@@ -43,7 +43,8 @@ at-stays (x ∷ xs) r i below = at-stays xs (x ∷ r) i (omega arith) ∙ at-old
 -- and in order
 at-read : (xs r : List ℕ) (i : ℕ) → at (read_after r xs) (length r + i) ≡ get_or xs i 256
 at-read [] r i = at-past r (length r + i) (omega arith)
-at-read (x ∷ xs) r zero = at-stays xs (x ∷ r) (length r + zero) (omega arith) ∙ at-last x r (length r + zero) (omega arith)
+at-read (x ∷ xs) r zero =
+    at-stays xs (x ∷ r) (length r + zero) (omega arith) ∙ at-last x r (length r + zero) (omega arith)
 at-read (x ∷ xs) r (suc i) =
     let same : length r + suc i ≡ suc (length r) + i = omega arith in
     ap (at (read_after (x ∷ r) xs)) same ∙ at-read xs (x ∷ r) i
@@ -97,9 +98,11 @@ prefixed-whole r i p =
     let one : byte_back r 0 ≡ 1 = at-back r (i + 2) 0 (omega (arith, p.ends)) ∙ p.third in
     let zero1 : byte_back r 1 ≡ 0 = at-back r (i + 1) 1 (omega (arith, p.ends)) ∙ p.second in
     let zero2 : byte_back r 2 ≡ 0 = at-back r i 2 (omega (arith, p.ends)) ∙ p.first in
-    ap (λ t. is_whole (cond t Whole (cond (eqb (byte_back r 0) 0 && eqb (byte_back r 1) 0) Zeros (cond (eqb (byte_back r 0) 0) Zero Nothing))))
+    ap (λ t. is_whole (cond t Whole (cond (eqb (byte_back r 0) 0 && eqb (byte_back r 1) 0) Zeros
+    (cond (eqb (byte_back r 0) 0) Zero Nothing))))
     (and_from (eqb (byte_back r 0) 1) (eqb (byte_back r 1) 0 && eqb (byte_back r 2) 0) (eq-eqb (byte_back r 0) 1 one)
-    (and_from (eqb (byte_back r 1) 0) (eqb (byte_back r 2) 0) (eq-eqb (byte_back r 1) 0 zero1) (eq-eqb (byte_back r 2) 0 zero2)))
+    (and_from (eqb (byte_back r 1) 0) (eqb (byte_back r 2) 0) (eq-eqb (byte_back r 1) 0 zero1)
+    (eq-eqb (byte_back r 2) 0 zero2)))
 
 stands-more : (x : ℕ) (r : List ℕ) (i k : ℕ) → Stands r i k → Stands (x ∷ r) i k
 stands-more x r i k s = record {

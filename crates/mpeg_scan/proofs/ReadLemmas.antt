@@ -25,7 +25,8 @@ read-append r (x ∷ xs) ys = read-append (x ∷ r) xs ys
 
 -- a run of a chunk after its front, and one byte after it
 pub read-run : (r chunk : List ℕ) (a n : ℕ)
-    → read_after (read_after r (take a chunk)) (take n (take (length chunk - a) (drop a chunk))) ≡ read_after r (take (a + n) chunk)
+    → read_after (read_after r (take a chunk)) (take n (take (length chunk - a) (drop a chunk))) ≡ read_after r
+    (take (a + n) chunk)
 read-run r chunk a n =
     ap (λ (l : List ℕ). read_after (read_after r (take a chunk)) (take n l)) (take_rest chunk a)
     ∙ sym (read-append r (take a chunk) (take n (drop a chunk))) ∙ ap (read_after r) (sym (take-add a n chunk))
@@ -35,7 +36,8 @@ pub read-byte : (r chunk : List ℕ) (b : ℕ) → b < length chunk
 read-byte r chunk b within =
     sym (read-append r (take b chunk) (get_or chunk b 0 ∷ [])) ∙ ap (read_after r) (sym (take_more chunk b 0 within))
 
-pub read-rest : (r chunk : List ℕ) (a : ℕ) → read_after (read_after r (take a chunk)) (drop a chunk) ≡ read_after r chunk
+pub read-rest : (r chunk : List ℕ) (a : ℕ)
+    → read_after (read_after r (take a chunk)) (drop a chunk) ≡ read_after r chunk
 read-rest r chunk a = sym (read-append r (take a chunk) (drop a chunk)) ∙ ap (read_after r) (take-append-drop a chunk)
 
 -- ---- runs
@@ -81,17 +83,20 @@ front-nonzero xs n bound nonzero k within zero_there =
     nonzero k below (sym (get_or-take n xs k 0 below) ∙ zero_there)
 
 skipped : {s : Progress} {r : List ℕ} (xs : List ℕ) (n : ℕ) → n ≤ length xs → AreNonzero xs n
-    → (s.prefix ≡ Nothing) × (is_header_full s.latest ≡ true) → HasRead s r → Quiet r (read_after r (take n xs)) (length (take n xs))
+    → (s.prefix ≡ Nothing) × (is_header_full s.latest ≡ true) → HasRead s r
+    → Quiet r (read_after r (take n xs)) (length (take n xs))
 skipped {s} {r} xs n bound nonzero quiet kept =
     quiet-run (take n xs) r (front-nonzero xs n bound nonzero) (sym kept.prefix ∙ quiet.0)
     (sym (ap is_header_full kept.latest) ∙ quiet.1)
 
 pub skipped-same : {s : Progress} {r : List ℕ} (xs : List ℕ) (n : ℕ) → n ≤ length xs → AreNonzero xs n
-    → (s.prefix ≡ Nothing) × (is_header_full s.latest ≡ true) → HasRead s r → codes_of (read_after r (take n xs)) ≡ codes_of r
+    → (s.prefix ≡ Nothing) × (is_header_full s.latest ≡ true) → HasRead s r
+    → codes_of (read_after r (take n xs)) ≡ codes_of r
 skipped-same {s} {r} xs n bound nonzero quiet kept = (skipped xs n bound nonzero quiet kept).same
 
 pub skipped-kept : {s : Progress} {r : List ℕ} (xs : List ℕ) (n : ℕ) → n ≤ length xs → AreNonzero xs n
-    → (s.prefix ≡ Nothing) × (is_header_full s.latest ≡ true) → HasRead s r → HasRead (skipped_scan s n) (read_after r (take n xs))
+    → (s.prefix ≡ Nothing) × (is_header_full s.latest ≡ true) → HasRead s r
+    → HasRead (skipped_scan s n) (read_after r (take n xs))
 skipped-kept {s} {r} xs n bound nonzero quiet kept =
     let run = skipped xs n bound nonzero quiet kept in record {
       fed = omega (arith, run.more, length-take-le n xs bound, kept.fed);
@@ -103,7 +108,8 @@ skipped-kept {s} {r} xs n bound nonzero quiet kept =
 
 -- ---- what is refused stays refused
 
-fault-stays-code : (c : Code) (past : List Code) (f : FilmFault) → first_fault past ≡ Some f → first_fault (c ∷ past) ≡ Some f
+fault-stays-code : (c : Code) (past : List Code) (f : FilmFault) → first_fault past ≡ Some f
+    → first_fault (c ∷ past) ≡ Some f
 unfolding first_fault
 fault-stays-code c past f is = ap (λ (o : Option FilmFault). first_refusal o (fault_at past c.place c.kind)) is
 
@@ -128,12 +134,14 @@ length-rest chunk a = ap (λ (l : List ℕ). length l) (take_rest chunk a) ∙ l
 pub calls-run : (r chunk : List ℕ) (a n : ℕ) (calls : List Call)
     → codes_of (read_after (read_after r (take a chunk)) (take n (take (length chunk - a) (drop a chunk))))
     ≡ codes_of (read_after r (take a chunk))
-    → calls ++ calls_of (codes_of (read_after r (take a chunk))) ≡ calls ++ calls_of (codes_of (read_after r (take (a + n) chunk)))
+    → calls ++ calls_of (codes_of (read_after r (take a chunk))) ≡ calls ++ calls_of
+    (codes_of (read_after r (take (a + n) chunk)))
 calls-run r chunk a n calls same =
     ap (λ (l : List Code). calls ++ calls_of l) (sym same ∙ ap codes_of (read-run r chunk a n))
 
 pub fault-rest : (r chunk : List ℕ) (b : ℕ) (f : FilmFault) → b < length chunk
-    → first_fault (codes_of (get_or chunk b 0 ∷ read_after r (take b chunk))) ≡ Some f → first_fault (codes_of (read_after r chunk)) ≡ Some f
+    → first_fault (codes_of (get_or chunk b 0 ∷ read_after r (take b chunk))) ≡ Some f
+    → first_fault (codes_of (read_after r chunk)) ≡ Some f
 fault-rest r chunk b f within is =
     let there : first_fault (codes_of (read_after r (take (b + 1) chunk))) ≡ Some f =
     ap (λ (q : List ℕ). first_fault (codes_of q)) (sym (read-byte r chunk b within)) ∙ is in

@@ -34,7 +34,8 @@ record SamePlaces (t u : Tally) : Type 0 where
   slices : t.slices ≡ u.slices
   slice : t.slice ≡ u.slice
 
-same-noted : (o : Option Code) (t : Tally) (x : ℕ) → SamePlaces (tally_with o t) (tally_with (option_map (λ c. note c x) o) t)
+same-noted : (o : Option Code) (t : Tally) (x : ℕ)
+    → SamePlaces (tally_with o t) (tally_with (option_map (λ c. note c x) o) t)
 unfolding next
 same-noted None t x = record { begun = refl; unit = refl; slices = refl; slice = refl }
 same-noted (Some c) t x = record { begun = refl; unit = refl; slices = refl; slice = refl }
@@ -51,7 +52,8 @@ length-zero Zero = omega arith
 length-zero Zeros = omega arith
 length-zero Whole = omega arith
 
-length-by : (a b : Bool) (p : Prefix) → prefix_length (cond a (after_one p) (cond b (after_zero p) Nothing)) ≤ prefix_length p + 1
+length-by : (a b : Bool) (p : Prefix) → prefix_length
+    (cond a (after_one p) (cond b (after_zero p) Nothing)) ≤ prefix_length p + 1
 length-by true b p = length-one p
 length-by false true p = length-zero p
 length-by false false p = omega arith
@@ -176,11 +178,11 @@ slice-by {s = true} h slice prefix at before some = omega (arith, prefix.none re
 slice-by {s = false} true slice prefix at before some = absurd (omega (arith, some))
 slice-by {s = false} false slice prefix at before some = omega (arith, prefix.short, at, before some)
 
-code-room : (t : Tally) (place kind fed : ℕ) → place + 3 ≤ fed → HasRoom t place → code_fault t place kind ≡ None
+code-room : {t : Tally} {place fed : ℕ} (kind : ℕ) → place + 3 ≤ fed → HasRoom t place → code_fault t place kind ≡ None
     → HasRoomWith (Some (record { place = place; kind = kind; header = [] })) t
     (fed + 1 - prefix_length (next_prefix Whole kind))
 unfolding next
-code-room t place kind fed at room e =
+code-room {t} {place} {fed} kind at room e =
     let c : Code = record { place = place; kind = kind; header = [] } in
     let short = length-kind kind in
     let far : place + 1 ≤ fed + 1 - prefix_length (next_prefix Whole kind) = omega (arith, short, at) in record {
@@ -205,8 +207,8 @@ coded-ahead {s} {n} {m} x whole noted judged is room =
     let prefix : n.prefix ≡ next_prefix Whole x =
     ap (λ (v : Progress). v.prefix) noted ∙ ap (λ p. next_prefix p x) (whole-is s.prefix whole) in
     let length : prefix_length n.prefix ≡ prefix_length (next_prefix Whole x) = ap prefix_length prefix in
-    let made = code-room (tally_now n) place x s.fed (omega (arith, three, room.read)) (room-before x whole noted room).now
-    (code_judgement-code n.latest n.tally place x judged) in
+    let made = code-room {t = tally_now n} {place = place} {fed = s.fed} x (omega (arith, three, room.read))
+    (room-before x whole noted room).now (code_judgement-code n.latest n.tally place x judged) in
     subst (λ (v : Progress). IsAhead v) (sym is) (record {
       read = omega (arith, fed, length, length-kind x);
       room = with-more made (omega (arith, fed, length));

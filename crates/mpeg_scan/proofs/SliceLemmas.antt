@@ -16,8 +16,8 @@ use Rattle.mpeg_scan.specs.Places.{HasCode, StandsAt}
 use Rattle.mpeg_scan.specs.Standard.{IsAmong, IsSliceKind, StandsThere, slice_places}
 use Rattle.mpeg_scan.proofs.StepLemmas.{otherwise-second, calls-cons}
 use Rattle.mpeg_scan.proofs.StepLemmas.{accepted-whole}
-use Rattle.mpeg_scan.proofs.TileLemmas.{Told, ended-none, raw_calls, slice-apart}
-use Rattle.mpeg_scan.proofs.TileLemmas.{calls-nil, told_at}
+use Rattle.mpeg_scan.proofs.TileLemmas.{CodeEnds, ended-none, raw_calls, slice-apart}
+use Rattle.mpeg_scan.proofs.TileLemmas.{calls-nil, ends_at}
 use Rattle.mpeg_scan.proofs.FilmLemmas.{slices_in-append}
 use Rattle.mpeg_scan.proofs.PlaceLemmas.{codes-stand}
 
@@ -47,23 +47,26 @@ record IsCounted (e q : Bool) (n : ℕ) : Type 0 where
   some : e ≡ false → q ≡ true
 
 -- one code more; s, h: it is a slice, a head code
-raw-slices : {s h e q : Bool} {n : ℕ} {places : List ℕ} (told : Told) (before : List ℕ) → (s ≡ true → h ≡ false)
-    → IsCounted e q n → before ++ cond e [] (told.slice ∷ []) ≡ places
-    → (before ++ slices_in (raw_calls s h q e told))
-    ++ pending (cond h 0 (cond s (n + 1) n)) (cond s told.place told.slice) ≡ cond s (places ++ told.place ∷ []) places
-raw-slices {s = true} {h = true} told before apart counted is = absurd (true≢false (apart refl))
-raw-slices {s = true} {h = false} {e = true} {n} told before apart counted is =
-    ap (λ l. (before ++ []) ++ l) (pending-some (n + 1) told.place (omega arith)) ∙ ap (λ l. l ++ told.place ∷ []) is
-raw-slices {s = true} {h = false} {e = false} {n} told before apart counted is =
-    ap (λ l. (before ++ told.slice ∷ []) ++ l) (pending-some (n + 1) told.place (omega arith)) ∙ ap (λ l. l ++ told.place ∷ []) is
-raw-slices {s = false} {h = true} {e = true} {q = true} told before apart counted is = absurd (true≢false (counted.none refl))
-raw-slices {s = false} {h = true} {e = true} {q = false} told before apart counted is = append-nil (before ++ []) ∙ is
-raw-slices {s = false} {h = true} {e = false} {q = true} told before apart counted is =
-    append-nil (before ++ told.slice ∷ []) ∙ is
-raw-slices {s = false} {h = true} {e = false} {q = false} told before apart counted is = absurd (false≢true (counted.some refl))
-raw-slices {s = false} {h = false} {e} told before apart counted is =
-    ap (λ v. (before ++ []) ++ cond v [] (told.slice ∷ [])) counted.is
-    ∙ ap (λ l. l ++ cond e [] (told.slice ∷ [])) (append-nil before) ∙ is
+raw-slices : {s h e q : Bool} {n : ℕ} {places : List ℕ} (here : CodeEnds) (before : List ℕ) → (s ≡ true → h ≡ false)
+    → IsCounted e q n → before ++ cond e [] (here.slice ∷ []) ≡ places
+    → (before ++ slices_in (raw_calls s h q e here))
+    ++ pending (cond h 0 (cond s (n + 1) n)) (cond s here.place here.slice) ≡ cond s (places ++ here.place ∷ []) places
+raw-slices {s = true} {h = true} here before apart counted is = absurd (true≢false (apart refl))
+raw-slices {s = true} {h = false} {e = true} {n} here before apart counted is =
+    ap (λ l. (before ++ []) ++ l) (pending-some (n + 1) here.place (omega arith)) ∙ ap (λ l. l ++ here.place ∷ []) is
+raw-slices {s = true} {h = false} {e = false} {n} here before apart counted is =
+    ap (λ l. (before ++ here.slice ∷ []) ++ l) (pending-some (n + 1) here.place (omega arith))
+    ∙ ap (λ l. l ++ here.place ∷ []) is
+raw-slices {s = false} {h = true} {e = true} {q = true} here before apart counted is =
+    absurd (true≢false (counted.none refl))
+raw-slices {s = false} {h = true} {e = true} {q = false} here before apart counted is = append-nil (before ++ []) ∙ is
+raw-slices {s = false} {h = true} {e = false} {q = true} here before apart counted is =
+    append-nil (before ++ here.slice ∷ []) ∙ is
+raw-slices {s = false} {h = true} {e = false} {q = false} here before apart counted is =
+    absurd (false≢true (counted.some refl))
+raw-slices {s = false} {h = false} {e} here before apart counted is =
+    ap (λ v. (before ++ []) ++ cond v [] (here.slice ∷ [])) counted.is
+    ∙ ap (λ l. l ++ cond e [] (here.slice ∷ [])) (append-nil before) ∙ is
 
 step-slices : (c : Code) (past : List Code)
     → slices_in (calls_of past) ++ pending (slice_count past) (latest_slice past) ≡ slice_places past
@@ -73,9 +76,10 @@ unfolding calls_at
 step-slices c past is =
     let n = slice_count past in
     let counted : IsCounted (eqb n 0) (ltb 0 n) n = record { is = refl; none = none-count n; some = some-count n } in
-    raw-slices (told_at (tally_of past) c.place) (slices_in (calls_of past)) (slice-apart c.kind) counted is
+    raw-slices (ends_at (tally_of past) c.place) (slices_in (calls_of past)) (slice-apart c.kind) counted is
 
-calls-slices : (past : List Code) → slices_in (calls_of past) ++ pending (slice_count past) (latest_slice past) ≡ slice_places past
+calls-slices : (past : List Code) → slices_in (calls_of past) ++ pending (slice_count past)
+    (latest_slice past) ≡ slice_places past
 calls-slices [] = ap (λ l. slices_in l ++ []) calls-nil
 calls-slices (c ∷ past) =
     ap (λ l. l ++ pending (slice_count (c ∷ past)) (latest_slice (c ∷ past)))
@@ -88,7 +92,8 @@ unfolding end_fault
 whole-slices past n ended =
     let some = ended-none (tally_of past) (otherwise-second (latest_fault past n) (last_fault (tally_of past)) ended) in
     slices_in-append (calls_of past) (unit_end (tally_of past) n)
-    ∙ ap (λ l. slices_in (calls_of past) ++ l) (sym (pending-some (slice_count past) (latest_slice past) some)) ∙ calls-slices past
+    ∙ ap (λ l. slices_in (calls_of past) ++ l) (sym (pending-some (slice_count past) (latest_slice past) some))
+    ∙ calls-slices past
 
 pub film-slices : (bytes : List ℕ) (rate : ℕ) (units : List PictureUnit) (starts : List ℕ)
     → IsFilm bytes rate units starts → starts ≡ slice_places (codes_of (read_after [] bytes))
@@ -118,7 +123,8 @@ among-parts place last (x ∷ xs) (inr r) = elim (among-parts place last xs r) [
 ]
 
 slice-kind : (kind : ℕ) → is_slice kind ≡ true → IsSliceKind kind
-slice-kind kind e = let parts = and_parts (leb 1 kind) (leb kind 0xaf) e in (leb-true 1 kind parts.0, leb-true kind 0xaf parts.1)
+slice-kind kind e =
+    let parts = and_parts (leb 1 kind) (leb kind 0xaf) e in (leb-true 1 kind parts.0, leb-true kind 0xaf parts.1)
 
 kind-slice : (kind : ℕ) → IsSliceKind kind → is_slice kind ≡ true
 kind-slice kind is = and_from (leb 1 kind) (leb kind 0xaf) (le-leb 1 kind is.0) (le-leb kind 0xaf is.1)
@@ -144,7 +150,8 @@ older-among : (b : Bool) (place last : ℕ) (places : List ℕ) → IsAmong plac
 older-among true place last places among = among-left place places (last ∷ []) among
 older-among false place last places among = among
 
-there-among : (past : List Code) (place kind : ℕ) → HasCode place kind past → IsSliceKind kind → IsAmong place (slice_places past)
+there-among : (past : List Code) (place kind : ℕ) → HasCode place kind past → IsSliceKind kind
+    → IsAmong place (slice_places past)
 there-among [] place kind has is = absurd has
 there-among (c ∷ past) place kind (inl new) is =
     let slice : is_slice c.kind ≡ true = ap is_slice new.1 ∙ kind-slice kind is in
@@ -154,7 +161,8 @@ there-among (c ∷ past) place kind (inr old) is =
     older-among (is_slice c.kind) place c.place (slice_places past) (there-among past place kind old is)
 
 pub film-slice_codes : (bytes : List ℕ) (rate : ℕ) (units : List PictureUnit) (starts : List ℕ)
-    → IsFilm bytes rate units starts → (place : ℕ) → IsAmong place starts ↔ StandsThere (StandsAt bytes) place IsSliceKind
+    → IsFilm bytes rate units starts → (place : ℕ)
+    → IsAmong place starts ↔ StandsThere (StandsAt bytes) place IsSliceKind
 film-slice_codes bytes rate units starts film place =
     let past = codes_of (read_after [] bytes) in
     let same = film-slices bytes rate units starts film in (

@@ -43,10 +43,12 @@ either-before : (b : Bool) (m n at : ℕ) → m + 3 ≤ at → n + 3 ≤ at → 
 either-before true m n at h i = h
 either-before false m n at h i = i
 
-pub unit-before : (d : Code) (past : List Code) (at : ℕ) → Spaced (d ∷ past) → After at (d ∷ past) → latest_unit (d ∷ past) + 3 ≤ at
+pub unit-before : (d : Code) (past : List Code) (at : ℕ) → Spaced (d ∷ past) → After at (d ∷ past)
+    → latest_unit (d ∷ past) + 3 ≤ at
 unit-before d [] at spaced after = omega (arith, three (eqb d.kind 0), after)
 unit-before d (e ∷ past) at spaced after =
-    either-before (begins_unit d (e ∷ past)) d.place (latest_unit (e ∷ past)) at (omega (arith, three (eqb d.kind 0), after))
+    either-before (begins_unit d (e ∷ past)) d.place (latest_unit (e ∷ past)) at
+    (omega (arith, three (eqb d.kind 0), after))
     (omega (arith, three (eqb d.kind 0), after, unit-before e past d.place spaced.1 spaced.0))
 
 span-slice : (d : Code) → is_slice d.kind ≡ true → span d ≡ 4
@@ -60,7 +62,8 @@ slice-case {s} true p q here before some = absurd (omega arith)
 slice-case {s = true} false p q here before some = here refl
 slice-case {s = false} false p q here before some = before some
 
-pub slice-before : (past : List Code) (at : ℕ) → Spaced past → After at past → 0 < slice_count past → latest_slice past + 4 ≤ at
+pub slice-before : (past : List Code) (at : ℕ) → Spaced past → After at past → 0 < slice_count past
+    → latest_slice past + 4 ≤ at
 slice-before [] at spaced after some = absurd (omega arith)
 slice-before (d ∷ past) at spaced after some =
     slice-case {s = is_slice d.kind} {n = slice_count past} {at = at} (is_head d.kind) d.place (latest_slice past)
@@ -174,7 +177,8 @@ placed-codes [] =
     (subst (λ (p : Prefix). Placed [] p 0) (sym matched-none) (record { spaced = tt; room = omega arith }))
 placed-codes (x ∷ r) =
     let rest = placed-codes r in elim (cases_Bool (is_whole (latest_prefix r))) [
-      | inl e ↦ (let at_whole = subst (λ (p : Prefix). Placed (codes_of r) p (length r)) (whole-is (latest_prefix r) e) rest in
+      | inl e ↦ (let at_whole =
+          subst (λ (p : Prefix). Placed (codes_of r) p (length r)) (whole-is (latest_prefix r) e) rest in
           subst (λ (past : List Code). Placed past (latest_prefix (x ∷ r)) (suc (length r)))
           (sym (codes-code x r e))
           (subst (λ (p : Prefix). Placed

@@ -82,7 +82,8 @@ picture-long rate c end is e =
     let parts = some-cond-none
     (ltb (end - c.place) 8 || ((eqb (type_of c) 2 || eqb (type_of c) 3) && ltb (end - c.place) 9))
     (ShortHeader c.place) (cond (leb 1 (type_of c) && leb (type_of c) 4) None (Some (BadType c.place))) judged in
-    let lengths = or_parts (ltb (end - c.place) 8) ((eqb (type_of c) 2 || eqb (type_of c) 3) && ltb (end - c.place) 9) parts.0 in
+    let lengths =
+    or_parts (ltb (end - c.place) 8) ((eqb (type_of c) 2 || eqb (type_of c) 3) && ltb (end - c.place) 9) parts.0 in
     let types = and_parts (leb 1 (type_of c)) (leb (type_of c) 4)
     (none-cond (leb 1 (type_of c) && leb (type_of c) 4) (BadType c.place) parts.1) in
     record {
@@ -91,7 +92,8 @@ picture-long rate c end is e =
           omega (
             arith,
             ltb-false (end - c.place) 9
-                (nine-by (eqb (type_of c) 2 || eqb (type_of c) 3) (ltb (end - c.place) 9) lengths.1 (or-set (type_of c) two)),
+                (nine-by (eqb (type_of c) 2 || eqb (type_of c) 3) (ltb (end - c.place) 9) lengths.1
+                (or-set (type_of c) two)),
           );
       low = leb-true 1 (type_of c) types.0;
       high = leb-true (type_of c) 4 types.1;
@@ -164,7 +166,9 @@ fields-fit {place} bytes f header =
       ap (λ b. b / 8 % 16) b4,
     )) in
     record {
-      temporal = f.temporal ∙ ap (λ b. b * 4 + get_or c.header 1 0 / 64) b0 ∙ ap (λ b. get_or bytes (place + 4) 0 * 4 + b / 64) b1;
+      temporal =
+          f.temporal ∙ ap (λ b. b * 4 + get_or c.header 1 0 / 64) b0
+          ∙ ap (λ b. get_or bytes (place + 4) 0 * 4 + b / 64) b1;
       kind = ap type_number f.kind ∙ fits.number ∙ type_is;
       vectors = f.vectors ∙ fits.vectors ∙ ap (λ (v : Kind). vector_fields bytes place v) (sym f.kind);
     }
@@ -173,7 +177,8 @@ fields-fit {place} bytes f header =
 none-bytes : {bytes : List ℕ} {from to : ℕ} {OfKind : ℕ → Type 0} (past : List Code)
     → ((place kind : ℕ) → HasCode place kind past ↔ StandsAt bytes place kind)
     → NoneIn (Has past) from to OfKind → NoneIn (StandsAt bytes) from to OfKind
-none-bytes {from} past both none place kind has after before is = none place kind ((both place kind).1 has) after before is
+none-bytes {from} past both none place kind has after before is =
+    none place kind ((both place kind).1 has) after before is
 
 stands-bytes : {bytes : List ℕ} {from to k : ℕ} (past : List Code)
     → ((place kind : ℕ) → HasCode place kind past ↔ StandsAt bytes place kind) → StandsIn (Has past) from to k
@@ -248,7 +253,8 @@ whole-headers r (d ∷ past) n accepted ended headers c m =
     code-header are m
 
 pub film-standard : {bytes : List ℕ} {rate : ℕ} {units : List PictureUnit} {starts : List ℕ}
-    → IsFilm bytes rate units starts → (k : ℕ) {unit : PictureUnit} → slice_get units k ≡ Some unit → IsUnitOf bytes unit
+    → IsFilm bytes rate units starts → (k : ℕ) {unit : PictureUnit} → slice_get units k ≡ Some unit
+    → IsUnitOf bytes unit
 film-standard {bytes} {units} {starts} film k {unit} is =
     let r = read_after [] bytes in
     let past = codes_of r in

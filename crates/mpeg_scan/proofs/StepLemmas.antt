@@ -37,7 +37,8 @@ none-cond false f e = absurd (cc)
 
 -- ---- the codes of a byte more
 
-pub codes-plain : (x : ℕ) (r : List ℕ) → is_whole (latest_prefix r) ≡ false → codes_of (x ∷ r) ≡ note_latest (codes_of r) x
+pub codes-plain : (x : ℕ) (r : List ℕ) → is_whole (latest_prefix r) ≡ false
+    → codes_of (x ∷ r) ≡ note_latest (codes_of r) x
 unfolding codes_of
 codes-plain x r e =
     let new : List Code = record { place = length r - 3; kind = x; header = [] } ∷ note_latest (codes_of r) x in
@@ -50,7 +51,8 @@ codes-code x r e =
     let new : List Code = record { place = length r - 3; kind = x; header = [] } ∷ note_latest (codes_of r) x in
     cond-true (is_whole (latest_prefix r)) new (note_latest (codes_of r) x) e
 
-pub latest-note : (past : List Code) (x : ℕ) → latest_of (note_latest past x) ≡ option_map (λ c. note c x) (latest_of past)
+pub latest-note : (past : List Code) (x : ℕ)
+    → latest_of (note_latest past x) ≡ option_map (λ c. note c x) (latest_of past)
 latest-note [] x = refl
 latest-note (c ∷ past) x = refl
 
@@ -142,7 +144,8 @@ code_judgement-is (c ∷ past) place kind =
 -- ---- a byte
 
 -- the codes before the latest one are as many, and the scanner's are accepted too
-pub note-accepted : (r : List ℕ) (x : ℕ) → first_fault (codes_of r) ≡ None → first_fault (note_latest (codes_of r) x) ≡ None
+pub note-accepted : (r : List ℕ) (x : ℕ) → first_fault (codes_of r) ≡ None
+    → first_fault (note_latest (codes_of r) x) ≡ None
 note-accepted r x accepted = first_fault-note (codes_of r) x ∙ accepted
 
 pub fed-plain : (s : Progress) (r : List ℕ) (x : ℕ) → HasRead s r → is_whole (latest_prefix r) ≡ false
@@ -151,7 +154,8 @@ fed-plain s r x kept plain =
     let codes = codes-plain x r plain in record {
       fed = omega (arith, kept.fed);
       prefix = ap (λ p. next_prefix p x) kept.prefix ∙ sym (matched-more x r);
-      latest = ap (option_map (λ c. note c x)) kept.latest ∙ sym (latest-note (codes_of r) x) ∙ ap latest_of (sym codes);
+      latest =
+          ap (option_map (λ c. note c x)) kept.latest ∙ sym (latest-note (codes_of r) x) ∙ ap latest_of (sym codes);
       tally = kept.tally ∙ ap tally_of (sym (older-note (codes_of r) x) ∙ ap older_of (sym codes));
       accepted = ap first_fault codes ∙ note-accepted r x kept.accepted;
     }
@@ -179,7 +183,8 @@ tally-noted s r x kept =
 first_fault-code : (past : List Code) (place kind : ℕ) → first_fault past ≡ None
     → first_fault (record { place = place; kind = kind; header = [] } ∷ past) ≡ fault_at past place kind
 unfolding first_fault
-first_fault-code past place kind accepted = ap (λ (f : Option FilmFault). first_refusal f (fault_at past place kind)) accepted
+first_fault-code past place kind accepted =
+    ap (λ (f : Option FilmFault). first_refusal f (fault_at past place kind)) accepted
 
 -- the refusal at a code, and that there is none
 pub first_fault-at : (s : Progress) (r : List ℕ) (x : ℕ) → HasRead s r
@@ -199,17 +204,21 @@ fed-code {s} {r} {x} kept whole none =
     let past = note_latest (codes_of r) x in record {
       fed = omega (arith, kept.fed);
       prefix = ap (λ p. next_prefix p x) kept.prefix ∙ sym (matched-more x r);
-      latest = ap (λ n. latest_of (record { place = n - 3; kind = x; header = [] } ∷ past)) kept.fed ∙ ap latest_of (sym codes);
+      latest =
+          ap (λ n. latest_of (record { place = n - 3; kind = x; header = [] } ∷ past)) kept.fed
+          ∙ ap latest_of (sym codes);
       tally = tally-noted s r x kept ∙ ap (λ (l : List Code). tally_of (older_of l)) (sym codes);
       accepted = first_fault-at s r x kept whole ∙ none;
     }
 
-pub calls-cons : (c : Code) (past : List Code) → calls_of (c ∷ past) ≡ calls_of past ++ calls_at (tally_of past) c.place c.kind
+pub calls-cons : (c : Code) (past : List Code)
+    → calls_of (c ∷ past) ≡ calls_of past ++ calls_at (tally_of past) c.place c.kind
 unfolding calls_of
 calls-cons c past = refl
 
 -- what is told at a byte
-pub calls-plain : (x : ℕ) (r : List ℕ) → is_whole (latest_prefix r) ≡ false → calls_of (codes_of (x ∷ r)) ≡ calls_of (codes_of r)
+pub calls-plain : (x : ℕ) (r : List ℕ) → is_whole (latest_prefix r) ≡ false
+    → calls_of (codes_of (x ∷ r)) ≡ calls_of (codes_of r)
 calls-plain x r plain = ap calls_of (codes-plain x r plain) ∙ calls-note (codes_of r) x
 
 pub calls-at_code : (s : Progress) (r : List ℕ) (x : ℕ) → HasRead s r
@@ -221,7 +230,8 @@ calls-at_code s r x kept whole =
     ap calls_of (codes-code x r whole) ∙ calls-cons (record { place = length r - 3; kind = x; header = [] }) past
     ∙ ap (λ (l : List Call). l ++ calls_at (tally_of past) (length r - 3) x) (calls-note (codes_of r) x)
     ∙ ap (λ (t : Tally). calls_of (codes_of r) ++ calls_at t (length r - 3) x) (sym (tally-noted s r x kept))
-    ∙ ap (λ n. calls_of (codes_of r) ++ calls_at (tally_with (scan_with_byte s x).latest s.tally) (n - 3) x) (sym kept.fed)
+    ∙ ap (λ n. calls_of (codes_of r) ++ calls_at (tally_with (scan_with_byte s x).latest s.tally) (n - 3) x)
+    (sym kept.fed)
 
 -- ---- as the code takes a byte
 
@@ -251,7 +261,8 @@ taken-code {s} {m} {r} {x} {place} code h =
     sym (ap (λ (v : Progress). code_judgement v.latest v.tally place x) noted
     ∙ ap (λ p. code_judgement (scan_with_byte s x).latest s.tally p x) place_is) ∙ h.0 in
     let became : m ≡ scan_with_code (scan_with_byte s x) (s.fed - 3) x =
-    h.1 ∙ ap (λ (v : Progress). scan_with_code v place x) noted ∙ ap (λ p. scan_with_code (scan_with_byte s x) p x) place_is in
+    h.1 ∙ ap (λ (v : Progress). scan_with_code v place x) noted
+    ∙ ap (λ p. scan_with_code (scan_with_byte s x) p x) place_is in
     subst (λ (v : Progress). HasRead v (x ∷ r)) (sym became) (fed-code kept (whole-before code) none)
   where
     open code use {noted, place_is, kept}
@@ -266,11 +277,13 @@ taken-fault {s} {r} {x} {place} code h =
     open code use {noted, place_is, kept}
 
 pub taken-calls : {s n : Progress} {r : List ℕ} {x place : ℕ} → CodeNoted s n r x place → (calls : List Call)
-    → (calls ++ calls_of (codes_of r)) ++ calls_at (tally_with n.latest n.tally) place x ≡ calls ++ calls_of (codes_of (x ∷ r))
+    → (calls ++ calls_of (codes_of r)) ++ calls_at (tally_with n.latest n.tally) place x ≡ calls ++ calls_of
+    (codes_of (x ∷ r))
 taken-calls {s} {n} {r} {x} {place} code calls =
     append_assoc calls (calls_of (codes_of r)) (calls_at (tally_with n.latest n.tally) place x)
     ∙ ap (λ (v : Progress). calls ++ (calls_of (codes_of r) ++ calls_at (tally_with v.latest v.tally) place x)) noted
-    ∙ ap (λ p. calls ++ (calls_of (codes_of r) ++ calls_at (tally_with (scan_with_byte s x).latest s.tally) p x)) place_is
+    ∙ ap (λ p. calls ++ (calls_of (codes_of r) ++ calls_at
+    (tally_with (scan_with_byte s x).latest s.tally) p x)) place_is
     ∙ ap (λ (l : List Call). calls ++ l) (sym (calls-at_code s r x kept (whole-before code)))
   where
     open code use {noted, place_is, kept}

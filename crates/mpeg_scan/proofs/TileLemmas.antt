@@ -71,63 +71,67 @@ takes-unit {u} {unit} {head_end} {place} m ends some =
     (and_from ((eqb u.from unit && (eqb u.head_end head_end && eqb u.to place))) (eqb u.slices (m + 1) && ltb 0 (m + 1))
     (and_from (eqb u.from unit) (eqb u.head_end head_end && eqb u.to place) (eq-eqb u.from unit from)
     (and_from (eqb u.head_end head_end) (eqb u.to place) (eq-eqb u.head_end head_end head) (eq-eqb u.to place to)))
-    (and_from (eqb u.slices (m + 1)) (ltb 0 (m + 1)) (eq-eqb u.slices (m + 1) (slices ∙ some)) (lt-ltb 0 (m + 1) (omega arith))))
+    (and_from (eqb u.slices (m + 1)) (ltb 0 (m + 1)) (eq-eqb u.slices (m + 1) (slices ∙ some))
+    (lt-ltb 0 (m + 1) (omega arith))))
   where
     open ends use {from, head, to, slices}
 
 -- what the calls at a code tell of: the latest unit and its latest slice, the code's place, and the unit that
 -- would end there
-pub record Told : Type 0 where
+pub record CodeEnds : Type 0 where
   pub unit : ℕ
   pub slice : ℕ
   pub place : ℕ
   pub ended : PictureUnit
 
-abbrev pub told_at : Tally → ℕ → Told
-told_at t place = record { unit = t.unit; slice = t.slice; place = place; ended = unit_at t place }
+abbrev pub ends_at : Tally → ℕ → CodeEnds
+ends_at t place = record { unit = t.unit; slice = t.slice; place = place; ended = unit_at t place }
 
 -- the calls at a code, by tests: s, h: it is a slice, a head code; q, e: there were slices, there were none
-abbrev pub raw_calls : Bool → Bool → Bool → Bool → Told → List Call
-raw_calls s h q e told =
-    cond s (cond e (head_call told.unit told.place ∷ []) (slice_call told.slice told.place ∷ []))
-    (cond (h && q) (slice_call told.slice told.place ∷ unit_call told.ended ∷ []) [])
+abbrev pub raw_calls : Bool → Bool → Bool → Bool → CodeEnds → List Call
+raw_calls s h q e here =
+    cond s (cond e (head_call here.unit here.place ∷ []) (slice_call here.slice here.place ∷ []))
+    (cond (h && q) (slice_call here.slice here.place ∷ unit_call here.ended ∷ []) [])
 
 -- a code that may stand after a unit of n slices
-record MayStand (s h : Bool) (n head_end : ℕ) (told : Told) : Type 0 where
+record MayStand (s h : Bool) (n head_end : ℕ) (here : CodeEnds) : Type 0 where
   apart : s ≡ true → h ≡ false
-  head : s ≡ true → n ≡ 0 → (told.unit < told.place) × (told.place - told.unit ≤ 1380)
-  spaced : 0 < n → told.slice + 4 ≤ told.place
-  ends : EndsAs told.ended told.unit head_end told.place n
+  head : s ≡ true → n ≡ 0 → (here.unit < here.place) × (here.place - here.unit ≤ 1380)
+  spaced : 0 < n → here.slice + 4 ≤ here.place
+  ends : EndsAs here.ended here.unit head_end here.place n
 
 -- the part after those calls
-raw-step : {s h : Bool} {n head_end : ℕ} {told : Told} → MayStand s h n head_end told → (n ≡ 0) ⊎ ((m : ℕ) × (n ≡ m + 1))
-    → parts_after (Some (part_by n told.unit head_end told.slice)) (raw_calls s h (ltb 0 n) (eqb n 0) told)
-    ≡ Some (part_by (cond h 0 (cond s (n + 1) n)) (cond (h && ltb 0 n) told.place told.unit)
-    (cond (s && eqb n 0) told.place head_end) (cond s told.place told.slice))
+raw-step : {s h : Bool} {n head_end : ℕ} {here : CodeEnds} → MayStand s h n head_end here
+    → (n ≡ 0) ⊎ ((m : ℕ) × (n ≡ m + 1))
+    → parts_after (Some (part_by n here.unit head_end here.slice)) (raw_calls s h (ltb 0 n) (eqb n 0) here)
+    ≡ Some (part_by (cond h 0 (cond s (n + 1) n)) (cond (h && ltb 0 n) here.place here.unit)
+    (cond (s && eqb n 0) here.place head_end) (cond s here.place here.slice))
 raw-step {s = true} {h = true} may count = absurd (true≢false (may.apart refl))
-raw-step {s = true} {h = false} {n} {head_end} {told} may (inl none) =
+raw-step {s = true} {h = false} {n} {head_end} {here} may (inl none) =
     ap (λ (p : Part). parts_after (Some p)
-    (cond (eqb n 0) (head_call unit place ∷ []) (slice_call slice place ∷ []))) (part_by-none n unit head_end slice none)
+    (cond (eqb n 0) (head_call unit place ∷ []) (slice_call slice place ∷ [])))
+    (part_by-none n unit head_end slice none)
     ∙ ap (λ b. parts_after (Some (between unit))
     (cond b (head_call unit place ∷ []) (slice_call slice place ∷ []))) (eq-eqb n 0 none)
     ∙ takes-head unit place (may.head refl none).0 (may.head refl none).1
     ∙ sym (ap (λ b. Some (part_by (n + 1) unit (cond b place head_end) place)) (eq-eqb n 0 none)
     ∙ ap (λ (p : Part). Some p) (part_by-some (n + 1) 0 unit place place (omega arith)))
   where
-    open told use {unit, slice, place}
-raw-step {s = true} {h = false} {n} {head_end} {told} may (inr some) =
+    open here use {unit, slice, place}
+raw-step {s = true} {h = false} {n} {head_end} {here} may (inr some) =
     ap (λ (p : Part). parts_after (Some p)
     (cond (eqb n 0) (head_call unit place ∷ []) (slice_call slice place ∷ [])))
     (part_by-some n some.0 unit head_end slice some.1)
     ∙ ap (λ b. parts_after (Some (within unit head_end slice some.0))
-    (cond b (head_call unit place ∷ []) (slice_call slice place ∷ []))) (ne_eqb n 0 (λ none. absurd (omega (arith, some.1))))
+    (cond b (head_call unit place ∷ []) (slice_call slice place ∷ [])))
+    (ne_eqb n 0 (λ none. absurd (omega (arith, some.1))))
     ∙ takes-slice unit head_end slice some.0 [] (may.spaced (omega (arith, some.1)))
     ∙ sym (ap (λ b. Some (part_by (n + 1) unit (cond b place head_end) place))
     (ne_eqb n 0 (λ none. absurd (omega (arith, some.1))))
     ∙ ap (λ (p : Part). Some p) (part_by-some (n + 1) (some.0 + 1) unit head_end place (omega (arith, some.1))))
   where
-    open told use {unit, slice, place}
-raw-step {s = false} {h = true} {n} {head_end} {told} may (inl none) =
+    open here use {unit, slice, place}
+raw-step {s = false} {h = true} {n} {head_end} {here} may (inl none) =
     ap (λ (p : Part). parts_after (Some p) (cond (ltb 0 n) (slice_call slice place ∷ unit_call u ∷ []) []))
     (part_by-none n unit head_end slice none)
     ∙ ap (λ b. parts_after (Some (between unit)) (cond b (slice_call slice place ∷ unit_call u ∷ []) []))
@@ -135,8 +139,8 @@ raw-step {s = false} {h = true} {n} {head_end} {told} may (inl none) =
     ∙ sym (ap (λ b. Some (part_by 0 (cond b place unit) head_end slice)) (le-ltb 0 n (omega arith))
     ∙ ap (λ (p : Part). Some p) (part_by-none 0 unit head_end slice refl))
   where
-    open told use {unit, slice, place, ended as u}
-raw-step {s = false} {h = true} {n} {head_end} {told} may (inr some) =
+    open here use {unit, slice, place, ended as u}
+raw-step {s = false} {h = true} {n} {head_end} {here} may (inr some) =
     ap (λ (p : Part). parts_after (Some p) (cond (ltb 0 n) (slice_call slice place ∷ unit_call u ∷ []) []))
     (part_by-some n some.0 unit head_end slice some.1)
     ∙ ap (λ b. parts_after (Some (within unit head_end slice some.0))
@@ -146,7 +150,7 @@ raw-step {s = false} {h = true} {n} {head_end} {told} may (inr some) =
     ∙ sym (ap (λ b. Some (part_by 0 (cond b place unit) head_end slice)) (lt-ltb 0 n (omega (arith, some.1)))
     ∙ ap (λ (p : Part). Some p) (part_by-none 0 place head_end slice refl))
   where
-    open told use {unit, slice, place, ended as u}
+    open here use {unit, slice, place, ended as u}
 raw-step {s = false} {h = false} may count = refl
 
 -- ---- all codes
@@ -156,7 +160,8 @@ parts-none [] = refl
 parts-none (call ∷ calls) = refl
 
 parts-append : (o : Option Part) (a b : List Call) → parts_after o (a ++ b) ≡ parts_after (parts_after o a) b
-parts-append None a b = parts-none (a ++ b) ∙ sym (parts-none b) ∙ ap (λ (o : Option Part). parts_after o b) (sym (parts-none a))
+parts-append None a b =
+    parts-none (a ++ b) ∙ sym (parts-none b) ∙ ap (λ (o : Option Part). parts_after o b) (sym (parts-none a))
 parts-append (Some part) [] b = refl
 parts-append (Some part) (call ∷ a) b = parts-append (next_part part call) a b
 
@@ -189,26 +194,30 @@ first_slice-head t place kind e slice none =
     (and_from (is_slice kind) (eqb t.slices 0) slice (eq-eqb t.slices 0 none))) ∙ e)
 
 -- what a code that isn't refused tells
-pub first_slice-accepted : (t : Tally) (place kind : ℕ) → code_fault t place kind ≡ None → first_slice_fault t place kind ≡ None
+pub first_slice-accepted : (t : Tally) (place kind : ℕ) → code_fault t place kind ≡ None
+    → first_slice_fault t place kind ≡ None
 first_slice-accepted t place kind e =
     let rest = otherwise-second (kind_fault t place kind)
-    (first_refusal (second_fault t kind) (first_refusal (first_slice_fault t place kind) (count_fault t place kind))) e in
+    (first_refusal (second_fault t kind) (first_refusal (first_slice_fault t place kind)
+    (count_fault t place kind))) e in
     let last = otherwise-second (second_fault t kind)
     (first_refusal (first_slice_fault t place kind) (count_fault t place kind)) rest in
     otherwise-first (first_slice_fault t place kind) (count_fault t place kind) last
 
 code-step : (c d : Code) (past : List Code) → code_fault (tally_of (d ∷ past)) c.place c.kind ≡ None
     → Spaced (c ∷ (d ∷ past))
-    → parts_after (Some (part_of (d ∷ past))) (calls_at (tally_of (d ∷ past)) c.place c.kind) ≡ Some (part_of (c ∷ (d ∷ past)))
+    → parts_after (Some (part_of (d ∷ past))) (calls_at (tally_of (d ∷ past)) c.place c.kind) ≡ Some
+    (part_of (c ∷ (d ∷ past)))
 unfolding calls_at
 code-step c d past e spaced =
     let older : List Code = d ∷ past in
     let may : MayStand (is_slice c.kind) (is_head c.kind) (slice_count older) (head_end_of older)
-    (told_at (tally_of older) c.place) = record {
+    (ends_at (tally_of older) c.place) = record {
       apart = slice-apart c.kind;
       head = λ slice none. (
         omega (arith, unit-before d past c.place spaced.1 spaced.0),
-        first_slice-head (tally_of older) c.place c.kind (first_slice-accepted (tally_of older) c.place c.kind e) slice none,
+        first_slice-head (tally_of older) c.place c.kind
+            (first_slice-accepted (tally_of older) c.place c.kind e) slice none,
       );
       spaced = slice-before older c.place spaced.1 spaced.0;
       ends = record { from = refl; head = refl; to = refl; slices = refl };
@@ -216,7 +225,8 @@ code-step c d past e spaced =
     raw-step may (count-cases (slice_count older))
 
 first-kind : (a b q : Bool) (place : ℕ)
-    → cond a (Some (SystemCode place)) (cond b (Some (Mpeg2 place)) (cond (not q) (Some NoSequence) None)) ≡ None → q ≡ true
+    → cond a (Some (SystemCode place)) (cond b (Some (Mpeg2 place)) (cond (not q) (Some NoSequence) None)) ≡ None
+    → q ≡ true
 first-kind true b q place e = absurd (cc)
 first-kind false true q place e = absurd (cc)
 first-kind false false true place e = refl
@@ -278,12 +288,14 @@ end-step past n some apart = elim (count-cases (slice_count past)) [
       record { from = refl; head = refl; to = refl; slices = refl } in
       ap (λ (p : Part). parts_after (Some p) (unit_end (tally_of past) n))
       (part_by-some (slice_count past) more.0 (latest_unit past) (head_end_of past) (latest_slice past) more.1)
-      ∙ takes-slice (latest_unit past) (head_end_of past) (latest_slice past) more.0 (unit_call (unit_at (tally_of past) n) ∷ []) apart
+      ∙ takes-slice (latest_unit past) (head_end_of past) (latest_slice past) more.0
+      (unit_call (unit_at (tally_of past) n) ∷ []) apart
       ∙ takes-unit more.0 ends more.1)
 ]
 
 whole-tiles : (past : List Code) (n : ℕ) → first_fault past ≡ None → end_fault past n ≡ None → Spaced past
-    → After n past → parts_after (Some (between (first_of past))) (calls_of past ++ unit_end (tally_of past) n) ≡ Some (between n)
+    → After n past → parts_after (Some (between (first_of past))) (calls_of past ++ unit_end (tally_of past) n) ≡ Some
+    (between n)
 unfolding end_fault
 whole-tiles [] n accepted ended spaced after = absurd (omega (arith, ended-none (tally_of []) ended))
 whole-tiles (c ∷ past) n accepted ended spaced after =

@@ -29,11 +29,15 @@ invariant_of-result c =
     let r = read_after [] c.args.bytes.items in
     let kept = subst (λ (l : List ℕ). HasScannedBytes c.feed.new.self (read_after [] l)) c.deref.ensures.value
     (c.in_ok-feed.ensures.kept [] c.new-scanner.ensures.fed) in
-    let first = c.in_ok-feed.ensures.heard [] [] c.new-scanner.ensures.fed
-    (c.new-found.ensures.units ∙ sym (ap units_in calls-none), c.new-found.ensures.slices ∙ sym (ap slices_in calls-none)) in
+    let first = c.in_ok-feed.ensures.heard [] [] c.new-scanner.ensures.fed (
+      c.new-found.ensures.units ∙ sym (ap units_in calls-none),
+      c.new-found.ensures.slices
+          ∙ sym (ap slices_in calls-none),
+    ) in
     let start = subst (λ (l : List ℕ).
     (c.feed.new.found.units.items ≡ units_in (calls_of (codes_of (read_after [] l))))
-    × (c.feed.new.found.slices.items ≡ slices_in (calls_of (codes_of (read_after [] l))))) c.deref.ensures.value first in
+    × (c.feed.new.found.slices.items ≡ slices_in
+    (calls_of (codes_of (read_after [] l))))) c.deref.ensures.value first in
     let all = c.in_ok-ending.ensures.heard r [] kept start in
     let ended = c.in_ok-ending.ensures.ended r kept in
     record { grammar = record { accepted = ended.0; rate = ended.1; units = all.0; slices = all.1 } }

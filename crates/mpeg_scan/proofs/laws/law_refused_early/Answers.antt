@@ -9,7 +9,8 @@ pub returns : goal.returns
 returns c = record {
   code = λ front rest f short is.
       let whole : first_fault (codes_of (read_after [] (front ++ rest))) ≡ Some f =
-      ap (λ (l : List ℕ). first_fault (codes_of l)) (read-append [] front rest) ∙ fault-stays rest (read_after [] front) f is in
+      ap (λ (l : List ℕ). first_fault (codes_of l)) (read-append [] front rest)
+      ∙ fault-stays rest (read_after [] front) f is in
       refusal-at_code (front ++ rest) f short whole;
   long = λ bytes far. refusal-too_long bytes far;
 }

@@ -16,6 +16,8 @@ returns c =
       group = film-group film.grammar;
       begins = film-begins film.grammar;
       chained = (first_of (codes_of (read_after [] bytes)), film-chained bytes film.rate units starts film.grammar);
-      within = λ k u is. (laid-at (length bytes) starts units k is (film-laid bytes film.rate units starts film.grammar)).0;
-      laid = λ k u is. (laid-at (length bytes) starts units k is (film-laid bytes film.rate units starts film.grammar)).1;
+      within =
+          λ k u is. (laid-at (length bytes) starts units k is (film-laid bytes film.rate units starts film.grammar)).0;
+      laid =
+          λ k u is. (laid-at (length bytes) starts units k is (film-laid bytes film.rate units starts film.grammar)).1;
     }

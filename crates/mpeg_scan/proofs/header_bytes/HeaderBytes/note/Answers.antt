@@ -15,5 +15,7 @@ pub returns-else-self-lt-LONGEST : goal.returns-else-self-lt-LONGEST
 returns-else-self-lt-LONGEST c =
     let t = c.self.inside in
     let held : t.len ≤ length t.bytes = omega (arith, c.self.told, c.self.invariant) in
-    let shown : length (take t.len t.bytes) ≡ length c.args.self.now = ap (λ (header : List ℕ). length header) c.self.view_is in
-    noted-full c.args.self.now c.args.byte (omega (arith, length-take-le t.len t.bytes held, shown, c.if-self-lt-LONGEST.false))
+    let shown : length (take t.len t.bytes) ≡ length c.args.self.now =
+    ap (λ (header : List ℕ). length header) c.self.view_is in
+    noted-full c.args.self.now c.args.byte (omega
+    (arith, length-take-le t.len t.bytes held, shown, c.if-self-lt-LONGEST.false))

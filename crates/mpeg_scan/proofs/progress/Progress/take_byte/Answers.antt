@@ -13,7 +13,8 @@ take_code-requires-clause-room g c =
 
 pub take_code-requires-clause-ready : goal.take_code-requires-clause-ready
 take_code-requires-clause-ready g c =
-    noted-awaits (g.F.Found.ready_at c.args.found.now) c.args.self.now c.note-2.new.self c.args.byte c.note-2.ensures c.requires.ready
+    noted-awaits (g.F.Found.ready_at c.args.found.now) c.args.self.now c.note-2.new.self c.args.byte
+    c.note-2.ensures c.requires.ready
 
 pub returns-clause-kept : goal.returns-clause-kept
 returns-clause-kept g c =
@@ -71,8 +72,10 @@ returns-then-not-is_whole-clause-heard g c =
     (taken-none c.args.byte (sym c.if-not-is_whole.ensures) kept calls) heard
 
 pub returns-then-not-is_whole-clause-room : goal.returns-then-not-is_whole-clause-room
-returns-then-not-is_whole-clause-room g c = noted-ahead c.args.self.now c.note.new.self c.args.byte c.note.ensures c.requires.room
+returns-then-not-is_whole-clause-room g c =
+    noted-ahead c.args.self.now c.note.new.self c.args.byte c.note.ensures c.requires.room
 
 pub returns-then-not-is_whole-clause-ready : goal.returns-then-not-is_whole-clause-ready
 returns-then-not-is_whole-clause-ready g c =
-    noted-awaits (g.F.Found.ready_at c.args.found.now) c.args.self.now c.note.new.self c.args.byte c.note.ensures c.requires.ready
+    noted-awaits (g.F.Found.ready_at c.args.found.now) c.args.self.now c.note.new.self c.args.byte
+    c.note.ensures c.requires.ready

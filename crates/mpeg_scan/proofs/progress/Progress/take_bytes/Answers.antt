@@ -85,7 +85,8 @@ returns-in_err-take_byte-clause-heard_before g c =
     let at = c.loop-at.at in
     let n = c.skip-at.result in
     let b = at + n in
-    let p = err_from_is_err_and c.from_residual.result c.from_residual.ensures.1 in rw (p.1, p.2) λ f is r calls kept heard.
+    let p =
+    err_from_is_err_and c.from_residual.result c.from_residual.ensures.1 in rw (p.1, p.2) λ f is r calls kept heard.
     let here : HasRead c.skip-at.new.self (read_after r (take b chunk)) =
     subst (λ (q : List ℕ). HasRead c.skip-at.new.self q) (read-run r chunk at n)
     (c.skip-at.ensures.kept (read_after r (take at chunk)) (i.kept r kept)) in
