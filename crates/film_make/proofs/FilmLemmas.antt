@@ -59,13 +59,15 @@ pub body-step : {was : List ℕ} {left : ℕ → ℕ} {d : ℕ} (start : List �
     → was ++ (128 + d) ∷ [] ≡ start ++ body_of words (i + 1)
 body-step {left} {d} start words i bytes rest drawn =
     let byte : d ≡ words i % 128 =
-    drawn ∙ ap (λ (w : ℕ → ℕ). w 0 % 128) rest ∙ ap (λ n. n % 128) (words_after-at i words 0) ∙ ap (λ n. words n % 128) (omega arith) in
+    drawn ∙ ap (λ (w : ℕ → ℕ). w 0 % 128) rest ∙ ap (λ n. n % 128) (words_after-at i words 0)
+    ∙ ap (λ n. words n % 128) (omega arith) in
     ap (λ (l : List ℕ). l ++ (128 + d) ∷ []) bytes ∙ append_assoc start (body_of words i) ((128 + d) ∷ [])
     ∙ ap (λ n. start ++ (body_of words i ++ (128 + n) ∷ [])) byte
     ∙ ap (λ (l : List ℕ). start ++ l) (sym (body_of-more words i))
 
 -- a draw more
-pub words_after-step : (words left : ℕ → ℕ) (i : ℕ) → left ≡ words_after i words → words_after 1 left ≡ words_after (i + 1) words
+pub words_after-step : (words left : ℕ → ℕ) (i : ℕ) → left ≡ words_after i words
+    → words_after 1 left ≡ words_after (i + 1) words
 words_after-step words left i rest = ap (words_after 1) rest ∙ words_after-twice 1 i words
 
 -- a part more, which is drawn from what is left
@@ -105,7 +107,8 @@ pub after_slice-step : {words left end : ℕ → ℕ} {kind : CodingType} {n : �
     → end ≡ words_after n left → end ≡ after_slice kind words
 unfolding after_slice
 after_slice-step {words} {n} drawn last =
-    last ∙ ap (words_after n) drawn.rest ∙ words_after-twice n 1 words ∙ ap (λ m. words_after (1 + m) words) drawn.length
+    last ∙ ap (words_after n) drawn.rest ∙ words_after-twice n 1 words
+    ∙ ap (λ m. words_after (1 + m) words) drawn.length
 
 end_to_end-first : (part : ℕ → List ℕ) (n : ℕ) → (rest : List ℕ) × (end_to_end part (suc n) ≡ part 0 ++ rest)
 unfolding end_to_end
@@ -126,7 +129,8 @@ film-begins words (suc n) some =
     ∙ picture-first (picture_words words 0) (first.0 ++ sequence_end)
 
 -- fewer parts stand in front of more
-end_to_end-front : (part : ℕ → List ℕ) (m d : ℕ) → (rest : List ℕ) × (end_to_end part (m + d) ≡ end_to_end part m ++ rest)
+end_to_end-front : (part : ℕ → List ℕ) (m d : ℕ)
+    → (rest : List ℕ) × (end_to_end part (m + d) ≡ end_to_end part m ++ rest)
 end_to_end-front part m zero =
     ([], ap (end_to_end part) (let same : m + 0 ≡ m = omega arith in same) ∙ sym (append-nil (end_to_end part m)))
 end_to_end-front part m (suc d) =
@@ -136,7 +140,8 @@ end_to_end-front part m (suc d) =
           ∙ ap (λ (l : List ℕ). l ++ part (m + d)) fewer.1 ∙ append_assoc (end_to_end part m) fewer.0 (part (m + d)),
     )
 
-pub pictures-front : (words : ℕ → ℕ) (m n : ℕ) → m ≤ n → (rest : List ℕ) × (pictures_of words n ≡ pictures_of words m ++ rest)
+pub pictures-front : (words : ℕ → ℕ) (m n : ℕ) → m ≤ n
+    → (rest : List ℕ) × (pictures_of words n ≡ pictures_of words m ++ rest)
 pictures-front words m n few =
     let front = end_to_end-front (λ (k : ℕ). picture_of (picture_words words k) k) m (n - m) in
     (front.0, ap (pictures_of words) (let same : n ≡ m + (n - m) = omega (arith, few) in same) ∙ front.1)

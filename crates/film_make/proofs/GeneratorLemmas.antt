@@ -13,7 +13,8 @@ words_left-first g h = ap (word_at 4 g.key g.stream) (omega arith)
 pub words_left-rest : (g : ChaCha) → words_left (next_word 4 g).1 ≡ words_after 1 (words_left g)
 unfolding words_left words_after
 words_left-rest g i k =
-    ap (word_at 4 g.key g.stream) (mod-add-mod (g.word_pos + 1) (2 ^ 68) k ∙ ap (λ n. n % 2 ^ 68) (add_assoc g.word_pos 1 k)) i
+    ap (word_at 4 g.key g.stream) (mod-add-mod (g.word_pos + 1) (2 ^ 68) k
+    ∙ ap (λ n. n % 2 ^ 68) (add_assoc g.word_pos 1 k)) i
 
 -- the words of a number are left at first
 pub words_left-start : (number : ℕ)

@@ -1,3 +1,4 @@
+pub mod Steps
 pub mod GeneratorLemmas
 mod FilmLemmas
 pub mod TraceLemmas

@@ -14,10 +14,12 @@ use Rattle.film_make.specs.Film.{slice_words, slices_of, temporal_reference}
 use Rattle.film_make.specs.Generator.{words_after, end_to_end}
 
 -- a slice of a kind of picture has a length within these bounds
-slice-length : (words : ℕ → ℕ) (kind : CodingType) (code : ℕ) → length (slice_of words kind code) ≡ 4 + body_length words kind
+slice-length : (words : ℕ → ℕ) (kind : CodingType) (code : ℕ)
+    → length (slice_of words kind code) ≡ 4 + body_length words kind
 unfolding slice_of body_of
 slice-length words kind code =
-    let body = length-map-range_with_len (λ i. 128 + words_after 1 words i % 128) 0 (body_length words kind) in omega (arith, body)
+    let body =
+    length-map-range_with_len (λ i. 128 + words_after 1 words i % 128) 0 (body_length words kind) in omega (arith, body)
 
 -- a length of a body
 record HasBounds (least most length : ℕ) : Type 0 where
@@ -48,7 +50,8 @@ slices-length words kind least most body =
     ≡ length (s 0) + (length (s 1) + (length (s 2) + (length (s 3) + 0))) =
     length-append (s 0) (s 1 ++ (s 2 ++ (s 3 ++ [])))
     ∙ ap (λ n. length (s 0) + n) (length-append (s 1) (s 2 ++ (s 3 ++ []))
-    ∙ ap (λ n. length (s 1) + n) (length-append (s 2) (s 3 ++ []) ∙ ap (λ n. length (s 2) + n) (length-append (s 3) []))) in
+    ∙ ap (λ n. length (s 1) + n) (length-append (s 2) (s 3 ++ [])
+    ∙ ap (λ n. length (s 2) + n) (length-append (s 3) []))) in
     let a = slice-length (w 0) kind 1 in
     let b = slice-length (w 1) kind 2 in
     let c = slice-length (w 2) kind 3 in
@@ -77,7 +80,8 @@ pub picture-headers : (words : ℕ → ℕ) (k : ℕ)
 unfolding picture_of picture_header
 picture-headers words k =
     let front : List ℕ = cond (eqb (k % 12) 0) sequence_and_group [] in
-    let header : List ℕ = 0 ∷ 0 ∷ 1 ∷ 0 ∷ in_bytes (picture_fields (coding_type (k % 12)) (temporal_reference (k % 12))) in (
+    let header : List ℕ =
+    0 ∷ 0 ∷ 1 ∷ 0 ∷ in_bytes (picture_fields (coding_type (k % 12)) (temporal_reference (k % 12))) in (
       front ++ header,
       (
         refl,
@@ -96,7 +100,8 @@ picture-length words k =
     ∙ ap (λ n. n + length (slices_of words (coding_type (k % 12)) 4)) parts.1.1
 
 sized : {least most front : ℕ} {kind : CodingType} (words : ℕ → ℕ) (k : ℕ) → coding_type (k % 12) ≡ kind →
-    length (cond (eqb (k % 12) 0) sequence_and_group []) ≡ front → ((w : ℕ → ℕ) → HasBounds least most (body_length w kind)) →
+    length (cond (eqb (k % 12) 0) sequence_and_group []) ≡ front
+    → ((w : ℕ → ℕ) → HasBounds least most (body_length w kind)) →
     (front + header-length kind k + 4 * (4 + least) ≤ length (picture_of words k))
     × (length (picture_of words k) ≤ front + header-length kind k + 4 * (4 + most))
 sized {least} {most} {front} {kind} words k is headers body =
@@ -135,8 +140,10 @@ intra-size words k first = sized words k (kind-first (k % 12) first) (front-firs
 
 pub predicted-size : (words : ℕ → ℕ) (k : ℕ) → k % 12 % 2 ≡ 1
     → (9 + 4 * (4 + 60) ≤ length (picture_of words k)) × (length (picture_of words k) ≤ 9 + 4 * (4 + 459))
-predicted-size words k odd = sized words k (kind-odd (k % 12) odd) (front-other (k % 12) (omega (arith, odd))) predicted-body
+predicted-size words k odd =
+    sized words k (kind-odd (k % 12) odd) (front-other (k % 12) (omega (arith, odd))) predicted-body
 
 pub bidirectional-size : (words : ℕ → ℕ) (k : ℕ) → 0 < k % 12 → k % 12 % 2 ≡ 0
     → (9 + 4 * (4 + 30) ≤ length (picture_of words k)) × (length (picture_of words k) ≤ 9 + 4 * (4 + 229))
-bidirectional-size words k some even = sized words k (kind-even (k % 12) some even) (front-other (k % 12) some) bidirectional-body
+bidirectional-size words k some even =
+    sized words k (kind-even (k % 12) some even) (front-other (k % 12) some) bidirectional-body

@@ -1,5 +1,6 @@
 -- The slices of a picture.
-use Rattle.std.proofs.Common.{ℕ, ◌+◌, ◌%◌, ◌<◌, ◌≤◌, ◌≡◌, ◌≢◌, List, [], ◌++◌, cond, eqb, length, refl, ap, arith, inl, inr, subst}
+use Rattle.std.proofs.Common.{ℕ, ◌+◌, ◌%◌, ◌<◌, ◌≤◌, ◌≡◌, ◌≢◌, List, [], ◌++◌, cond, eqb, length}
+use Rattle.std.proofs.Common.{refl, ap, arith, inl, inr, subst}
 use Rattle.std.specs.List.{range_with_len}
 use Rattle.std.proofs.lemmas.Bool.{cases_lt}
 use Rattle.std.proofs.lemmas.List.Elements.{All-map}
@@ -8,7 +9,8 @@ use Rattle.film_make.specs.Film.{body_length, body_of, coding_type, picture_of, 
 use Rattle.film_make.specs.Film.{slice_of, slice_words, slices_of}
 use Rattle.film_make.specs.Generator.{words_after, end_to_end}
 use Rattle.film_make.specs.Slices.{AreSlices, EndsWithSlices, IsBody}
-use Rattle.film_make.proofs.SizeLemmas.{front-first, front-other, header-length, kind-even, kind-first, kind-odd, picture-headers}
+use Rattle.film_make.proofs.SizeLemmas.{front-first, front-other, header-length, kind-even}
+use Rattle.film_make.proofs.SizeLemmas.{kind-first, kind-odd, picture-headers}
 
 body-is : (words : ℕ → ℕ) (n : ℕ) → IsBody (body_of words n)
 unfolding body_of
@@ -74,7 +76,8 @@ headers-other k j some = elim (cases_lt (j % 2) 1) [
 
 ends-with : (words : ℕ → ℕ) (k : ℕ)
     → EndsWithSlices
-    (length (cond (eqb (k % 12) 0) sequence_and_group []) + header-length (coding_type (k % 12)) k) 4 (picture_of words k)
+    (length (cond (eqb (k % 12) 0) sequence_and_group []) + header-length (coding_type (k % 12)) k) 4
+    (picture_of words k)
 ends-with words k =
     let parts = picture-headers words k in
     record {
@@ -91,4 +94,5 @@ first-slices words k first =
 
 pub other-slices : (words : ℕ → ℕ) (k : ℕ) → k % 12 ≢ 0 → EndsWithSlices 9 4 (picture_of words k)
 other-slices words k other =
-    subst (λ n. EndsWithSlices n 4 (picture_of words k)) (headers-other k (k % 12) (omega (arith, other))) (ends-with words k)
+    subst (λ n. EndsWithSlices n 4 (picture_of words k)) (headers-other k (k % 12) (omega (arith, other)))
+    (ends-with words k)

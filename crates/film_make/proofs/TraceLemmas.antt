@@ -25,7 +25,8 @@ pub trace_size-drawn : (words left : ℕ → ℕ) (k : ℕ) → left ≡ words_a
 unfolding trace_size
 trace_size-drawn words left k rest =
     let same : k + 0 ≡ k = omega arith in
-    ap (λ n. cond (eqb (k % 12) 0) 4 1 * (200 + n % 1800)) (ap (λ (w : ℕ → ℕ). w 0) rest ∙ words_after-at k words 0 ∙ ap words same)
+    ap (λ n. cond (eqb (k % 12) 0) 4 1 * (200 + n % 1800))
+    (ap (λ (w : ℕ → ℕ). w 0) rest ∙ words_after-at k words 0 ∙ ap words same)
 
 -- a line more
 pub line-step : {was : List ℕ} {left : ℕ → ℕ} {size : ℕ} (words : ℕ → ℕ) (k : ℕ)
@@ -81,8 +82,10 @@ lines-from : (words : ℕ → ℕ) (a n : ℕ)
     → flat_map (λ k. decimal (trace_size words k) ++ 10 ∷ []) (range_with_len a n)
     ≡ flat_map (λ size. decimal size ++ 10 ∷ []) (map (trace_size words) (range_with_len a n))
 lines-from words a zero = refl
-lines-from words a (suc n) = ap (λ (l : List ℕ). (decimal (trace_size words a) ++ 10 ∷ []) ++ l) (lines-from words (a + 1) n)
+lines-from words a (suc n) =
+    ap (λ (l : List ℕ). (decimal (trace_size words a) ++ 10 ∷ []) ++ l) (lines-from words (a + 1) n)
 
-pub trace-lines : (words : ℕ → ℕ) (n : ℕ) → trace_of words n ≡ flat_map (λ size. decimal size ++ 10 ∷ []) (sizes_of words n)
+pub trace-lines : (words : ℕ → ℕ) (n : ℕ)
+    → trace_of words n ≡ flat_map (λ size. decimal size ++ 10 ∷ []) (sizes_of words n)
 unfolding end_to_end
 trace-lines words n = lines-from words 0 n

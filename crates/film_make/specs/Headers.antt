@@ -1,5 +1,5 @@
 -- The headers of a made film, read at the bits of ISO/IEC 11172-2, 2.4.2.
-use Rattle.std.specs.Prelude.{ℕ, ◌+◌, ◌-◌, ◌*◌, ◌/◌, ◌%◌, ◌^◌, ◌≤◌, ◌≡◌, List, [], ◌∷◌, map, take}
+use Rattle.std.specs.Prelude.{ℕ, ◌+◌, ◌-◌, ◌*◌, ◌/◌, ◌%◌, ◌^◌, ◌≡◌, List, [], ◌∷◌, map, take}
 use Rattle.std.specs.Prelude.{slice_index}
 use Rattle.std.specs.List.{range_with_len}
 use Rattle.film_make.specs.Film.{picture_header}
@@ -36,7 +36,3 @@ pub record IsGroupHeader (bytes : List ℕ) : Type 0 where
 -- a field of each picture header of a group, in the order of the stream
 abbrev pub field_of : (List ℕ → ℕ → ℕ) → List ℕ
 field_of field = map (λ j. field (picture_header j) 0) (range_with_len 0 12)
-
--- a number is within two bounds
-abbrev pub IsBetween : ℕ → ℕ → ℕ → Type 0
-IsBetween least most number = (least ≤ number) × (number ≤ most)

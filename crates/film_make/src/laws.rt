@@ -2,11 +2,12 @@
 ghost use Rattle.std.specs.Prelude.{◌≡◌, ◌≢◌, ℕ, ◌+◌, ◌*◌, ◌%◌, ◌<◌, ◌≤◌, ◌++◌, [], ◌∷◌, List};
 ghost use Rattle.std.specs.Prelude.{decimal};
 ghost use Rattle.std.specs.Prelude.{drop, flat_map, length, take};
+ghost use Rattle.std.specs.Int.{IsInRange};
 ghost use Rattle.mpeg_scan.specs.Standard.{backward_vector, forward_vector, picture_coding_type};
 ghost use Rattle.mpeg_scan.specs.Standard.{temporal_reference};
 ghost use Rattle.sys_demux.specs.Streams.{IsSystem};
 ghost use Rattle.film_make.specs.Film.{film_of, picture_of, pictures_of, sequence_and_group};
-ghost use Rattle.film_make.specs.Headers.{IsGroupHeader, IsSequenceHeader, IsBetween, field_of};
+ghost use Rattle.film_make.specs.Headers.{IsGroupHeader, IsSequenceHeader, field_of};
 ghost use Rattle.film_make.specs.Slices.{EndsWithSlices};
 ghost use Rattle.film_make.specs.System.{system_of};
 ghost use Rattle.film_make.specs.Trace.{sizes_of, trace_of, trace_size};
@@ -16,9 +17,9 @@ ghost use Rattle.film_make.specs.Trace.{sizes_of, trace_of, trace_size};
 /// have the first of them. Its text has them line by line.
 pub fn law_trace()
     ensures count { (words : ℕ → ℕ) (n : ℕ) → length (sizes_of words n) ≡ n }
-    ensures first { (words : ℕ → ℕ) (k : ℕ) → k % 12 ≡ 0 → IsBetween 800 7996 (trace_size words k) }
-    ensures other { (words : ℕ → ℕ) (k : ℕ) → k % 12 ≢ 0 → IsBetween 200 1999 (trace_size words k) }
-    ensures each { (k size : ℕ) → k % 12 ≢ 0 → IsBetween 200 1999 size →
+    ensures first { (words : ℕ → ℕ) (k : ℕ) → k % 12 ≡ 0 → IsInRange 800 7996 (trace_size words k) }
+    ensures other { (words : ℕ → ℕ) (k : ℕ) → k % 12 ≢ 0 → IsInRange 200 1999 (trace_size words k) }
+    ensures each { (k size : ℕ) → k % 12 ≢ 0 → IsInRange 200 1999 size →
         (words : ℕ → ℕ) × (trace_size words k ≡ size) }
     ensures front { (words : ℕ → ℕ) (m n : ℕ) → m ≤ n →
         take m (sizes_of words n) ≡ sizes_of words m }
@@ -50,11 +51,11 @@ pub fn law_film_headers()
 /// of an I picture, 60 to 459 of a P picture and 30 to 229 of a B picture.
 pub fn law_picture_sizes()
     ensures intra { (words : ℕ → ℕ) (k : ℕ) → k % 12 ≡ 0 →
-        IsBetween (28 + 4 * (4 + 300)) (28 + 4 * (4 + 1499)) (length (picture_of words k)) }
+        IsInRange (28 + 4 * (4 + 300)) (28 + 4 * (4 + 1499)) (length (picture_of words k)) }
     ensures predicted { (words : ℕ → ℕ) (k : ℕ) → k % 12 % 2 ≡ 1 →
-        IsBetween (9 + 4 * (4 + 60)) (9 + 4 * (4 + 459)) (length (picture_of words k)) }
+        IsInRange (9 + 4 * (4 + 60)) (9 + 4 * (4 + 459)) (length (picture_of words k)) }
     ensures bidirectional { (words : ℕ → ℕ) (k : ℕ) → 0 < k % 12 → k % 12 % 2 ≡ 0 →
-        IsBetween (9 + 4 * (4 + 30)) (9 + 4 * (4 + 229)) (length (picture_of words k)) }
+        IsInRange (9 + 4 * (4 + 30)) (9 + 4 * (4 + 229)) (length (picture_of words k)) }
 {}
 
 /// A picture is its headers and four slices, and nothing else: with those of its sequence and group

@@ -77,7 +77,7 @@ impl CodingType {
 }
 
 /// Appends picture `index` of a film, whose draws are the next ones.
-#[tactic(auto, using(std::proofs::lemmas::List::append_assoc), unfolding(crate::specs::Film::picture_of))]
+#[tactic(auto, using(crate::proofs::Steps::appends), unfolding(crate::specs::Film::picture_of))]
 pub(crate) fn write_picture(
     draws: &mut Draws,
     index: u32,
@@ -133,7 +133,7 @@ fn write_fields(kind: CodingType, shown: u32, out: &mut Vec<u8>) -> Result<(), N
 }
 
 /// Appends the header of a picture of a group.
-#[tactic(auto, using(std::proofs::lemmas::List::append_assoc), unfolding(crate::specs::Film::picture_header))]
+#[tactic(auto, using(crate::proofs::Steps::appends), unfolding(crate::specs::Film::picture_header))]
 fn write_picture_header(place: u32, out: &mut Vec<u8>) -> Result<(), NoMemory>
     requires { place < 12 }
     ensures { OnOk result (out.new.items ≡ out.old.items ++ picture_header place) }

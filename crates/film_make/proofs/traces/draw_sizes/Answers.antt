@@ -13,6 +13,7 @@ loop-index-init c = record {
 pub loop-index-preserved : goal.loop-index-preserved
 loop-index-preserved c = record {
   sizes = c.in_ok-push.ensures.items
-      ∙ size-step _ _ c.loop-index.invariant.sizes c.loop-index.invariant.left (c.from.ensures ∙ c.next_size.ensures.value);
+      ∙ size-step _ _ c.loop-index.invariant.sizes c.loop-index.invariant.left
+      (c.from.ensures ∙ c.next_size.ensures.value);
   left = c.next_size.ensures.left ∙ words_after-step _ _ _ c.loop-index.invariant.left;
 }
