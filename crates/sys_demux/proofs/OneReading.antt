@@ -44,7 +44,8 @@ prefix_once zero zero r s e = record {
 prefix_once zero (suc zero) r s e =
     absurd (one_zero r (1 ∷ s) (tail_same 0 0 (1 ∷ r) (0 ∷ 1 ∷ s) (tail_same 0 0 (0 ∷ 1 ∷ r) (0 ∷ 0 ∷ 1 ∷ s) e)))
 prefix_once zero (suc (suc m)) r s e =
-    absurd (first_zero m r s (tail_same 0 0 (1 ∷ r) (with_prefix m s) (tail_same 0 0 (0 ∷ 1 ∷ r) (0 ∷ with_prefix m s) e)))
+    absurd (first_zero m r s (tail_same 0 0 (1 ∷ r) (with_prefix m s)
+    (tail_same 0 0 (0 ∷ 1 ∷ r) (0 ∷ with_prefix m s) e)))
   where
     first_zero : (m : ℕ) (r s : List ℕ) → 1 ∷ r ≡ with_prefix m s → ⊥
     first_zero zero r s e = one_zero r (0 ∷ 1 ∷ s) e
@@ -52,7 +53,8 @@ prefix_once zero (suc (suc m)) r s e =
 prefix_once (suc zero) zero r s e =
     absurd (zero_one (1 ∷ r) s (tail_same 0 0 (0 ∷ 1 ∷ r) (1 ∷ s) (tail_same 0 0 (0 ∷ 0 ∷ 1 ∷ r) (0 ∷ 1 ∷ s) e)))
 prefix_once (suc (suc n)) zero r s e =
-    absurd (first_one n r s (tail_same 0 0 (with_prefix n r) (1 ∷ s) (tail_same 0 0 (0 ∷ with_prefix n r) (0 ∷ 1 ∷ s) e)))
+    absurd (first_one n r s (tail_same 0 0 (with_prefix n r) (1 ∷ s)
+    (tail_same 0 0 (0 ∷ with_prefix n r) (0 ∷ 1 ∷ s) e)))
   where
     first_one : (n : ℕ) (r s : List ℕ) → with_prefix n r ≡ 1 ∷ s → ⊥
     first_one zero r s e = zero_one (0 ∷ 1 ∷ r) s e
@@ -67,7 +69,8 @@ zeros_no_prefix zero zero s e = let bad : 0 ≡ length (with_prefix 0 s) = ap le
 zeros_no_prefix (suc zero) zero s e = let bad : 1 ≡ length (with_prefix 0 s) = ap length e in omega (arith, bad)
 zeros_no_prefix (suc (suc zero)) zero s e = let bad : 2 ≡ length (with_prefix 0 s) = ap length e in omega (arith, bad)
 zeros_no_prefix (suc (suc (suc n))) zero s e =
-    zero_one (replicate n 0) s (tail_same 0 0 (0 ∷ replicate n 0) (1 ∷ s) (tail_same 0 0 (0 ∷ 0 ∷ replicate n 0) (0 ∷ 1 ∷ s) e))
+    zero_one (replicate n 0) s (tail_same 0 0 (0 ∷ replicate n 0) (1 ∷ s)
+    (tail_same 0 0 (0 ∷ 0 ∷ replicate n 0) (0 ∷ 1 ∷ s) e))
 zeros_no_prefix zero (suc m) s e = let bad : 0 ≡ length (0 ∷ with_prefix m s) = ap length e in omega (arith, bad)
 zeros_no_prefix (suc n) (suc m) s e = zeros_no_prefix n m s (tail_same 0 0 (replicate n 0) (with_prefix m s) e)
 
@@ -90,7 +93,8 @@ record IsOutside (count byte : ℕ) : Type 0 where
 bad_no_prefix : {byte : ℕ} (n m : ℕ) (l s : List ℕ) → replicate n 0 ++ byte ∷ l ≡ with_prefix m s → IsOutside n byte → ⊥
 bad_no_prefix {byte} zero zero l s e bad = bad.some (head_same byte 0 l (0 ∷ 1 ∷ s) e)
 bad_no_prefix {byte} zero (suc m) l s e bad = bad.some (head_same byte 0 l (with_prefix m s) e)
-bad_no_prefix {byte} (suc zero) zero l s e bad = bad.some (head_same byte 0 l (1 ∷ s) (tail_same 0 0 (byte ∷ l) (0 ∷ 1 ∷ s) e))
+bad_no_prefix {byte} (suc zero) zero l s e bad =
+    bad.some (head_same byte 0 l (1 ∷ s) (tail_same 0 0 (byte ∷ l) (0 ∷ 1 ∷ s) e))
 bad_no_prefix {byte} (suc (suc zero)) zero l s e bad =
     let one : byte ≡ 1 =
     head_same byte 1 l s (tail_same 0 0 (byte ∷ l) (1 ∷ s) (tail_same 0 0 (0 ∷ byte ∷ l) (0 ∷ 1 ∷ s) e)) in
@@ -136,8 +140,10 @@ item_prefixed (Packet _ kind high low content) = refl
 -- lists of one length in front
 front_once : (a b x y : List ℕ) → a ++ x ≡ b ++ y → length a ≡ length b → (a ≡ b) × (x ≡ y)
 front_once a b x y e long = (
-  sym (take_at a x (length a) refl) ∙ ap (take (length a)) e ∙ ap (λ n. take n (b ++ y)) long ∙ take_at b y (length b) refl,
-  sym (drop_at a x (length a) refl) ∙ ap (drop (length a)) e ∙ ap (λ n. drop n (b ++ y)) long ∙ drop_at b y (length b) refl,
+  sym (take_at a x (length a) refl) ∙ ap (take (length a)) e ∙ ap (λ n. take n (b ++ y)) long
+      ∙ take_at b y (length b) refl,
+  sym (drop_at a x (length a) refl) ∙ ap (drop (length a)) e ∙ ap (λ n. drop n (b ++ y)) long
+      ∙ drop_at b y (length b) refl,
 )
 
 -- one item stands in front
@@ -151,19 +157,23 @@ rests_once {a = Pack n r} {b = Pack m s} {x} {y} chosen p q zeros e =
     let same = front_once r s x y (tail_same 186 186 (r ++ x) (s ++ y) e) (p.eight ∙ sym q.eight) in
     record { item = ap (λ k. Pack k r) zeros ∙ ap (λ (l : List ℕ). Pack m l) same.0; rest = same.1 }
 rests_once {a = Pack n r} {b = Packet m kind high low s} {x} {y} chosen p q zeros e =
-    absurd (let bad : 186 ≡ kind = head_same 186 kind (r ++ x) (high ∷ low ∷ (s ++ y)) e in omega (arith, bad, q.kind_is))
+    absurd (let bad : 186 ≡ kind =
+    head_same 186 kind (r ++ x) (high ∷ low ∷ (s ++ y)) e in omega (arith, bad, q.kind_is))
 rests_once {a = Packet n kind high low r} {b = Pack m s} {x} {y} chosen p q zeros e =
-    absurd (let bad : kind ≡ 186 = head_same kind 186 (high ∷ low ∷ (r ++ x)) (s ++ y) e in omega (arith, bad, p.kind_is))
+    absurd (let bad : kind ≡ 186 =
+    head_same kind 186 (high ∷ low ∷ (r ++ x)) (s ++ y) e in omega (arith, bad, p.kind_is))
 rests_once {a = Packet n k h l r} {b = Packet m k' h' l' s} {x} {y} chosen p q zeros e =
     let kind : k ≡ k' = head_same k k' (h ∷ l ∷ (r ++ x)) (h' ∷ l' ∷ (s ++ y)) e in
     let e1 : h ∷ l ∷ (r ++ x) ≡ h' ∷ l' ∷ (s ++ y) = tail_same k k' (h ∷ l ∷ (r ++ x)) (h' ∷ l' ∷ (s ++ y)) e in
     let high : h ≡ h' = head_same h h' (l ∷ (r ++ x)) (l' ∷ (s ++ y)) e1 in
     let e2 : l ∷ (r ++ x) ≡ l' ∷ (s ++ y) = tail_same h h' (l ∷ (r ++ x)) (l' ∷ (s ++ y)) e1 in
     let low : l ≡ l' = head_same l l' (r ++ x) (s ++ y) e2 in
-    let same = front_once r s x y (tail_same l l' (r ++ x) (s ++ y) e2) (omega (arith, p.length_is, q.length_is, high, low)) in
+    let same =
+    front_once r s x y (tail_same l l' (r ++ x) (s ++ y) e2) (omega (arith, p.length_is, q.length_is, high, low)) in
     record {
       item = ap (λ z. Packet z k h l r) zeros ∙ ap (λ z. Packet m z h l r) kind
-          ∙ ap (λ z. Packet m k' z l r) high ∙ ap (λ z. Packet m k' h' z r) low ∙ ap (λ (z : List ℕ). Packet m k' h' l' z) same.0;
+          ∙ ap (λ z. Packet m k' z l r) high ∙ ap (λ z. Packet m k' h' z r) low
+          ∙ ap (λ (z : List ℕ). Packet m k' h' l' z) same.0;
       rest = same.1;
     }
 
@@ -190,11 +200,14 @@ as_prefixed a x t e = sym e ∙ ap (λ (l : List ℕ). l ++ x) (item_prefixed a)
 kind_of_item : {s : List ℕ} {kind : ℕ} (chosen : Option ℕ) (a : Item) (x : List ℕ) → IsItem chosen a
     → rest_of a ++ x ≡ kind ∷ s → 186 ≤ kind
 kind_of_item {s} {kind} chosen (Pack n r) x p e = omega (arith, head_same 186 kind (r ++ x) s e)
-kind_of_item {s} {kind} chosen (Packet n k h l r) x p e = omega (arith, p.kind_is, head_same k kind (h ∷ l ∷ (r ++ x)) s e)
+kind_of_item {s} {kind} chosen (Packet n k h l r) x p e =
+    omega (arith, p.kind_is, head_same k kind (h ∷ l ∷ (r ++ x)) s e)
 
 -- no item stands where the stream ends
-pub item_no_end : {t : List ℕ} (chosen : Option ℕ) (a : Item) (x : List ℕ) → IsItem chosen a → item_bytes a ++ x ≡ t → IsEnd t → ⊥
-item_no_end {t} chosen a x p e (inl z) = zeros_no_prefix z.count (zeros_of a) (rest_of a ++ x) (sym z.are ∙ as_prefixed a x t e)
+pub item_no_end : {t : List ℕ} (chosen : Option ℕ) (a : Item) (x : List ℕ) → IsItem chosen a → item_bytes a ++ x ≡ t
+    → IsEnd t → ⊥
+item_no_end {t} chosen a x p e (inl z) =
+    zeros_no_prefix z.count (zeros_of a) (rest_of a ++ x) (sym z.are ∙ as_prefixed a x t e)
 item_no_end chosen a x p e (inr c) =
     let kind = kind_of_item chosen a x p (from_prefix a x e c.is).rest in omega (arith, kind)
 
@@ -203,7 +216,8 @@ mark_other : {rest : List ℕ} {mark : ℕ} (chosen : Option ℕ) (a : Item) (x 
     → rest_of a ++ x ≡ 186 ∷ mark ∷ rest → mark / 16 ≢ 2 → ⊥
 mark_other chosen (Pack n []) x p e other = omega (arith, p.eight)
 mark_other {rest} {mark} chosen (Pack n (b ∷ r)) x p e other =
-    other (ap (λ k. k / 16) (sym (head_same b mark (r ++ x) rest (tail_same 186 186 (b ∷ (r ++ x)) (mark ∷ rest) e))) ∙ p.mark)
+    other (ap (λ k. k / 16) (sym (head_same b mark (r ++ x) rest (tail_same 186 186 (b ∷ (r ++ x)) (mark ∷ rest) e)))
+    ∙ p.mark)
 mark_other {rest} {mark} chosen (Packet n k h l r) x p e other =
     omega (arith, p.kind_is, head_same k 186 (h ∷ l ∷ (r ++ x)) (mark ∷ rest) e)
 
@@ -211,7 +225,8 @@ mark_other {rest} {mark} chosen (Packet n k h l r) x p e other =
 content_bad : {chosen : Option ℕ} {start place : ℕ} {t : List ℕ} (a : Item) (x : List ℕ) →
     (f : IsBadPacket chosen start t place) → IsItem chosen a →
     rest_of a ++ x ≡ f.kind ∷ f.high ∷ f.low ∷ (f.front ++ f.rest) → ⊥
-content_bad (Pack n r) x f p e = omega (arith, f.kind_is, head_same 186 f.kind (r ++ x) (f.high ∷ f.low ∷ (f.front ++ f.rest)) e)
+content_bad (Pack n r) x f p e =
+    omega (arith, f.kind_is, head_same 186 f.kind (r ++ x) (f.high ∷ f.low ∷ (f.front ++ f.rest)) e)
 content_bad {chosen} (Packet n k h l r) x f p e =
     let kinds : k ≡ kind = head_same k kind (h ∷ l ∷ (r ++ x)) (high ∷ low ∷ (front ++ rest)) e in
     let e1 : h ∷ l ∷ (r ++ x) ≡ high ∷ low ∷ (front ++ rest) =
@@ -221,7 +236,8 @@ content_bad {chosen} (Packet n k h l r) x f p e =
     let lows : l ≡ low = head_same l low (r ++ x) (front ++ rest) e2 in
     let whole : r ++ x ≡ front ++ rest = tail_same l low (r ++ x) (front ++ rest) e2 in
     let size : length r ≡ high * 256 + low = omega (arith, p.length_is, highs, lows) in
-    let cut : length (take (length front) r) ≡ length front = length-take-le (length front) r (omega (arith, size, within)) in
+    let cut : length (take (length front) r) ≡ length front =
+    length-take-le (length front) r (omega (arith, size, within)) in
     let fronts = front_once (take (length front) r) front (drop (length front) r ++ x) rest
     (sym (append_assoc (take (length front) r) (drop (length front) r) x)
     ∙ ap (λ (t : List ℕ). t ++ x) (take-append-drop (length front) r) ∙ whole) cut in
@@ -240,7 +256,8 @@ content_bad {chosen} (Packet n k h l r) x f p e =
 Stops : Option ℕ → List ℕ → Type 0
 Stops chosen t = (a : Item) (x : List ℕ) → IsItem chosen a → item_bytes a ++ x ≡ t → ⊥
 
-fault_stops : (chosen : Option ℕ) (start : ℕ) (t : List ℕ) (fault : SystemFault) → IsFault chosen start t fault → Stops chosen t
+fault_stops : (chosen : Option ℕ) (start : ℕ) (t : List ℕ) (fault : SystemFault) → IsFault chosen start t fault
+    → Stops chosen t
 unfolding Stops
 fault_stops chosen start t (NotPack place) f = λ a x p e. mark_other chosen a x p (from_prefix a x e f.is).rest f.other
 fault_stops chosen start t (BadCode place) (inl f) =
@@ -255,20 +272,23 @@ fault_stops chosen start t (Truncated place) f = λ a x p e.
     omega (arith, ap length same.rest, length-append x f.lacking, f.some)
 
 -- where the stream ends or a fault stands
-kinds_once : {t : List ℕ} {z w k j : ℕ} (r s : List ℕ) → t ≡ with_prefix z (k ∷ r) → t ≡ with_prefix w (j ∷ s) → (z ≡ w) × (k ≡ j)
+kinds_once : {t : List ℕ} {z w k j : ℕ} (r s : List ℕ) → t ≡ with_prefix z (k ∷ r) → t ≡ with_prefix w (j ∷ s)
+    → (z ≡ w) × (k ≡ j)
 kinds_once {z} {w} {k} {j} r s a b =
     let same = prefix_once z w (k ∷ r) (j ∷ s) (sym a ∙ b) in
     (same.zeros, head_same k j r s same.rest)
 
 -- the front of an item with its whole prefix
-front_prefixed : (t l r : List ℕ) (z : ℕ) → t ++ l ≡ with_prefix z r → z + 3 ≤ length t → t ≡ with_prefix z (drop (z + 3) t)
+front_prefixed : (t l r : List ℕ) (z : ℕ) → t ++ l ≡ with_prefix z r → z + 3 ≤ length t
+    → t ≡ with_prefix z (drop (z + 3) t)
 front_prefixed t l r z e long =
     let size : length (take (z + 3) t) ≡ length (with_prefix z []) =
     length-take-le (z + 3) t long ∙ sym (length-prefixed z [] ∙ omega arith) in
     let fronts = front_once (take (z + 3) t) (with_prefix z []) (drop (z + 3) t ++ l) r
     (sym (append_assoc (take (z + 3) t) (drop (z + 3) t) l)
     ∙ ap (λ (x : List ℕ). x ++ l) (take-append-drop (z + 3) t) ∙ e ∙ sym (prefixed_more z [] r)) size in
-    sym (take-append-drop (z + 3) t) ∙ ap (λ (x : List ℕ). x ++ drop (z + 3) t) fronts.0 ∙ prefixed_more z [] (drop (z + 3) t)
+    sym (take-append-drop (z + 3) t) ∙ ap (λ (x : List ℕ). x ++ drop (z + 3) t) fronts.0
+    ∙ prefixed_more z [] (drop (z + 3) t)
 
 cut_prefixed : (chosen : Option ℕ) (start : ℕ) (t : List ℕ) (place : ℕ) (f : LacksEnd chosen start t place)
     → t ≡ with_prefix (zeros_of f.item) (drop (zeros_of f.item + 3) t)
@@ -286,12 +306,16 @@ cut_shows_none {chosen} {start} {t} {place} fault cut shown f =
     cut.item [] cut.is_item (append-nil (item_bytes cut.item) ∙ cut.is)
 
 -- an end is no fault
-pub end_no_fault : (chosen : Option ℕ) (start : ℕ) (t : List ℕ) (fault : SystemFault) → IsEnd t → IsFault chosen start t fault → ⊥
-end_no_fault chosen start t (NotPack place) (inl z) f = zeros_no_prefix z.count f.zeros (186 ∷ f.mark ∷ f.rest) (sym z.are ∙ f.is)
+pub end_no_fault : (chosen : Option ℕ) (start : ℕ) (t : List ℕ) (fault : SystemFault) → IsEnd t
+    → IsFault chosen start t fault → ⊥
+end_no_fault chosen start t (NotPack place) (inl z) f =
+    zeros_no_prefix z.count f.zeros (186 ∷ f.mark ∷ f.rest) (sym z.are ∙ f.is)
 end_no_fault chosen start t (NotPack place) (inr c) f = let bad =
     (kinds_once c.rest (f.mark ∷ f.rest) c.is f.is).1 in omega (arith, bad)
-end_no_fault chosen start t (BadCode place) (inl z) (inl f) = zeros_no_bad z.count f.count f.byte f.rest (sym z.are ∙ f.is) f.some
-end_no_fault chosen start t (BadCode place) (inl z) (inr f) = zeros_no_prefix z.count f.zeros (f.kind ∷ f.rest) (sym z.are ∙ f.is)
+end_no_fault chosen start t (BadCode place) (inl z) (inl f) =
+    zeros_no_bad z.count f.count f.byte f.rest (sym z.are ∙ f.is) f.some
+end_no_fault chosen start t (BadCode place) (inl z) (inr f) =
+    zeros_no_prefix z.count f.zeros (f.kind ∷ f.rest) (sym z.are ∙ f.is)
 end_no_fault chosen start t (BadCode place) (inr c) (inl f) = byte_no_prefix c.zeros (185 ∷ c.rest) f c.is
 end_no_fault chosen start t (BadCode place) (inr c) (inr f) = let bad =
     (kinds_once c.rest f.rest c.is f.is).1 in omega (arith, bad, f.low)
@@ -300,7 +324,8 @@ end_no_fault chosen start t (BadPacket place) (inl z) f =
 end_no_fault chosen start t (BadPacket place) (inr c) f =
     let bad = (kinds_once c.rest (f.high ∷ f.low ∷ (f.front ++ f.rest)) c.is f.is).1 in omega (arith, bad, f.kind_is)
 end_no_fault chosen start t (Truncated place) (inl z) f =
-    zeros_no_prefix z.count (zeros_of f.item) (drop (zeros_of f.item + 3) t) (sym z.are ∙ cut_prefixed chosen start t place f)
+    zeros_no_prefix z.count (zeros_of f.item) (drop (zeros_of f.item + 3) t)
+    (sym z.are ∙ cut_prefixed chosen start t place f)
 end_no_fault chosen start t (Truncated place) (inr c) f =
     item_no_end chosen f.item [] f.is_item (append-nil (item_bytes f.item) ∙ f.is)
     (inr (record {
@@ -420,9 +445,11 @@ video_once bytes one other a b =
 pub not_both : (bytes video : List ℕ) (fault : SystemFault) → IsSystem bytes video → IsRefused bytes fault → ⊥
 not_both bytes video fault a b =
     let same = items_once (system_read a) (refused_read b) (sym a.bytes_are ∙ b.bytes_are) in
-    end_no_fault (chosen_after None b.items) (length (bytes_of b.items)) b.tail fault (subst IsEnd same.tail_is a.end) b.fault_is
+    end_no_fault (chosen_after None b.items) (length (bytes_of b.items)) b.tail fault
+    (subst IsEnd same.tail_is a.end) b.fault_is
 
-pub refused_once : (bytes : List ℕ) (one other : SystemFault) → IsRefused bytes one → IsRefused bytes other → one ≡ other
+pub refused_once : (bytes : List ℕ) (one other : SystemFault) → IsRefused bytes one → IsRefused bytes other
+    → one ≡ other
 refused_once bytes one other a b =
     let same = items_once (refused_read a) (refused_read b) (sym a.bytes_are ∙ b.bytes_are) in
     fault_once (chosen_after None b.items) (length (bytes_of b.items)) b.tail

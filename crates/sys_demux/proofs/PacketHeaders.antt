@@ -24,14 +24,16 @@ stamp_read : (stamp video : List ℕ) → IsStampField stamp → from_stamp (sta
 stamp_read [] video (inl h) = absurd (omega (arith, h.0))
 stamp_read (b ∷ rest) video (inl h) =
     cond-true (b / 16 == 2) (after_bytes 4 (rest ++ video))
-    (cond (b / 16 == 3) (after_bytes 9 (rest ++ video)) (cond (b == 15) (Some (rest ++ video)) None)) (eq-eqb (b / 16) 2 h.1)
+    (cond (b / 16 == 3) (after_bytes 9 (rest ++ video)) (cond (b == 15) (Some (rest ++ video)) None))
+    (eq-eqb (b / 16) 2 h.1)
     ∙ after_some 4 rest video (omega (arith, h.0))
 stamp_read [] video (inr (inl h)) = absurd (omega (arith, h.0))
 stamp_read (b ∷ rest) video (inr (inl h)) =
     cond-false (b / 16 == 2) (after_bytes 4 (rest ++ video))
     (cond (b / 16 == 3) (after_bytes 9 (rest ++ video)) (cond (b == 15) (Some (rest ++ video)) None))
     (ne_eqb (b / 16) 2 (λ e. omega (arith, e, h.1)))
-    ∙ cond-true (b / 16 == 3) (after_bytes 9 (rest ++ video)) (cond (b == 15) (Some (rest ++ video)) None) (eq-eqb (b / 16) 3 h.1)
+    ∙ cond-true (b / 16 == 3) (after_bytes 9 (rest ++ video)) (cond (b == 15) (Some (rest ++ video)) None)
+    (eq-eqb (b / 16) 3 h.1)
     ∙ after_some 9 rest video (omega (arith, h.0))
 stamp_read stamp video (inr (inr is)) = ap (λ (s : List ℕ). from_stamp (s ++ video)) is
 
@@ -46,11 +48,13 @@ stamp_starts : (stamp video : List ℕ) → IsStampField stamp → Starts (stamp
 stamp_starts [] video (inl h) = absurd (omega (arith, h.0))
 stamp_starts (b ∷ rest) video (inl h) = record { first = b; rest = rest ++ video; is = refl; low = omega (arith, h.1) }
 stamp_starts [] video (inr (inl h)) = absurd (omega (arith, h.0))
-stamp_starts (b ∷ rest) video (inr (inl h)) = record { first = b; rest = rest ++ video; is = refl; low = omega (arith, h.1) }
+stamp_starts (b ∷ rest) video (inr (inl h)) =
+    record { first = b; rest = rest ++ video; is = refl; low = omega (arith, h.1) }
 stamp_starts stamp video (inr (inr is)) =
     record { first = 15; rest = video; is = ap (λ (s : List ℕ). s ++ video) is; low = omega arith }
 
-size_read : (size stamp video : List ℕ) → IsSizeField size → IsStampField stamp → from_size (size ++ stamp ++ video) ≡ Some video
+size_read : (size stamp video : List ℕ) → IsSizeField size → IsStampField stamp
+    → from_size (size ++ stamp ++ video) ≡ Some video
 size_read size stamp video (inl none) stamp_is =
     let starts = stamp_starts stamp video stamp_is in
     ap (λ (s : List ℕ). from_size (s ++ stamp ++ video)) none
@@ -62,15 +66,25 @@ size_read size stamp video (inl none) stamp_is =
 size_read [] stamp video (inr h) stamp_is = absurd (omega (arith, h.0))
 size_read (b ∷ []) stamp video (inr h) stamp_is = absurd (omega (arith, h.0))
 size_read (b ∷ c ∷ []) stamp video (inr h) stamp_is =
-    cond-true (b / 64 == 1) (from_stamp (stamp ++ video)) (from_stamp (b ∷ c ∷ (stamp ++ video))) (eq-eqb (b / 64) 1 h.1)
+    cond-true (b / 64 == 1) (from_stamp (stamp ++ video)) (from_stamp (b ∷ c ∷ (stamp ++ video)))
+    (eq-eqb (b / 64) 1 h.1)
     ∙ stamp_read stamp video stamp_is
 size_read (b ∷ c ∷ d ∷ more) stamp video (inr h) stamp_is = absurd (omega (arith, h.0))
 
 size_starts : (size stamp video : List ℕ) → IsSizeField size → IsStampField stamp
     → (first : ℕ) × ((rest : List ℕ) × ((size ++ stamp ++ video ≡ first ∷ rest) × (first < 128)))
 size_starts size stamp video (inl none) stamp_is =
-    let starts = stamp_starts stamp video stamp_is in
-    (starts.first, (starts.rest, (ap (λ (s : List ℕ). s ++ stamp ++ video) none ∙ starts.is, omega (arith, starts.low))))
+    let starts = stamp_starts stamp video stamp_is in (
+      starts.first,
+      (
+        starts.rest,
+        (
+          ap (λ (s : List ℕ). s ++ stamp ++ video) none
+              ∙ starts.is,
+          omega (arith, starts.low),
+        ),
+      ),
+    )
 size_starts [] stamp video (inr h) stamp_is = absurd (omega (arith, h.0))
 size_starts (b ∷ rest) stamp video (inr h) stamp_is = (b, (rest ++ stamp ++ video, (refl, omega (arith, h.1))))
 
@@ -105,7 +119,8 @@ after_stands count bytes video e =
             (sym (cond-true (nat_le count (length bytes)) (Some (drop count bytes)) None there) ∙ e);
       }
       | inr lacking ↦
-          absurd (none-some video (sym (cond-false (nat_le count (length bytes)) (Some (drop count bytes)) None lacking) ∙ e))
+          absurd (none-some video (sym (cond-false (nat_le count (length bytes))
+          (Some (drop count bytes)) None lacking) ∙ e))
     ]
 
 -- the field of a time stamp, and the video after it
@@ -137,7 +152,8 @@ stamp_stands (b ∷ bytes) video e =
       | inr other ↦
           (let e1 : cond (b / 16 == 3) (after_bytes 9 bytes) (cond (b == 15) (Some bytes) None) ≡ Some video =
           sym (cond-false (b / 16 == 2) (after_bytes 4 bytes)
-          (cond (b / 16 == 3) (after_bytes 9 bytes) (cond (b == 15) (Some bytes) None)) (ne_eqb (b / 16) 2 other)) ∙ e in
+          (cond (b / 16 == 3) (after_bytes 9 bytes) (cond (b == 15) (Some bytes) None))
+          (ne_eqb (b / 16) 2 other)) ∙ e in
           elim (cases_eq (b / 16) 3) [
             | inl three ↦
                 stamp_of b 9 bytes video
@@ -174,17 +190,20 @@ size_stands [] video e = absurd (none-some video e)
 size_stands (b ∷ bytes) video e =
     elim (cases_eq (b / 64) 1) [
       | inl one ↦ with_size b bytes video one
-          (sym (cond-true (b / 64 == 1) (from_stamp (drop 1 bytes)) (from_stamp (b ∷ bytes)) (eq-eqb (b / 64) 1 one)) ∙ e)
+          (sym (cond-true (b / 64 == 1) (from_stamp (drop 1 bytes)) (from_stamp (b ∷ bytes))
+          (eq-eqb (b / 64) 1 one)) ∙ e)
       | inr other ↦ record {
         size = [];
         size_is = inl refl;
         stamp = stamp_stands (b ∷ bytes) video
-            (sym (cond-false (b / 64 == 1) (from_stamp (drop 1 bytes)) (from_stamp (b ∷ bytes)) (ne_eqb (b / 64) 1 other)) ∙ e);
+            (sym (cond-false (b / 64 == 1) (from_stamp (drop 1 bytes)) (from_stamp (b ∷ bytes))
+            (ne_eqb (b / 64) 1 other)) ∙ e);
         is = refl;
       }
     ]
   where
-    with_size : (b : ℕ) (bytes video : List ℕ) → b / 64 ≡ 1 → from_stamp (drop 1 bytes) ≡ Some video → HasSize (b ∷ bytes) video
+    with_size : (b : ℕ) (bytes video : List ℕ) → b / 64 ≡ 1 → from_stamp (drop 1 bytes) ≡ Some video
+        → HasSize (b ∷ bytes) video
     with_size b [] video one e = absurd (none-some video e)
     with_size b (c ∷ bytes) video one e = record {
       size = b ∷ c ∷ [];
@@ -213,7 +232,8 @@ stuffing_stands (suc most) (b ∷ bytes) video e =
     elim (cases_eq b 255) [
       | inl is ↦
           (let more = stuffing_stands most bytes video
-          (sym (cond-true (b == 255) (from_stuffing most bytes) (from_size (b ∷ bytes)) (eq-eqb b 255 is)) ∙ e) in record {
+          (sym (cond-true (b == 255) (from_stuffing most bytes) (from_size (b ∷ bytes)) (eq-eqb b 255 is))
+          ∙ e) in record {
             stuffing = suc more.stuffing;
             few = omega (arith, more.few);
             rest = more.rest;

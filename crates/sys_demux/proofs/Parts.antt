@@ -31,7 +31,9 @@ pub zeros_more : {chosen : Option ℕ} {zeros byte least : ℕ} {now : Option �
     IsAtZeros chosen (least + 1) now (part ++ byte ∷ []) kept
 zeros_more {byte} {kept} h zero_is least_is = record {
   count = h.count + 1;
-  are = ap (λ (l : List ℕ). l ++ byte ∷ []) h.are ∙ ap (λ b. replicate h.count 0 ++ b ∷ []) zero_is ∙ replicate_more h.count 0;
+  are =
+      ap (λ (l : List ℕ). l ++ byte ∷ []) h.are ∙ ap (λ b. replicate h.count 0 ++ b ∷ []) zero_is
+      ∙ replicate_more h.count 0;
   zeros_are = omega (arith, least_is, h.zeros_are);
   now_is = h.now_is;
   none = h.none;
@@ -163,7 +165,9 @@ length_none {before} {start} {place} {part} {kind} {low} read none =
       kind_is = kind_is;
       chosen_is = chosen_is;
       within = omega arith;
-      none = λ more long. ap (λ (l : List ℕ). from_stuffing 16 l) (nil_from_length more (omega (arith, long, total_is, none)));
+      none =
+          λ more long. ap (λ (l : List ℕ). from_stuffing 16 l)
+          (nil_from_length more (omega (arith, long, total_is, none)));
       place_is = h.place_is;
     } in
     inl (bad, h.none, tt)
@@ -214,12 +218,14 @@ header_bad {chosen} {start} {place} {left} {part} {kept} {header} byte h none =
       front = h.front ++ byte ∷ [];
       rest = [];
       is = front_more h.zeros (h.kind ∷ h.high ∷ h.low ∷ h.front) byte h.are
-          ∙ ap (λ (l : List ℕ). with_prefix h.zeros (h.kind ∷ h.high ∷ h.low ∷ l)) (sym (append-nil (h.front ++ byte ∷ [])));
+          ∙ ap (λ (l : List ℕ). with_prefix h.zeros (h.kind ∷ h.high ∷ h.low ∷ l))
+          (sym (append-nil (h.front ++ byte ∷ [])));
       kind_is = h.kind_is;
       chosen_is = h.chosen_is;
       within = omega (arith, size, h.length_is);
       none = λ more long.
-          ap video_in (append_assoc h.front (byte ∷ []) more) ∙ h.video_is (byte ∷ more) (omega (arith, long, size, h.length_is))
+          ap video_in (append_assoc h.front (byte ∷ []) more)
+          ∙ h.video_is (byte ∷ more) (omega (arith, long, size, h.length_is))
           ∙ none more (omega (arith, long, size, h.length_is));
       place_is = h.place_is;
     } in
@@ -297,7 +303,8 @@ video_begins {chosen} {start} {place} {left} {now} {part} {kept} {header} byte h
             h.zeros,
             (
               subst (λ (l : List ℕ). IsDone chosen h.zeros now l kept) (append-nil (part ++ byte ∷ []))
-                  (subst (λ (l : List ℕ). IsDone chosen h.zeros now ((part ++ byte ∷ []) ++ []) l) (append-nil kept) done),
+                  (subst (λ (l : List ℕ). IsDone chosen h.zeros now ((part ++ byte ∷ []) ++ []) l)
+                  (append-nil kept) done),
               cond-true (left == 0) (Zeros 0) (Video left) (eq-eqb left 0 none),
             ),
           )
@@ -345,7 +352,8 @@ header_leads {chosen} {start} {place} {left} {now} {part} {kept} {header} byte (
 
 -- bytes of an item that are passed over or video
 pub rest_leads : {chosen : Option ℕ} {start place left count : ℕ} {now : Option ℕ} {part kept : List ℕ}
-    (taken : List ℕ) → IsAtRest chosen start place now part kept left (λ rest. []) → length taken ≡ count → count ≤ left →
+    (taken : List ℕ) → IsAtRest chosen start place now part kept left (λ rest. []) → length taken ≡ count
+    → count ≤ left →
     LeadsTo chosen start place now (part ++ taken) kept (cond (left - count == 0) (Zeros 0) (Pass (left - count)))
 rest_leads {chosen} {start} {place} {left} {count} {now} {part} {kept} taken h size within =
     elim (cases_eq (left - count) 0) [
@@ -375,8 +383,10 @@ rest_leads {chosen} {start} {place} {left} {count} {now} {part} {kept} taken h s
     ]
 
 pub video_leads : {chosen : Option ℕ} {start place left count : ℕ} {now : Option ℕ} {part kept : List ℕ}
-    (taken : List ℕ) → IsAtRest chosen start place now part kept left (λ rest. rest) → length taken ≡ count → count ≤ left →
-    LeadsTo chosen start place now (part ++ taken) (kept ++ taken) (cond (left - count == 0) (Zeros 0) (Video (left - count)))
+    (taken : List ℕ) → IsAtRest chosen start place now part kept left (λ rest. rest) → length taken ≡ count
+    → count ≤ left →
+    LeadsTo chosen start place now (part ++ taken) (kept ++ taken)
+    (cond (left - count == 0) (Zeros 0) (Video (left - count)))
 video_leads {chosen} {start} {place} {left} {count} {now} {part} {kept} taken h size within =
     elim (cases_eq (left - count) 0) [
       | inl none ↦
@@ -388,19 +398,22 @@ video_leads {chosen} {start} {place} {left} {count} {now} {part} {kept} taken h 
             ),
           )
       | inr some ↦ (
-          let at_rest : IsAtRest chosen start place now (part ++ taken) (kept ++ taken) (left - count) (λ rest. rest) = record {
+          let at_rest : IsAtRest chosen start place now (part ++ taken) (kept ++ taken) (left - count) (λ rest. rest) =
+          record {
             zeros = h.zeros;
             begun = omega (arith, h.begun, length-append part taken);
             some = omega (arith, some);
             ends = λ rest long.
-                subst (λ (l : List ℕ). IsDone chosen h.zeros now l ((kept ++ taken) ++ rest)) (sym (append_assoc part taken rest))
+                subst (λ (l : List ℕ). IsDone chosen h.zeros now l ((kept ++ taken) ++ rest))
+                (sym (append_assoc part taken rest))
                 (subst (λ (l : List ℕ). IsDone chosen h.zeros now (part ++ (taken ++ rest)) l)
                 (sym (append_assoc kept taken rest))
                 (h.ends (taken ++ rest) (omega (arith, length-append taken rest, size, long, within))));
             place_is = h.place_is;
           } in
           inl (subst (λ s. IsPart chosen start place now (part ++ taken) (kept ++ taken) s)
-          (sym (cond-false (left - count == 0) (Zeros 0) (Video (left - count)) (ne_eqb (left - count) 0 some))) at_rest)
+          (sym (cond-false (left - count == 0) (Zeros 0) (Video (left - count))
+          (ne_eqb (left - count) 0 some))) at_rest)
           )
     ]
 

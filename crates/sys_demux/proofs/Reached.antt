@@ -48,10 +48,12 @@ video_more chosen (x ∷ items) item =
 
 bytes_more : (items : List Item) (item : Item) → bytes_of (items ++ item ∷ []) ≡ bytes_of items ++ item_bytes item
 bytes_more items item =
-    flat_map-append item_bytes items (item ∷ []) ∙ ap (λ (l : List ℕ). bytes_of items ++ l) (append-nil (item_bytes item))
+    flat_map-append item_bytes items (item ∷ [])
+    ∙ ap (λ (l : List ℕ). bytes_of items ++ l) (append-nil (item_bytes item))
 
 -- a part that leads to a state, after items
-pub reached_leads : {place : ℕ} {now : Option ℕ} {part kept : List ℕ} {state : Place} (items : List Item) → AreItems None items →
+pub reached_leads : {place : ℕ} {now : Option ℕ} {part kept : List ℕ} {state : Place} (items : List Item)
+    → AreItems None items →
     LeadsTo (chosen_after None items) (length (bytes_of items)) place now part kept state
     → IsReached state place now (bytes_of items ++ part) (video_of None items ++ kept)
 reached_leads {place} {part} {kept} items are (inl is) = record {
@@ -82,14 +84,16 @@ reached_leads {place} {now} {part} {kept} items are (inr done) =
           ∙ sym (append-nil (bytes_of all));
       video_is = ap (λ (l : List ℕ). video_of None items ++ l) (sym d.video_is)
           ∙ sym (video_more None items d.item) ∙ sym (append-nil (video_of None all));
-      is_part = subst (λ s. IsPart (chosen_after None all) (length (bytes_of all)) place now [] [] s) (sym done.1.1) at_zeros;
+      is_part =
+          subst (λ s. IsPart (chosen_after None all) (length (bytes_of all)) place now [] [] s) (sym done.1.1) at_zeros;
     }
 
 -- bytes more
 pub step : {state next : Place} {place place' : ℕ} {now now' : Option ℕ} {seen video : List ℕ}
     (bytes more : List ℕ) → IsReached state place now seen video →
     ((chosen : Option ℕ) (start : ℕ) (part kept : List ℕ) → start + length part ≡ length seen →
-    IsPart chosen start place now part kept state → LeadsTo chosen start place' now' (part ++ bytes) (kept ++ more) next) →
+    IsPart chosen start place now part kept state
+    → LeadsTo chosen start place' now' (part ++ bytes) (kept ++ more) next) →
     IsReached next place' now' (seen ++ bytes) (video ++ more)
 step {next} {place} {place'} {now'} {seen} {video} bytes more r leads =
     let size : length (bytes_of r.items) + length r.part ≡ length seen =
@@ -120,7 +124,8 @@ pub moved : {state state' : Place} {place place' : ℕ} {now now' : Option ℕ} 
     → IsReached state place now seen video
 moved {state'} {place} {place'} {now} {seen} {video} s p n r =
     subst (λ x. IsReached x place now seen video) (sym s)
-    (subst (λ x. IsReached state' x now seen video) (sym p) (subst (λ x. IsReached state' place' x seen video) (sym n) r))
+    (subst (λ x. IsReached state' x now seen video) (sym p)
+    (subst (λ x. IsReached state' place' x seen video) (sym n) r))
 
 -- a fault that bytes show stays
 more_after : (tail front rest more : List ℕ) → tail ≡ front ++ rest → tail ++ more ≡ front ++ (rest ++ more)
@@ -172,7 +177,9 @@ fault_stays {fault = BadPacket place} more shows =
       low = f.low;
       front = f.front;
       rest = f.rest ++ more;
-      is = ap (λ (l : List ℕ). l ++ more) f.is ∙ prefixed_more f.zeros (f.kind ∷ f.high ∷ f.low ∷ (f.front ++ f.rest)) more
+      is =
+          ap (λ (l : List ℕ). l ++ more) f.is
+          ∙ prefixed_more f.zeros (f.kind ∷ f.high ∷ f.low ∷ (f.front ++ f.rest)) more
           ∙ ap (λ (l : List ℕ). with_prefix f.zeros (f.kind ∷ f.high ∷ f.low ∷ l)) (append_assoc f.front f.rest more);
       kind_is = f.kind_is;
       chosen_is = f.chosen_is;
@@ -249,7 +256,9 @@ header_cut {start} {place} {kept} {header} {left} h some enough =
         length_is = omega (arith, length-append h.front end.rest, end.long, h.length_is);
         header = λ _. subst (λ (o : Option (List ℕ)). IsSome o) (sym found) refl;
       };
-      is = sym (ap (λ (l : List ℕ). l ++ end.rest) h.are ∙ prefixed_more h.zeros (h.kind ∷ h.high ∷ h.low ∷ h.front) end.rest);
+      is =
+          sym (ap (λ (l : List ℕ). l ++ end.rest) h.are
+          ∙ prefixed_more h.zeros (h.kind ∷ h.high ∷ h.low ∷ h.front) end.rest);
       begun = omega (arith, ap length h.are, length-prefixed h.zeros (h.kind ∷ h.high ∷ h.low ∷ h.front));
       some = omega (arith, end.long, some, enough);
       place_is = h.place_is;
@@ -297,7 +306,8 @@ prefix_cut {start} {rest} h whole = record {
   where
     open whole use {lacking, item, is_item, zeros_are, bytes_are, some}
 
-packet_whole : (chosen : Option ℕ) (kind high : ℕ) → 187 ≤ kind → IsPacket chosen kind high 1 (15 ∷ replicate (high * 256) 0)
+packet_whole : (chosen : Option ℕ) (kind high : ℕ) → 187 ≤ kind
+    → IsPacket chosen kind high 1 (15 ∷ replicate (high * 256) 0)
 unfolding video_in
 packet_whole chosen kind high kind_is = record {
   kind_is = kind_is;
@@ -359,10 +369,12 @@ inside_cut {fault} {state = Mark} {place} r sound ends =
     subst (IsFault (chosen_after None r.items) (length (bytes_of r.items)) r.part)
     (same_Some (Truncated place) fault ends) (prefix_cut r.is_part pack_lacks)
 inside_cut {fault} {state = High kind} {place} r sound ends =
-    subst (IsFault (chosen_after None r.items) (length (bytes_of r.items)) r.part) (same_Some (Truncated place) fault ends)
+    subst (IsFault (chosen_after None r.items) (length (bytes_of r.items)) r.part)
+    (same_Some (Truncated place) fault ends)
     (prefix_cut r.is_part.0 (high_lacks (chosen_after None r.items) kind r.is_part.1))
 inside_cut {fault} {state = Low kind high} {place} r sound ends =
-    subst (IsFault (chosen_after None r.items) (length (bytes_of r.items)) r.part) (same_Some (Truncated place) fault ends)
+    subst (IsFault (chosen_after None r.items) (length (bytes_of r.items)) r.part)
+    (same_Some (Truncated place) fault ends)
     (prefix_cut r.is_part.0 (low_lacks (chosen_after None r.items) kind high r.is_part.1))
 inside_cut {fault} {state = InHeader header left} {place} r sound ends =
     let enough = sound_header header left sound in
@@ -376,10 +388,12 @@ inside_cut {fault} {state = Video left} {place} r sound ends =
     (same_Some (Truncated place) fault ends) (rest_cut r.is_part)
 inside_cut {fault} {state = End} r sound ends = absurd (none-some fault ends)
 inside_cut {fault} {state = Failed other} r sound ends =
-    subst (IsFault (chosen_after None r.items) (length (bytes_of r.items)) r.part) (same_Some other fault ends) r.is_part.0
+    subst (IsFault (chosen_after None r.items) (length (bytes_of r.items)) r.part)
+    (same_Some other fault ends) r.is_part.0
 
 pub ended_refused : {state : Place} {place : ℕ} {now : Option ℕ} {seen video : List ℕ} {fault : SystemFault}
-    → is_sound state ≡ true → IsReached state place now seen video → end_fault state place ≡ Some fault → IsRefused seen fault
+    → is_sound state ≡ true → IsReached state place now seen video → end_fault state place ≡ Some fault
+    → IsRefused seen fault
 ended_refused sound r ends = record {
   items = r.items;
   tail = r.part;
@@ -413,7 +427,8 @@ ended_system r ends =
       are = r.are;
       bytes_are = r.seen_is;
       end = end.0;
-      video_is = r.video_is ∙ ap (λ (l : List ℕ). video_of None r.items ++ l) end.1 ∙ append-nil (video_of None r.items);
+      video_is =
+          r.video_is ∙ ap (λ (l : List ℕ). video_of None r.items ++ l) end.1 ∙ append-nil (video_of None r.items);
     }
 
 -- a fault that was answered
@@ -444,7 +459,8 @@ end_shown Kind item fault e shown = absurd (subst IsShown (sym (same_Some (Trunc
 end_shown Mark item fault e shown = absurd (subst IsShown (sym (same_Some (Truncated item) fault e)) shown)
 end_shown (High kind) item fault e shown = absurd (subst IsShown (sym (same_Some (Truncated item) fault e)) shown)
 end_shown (Low kind high) item fault e shown = absurd (subst IsShown (sym (same_Some (Truncated item) fault e)) shown)
-end_shown (InHeader header left) item fault e shown = absurd (subst IsShown (sym (same_Some (Truncated item) fault e)) shown)
+end_shown (InHeader header left) item fault e shown =
+    absurd (subst IsShown (sym (same_Some (Truncated item) fault e)) shown)
 end_shown (Pass left) item fault e shown = absurd (subst IsShown (sym (same_Some (Truncated item) fault e)) shown)
 end_shown (Video left) item fault e shown = absurd (subst IsShown (sym (same_Some (Truncated item) fault e)) shown)
 end_shown End item fault e shown = absurd (none-some fault e)

@@ -61,7 +61,8 @@ refused elements tail fault are is =
     }
 
 pub pack_refused : (elements : List Element) (front mark : ℕ) (rest : List ℕ) → AreElements elements → mark / 16 ≢ 2 →
-    IsRefused (stream_bytes elements ++ with_code front 0xba (mark ∷ rest)) (NotPack (length (stream_bytes elements) + front))
+    IsRefused (stream_bytes elements ++ with_code front 0xba (mark ∷ rest))
+    (NotPack (length (stream_bytes elements) + front))
 pack_refused elements front mark rest are other =
     refused elements (with_code front 0xba (mark ∷ rest)) (NotPack (length (stream_bytes elements) + front)) are
     (record { zeros = front; mark = mark; rest = rest; is = refl; other = other; place_is = refl })
@@ -100,7 +101,8 @@ packet_refused {stream} {content} elements front are bad =
     let kind = video_kind stream in
     let high = length content / 256 in
     let low = length content % 256 in
-    let none : video_in content ≡ None = none_of (video_in content) (λ video e. never video ((header_is content video).0 e)) in
+    let none : video_in content ≡ None =
+    none_of (video_in content) (λ video e. never video ((header_is content video).0 e)) in
     refused elements (packet_bytes front kind content) (BadPacket (length (stream_bytes elements) + front)) are
     (record {
       zeros = front;

@@ -102,7 +102,8 @@ none_chosen kind (inr high) =
     cond-false (is_video_kind kind) (Some kind) None
     (and_right (nat_le 224 kind) (nat_le kind 239) (lt-leb kind 239 (omega (arith, high.0))))
 
-not_chosen : (first : Option ℕ) (kind : ℕ) → Fits first → IsOtherKind kind → is_chosen (choose (kind_by first) kind) kind ≡ false
+not_chosen : (first : Option ℕ) (kind : ℕ) → Fits first → IsOtherKind kind
+    → is_chosen (choose (kind_by first) kind) kind ≡ false
 not_chosen None kind fits other =
     ap (λ o. is_chosen o kind) (none_chosen kind other)
 not_chosen (Some number) kind fits (inl low) = ne_eqb (video_kind number) kind (λ e. omega (arith, e, low.1))
@@ -142,7 +143,8 @@ stamp_field (Shown shown) fit = inl (refl, omega (arith, fit))
 stamp_field (ShownAndDecoded shown decoded) fit = inr (inl (refl, omega (arith, fit.0)))
 
 pub content_read : (stream stuffing : ℕ) (buffer : Option Buffer) (stamps : Stamps) (video : List ℕ)
-    → IsVideoPacket stream stuffing buffer stamps video → video_in (content_of stuffing buffer stamps video) ≡ Some video
+    → IsVideoPacket stream stuffing buffer stamps video
+    → video_in (content_of stuffing buffer stamps video) ≡ Some video
 content_read stream stuffing buffer stamps video is =
     (header_is (content_of stuffing buffer stamps video) video).1 (record {
       stuffing = stuffing;
@@ -205,7 +207,8 @@ video_read {first = Some number} {front} {stream} {stuffing} {buffer} {stamps} {
     }
 
 pub element_read : (first : Option ℕ) (element : Element) → Fits first → IsElement element → IsRead first element
-element_read first (PackHeader front clock_reference mux_rate) fits is = pack_read first front clock_reference mux_rate fits is.0
+element_read first (PackHeader front clock_reference mux_rate) fits is =
+    pack_read first front clock_reference mux_rate fits is.0
 element_read first (VideoPacket front stream stuffing buffer stamps video) fits is = video_read fits is
 element_read first (OtherPacket front kind content) fits is = other_read first front kind content fits is.0
 
@@ -242,14 +245,17 @@ none_read : (first : Option ℕ) → AreRead first []
 none_read None = record { items = tt; video = refl }
 none_read (Some number) = record { items = tt; video = refl }
 
-pub elements_read : (first : Option ℕ) (elements : List Element) → Fits first → AreElements elements → AreRead first elements
+pub elements_read : (first : Option ℕ) (elements : List Element) → Fits first → AreElements elements
+    → AreRead first elements
 elements_read first [] fits are = none_read first
 elements_read first (element ∷ elements) fits are =
     let read = element_read first element fits are.0 in
     let more = elements_read (next first element) elements read.fits are.1 in
     record {
       items = (read.item, subst (λ c. AreItems c (items_of elements)) (sym read.next_is) more.items);
-      video = ap (λ (l : List ℕ). l ++ video_of (chosen_next (kind_by first) (item_of element)) (items_of elements)) read.video
+      video =
+          ap (λ (l : List ℕ). l ++ video_of (chosen_next (kind_by first) (item_of element))
+          (items_of elements)) read.video
           ∙ ap (λ c. own first element ++ video_of c (items_of elements)) read.next_is
           ∙ ap (λ (l : List ℕ). own first element ++ l) more.video
           ∙ videos_more first element elements;

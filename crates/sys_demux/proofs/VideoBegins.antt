@@ -75,7 +75,8 @@ short_rest {chosen} {start} {place} {part} {more} {t} {left} {items = []} h less
       some = omega (arith, size, less);
       place_is = h.place_is ∙ ap (λ n. start + n) (sym d.zeros_are);
     } in
-    absurd (end_no_fault chosen start t (Truncated place) end (subst (λ (l : List ℕ). LacksEnd chosen start l place) bytes cut))
+    absurd (end_no_fault chosen start t (Truncated place) end
+    (subst (λ (l : List ℕ). LacksEnd chosen start l place) bytes cut))
   where
     open followed use {bytes, end}
 short_rest {chosen} {start} {place} {part} {more} {t} {left} {items = y ∷ ys} h less followed =
@@ -109,7 +110,9 @@ long_rest {chosen} {part} {kept} {more} {t} {left} {video} {items = y ∷ ys} h 
     let same = item_once chosen d.is_item are.0 (whole ∙ bytes ∙ append_assoc (item_bytes y) (bytes_of ys) t) in
     record {
       rest = video (take left more) ++ video_of (chosen_next chosen y) ys;
-      is = ap (λ (v : List ℕ). v ++ video_of (chosen_next chosen y) ys) (ap (item_video chosen) (sym same.item) ∙ d.video_is)
+      is =
+          ap (λ (v : List ℕ). v ++ video_of (chosen_next chosen y) ys)
+          (ap (item_video chosen) (sym same.item) ∙ d.video_is)
           ∙ append_assoc kept (video (take left more)) (video_of (chosen_next chosen y) ys);
     }
   where
@@ -129,8 +132,10 @@ part_begins : {state : Place} {place : ℕ} {now : Option ℕ} {seen video more 
     → Begins r.kept (video_of (chosen_after None r.items) items)
 part_begins {state = Zeros zeros} {items} r followed =
     none_begins r.kept (video_of (chosen_after None r.items) items) r.is_part.none
-part_begins {state = Kind} {items} r followed = none_begins r.kept (video_of (chosen_after None r.items) items) r.is_part.none
-part_begins {state = Mark} {items} r followed = none_begins r.kept (video_of (chosen_after None r.items) items) r.is_part.none
+part_begins {state = Kind} {items} r followed =
+    none_begins r.kept (video_of (chosen_after None r.items) items) r.is_part.none
+part_begins {state = Mark} {items} r followed =
+    none_begins r.kept (video_of (chosen_after None r.items) items) r.is_part.none
 part_begins {state = High kind} {items} r followed =
     none_begins r.kept (video_of (chosen_after None r.items) items) r.is_part.0.none
 part_begins {state = Low kind high} {items} r followed =
@@ -139,7 +144,8 @@ part_begins {state = InHeader header left} {items} r followed =
     none_begins r.kept (video_of (chosen_after None r.items) items) r.is_part.none
 part_begins {state = Pass left} r followed = rest_begins r.is_part followed
 part_begins {state = Video left} r followed = rest_begins r.is_part followed
-part_begins {state = End} {items} r followed = none_begins r.kept (video_of (chosen_after None r.items) items) r.is_part.none
+part_begins {state = End} {items} r followed =
+    none_begins r.kept (video_of (chosen_after None r.items) items) r.is_part.none
 part_begins {state = Failed fault} {items} r followed =
     none_begins r.kept (video_of (chosen_after None r.items) items) r.is_part.1
 
@@ -147,7 +153,8 @@ pub video_begins : {state : Place} {place : ℕ} {now : Option ℕ} {seen video 
     → IsReached state place now seen video → IsSystem (seen ++ more) whole → (rest : List ℕ) × (whole ≡ video ++ rest)
 video_begins more r system =
     let bytes : bytes_of r.items ++ (r.part ++ more) ≡ bytes_of system.items ++ system.tail =
-    sym (append_assoc (bytes_of r.items) r.part more) ∙ ap (λ (l : List ℕ). l ++ more) (sym r.seen_is) ∙ system.bytes_are in
+    sym (append_assoc (bytes_of r.items) r.part more) ∙ ap (λ (l : List ℕ). l ++ more) (sym r.seen_is)
+    ∙ system.bytes_are in
     let known = strip r.are system.are bytes system.end in
     let followed : IsFollowed (chosen_after None r.items) r.part more known.more system.tail =
     record { are = known.are; bytes = known.bytes; end = system.end } in

@@ -13,6 +13,7 @@ returns-then-byte-ne255 c =
       | then-byte-ne255-via-then-byte-ne255 w ↦ inl w.if-byte-ne255.true
       | then-byte-ne255-via-else-byte-ne255+then-count-ge16 w ↦ inr w.if-count-ge16.true
     ] in
-    says_same {f = λ rest. from_stuffing (16 - c.args.count) (c.args.byte ∷ rest)} {g = λ rest. from_size (c.args.byte ∷ rest)}
+    says_same {f = λ rest. from_stuffing (16 - c.args.count) (c.args.byte ∷ rest)}
+    {g = λ rest. from_size (c.args.byte ∷ rest)}
     c.args.left least_rest video_from c.after_size.result
     (λ rest. stuffing_ends c.args.count c.args.byte rest why) c.after_size.ensures

@@ -8,5 +8,6 @@ returns-in-None-clause-next c = λ chosen now start part kept h. header_bad c.ar
 
 pub returns-in-Some-clause-next : goal.returns-in-Some-clause-next
 returns-in-Some-clause-next c = λ chosen now start part kept h.
-    subst (λ s. LeadsTo chosen start c.args.item now (part ++ c.args.byte ∷ []) kept s) (sym c.header_goes_on.ensures.place)
+    subst (λ s. LeadsTo chosen start c.args.item now (part ++ c.args.byte ∷ []) kept s)
+    (sym c.header_goes_on.ensures.place)
     (header_leads c.args.byte c.in-Some.next h c.in-Some.ensures.1)

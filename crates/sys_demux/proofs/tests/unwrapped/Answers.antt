@@ -8,7 +8,8 @@ use Rattle.sys_demux.specs.Streams.{IsSystem, IsRefused}
 use Rattle.sys_demux.specs.States.{WasFed}
 use Rattle.sys_demux.proofs.tests.unwrapped.Goals as goal
 
-joined : (seen rest : List ℕ) (k taken : ℕ) → taken ≤ k → (seen ++ take taken (take k rest)) ++ drop taken rest ≡ seen ++ rest
+joined : (seen rest : List ℕ) (k taken : ℕ) → taken ≤ k
+    → (seen ++ take taken (take k rest)) ++ drop taken rest ≡ seen ++ rest
 joined seen rest k taken few =
     append_assoc seen (take taken (take k rest)) (drop taken rest)
     ∙ ap (λ (l : List ℕ). seen ++ (l ++ drop taken rest)) (take-take taken k rest few)
@@ -45,8 +46,10 @@ pub returns : goal.returns
 returns c =
     let inv = c.loop-rest.invariant.fed in
     let rest = c.loop-rest.rest.now in
-    let none : rest ≡ [] = nil_from_length rest (eqb-true (length rest) 0 (sym c.is_empty.ensures ∙ c.loop-rest-test.false)) in
-    let same : inv.0 ≡ c.args.bytes.now = sym (append-nil inv.0) ∙ ap (λ (l : List ℕ). inv.0 ++ l) (sym none) ∙ inv.1.0 in
+    let none : rest ≡ [] =
+    nil_from_length rest (eqb-true (length rest) 0 (sym c.is_empty.ensures ∙ c.loop-rest-test.false)) in
+    let same : inv.0 ≡ c.args.bytes.now =
+    sym (append-nil inv.0) ∙ ap (λ (l : List ℕ). inv.0 ++ l) (sym none) ∙ inv.1.0 in
     subst (λ (b : List ℕ). MatchResult c.finish.result (λ _. IsSystem b c.loop-rest.video.items)
     (λ fault. IsRefused b fault)) same (c.finish.ensures.end inv.0 c.loop-rest.video.items inv.1.1)
 
@@ -56,6 +59,7 @@ returns-in-Err c =
     let rest = c.loop-rest.rest.now in
     let k = c.min.result in
     let whole : (inv.0 ++ take k rest) ++ drop k rest ≡ c.args.bytes.now =
-    append_assoc inv.0 (take k rest) (drop k rest) ∙ ap (λ (l : List ℕ). inv.0 ++ l) (take-append-drop k rest) ∙ inv.1.0 in
+    append_assoc inv.0 (take k rest) (drop k rest) ∙ ap (λ (l : List ℕ). inv.0 ++ l) (take-append-drop k rest)
+    ∙ inv.1.0 in
     subst (λ (b : List ℕ). IsRefused b c.in-Err.fault) whole
     (c.in-Err.ensures.fault inv.0 c.loop-rest.video.items inv.1.1 (drop k rest))

@@ -22,7 +22,8 @@ returns-in-Failed-place-clause-fault c = λ seen video was more.
     let chunk = c.args.chunk.now in
     let next = c.take.ensures.next seen video was in
     let refused = failed_refused (drop 1 chunk ++ more)
-    (subst (λ s. IsReached s n.item n.chosen (seen ++ get_or chunk 0 0 ∷ []) video) c.in-Failed-place.is next.reached) in
+    (subst (λ s. IsReached s n.item n.chosen (seen ++ get_or chunk 0 0 ∷ []) video) c.in-Failed-place.is
+    next.reached) in
     subst (λ (l : List ℕ). IsRefused l c.in-Failed-place.fault) (first_taken seen chunk more c.requires.some) refused
 
 pub returns-in-Failed-place-clause-again : goal.returns-in-Failed-place-clause-again
@@ -66,13 +67,14 @@ returns-in-Video-clause-next c = λ seen video was.
     (λ chosen start part kept at is. video_leads (take count chunk) is size few) in
     record {
       count = omega (arith, was.count, c.skip-in-Video.ensures.fed, size, length-append seen (take count chunk));
-      reached = moved
-          (c.skip-in-Video.ensures.place ∙ c.video.ensures) c.skip-in-Video.ensures.item c.skip-in-Video.ensures.chosen next;
+      reached = moved (c.skip-in-Video.ensures.place ∙ c.video.ensures) c.skip-in-Video.ensures.item
+          c.skip-in-Video.ensures.chosen next;
     }
 
 pub returns-in-Failed-clause-shown : goal.returns-in-Failed-clause-shown
 returns-in-Failed-clause-shown c = λ seen video was.
-    (subst (λ s. IsReached s c.args.self.now.item c.args.self.now.chosen seen video) c.in-Failed.is was.reached).is_part.2
+    let now = c.args.self.now in
+    (subst (λ s. IsReached s now.item now.chosen seen video) c.in-Failed.is was.reached).is_part.2
 
 pub returns-in-Failed-place-clause-shown : goal.returns-in-Failed-place-clause-shown
 returns-in-Failed-place-clause-shown c = λ seen video was.

@@ -11,4 +11,5 @@ returns-in-Some-clause-end c = λ seen video was.
 
 pub returns-in-Some-clause-only : goal.returns-in-Some-clause-only
 returns-in-Some-clause-only c =
-    λ shown. end_shown c.args.self.now.place c.args.self.now.item c.in-Some.fault (sym c.end_fault.ensures ∙ c.in-Some.is) shown
+    λ shown. end_shown c.args.self.now.place c.args.self.now.item c.in-Some.fault
+    (sym c.end_fault.ensures ∙ c.in-Some.is) shown
