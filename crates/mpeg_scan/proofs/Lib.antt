@@ -25,3 +25,4 @@ mod SinceLemmas
 mod HeaderLemmas
 mod RefusalLemmas
 mod RefusedLemmas
+pub mod RateLemmas

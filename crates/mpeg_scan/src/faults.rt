@@ -77,9 +77,8 @@ impl From<FilmFault> for ScanRefused {
 
 impl From<NoMemory> for ScanRefused {
     ghost use Rattle.mpeg_scan.specs.declared.faults.ScanRefused.{ScanRefused};
-    ghost use Rattle.mpeg_scan.specs.declared.faults.ScanRefused.TheVariants.{NoMemory as WantsMemory};
 
-    ghost from_gives = { λ _ refused. refused ≡ WantsMemory };
+    ghost from_gives = { λ _ refused. refused ≡ ScanRefused.NoMemory };
 
     fn from(_want: NoMemory) -> ScanRefused {
         ScanRefused::NoMemory

@@ -83,9 +83,11 @@ pub fn law_one_list_of_units()
 
 /// The time of a picture is that of the rate for which its code stands in the table of ISO/IEC
 /// 11172-2, 2.4.3.2: so many pictures a second, as a fraction, take that time each, to the last
-/// 1/360,000 second.
+/// 1/360,000 second; it is from 6,000 to 15,015.
 pub fn law_picture_rates()
-    ensures { AreStandardTimes picture_time }
+    ensures standard { AreStandardTimes picture_time }
+    ensures bounds { (rate : ℕ) → 1 ≤ rate → rate ≤ 8 →
+        (6000 ≤ picture_time rate) × (picture_time rate ≤ 15015) }
 {}
 
 /// The start codes of a film's bytes are those that stand in them, each at its place: the bytes 00

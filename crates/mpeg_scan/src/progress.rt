@@ -36,7 +36,6 @@ pub(crate) struct Progress {
 
 impl Progress {
     /// Before the first byte.
-    #[tactic(auto, unfolding(crate::specs::Codes::codes_of, crate::specs::Codes::latest_prefix, crate::specs::Faults::first_fault))]
     pub(crate) fn new() -> Progress
         ensures read { HasRead result [] }
         ensures room { IsAhead result }
