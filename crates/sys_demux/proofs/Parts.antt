@@ -12,7 +12,7 @@ use Rattle.sys_demux.specs.Items.{with_prefix, choose, is_chosen}
 use Rattle.sys_demux.specs.Items.Item.{Pack, Packet}
 use Rattle.sys_demux.specs.Streams.{IsBadPacket}
 use Rattle.sys_demux.specs.States.{video_from, IsDone, IsAtZeros, IsAtPrefix, IsAtHeader, IsAtRest}
-use Rattle.sys_demux.specs.States.{IsPart, LeadsTo, place_in}
+use Rattle.sys_demux.specs.States.{IsPart, LeadsTo, place_in, begins_at}
 use Rattle.sys_demux.specs.declared.faults.SystemFault.TheVariants.{BadPacket}
 use Rattle.sys_demux.specs.declared.headers.Header.{Header}
 use Rattle.sys_demux.specs.declared.headers.Header.TheVariants.{Stuffing, Second, Stamp, Rest}
@@ -110,7 +110,7 @@ length_more {part} rest zeros kind high low are =
 pub length_passed : {before : Option ℕ} {kind high total start place : ℕ} {now : Option ℕ} {part kept : List ℕ}
     (low : ℕ) → IsAtPrefix start place (kind ∷ high ∷ []) now (choose before kind) part kept → 187 ≤ kind →
     is_chosen (choose before kind) kind ≡ false → total ≡ high * 256 + low
-    → LeadsTo before start place now (part ++ low ∷ []) kept (cond (total == 0) (Zeros 0) (Pass total))
+    → LeadsTo (begins_at before start) place now (part ++ low ∷ []) kept (cond (total == 0) (Zeros 0) (Pass total))
 length_passed {before} {kind} {high} {total} {start} {place} {now} {part} {kept} low h kind_is other total_is =
     elim (cases_eq total 0) [
       | inl none ↦ (
@@ -134,7 +134,7 @@ length_passed {before} {kind} {high} {total} {start} {place} {now} {part} {kept}
                 (other_done low rest h kind_is other (long ∙ total_is));
             place_is = h.place_is;
           } in
-          inl (subst (λ s. IsPart before start place now (part ++ low ∷ []) kept s)
+          inl (subst (λ s. IsPart (begins_at before start) place now (part ++ low ∷ []) kept s)
           (sym (cond-false (total == 0) (Zeros 0) (Pass total) (ne_eqb total 0 some))) at_rest)
           )
     ]
@@ -151,7 +151,7 @@ pub record LengthRead (before : Option ℕ) (start place : ℕ) (now : Option �
 -- the packet has no content
 pub length_none : {before : Option ℕ} {start place : ℕ} {now : Option ℕ} {part kept : List ℕ}
     {kind low total : ℕ} → LengthRead before start place now part kept kind low total →
-    total ≡ 0 → LeadsTo before start place now (part ++ low ∷ []) kept (Failed (BadPacket place))
+    total ≡ 0 → LeadsTo (begins_at before start) place now (part ++ low ∷ []) kept (Failed (BadPacket place))
 unfolding video_in
 length_none {before} {start} {place} {part} {kind} {low} read none =
     let bad : IsBadPacket before start (part ++ low ∷ []) place = record {
@@ -177,7 +177,7 @@ length_none {before} {start} {place} {part} {kind} {low} read none =
 -- the packet has some content
 pub length_header : {before : Option ℕ} {start place : ℕ} {now : Option ℕ} {part kept : List ℕ}
     {kind low total : ℕ} → LengthRead before start place now part kept kind low total →
-    LeadsTo before start place now (part ++ low ∷ []) kept (InHeader (Stuffing 0) total)
+    LeadsTo (begins_at before start) place now (part ++ low ∷ []) kept (InHeader (Stuffing 0) total)
 unfolding video_in
 length_header {kind} {low} read =
     inl (record {
@@ -207,7 +207,7 @@ front_more zeros front byte are = ap (λ (l : List ℕ). l ++ byte ∷ []) are �
 pub header_bad : {chosen : Option ℕ} {start place left : ℕ} {now : Option ℕ} {part kept : List ℕ} {header : Header}
     (byte : ℕ) → IsAtHeader chosen start place now part kept header (left + 1) →
     ((rest : List ℕ) → length rest ≡ left → video_from header (byte ∷ rest) ≡ None)
-    → LeadsTo chosen start place now (part ++ byte ∷ []) kept (Failed (BadPacket place))
+    → LeadsTo (begins_at chosen start) place now (part ++ byte ∷ []) kept (Failed (BadPacket place))
 header_bad {chosen} {start} {place} {left} {part} {kept} {header} byte h none =
     let size : length (h.front ++ byte ∷ []) ≡ length h.front + 1 = length-append h.front (byte ∷ []) in
     let bad : IsBadPacket chosen start (part ++ byte ∷ []) place = record {
@@ -294,7 +294,7 @@ goes_on {start} {place} {left} {kept} {header} {next} byte h same =
 video_begins : {chosen : Option ℕ} {start place left : ℕ} {now : Option ℕ} {part kept : List ℕ} {header : Header}
     (byte : ℕ) → IsAtHeader chosen start place now part kept header (left + 1) →
     ((rest : List ℕ) → length rest ≡ left → video_from header (byte ∷ rest) ≡ Some rest)
-    → LeadsTo chosen start place now (part ++ byte ∷ []) kept (cond (left == 0) (Zeros 0) (Video left))
+    → LeadsTo (begins_at chosen start) place now (part ++ byte ∷ []) kept (cond (left == 0) (Zeros 0) (Video left))
 video_begins {chosen} {start} {place} {left} {now} {part} {kept} {header} byte h same =
     elim (cases_eq left 0) [
       | inl none ↦ (
@@ -322,7 +322,7 @@ video_begins {chosen} {start} {place} {left} {now} {part} {kept} {header} byte h
             ends = λ rest long. chosen_done byte rest h long (same rest long);
             place_is = h.place_is;
           } in
-          inl (subst (λ s. IsPart chosen start place now (part ++ byte ∷ []) kept s)
+          inl (subst (λ s. IsPart (begins_at chosen start) place now (part ++ byte ∷ []) kept s)
           (sym (cond-false (left == 0) (Zeros 0) (Video left) (ne_eqb left 0 some))) at_rest)
           )
     ]
@@ -330,7 +330,7 @@ video_begins {chosen} {start} {place} {left} {now} {part} {kept} {header} byte h
 pub header_leads : {chosen : Option ℕ} {start place left : ℕ} {now : Option ℕ} {part kept : List ℕ} {header : Header}
     (byte : ℕ) (next : Header) → IsAtHeader chosen start place now part kept header (left + 1) →
     ((rest : List ℕ) → length rest ≡ left → video_from header (byte ∷ rest) ≡ video_from next rest)
-    → LeadsTo chosen start place now (part ++ byte ∷ []) kept (place_in next left)
+    → LeadsTo (begins_at chosen start) place now (part ++ byte ∷ []) kept (place_in next left)
 header_leads {start} {place} {left} {kept} {header} byte (Stuffing count) h same = inl (goes_on byte h same)
 header_leads {start} {place} {left} {kept} {header} byte Second h same = inl (goes_on byte h same)
 header_leads {start} {place} {left} {kept} {header} byte Stamp h same = inl (goes_on byte h same)
@@ -339,12 +339,12 @@ header_leads {chosen} {start} {place} {left} {now} {part} {kept} {header} byte (
       | inl whole ↦ (
           let at_video =
           video_begins byte h (λ rest long. same rest long ∙ ap (λ n. after_bytes n rest) whole ∙ after_none rest) in
-          subst (λ s. LeadsTo chosen start place now (part ++ byte ∷ []) kept s)
+          subst (λ s. LeadsTo (begins_at chosen start) place now (part ++ byte ∷ []) kept s)
           (sym (cond-true (count == 0) (cond (left == 0) (Zeros 0) (Video left))
           (InHeader (Rest count) left) (eq-eqb count 0 whole))) at_video
           )
       | inr some ↦
-          subst (λ s. LeadsTo chosen start place now (part ++ byte ∷ []) kept s)
+          subst (λ s. LeadsTo (begins_at chosen start) place now (part ++ byte ∷ []) kept s)
           (sym (cond-false (count == 0) (cond (left == 0) (Zeros 0) (Video left))
           (InHeader (Rest count) left) (ne_eqb count 0 some)))
           (inl (goes_on byte h same))
@@ -354,7 +354,8 @@ header_leads {chosen} {start} {place} {left} {now} {part} {kept} {header} byte (
 pub rest_leads : {chosen : Option ℕ} {start place left count : ℕ} {now : Option ℕ} {part kept : List ℕ}
     (taken : List ℕ) → IsAtRest chosen start place now part kept left (λ rest. []) → length taken ≡ count
     → count ≤ left →
-    LeadsTo chosen start place now (part ++ taken) kept (cond (left - count == 0) (Zeros 0) (Pass (left - count)))
+    LeadsTo (begins_at chosen start) place now (part ++ taken) kept
+    (cond (left - count == 0) (Zeros 0) (Pass (left - count)))
 rest_leads {chosen} {start} {place} {left} {count} {now} {part} {kept} taken h size within =
     elim (cases_eq (left - count) 0) [
       | inl none ↦ (
@@ -377,7 +378,7 @@ rest_leads {chosen} {start} {place} {left} {count} {now} {part} {kept} taken h s
                 (h.ends (taken ++ rest) (omega (arith, length-append taken rest, size, long, within)));
             place_is = h.place_is;
           } in
-          inl (subst (λ s. IsPart chosen start place now (part ++ taken) kept s)
+          inl (subst (λ s. IsPart (begins_at chosen start) place now (part ++ taken) kept s)
           (sym (cond-false (left - count == 0) (Zeros 0) (Pass (left - count)) (ne_eqb (left - count) 0 some))) at_rest)
           )
     ]
@@ -385,7 +386,7 @@ rest_leads {chosen} {start} {place} {left} {count} {now} {part} {kept} taken h s
 pub video_leads : {chosen : Option ℕ} {start place left count : ℕ} {now : Option ℕ} {part kept : List ℕ}
     (taken : List ℕ) → IsAtRest chosen start place now part kept left (λ rest. rest) → length taken ≡ count
     → count ≤ left →
-    LeadsTo chosen start place now (part ++ taken) (kept ++ taken)
+    LeadsTo (begins_at chosen start) place now (part ++ taken) (kept ++ taken)
     (cond (left - count == 0) (Zeros 0) (Video (left - count)))
 video_leads {chosen} {start} {place} {left} {count} {now} {part} {kept} taken h size within =
     elim (cases_eq (left - count) 0) [
@@ -411,7 +412,7 @@ video_leads {chosen} {start} {place} {left} {count} {now} {part} {kept} taken h 
                 (h.ends (taken ++ rest) (omega (arith, length-append taken rest, size, long, within))));
             place_is = h.place_is;
           } in
-          inl (subst (λ s. IsPart chosen start place now (part ++ taken) (kept ++ taken) s)
+          inl (subst (λ s. IsPart (begins_at chosen start) place now (part ++ taken) (kept ++ taken) s)
           (sym (cond-false (left - count == 0) (Zeros 0) (Video (left - count))
           (ne_eqb (left - count) 0 some))) at_rest)
           )

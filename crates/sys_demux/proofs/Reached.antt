@@ -15,7 +15,7 @@ use Rattle.sys_demux.specs.Items.Item.{Pack, Packet}
 use Rattle.sys_demux.specs.Streams.{LacksEnd, IsEnd, IsFault, IsSystem, IsRefused}
 use Rattle.sys_demux.specs.Sound.{least_rest, is_sound}
 use Rattle.sys_demux.specs.States.{video_from, IsAtPrefix, IsAtHeader, IsAtZeros, IsAtRest, IsShown}
-use Rattle.sys_demux.specs.States.{IsPart, LeadsTo, IsReached, end_fault, fault_at}
+use Rattle.sys_demux.specs.States.{IsPart, LeadsTo, IsReached, end_fault, fault_at, begins_at}
 use Rattle.sys_demux.specs.declared.faults.SystemFault.{SystemFault}
 use Rattle.sys_demux.specs.declared.faults.SystemFault.TheVariants.{NotPack, BadCode, BadPacket}
 use Rattle.sys_demux.specs.declared.faults.SystemFault.TheVariants.{Truncated}
@@ -54,7 +54,7 @@ bytes_more items item =
 -- a part that leads to a state, after items
 pub reached_leads : {place : ℕ} {now : Option ℕ} {part kept : List ℕ} {state : Place} (items : List Item)
     → AreItems None items →
-    LeadsTo (chosen_after None items) (length (bytes_of items)) place now part kept state
+    LeadsTo (begins_at (chosen_after None items) (length (bytes_of items))) place now part kept state
     → IsReached state place now (bytes_of items ++ part) (video_of None items ++ kept)
 reached_leads {place} {part} {kept} items are (inl is) = record {
   items = items;
@@ -85,15 +85,16 @@ reached_leads {place} {now} {part} {kept} items are (inr done) =
       video_is = ap (λ (l : List ℕ). video_of None items ++ l) (sym d.video_is)
           ∙ sym (video_more None items d.item) ∙ sym (append-nil (video_of None all));
       is_part =
-          subst (λ s. IsPart (chosen_after None all) (length (bytes_of all)) place now [] [] s) (sym done.1.1) at_zeros;
+          subst (λ s. IsPart (begins_at (chosen_after None all) (length (bytes_of all))) place now [] [] s)
+          (sym done.1.1) at_zeros;
     }
 
 -- bytes more
 pub step : {state next : Place} {place place' : ℕ} {now now' : Option ℕ} {seen video : List ℕ}
     (bytes more : List ℕ) → IsReached state place now seen video →
     ((chosen : Option ℕ) (start : ℕ) (part kept : List ℕ) → start + length part ≡ length seen →
-    IsPart chosen start place now part kept state
-    → LeadsTo chosen start place' now' (part ++ bytes) (kept ++ more) next) →
+    IsPart (begins_at chosen start) place now part kept state
+    → LeadsTo (begins_at chosen start) place' now' (part ++ bytes) (kept ++ more) next) →
     IsReached next place' now' (seen ++ bytes) (video ++ more)
 step {next} {place} {place'} {now'} {seen} {video} bytes more r leads =
     let size : length (bytes_of r.items) + length r.part ≡ length seen =
@@ -111,11 +112,13 @@ step {next} {place} {place'} {now'} {seen} {video} bytes more r leads =
 pub step_byte : {state next : Place} {place place' : ℕ} {now now' : Option ℕ} {seen video : List ℕ} (byte : ℕ) →
     IsReached state place now seen video →
     ((chosen : Option ℕ) (start : ℕ) (part kept : List ℕ) → start + length part ≡ length seen →
-    IsPart chosen start place now part kept state → LeadsTo chosen start place' now' (part ++ byte ∷ []) kept next) →
+    IsPart (begins_at chosen start) place now part kept state
+    → LeadsTo (begins_at chosen start) place' now' (part ++ byte ∷ []) kept next) →
     IsReached next place' now' (seen ++ byte ∷ []) video
 step_byte {next} {place} {place'} {now'} {seen} {video} byte r leads =
     let more = step (byte ∷ []) [] r (λ chosen start part kept size is.
-    subst (λ (k : List ℕ). LeadsTo chosen start place' now' (part ++ byte ∷ []) k next) (sym (append-nil kept))
+    subst (λ (k : List ℕ). LeadsTo (begins_at chosen start) place' now' (part ++ byte ∷ []) k next)
+    (sym (append-nil kept))
     (leads chosen start part kept size is)) in
     subst (λ (v : List ℕ). IsReached next place' now' (seen ++ byte ∷ []) v) (append-nil video) more
 

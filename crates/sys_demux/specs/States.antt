@@ -93,31 +93,41 @@ IsShown (BadCode place) = Unit {0}
 IsShown (BadPacket place) = Unit {0}
 IsShown (Truncated place) = ⊥
 
--- a part of the bytes, after items that end at `start`, leads to this state
-abbrev pub IsPart : Option ℕ → ℕ → ℕ → Option ℕ → List ℕ → List ℕ → Place → Type 0
-IsPart chosen start place now part kept (Zeros zeros) = IsAtZeros chosen zeros now part kept
-IsPart chosen start place now part kept Kind = IsAtPrefix start place [] now chosen part kept
-IsPart chosen start place now part kept Mark =
-    IsAtPrefix start place (186 ∷ []) now chosen part kept
-IsPart chosen start place now part kept (High kind) =
-    IsAtPrefix start place (kind ∷ []) now (choose chosen kind) part kept × (187 ≤ kind)
-IsPart chosen start place now part kept (Low kind high) =
-    IsAtPrefix start place (kind ∷ high ∷ []) now (choose chosen kind) part kept × (187 ≤ kind)
-IsPart chosen start place now part kept (InHeader header left) =
-    IsAtHeader chosen start place now part kept header left
-IsPart chosen start place now part kept (Pass left) =
-    IsAtRest chosen start place now part kept left (λ rest. [])
-IsPart chosen start place now part kept (Video left) =
-    IsAtRest chosen start place now part kept left (λ rest. rest)
-IsPart chosen start place now part kept End = IsAtEnd part kept
-IsPart chosen start place now part kept (Failed fault) = IsFault chosen start part fault
+-- what items leave for a part after them: the kind of packets that was chosen, and where they end
+pub record Beginning : Type 0 where
+  pub chosen : Option ℕ
+  pub start : ℕ
+
+abbrev pub begins_at : Option ℕ → ℕ → Beginning
+begins_at chosen start = record { chosen = chosen; start = start }
+
+-- a part of the bytes that begins there leads to this state, for an item at this place and the kind
+-- that is chosen now; its video is kept
+abbrev pub IsPart : Beginning → ℕ → Option ℕ → List ℕ → List ℕ → Place → Type 0
+IsPart at place now part kept (Zeros zeros) = IsAtZeros at.chosen zeros now part kept
+IsPart at place now part kept Kind = IsAtPrefix at.start place [] now at.chosen part kept
+IsPart at place now part kept Mark =
+    IsAtPrefix at.start place (186 ∷ []) now at.chosen part kept
+IsPart at place now part kept (High kind) =
+    IsAtPrefix at.start place (kind ∷ []) now (choose at.chosen kind) part kept × (187 ≤ kind)
+IsPart at place now part kept (Low kind high) =
+    IsAtPrefix at.start place (kind ∷ high ∷ []) now (choose at.chosen kind) part kept
+    × (187 ≤ kind)
+IsPart at place now part kept (InHeader header left) =
+    IsAtHeader at.chosen at.start place now part kept header left
+IsPart at place now part kept (Pass left) =
+    IsAtRest at.chosen at.start place now part kept left (λ rest. [])
+IsPart at place now part kept (Video left) =
+    IsAtRest at.chosen at.start place now part kept left (λ rest. rest)
+IsPart at place now part kept End = IsAtEnd part kept
+IsPart at place now part kept (Failed fault) = IsFault at.chosen at.start part fault
     × (kept ≡ []) × IsShown fault
 
 -- the same, or an item ends there
-abbrev pub LeadsTo : Option ℕ → ℕ → ℕ → Option ℕ → List ℕ → List ℕ → Place → Type 0
-LeadsTo chosen start place now part kept state =
-    IsPart chosen start place now part kept state
-    ⊎ ((zeros : ℕ) × (IsDone chosen zeros now part kept × (state ≡ Zeros 0)))
+abbrev pub LeadsTo : Beginning → ℕ → Option ℕ → List ℕ → List ℕ → Place → Type 0
+LeadsTo at place now part kept state =
+    IsPart at place now part kept state
+    ⊎ ((zeros : ℕ) × (IsDone at.chosen zeros now part kept × (state ≡ Zeros 0)))
 
 -- the state to which these bytes lead, and the video in them so far
 pub record IsReached (state : Place) (place : ℕ) (now : Option ℕ) (seen video : List ℕ)
@@ -128,7 +138,8 @@ pub record IsReached (state : Place) (place : ℕ) (now : Option ℕ) (seen vide
   pub are : AreItems None items
   pub seen_is : seen ≡ bytes_of items ++ part
   pub video_is : video ≡ video_of None items ++ kept
-  pub is_part : IsPart (chosen_after None items) (length (bytes_of items)) place now part kept state
+  pub is_part :
+      IsPart (begins_at (chosen_after None items) (length (bytes_of items))) place now part kept state
 
 -- an unwrapper was fed these bytes, and gave this video
 pub record WasFed (unwrapper : Unwrapper) (seen video : List ℕ) : Type 0 where

@@ -4,7 +4,7 @@ ghost use Rattle.std.specs.Prelude.{[], ◌∷◌, ◌++◌, length, Option};
 ghost use Rattle.sys_demux.specs.Items.{choose, is_chosen};
 ghost use Rattle.sys_demux.specs.Sound.{least_rest, is_sound};
 ghost use Rattle.sys_demux.specs.States.{IsAtZeros, IsAtPrefix, IsAtHeader, IsPart, LeadsTo};
-ghost use Rattle.sys_demux.specs.States.{place_in, end_fault};
+ghost use Rattle.sys_demux.specs.States.{begins_at, place_in, end_fault};
 
 use crate::faults::SystemFault;
 use crate::headers::{Header, header_next};
@@ -40,7 +40,7 @@ pub(crate) fn zeros_next(zeros: u8, byte: u8, at: u64) -> Place
     ensures next { (chosen now : Option ℕ) (start : ℕ) (part kept : List ℕ) →
         IsAtZeros chosen zeros now part kept →
         at ≡ start + length part →
-        IsPart chosen start (at - 2) now (part ++ byte ∷ []) kept result }
+        IsPart (begins_at chosen start) (at - 2) now (part ++ byte ∷ []) kept result }
 {
     match byte {
         0 => Place::Zeros((zeros.min(1)) + 1),
@@ -54,7 +54,7 @@ pub(crate) fn kind_next(kind: u8, item: u64) -> Place
     ensures sound { IsTrue (is_sound result) }
     ensures next { (chosen now : Option ℕ) (start : ℕ) (part kept : List ℕ) →
         IsAtPrefix start item [] now chosen part kept →
-        IsPart chosen start item (choose now kind) (part ++ kind ∷ []) kept result }
+        IsPart (begins_at chosen start) item (choose now kind) (part ++ kind ∷ []) kept result }
 {
     if kind == 0xb9 {
         Place::End
@@ -72,7 +72,7 @@ pub(crate) fn mark_next(mark: u8, item: u64) -> Place
     ensures sound { IsTrue (is_sound result) }
     ensures next { (chosen now : Option ℕ) (start : ℕ) (part kept : List ℕ) →
         IsAtPrefix start item (186 ∷ []) now chosen part kept →
-        IsPart chosen start item now (part ++ mark ∷ []) kept result }
+        IsPart (begins_at chosen start) item now (part ++ mark ∷ []) kept result }
 {
     if mark / 16 == 2 {
         Place::Pass(7)
@@ -109,7 +109,7 @@ pub(crate) fn length_next(chosen: Option<u8>, kind: u8, high: u8, low: u8, item:
     ensures next { (before : Option ℕ) (start : ℕ) (part kept : List ℕ) →
         IsAtPrefix start item (kind ∷ high ∷ []) chosen (choose before kind) part kept →
         187 ≤ kind →
-        LeadsTo before start item chosen (part ++ low ∷ []) kept result }
+        LeadsTo (begins_at before start) item chosen (part ++ low ∷ []) kept result }
 {
     let length = u16::from(high) * 256 + u16::from(low);
     if !is_chosen(chosen, kind) {
@@ -129,7 +129,7 @@ pub(crate) fn header_place(header: Header, byte: u8, left: u16, item: u64) -> Pl
     ensures sound { IsTrue (is_sound result) }
     ensures next { (chosen now : Option ℕ) (start : ℕ) (part kept : List ℕ) →
         IsAtHeader chosen start item now part kept header (left + 1) →
-        LeadsTo chosen start item now (part ++ byte ∷ []) kept result }
+        LeadsTo (begins_at chosen start) item now (part ++ byte ∷ []) kept result }
 {
     match header_next(header, byte, left) {
         None => Place::Failed(SystemFault::BadPacket(item)),

@@ -1,5 +1,5 @@
 use Rattle.std.proofs.Common.{◌++◌, ◌∷◌, [], sym, subst}
-use Rattle.sys_demux.specs.States.{LeadsTo}
+use Rattle.sys_demux.specs.States.{LeadsTo, begins_at}
 use Rattle.sys_demux.proofs.Parts.{header_bad, header_leads}
 use Rattle.sys_demux.proofs.places.header_place.Goals as goal
 
@@ -8,6 +8,6 @@ returns-in-None-clause-next c = λ chosen now start part kept h. header_bad c.ar
 
 pub returns-in-Some-clause-next : goal.returns-in-Some-clause-next
 returns-in-Some-clause-next c = λ chosen now start part kept h.
-    subst (λ s. LeadsTo chosen start c.args.item now (part ++ c.args.byte ∷ []) kept s)
+    subst (λ s. LeadsTo (begins_at chosen start) c.args.item now (part ++ c.args.byte ∷ []) kept s)
     (sym c.header_goes_on.ensures.place)
     (header_leads c.args.byte c.in-Some.next h c.in-Some.ensures.1)

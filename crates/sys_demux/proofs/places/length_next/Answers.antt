@@ -1,13 +1,14 @@
 use Rattle.std.proofs.Common.{◌+◌, ◌*◌, ◌++◌, ◌∷◌, [], sym, ap, subst, ◌∙◌, arith}
 use Rattle.sys_demux.specs.Items.{is_chosen}
-use Rattle.sys_demux.specs.States.{LeadsTo}
+use Rattle.sys_demux.specs.States.{LeadsTo, begins_at}
 use Rattle.sys_demux.proofs.Parts.{LengthRead, length_passed, length_none, length_header}
 use Rattle.sys_demux.proofs.places.length_next.Goals as goal
 
 pub returns-then-not-is_chosen-clause-next : goal.returns-then-not-is_chosen-clause-next
 returns-then-not-is_chosen-clause-next c = λ before start part kept h kind_is.
     let other = ap (λ o. is_chosen o c.args.kind) (sym h.now_is) ∙ sym c.is_chosen.ensures ∙ c.if-not-is_chosen.true in
-    subst (λ s. LeadsTo before start c.args.item c.args.chosen (part ++ c.args.low ∷ []) kept s) (sym c.pass.ensures)
+    subst (λ s. LeadsTo (begins_at before start) c.args.item c.args.chosen (part ++ c.args.low ∷ []) kept s)
+    (sym c.pass.ensures)
     (length_passed c.args.low h kind_is other (omega (arith, c.from.ensures, c.from-2.ensures)))
 
 pub returns-then-length-eq0-clause-next : goal.returns-then-length-eq0-clause-next

@@ -2,7 +2,7 @@ use Rattle.std.proofs.Common.{◌≡◌, ◌≤◌, ◌-◌, ◌++◌, ◌∷◌
 use Rattle.std.proofs.Common.{get_or, sym, subst, ◌∙◌, arith, append_assoc}
 use Rattle.std.proofs.lemmas.List.{append-nil, length-append, length-take-le}
 use Rattle.sys_demux.specs.Streams.{IsRefused}
-use Rattle.sys_demux.specs.States.{IsReached, LeadsTo}
+use Rattle.sys_demux.specs.States.{IsReached, LeadsTo, begins_at}
 use Rattle.sys_demux.specs.declared.places.Place.TheVariants.{Zeros, Pass}
 use Rattle.sys_demux.proofs.Parts.{rest_leads, video_leads}
 use Rattle.sys_demux.proofs.Reached.{step, moved, failed_refused, failed_at, first_taken}
@@ -43,7 +43,7 @@ returns-in-Pass-clause-next c = λ seen video was.
     let next = step (take count chunk) []
     (subst (λ s. IsReached s u.item u.chosen seen video) c.in-Pass.is was.reached)
     (λ chosen start part kept at is.
-    subst (λ (k : List ℕ). LeadsTo chosen start u.item u.chosen (part ++ take count chunk) k
+    subst (λ (k : List ℕ). LeadsTo (begins_at chosen start) u.item u.chosen (part ++ take count chunk) k
     (cond (left - count == 0) (Zeros 0) (Pass (left - count)))) (sym (append-nil kept))
     (rest_leads (take count chunk) is size few)) in
     record {
