@@ -24,23 +24,34 @@ use Rattle.mpeg_scan.proofs.TileLemmas.{slice-apart, calls-nil, ends_at}
 use Rattle.mpeg_scan.proofs.SpaceLemmas.{After, Spaced, all-below}
 use Rattle.mpeg_scan.proofs.CountLemmas.{empty-count, first-some, second-accepted, second-none}
 use Rattle.mpeg_scan.proofs.FilmLemmas.{units_in-append}
-use Rattle.mpeg_scan.proofs.OpenLemmas.{Below, Firsts, Member, Open, Pictured, first-code, kinds-of}
+use Rattle.mpeg_scan.proofs.OpenLemmas.{Below, Firsts, Latest, Member, Open, Pictured, first-code}
 use Rattle.mpeg_scan.proofs.OpenLemmas.{member-has, step-open}
+use Rattle.mpeg_scan.proofs.KindLemmas.{kinds-of}
 use Rattle.mpeg_scan.proofs.BeforeLemmas.{Knows}
 use Rattle.mpeg_scan.proofs.SinceLemmas.{all-slices, counts-same, few-slices, own-slices}
 
 -- ---- the latest unit, code by code
 
 abbrev OpenOf : List Code → Type 0
-OpenOf past =
-    Open past (latest_unit past) (head_end_of past) (slice_count past) (latest_picture past) (has_sequence past)
-    (starts_group past)
+OpenOf past = Open past (record {
+  from = latest_unit past;
+  head_end = head_end_of past;
+  slices = slice_count past;
+  picture = latest_picture past;
+  sequence = has_sequence past;
+  group = starts_group past;
+})
 
 open-three : (c : Code) → c.kind ≡ 0xb3 → OpenOf (c ∷ [])
 open-three c is =
-    subst (λ m. Open (c ∷ []) c.place (cond (is_slice m && eqb 0 0) c.place 0)
-    (cond (is_head m) 0 (cond (is_slice m) (0 + 1) 0)) (cond (eqb m 0) (Some (header_of c)) None)
-    (cond (eqb m 0xb3) true false) (cond (eqb m 0xb8 || true) true false)) (sym is) (first-code c is)
+    subst (λ m. Open (c ∷ []) (record {
+      from = c.place;
+      head_end = cond (is_slice m && eqb 0 0) c.place 0;
+      slices = cond (is_head m) 0 (cond (is_slice m) (0 + 1) 0);
+      picture = cond (eqb m 0) (Some (header_of c)) None;
+      sequence = cond (eqb m 0xb3) true false;
+      group = cond (eqb m 0xb8 || true) true false;
+    })) (sym is) (first-code c is)
 
 open-first : (c : Code) → first_fault (c ∷ []) ≡ None → OpenOf (c ∷ [])
 open-first c accepted = open-three c (first-is c accepted)
@@ -105,16 +116,26 @@ close-picture {past} {h} some header is = record {
   };
 }
 
-in-head : {past : List Code} {n place kind : ℕ} {o : Option Header} {seq grp : Bool} (unit : PictureUnit)
-    → Open past unit.from unit.head_end n o seq grp → 0 < n → HasCode place kind past → IsHeadKind kind
-    → place < unit.head_end
-in-head {place} {kind} {seq} unit open_ some has head = elim (cases_lt place unit.head_end) [
+-- what a unit says of itself, with its picture's header
+abbrev latest_by : PictureUnit → ℕ → Option Header → Latest
+latest_by unit n o = record {
+  from = unit.from;
+  head_end = unit.head_end;
+  slices = n;
+  picture = o;
+  sequence = unit.has_sequence;
+  group = unit.starts_group;
+}
+
+in-head : {past : List Code} {n place kind : ℕ} {o : Option Header} (unit : PictureUnit)
+    → Open past (latest_by unit n o) → 0 < n → HasCode place kind past → IsHeadKind kind → place < unit.head_end
+in-head {place} {kind} unit open_ some has head = elim (cases_lt place unit.head_end) [
   | inl before ↦ before
   | inr after ↦ absurd (open_.sliced some place kind has after head)
 ]
 
 group-closed : {past : List Code} {n : ℕ} {o : Option Header} (unit : PictureUnit)
-    → Open past unit.from unit.head_end n o unit.has_sequence unit.starts_group → 0 < n
+    → Open past (latest_by unit n o) → 0 < n
     → Firsts past unit.from ⊎ ((place : ℕ) × (HasCode place 0xb8 past × (unit.from ≤ place)))
     → IsFirstCode (Has past) unit.from ⊎ StandsIn (Has past) unit.from unit.head_end 0xb8
 group-closed unit open_ some (inl firsts) = inl firsts
@@ -127,13 +148,13 @@ group-closed unit open_ some (inr it) =
     })
 
 group-open : (past : List Code) (unit : PictureUnit) (n : ℕ) (o : Option Header)
-    → Open past unit.from unit.head_end n o unit.has_sequence unit.starts_group
+    → Open past (latest_by unit n o)
     → IsFirstCode (Has past) unit.from ⊎ StandsIn (Has past) unit.from unit.head_end 0xb8 → unit.starts_group ≡ true
 group-open past unit n o open_ (inl firsts) = open_.grp_first firsts
 group-open past unit n o open_ (inr it) = open_.grp_set it.place it.code it.after
 
 close-by : {past : List Code} {unit : PictureUnit} {n : ℕ} {o : Option Header}
-    → Open past unit.from unit.head_end n o unit.has_sequence unit.starts_group → 0 < n
+    → Open past (latest_by unit n o) → 0 < n
     → HasHeader unit (unwrap_or o no_header)
     → ((place kind : ℕ) → HasCode place kind past → place < unit.to)
     → Counts (Has past) IsSliceKind unit.head_end unit.to unit.slices

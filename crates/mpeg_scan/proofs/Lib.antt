@@ -13,6 +13,7 @@ mod HeaderByteLemmas
 pub mod FirstLemmas
 mod NextLemmas
 mod RoomLemmas
+mod KindLemmas
 mod OpenLemmas
 mod ClosedLemmas
 mod StandardLemmas

@@ -1,15 +1,15 @@
 -- What the start codes of an accepted film say of its latest unit, code by code.
-use Rattle.std.proofs.Common.{ℕ, Bool, true, false, cond, eqb, leb, ◌&&◌, ◌||◌, ◌+◌, ◌<◌, ◌≤◌, ◌≡◌}
+use Rattle.std.proofs.Common.{ℕ, Bool, true, false, cond, ◌&&◌, ◌||◌, ◌+◌, ◌<◌, ◌≤◌, ◌≡◌}
 use Rattle.std.proofs.Common.{◌⊎◌, List, [], ◌∷◌, Option, Some, None, sym, ap, refl, subst, inl}
 use Rattle.std.proofs.Common.{inr, arith}
 use Rattle.std.specs.Option.{is_some}
-use Rattle.std.proofs.lemmas.Bool.{eqb-true, eq-eqb, leb-true, le-leb, and_parts, and_from}
 use Rattle.std.proofs.lemmas.Bool.{true≢false, false≢true}
 use Rattle.mpeg_scan.specs.declared.codes.Code.{Code}
 use Rattle.mpeg_scan.specs.declared.tallies.Header.{Header}
-use Rattle.mpeg_scan.specs.Words.{header_of, is_slice}
+use Rattle.mpeg_scan.specs.Words.{header_of}
 use Rattle.mpeg_scan.specs.Places.{HasCode}
 use Rattle.mpeg_scan.specs.Standard.{IsHeadKind, IsSliceKind}
+use Rattle.mpeg_scan.proofs.KindLemmas.{Kinds}
 
 -- one of these codes
 abbrev pub Member : Code → List Code → Type 0
@@ -47,45 +47,33 @@ abbrev pub PictureIs : List Code → ℕ → ℕ → ℕ → Option Header → T
 PictureIs past from head_end n None = NoneFrom past from Zero
 PictureIs past from head_end n (Some h) = Pictured past from head_end n h
 
-pub record Open (past : List Code) (from head_end n : ℕ) (picture : Option Header) (seq grp : Bool) : Type 0 where
-  pub begins : (kind : ℕ) × (HasCode from kind past × IsHeadKind kind)
-  pub bare : n ≡ 0 → NoneFrom past from IsSliceKind
-  pub head : 0 < n → (place kind : ℕ) → HasCode place kind past → from ≤ place → place < head_end → IsSliceKind kind → ⊥
-  pub head_ends : 0 < n → (kind : ℕ) × (HasCode head_end kind past × IsSliceKind kind)
-  pub order : 0 < n → from < head_end
-  pub some : 0 < n → is_some picture ≡ true
-  pub sliced : 0 < n → NoneFrom past head_end IsHeadKind
-  pub picture_is : PictureIs past from head_end n picture
-  pub seq_there : seq ≡ true → (place : ℕ) × (HasCode place 0xb3 past × (from ≤ place))
-  pub seq_set : (place : ℕ) → HasCode place 0xb3 past → from ≤ place → seq ≡ true
-  pub grp_there : grp ≡ true → Firsts past from ⊎ ((place : ℕ) × (HasCode place 0xb8 past × (from ≤ place)))
-  pub grp_set : (place : ℕ) → HasCode place 0xb8 past → from ≤ place → grp ≡ true
-  pub grp_first : Firsts past from → grp ≡ true
+-- what is said of the latest unit: where it begins, where its head ends if it has slices, how many it has, its
+-- picture, whether it has a sequence header, and whether it starts a group
+pub record Latest : Type 0 where
+  pub from : ℕ
+  pub head_end : ℕ
+  pub slices : ℕ
+  pub picture : Option Header
+  pub sequence : Bool
+  pub group : Bool
 
--- ---- the kind of a code, by the tests on it
-pub record Kinds (t0 t3 t8 s : Bool) (kind : ℕ) : Type 0 where
-  pub zero_is : t0 ≡ true → kind ≡ 0
-  pub three_is : t3 ≡ true → kind ≡ 0xb3
-  pub eight_is : t8 ≡ true → kind ≡ 0xb8
-  pub slice_is : s ≡ true → IsSliceKind kind
-  pub is_zero : kind ≡ 0 → t0 ≡ true
-  pub is_three : kind ≡ 0xb3 → t3 ≡ true
-  pub is_eight : kind ≡ 0xb8 → t8 ≡ true
-  pub is_slice : IsSliceKind kind → s ≡ true
-
-pub kinds-of : (kind : ℕ) → Kinds (eqb kind 0) (eqb kind 0xb3) (eqb kind 0xb8) (is_slice kind) kind
-kinds-of kind = record {
-  zero_is = eqb-true kind 0;
-  three_is = eqb-true kind 0xb3;
-  eight_is = eqb-true kind 0xb8;
-  slice_is =
-      λ e. let parts = and_parts (leb 1 kind) (leb kind 0xaf) e in
-      (leb-true 1 kind parts.0, leb-true kind 0xaf parts.1);
-  is_zero = eq-eqb kind 0;
-  is_three = eq-eqb kind 0xb3;
-  is_eight = eq-eqb kind 0xb8;
-  is_slice = λ e. and_from (leb 1 kind) (leb kind 0xaf) (le-leb 1 kind e.0) (le-leb kind 0xaf e.1);
-}
+-- the codes bear it out
+pub record Open (past : List Code) (u : Latest) : Type 0 where
+  pub begins : (kind : ℕ) × (HasCode u.from kind past × IsHeadKind kind)
+  pub bare : u.slices ≡ 0 → NoneFrom past u.from IsSliceKind
+  pub head : 0 < u.slices → (place kind : ℕ) → HasCode place kind past → u.from ≤ place → place < u.head_end
+      → IsSliceKind kind → ⊥
+  pub head_ends : 0 < u.slices → (kind : ℕ) × (HasCode u.head_end kind past × IsSliceKind kind)
+  pub order : 0 < u.slices → u.from < u.head_end
+  pub some : 0 < u.slices → is_some u.picture ≡ true
+  pub sliced : 0 < u.slices → NoneFrom past u.head_end IsHeadKind
+  pub picture_is : PictureIs past u.from u.head_end u.slices u.picture
+  pub seq_there : u.sequence ≡ true → (place : ℕ) × (HasCode place 0xb3 past × (u.from ≤ place))
+  pub seq_set : (place : ℕ) → HasCode place 0xb3 past → u.from ≤ place → u.sequence ≡ true
+  pub grp_there : u.group ≡ true
+      → Firsts past u.from ⊎ ((place : ℕ) × (HasCode place 0xb8 past × (u.from ≤ place)))
+  pub grp_set : (place : ℕ) → HasCode place 0xb8 past → u.from ≤ place → u.group ≡ true
+  pub grp_first : Firsts past u.from → u.group ≡ true
 
 -- a slice is no head, by numbers
 apart : (kind : ℕ) → IsSliceKind kind → IsHeadKind kind → ⊥
@@ -130,43 +118,42 @@ pictured-only : {its : ℕ} (c : Code) (past : List Code) (from : ℕ) → (c.ki
 pictured-only c past from other only place (inl new) after = absurd (other new.1)
 pictured-only c past from other only place (inr old) after = only place old after
 
-picture-more : {past : List Code} {from head_end n m : ℕ} {o : Option Header} {seq grp : Bool} (c : Code) →
-    Open past from head_end n o seq grp → (IsHeadKind c.kind → ⊥) → (0 < m → 0 < n) →
-    PictureIs (c ∷ past) from head_end m o
-picture-more {past} {from} {o = None} c open_ other grows =
-    none-more c past from Zero (λ e. other (inl e)) open_.picture_is
-picture-more {past} {from} {o = Some h} c open_ other grows =
-    let is = open_.picture_is in
-    record {
-      code = is.code;
-      member = inr is.member;
-      kind = is.kind;
-      header = is.header;
-      after = is.after;
-      only = pictured-only c past from (λ e. other (inl e)) is.only;
-      last = none-more c past (is.code.place + 1) IsHeadKind other is.last;
-      before = λ some. is.before (grows some);
-    }
+-- a code that is no head's leaves it the picture
+pictured-on : {past : List Code} {from head_end to n m : ℕ} {h : Header} (c : Code)
+    (is : Pictured past from head_end n h) → (IsHeadKind c.kind → ⊥) → (0 < m → is.code.place < to)
+    → Pictured (c ∷ past) from to m h
+pictured-on {past} {from} c is other before = record {
+  code = is.code;
+  member = inr is.member;
+  kind = is.kind;
+  header = is.header;
+  after = is.after;
+  only = pictured-only c past from (λ e. other (inl e)) is.only;
+  last = none-more c past (is.code.place + 1) IsHeadKind other is.last;
+  before = before;
+}
+
+open-picture : {past : List Code} {u : Latest} {o : Option Header} → Open past u → u.picture ≡ o
+    → PictureIs past u.from u.head_end u.slices o
+open-picture {past} {u} open_ e = subst (λ v. PictureIs past u.from u.head_end u.slices v) e open_.picture_is
+
+picture-more : {past : List Code} {u : Latest} {m : ℕ} {o : Option Header} (c : Code) → u.picture ≡ o → Open past u
+    → (IsHeadKind c.kind → ⊥) → (0 < m → 0 < u.slices) → PictureIs (c ∷ past) u.from u.head_end m o
+picture-more {past} {u} {o = None} c e open_ other grows =
+    none-more c past u.from Zero (λ h. other (inl h)) (open-picture open_ e)
+picture-more {past} {u} {o = Some h} c e open_ other grows =
+    let is : Pictured past u.from u.head_end u.slices h = open-picture open_ e in
+    pictured-on c is other (λ some. is.before (grows some))
 
 -- the first slice
-picture-first : {past : List Code} {from head_end n : ℕ} {o : Option Header} {seq grp : Bool} (c : Code) →
-    Open past from head_end n o seq grp → Below c past → (IsHeadKind c.kind → ⊥) → is_some o ≡ true →
-    PictureIs (c ∷ past) from c.place (n + 1) o
-picture-first {o = None} c open_ below other some = absurd (false≢true some)
-picture-first {past} {from} {o = Some h} c open_ below other some =
-    let is = open_.picture_is in
-    record {
-      code = is.code;
-      member = inr is.member;
-      kind = is.kind;
-      header = is.header;
-      after = is.after;
-      only = pictured-only c past from (λ e. other (inl e)) is.only;
-      last = none-more c past (is.code.place + 1) IsHeadKind other is.last;
-      before =
-          λ _. below is.code.place 0 (subst (λ k. HasCode is.code.place k past) is.kind
-          (member-has is.code past is.member));
-    }
+picture-first : {past : List Code} {u : Latest} {o : Option Header} (c : Code) → u.picture ≡ o → Open past u
+    → Below c past → (IsHeadKind c.kind → ⊥) → is_some o ≡ true
+    → PictureIs (c ∷ past) u.from c.place (u.slices + 1) o
+picture-first {o = None} c e open_ below other some = absurd (false≢true some)
+picture-first {past} {u} {o = Some h} c e open_ below other some =
+    let is : Pictured past u.from u.head_end u.slices h = open-picture open_ e in
+    let has = subst (λ k. HasCode is.code.place k past) is.kind (member-has is.code past is.member) in
+    pictured-on c is other (λ _. below is.code.place 0 has)
 
 new-only : {from place : ℕ} (c : Code) (past : List Code) → NoneFrom past from Zero → HasCode place 0 (c ∷ past)
     → from ≤ place → place ≡ c.place
@@ -229,36 +216,36 @@ head-first {from} c past none place kind (inl new) after before is = omega (arit
 head-first {from} c past none place kind (inr old) after before is = none place kind old after is
 
 -- a slice after others of its unit
-later-slice : {c : Code} {past : List Code} {from head_end n : ℕ} {o : Option Header} {seq grp : Bool}
-    → Below c past → IsSliceKind c.kind → 0 < n → Open past from head_end n o seq grp
-    → Open (c ∷ past) from head_end (n + 1) o seq grp
-later-slice {c} {past} {from} {head_end} below slice some open_ =
+later-slice : {c : Code} {past : List Code} {u : Latest} → Below c past → IsSliceKind c.kind → 0 < u.slices
+    → Open past u → Open (c ∷ past) (record u { slices = u.slices + 1 })
+later-slice {c} {past} {u} below slice some open_ =
     let other = λ (h : IsHeadKind c.kind). apart c.kind slice h in
-    let after : from ≤ c.place = omega (arith, below from open_.begins.0 open_.begins.1.0) in
-    let far : head_end ≤ c.place = omega (arith, below head_end (open_.head_ends some).0 (open_.head_ends some).1.0) in
+    let after : u.from ≤ c.place = omega (arith, below u.from open_.begins.0 open_.begins.1.0) in
+    let far : u.head_end ≤ c.place =
+    omega (arith, below u.head_end (open_.head_ends some).0 (open_.head_ends some).1.0) in
     record {
       begins = (open_.begins.0, (inr open_.begins.1.0, open_.begins.1.1));
       bare = λ none. absurd (omega (arith, none));
-      head = λ _. head-old c past from head_end far (open_.head some);
+      head = λ _. head-old c past u.from u.head_end far (open_.head some);
       head_ends = λ _. ((open_.head_ends some).0, (inr (open_.head_ends some).1.0, (open_.head_ends some).1.1));
       order = λ _. open_.order some;
       some = λ _. open_.some some;
-      sliced = λ _. none-more c past head_end IsHeadKind other (open_.sliced some);
-      picture_is = picture-more c open_ other (λ _. some);
-      seq_there = λ e. later-code c past from (open_.seq_there e);
-      seq_set = seq-more c past from (λ e. other (inr (inl e))) open_.seq_set;
-      grp_there = λ e. later-group c past from after (open_.grp_there e);
-      grp_set = seq-more c past from (λ e. other (inr (inr e))) open_.grp_set;
+      sliced = λ _. none-more c past u.head_end IsHeadKind other (open_.sliced some);
+      picture_is = picture-more c refl open_ other (λ _. some);
+      seq_there = λ e. later-code c past u.from (open_.seq_there e);
+      seq_set = seq-more c past u.from (λ e. other (inr (inl e))) open_.seq_set;
+      grp_there = λ e. later-group c past u.from after (open_.grp_there e);
+      grp_set = seq-more c past u.from (λ e. other (inr (inr e))) open_.grp_set;
       grp_first = λ firsts. open_.grp_first (λ place kind has. firsts place kind (inr has));
     }
 
 -- the first slice of its unit
-first-slice : {c : Code} {past : List Code} {from head_end n : ℕ} {o : Option Header} {seq grp : Bool}
-    → Below c past → IsSliceKind c.kind → n ≡ 0 → is_some o ≡ true → Open past from head_end n o seq grp
-    → Open (c ∷ past) from c.place (n + 1) o seq grp
-first-slice {c} {past} {from} below slice none with_picture open_ =
+first-slice : {c : Code} {past : List Code} {u : Latest} → Below c past → IsSliceKind c.kind → u.slices ≡ 0
+    → is_some u.picture ≡ true → Open past u
+    → Open (c ∷ past) (record u { head_end = c.place; slices = u.slices + 1 })
+first-slice {c} {past} {u} below slice none with_picture open_ =
     let other = λ (h : IsHeadKind c.kind). apart c.kind slice h in
-    let after : from < c.place = below from open_.begins.0 open_.begins.1.0 in
+    let after : u.from < c.place = below u.from open_.begins.0 open_.begins.1.0 in
     record {
       begins = (open_.begins.0, (inr open_.begins.1.0, open_.begins.1.1));
       bare = λ e. absurd (omega (arith, e));
@@ -267,46 +254,46 @@ first-slice {c} {past} {from} below slice none with_picture open_ =
       order = λ _. after;
       some = λ _. with_picture;
       sliced = λ _. none-new c past IsHeadKind below other;
-      picture_is = picture-first c open_ below other with_picture;
-      seq_there = λ e. later-code c past from (open_.seq_there e);
-      seq_set = seq-more c past from (λ e. other (inr (inl e))) open_.seq_set;
-      grp_there = λ e. later-group c past from (omega (arith, after)) (open_.grp_there e);
-      grp_set = seq-more c past from (λ e. other (inr (inr e))) open_.grp_set;
+      picture_is = picture-first c refl open_ below other with_picture;
+      seq_there = λ e. later-code c past u.from (open_.seq_there e);
+      seq_set = seq-more c past u.from (λ e. other (inr (inl e))) open_.seq_set;
+      grp_there = λ e. later-group c past u.from (omega (arith, after)) (open_.grp_there e);
+      grp_set = seq-more c past u.from (λ e. other (inr (inr e))) open_.grp_set;
       grp_first = λ firsts. open_.grp_first (λ place kind has. firsts place kind (inr has));
     }
 
 -- a code that is neither a head's nor a slice's
-other-code : {c : Code} {past : List Code} {from head_end n : ℕ} {o : Option Header} {seq grp : Bool}
-    → Below c past → (IsHeadKind c.kind → ⊥) → (IsSliceKind c.kind → ⊥) → Open past from head_end n o seq grp
-    → Open (c ∷ past) from head_end n o seq grp
-other-code {c} {past} {from} {head_end} below other no_slice open_ =
-    let after : from ≤ c.place = omega (arith, below from open_.begins.0 open_.begins.1.0) in
+other-code : {c : Code} {past : List Code} {u : Latest} → Below c past → (IsHeadKind c.kind → ⊥)
+    → (IsSliceKind c.kind → ⊥) → Open past u → Open (c ∷ past) u
+other-code {c} {past} {u} below other no_slice open_ =
+    let after : u.from ≤ c.place = omega (arith, below u.from open_.begins.0 open_.begins.1.0) in
     record {
       begins = (open_.begins.0, (inr open_.begins.1.0, open_.begins.1.1));
-      bare = λ none. none-more c past from IsSliceKind no_slice (open_.bare none);
-      head = λ some. head-other c past from head_end no_slice (open_.head some);
+      bare = λ none. none-more c past u.from IsSliceKind no_slice (open_.bare none);
+      head = λ some. head-other c past u.from u.head_end no_slice (open_.head some);
       head_ends = λ some. ((open_.head_ends some).0, (inr (open_.head_ends some).1.0, (open_.head_ends some).1.1));
       order = open_.order;
       some = open_.some;
-      sliced = λ some. none-more c past head_end IsHeadKind other (open_.sliced some);
-      picture_is = picture-more c open_ other (λ some. some);
-      seq_there = λ e. later-code c past from (open_.seq_there e);
-      seq_set = seq-more c past from (λ e. other (inr (inl e))) open_.seq_set;
-      grp_there = λ e. later-group c past from after (open_.grp_there e);
-      grp_set = seq-more c past from (λ e. other (inr (inr e))) open_.grp_set;
+      sliced = λ some. none-more c past u.head_end IsHeadKind other (open_.sliced some);
+      picture_is = picture-more c refl open_ other (λ some. some);
+      seq_there = λ e. later-code c past u.from (open_.seq_there e);
+      seq_set = seq-more c past u.from (λ e. other (inr (inl e))) open_.seq_set;
+      grp_there = λ e. later-group c past u.from after (open_.grp_there e);
+      grp_set = seq-more c past u.from (λ e. other (inr (inr e))) open_.grp_set;
       grp_first = λ firsts. open_.grp_first (λ place kind has. firsts place kind (inr has));
     }
 
 -- ---- a code of a head, by the tests on its kind
 
-picture-head : {t0 t3 t8 : Bool} {past : List Code} {from head_end n : ℕ} {o : Option Header} {seq grp : Bool}
-    (c : Code) → Open past from head_end n o seq grp → Kinds t0 t3 t8 false c.kind → Below c past →
-    from ≤ c.place → is_some o ≡ false → PictureIs (c ∷ past) from head_end 0 (cond t0 (Some (header_of c)) o)
-picture-head {o = Some h} c open_ kinds below after none = absurd (true≢false none)
-picture-head {t0 = true} {o = None} c open_ kinds below after none =
-    picture-new below (kinds.zero_is refl) after open_.picture_is
-picture-head {t0 = false} {past} {from} {o = None} c open_ kinds below after none =
-    none-more c past from Zero (λ e. false≢true (kinds.is_zero e)) open_.picture_is
+picture-head : {t0 t3 t8 : Bool} {past : List Code} {u : Latest} {o : Option Header} (c : Code) → u.picture ≡ o
+    → Open past u → Kinds t0 t3 t8 false c.kind → Below c past → is_some o ≡ false
+    → PictureIs (c ∷ past) u.from u.head_end 0 (cond t0 (Some (header_of c)) o)
+picture-head {o = Some h} c e open_ kinds below none = absurd (true≢false none)
+picture-head {t0 = true} {past} {u} {o = None} c e open_ kinds below none =
+    let after : u.from ≤ c.place = omega (arith, below u.from open_.begins.0 open_.begins.1.0) in
+    picture-new below (kinds.zero_is refl) after (open-picture open_ e)
+picture-head {t0 = false} {past} {u} {o = None} c e open_ kinds below none =
+    none-more c past u.from Zero (λ zero_is. false≢true (kinds.is_zero zero_is)) (open-picture open_ e)
 
 flag-there : {t seq : Bool} {k from : ℕ} (c : Code) (past : List Code) → from ≤ c.place
     → (t ≡ true → c.kind ≡ k) → (seq ≡ true → (place : ℕ) × (HasCode place k past × (from ≤ place)))
@@ -332,26 +319,30 @@ set-first true grp e = refl
 set-first false grp e = e
 
 -- in the head of the latest unit
-more-head : {t0 t3 t8 : Bool} {c : Code} {past : List Code} {from head_end n : ℕ} {o : Option Header}
-    {seq grp : Bool} → Below c past → Kinds t0 t3 t8 false c.kind → IsHeadKind c.kind → n ≡ 0
-    → is_some o ≡ false → Open past from head_end n o seq grp
-    → Open (c ∷ past) from head_end 0 (cond t0 (Some (header_of c)) o) (cond t3 true seq) (cond t8 true grp)
-more-head {t8} {c} {past} {from} {grp} below kinds head none bare open_ =
-    let after : from ≤ c.place = omega (arith, below from open_.begins.0 open_.begins.1.0) in
+more-head : {t0 t3 t8 : Bool} {c : Code} {past : List Code} {u : Latest} → Below c past
+    → Kinds t0 t3 t8 false c.kind → IsHeadKind c.kind → u.slices ≡ 0 → is_some u.picture ≡ false → Open past u
+    → Open (c ∷ past) (record u {
+      slices = 0;
+      picture = cond t0 (Some (header_of c)) u.picture;
+      sequence = cond t3 true u.sequence;
+      group = cond t8 true u.group;
+    })
+more-head {t8} {c} {past} {u} below kinds head none bare open_ =
+    let after : u.from ≤ c.place = omega (arith, below u.from open_.begins.0 open_.begins.1.0) in
     record {
       begins = (open_.begins.0, (inr open_.begins.1.0, open_.begins.1.1));
-      bare = λ _. none-more c past from IsSliceKind (λ slice. apart c.kind slice head) (open_.bare none);
+      bare = λ _. none-more c past u.from IsSliceKind (λ slice. apart c.kind slice head) (open_.bare none);
       head = λ some. absurd (omega (arith, some));
       head_ends = λ some. absurd (omega (arith, some));
       order = λ some. absurd (omega (arith, some));
       some = λ some. absurd (omega (arith, some));
       sliced = λ some. absurd (omega (arith, some));
-      picture_is = picture-head c open_ kinds below after bare;
+      picture_is = picture-head c refl open_ kinds below bare;
       seq_there = flag-there c past after kinds.three_is open_.seq_there;
-      seq_set = flag-set c past from kinds.is_three open_.seq_set;
+      seq_set = flag-set c past u.from kinds.is_three open_.seq_set;
       grp_there = group-there c past after kinds.eight_is open_.grp_there;
-      grp_set = flag-set c past from kinds.is_eight open_.grp_set;
-      grp_first = λ firsts. set-first t8 grp (open_.grp_first (λ place kind has. firsts place kind (inr has)));
+      grp_set = flag-set c past u.from kinds.is_eight open_.grp_set;
+      grp_first = λ firsts. set-first t8 u.group (open_.grp_first (λ place kind has. firsts place kind (inr has)));
     }
 
 nothing-there : (c : Code) (past : List Code) (k : ℕ) → Below c past → IsSet past c.place k false
@@ -374,11 +365,16 @@ begun-group : (t : Bool) (c : Code) (past : List Code) → (t ≡ true → c.kin
 begun-group t c past is e = inr (begun-flag t c past 0xb8 is e)
 
 -- a new unit
-new-unit : {t0 t3 t8 : Bool} {c : Code} {past : List Code} {from head_end n : ℕ} {o : Option Header}
-    {seq grp : Bool} → Below c past → Kinds t0 t3 t8 false c.kind → IsHeadKind c.kind
-    → Open past from head_end n o seq grp
-    → Open (c ∷ past) c.place head_end 0 (cond t0 (Some (header_of c)) None) (cond t3 true false) (cond t8 true false)
-new-unit {t3} {t8} {c} {past} {from} {head_end} below kinds head open_ =
+new-unit : {t0 t3 t8 : Bool} {c : Code} {past : List Code} {u : Latest} → Below c past
+    → Kinds t0 t3 t8 false c.kind → IsHeadKind c.kind → Open past u
+    → Open (c ∷ past) (record u {
+      from = c.place;
+      slices = 0;
+      picture = cond t0 (Some (header_of c)) None;
+      sequence = cond t3 true false;
+      group = cond t8 true false;
+    })
+new-unit {t3} {t8} {c} {past} {u} below kinds head open_ =
     record {
       begins = (c.kind, (inl (refl, refl), head));
       bare = λ _. none-new c past IsSliceKind below (λ slice. apart c.kind slice head);
@@ -387,7 +383,7 @@ new-unit {t3} {t8} {c} {past} {from} {head_end} below kinds head open_ =
       order = λ some. absurd (omega (arith, some));
       some = λ some. absurd (omega (arith, some));
       sliced = λ some. absurd (omega (arith, some));
-      picture_is = picture-begun c past head_end below kinds.zero_is kinds.is_zero;
+      picture_is = picture-begun c past u.head_end below kinds.zero_is kinds.is_zero;
       seq_there = begun-flag t3 c past 0xb3 kinds.three_is;
       seq_set = flag-set c past c.place kinds.is_three (nothing-there c past 0xb3 below);
       grp_there = begun-group t8 c past kinds.eight_is;
@@ -395,8 +391,8 @@ new-unit {t3} {t8} {c} {past} {from} {head_end} below kinds head open_ =
       grp_first = λ firsts. absurd
           (omega (
             arith,
-            below from open_.begins.0 open_.begins.1.0,
-            firsts from open_.begins.0
+            below u.from open_.begins.0 open_.begins.1.0,
+            firsts u.from open_.begins.0
                 (inr open_.begins.1.0),
           ));
     }
@@ -413,7 +409,9 @@ only-place : (c : Code) (place kind : ℕ) → HasCode place kind (c ∷ []) →
 only-place c place kind (inl new) = omega (arith, new.0)
 only-place c place kind (inr old) = absurd old
 
-pub first-code : (c : Code) → c.kind ≡ 0xb3 → Open (c ∷ []) c.place 0 0 None true true
+pub first-code : (c : Code) → c.kind ≡ 0xb3
+    → Open (c ∷ [])
+    (record { from = c.place; head_end = 0; slices = 0; picture = None; sequence = true; group = true })
 first-code c is = record {
   begins = (c.kind, (inl (refl, refl), inr (inl is)));
   bare = λ _ place kind has after slice. only-slice c place kind is has slice;
@@ -444,16 +442,19 @@ no-head kind kinds (inl e) = false≢true (kinds.is_zero e)
 no-head kind kinds (inr (inl e)) = false≢true (kinds.is_three e)
 no-head kind kinds (inr (inr e)) = false≢true (kinds.is_eight e)
 
-pub step-open : {t0 t3 t8 s q e : Bool} {c : Code} {past : List Code} {from head_end n : ℕ} {o : Option Header}
-    {seq grp : Bool}
-    → Kinds t0 t3 t8 s c.kind → Below c past → Sliced q e n
-    → ((t0 || (t3 || t8)) ≡ true → n ≡ 0 → is_some o ≡ false) → (s ≡ true → n ≡ 0 → is_some o ≡ true)
-    → Open past from head_end n o seq grp
-    → Open (c ∷ past) (cond ((t0 || (t3 || t8)) && q) c.place from) (cond (s && e) c.place head_end)
-    (cond (t0 || (t3 || t8)) 0 (cond s (n + 1) n))
-    (cond t0 (Some (header_of c)) (cond ((t0 || (t3 || t8)) && q) None o))
-    (cond t3 true (cond ((t0 || (t3 || t8)) && q) false seq))
-    (cond (t8 || false) true (cond ((t0 || (t3 || t8)) && q) false grp))
+pub step-open : {t0 t3 t8 s q e : Bool} {c : Code} {past : List Code} {u : Latest}
+    → Kinds t0 t3 t8 s c.kind → Below c past → Sliced q e u.slices
+    → ((t0 || (t3 || t8)) ≡ true → u.slices ≡ 0 → is_some u.picture ≡ false)
+    → (s ≡ true → u.slices ≡ 0 → is_some u.picture ≡ true)
+    → Open past u
+    → Open (c ∷ past) (record {
+      from = cond ((t0 || (t3 || t8)) && q) c.place u.from;
+      head_end = cond (s && e) c.place u.head_end;
+      slices = cond (t0 || (t3 || t8)) 0 (cond s (u.slices + 1) u.slices);
+      picture = cond t0 (Some (header_of c)) (cond ((t0 || (t3 || t8)) && q) None u.picture);
+      sequence = cond t3 true (cond ((t0 || (t3 || t8)) && q) false u.sequence);
+      group = cond (t8 || false) true (cond ((t0 || (t3 || t8)) && q) false u.group);
+    })
 step-open {t0 = true} {s = true} {c} kinds below sliced alone with_ open_ =
     absurd (apart c.kind (kinds.slice_is refl) (inl (kinds.zero_is refl)))
 step-open {t0 = false} {t3 = true} {s = true} {c} kinds below sliced alone with_ open_ =
