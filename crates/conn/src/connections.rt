@@ -267,7 +267,7 @@ impl<'a> Connection<'a> {
         ensures input { self.new.input ≡ drop length self.old.input }
         ensures lost { self.new.session.lost ≡ self.old.session.lost }
     {
-        let ask = self.session.hear(&self.input.waiting()[..length]);
+        let ask = self.session.hear(&self.input.waiting_bytes()[..length]);
         self.input.drop_front(length);
         match ask {
             Ask::Reply => {}

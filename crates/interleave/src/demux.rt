@@ -59,7 +59,7 @@ impl Demux {
     }
 
     /// The bytes that wait.
-    pub fn waiting(&self) -> &[u8]
+    pub fn waiting_bytes(&self) -> &[u8]
         ensures { result.now ≡ self.now }
     {
         &self.bytes[self.start..]
@@ -91,7 +91,7 @@ impl Demux {
         ensures first { IsFirst self.old result }
         ensures few { result ≡ Ok Step.More → length self.old < 81920 }
     {
-        let waiting = self.waiting();
+        let waiting = self.waiting_bytes();
         let Some(front) = waiting.first() else {
             return Ok(Step::More);
         };

@@ -13,7 +13,7 @@ use crate::elements::{DemuxFault, Step};
 
 /// Where a whole element or a fault stands in front of the waiting bytes, it stands there whatever
 /// comes later: the elements of a stream don't depend on how its bytes were cut.
-pub fn law_cutting(waiting: &[u8], later: &[u8], answer: Result<Step, DemuxFault>)
+pub fn law_later_bytes(waiting: &[u8], later: &[u8], answer: Result<Step, DemuxFault>)
     requires first { IsFirst waiting.now answer }
     requires whole { IsWholeElement waiting.now answer }
     ensures { IsFirst (waiting.now ++ later.now) answer }
@@ -105,6 +105,6 @@ pub fn law_few_wait(demux: &Demux)
     ensures { IsFirst demux.now (Ok Step.More) → length demux.now < 81920 }
 {
     // the contracts of these two calls bound how many bytes a block's head tells
-    let waiting = demux.waiting();
+    let waiting = demux.waiting_bytes();
     let _count = waiting.len();
 }

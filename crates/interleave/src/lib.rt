@@ -11,7 +11,7 @@ mod requests;
 pub use demux::{Demux, TooMuchInput};
 pub use elements::{DemuxFault, Step, block_head};
 pub use laws::{
-    law_block, law_cuts_agree, law_cuts_join, law_cutting, law_few_wait, law_line_ends,
+    law_block, law_cuts_agree, law_cuts_join, law_few_wait, law_later_bytes, law_line_ends,
     law_next_elements, law_one_answer, law_one_stream, law_skipping, law_stream_grows,
 };
 

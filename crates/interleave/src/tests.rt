@@ -22,10 +22,10 @@ fn skips_and_takes_a_block(rt: HostRuntime) -> Result<(), Fail> {
     let mut demux = Demux::new(rt.alloc())?;
     demux.put(b"\r\n$\x01\x00\x02ab")?;
     assert_eq!(rt; demux.look(), Ok(Step::Skip(2)));
-    assert_eq!(rt; demux.waiting().len(), 8);
+    assert_eq!(rt; demux.waiting_bytes().len(), 8);
     demux.drop_front(2);
     assert_eq!(rt; demux.look(), Ok(Step::Block(1, 6)));
-    assert_eq!(rt; demux.waiting().len(), 6);
+    assert_eq!(rt; demux.waiting_bytes().len(), 6);
     demux.drop_front(6);
     assert_eq!(rt; demux.look(), Ok(Step::More));
     law_few_wait(&demux);
@@ -106,10 +106,10 @@ fn takes_a_request_byte_by_byte(rt: HostRuntime) -> Result<(), Fail> {
     }
     assert_eq!(rt; demux.look(), Ok(Step::Message(text.len())));
     assert_eq!(rt; demux.look(), Ok(Step::Message(text.len())));
-    assert_eq!(rt; demux.waiting(), text.as_slice());
+    assert_eq!(rt; demux.waiting_bytes(), text.as_slice());
     demux.put(b"$\x02\x00\x01!")?;
     assert_eq!(rt; demux.look(), Ok(Step::Message(text.len())));
-    assert!(rt; text.len() <= demux.waiting().len());
+    assert!(rt; text.len() <= demux.waiting_bytes().len());
     demux.drop_front(text.len());
     assert_eq!(rt; demux.look(), Ok(Step::Block(2, 5)));
     Ok(())
@@ -144,14 +144,14 @@ fn limits_what_waits(rt: HostRuntime) -> Result<(), Fail> {
     for _ in 0..128 {
         demux.put(&element)?;
     }
-    assert_eq!(rt; demux.waiting().len(), 131_072);
+    assert_eq!(rt; demux.waiting_bytes().len(), 131_072);
     assert_eq!(rt; demux.put(b"b"), Err(TooMuchInput));
     assert_eq!(rt; demux.put(b""), Ok(()));
     assert_eq!(rt; demux.look(), Err(DemuxFault::HeadTooLong));
-    assert_eq!(rt; demux.waiting().len(), 131_072);
+    assert_eq!(rt; demux.waiting_bytes().len(), 131_072);
     demux.drop_front(131_071);
     demux.put(b"bc")?;
-    assert_eq!(rt; demux.waiting(), b"abc".as_slice());
+    assert_eq!(rt; demux.waiting_bytes(), b"abc".as_slice());
     assert_eq!(rt; demux.look(), Ok(Step::More));
     demux.put(b"\n\n")?;
     assert_eq!(rt; demux.look(), Ok(Step::Message(5)));
@@ -162,7 +162,7 @@ fn limits_what_waits(rt: HostRuntime) -> Result<(), Fail> {
 /// skipped.
 #[test]
 fn answers_stay(rt: HostRuntime) -> Result<(), Fail> {
-    law_cutting(b"$\x00\x00\x00", b"x", Ok(Step::Block(0, 4)));
+    law_later_bytes(b"$\x00\x00\x00", b"x", Ok(Step::Block(0, 4)));
     law_skipping(b"\r", b"\n", 1, Ok(Step::Skip(2)));
     law_one_answer(b"", Ok(Step::More), Ok(Step::More));
     for (waiting, later, early, late) in [

@@ -41,7 +41,7 @@ impl Gathered {
     }
 
     /// The bytes that wait.
-    pub(crate) fn waiting(&self) -> &[u8]
+    pub(crate) fn waiting_bytes(&self) -> &[u8]
         ensures { result.now ≡ self.now }
     {
         &self.bytes[self.start..]

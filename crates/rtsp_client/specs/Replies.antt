@@ -16,8 +16,8 @@ number_in message name = option_and_then number_of (header_value message name)
 -- a reply to the request of this number has this code: its first line is a status line, and its
 -- CSeq is the number
 pub record IsAnswer (message : List ℕ) (number code : ℕ) : Type 0 where
-  pub reason : List ℕ
-  pub line : IsStatusLine (first_line message) code reason
+  pub phrase : List ℕ
+  pub line : IsStatusLine (first_line message) code phrase
   pub sequence : number_in message (codes "CSeq") ≡ Some number
 
 -- the value of a Session field up to its first `;`, without the blanks around it

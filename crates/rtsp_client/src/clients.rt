@@ -116,7 +116,7 @@ impl Client {
                 Err(WatchEnd::Fault(WatchFault::EndedEarly(units)))
             }
             Heard::Slot(slot) => {
-                let cut = cut_bytes(self.input.waiting());
+                let cut = cut_bytes(self.input.waiting_bytes());
                 self.watching.hear_slot(wish, slot, cut as u64);
                 Ok(())
             }
@@ -271,7 +271,7 @@ impl Client {
             (sight (K.told link.old) (O.written out.old))
             (sight (K.told link.new) (O.written out.new)) }
     {
-        let block = &self.input.waiting()[..length];
+        let block = &self.input.waiting_bytes()[..length];
         let Some(source) = self.watching.source_with(block) else {
             let number = self.watching.tally().frames;
             return Err(WatchEnd::Fault(WatchFault::BadFrame(number)));
@@ -327,7 +327,7 @@ impl Client {
         ensures ended { EndsAtReply wish.now length self.old result (K.told link.old)
             (K.told link.new) }
     {
-        let Some(code) = self.awaited_code(&self.input.waiting()[..length]) else {
+        let Some(code) = self.awaited_code(&self.input.waiting_bytes()[..length]) else {
             let number = self.replies + 1;
             return Err(WatchEnd::Fault(WatchFault::BadReply(number)));
         };
@@ -388,7 +388,7 @@ impl Client {
         ensures ended { EndsAtReply wish.now length self.old result (K.told link.old)
             (K.told link.new) }
     {
-        let message = &self.input.waiting()[..length];
+        let message = &self.input.waiting_bytes()[..length];
         let session = session_in(message).ok_or(WatchFault::BadReply(1))?;
         let request = play_request(self.alloc, wish, session)?;
         let kept = copy_of(self.alloc, session)?;
@@ -412,7 +412,7 @@ impl Client {
         ensures ended { (h : History) (s : Sight) → Keeps wish.now h self.old → IfErr result
             (λ end. HasEndedAt wish.now h (Reply (take length self.old.input)) end s s) }
     {
-        let message = &self.input.waiting()[..length];
+        let message = &self.input.waiting_bytes()[..length];
         let end_ms = play_range(message).ok_or(WatchFault::BadReply(2))?;
         let start = play_start(message).ok_or(WatchFault::BadReply(2))?;
         self.watching.begin(start, end_ms);

@@ -13,7 +13,7 @@ use vod_base::{read_number, trim};
 
 /// The code of a reply to the request of this number.
 ///
-/// None where its first line isn't `RTSP/1.0`, three digits and a reason, or its CSeq isn't the
+/// None where its first line isn't `RTSP/1.0`, three digits and a phrase, or its CSeq isn't the
 /// number.
 #[tactic(auto, using(crate::proofs::Answering::answer_is))]
 pub(crate) fn reply_code(message: &[u8], number: u64) -> Option<u16>

@@ -6,7 +6,7 @@ use Rattle.std.proofs.lemmas.List.{take_at, take-map, take-append-drop, length-a
 use Rattle.std.proofs.lemmas.List.Folds.{list_all_at}
 use Rattle.rtsp_text.specs.Grammar.{is_url_byte, IsRtspUrl, IsUrl}
 use Rattle.rtsp_text.proofs.Words.{rtsp_url}
-use Rattle.rtsp_fields.specs.Parts.{lower}
+use Rattle.rtsp_fields.specs.Parts.{in_lower_case}
 use Rattle.rtsp_fields.specs.Urls.{IsAbsoluteUrl}
 
 -- an authority has no `/`
@@ -39,7 +39,7 @@ rtsp_is_read url bytes u =
       7 + length u.authority,
       record {
         bytes = bytes;
-        scheme = take-map to_ascii_lowercase 7 url ∙ ap lower front ∙ u.scheme_is;
+        scheme = take-map to_ascii_lowercase 7 url ∙ ap in_lower_case front ∙ u.scheme_is;
         authority = omega (arith, u.some);
         end = record {
           after = omega arith;

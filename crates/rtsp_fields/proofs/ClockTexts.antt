@@ -8,7 +8,7 @@ use Rattle.std.proofs.lemmas.Fmt.{digits_decimal, digits_value-decimal, decimal_
 use Rattle.std.proofs.lemmas.List.{append_assoc, take_at, drop_at, take_all, length-append, get_or_append_left, get_or-append-add}
 use Rattle.std.proofs.lemmas.List.Folds.{list_all_at, list_all-append}
 use Rattle.vod_base.proofs.Digits.{decimal_numerals}
-use Rattle.rtsp_fields.specs.Parts.{IsEnd}
+use Rattle.rtsp_fields.specs.Parts.{IsPartEnd}
 use Rattle.rtsp_fields.specs.Times.{IsClock, IsDigits, IsTime}
 
 -- a digit is neither `:` nor `.`
@@ -20,7 +20,7 @@ digit_is_other text k all inside = λ colon.
 
 -- digits up to the next `:`
 digits_end : (front digits tail : List ℕ) → list_all is_ascii_digit digits ≡ true →
-    IsEnd 58 (front ++ (digits ++ 58 ∷ tail)) (length front) (length front + length digits)
+    IsPartEnd 58 (front ++ (digits ++ 58 ∷ tail)) (length front) (length front + length digits)
 digits_end front digits tail all =
     let long : length (front ++ (digits ++ 58 ∷ tail)) ≡ length front + (length digits + (1 + length tail)) =
     length-append front (digits ++ 58 ∷ tail) ∙ ap (λ n. length front + n) (length-append digits (58 ∷ tail) ∙ omega arith) in
@@ -79,11 +79,11 @@ clock_of {h} {m} {s} {a} {b} {c} digits =
     let seconds_are : slice_range text (length h + 1 + length m + 1) (length text) ≡ s =
     ap (λ (l : List ℕ). take (length text - (length h + 1 + length m + 1)) l) last
     ∙ take_all (length text - (length h + 1 + length m + 1)) s (omega (arith, long)) in
-    let E : List ℕ → ℕ → Type 0 = λ t n. IsEnd 58 t n (n + length m) in
+    let E : List ℕ → ℕ → Type 0 = λ t n. IsPartEnd 58 t n (n + length m) in
     record {
       first = length h;
       second = length h + 1 + length m;
-      hours_end = subst (λ (n : ℕ). IsEnd 58 text 0 n) (let e : 0 + length h ≡ length h = omega arith in e)
+      hours_end = subst (λ (n : ℕ). IsPartEnd 58 text 0 n) (let e : 0 + length h ≡ length h = omega arith in e)
           (digits_end [] h (m ++ 58 ∷ s) (digits_of 5 h a digits.hours));
       minutes_end = subst (λ (n : ℕ). E text n) front_long
           (subst (λ (t : List ℕ). E t (length front)) split (digits_end front m s (digits_of 2 m b digits.minutes)));

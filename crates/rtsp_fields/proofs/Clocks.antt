@@ -1,7 +1,7 @@
 -- Clock times and fractions of a second, at the places where they are cut.
 use Rattle.std.proofs.Common.{◌≡◌, ℕ, ◌+◌, ◌*◌, ◌^◌, ◌<◌, ◌≤◌, ◌⊎◌, List, length, take, refl, sym, ◌∙◌, subst, arith, inl, inr, slice_range, MatchOption, Option, Some, None}
 use Rattle.std.proofs.lemmas.Bool.{cases_order}
-use Rattle.rtsp_fields.specs.Parts.{IsEnd}
+use Rattle.rtsp_fields.specs.Parts.{IsPartEnd}
 use Rattle.rtsp_fields.specs.Times.{IsDigits, IsClock, AreSeconds, IsFraction, IsTime}
 use Rattle.rtsp_fields.proofs.Places.{end_once}
 
@@ -17,14 +17,14 @@ pub record IsClockAt (text : List ℕ) (first second seconds : ℕ) : Type 0 whe
   pub small_minutes : minutes ≤ 59
   pub small_seconds : rest ≤ 59
 
-pub first_colon : (text : List ℕ) (first seconds : ℕ) (clock : IsClock text seconds) → IsEnd 58 text 0 first → clock.first ≡ first
+pub first_colon : (text : List ℕ) (first seconds : ℕ) (clock : IsClock text seconds) → IsPartEnd 58 text 0 first → clock.first ≡ first
 first_colon text first seconds clock e = end_once clock.hours_end e
 
-pub clock_at : {text : List ℕ} {first second seconds : ℕ} → IsEnd 58 text 0 first
-    → IsEnd 58 text (first + 1) second → IsClock text seconds → IsClockAt text first second seconds
+pub clock_at : {text : List ℕ} {first second seconds : ℕ} → IsPartEnd 58 text 0 first
+    → IsPartEnd 58 text (first + 1) second → IsClock text seconds → IsClockAt text first second seconds
 clock_at {text} {first} {second} {seconds} e f clock =
     let same : clock.first ≡ first = first_colon text first seconds clock e in
-    let E : ℕ → Type 0 = λ n. IsEnd 58 text (n + 1) clock.second in
+    let E : ℕ → Type 0 = λ n. IsPartEnd 58 text (n + 1) clock.second in
     let same_second : clock.second ≡ second = end_once (subst E same clock.minutes_end) f in
     let C : ℕ → Type 0 = λ n. IsClockAt text n clock.second seconds in
     subst (λ (n : ℕ). IsClockAt text first n seconds) same_second
@@ -41,7 +41,7 @@ clock_at {text} {first} {second} {seconds} e f clock =
     }))
 
 -- the part ends before the text does
-pub inside_text : (text : List ℕ) (from to : ℕ) → IsEnd 58 text from to → (to ≡ length text → ⊥) → to < length text
+pub inside_text : (text : List ℕ) (from to : ℕ) → IsPartEnd 58 text from to → (to ≡ length text → ⊥) → to < length text
 inside_text text from to e other =
     elim (cases_order to (length text)) [
       | inl same ↦ absurd (other same)
@@ -55,8 +55,8 @@ value_once most text a b x y = x.value ∙ sym y.value
 
 -- the parts of a clock time as they were read
 pub record AreClockParts (text : List ℕ) (first second hours minutes seconds : ℕ) : Type 0 where
-  pub hours_end : IsEnd 58 text 0 first
-  pub minutes_end : IsEnd 58 text (first + 1) second
+  pub hours_end : IsPartEnd 58 text 0 first
+  pub minutes_end : IsPartEnd 58 text (first + 1) second
   pub inside : second < length text
   pub are_hours : IsDigits 5 (take first text) hours × (hours < 10 ^ 9)
   pub are_minutes : IsDigits 2 (slice_range text (first + 1) second) minutes × (minutes < 10 ^ 9)
@@ -103,12 +103,12 @@ pub record IsTimeAt (text : List ℕ) (point : ℕ) : Type 0 where
   pub part : ((point ≡ length text) × (fraction ≡ 0))
       ⊎ ((point < length text) × IsFraction (slice_range text (point + 1) (length text)) fraction)
 
-pub time_at : (text : List ℕ) (point n : ℕ) → IsEnd 46 text 0 point → IsTime text n → IsTimeAt text point
+pub time_at : (text : List ℕ) (point n : ℕ) → IsPartEnd 46 text 0 point → IsTime text n → IsTimeAt text point
 time_at text point n e t =
     subst (IsTimeAt text) (end_once t.point_is e)
     (record { seconds = t.seconds; fraction = t.fraction; whole = t.whole; part = t.part })
 
-pub no_fraction : {text : List ℕ} {point n : ℕ} → IsEnd 46 text 0 point → point < length text →
+pub no_fraction : {text : List ℕ} {point n : ℕ} → IsPartEnd 46 text 0 point → point < length text →
     ((f : ℕ) → ¬ IsFraction (slice_range text (point + 1) (length text)) f) → IsTime text n → ⊥
 no_fraction {text} {point} {n} e inside none t =
     let at : IsTimeAt text point = time_at text point n e t in

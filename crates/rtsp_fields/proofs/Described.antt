@@ -5,7 +5,7 @@ use Rattle.vod_base.specs.Names.{is_good_name}
 use Rattle.rtsp_text.proofs.OneLines.{one_line-append, one_line-name}
 use Rattle.rtsp_fields.specs.Descriptions.{description_text, seconds_text}
 use Rattle.rtsp_fields.specs.Laws.{IsDescription, whole_line}
-use Rattle.rtsp_fields.specs.Parts.{IsEnd, HasNone}
+use Rattle.rtsp_fields.specs.Parts.{IsPartEnd, HasNone}
 use Rattle.rtsp_fields.specs.Ranges.{IsSpan}
 use Rattle.rtsp_fields.specs.Times.{IsTime}
 use Rattle.rtsp_fields.specs.declared.ranges.Origin.TheVariants.{At}
@@ -31,7 +31,7 @@ zero_time = record {
 range_text : List ℕ → List ℕ
 range_text seconds = codes "npt=0-" ++ seconds
 
-first_dash : (seconds : List ℕ) → IsEnd 45 (range_text seconds) 4 5
+first_dash : (seconds : List ℕ) → IsPartEnd 45 (range_text seconds) 4 5
 unfolding range_text
 first_dash seconds = record {
   after = omega arith;

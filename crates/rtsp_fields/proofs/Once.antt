@@ -7,10 +7,10 @@ use Rattle.std.proofs.lemmas.Bool.{and_parts}
 use Rattle.std.proofs.lemmas.Str.Parse.{not_in_digits}
 use Rattle.vod_base.specs.Blanks.{without_blanks}
 use Rattle.vod_base.specs.Numbers.{is_decimal}
-use Rattle.rtsp_fields.specs.Parts.{IsEnd}
+use Rattle.rtsp_fields.specs.Parts.{IsPartEnd}
 use Rattle.rtsp_fields.specs.Times.{IsDigits, IsClock, AreSeconds, IsFraction, IsTime}
 use Rattle.rtsp_fields.specs.Ranges.{IsOrigin, IsLimit, IsSpan}
-use Rattle.rtsp_fields.specs.Transports.{IsPair, IsSingle, AreChannels, NamesChannels, HasChannels, IsTaken, CanBeTaken, IsTransport, after_name}
+use Rattle.rtsp_fields.specs.Transports.{IsPair, IsSingle, AreChannels, NamesChannels, HasChannels, IsDelivery, CanBeTaken, IsTransport, after_name}
 use Rattle.rtsp_fields.specs.Urls.{NamesFilm}
 use Rattle.rtsp_fields.specs.declared.transports.Channels.{Channels}
 use Rattle.rtsp_fields.specs.declared.ranges.Origin.{Origin}
@@ -40,7 +40,7 @@ digits_no_clock text a b d clock =
 pub clock_once : (text : List ℕ) (a b : ℕ) → IsClock text a → IsClock text b → a ≡ b
 clock_once text a b x y =
     let first : x.first ≡ y.first = end_once x.hours_end y.hours_end in
-    let F : ℕ → Type 0 = λ n. IsEnd 58 text (n + 1) x.second in
+    let F : ℕ → Type 0 = λ n. IsPartEnd 58 text (n + 1) x.second in
     let second : x.second ≡ y.second = end_once (subst F first x.minutes_end) y.minutes_end in
     let H : ℕ → Type 0 = λ n. IsDigits 5 (take n text) x.hours in
     let hours : x.hours ≡ y.hours = value_once 5 (take y.first text) x.hours y.hours (subst H first x.are_hours) y.are_hours in
@@ -161,8 +161,8 @@ pub transport_once : (value : List ℕ) (a b : Channels) → IsTransport value a
 transport_once value a b x y =
     let same = first_once CanBeTaken (record { part = x.part; holds = (a, x.taken); first = x.first })
     (record { part = y.part; holds = (b, y.taken); first = y.first }) in
-    let P : ℕ → Type 0 = λ n. IsTaken (slice_range value n x.to) a in
-    let Q : ℕ → Type 0 = λ n. IsTaken (slice_range value y.from n) a in
+    let P : ℕ → Type 0 = λ n. IsDelivery (slice_range value n x.to) a in
+    let Q : ℕ → Type 0 = λ n. IsDelivery (slice_range value y.from n) a in
     has_once (slice_range value y.from y.to) a b (subst Q same.1 (subst P same.0 x.taken)).has y.taken.has
 
 pub name_once : (path a b : List ℕ) → NamesFilm path a → NamesFilm path b → a ≡ b

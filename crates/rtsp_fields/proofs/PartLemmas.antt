@@ -3,9 +3,9 @@ use Rattle.std.proofs.Common.{◌≡◌, ◌≢◌, ℕ, ◌+◌, ◌<◌, ◌�
 use Rattle.std.proofs.lemmas.List.{length-map, length-take}
 use Rattle.std.proofs.lemmas.Option.{same_Some}
 use Rattle.vod_base.specs.Blanks.{without_blanks}
-use Rattle.rtsp_fields.specs.Parts.{IsEnd, IsPart, NoneBefore, NoPart, Begins, lower}
+use Rattle.rtsp_fields.specs.Parts.{IsPartEnd, IsPart, NoneBefore, NoPart, Begins, in_lower_case}
 use Rattle.rtsp_fields.specs.Values.{WritesNumber}
-use Rattle.rtsp_fields.specs.Transports.{IsPair, IsSingle, AreChannels, word, IsOther, NamesChannels, HasChannels, IsTaken, CanBeTaken, IsTransport, after_name}
+use Rattle.rtsp_fields.specs.Transports.{IsPair, IsSingle, AreChannels, part_word, AsksOtherDelivery, NamesChannels, HasChannels, IsDelivery, CanBeTaken, IsTransport, after_name}
 use Rattle.rtsp_fields.specs.declared.transports.Channels.{Channels}
 use Rattle.rtsp_fields.specs.declared.parts.Parts.{Parts}
 use Rattle.rtsp_fields.proofs.Places.{GivesNext, HasPassed, end_once, first_once, found_part}
@@ -17,7 +17,7 @@ pub record IsPairAt (text : List ℕ) (dash : ℕ) (channels : Channels) : Type 
   pub inside : dash < length text
   pub differ : channels.media ≢ channels.control
 
-pub pair_at : (text : List ℕ) (dash : ℕ) (channels : Channels) → IsEnd 45 text 0 dash → IsPair text channels
+pub pair_at : (text : List ℕ) (dash : ℕ) (channels : Channels) → IsPartEnd 45 text 0 dash → IsPair text channels
     → IsPairAt text dash channels
 pair_at text dash channels e p =
     let same : p.dash ≡ dash = end_once p.is_dash e in
@@ -28,7 +28,7 @@ pair_at text dash channels e p =
 pub within_once : {low high : ℕ} {text : List ℕ} {a b : ℕ} → WritesNumber low high text a → WritesNumber low high text b → a ≡ b
 within_once {a} {b} x y = same_Some a b (sym x.is_number ∙ y.is_number)
 
-pub not_pair_equal : {text : List ℕ} {dash a b : ℕ} {channels : Channels} → IsEnd 45 text 0 dash →
+pub not_pair_equal : {text : List ℕ} {dash a b : ℕ} {channels : Channels} → IsPartEnd 45 text 0 dash →
     WritesNumber 0 255 (take dash text) a →
     WritesNumber 0 255 (slice_range text (dash + 1) (length text)) b → a ≡ b → IsPair text channels → ⊥
 not_pair_equal {text} {dash} {a} {b} {channels} e x y same p =
@@ -43,7 +43,7 @@ pair_or_single None text none h = λ channels are. elim are [ inl pair ↦ none 
 pair_or_single (Some channels) text none h = inr h
 
 -- a text that begins with the name has its bytes
-pub name_within : (part : List ℕ) → Begins (codes "interleaved=") (lower part) → 12 ≤ length part
+pub name_within : (part : List ℕ) → Begins (codes "interleaved=") (in_lower_case part) → 12 ≤ length part
 name_within part b = let e = simp (length-map, length-take) at (ap length b) in omega (arith, e)
 
 -- the first part that names channels tells them
@@ -81,36 +81,36 @@ channels_found o new passed gives names are =
     (AreChannels (after_name (without_blanks t)))) found.1.1 are)
 
 -- no alternative with another first part can be taken
-pub other_protocol : (text : List ℕ) (end : ℕ) (channels : Channels) → IsEnd 59 text 0 end
-    → (word (take end text) ≢ codes "rtp/avp/tcp") → IsTaken text channels → ⊥
+pub other_protocol : (text : List ℕ) (end : ℕ) (channels : Channels) → IsPartEnd 59 text 0 end
+    → (part_word (take end text) ≢ codes "rtp/avp/tcp") → IsDelivery text channels → ⊥
 other_protocol text end channels e other t =
     let same : t.end ≡ end = end_once t.first.end e in
-    let P : ℕ → Type 0 = λ n. word (take n text) ≡ codes "rtp/avp/tcp" in
+    let P : ℕ → Type 0 = λ n. part_word (take n text) ≡ codes "rtp/avp/tcp" in
     other (subst P same t.protocol)
 
 -- an alternative with that first part and no other part is taken with its channels
-pub taken_channels : {text : List ℕ} {end : ℕ} (o : Option Channels) → IsEnd 59 text 0 end →
-    word (take end text) ≡ codes "rtp/avp/tcp" → NoPart 59 text IsOther →
+pub taken_channels : {text : List ℕ} {end : ℕ} (o : Option Channels) → IsPartEnd 59 text 0 end →
+    part_word (take end text) ≡ codes "rtp/avp/tcp" → NoPart 59 text AsksOtherDelivery →
     MatchOption o ((channels : Channels) → ¬ HasChannels text channels) (HasChannels text)
-    → MatchOption o ((channels : Channels) → ¬ IsTaken text channels) (IsTaken text)
+    → MatchOption o ((channels : Channels) → ¬ IsDelivery text channels) (IsDelivery text)
 taken_channels {text} {end} None e protocol plain h = λ channels t. h channels t.has
 taken_channels {text} {end} (Some channels) e protocol plain h =
     record { end = end; first = record { start = inl refl; end = e }; protocol = protocol; plain = plain; has = h }
 
-pub not_taken : (text : List ℕ) → ((channels : Channels) → ¬ IsTaken text channels) → ¬ CanBeTaken text
+pub not_taken : (text : List ℕ) → ((channels : Channels) → ¬ IsDelivery text channels) → ¬ CanBeTaken text
 not_taken text none = λ t. none t.0 t.1
 
 pub no_transport : (value : List ℕ) (channels : Channels) → NoPart 44 value CanBeTaken → IsTransport value channels → ⊥
 no_transport value channels none t = none t.from t.to t.part (channels, t.taken)
 
 pub transport_found : {value part : List ℕ} {old : Parts} {channels : Channels} (new : Parts) → HasPassed CanBeTaken 44 value old →
-    GivesNext old part new → IsTaken part channels → IsTransport value channels
+    GivesNext old part new → IsDelivery part channels → IsTransport value channels
 transport_found {old = old} {channels = channels} new passed gives taken =
     let found = found_part new passed gives (channels, taken) in
     record {
       from = old.from;
       to = found.0;
       part = found.1.0.part;
-      taken = subst (λ (t : List ℕ). IsTaken t channels) found.1.1 taken;
+      taken = subst (λ (t : List ℕ). IsDelivery t channels) found.1.1 taken;
       first = found.1.0.first;
     }

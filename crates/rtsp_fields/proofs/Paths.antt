@@ -6,7 +6,7 @@ use Rattle.std.proofs.lemmas.List.{take_at, drop_at, take_all, append-nil, lengt
 use Rattle.std.proofs.lemmas.List.Folds.{list_all_at}
 use Rattle.vod_base.specs.Names.{is_good_name, is_name_byte}
 use Rattle.rtsp_fields.specs.Laws.{IsFilmPath}
-use Rattle.rtsp_fields.specs.Parts.{IsEnd}
+use Rattle.rtsp_fields.specs.Parts.{IsPartEnd}
 use Rattle.rtsp_fields.specs.Urls.{IsTail, NamesFilm}
 
 -- a good name has no `/`
@@ -24,7 +24,7 @@ first_of_tail tail (inr (inl e)) some = rw e refl
 first_of_tail tail (inr (inr (inl e))) some = rw e refl
 first_of_tail tail (inr (inr (inr e))) some = rw e refl
 
-path_end : (name tail : List ℕ) → is_good_name name ≡ true → IsTail tail → IsEnd 47 (47 ∷ name ++ tail) 1 (1 + length name)
+path_end : (name tail : List ℕ) → is_good_name name ≡ true → IsTail tail → IsPartEnd 47 (47 ∷ name ++ tail) 1 (1 + length name)
 path_end name tail good is_tail = record {
   after = omega arith;
   within = omega (arith, length-append (47 ∷ name) tail);

@@ -1,11 +1,11 @@
 -- Where parts begin and end.
 use Rattle.std.proofs.Common.{◌≡◌, ℕ, ◌+◌, ◌-◌, ◌<◌, ◌≤◌, List, length, sym, ◌∙◌, subst, arith, inl, inr, slice_range}
 use Rattle.std.proofs.lemmas.Bool.{cases_order}
-use Rattle.rtsp_fields.specs.Parts.{IsStart, IsEnd, IsNextPart, IsPart, NoneBefore, NoPart}
+use Rattle.rtsp_fields.specs.Parts.{IsStart, IsPartEnd, IsNextPart, IsPart, NoneBefore, NoPart}
 use Rattle.rtsp_fields.specs.declared.parts.Parts.{Parts}
 
 -- a part has one end
-pub end_once : {c : ℕ} {text : List ℕ} {from a b : ℕ} → IsEnd c text from a → IsEnd c text from b → a ≡ b
+pub end_once : {c : ℕ} {text : List ℕ} {from a b : ℕ} → IsPartEnd c text from a → IsPartEnd c text from b → a ≡ b
 end_once {a} {b} x y =
     elim (cases_order a b) [
       | inl same ↦ same
@@ -14,19 +14,19 @@ end_once {a} {b} x y =
     ]
 
 -- no part begins after the place where one begins and before its end
-pub no_start_inside : {c : ℕ} {text : List ℕ} {from to k : ℕ} → IsEnd c text from to → from < k → k ≤ to → IsStart c text k → ⊥
+pub no_start_inside : {c : ℕ} {text : List ℕ} {from to k : ℕ} → IsPartEnd c text from to → from < k → k ≤ to → IsStart c text k → ⊥
 no_start_inside {c} {text} {from} e after before (inl zero) = omega (arith, after, zero)
 no_start_inside {c} {text} {from} {k} e after before (inr s) =
     e.none (k - 1) (omega (arith, after)) (omega (arith, after, before)) s.1
 
 -- the part that begins at `from` isn't such a text either
-pub none_before_next : {c : ℕ} {text : List ℕ} {from to : ℕ} (P : List ℕ → Type 0) → IsEnd c text from to →
+pub none_before_next : {c : ℕ} {text : List ℕ} {from to : ℕ} (P : List ℕ → Type 0) → IsPartEnd c text from to →
     NoneBefore c text from P →
     ¬ P (slice_range text from to) → NoneBefore c text (to + 1) P
 none_before_next {c} {text} {from} {to} P e before here = λ k end below part.
     elim (cases_order k from) [
       | inl same ↦
-          let same_end : end ≡ to = end_once (let Q : ℕ → Type 0 = λ n. IsEnd c text n end in subst Q same part.end) e in
+          let same_end : end ≡ to = end_once (let Q : ℕ → Type 0 = λ n. IsPartEnd c text n end in subst Q same part.end) e in
           let Q : ℕ → Type 0 = λ n. P (slice_range text n end) → ⊥ in
           let R : ℕ → Type 0 = λ n. P (slice_range text from n) → ⊥ in
           subst Q (sym same) (subst R (sym same_end) here)
@@ -35,7 +35,7 @@ none_before_next {c} {text} {from} {to} P e before here = λ k end below part.
     ]
 
 -- the next part begins after the separator
-pub next_start : (c : ℕ) (text : List ℕ) (from to : ℕ) → IsEnd c text from to → to + 1 ≤ length text → IsStart c text (to + 1)
+pub next_start : (c : ℕ) (text : List ℕ) (from to : ℕ) → IsPartEnd c text from to → to + 1 ≤ length text → IsStart c text (to + 1)
 next_start c text from to e inside =
     inr (omega arith, let same : to + 1 - 1 ≡ to = omega arith in rw same (e.ends (omega (arith, inside))))
 
@@ -60,7 +60,7 @@ first_once {c} {text} {a} {b} {a'} {b'} P x y =
       | inr (inl less) ↦ absurd (y.first a b less x.part x.holds)
       | inr (inr more) ↦ absurd (x.first a' b' more y.part y.holds)
     ] in
-    (same, end_once (let Q : ℕ → Type 0 = λ n. IsEnd c text n b in subst Q same x.part.end) y.part.end)
+    (same, end_once (let Q : ℕ → Type 0 = λ n. IsPartEnd c text n b in subst Q same x.part.end) y.part.end)
 
 -- the parts that were gone through before a place are no such texts
 pub record HasPassed (P : List ℕ → Type 0) (c : ℕ) (text : List ℕ) (parts : Parts) : Type 0 where

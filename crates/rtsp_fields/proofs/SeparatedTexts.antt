@@ -7,7 +7,7 @@ use Rattle.std.specs.Char.{is_ascii_digit}
 use Rattle.std.proofs.lemmas.Bool.{and_parts, and_from}
 use Rattle.std.proofs.lemmas.List.{take_at, take_all, length-append, get_or_append_left, get_or-append-add}
 use Rattle.std.proofs.lemmas.List.Folds.{list_all_at}
-use Rattle.rtsp_fields.specs.Parts.{HasNone, IsStart, IsEnd, IsPart, NoPart, NoneBefore}
+use Rattle.rtsp_fields.specs.Parts.{HasNone, IsStart, IsPartEnd, IsPart, NoPart, NoneBefore}
 
 unfoldable pub text_of : ℕ → List ℕ → List ℕ → List ℕ
 text_of c a rest = a ++ c ∷ rest
@@ -82,7 +82,7 @@ record Later (c : ℕ) (a rest : List ℕ) (k end : ℕ) : Type 0 where
   to_is : end ≡ length a + 1 + to
   part : IsPart c rest from to
 
-end_first : (c : ℕ) (a rest : List ℕ) (end : ℕ) → HasNone c a 0 (length a) → IsEnd c (text_of c a rest) 0 end → end ≡ length a
+end_first : (c : ℕ) (a rest : List ℕ) (end : ℕ) → HasNone c a 0 (length a) → IsPartEnd c (text_of c a rest) 0 end → end ≡ length a
 end_first c a rest end none is =
     let most : end ≤ length a = elim (cases_lt (length a) end) [
       | inl over ↦ absurd (is.none (length a) (omega arith) over (cut_of c a rest))
@@ -100,7 +100,7 @@ part_cases : {c : ℕ} {a rest : List ℕ} {k end : ℕ} → HasNone c a 0 (leng
 part_cases {c} {a} {rest} {k} {end} none p = go p.start
   where
     go : IsStart c (text_of c a rest) k → ((k ≡ 0) × (end ≡ length a)) ⊎ Later c a rest k end
-    go (inl e) = inl (e, end_first c a rest end none (subst (λ (n : ℕ). IsEnd c (text_of c a rest) n end) e p.end))
+    go (inl e) = inl (e, end_first c a rest end none (subst (λ (n : ℕ). IsPartEnd c (text_of c a rest) n end) e p.end))
     go (inr e) =
         elim (cases_lt (k - 1) (length a)) [
           | inl inside ↦ absurd (none (k - 1) (omega arith) inside (sym (here_of c a rest (k - 1) inside) ∙ e.1))

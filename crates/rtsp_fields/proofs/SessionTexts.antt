@@ -7,7 +7,7 @@ use Rattle.std.proofs.lemmas.List.{take_at, take_all}
 use Rattle.std.proofs.lemmas.List.Folds.{list_all_at}
 use Rattle.std.proofs.lemmas.Grind.{common_steps}
 use Rattle.vod_base.specs.Blanks.{is_blank, without_blanks}
-use Rattle.rtsp_fields.specs.Parts.{lower}
+use Rattle.rtsp_fields.specs.Parts.{in_lower_case}
 use Rattle.rtsp_fields.specs.Sessions.{IsSession}
 use Rattle.rtsp_fields.proofs.SeparatedTexts.{text_of, part_first, part_whole, other_than, none_from}
 use Rattle.rtsp_fields.proofs.TransportTexts.{bare}
@@ -38,7 +38,7 @@ pub id_read : (id : List ℕ) → list_all is_ascii_alphanumeric id ≡ true →
 id_read id all some = record {
   end = length id;
   first = (part_whole 59 id (none_from 59 id (letters_other id all))).end;
-  same = ap (λ (t : List ℕ). lower (without_blanks t)) (take_all (length id) id (omega arith)) ∙ ap lower (id_bare id all some);
+  same = ap (λ (t : List ℕ). in_lower_case (without_blanks t)) (take_all (length id) id (omega arith)) ∙ ap in_lower_case (id_bare id all some);
 }
 
 pub id_read_before : (id rest : List ℕ) → list_all is_ascii_alphanumeric id ≡ true → 0 < length id
@@ -47,5 +47,5 @@ unfolding text_of
 id_read_before id rest all some = record {
   end = length id;
   first = (part_first 59 id rest (none_from 59 id (letters_other id all))).end;
-  same = ap (λ (t : List ℕ). lower (without_blanks t)) (take_at id (59 ∷ rest) (length id) refl) ∙ ap lower (id_bare id all some);
+  same = ap (λ (t : List ℕ). in_lower_case (without_blanks t)) (take_at id (59 ∷ rest) (length id) refl) ∙ ap in_lower_case (id_bare id all some);
 }

@@ -7,7 +7,7 @@ use Rattle.std.proofs.lemmas.List.Elements.{All-head, All-tail}
 use Rattle.std.proofs.lemmas.List.Folds.{list_all-append}
 use Rattle.rtsp_fields.specs.Laws.{IsOtherParameter}
 use Rattle.rtsp_fields.specs.Parts.{HasNone, IsPart, NoPart}
-use Rattle.rtsp_fields.specs.Transports.{IsOther, NamesChannels, IsTaken, IsTransport, word}
+use Rattle.rtsp_fields.specs.Transports.{AsksOtherDelivery, NamesChannels, IsDelivery, IsTransport, part_word}
 use Rattle.rtsp_fields.specs.declared.transports.Channels.{Channels}
 use Rattle.rtsp_fields.proofs.SeparatedTexts.{text_of, other_than, none_from, part_first, part_whole, none_more, none_whole, slice_first}
 use Rattle.rtsp_fields.proofs.TransportTexts.{first_letter, names_none, protocol_none}
@@ -23,11 +23,11 @@ joined_is part [] = sym (append-nil part)
 joined_is part (next ∷ more) = ap (λ l. part ++ 59 ∷ l) (joined_is next more)
 
 -- such a part is none that asks for another thing or names channels
-plain : (part : List ℕ) → IsOtherParameter part → ¬ IsOther part
-plain part other = first_letter part (get_or (word part) 0 0) refl other.no_mode
+plain : (part : List ℕ) → IsOtherParameter part → ¬ AsksOtherDelivery part
+plain part other = first_letter part (get_or (part_word part) 0 0) refl other.no_mode
 
 nameless : (part : List ℕ) → IsOtherParameter part → ¬ NamesChannels part
-nameless part other = names_none part (get_or (word part) 0 0) refl other.no_channels
+nameless part other = names_none part (get_or (part_word part) 0 0) refl other.no_channels
 
 no_semicolon : (part : List ℕ) → IsOtherParameter part → HasNone 59 part 0 (length part)
 unfolding other_than
@@ -76,12 +76,12 @@ protocol = codes "RTP/AVP/TCP"
 abbrev default : Channels
 default = record { media = 0; control = 1 }
 
-taken : (parts : List (List ℕ)) → All IsOtherParameter parts → IsTaken (joined protocol parts) default
+taken : (parts : List (List ℕ)) → All IsOtherParameter parts → IsDelivery (joined protocol parts) default
 taken parts all = record {
   end = 11;
   first = first_of protocol parts protocol_none;
-  protocol = ap word (front_of protocol parts);
-  plain = none_of IsOther plain parts
+  protocol = ap part_word (front_of protocol parts);
+  plain = none_of AsksOtherDelivery plain parts
       (record { no_semicolon = protocol_none; isnt = first_letter protocol 114 refl (omega arith) }) all;
   has = inr (record {
     none = none_of NamesChannels nameless parts
@@ -105,6 +105,6 @@ default_read parts all =
       from = 0;
       to = length text;
       part = part_whole 44 text (none_from 44 text (no_comma protocol parts comma_free all));
-      taken = subst (λ (t : List ℕ). IsTaken t default) (sym whole) (taken parts all);
+      taken = subst (λ (t : List ℕ). IsDelivery t default) (sym whole) (taken parts all);
       first = λ k end below p. absurd (omega (arith, below));
     })

@@ -12,8 +12,8 @@ use Rattle.vod_base.specs.Blanks.{is_blank, without_front_blanks, without_blanks
 use Rattle.vod_base.proofs.Written.{written_read}
 use Rattle.vod_base.proofs.Digits.{is_digit_at}
 use Rattle.vod_base.proofs.Digits.{decimal_numerals}
-use Rattle.rtsp_fields.specs.Parts.{HasNone, Begins, lower}
-use Rattle.rtsp_fields.specs.Transports.{IsPair, AreChannels, IsOther, NamesChannels, AreNamed, IsTaken, IsTransport, word, after_name}
+use Rattle.rtsp_fields.specs.Parts.{HasNone, Begins, in_lower_case}
+use Rattle.rtsp_fields.specs.Transports.{IsPair, AreChannels, AsksOtherDelivery, NamesChannels, AreNamed, IsDelivery, IsTransport, part_word, after_name}
 use Rattle.rtsp_fields.specs.Values.{WritesNumber}
 use Rattle.rtsp_fields.specs.declared.transports.Channels.{Channels}
 use Rattle.rtsp_fields.proofs.SeparatedTexts.{text_of, long_of, part_later, part_first, part_whole, slice_first, slice_later, none_more, none_whole, none_before, other_than, none_from, digits_other}
@@ -77,19 +77,19 @@ unfolding other_than
 unicast_none = none_from 59 (codes "unicast") refl
 
 -- what a part that begins with another letter isn't
-pub first_letter : (part : List ℕ) (c : ℕ) → get_or (word part) 0 0 ≡ c → c ≢ 109 → ¬ IsOther part
+pub first_letter : (part : List ℕ) (c : ℕ) → get_or (part_word part) 0 0 ≡ c → c ≢ 109 → ¬ AsksOtherDelivery part
 first_letter part c is other = go
   where
-    go : IsOther part → ⊥
+    go : AsksOtherDelivery part → ⊥
     go (inl e) = other (sym is ∙ ap (λ (l : List ℕ). get_or l 0 0) e)
-    go (inr e) = other (sym is ∙ begins (word part) e.0)
+    go (inr e) = other (sym is ∙ begins (part_word part) e.0)
       where
         begins : (text : List ℕ) → Begins (codes "mode=") text → get_or text 0 0 ≡ 109
         begins [] b = absurd (let e : 0 ≡ 5 = ap length b in omega (arith, e))
         begins (x ∷ text) b = ap (λ (l : List ℕ). get_or l 0 0) b
 
-pub names_none : (part : List ℕ) (c : ℕ) → get_or (word part) 0 0 ≡ c → c ≢ 105 → ¬ NamesChannels part
-names_none part c is other = λ names. other (sym is ∙ begins (word part) names)
+pub names_none : (part : List ℕ) (c : ℕ) → get_or (part_word part) 0 0 ≡ c → c ≢ 105 → ¬ NamesChannels part
+names_none part c is other = λ names. other (sym is ∙ begins (part_word part) names)
   where
     begins : (text : List ℕ) → Begins (codes "interleaved=") text → get_or text 0 0 ≡ 105
     begins [] b = absurd (let e : 0 ≡ 12 = ap length b in omega (arith, e))
@@ -117,15 +117,15 @@ named_bare : (numbers : List ℕ) (channels : Channels) → AreWritten numbers c
 named_bare numbers channels w =
     bare (named numbers) (omega (arith, named_long numbers)) (named_first numbers) (named_last numbers channels w)
 
-named_word : (numbers : List ℕ) (channels : Channels) → AreWritten numbers channels → word (named numbers) ≡ lower (named numbers)
-named_word numbers channels w = ap lower (named_bare numbers channels w)
+named_word : (numbers : List ℕ) (channels : Channels) → AreWritten numbers channels → part_word (named numbers) ≡ in_lower_case (named numbers)
+named_word numbers channels w = ap in_lower_case (named_bare numbers channels w)
 
 named_names : (numbers : List ℕ) (channels : Channels) → AreWritten numbers channels → NamesChannels (named numbers)
 unfolding named
 named_names numbers channels w =
     subst (λ (l : List ℕ). Begins (codes "interleaved=") l) (sym (named_word numbers channels w)) refl
 
-named_plain : (numbers : List ℕ) (channels : Channels) → AreWritten numbers channels → ¬ IsOther (named numbers)
+named_plain : (numbers : List ℕ) (channels : Channels) → AreWritten numbers channels → ¬ AsksOtherDelivery (named numbers)
 unfolding named
 named_plain numbers channels w =
     first_letter (named numbers) 105 (ap (λ (l : List ℕ). get_or l 0 0) (named_word numbers channels w)) (omega arith)
@@ -162,20 +162,20 @@ are_named numbers channels w =
           (subst (λ (t : List ℕ). AreChannels t channels) (sym (after_named numbers)) w.are));
     }
 
-taken : (numbers : List ℕ) (channels : Channels) → AreWritten numbers channels → IsTaken (value numbers) channels
+taken : (numbers : List ℕ) (channels : Channels) → AreWritten numbers channels → IsDelivery (value numbers) channels
 unfolding value rest_of
 taken numbers channels w = record {
   end = 11;
   first = part_first 59 (codes "RTP/AVP/TCP") (rest_of numbers) protocol_none;
-  protocol = ap word (slice_first 59 (codes "RTP/AVP/TCP") (rest_of numbers));
-  plain = none_more IsOther protocol_none (first_letter (codes "RTP/AVP/TCP") 114 refl (omega arith))
-      (none_more IsOther unicast_none (first_letter (codes "unicast") 117 refl (omega arith))
-      (none_whole 59 (named numbers) IsOther (named_none numbers channels w) (named_plain numbers channels w)));
+  protocol = ap part_word (slice_first 59 (codes "RTP/AVP/TCP") (rest_of numbers));
+  plain = none_more AsksOtherDelivery protocol_none (first_letter (codes "RTP/AVP/TCP") 114 refl (omega arith))
+      (none_more AsksOtherDelivery unicast_none (first_letter (codes "unicast") 117 refl (omega arith))
+      (none_whole 59 (named numbers) AsksOtherDelivery (named_none numbers channels w) (named_plain numbers channels w)));
   has = inl (are_named numbers channels w);
 }
 
 -- one alternative that can be taken is the value's
-pub alone : (text : List ℕ) (channels : Channels) → HasNone 44 text 0 (length text) → IsTaken text channels
+pub alone : (text : List ℕ) (channels : Channels) → HasNone 44 text 0 (length text) → IsDelivery text channels
     → IsTransport text channels
 alone text channels none is =
     let whole : slice_range text 0 (length text) ≡ text = take_all (length text - 0) text (omega arith) in
@@ -183,7 +183,7 @@ alone text channels none is =
       from = 0;
       to = length text;
       part = part_whole 44 text none;
-      taken = subst (λ (t : List ℕ). IsTaken t channels) (sym whole) is;
+      taken = subst (λ (t : List ℕ). IsDelivery t channels) (sym whole) is;
       first = λ k end below p. absurd (omega (arith, below));
     }
 

@@ -5,7 +5,7 @@ use Rattle.std.specs.Prelude.{flat_map, slice_index}
 use Rattle.std.specs.List.{list_all}
 use Rattle.vod_base.specs.Blanks.{without_blanks}
 use Rattle.rtsp_text.specs.Lines.{is_one_line}
-use Rattle.rtsp_fields.specs.Parts.{lower}
+use Rattle.rtsp_fields.specs.Parts.{in_lower_case}
 use Rattle.rtsp_fields.specs.Ranges.{IsSpan}
 use Rattle.rtsp_fields.specs.Urls.{IsStream}
 use Rattle.rtsp_fields.specs.declared.ranges.Origin.TheVariants.{At}
@@ -34,8 +34,8 @@ pub record IsDescription (text name : List ℕ) (end : ℕ) : Type 0 where
 -- `interleaved`: its first letter is no `m` and no `i`, as those of `unicast`, `ttl` and all others
 -- are; it has no `;` and no `,`
 pub record IsOtherParameter (part : List ℕ) : Type 0 where
-  pub no_mode : slice_index (lower (without_blanks part)) 0 ≢ 109
-  pub no_channels : slice_index (lower (without_blanks part)) 0 ≢ 105
+  pub no_mode : slice_index (in_lower_case (without_blanks part)) 0 ≢ 109
+  pub no_channels : slice_index (in_lower_case (without_blanks part)) 0 ≢ 105
   pub no_semicolon : list_all (λ byte. not (byte == 59)) part ≡ true
   pub no_comma : list_all (λ byte. not (byte == 44)) part ≡ true
 

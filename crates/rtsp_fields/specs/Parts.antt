@@ -12,7 +12,7 @@ abbrev pub IsStart : ℕ → List ℕ → ℕ → Type 0
 IsStart c text at = (at ≡ 0) ⊎ ((0 < at) × (slice_index text (at - 1) ≡ c))
 
 -- `to` is the first place from `from` on where `c` stands, or the end of the text
-pub record IsEnd (c : ℕ) (text : List ℕ) (from to : ℕ) : Type 0 where
+pub record IsPartEnd (c : ℕ) (text : List ℕ) (from to : ℕ) : Type 0 where
   pub after : from ≤ to
   pub within : to ≤ length text
   pub none : HasNone c text from to
@@ -21,13 +21,13 @@ pub record IsEnd (c : ℕ) (text : List ℕ) (from to : ℕ) : Type 0 where
 -- the bytes from `from` up to `to` are a part of the text that the separator `c` cuts
 pub record IsPart (c : ℕ) (text : List ℕ) (from to : ℕ) : Type 0 where
   pub start : IsStart c text from
-  pub end : IsEnd c text from to
+  pub end : IsPartEnd c text from to
 
 -- `part` begins at `from`, and ends before the next separator or with the text; `next` is the
 -- place after that
 pub record IsNextPart (c : ℕ) (text : List ℕ) (from next : ℕ) (part : List ℕ) : Type 0 where
   pub end : ℕ
-  pub is_end : IsEnd c text from end
+  pub is_end : IsPartEnd c text from end
   pub next_is : next ≡ end + 1
   pub part_is : part ≡ slice_range text from end
 
@@ -40,8 +40,8 @@ abbrev pub NoPart : ℕ → List ℕ → (List ℕ → Type 0) → Type 0
 NoPart c text P = (k end : ℕ) → IsPart c text k end → ¬ P (slice_range text k end)
 
 -- a text in lower case
-abbrev pub lower : List ℕ → List ℕ
-lower text = map to_ascii_lowercase text
+abbrev pub in_lower_case : List ℕ → List ℕ
+in_lower_case text = map to_ascii_lowercase text
 
 -- the text begins with these bytes
 abbrev pub Begins : List ℕ → List ℕ → Type 0

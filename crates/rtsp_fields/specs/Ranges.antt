@@ -2,7 +2,7 @@
 -- `npt=FROM-TO`.
 use Rattle.std.specs.Prelude.{◌≡◌, ℕ, ◌+◌, ◌<◌, List, [], length, codes, slice_range, Option, Some}
 use Rattle.std.specs.Prelude.{None}
-use Rattle.rtsp_fields.specs.Parts.{IsEnd, Begins, lower}
+use Rattle.rtsp_fields.specs.Parts.{IsPartEnd, Begins, in_lower_case}
 use Rattle.rtsp_fields.specs.Times.{IsTime}
 use Rattle.rtsp_fields.specs.declared.ranges.Origin.{Origin}
 use Rattle.rtsp_fields.specs.declared.ranges.Origin.TheVariants.{Now, At}
@@ -20,9 +20,9 @@ IsLimit text (Some time) = IsTime text time
 
 -- the value gives this span of play
 pub record IsSpan (value : List ℕ) (span : Span) : Type 0 where
-  pub unit : Begins (codes "npt=") (lower value)
+  pub unit : Begins (codes "npt=") (in_lower_case value)
   pub dash : ℕ
-  pub is_dash : IsEnd 45 value 4 dash
+  pub is_dash : IsPartEnd 45 value 4 dash
   pub inside : dash < length value
   pub from : IsOrigin (slice_range value 4 dash) span.from
   pub to : IsLimit (slice_range value (dash + 1) (length value)) span.to

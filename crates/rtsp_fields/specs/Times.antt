@@ -5,7 +5,7 @@ use Rattle.std.specs.List.{list_all}
 use Rattle.std.specs.Char.{is_ascii_digit}
 use Rattle.std.specs.Str.Parse.{digits_value}
 use Rattle.vod_base.specs.Numbers.{is_decimal}
-use Rattle.rtsp_fields.specs.Parts.{IsEnd}
+use Rattle.rtsp_fields.specs.Parts.{IsPartEnd}
 
 -- one to `most` digits, which write this number
 pub record IsDigits (most : ℕ) (text : List ℕ) (number : ℕ) : Type 0 where
@@ -18,8 +18,8 @@ pub record IsDigits (most : ℕ) (text : List ℕ) (number : ℕ) : Type 0 where
 pub record IsClock (text : List ℕ) (seconds : ℕ) : Type 0 where
   pub first : ℕ
   pub second : ℕ
-  pub hours_end : IsEnd 58 text 0 first
-  pub minutes_end : IsEnd 58 text (first + 1) second
+  pub hours_end : IsPartEnd 58 text 0 first
+  pub minutes_end : IsPartEnd 58 text (first + 1) second
   pub inside : second < length text
   pub hours : ℕ
   pub minutes : ℕ
@@ -43,7 +43,7 @@ pub record IsFraction (text : List ℕ) (nanoseconds : ℕ) : Type 0 where
 -- seconds, and after a point, where one stands, the fraction of a second
 pub record IsTime (text : List ℕ) (nanoseconds : ℕ) : Type 0 where
   pub point : ℕ
-  pub point_is : IsEnd 46 text 0 point
+  pub point_is : IsPartEnd 46 text 0 point
   pub seconds : ℕ
   pub fraction : ℕ
   pub whole : AreSeconds (take point text) seconds

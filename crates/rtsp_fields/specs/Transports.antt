@@ -3,14 +3,14 @@
 -- blanks around them or not.
 use Rattle.std.specs.Prelude.{◌≡◌, ◌≢◌, ℕ, ◌+◌, ◌<◌, ◌⊎◌, List, length, take, codes, slice_range}
 use Rattle.vod_base.specs.Blanks.{without_blanks}
-use Rattle.rtsp_fields.specs.Parts.{IsEnd, IsPart, NoneBefore, NoPart, Begins, lower}
+use Rattle.rtsp_fields.specs.Parts.{IsPartEnd, IsPart, NoneBefore, NoPart, Begins, in_lower_case}
 use Rattle.rtsp_fields.specs.Values.{WritesNumber}
 use Rattle.rtsp_fields.specs.declared.transports.Channels.{Channels}
 
 -- two different numbers up to 255 with `-` between them
 pub record IsPair (text : List ℕ) (channels : Channels) : Type 0 where
   pub dash : ℕ
-  pub is_dash : IsEnd 45 text 0 dash
+  pub is_dash : IsPartEnd 45 text 0 dash
   pub inside : dash < length text
   pub media : WritesNumber 0 255 (take dash text) channels.media
   pub control : WritesNumber 0 255 (slice_range text (dash + 1) (length text)) channels.control
@@ -26,19 +26,19 @@ abbrev pub AreChannels : List ℕ → Channels → Type 0
 AreChannels text channels = IsPair text channels ⊎ IsSingle text channels
 
 -- a part in lower case, without the blanks around it
-abbrev pub word : List ℕ → List ℕ
-word part = lower (without_blanks part)
+abbrev pub part_word : List ℕ → List ℕ
+part_word part = in_lower_case (without_blanks part)
 
 -- a part that asks for another thing than unicast delivery to a player
-abbrev pub IsOther : List ℕ → Type 0
-IsOther part =
-    (word part ≡ codes "multicast")
-    ⊎ (Begins (codes "mode=") (word part) × (word part ≢ codes "mode=play")
-    × (word part ≢ codes "mode=\"play\""))
+abbrev pub AsksOtherDelivery : List ℕ → Type 0
+AsksOtherDelivery part =
+    (part_word part ≡ codes "multicast")
+    ⊎ (Begins (codes "mode=") (part_word part) × (part_word part ≢ codes "mode=play")
+    × (part_word part ≢ codes "mode=\"play\""))
 
 -- a part that names channels
 abbrev pub NamesChannels : List ℕ → Type 0
-NamesChannels part = Begins (codes "interleaved=") (word part)
+NamesChannels part = Begins (codes "interleaved=") (part_word part)
 
 -- the text after `interleaved=`
 abbrev pub after_name : List ℕ → List ℕ
@@ -63,21 +63,21 @@ pub record AreDefault (text : List ℕ) (channels : Channels) : Type 0 where
 abbrev pub HasChannels : List ℕ → Channels → Type 0
 HasChannels text channels = AreNamed text channels ⊎ AreDefault text channels
 
--- an alternative that can be taken, and its channels
-pub record IsTaken (text : List ℕ) (channels : Channels) : Type 0 where
+-- an alternative that can be taken: unicast delivery on the connection itself, on these channels
+pub record IsDelivery (text : List ℕ) (channels : Channels) : Type 0 where
   pub end : ℕ
   pub first : IsPart 59 text 0 end
-  pub protocol : word (take end text) ≡ codes "rtp/avp/tcp"
-  pub plain : NoPart 59 text IsOther
+  pub protocol : part_word (take end text) ≡ codes "rtp/avp/tcp"
+  pub plain : NoPart 59 text AsksOtherDelivery
   pub has : HasChannels text channels
 
 abbrev pub CanBeTaken : List ℕ → Type 0
-CanBeTaken text = (channels : Channels) × IsTaken text channels
+CanBeTaken text = (channels : Channels) × IsDelivery text channels
 
 -- the first alternative that can be taken has these channels
 pub record IsTransport (value : List ℕ) (channels : Channels) : Type 0 where
   pub from : ℕ
   pub to : ℕ
   pub part : IsPart 44 value from to
-  pub taken : IsTaken (slice_range value from to) channels
+  pub taken : IsDelivery (slice_range value from to) channels
   pub first : NoneBefore 44 value from CanBeTaken

@@ -4,15 +4,15 @@ use Rattle.std.specs.Prelude.{slice_range, Option, MatchOption}
 use Rattle.std.specs.List.{list_all}
 use Rattle.vod_base.specs.Names.{is_good_name}
 use Rattle.rtsp_text.specs.Grammar.{is_url_byte}
-use Rattle.rtsp_fields.specs.Parts.{IsEnd, Begins, lower}
+use Rattle.rtsp_fields.specs.Parts.{IsPartEnd, Begins, in_lower_case}
 
 -- `rtsp://` in any case, an authority of one or more bytes without `/`, and nothing or a path that
 -- begins with `/`, all of them printable bytes other than the space; the authority ends at `path`
 pub record IsAbsoluteUrl (url : List ℕ) (path : ℕ) : Type 0 where
   pub bytes : list_all is_url_byte url ≡ true
-  pub scheme : Begins (codes "rtsp://") (lower url)
+  pub scheme : Begins (codes "rtsp://") (in_lower_case url)
   pub authority : 7 < path
-  pub end : IsEnd 47 url 7 path
+  pub end : IsPartEnd 47 url 7 path
 
 -- the name of a film's one stream, with `/` after it or not
 abbrev pub IsStream : List ℕ → Type 0
@@ -26,7 +26,7 @@ IsTail tail = (tail ≡ []) ⊎ ((tail ≡ codes "/") ⊎ IsStream tail)
 pub record NamesFilm (path name : List ℕ) : Type 0 where
   pub slash : slice_index path 0 ≡ 47
   pub end : ℕ
-  pub is_end : IsEnd 47 path 1 end
+  pub is_end : IsPartEnd 47 path 1 end
   pub name_is : name ≡ slice_range path 1 end
   pub good : is_good_name name ≡ true
   pub tail : IsTail (slice_range path end (length path))

@@ -2,13 +2,13 @@
 
 ghost use Rattle.std.specs.Prelude.{◌≡◌, ◌+◌, ◌-◌, ◌<◌, ◌≤◌, ◌↔◌, IsTrue, MatchOption, length};
 ghost use Rattle.std.specs.Iterator.{at_most};
-ghost use Rattle.rtsp_fields.specs.Parts.{IsEnd, IsNextPart, Begins, lower};
+ghost use Rattle.rtsp_fields.specs.Parts.{IsPartEnd, IsNextPart, Begins, in_lower_case};
 
 /// Where the part that begins at `from` ends: at the first separator from there on, or at the
 /// text's end.
 pub(crate) fn part_end(text: &[u8], from: usize, separator: u8) -> usize
     requires { from ≤ length text.now }
-    ensures { IsEnd separator text.now from result }
+    ensures { IsPartEnd separator text.now from result }
 {
     for place in from..text.len() {
         if text[place] == separator {
@@ -62,8 +62,8 @@ pub(crate) fn parts_of(text: &[u8], separator: u8) -> Parts<'_>
 
 /// Whether the text begins with `start`, which is in lower case, in any case.
 pub(crate) fn starts_with(text: &[u8], start: &[u8]) -> bool
-    requires { lower start.now ≡ start.now }
-    ensures { IsTrue result ↔ Begins start.now (lower text.now) }
+    requires { in_lower_case start.now ≡ start.now }
+    ensures { IsTrue result ↔ Begins start.now (in_lower_case text.now) }
 {
     text.len() >= start.len() && text[..start.len()].eq_ignore_ascii_case(start)
 }

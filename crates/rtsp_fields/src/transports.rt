@@ -3,8 +3,9 @@
 ghost use Rattle.std.specs.Prelude.{◌≡◌, ◌↔◌, IsTrue, ◌⊎◌, MatchOption};
 ghost use Rattle.rtsp_fields.specs.Parts.{NoPart, NoneBefore};
 ghost use Rattle.rtsp_fields.specs.declared.transports.Channels.{Channels};
-ghost use Rattle.rtsp_fields.specs.Transports.{AreChannels, HasChannels, IsOther, IsPair, IsSingle};
-ghost use Rattle.rtsp_fields.specs.Transports.{IsTaken, IsTransport, NamesChannels};
+ghost use Rattle.rtsp_fields.specs.Transports.{AreChannels, AsksOtherDelivery, HasChannels};
+ghost use Rattle.rtsp_fields.specs.Transports.{IsDelivery, IsPair, IsSingle, IsTransport};
+ghost use Rattle.rtsp_fields.specs.Transports.{NamesChannels};
 
 use crate::parts::{part_end, parts_of, starts_with};
 use crate::values::number_within;
@@ -86,8 +87,8 @@ fn read_channels(text: &[u8]) -> Option<Channels>
 }
 
 /// Whether a part asks for another thing than unicast delivery to a player.
-fn is_other(part: &[u8]) -> bool
-    ensures { IsTrue result ↔ IsOther part.now }
+fn asks_other_delivery(part: &[u8]) -> bool
+    ensures { IsTrue result ↔ AsksOtherDelivery part.now }
 {
     let word = trim(part);
     word.eq_ignore_ascii_case(b"multicast")
@@ -98,10 +99,10 @@ fn is_other(part: &[u8]) -> bool
 
 /// Whether no part of an alternative asks for another thing.
 fn is_plain(text: &[u8]) -> bool
-    ensures { IsTrue result ↔ NoPart 59 text.now IsOther }
+    ensures { IsTrue result ↔ NoPart 59 text.now AsksOtherDelivery }
 {
     for part in parts_of(text, b';') {
-        if is_other(part) {
+        if asks_other_delivery(part) {
             return false;
         }
     }
@@ -129,7 +130,7 @@ fn channels_of(text: &[u8]) -> Option<Channels>
 /// The channels of an alternative, where it can be taken.
 fn read_alternative(text: &[u8]) -> Option<Channels>
     ensures { MatchOption result ((channels : Channels) →
-        ¬ IsTaken text.now channels) (IsTaken text.now) }
+        ¬ IsDelivery text.now channels) (IsDelivery text.now) }
 {
     let end = part_end(text, 0, b';');
     if !trim(&text[..end]).eq_ignore_ascii_case(b"RTP/AVP/TCP") {

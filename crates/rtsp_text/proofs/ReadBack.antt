@@ -8,7 +8,7 @@ use Rattle.vod_base.specs.Splits.{IsSplitAtFirst}
 use Rattle.interleave.specs.Elements.{IsMessageLength}
 use Rattle.rtsp_text.specs.Lines.{first_line, header_lines, IsSplit}
 use Rattle.rtsp_text.specs.Fields.{first_value}
-use Rattle.rtsp_text.specs.Replies.{is_code, reason, Field, field_line, sequence_line, status_line, reply_front, reply_text, all_fields, IsPlain, value_named, IsReadBack}
+use Rattle.rtsp_text.specs.Replies.{is_code, phrase, Field, field_line, sequence_line, status_line, reply_front, reply_text, all_fields, IsPlain, value_named, IsReadBack}
 use Rattle.rtsp_text.specs.StatusLines.{IsStatusLine}
 use Rattle.rtsp_text.proofs.Bounds.{lengths_of}
 use Rattle.rtsp_text.proofs.OneLines.{one_line-append}
@@ -103,7 +103,7 @@ read_back {message} parts whole is plain text =
     record {
       reply = record {
         split = split;
-        line = subst (λ (t : List ℕ). IsStatusLine t code (reason code)) (sym first) (status_text-status code status);
+        line = subst (λ (t : List ℕ). IsStatusLine t code (phrase code)) (sym first) (status_text-status code status);
         body_is = (lengths_of message (front ++ codes "\r\n") body whole split).body_is;
       };
       values = λ name. ap (first_value name) headers ∙ values_named name (all_fields sequence fields) plain;

@@ -36,18 +36,18 @@ pub code_none : (text : List ℕ) (n : ℕ) → number_of text ≡ None → IsCo
 code_none text n none code = none-some (digits_value 10 text) (sym none ∙ digits_number text code.three code.decimal)
 
 -- digits have no space
-digits_cut : (digits reason : List ℕ) (code : ℕ) → IsCode digits code → IsSplitAtFirst 32 (digits ++ 32 ∷ reason) digits reason
-digits_cut digits reason code is = record {
+digits_cut : (digits phrase : List ℕ) (code : ℕ) → IsCode digits code → IsSplitAtFirst 32 (digits ++ 32 ∷ phrase) digits phrase
+digits_cut digits phrase code is = record {
   parts = refl;
   first = all_other is_ascii_digit 32 refl digits
       (and_parts (nat_lt 0 (length digits)) (list_all is_ascii_digit digits) is.decimal).1;
 }
 
 -- the words of a status line are the parts at its first two spaces
-pub record AreStatusParts (version digits reason d r : List ℕ) : Type 0 where
+pub record AreStatusParts (version digits phrase d r : List ℕ) : Type 0 where
   pub version_is : version ≡ codes "RTSP/1.0"
   pub digits_are : digits ≡ d
-  pub reason_is : reason ≡ r
+  pub phrase_is : phrase ≡ r
 
 pub status_rest : {text version rest : List ℕ} {code : ℕ} {r : List ℕ} → IsSplitAtFirst 32 text version rest
     → (line : IsStatusLine text code r) → (version ≡ codes "RTSP/1.0") × (rest ≡ line.digits ++ 32 ∷ r)
@@ -59,17 +59,17 @@ pub status_none : {text version rest : List ℕ} {code : ℕ} {r : List ℕ} →
     → list_all (λ byte. not (byte == 32)) rest ≡ true → IsStatusLine text code r → ⊥
 status_none {text} {version} {rest} {code} {r} first none line = cut_none 32 rest line.digits r none (status_rest first line).1
 
-pub status_parts : {text version rest digits reason : List ℕ} {code : ℕ} {r : List ℕ}
-    → IsSplitAtFirst 32 text version rest → IsSplitAtFirst 32 rest digits reason
-    → (line : IsStatusLine text code r) → AreStatusParts version digits reason line.digits r
+pub status_parts : {text version rest digits phrase : List ℕ} {code : ℕ} {r : List ℕ}
+    → IsSplitAtFirst 32 text version rest → IsSplitAtFirst 32 rest digits phrase
+    → (line : IsStatusLine text code r) → AreStatusParts version digits phrase line.digits r
 status_parts {text} {version} {code} {r} first second line =
     let one = status_rest first line in
     let two = cut_once second one.1 (digits_cut line.digits r code line.is_code).first in
-    record { version_is = one.0; digits_are = two.front; reason_is = two.after }
+    record { version_is = one.0; digits_are = two.front; phrase_is = two.after }
 
-pub whole_status : {text version rest digits reason : List ℕ} {code : ℕ} → IsSplitAtFirst 32 text version rest →
-    IsSplitAtFirst 32 rest digits reason → version ≡ codes "RTSP/1.0" → IsCode digits code →
-    0 < length reason → get_or reason 0 0 ≢ 32 → IsStatusLine text code reason
+pub whole_status : {text version rest digits phrase : List ℕ} {code : ℕ} → IsSplitAtFirst 32 text version rest →
+    IsSplitAtFirst 32 rest digits phrase → version ≡ codes "RTSP/1.0" → IsCode digits code →
+    0 < length phrase → get_or phrase 0 0 ≢ 32 → IsStatusLine text code phrase
 whole_status {text} {version} {rest} {digits} {code} first second version_is is some no_space = record {
   digits = digits;
   parts = first.parts ∙ ap (λ v. v ++ 32 ∷ rest) version_is ∙ ap (λ t. codes "RTSP/1.0" ++ 32 ∷ t) second.parts;
@@ -78,18 +78,18 @@ whole_status {text} {version} {rest} {digits} {code} first second version_is is 
   no_space = no_space;
 }
 
--- a status line has one code and one reason
+-- a status line has one code and one phrase
 line_once : {text : List ℕ} {c : ℕ} {r : List ℕ} {d : ℕ} {s : List ℕ} → IsStatusLine text c r
     → IsStatusLine text d s → (c ≡ d) × (r ≡ s)
 line_once {text} {c} {r} {s} a b =
     let first : IsSplitAtFirst 32 text (codes "RTSP/1.0") (a.digits ++ 32 ∷ r) = record { parts = a.parts; first = refl } in
     let same = status_parts first (digits_cut a.digits r c a.is_code) b in
-    (a.is_code.code_is ∙ ap (digits_value 10) same.digits_are ∙ sym b.is_code.code_is, same.reason_is)
+    (a.is_code.code_is ∙ ap (digits_value 10) same.digits_are ∙ sym b.is_code.code_is, same.phrase_is)
 
 -- a reply has one list of parts
 pub record AreSameReply (c : ℕ) (r h b : List ℕ) (c' : ℕ) (r' h' b' : List ℕ) : Type 0 where
   pub code_is : c ≡ c'
-  pub reason_is : r ≡ r'
+  pub phrase_is : r ≡ r'
   pub head_is : h ≡ h'
   pub body_is : b ≡ b'
 
@@ -100,7 +100,7 @@ reply_once {message} {c} {r} {h} {b} {h'} {b'} x y =
     let len : length h ≡ length h' = head_once message (length h) (length h') x.split.is_head y.split.is_head in
     record {
       code_is = line.0;
-      reason_is = line.1;
+      phrase_is = line.1;
       head_is = sym (take_at h b (length h) refl) ∙ ap (take (length h)) (sym x.split.parts)
           ∙ ap (λ n. take n message) len ∙ ap (take (length h')) y.split.parts ∙ take_at h' b' (length h') refl;
       body_is = sym (drop_at h b (length h) refl) ∙ ap (drop (length h)) (sym x.split.parts)

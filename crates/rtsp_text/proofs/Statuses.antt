@@ -7,7 +7,7 @@ use Rattle.std.proofs.lemmas.Bool.Decides.{nat_tests}
 use Rattle.std.proofs.lemmas.List.{append_assoc, length-append}
 use Rattle.std.proofs.lemmas.Fmt.{decimal_digit, decimal_step, decimal_nonempty, digits_decimal, digits_value-decimal}
 use Rattle.rtsp_text.specs.Lines.{is_one_line}
-use Rattle.rtsp_text.specs.Replies.{statuses, has_code, phrase_among, is_code, reason}
+use Rattle.rtsp_text.specs.Replies.{statuses, has_code, phrase_among, is_code, phrase}
 use Rattle.rtsp_text.specs.StatusLines.{IsCode, IsStatusLine}
 use Rattle.vod_base.proofs.Digits.{decimal_numerals}
 use Rattle.rtsp_text.proofs.OneLines.{one_line-append, one_line-decimal}
@@ -17,9 +17,9 @@ use Rattle.rtsp_text.proofs.LineTexts.{IsLineText}
 pub record IsStatus (code : ℕ) : Type 0 where
   pub three : 100 ≤ code
   pub small : code < 1000
-  pub some : 0 < length (reason code)
-  pub no_space : get_or (reason code) 0 0 ≢ 32
-  pub one_line : is_one_line (reason code) ≡ true
+  pub some : 0 < length (phrase code)
+  pub no_space : get_or (phrase code) 0 0 ≢ 32
+  pub one_line : is_one_line (phrase code) ≡ true
 
 -- such a code has three digits
 code_digits : (code : ℕ) → 100 ≤ code → code < 1000 → IsCode (decimal code) code
@@ -60,9 +60,9 @@ found_sound (status ∷ others) code sound has =
 pub status_of : (code : ℕ) → is_code code ≡ true → IsStatus code
 status_of code is =
     let sound = found_sound statuses code refl is in
-    let phrase = reason code in
-    let all = and_parts (nat_le 100 code && nat_lt code 1000 && nat_lt 0 (length phrase)
-    && not (get_or phrase 0 0 == 32)) (is_one_line phrase) sound in
+    let its_phrase = phrase code in
+    let all = and_parts (nat_le 100 code && nat_lt code 1000 && nat_lt 0 (length its_phrase)
+    && not (get_or its_phrase 0 0 == 32)) (is_one_line its_phrase) sound in
     record {
       three = grind (arith, nat_tests, all);
       small = grind (arith, nat_tests, all);
@@ -73,22 +73,22 @@ status_of code is =
 
 -- the text of the status line
 abbrev pub status_text : ℕ → List ℕ
-status_text code = codes "RTSP/1.0 " ++ decimal code ++ codes " " ++ reason code
+status_text code = codes "RTSP/1.0 " ++ decimal code ++ codes " " ++ phrase code
 
 pub status_text-line : (code : ℕ) → IsStatus code → IsLineText (status_text code)
 status_text-line code status = record {
-  some = omega (arith, length-append (codes "RTSP/1.0 " ++ decimal code ++ codes " ") (reason code), status.some);
-  one_line = one_line-append (codes "RTSP/1.0 " ++ decimal code ++ codes " ") (reason code)
+  some = omega (arith, length-append (codes "RTSP/1.0 " ++ decimal code ++ codes " ") (phrase code), status.some);
+  one_line = one_line-append (codes "RTSP/1.0 " ++ decimal code ++ codes " ") (phrase code)
       (one_line-append (codes "RTSP/1.0 " ++ decimal code) (codes " ")
       (one_line-append (codes "RTSP/1.0 ") (decimal code) refl
       (one_line-decimal code (omega (arith, status.small)))) refl) status.one_line;
 }
 
-pub status_text-status : (code : ℕ) → IsStatus code → IsStatusLine (status_text code) code (reason code)
+pub status_text-status : (code : ℕ) → IsStatus code → IsStatusLine (status_text code) code (phrase code)
 status_text-status code status = record {
   digits = decimal code;
-  parts = append_assoc (codes "RTSP/1.0 " ++ decimal code) (codes " ") (reason code)
-      ∙ append_assoc (codes "RTSP/1.0 ") (decimal code) (32 ∷ reason code);
+  parts = append_assoc (codes "RTSP/1.0 " ++ decimal code) (codes " ") (phrase code)
+      ∙ append_assoc (codes "RTSP/1.0 ") (decimal code) (32 ∷ phrase code);
   is_code = code_digits code status.three status.small;
   some = status.some;
   no_space = status.no_space;

@@ -44,9 +44,9 @@ phrase_among (status ∷ others) code =
 abbrev pub is_code : ℕ → Bool
 is_code code = has_code statuses code
 
--- the reason of a code
-abbrev pub reason : ℕ → List ℕ
-reason code = phrase_among statuses code
+-- the phrase of a code
+abbrev pub phrase : ℕ → List ℕ
+phrase code = phrase_among statuses code
 
 -- a field: its name and its value
 pub record Field : Type 0 where
@@ -65,7 +65,7 @@ sequence_line (Some sequence) =
 
 -- the status line
 unfoldable pub status_line : ℕ → List ℕ
-status_line code = codes "RTSP/1.0 " ++ decimal code ++ codes " " ++ reason code ++ codes "\r\n"
+status_line code = codes "RTSP/1.0 " ++ decimal code ++ codes " " ++ phrase code ++ codes "\r\n"
 
 -- a reply up to its last field
 unfoldable pub reply_front : ℕ → Option ℕ → List Field → List ℕ
@@ -101,11 +101,11 @@ value_named name [] = None
 value_named name (field ∷ fields) =
     if str_eq_ignore_ascii_case field.name name then Some field.value else value_named name fields
 
--- a message is read as this reply: its code and reason, its head up to the empty line, its body,
+-- a message is read as this reply: its code and phrase, its head up to the empty line, its body,
 -- and for each name the first value
 pub record IsReadBack (message : List ℕ) (code : ℕ) (sequence : Option ℕ) (fields : List Field)
     (body : List ℕ) : Type 0 where
-  pub reply : IsReply message code (reason code) (reply_front code sequence fields
+  pub reply : IsReply message code (phrase code) (reply_front code sequence fields
       ++ codes "\r\n") body
   pub values : (name : List ℕ) →
       header_value (reply_front code sequence fields ++ codes "\r\n") name ≡

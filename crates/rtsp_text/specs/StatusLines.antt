@@ -11,17 +11,17 @@ pub record IsCode (text : List ℕ) (code : ℕ) : Type 0 where
   pub decimal : is_decimal text ≡ true
   pub code_is : code ≡ digits_value 10 text
 
--- `RTSP/1.0`, a code and a reason of one or more bytes, with one space between them
-pub record IsStatusLine (text : List ℕ) (code : ℕ) (reason : List ℕ) : Type 0 where
+-- `RTSP/1.0`, a code and a phrase of one or more bytes, with one space between them
+pub record IsStatusLine (text : List ℕ) (code : ℕ) (phrase : List ℕ) : Type 0 where
   pub digits : List ℕ
-  pub parts : text ≡ codes "RTSP/1.0" ++ 32 ∷ (digits ++ 32 ∷ reason)
+  pub parts : text ≡ codes "RTSP/1.0" ++ 32 ∷ (digits ++ 32 ∷ phrase)
   pub is_code : IsCode digits code
-  pub some : 0 < length reason
-  pub no_space : slice_index reason 0 ≢ 32
+  pub some : 0 < length phrase
+  pub no_space : slice_index phrase 0 ≢ 32
 
 -- a message is a reply of RTSP 1.0 with these parts; its body is the rest after its head, and has
 -- the length that the head gives
-pub record IsReply (message : List ℕ) (code : ℕ) (reason head body : List ℕ) : Type 0 where
+pub record IsReply (message : List ℕ) (code : ℕ) (phrase head body : List ℕ) : Type 0 where
   pub split : IsSplit message head body
-  pub line : IsStatusLine (first_line message) code reason
+  pub line : IsStatusLine (first_line message) code phrase
   pub body_is : IsBodyLength head (length body)

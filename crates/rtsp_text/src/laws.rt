@@ -28,7 +28,7 @@ pub fn law_whole_request(waiting: &[u8], count: usize)
 }
 
 /// What [`crate::Reply`] wrote is read back by [`crate::read_reply`] and [`crate::header_of`]: its
-/// code and reason, its body and, for each name, the value of the first field of that name, CSeq
+/// code and phrase, its body and, for each name, the value of the first field of that name, CSeq
 /// among them; where each field's name is a word of letters, digits, `_` and `-`, and its value has
 /// no LF and no blanks around it.
 pub fn law_reply_read(message: &[u8])

@@ -4,7 +4,7 @@ ghost use Rattle.std.specs.Prelude.{◌≡◌, ◌+◌, ◌≤◌, ◌++◌, ℕ
 ghost use Rattle.std.specs.Prelude.{length, decimal, codes, IfOk, sum_by, flat_map};
 ghost use Rattle.std.specs.List.{list_all};
 ghost use Rattle.rtsp_text.specs.Lines.{is_one_line};
-ghost use Rattle.rtsp_text.specs.Replies.{is_code, reason, Field, field_line, sequence_line};
+ghost use Rattle.rtsp_text.specs.Replies.{is_code, phrase, Field, field_line, sequence_line};
 ghost use Rattle.rtsp_text.specs.Replies.{status_line, reply_front, reply_text, AddsField};
 
 use itoa::Buffer;
@@ -23,12 +23,12 @@ pub struct Reply {
 /// The most bytes of a reply.
 const ROOM: usize = 65_536;
 
-/// The most bytes of a reason.
-const REASON_ROOM: usize = 30;
+/// The most bytes of a phrase.
+const PHRASE_ROOM: usize = 30;
 
-/// The most bytes of a status line: `RTSP/1.0 `, the code's digits, a space, the reason and the
+/// The most bytes of a status line: `RTSP/1.0 `, the code's digits, a space, the phrase and the
 /// line's end.
-const STATUS_ROOM: usize = 9 + 5 + 1 + REASON_ROOM + 2;
+const STATUS_ROOM: usize = 9 + 5 + 1 + PHRASE_ROOM + 2;
 
 /// The most bytes of a field's line after its name, where the value is a number: `: `, 20 digits
 /// and the line's end.
@@ -93,7 +93,7 @@ impl Reply {
         self.put(b"RTSP/1.0 ");
         self.put(Buffer::new().format(code).as_bytes());
         self.put(b" ");
-        self.put(reason(code));
+        self.put(phrase(code));
         self.put(b"\r\n");
     }
 
@@ -197,11 +197,11 @@ impl Reply {
     }
 }
 
-/// The reason of a code.
-fn reason(code: u16) -> &'static [u8]
+/// The phrase of a code.
+fn phrase(code: u16) -> &'static [u8]
     requires { IsTrue (is_code code) }
-    ensures text { result.now ≡ reason code }
-    ensures short { length result.now ≤ REASON_ROOM }
+    ensures text { result.now ≡ phrase code }
+    ensures short { length result.now ≤ PHRASE_ROOM }
 {
     match code {
         200 => b"OK",

@@ -14,8 +14,8 @@ use vod_base::{read_number, split_at_first};
 pub struct ReplyParts<'a> {
     /// The code: three digits.
     pub code: u16,
-    /// The reason: one or more bytes, the first no space.
-    pub reason: &'a [u8],
+    /// The phrase: one or more bytes, the first no space.
+    pub phrase: &'a [u8],
     /// Its whole head: the status line, the header lines and the empty line, with their ends.
     pub head: &'a [u8],
     /// Its body.
@@ -24,25 +24,25 @@ pub struct ReplyParts<'a> {
 
 /// Reads a whole reply, head and body, as [`interleave::Demux`] cuts it from a connection's bytes.
 ///
-/// None exactly where the first line isn't `RTSP/1.0`, three digits and a reason, with single
+/// None exactly where the first line isn't `RTSP/1.0`, three digits and a phrase, with single
 /// spaces. Header lines aren't judged. The head has at most 16,384 bytes, the body at most 65,536.
 pub fn read_reply(message: &[u8]) -> Option<ReplyParts<'_>>
     requires { IsMessageLength message.now (length message.now) }
-    ensures read { MatchOption result ((code : ℕ) (reason : List ℕ) →
-        ¬ IsStatusLine (first_line message.now) code reason)
-        (λ r. IsReply message.now r.code r.reason.now r.head.now r.body.now) }
-    ensures replies { (code : ℕ) (reason head body : List ℕ) →
-        IsReply message.now code reason head body →
-        IsSomeAnd result (λ r. (r.code ≡ code) × (r.reason.now ≡ reason)
+    ensures read { MatchOption result ((code : ℕ) (phrase : List ℕ) →
+        ¬ IsStatusLine (first_line message.now) code phrase)
+        (λ r. IsReply message.now r.code r.phrase.now r.head.now r.body.now) }
+    ensures replies { (code : ℕ) (phrase head body : List ℕ) →
+        IsReply message.now code phrase head body →
+        IsSomeAnd result (λ r. (r.code ≡ code) × (r.phrase.now ≡ phrase)
         × (r.head.now ≡ head) × (r.body.now ≡ body)) }
     ensures head { IfSome result (λ r. length r.head.now ≤ 16384) }
     ensures body { IfSome result (λ r. length r.body.now ≤ 65536) }
 {
-    let (code, reason) = status_line(first_line(message))?;
+    let (code, phrase) = status_line(first_line(message))?;
     let (head, body) = split(message);
     Some(ReplyParts {
         code,
-        reason,
+        phrase,
         head,
         body,
     })
@@ -59,17 +59,17 @@ fn read_code(text: &[u8]) -> Option<u16>
     Some(number as u16)
 }
 
-/// The code and the reason of a status line.
+/// The code and the phrase of a status line.
 fn status_line(text: &[u8]) -> Option<(u16, &[u8])>
-    ensures { MatchOption result ((code : ℕ) (reason : List ℕ) →
-        ¬ IsStatusLine text.now code reason)
+    ensures { MatchOption result ((code : ℕ) (phrase : List ℕ) →
+        ¬ IsStatusLine text.now code phrase)
         (λ line. IsStatusLine text.now line.0 line.1.now) }
 {
     let (version, rest) = split_at_first(text, b' ')?;
-    let (digits, reason) = split_at_first(rest, b' ')?;
-    if !is_rtsp_1_0(version) || reason.is_empty() || reason[0] == b' ' {
+    let (digits, phrase) = split_at_first(rest, b' ')?;
+    if !is_rtsp_1_0(version) || phrase.is_empty() || phrase[0] == b' ' {
         return None;
     }
     let code = read_code(digits)?;
-    Some((code, reason))
+    Some((code, phrase))
 }

@@ -17,7 +17,7 @@ fn first_message(demux: &mut Demux) -> Option<&[u8]>
 {
     match demux.look() {
         Ok(Step::Message(total)) => {
-            let waiting = demux.waiting();
+            let waiting = demux.waiting_bytes();
             law_whole_request(waiting, total);
             Some(&waiting[..total])
         }

@@ -29,7 +29,7 @@ use Rattle.vod_base.proofs.Digits.{decimal_numerals}
 use Rattle.rtsp_fields.proofs.Paths.{film_path}
 use Rattle.rtsp_fields.proofs.SecondsTexts.{seconds_read}
 use Rattle.rtsp_text.specs.Grammar.{is_url_byte}
-use Rattle.rtsp_text.specs.Replies.{Field, field_line, reason, reply_front, value_named}
+use Rattle.rtsp_text.specs.Replies.{Field, field_line, phrase, reply_front, value_named}
 use Rattle.rtsp_text.proofs.Cuts.{all_other}
 use Rattle.rtsp_text.proofs.Inside.{all-drop, all-take}
 use Rattle.rtsp_text.proofs.Texts.{front_field, whole_reply}
@@ -57,7 +57,7 @@ use Rattle.session.specs.Telling.{TellsInfo, TellsSpan, phrase_of}
 use Rattle.session.proofs.Numbers.{number_goes_on}
 use Rattle.session.proofs.Sums.{sum_mod}
 
-pub phrases : (refusal : Refusal) → reason (code_of refusal) ≡ phrase_of refusal
+pub phrases : (refusal : Refusal) → phrase (code_of refusal) ≡ phrase_of refusal
 phrases BadRequest = refl
 phrases Version = refl
 phrases Method = refl

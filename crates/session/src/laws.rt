@@ -1,7 +1,7 @@
 //! Laws of a session, in RFC 2326's words.
 
 ghost use Rattle.std.specs.Prelude.{◌≡◌, ◌<◌, ℕ, List, Some, None, Ok, string_bytes};
-ghost use Rattle.rtsp_text.specs.Replies.{Field, reason, reply_front};
+ghost use Rattle.rtsp_text.specs.Replies.{Field, phrase, reply_front};
 ghost use Rattle.film_frames.specs.declared.stores.Stored.{Stored};
 ghost use Rattle.film_frames.specs.Runs.{Run as Sending, frames_before, octets_before};
 ghost use Rattle.film_run.specs.declared.runs.Run.{Run};
@@ -120,7 +120,7 @@ pub fn law_one_hearing()
 
 /// Each refusal has the phrase that RFC 2326 section 7.1.1 has for its cause.
 pub fn law_phrases()
-    ensures { (refusal : Refusal) → reason (code_of refusal) ≡ phrase_of refusal }
+    ensures { (refusal : Refusal) → phrase (code_of refusal) ≡ phrase_of refusal }
 {}
 
 /// The reply to a PLAY tells, up to its start, the session, the time of the film from the run's

@@ -24,7 +24,7 @@ use Rattle.rtsp_fields.specs.Descriptions.{seconds_text}
 use Rattle.rtsp_client.specs.Films.{units_until}
 use Rattle.interleave.specs.Elements.{IsMessageLength}
 use Rattle.rtsp_text.specs.Fields.{header_value}
-use Rattle.rtsp_text.specs.Replies.{Field, IsPlain, all_fields, reason, reply_front, reply_text, value_named}
+use Rattle.rtsp_text.specs.Replies.{Field, IsPlain, all_fields, phrase, reply_front, reply_text, value_named}
 use Rattle.rtsp_text.proofs.ReadBack.{read_back}
 use Rattle.rtsp_client.specs.Replies.{has_point, milliseconds, range_end, session_id, start_within, time_in}
 
@@ -203,7 +203,7 @@ named-read {message} {id} info numbers size plain is =
     ap (λ m. header_value m name) whole ∙ back.values name in
     record {
       answer = record {
-        reason = reason 200;
+        phrase = phrase 200;
         line = back.reply.line;
         sequence = ap (λ v. option_and_then number_of v)
             (value (codes "CSeq") ∙ named-sequence id range info sequence slots) ∙ decimal_read sequence small;

@@ -1,6 +1,6 @@
-use Rattle.rtsp_fields.specs.Transports.{IsOther}
+use Rattle.rtsp_fields.specs.Transports.{AsksOtherDelivery}
 use Rattle.rtsp_fields.proofs.Places.{HasPassed}
 use Rattle.rtsp_fields.proofs.transports.is_plain.Given as goal
 
 abbrev pub invariant-loop-part : goal.invariant-loop-part
-invariant-loop-part l = HasPassed IsOther 59 l.text l.part-iterator
+invariant-loop-part l = HasPassed AsksOtherDelivery 59 l.text l.part-iterator

@@ -7,27 +7,27 @@ use Rattle.rtsp_text.proofs.status_lines.read_reply.Goals as goal
 pub returns-in_err-code-clause-read : goal.returns-in_err-code-clause-read
 returns-in_err-code-clause-read c =
     rw c.from_residual.ensures
-    (λ code reason line. c.in_err-code.ensures code reason
-    (subst (λ (t : List ℕ). IsStatusLine t code reason) (sym c.first_line.ensures) line))
+    (λ code phrase line. c.in_err-code.ensures code phrase
+    (subst (λ (t : List ℕ). IsStatusLine t code phrase) (sym c.first_line.ensures) line))
 
 pub returns-in_err-code-clause-replies : goal.returns-in_err-code-clause-replies
 returns-in_err-code-clause-replies c =
     rw c.from_residual.ensures
-    (λ code reason head body is. c.in_err-code.ensures code reason
-    (subst (λ (t : List ℕ). IsStatusLine t code reason) (sym c.first_line.ensures) is.line))
+    (λ code phrase head body is. c.in_err-code.ensures code phrase
+    (subst (λ (t : List ℕ). IsStatusLine t code phrase) (sym c.first_line.ensures) is.line))
 
 pub returns-clause-read : goal.returns-clause-read
 returns-clause-read c = record {
   split = c.split.ensures;
-  line = subst (λ (t : List ℕ). IsStatusLine t c.in_ok-code.code c.in_ok-code.reason.now) c.first_line.ensures
+  line = subst (λ (t : List ℕ). IsStatusLine t c.in_ok-code.code c.in_ok-code.phrase.now) c.first_line.ensures
       c.in_ok-code.ensures;
   body_is = (lengths_of c.args.message.now c.split.result.0.now c.split.result.1.now c.requires c.split.ensures).body_is;
 }
 
 pub returns-clause-replies : goal.returns-clause-replies
-returns-clause-replies c = λ code reason head body is.
+returns-clause-replies c = λ code phrase head body is.
     let same = reply_once (returns-clause-read c) is in
-    (same.code_is, same.reason_is, same.head_is, same.body_is)
+    (same.code_is, same.phrase_is, same.head_is, same.body_is)
 
 pub returns-clause-head : goal.returns-clause-head
 returns-clause-head c =

@@ -4,36 +4,36 @@ use Rattle.rtsp_text.specs.StatusLines.{IsCode}
 use Rattle.rtsp_text.proofs.Walks.{some_bytes, no_bytes}
 use Rattle.rtsp_text.proofs.StatusTexts.{status_none, status_parts, whole_status}
 use Rattle.rtsp_text.proofs.status_lines.status_line.Goals as goal
-use Rattle.rtsp_text.proofs.status_lines.status_line.Goals.{then-not-is_rtsp_1_0-via-then-not-is_rtsp_1_0, then-not-is_rtsp_1_0-via-else-not-is_rtsp_1_0+then-is_empty, then-not-is_rtsp_1_0-via-else-not-is_rtsp_1_0+else-is_empty+then-reason-eq32}
+use Rattle.rtsp_text.proofs.status_lines.status_line.Goals.{then-not-is_rtsp_1_0-via-then-not-is_rtsp_1_0, then-not-is_rtsp_1_0-via-else-not-is_rtsp_1_0+then-is_empty, then-not-is_rtsp_1_0-via-else-not-is_rtsp_1_0+else-is_empty+then-phrase-eq32}
 
 pub returns-in_err-digits : goal.returns-in_err-digits
 returns-in_err-digits c =
     rw c.from_residual-in_err-digits.ensures
-    (λ code reason line. status_none c.in_ok-version.ensures c.in_err-digits.ensures line)
+    (λ code phrase line. status_none c.in_ok-version.ensures c.in_err-digits.ensures line)
 
 pub returns-then-not-is_rtsp_1_0 : goal.returns-then-not-is_rtsp_1_0
-returns-then-not-is_rtsp_1_0 c = λ code reason line.
+returns-then-not-is_rtsp_1_0 c = λ code phrase line.
     let same = status_parts c.in_ok-version.ensures c.in_ok-digits.ensures line in
     elim c.then-not-is_rtsp_1_0.branch [
       | then-not-is_rtsp_1_0-via-then-not-is_rtsp_1_0 w ↦
           both_ways c.is_rtsp_1_0.result w.if-not-is_rtsp_1_0.true (c.is_rtsp_1_0.ensures.1 same.version_is)
       | then-not-is_rtsp_1_0-via-else-not-is_rtsp_1_0+then-is_empty w ↦
-          let none : length c.in_ok-digits.reason.now ≡ 0 =
-          no_bytes c.in_ok-digits.reason.now (sym w.is_empty.ensures ∙ w.if-is_empty.true) in
-          omega (arith, none, ap length same.reason_is, line.some)
-      | then-not-is_rtsp_1_0-via-else-not-is_rtsp_1_0+else-is_empty+then-reason-eq32 w ↦
-          line.no_space (ap (λ (r : List ℕ). get_or r 0 0) (sym same.reason_is) ∙ w.if-reason-eq32.true)
+          let none : length c.in_ok-digits.phrase.now ≡ 0 =
+          no_bytes c.in_ok-digits.phrase.now (sym w.is_empty.ensures ∙ w.if-is_empty.true) in
+          omega (arith, none, ap length same.phrase_is, line.some)
+      | then-not-is_rtsp_1_0-via-else-not-is_rtsp_1_0+else-is_empty+then-phrase-eq32 w ↦
+          line.no_space (ap (λ (r : List ℕ). get_or r 0 0) (sym same.phrase_is) ∙ w.if-phrase-eq32.true)
     ]
 
 pub returns : goal.returns
 returns c =
     whole_status c.in_ok-version.ensures c.in_ok-digits.ensures
     (c.is_rtsp_1_0.ensures.0 c.if-not-is_rtsp_1_0.false) c.in_ok-code.ensures
-    (some_bytes c.in_ok-digits.reason.now (sym c.is_empty.ensures ∙ c.if-is_empty.false)) c.if-reason-eq32.false
+    (some_bytes c.in_ok-digits.phrase.now (sym c.is_empty.ensures ∙ c.if-is_empty.false)) c.if-phrase-eq32.false
 
 pub returns-in_err-code : goal.returns-in_err-code
 returns-in_err-code c =
     rw c.from_residual-in_err-code.ensures
-    (λ code reason line.
+    (λ code phrase line.
     let same = status_parts c.in_ok-version.ensures c.in_ok-digits.ensures line in
     c.in_err-code.ensures code (subst (λ (d : List ℕ). IsCode d code) (sym same.digits_are) line.is_code))

@@ -9,7 +9,7 @@ use Rattle.conn.proofs.connections.Connection.take_request.Goals as goal
 pub hear-ask-requires-clause-whole : goal.hear-ask-requires-clause-whole
 hear-ask-requires-clause-whole g c =
     subst (λ (bytes : List ℕ). IsMessageLength (take c.args.length bytes) (length (take c.args.length bytes)))
-    (sym c.waiting.ensures)
+    (sym c.waiting_bytes.ensures)
     (request-take c.args.self.now.input c.args.length c.requires.within c.requires.whole)
 
 pub returns-in-Play-clause-kept : goal.returns-in-Play-clause-kept
@@ -45,7 +45,7 @@ returns-in-Reply-clause-kept g c =
 
 pub returns-in-Play-clause-heard : goal.returns-in-Play-clause-heard
 returns-in-Play-clause-heard g c =
-    asked_on c.hear-ask.ensures.hears (ap (take c.args.length) c.waiting.ensures) c.in-Play.is c.play.ensures.answered
+    asked_on c.hear-ask.ensures.hears (ap (take c.args.length) c.waiting_bytes.ensures) c.in-Play.is c.play.ensures.answered
 
 pub play-requires-clause-held : goal.play-requires-clause-held
 play-requires-clause-held g c =
@@ -53,7 +53,7 @@ play-requires-clause-held g c =
 
 pub returns-in-Halt-clause-heard : goal.returns-in-Halt-clause-heard
 returns-in-Halt-clause-heard g c =
-    asked_on c.hear-ask.ensures.hears (ap (take c.args.length) c.waiting.ensures) c.in-Halt.is c.halt.ensures.answered
+    asked_on c.hear-ask.ensures.hears (ap (take c.args.length) c.waiting_bytes.ensures) c.in-Halt.is c.halt.ensures.answered
 
 pub halt-requires-clause-held : goal.halt-requires-clause-held
 halt-requires-clause-held g c =
@@ -61,7 +61,7 @@ halt-requires-clause-held g c =
 
 pub returns-in-Look-clause-heard : goal.returns-in-Look-clause-heard
 returns-in-Look-clause-heard g c =
-    asked_on c.hear-ask.ensures.hears (ap (take c.args.length) c.waiting.ensures) c.in-Look.is c.look.ensures.answered
+    asked_on c.hear-ask.ensures.hears (ap (take c.args.length) c.waiting_bytes.ensures) c.in-Look.is c.look.ensures.answered
 
 pub look-requires-clause-held : goal.look-requires-clause-held
 look-requires-clause-held g c =
@@ -69,7 +69,7 @@ look-requires-clause-held g c =
 
 pub returns-in-Offer-clause-heard : goal.returns-in-Offer-clause-heard
 returns-in-Offer-clause-heard g c =
-    asked_on c.hear-ask.ensures.hears (ap (take c.args.length) c.waiting.ensures) c.in-Offer.is c.offer.ensures.answered
+    asked_on c.hear-ask.ensures.hears (ap (take c.args.length) c.waiting_bytes.ensures) c.in-Offer.is c.offer.ensures.answered
 
 pub offer-requires-clause-held : goal.offer-requires-clause-held
 offer-requires-clause-held g c =
@@ -77,5 +77,5 @@ offer-requires-clause-held g c =
 
 pub returns-in-Reply-clause-heard : goal.returns-in-Reply-clause-heard
 returns-in-Reply-clause-heard g c =
-    asked_on c.hear-ask.ensures.hears (ap (take c.args.length) c.waiting.ensures) c.in-Reply.is
+    asked_on c.hear-ask.ensures.hears (ap (take c.args.length) c.waiting_bytes.ensures) c.in-Reply.is
     (answered_none c.hear-ask.new.self c.args.seat.now)

@@ -42,7 +42,7 @@ returns-in-Slot-clause-on g c = λ h k.
       keeps = k;
       slot_lasts = omega (arith, c.requires.wish.some_units);
       picture_lasts = c.hear_slot.ensures.timed;
-      cut_is = c.cut_bytes-cut.ensures.cut ∙ ap cut_bytes c.waiting.ensures;
+      cut_is = c.cut_bytes-cut.ensures.cut ∙ ap cut_bytes c.waiting_bytes.ensures;
       idle = c.requires.idle;
     })
     (record { replies = refl; session = refl; input = refl; watching = c.hear_slot.ensures.state }))

@@ -14,7 +14,7 @@ use Rattle.rtsp_client.proofs.clients.Client.take_frame.Goals as goal
 pub returns-in_default-clause-ended : goal.returns-in_default-clause-ended
 returns-in_default-clause-ended g c = λ h k.
     bad-frame k
-    (source-here c.args.self.now c.args.length c.waiting.ensures c.source_with.ensures.source c.in_default.is)
+    (source-here c.args.self.now c.args.length c.waiting_bytes.ensures c.source_with.ensures.source c.in_default.is)
     (ap (λ (w : Watched). Fault (BadFrame w.frames)) c.tally-number.ensures)
 
 pub returns-in_err-add_frame-clause-ended : goal.returns-in_err-add_frame-clause-ended
@@ -23,7 +23,7 @@ returns-in_err-add_frame-clause-ended g c =
     rw (p.1, p.2)
     (λ h k.
     frame-starved k
-    (source-here c.args.self.now c.args.length c.waiting.ensures c.source_with.ensures.source c.in-Some.is) refl)
+    (source-here c.args.self.now c.args.length c.waiting_bytes.ensures c.source_with.ensures.source c.in-Some.is) refl)
 
 pub returns-in_err-write_all-clause-ended : goal.returns-in_err-write_all-clause-ended
 returns-in_err-write_all-clause-ended g c =
@@ -31,19 +31,19 @@ returns-in_err-write_all-clause-ended g c =
     rw (p.1, p.2)
     (λ h k.
     frame-cut (g.K.Link.told c.args.link.now) k
-    (source-here c.args.self.now c.args.length c.waiting.ensures c.source_with.ensures.source c.in-Some.is) refl
+    (source-here c.args.self.now c.args.length c.waiting_bytes.ensures c.source_with.ensures.source c.in-Some.is) refl
     (subst (IsFrontMore (g.O.Sink.written c.args.out.now) (g.O.Sink.written c.write_all.new.self))
-    (payload-here c.args.self.now c.args.length c.waiting.ensures) c.in_err-write_all.ensures.front))
+    (payload-here c.args.self.now c.args.length c.waiting_bytes.ensures) c.in_err-write_all.ensures.front))
 
 pub returns-then-not-is_complete-clause-passed : goal.returns-then-not-is_complete-clause-passed
 returns-then-not-is_complete-clause-passed g c = λ h k.
     let open_ : has_all c.add_frame.new.self ≡ false = search rules in
     frame-done (g.K.Link.told c.args.link.now)
-    (taken-frame c.args.self.now c.args.length k c.waiting.ensures c.requires.within c.source_with.ensures.source c.in-Some.is
+    (taken-frame c.args.self.now c.args.length k c.waiting_bytes.ensures c.requires.within c.source_with.ensures.source c.in-Some.is
     c.in-Some.ensures.long c.in_ok-add_frame.ensures)
     open_
     (c.in_ok-write_all.ensures.whole
-    ∙ ap (told_more (g.O.Sink.written c.args.out.now)) (payload-here c.args.self.now c.args.length c.waiting.ensures))
+    ∙ ap (told_more (g.O.Sink.written c.args.out.now)) (payload-here c.args.self.now c.args.length c.waiting_bytes.ensures))
 
 pub returns-in_err-request-clause-ended : goal.returns-in_err-request-clause-ended
 returns-in_err-request-clause-ended g c =
@@ -51,9 +51,9 @@ returns-in_err-request-clause-ended g c =
     rw (p.1, p.2)
     (λ h k.
     teardown-starved (g.K.Link.told c.args.link.now) k
-    (source-here c.args.self.now c.args.length c.waiting.ensures c.source_with.ensures.source c.in-Some.is) refl
+    (source-here c.args.self.now c.args.length c.waiting_bytes.ensures c.source_with.ensures.source c.in-Some.is) refl
     (c.in_ok-write_all.ensures.whole
-    ∙ ap (told_more (g.O.Sink.written c.args.out.now)) (payload-here c.args.self.now c.args.length c.waiting.ensures)))
+    ∙ ap (told_more (g.O.Sink.written c.args.out.now)) (payload-here c.args.self.now c.args.length c.waiting_bytes.ensures)))
 
 pub returns-in_err-send-clause-ended : goal.returns-in_err-send-clause-ended
 returns-in_err-send-clause-ended g c =
@@ -64,11 +64,11 @@ returns-in_err-send-clause-ended g c =
     let text : c.as_slice-2.result.now ≡ teardown_text c.args.wish.now c.args.self.now.session.items = search rules in
     last-cut {told = g.K.Link.told c.args.link.now} {new_told = g.K.Link.told c.send.new.self}
     {out = g.O.Sink.written c.args.out.now} {new_out = g.O.Sink.written c.write_all.new.self}
-    (taken-frame c.args.self.now c.args.length k c.waiting.ensures c.requires.within c.source_with.ensures.source c.in-Some.is
+    (taken-frame c.args.self.now c.args.length k c.waiting_bytes.ensures c.requires.within c.source_with.ensures.source c.in-Some.is
     c.in-Some.ensures.long c.in_ok-add_frame.ensures)
     all refl
     (c.in_ok-write_all.ensures.whole
-    ∙ ap (told_more (g.O.Sink.written c.args.out.now)) (payload-here c.args.self.now c.args.length c.waiting.ensures))
+    ∙ ap (told_more (g.O.Sink.written c.args.out.now)) (payload-here c.args.self.now c.args.length c.waiting_bytes.ensures))
     (subst (IsFrontTold (g.K.Link.told c.args.link.now) (g.K.Link.told c.send.new.self)) text c.in_err-send.ensures.front))
 
 pub returns-clause-passed : goal.returns-clause-passed
@@ -76,9 +76,9 @@ returns-clause-passed g c = λ h k.
     let all : has_all c.add_frame.new.self ≡ true = search rules in
     let text : c.as_slice-2.result.now ≡ teardown_text c.args.wish.now c.args.self.now.session.items = search rules in
     last-done (g.K.Link.told c.args.link.now)
-    (taken-frame c.args.self.now c.args.length k c.waiting.ensures c.requires.within c.source_with.ensures.source c.in-Some.is
+    (taken-frame c.args.self.now c.args.length k c.waiting_bytes.ensures c.requires.within c.source_with.ensures.source c.in-Some.is
     c.in-Some.ensures.long c.in_ok-add_frame.ensures)
     all
     (c.in_ok-write_all.ensures.whole
-    ∙ ap (told_more (g.O.Sink.written c.args.out.now)) (payload-here c.args.self.now c.args.length c.waiting.ensures))
+    ∙ ap (told_more (g.O.Sink.written c.args.out.now)) (payload-here c.args.self.now c.args.length c.waiting_bytes.ensures))
     (c.in_ok-send.ensures.whole ∙ ap (λ x. told_more (g.K.Link.told c.args.link.now) (sends x)) text)

@@ -16,7 +16,7 @@ returns-in_err-end_ms-clause-ended c =
     rw (p.1, p.2)
     (λ h s k.
     let range : play_range (take c.args.length c.args.self.now.input) ≡ None =
-    ap (λ i. play_range (take c.args.length i)) (sym c.waiting.ensures) ∙ (sym c.play_range.ensures.range ∙ lacks.0) in
+    ap (λ i. play_range (take c.args.length i)) (sym c.waiting_bytes.ensures) ∙ (sym c.play_range.ensures.range ∙ lacks.0) in
     play-lacks k c.requires.second
     c.requires.good (ap (λ o. is_some o && is_some (play_start (take c.args.length c.args.self.now.input))) range)
     (ap (λ (f : WatchFault). Fault f) lacks.1))
@@ -28,10 +28,10 @@ returns-in_err-start-clause-ended c =
     rw (p.1, p.2)
     (λ h s k.
     let range : play_range (take c.args.length c.args.self.now.input) ≡ Some c.in_ok-end_ms.end_ms =
-    ap (λ i. play_range (take c.args.length i)) (sym c.waiting.ensures)
+    ap (λ i. play_range (take c.args.length i)) (sym c.waiting_bytes.ensures)
     ∙ (sym c.play_range.ensures.range ∙ (c.ok_or.ensures.ok_part ∙ ap result_ok (c.in_ok-end_ms.was {u = tt}))) in
     let start : play_start (take c.args.length c.args.self.now.input) ≡ None =
-    ap (λ i. play_start (take c.args.length i)) (sym c.waiting.ensures) ∙ (sym c.play_start.ensures ∙ lacks.0) in
+    ap (λ i. play_start (take c.args.length i)) (sym c.waiting_bytes.ensures) ∙ (sym c.play_start.ensures ∙ lacks.0) in
     play-lacks k c.requires.second
     c.requires.good
     (ap (λ o. is_some o && is_some (play_start (take c.args.length c.args.self.now.input))) range ∙ ap is_some start)
@@ -40,10 +40,10 @@ returns-in_err-start-clause-ended c =
 pub returns-clause-passed : goal.returns-clause-passed
 returns-clause-passed c = λ h s k.
     let range : play_range (take c.args.length c.args.self.now.input) ≡ Some c.in_ok-end_ms.end_ms =
-    ap (λ i. play_range (take c.args.length i)) (sym c.waiting.ensures)
+    ap (λ i. play_range (take c.args.length i)) (sym c.waiting_bytes.ensures)
     ∙ (sym c.play_range.ensures.range ∙ (c.ok_or.ensures.ok_part ∙ ap result_ok (c.in_ok-end_ms.was {u = tt}))) in
     let start : play_start (take c.args.length c.args.self.now.input) ≡ Some c.in_ok-start.start =
-    ap (λ i. play_start (take c.args.length i)) (sym c.waiting.ensures)
+    ap (λ i. play_start (take c.args.length i)) (sym c.waiting_bytes.ensures)
     ∙ (sym c.play_start.ensures ∙ (c.ok_or-2.ensures.ok_part ∙ ap result_ok (c.in_ok-start.was {u = tt}))) in
     play-done (record {
       keeps = k;

@@ -6,20 +6,20 @@ use Rattle.rtsp_client.proofs.clients.Client.take_reply.Goals as goal
 
 pub awaited_code-requires-clause-whole : goal.awaited_code-requires-clause-whole
 awaited_code-requires-clause-whole g c =
-    whole_request c.args.self.now.input c.waiting.result.now c.args.length c.requires.message c.waiting.ensures
+    whole_request c.args.self.now.input c.waiting_bytes.result.now c.args.length c.requires.message c.waiting_bytes.ensures
 
 pub returns-in_default-clause-ended : goal.returns-in_default-clause-ended
 returns-in_default-clause-ended g c = λ h out k.
     bad-reply
     k
     (subst (λ (i : List ℕ). (code : ℕ) → ¬ IsAwaited c.args.self.now (take c.args.length i) code)
-    c.waiting.ensures c.in_default.ensures) refl
+    c.waiting_bytes.ensures c.in_default.ensures) refl
 
 pub returns-then-code-ne200-clause-ended : goal.returns-then-code-ne200-clause-ended
 returns-then-code-ne200-clause-ended g c = λ h out k.
     refused-reply
     k
-    (subst (λ (i : List ℕ). IsAwaited c.args.self.now (take c.args.length i) c.in-Some.code) c.waiting.ensures c.in-Some.ensures)
+    (subst (λ (i : List ℕ). IsAwaited c.args.self.now (take c.args.length i) c.in-Some.code) c.waiting_bytes.ensures c.in-Some.ensures)
     c.if-code-ne200.true refl
 
 pub returns-clause-passed : goal.returns-clause-passed

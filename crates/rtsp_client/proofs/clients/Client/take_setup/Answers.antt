@@ -17,11 +17,11 @@ returns-in_err-session-clause-ended g c =
     let lacks = ok-or-err (BadReply 1) c.ok_or.ensures.value c.ok_or.ensures.ok_part (c.in_err-session.was {u = tt}) in
     rw (p.1, p.2)
     (λ h out k.
-    let here : session_in (take c.args.length c.waiting.result.now) ≡ None =
+    let here : session_in (take c.args.length c.waiting_bytes.result.now) ≡ None =
     sym c.session_in.ensures ∙ ap (option_map (λ s. s.now)) lacks.0 in
     setup-lacks
     k c.requires.first c.requires.good
-    (ap (λ i. session_in (take c.args.length i)) (sym c.waiting.ensures) ∙ here)
+    (ap (λ i. session_in (take c.args.length i)) (sym c.waiting_bytes.ensures) ∙ here)
     (ap (λ (f : WatchFault). Fault f) lacks.1))
 
 pub returns-in_err-request-clause-ended : goal.returns-in_err-request-clause-ended
@@ -33,7 +33,7 @@ returns-in_err-request-clause-ended g c =
       keeps = k;
       first = c.requires.first;
       awaited = c.requires.good;
-      session_is = session-read (λ s. s.now) c.args.length c.waiting.ensures c.session_in.ensures c.ok_or.ensures.ok_part (c.in_ok-session.was {u = tt});
+      session_is = session-read (λ s. s.now) c.args.length c.waiting_bytes.ensures c.session_in.ensures c.ok_or.ensures.ok_part (c.in_ok-session.was {u = tt});
     }) refl)
 
 pub returns-in_err-kept-clause-ended : goal.returns-in_err-kept-clause-ended
@@ -45,7 +45,7 @@ returns-in_err-kept-clause-ended g c =
       keeps = k;
       first = c.requires.first;
       awaited = c.requires.good;
-      session_is = session-read (λ s. s.now) c.args.length c.waiting.ensures c.session_in.ensures c.ok_or.ensures.ok_part (c.in_ok-session.was {u = tt});
+      session_is = session-read (λ s. s.now) c.args.length c.waiting_bytes.ensures c.session_in.ensures c.ok_or.ensures.ok_part (c.in_ok-session.was {u = tt});
     }) refl)
 
 pub returns-in_err-send-clause-ended : goal.returns-in_err-send-clause-ended
@@ -62,7 +62,7 @@ returns-in_err-send-clause-ended g c =
       keeps = k;
       first = c.requires.first;
       awaited = c.requires.good;
-      session_is = session-read (λ s. s.now) c.args.length c.waiting.ensures c.session_in.ensures c.ok_or.ensures.ok_part (c.in_ok-session.was {u = tt});
+      session_is = session-read (λ s. s.now) c.args.length c.waiting_bytes.ensures c.session_in.ensures c.ok_or.ensures.ok_part (c.in_ok-session.was {u = tt});
     }) refl
     (subst (IsFrontTold (g.K.Link.told c.args.link.now) (g.K.Link.told c.send.new.self)) text front))
 
@@ -78,7 +78,7 @@ returns-clause-passed g c = λ h out k.
       keeps = k;
       first = c.requires.first;
       awaited = c.requires.good;
-      session_is = session-read (λ s. s.now) c.args.length c.waiting.ensures c.session_in.ensures c.ok_or.ensures.ok_part (c.in_ok-session.was {u = tt});
+      session_is = session-read (λ s. s.now) c.args.length c.waiting_bytes.ensures c.session_in.ensures c.ok_or.ensures.ok_part (c.in_ok-session.was {u = tt});
     })
     (record { replies = refl; session = search rules; watching = refl })
     (sent ∙ ap (λ x. told_more (g.K.Link.told c.args.link.now) (sends x)) text)

@@ -1,5 +1,5 @@
 use Rattle.std.proofs.Common.{◌++◌, ◌≡◌, codes, decimal, ap, ◌∙◌}
-use Rattle.rtsp_text.specs.Replies.{reason, status_line}
+use Rattle.rtsp_text.specs.Replies.{phrase, status_line}
 use Rattle.rtsp_text.proofs.Texts.{two_put}
 use Rattle.rtsp_text.proofs.replies.Reply.put_status.Goals as goal
 
@@ -11,7 +11,7 @@ returns-clause-text c =
     let version = codes "RTSP/1.0 " in
     let code = decimal c.args.code in
     let with_code = two_put old version code c.put.ensures.text (c.put-2.ensures.text ∙ ap (λ t. c.put.new.self ++ t) digits) in
-    let with_reason = two_put old (version ++ code ++ codes " ") (reason c.args.code)
+    let with_phrase = two_put old (version ++ code ++ codes " ") (phrase c.args.code)
     (two_put old (version ++ code) (codes " ") with_code c.put-3.ensures.text)
-    (c.put-4.ensures.text ∙ ap (λ t. c.put-3.new.self ++ t) c.reason.ensures.text) in
-    two_put old (version ++ code ++ codes " " ++ reason c.args.code) (codes "\r\n") with_reason c.put-5.ensures.text
+    (c.put-4.ensures.text ∙ ap (λ t. c.put-3.new.self ++ t) c.phrase.ensures.text) in
+    two_put old (version ++ code ++ codes " " ++ phrase c.args.code) (codes "\r\n") with_phrase c.put-5.ensures.text
