@@ -1,5 +1,6 @@
 pub mod Blanks
 pub mod Gates
+pub mod Limits
 pub mod Lines
 pub mod Links
 pub mod Memory

@@ -5,8 +5,10 @@
 mod blanks;
 mod failing_calls;
 mod files;
+mod fronts;
 mod gates;
 mod laws;
+mod limits;
 mod lines;
 mod links;
 mod memory_gates;
@@ -23,10 +25,12 @@ mod splits;
 
 pub use blanks::{is_blank, trim};
 pub use files::Library;
+pub use fronts::move_to_front;
 pub use gates::{Gate, Opening};
 pub use laws::{
     law_blanks, law_file_name, law_first_file, law_line_text, law_number_read, law_sent, law_trim,
 };
+pub use limits::number_within;
 pub use lines::{Line, line_end};
 pub use links::{Heard, LATEST_SLOT, Link};
 pub use memory_gates::{MemoryGate, MemoryPart};

@@ -1,0 +1,14 @@
+//! A buffer's bytes, moved to its front.
+
+ghost use Rattle.std.specs.Prelude.{◌≡◌, ◌≤◌, length, drop, vec_capacity};
+
+/// Moves what stands from `start` on to the front, and leaves nothing else. It takes no memory.
+pub fn move_to_front(bytes: &mut Vec<u8>, start: usize)
+    requires { start ≤ length bytes.old.items }
+    ensures items { bytes.new.items ≡ drop start bytes.old.items }
+    ensures capacity { vec_capacity bytes.new ≡ vec_capacity bytes.old }
+{
+    let rest = bytes.len() - start;
+    bytes.copy_within(start.., 0);
+    bytes.truncate(rest);
+}

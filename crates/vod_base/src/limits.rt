@@ -1,0 +1,21 @@
+//! Numbers within limits.
+
+ghost use Rattle.std.specs.Prelude.{◌≡◌, ℕ, ◌≤◌, IfSome, MatchOption};
+ghost use Rattle.vod_base.specs.Numbers.{number_of};
+ghost use Rattle.vod_base.specs.Limits.{WritesNumber, in_range};
+
+use crate::numbers::read_number;
+
+/// The number from `least` to `most` that the text writes in decimal digits, leading zeros allowed.
+/// None exactly where it writes no such number.
+pub fn number_within(text: &[u8], least: u64, most: u64) -> Option<u64>
+    ensures number { result ≡ in_range least most (number_of text.now) }
+    ensures range { IfSome result (λ number. (least ≤ number) × (number ≤ most)) }
+    ensures writes { MatchOption result ((n : ℕ) → ¬ WritesNumber least most text.now n)
+        (WritesNumber least most text.now) }
+{
+    match read_number(text) {
+        Ok(number) if least <= number && number <= most => Some(number),
+        _ => None,
+    }
+}
