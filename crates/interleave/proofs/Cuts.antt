@@ -13,12 +13,14 @@ StartsBlock-append w v h = (omega (arith, length-append w v, h.0), rw (get_or_ap
 
 pub StartsMessage-append : (w v : List ℕ) → StartsMessage w → StartsMessage (w ++ v)
 StartsMessage-append w v h =
-    (omega (arith, length-append w v, h.0), rw (get_or_append_left w v 0 0 h.0) h.1, rw (get_or_append_left w v 0 0 h.0) h.2)
+    (omega (arith, length-append w v, h.0), rw (get_or_append_left w v 0 0 h.0) h.1,
+        rw (get_or_append_left w v 0 0 h.0) h.2)
 
 pub AreLineEnds-append : (w v : List ℕ) (n : ℕ) → n < length w → AreLineEnds w n → AreLineEnds (w ++ v) n
 AreLineEnds-append w v n more h = record {
   within = omega (arith, length-append w v);
-  line_ends = λ k below. let inside : k < length w = omega arith in rw (get_or_append_left w v 0 k inside) (h.line_ends k below);
+  line_ends = λ k below. let inside : k < length w = omega arith in
+      rw (get_or_append_left w v 0 k inside) (h.line_ends k below);
   last = λ _. rw (get_or_append_left w v 0 n more) (h.last more);
 }
 

@@ -4,7 +4,8 @@ use Rattle.std.proofs.Common.{List, [], ◌∷◌, length, take, drop, map, get_
 use Rattle.std.proofs.Common.{inr, slice_range}
 use Rattle.std.specs.Prelude.{codes}
 use Rattle.std.specs.Char.{to_ascii_lowercase}
-use Rattle.std.proofs.lemmas.Bool.{both_ways, cases_Bool, cases_lt, and_parts, and_from, eqb-true, eq-eqb, ltb-true, lt-ltb, leb-true, le-leb}
+use Rattle.std.proofs.lemmas.Bool.{both_ways, cases_Bool, cases_lt, and_parts, and_from, eqb-true, eq-eqb, ltb-true}
+use Rattle.std.proofs.lemmas.Bool.{lt-ltb, leb-true, le-leb}
 use Rattle.std.proofs.lemmas.List.{length-drop}
 use Rattle.vod_base.specs.Blanks.{without_blanks}
 use Rattle.vod_base.specs.Lines.{IsLine}
@@ -77,7 +78,8 @@ no_feed w at k after none is =
     both_ways (leb at k && eqb (get_or w k 0) 10)
     none (and_from (leb at k) (eqb (get_or w k 0) 10) (le-leb at k after) (eq-eqb (get_or w k 0) 10 is))
 
-line_found : (w : List ℕ) (at : ℕ) (f : Found (feeds w at) (length w)) → (text_end : ℕ) × IsLine w at text_end (f.at + 1)
+line_found : (w : List ℕ) (at : ℕ) (f : Found (feeds w at) (length w))
+    → (text_end : ℕ) × IsLine w at text_end (f.at + 1)
 unfolding feeds
 line_found w at f =
     let parts = and_parts (leb at f.at) (eqb (get_or w f.at 0) 10) f.holds in
@@ -112,9 +114,11 @@ unfolding named
 named-line w at e =
     let first = and_parts (ltb 0 at)
     (eqb (get_or w (at - 1) 0) 10
-    && same (map to_ascii_lowercase (slice_range w at (at + 15))) (map to_ascii_lowercase (codes "Content-Length:"))) e in
+    && same (map to_ascii_lowercase (slice_range w at (at + 15)))
+        (map to_ascii_lowercase (codes "Content-Length:"))) e in
     let rest = and_parts (eqb (get_or w (at - 1) 0) 10)
-    (same (map to_ascii_lowercase (slice_range w at (at + 15))) (map to_ascii_lowercase (codes "Content-Length:"))) first.1 in
+    (same (map to_ascii_lowercase (slice_range w at (at + 15)))
+        (map to_ascii_lowercase (codes "Content-Length:"))) first.1 in
     record {
       after = ltb-true 0 at first.0;
       begins = eqb-true (get_or w (at - 1) 0) 10 rest.0;
@@ -180,7 +184,8 @@ request_with_head w head starts is fits =
     let its = body (take head w) in
     elim (cases_lt 65536 its.0) [
       | inl long ↦
-          inr (only_request w starts (λ n size inside. not_long w n size (long_body w head is fits (its.0, (long, its.1)))))
+          inr (only_request w starts
+              (λ n size inside. not_long w n size (long_body w head is fits (its.0, (long, its.1)))))
       | inr small ↦ request_whole w (head + its.0) starts (whole_length is fits its.1 small)
     ]
 
@@ -197,7 +202,8 @@ request_decided w starts = elim (head_decided w) [
 ]
 
 -- where `$` is in front, only a block can be
-only_block : (w : List ℕ) → StartsBlock w → (4 ≤ length w → block_length w ≤ length w → ⊥) → (n : ℕ) → IsElementLength w n → ⊥
+only_block : (w : List ℕ) → StartsBlock w → (4 ≤ length w → block_length w ≤ length w → ⊥) → (n : ℕ)
+    → IsElementLength w n → ⊥
 only_block w starts none n (LineEnd one some end) = clash_end_block w end starts
 only_block w starts none n (WholeBlock block four size inside) = none four (omega (arith, size, inside))
 only_block w starts none n (WholeMessage request size inside) = clash_block_request w starts request
@@ -242,7 +248,8 @@ stream_by : (most : ℕ) (w : List ℕ) → length w ≤ most → HasStream w
 stream_by zero w short = ([], (w, (refl, nothing w (omega arith))))
 stream_by (suc most) w short = elim (element_decided w) [
   | inl element ↦
-      (let rest = stream_by most (drop element.0 w) (omega (arith, length-drop element.0 w, element_some w element.0 element.1, short)) in
+      (let rest = stream_by most (drop element.0 w)
+          (omega (arith, length-drop element.0 w, element_some w element.0 element.1, short)) in
       (take element.0 w ∷ rest.0, (rest.1.0, ((element.0, (element.1, refl, rest.1.1.0)), rest.1.1.1))))
   | inr none ↦ ([], (w, (refl, none)))
 ]

@@ -1,5 +1,6 @@
 -- What a search of the head found, as the definitions say it.
-use Rattle.std.proofs.Common.{◌≡◌, ℕ, ◌+◌, ◌-◌, ◌<◌, ◌≤◌, List, Option, Some, None, length, take, refl, ap, arith, inl, true, MatchOption, slice_range}
+use Rattle.std.proofs.Common.{◌≡◌, ℕ, ◌+◌, ◌-◌, ◌<◌, ◌≤◌, List, Option, Some, None, length, take, refl, ap, arith}
+use Rattle.std.proofs.Common.{inl, true, MatchOption, slice_range}
 use Rattle.std.proofs.lemmas.List.{length-map, length-take, length-drop}
 use Rattle.vod_base.specs.Blanks.{without_blanks}
 use Rattle.vod_base.specs.Lines.{IsLine}
@@ -22,7 +23,8 @@ pub read_value : {head text : List ℕ} {at text_end next : ℕ} (o : Option ℕ
     MatchOption o (65536 < written_length text) (λ n. (n ≤ 65536) × (n ≡ written_length text)) →
     MatchOption o (IsLongAt head at) (λ n. (n ≤ 65536) × IsWrittenAt head at n)
 read_value {head} {text} {at} {text_end} {next} None line same h =
-    (written_length text, (h, inl (record { text_end = text_end; next = next; line = line; written = ap written_length same })))
+    (written_length text,
+        (h, inl (record { text_end = text_end; next = next; line = line; written = ap written_length same })))
 read_value {head} {text} {at} {text_end} {next} (Some n) line same h =
     (h.0, inl (record { text_end = text_end; next = next; line = line; written = rw (← same) (h.1) }))
 

@@ -21,7 +21,8 @@ skips ends rest some all other = (
   some,
   record {
     within = omega (arith, length-append ends rest);
-    line_ends = λ k below. ap is_line_end (get_or_append_left ends rest 0 k below) ∙ ends_line (get_or ends k 0) (all k 0 below);
+    line_ends = λ k below. ap is_line_end (get_or_append_left ends rest 0 k below)
+        ∙ ends_line (get_or ends k 0) (all k 0 below);
     last = λ more.
         let here : get_or (ends ++ rest) (length ends) 0 ≡ get_or rest 0 0 =
         get_or-append_right ends rest (length ends) (length ends) 0 refl (omega arith)

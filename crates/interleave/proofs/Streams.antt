@@ -2,17 +2,20 @@
 use Rattle.std.proofs.Common.{◌≡◌, ℕ, zero, suc, ◌<◌, ◌≤◌, List, [], ◌∷◌, ◌++◌, Result, Ok, Err, length, take, drop}
 use Rattle.std.proofs.Common.{map, get_or, refl, sym, ◌∙◌, ap, subst, arith, inl, inr, true}
 use Rattle.std.proofs.lemmas.Bool.{both_ways}
-use Rattle.std.proofs.lemmas.List.{take-append-le, drop-append-le, get_or_append_left, length-append, append_assoc, append-nil}
+use Rattle.std.proofs.lemmas.List.{take-append-le, drop-append-le, get_or_append_left, length-append, append_assoc}
+use Rattle.std.proofs.lemmas.List.{append-nil}
 use Rattle.interleave.specs.Heads.{is_line_end}
 use Rattle.interleave.specs.Elements.{IsFirst}
-use Rattle.interleave.specs.Streams.{IsElementLength, LineEnd, WholeBlock, WholeMessage, AreCut, DoAgree, IsStream, told_elements, told_length, TellsNone}
+use Rattle.interleave.specs.Streams.{IsElementLength, LineEnd, WholeBlock, WholeMessage, AreCut, DoAgree, IsStream}
+use Rattle.interleave.specs.Streams.{told_elements, told_length, TellsNone}
 use Rattle.interleave.specs.declared.elements.Step.{Step}
 use Rattle.interleave.specs.declared.elements.Step.TheVariants.{Message, Block, Skip, More}
 use Rattle.interleave.specs.declared.elements.DemuxFault.{DemuxFault}
 use Rattle.interleave.specs.declared.elements.DemuxFault.TheVariants.{HeadTooLong, BodyTooLong}
 use Rattle.interleave.proofs.Cuts.{StartsBlock-append, StartsMessage-append, block_length-append}
 use Rattle.interleave.proofs.More.{IsMessageLength-append}
-use Rattle.interleave.proofs.Unique.{total_once, clash_block_request, clash_end_block, clash_head, not_long, more_block, more_request}
+use Rattle.interleave.proofs.Unique.{total_once, clash_block_request, clash_end_block, clash_head, not_long}
+use Rattle.interleave.proofs.Unique.{more_block, more_request}
 
 pub element_within : (w : List ℕ) (n : ℕ) → IsElementLength w n → n ≤ length w
 element_within w n (LineEnd one some end) = omega (arith, one, some)
@@ -27,7 +30,8 @@ element_stays w v n (WholeBlock starts four size inside) =
     WholeBlock (StartsBlock-append w v starts) (omega (arith, length-append w v, four))
     (rw (block_length-append w v four) size) (omega (arith, length-append w v, inside))
 element_stays w v n (WholeMessage starts size inside) =
-    WholeMessage (StartsMessage-append w v starts) (IsMessageLength-append w v n size) (omega (arith, length-append w v, inside))
+    WholeMessage (StartsMessage-append w v starts) (IsMessageLength-append w v n size)
+        (omega (arith, length-append w v, inside))
 
 -- a whole element has one length
 pub element_once : (w : List ℕ) (a b : ℕ) → IsElementLength w a → IsElementLength w b → a ≡ b
@@ -54,14 +58,18 @@ cut_grows w v (element ∷ elements) rest (n, cut) =
     let front : take n (w ++ v) ≡ take n w = take-append-le n w v inside in
     let after : drop n (w ++ v) ≡ drop n w ++ v = drop-append-le n w v inside in
     let P : List ℕ → Type 0 = λ xs. AreCut xs elements (rest ++ v) in
-    (n, (element_stays w v n cut.0, cut.1 ∙ sym front, subst P (sym after) (cut_grows (drop n w) v elements rest cut.2)))
+    (n, (element_stays w v n cut.0, cut.1
+        ∙ sym front, subst P (sym after) (cut_grows (drop n w) v elements rest cut.2)))
 
 -- one element more
-pub cut_more : (w : List ℕ) (elements : List (List ℕ)) (rest : List ℕ) (n : ℕ) → AreCut w elements rest → IsElementLength rest n →
+pub cut_more : (w : List ℕ) (elements : List (List ℕ)) (rest : List ℕ) (n : ℕ) → AreCut w elements rest
+    → IsElementLength rest n →
     AreCut w (elements ++ take n rest ∷ []) (drop n rest)
 cut_more w [] rest n same element =
-    let P : List ℕ → Type 0 = λ xs. AreCut xs (take n rest ∷ []) (drop n rest) in subst P (sym same) (n, (element, refl, refl))
-cut_more w (first ∷ elements) rest n (m, cut) element = (m, (cut.0, cut.1, cut_more (drop m w) elements rest n cut.2 element))
+    let P : List ℕ
+        → Type 0 = λ xs. AreCut xs (take n rest ∷ []) (drop n rest) in subst P (sym same) (n, (element, refl, refl))
+cut_more w (first ∷ elements) rest n (m, cut) element =
+    (m, (cut.0, cut.1, cut_more (drop m w) elements rest n cut.2 element))
 
 -- bytes were cut, and then their rest with later bytes
 pub record CutsInTurn (w v : List ℕ) (ps qs : List (List ℕ)) (rest end : List ℕ) : Type 0 where
@@ -118,10 +126,12 @@ pub stream_once : {w : List ℕ} {ps qs : List (List ℕ)} {r t : List ℕ} → 
 stream_once {ps = []} {qs = []} streams = (refl, sym streams.one.0 ∙ streams.other.0)
 stream_once {ps = []} {qs = q ∷ qs} streams =
     let cut = streams.other.0 in
-    let P : List ℕ → Type 0 = λ xs. IsElementLength xs cut.0 in absurd (streams.one.1 cut.0 (subst P streams.one.0 cut.1.0))
+    let P : List ℕ
+        → Type 0 = λ xs. IsElementLength xs cut.0 in absurd (streams.one.1 cut.0 (subst P streams.one.0 cut.1.0))
 stream_once {ps = p ∷ ps} {qs = []} streams =
     let cut = streams.one.0 in
-    let P : List ℕ → Type 0 = λ xs. IsElementLength xs cut.0 in absurd (streams.other.1 cut.0 (subst P streams.other.0 cut.1.0))
+    let P : List ℕ
+        → Type 0 = λ xs. IsElementLength xs cut.0 in absurd (streams.other.1 cut.0 (subst P streams.other.0 cut.1.0))
 stream_once {w} {ps = p ∷ ps} {qs = q ∷ qs} {r} {t} streams =
     let n = streams.one.0.0 in
     let m = streams.other.0.0 in
@@ -149,7 +159,8 @@ skips w ps (c ∷ cs) (suc n) cut ends =
     let next : AreCut w (ps ++ (c ∷ []) ∷ []) cs =
     cut_more w ps (c ∷ cs) 1 cut (LineEnd refl (omega arith) (ends.line_ends 0 (omega arith))) in
     let more = skips w (ps ++ (c ∷ []) ∷ []) cs n next
-    (record { within = omega (arith, ends.within); line_ends = λ k below. ends.line_ends (suc k) (omega (arith, below)) }) in
+    (record { within = omega (arith, ends.within); line_ends =
+        λ k below. ends.line_ends (suc k) (omega (arith, below)) }) in
     let P : List (List ℕ) → Type 0 = λ xs. AreCut w xs (drop n cs) in
     subst P (append_assoc ps ((c ∷ []) ∷ []) (map (λ x. x ∷ []) (take n cs))) more
 
@@ -160,7 +171,8 @@ no_more w ps rest cut = let P : List (List ℕ) → Type 0 = λ xs. AreCut w xs 
 pub next_elements : (rest : List ℕ) (answer : Result Step DemuxFault) → IsFirst rest answer →
     (w : List ℕ) (ps : List (List ℕ)) → AreCut w ps rest →
     AreCut w (ps ++ told_elements rest answer) (drop (told_length answer) rest)
-next_elements rest (Ok (Skip n)) h w ps cut = skips w ps rest n cut (record { within = h.1.within; line_ends = h.1.line_ends })
+next_elements rest (Ok (Skip n)) h w ps cut =
+    skips w ps rest n cut (record { within = h.1.within; line_ends = h.1.line_ends })
 next_elements rest (Ok (Block channel n)) h w ps cut = cut_more w ps rest n cut (WholeBlock h.0 h.1 h.3 h.4)
 next_elements rest (Ok (Message n)) h w ps cut = cut_more w ps rest n cut (WholeMessage h.0 h.1 h.2)
 next_elements rest (Ok More) h w ps cut = no_more w ps rest cut
@@ -173,7 +185,8 @@ no_line_end w some end (inr (inr r)) = both_ways (is_line_end (get_or w 0 0)) r.
 
 none_waits : (w : List ℕ) → IsFirst w (Ok More) → (n : ℕ) → IsElementLength w n → ⊥
 none_waits w h n (LineEnd one some end) = no_line_end w some end h
-none_waits w h n (WholeBlock starts four size inside) = more_block w (get_or w 1 0) n (starts, four, refl, size, inside) h
+none_waits w h n (WholeBlock starts four size inside) =
+    more_block w (get_or w 1 0) n (starts, four, refl, size, inside) h
 none_waits w h n (WholeMessage starts size inside) = more_request w n (starts, size, inside) h
 
 none_headless : (w : List ℕ) → IsFirst w (Err HeadTooLong) → (n : ℕ) → IsElementLength w n → ⊥

@@ -5,7 +5,8 @@ use Rattle.std.proofs.lemmas.Bool.{both_ways, cases_order}
 use Rattle.vod_base.specs.Lines.{IsLine, HasNoLine}
 use Rattle.interleave.specs.Heads.{is_line_end, empty_line_ends, HasNoHead, IsHead}
 use Rattle.interleave.specs.Lengths.{IsWrittenAt, IsBodyLength}
-use Rattle.interleave.specs.Elements.{StartsBlock, StartsMessage, AreLineEnds, IsMessageLength, IsBodyTooLong, IsFirst, block_length}
+use Rattle.interleave.specs.Elements.{StartsBlock, StartsMessage, AreLineEnds, IsMessageLength, IsBodyTooLong}
+use Rattle.interleave.specs.Elements.{IsFirst, block_length}
 use Rattle.interleave.specs.declared.elements.Step.{Step}
 use Rattle.interleave.specs.declared.elements.Step.TheVariants.{Message, Block, Skip, More}
 use Rattle.interleave.specs.declared.elements.DemuxFault.{DemuxFault}
@@ -15,17 +16,21 @@ pub line_ends_once : (w : List ℕ) (n m : ℕ) → AreLineEnds w n → AreLineE
 line_ends_once w n m a b =
     elim (cases_order n m) [
       | inl same ↦ same
-      | inr (inl less) ↦ absurd (both_ways (is_line_end (get_or w n 0)) (a.last (omega (arith, b.within))) (b.line_ends n less))
-      | inr (inr less) ↦ absurd (both_ways (is_line_end (get_or w m 0)) (b.last (omega (arith, a.within))) (a.line_ends m less))
+      | inr (inl less) ↦
+          absurd (both_ways (is_line_end (get_or w n 0)) (a.last (omega (arith, b.within))) (b.line_ends n less))
+      | inr (inr less) ↦
+          absurd (both_ways (is_line_end (get_or w m 0)) (b.last (omega (arith, a.within))) (a.line_ends m less))
     ]
 
 -- no head lies before the first one
 pub head_after : (w : List ℕ) (head n : ℕ) → IsHead w head → HasNoHead w n → n < head
 head_after w head n h none =
     elim (cases_order n head) [
-      | inl same ↦ absurd (both_ways (empty_line_ends w (head - 1)) (none (head - 1) (omega (arith, h.some, same))) h.ends)
+      | inl same ↦
+          absurd (both_ways (empty_line_ends w (head - 1)) (none (head - 1) (omega (arith, h.some, same))) h.ends)
       | inr (inl less) ↦ less
-      | inr (inr more) ↦ absurd (both_ways (empty_line_ends w (head - 1)) (none (head - 1) (omega (arith, h.some))) h.ends)
+      | inr (inr more) ↦
+          absurd (both_ways (empty_line_ends w (head - 1)) (none (head - 1) (omega (arith, h.some))) h.ends)
     ]
 
 pub head_once : (w : List ℕ) (a b : ℕ) → IsHead w a → IsHead w b → a ≡ b
@@ -45,7 +50,8 @@ line_once {w} {at} {n} {n'} a b =
     a.text ∙ rw next (sym b.text)
 
 pub no_line_end : (w : List ℕ) (at e n : ℕ) → IsLine w at e n → HasNoLine w at → ⊥
-no_line_end w at e n line none = none (n - 1) (omega (arith, line.after)) (omega (arith, line.after, line.within)) line.feed
+no_line_end w at e n line none =
+    none (n - 1) (omega (arith, line.after)) (omega (arith, line.after, line.within)) line.feed
 
 pub value_once : (w : List ℕ) (at a b : ℕ) → IsWrittenAt w at a → IsWrittenAt w at b → a ≡ b
 value_once w at a b (inl x) (inl y) =
@@ -122,7 +128,8 @@ pub more_request : (w : List ℕ) (n : ℕ) → IsFirst w (Ok (Message n)) → I
 more_request w n h (inl e) = omega (arith, h.0.0, e)
 more_request w n h (inr (inl b)) = clash_block_request w b.0 h.0
 more_request w n h (inr (inr (s, inl x))) = clash_short w h.1.head h.1.is_head x.0
-more_request w n h (inr (inr (s, inr y))) = let same : n ≡ y.0 = total_once w n y.0 h.1 y.1.0 in omega (arith, same, y.1.1, h.2)
+more_request w n h (inr (inr (s, inr y))) = let same : n ≡ y.0 = total_once w n y.0 h.1 y.1.0 in
+    omega (arith, same, y.1.1, h.2)
 
 pub more_headless : (w : List ℕ) → IsFirst w (Err HeadTooLong) → IsFirst w (Ok More) → ⊥
 more_headless w h (inl e) = omega (arith, h.0.0, e)

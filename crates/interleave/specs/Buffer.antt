@@ -1,12 +1,13 @@
 -- How the waiting bytes are kept.
 use Rattle.std.specs.Prelude.{◌≤◌, drop, vec_len, vec_capacity}
 use Rattle.interleave.specs.Known.{IsKnown}
+use Rattle.interleave.specs.declared.demux.TheConstants.{ROOM}
 use Rattle.interleave.specs.declared.demux.Demux.TheInside.{Inside}
 
--- what waits are the bytes from `start` on, at most 131,072 with those before it, all in reserved
--- memory
+-- what waits are the bytes from `start` on, with those before it no more than there is room for, all
+-- in reserved memory
 pub record IsBuffer (d : Inside) : Type 0 where
   pub start : d.start ≤ vec_len d.bytes
-  pub most : vec_len d.bytes ≤ 131072
-  pub room : 131072 ≤ vec_capacity d.bytes
+  pub most : vec_len d.bytes ≤ ROOM
+  pub room : ROOM ≤ vec_capacity d.bytes
   pub known : IsKnown (drop d.start d.bytes.items) d.known

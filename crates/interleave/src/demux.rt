@@ -8,13 +8,14 @@ ghost use Rattle.interleave.specs.Heads.{is_line_end};
 ghost use Rattle.interleave.specs.declared.elements.Step.{Step};
 
 use crate::elements::{DemuxFault, Step, is_line_end};
-use crate::requests::{Known, learn, request_step};
+use crate::lengths::MAX_BODY_BYTES;
+use crate::requests::{Known, MAX_HEAD_BYTES, learn, request_step};
 use std::alloc::Global;
 use std::marker::Model;
 use thiserror::Error;
-use vod_base::NoMemory;
+use vod_base::{NoMemory, move_to_front};
 
-/// More than 131,072 bytes would wait.
+/// More than [`ROOM`] bytes would wait.
 #[derive(Clone, Copy, Debug, PartialEq, Eq, Error)]
 #[error("too many bytes wait")]
 pub struct TooMuchInput;
@@ -30,8 +31,8 @@ pub struct Demux {
     known: Known,
 }
 
-/// The most bytes that wait.
-const ROOM: usize = 131_072;
+/// The most bytes that wait in a [`Demux`].
+pub const ROOM: usize = 131_072;
 
 impl Model for Demux {
     ghost use Rattle.std.specs.Prelude.{ℕ, List, drop};
@@ -46,7 +47,7 @@ impl Model for Demux {
 }
 
 impl Demux {
-    /// Reserves room for 131,072 bytes; no other call takes memory.
+    /// Reserves room for [`ROOM`] bytes; no other call takes memory.
     pub fn new(alloc: Global) -> Result<Demux, NoMemory>
         ensures { IfOk result (λ demux. demux ≡ []) }
     {
@@ -65,9 +66,9 @@ impl Demux {
         &self.bytes[self.start..]
     }
 
-    /// Appends bytes, or changes nothing where more than 131,072 would wait.
+    /// Appends bytes, or changes nothing where more than [`ROOM`] would wait.
     pub fn put(&mut self, bytes: &[u8]) -> Result<(), TooMuchInput>
-        ensures fault { is_err result ≡ nat_lt 131072 (length self.old + length bytes.now) }
+        ensures fault { is_err result ≡ nat_lt ROOM (length self.old + length bytes.now) }
         ensures waiting { self.new ≡ (if is_err result then self.old else self.old ++ bytes.now) }
     {
         let waiting = self.bytes.len() - self.start;
@@ -85,11 +86,11 @@ impl Demux {
     ///
     /// The answer follows from the waiting bytes alone. What was read of a request is remembered,
     /// so that a call reads on where the last one ended. While nothing whole stands in front, fewer
-    /// than 81,920 bytes wait: a head has at most 16,384 and a body at most 65,536.
+    /// bytes wait than the most of a head and of a body together.
     pub fn look(&mut self) -> Result<Step, DemuxFault>
         ensures waiting { self.new ≡ self.old }
         ensures first { IsFirst self.old result }
-        ensures few { result ≡ Ok Step.More → length self.old < 81920 }
+        ensures few { result ≡ Ok Step.More → length self.old < MAX_HEAD_BYTES + MAX_BODY_BYTES }
     {
         let waiting = self.waiting_bytes();
         let Some(front) = waiting.first() else {
@@ -133,7 +134,7 @@ fn line_ends(bytes: &[u8]) -> usize
 fn block_step(bytes: &[u8]) -> Step
     requires { StartsBlock bytes.now }
     ensures first { IsFirst bytes.now (Ok result) }
-    ensures few { result ≡ Step.More → length bytes.now < 81920 }
+    ensures few { result ≡ Step.More → length bytes.now < MAX_HEAD_BYTES + MAX_BODY_BYTES }
 {
     if bytes.len() < 4 {
         return Step::More;
@@ -146,25 +147,14 @@ fn block_step(bytes: &[u8]) -> Step
     }
 }
 
-/// Moves what stands from `start` on to the front, and leaves nothing else.
-fn move_to_front(bytes: &mut Vec<u8>, start: usize)
-    requires { start ≤ length bytes.old.items }
-    ensures items { bytes.new.items ≡ drop start bytes.old.items }
-    ensures capacity { vec_capacity bytes.new ≡ vec_capacity bytes.old }
-{
-    let left = bytes.len() - start;
-    bytes.copy_within(start.., 0);
-    bytes.truncate(left);
-}
-
 /// Makes room for more bytes, and answers where those that wait begin now.
 fn make_room(bytes: &mut Vec<u8>, start: usize, more: usize) -> usize
     requires start { start ≤ length bytes.old.items }
-    requires most { length bytes.old.items ≤ 131072 }
-    requires fits { length bytes.old.items + more ≤ 131072 + start }
+    requires most { length bytes.old.items ≤ ROOM }
+    requires fits { length bytes.old.items + more ≤ ROOM + start }
     ensures waiting { drop result bytes.new.items ≡ drop start bytes.old.items }
     ensures start { result ≤ length bytes.new.items }
-    ensures room { length bytes.new.items + more ≤ 131072 }
+    ensures room { length bytes.new.items + more ≤ ROOM }
     ensures capacity { vec_capacity bytes.new ≡ vec_capacity bytes.old }
 {
     if more <= ROOM - bytes.len() {

@@ -20,10 +20,10 @@ pub enum Step {
 /// Why the waiting bytes can't begin a message.
 #[derive(Clone, Copy, Debug, PartialEq, Eq, Error)]
 pub enum DemuxFault {
-    /// The first 16,384 bytes of a request have no empty line.
+    /// The first [`crate::MAX_HEAD_BYTES`] bytes of a request have no empty line.
     #[error("the head of a request is too long")]
     HeadTooLong,
-    /// The first Content-Length of a request is all digits and above 65,536.
+    /// The first Content-Length of a request is all digits and above [`crate::MAX_BODY_BYTES`].
     #[error("the body of a request is too long")]
     BodyTooLong,
 }

@@ -9,39 +9,29 @@ ghost use Rattle.interleave.specs.declared.elements.Step.{Step};
 ghost use Rattle.interleave.specs.Elements.{IsFirst, IsLongerSkip, IsWholeElement};
 
 use crate::demux::Demux;
-use crate::elements::{DemuxFault, Step};
+use crate::lengths::MAX_BODY_BYTES;
+use crate::requests::MAX_HEAD_BYTES;
 
 /// Where a whole element or a fault stands in front of the waiting bytes, it stands there whatever
 /// comes later: the elements of a stream don't depend on how its bytes were cut.
-pub fn law_later_bytes(waiting: &[u8], later: &[u8], answer: Result<Step, DemuxFault>)
-    requires first { IsFirst waiting.now answer }
-    requires whole { IsWholeElement waiting.now answer }
-    ensures { IsFirst (waiting.now ++ later.now) answer }
-{
-    let _read = (waiting.len(), later.len(), answer);
-}
+pub fn law_later_bytes()
+    ensures { (waiting later : List ℕ) (answer : Result Step DemuxFault) →
+        IsFirst waiting answer → IsWholeElement waiting answer →
+        IsFirst (waiting ++ later) answer }
+{}
 
 /// One list of waiting bytes has one answer.
-pub fn law_one_answer(
-    waiting: &[u8],
-    one: Result<Step, DemuxFault>,
-    other: Result<Step, DemuxFault>,
-)
-    requires one { IsFirst waiting.now one }
-    requires other { IsFirst waiting.now other }
-    ensures { one ≡ other }
-{
-    let _read = (waiting.len(), one, other);
-}
+pub fn law_one_answer()
+    ensures { (waiting : List ℕ) (one other : Result Step DemuxFault) →
+        IsFirst waiting one → IsFirst waiting other → one ≡ other }
+{}
 
 /// Where bytes CR and LF stand in front, at least these stand there whatever comes later.
-pub fn law_skipping(waiting: &[u8], later: &[u8], count: usize, answer: Result<Step, DemuxFault>)
-    requires skip { IsFirst waiting.now (Ok (Step.Skip count)) }
-    requires first { IsFirst (waiting.now ++ later.now) answer }
-    ensures { IsLongerSkip count answer }
-{
-    let _read = (waiting.len(), later.len(), count, answer);
-}
+pub fn law_skipping()
+    ensures { (waiting later : List ℕ) (count : ℕ) (answer : Result Step DemuxFault) →
+        IsFirst waiting (Ok (Step.Skip count)) → IsFirst (waiting ++ later) answer →
+        IsLongerSkip count answer }
+{}
 
 /// The elements of a stream stay whatever comes later, which only lengthens the rest.
 pub fn law_stream_grows()
@@ -99,10 +89,10 @@ pub fn law_block()
         (content ++ later)) (Ok (Step.Block channel (4 + length content))) }
 {}
 
-/// Where neither a whole element nor a fault is in front, fewer than 81,920 bytes wait: a head has at
-/// most 16,384, and a body at most 65,536.
+/// Where neither a whole element nor a fault is in front, fewer bytes wait than the most of a head
+/// and of a body together.
 pub fn law_few_wait(demux: &Demux)
-    ensures { IsFirst demux.now (Ok Step.More) → length demux.now < 81920 }
+    ensures { IsFirst demux.now (Ok Step.More) → length demux.now < MAX_HEAD_BYTES + MAX_BODY_BYTES }
 {
     // the contracts of these two calls bound how many bytes a block's head tells
     let waiting = demux.waiting_bytes();

@@ -8,12 +8,12 @@ use vod_base::{NumberFault, line_end, read_number, trim};
 /// The name of the header field, with the colon after it.
 const CONTENT_LENGTH: &[u8; 15] = b"Content-Length:";
 
-/// The most bytes of a body.
-const MAX_BODY: u64 = 65_536;
+/// The most bytes of a message's body.
+pub const MAX_BODY_BYTES: usize = 65_536;
 
-/// The length of the body of a message with this head, or None where it is above 65,536.
+/// The length of the body of a message with this head, or None where it is above [`MAX_BODY_BYTES`].
 pub(crate) fn body_length(head: &[u8]) -> Option<usize>
-    ensures { MatchOption result (IsLongBody head.now) (λ n. (n ≤ 65536)
+    ensures { MatchOption result (IsLongBody head.now) (λ n. (n ≤ MAX_BODY_BYTES)
         × IsBodyLength head.now n) }
 {
     for at in 0..head.len() {
@@ -24,13 +24,13 @@ pub(crate) fn body_length(head: &[u8]) -> Option<usize>
     Some(0)
 }
 
-/// The length that a value writes, or None where it is above 65,536.
+/// The length that a value writes, or None where it is above [`MAX_BODY_BYTES`].
 fn length_of_value(value: &[u8]) -> Option<usize>
-    ensures { MatchOption result (65536 < written_length value.now) (λ n. (n ≤ 65536)
+    ensures { MatchOption result (MAX_BODY_BYTES < written_length value.now) (λ n. (n ≤ MAX_BODY_BYTES)
         × (n ≡ written_length value.now)) }
 {
     match read_number(value) {
-        Ok(length) if length <= MAX_BODY => Some(length as usize),
+        Ok(length) if length <= MAX_BODY_BYTES as u64 => Some(length as usize),
         Ok(_) | Err(NumberFault::TooLarge) => None,
         Err(_) => Some(0),
     }
@@ -47,10 +47,10 @@ fn is_length_line(head: &[u8], at: usize) -> bool
         && head[at..at + CONTENT_LENGTH.len()].eq_ignore_ascii_case(CONTENT_LENGTH)
 }
 
-/// The length that stands at `at`, after the name, or None where it is above 65,536.
+/// The length that stands at `at`, after the name, or None where it is above [`MAX_BODY_BYTES`].
 fn length_at(head: &[u8], at: usize) -> Option<usize>
     requires { at ≤ length head.now }
-    ensures { MatchOption result (IsLongAt head.now at) (λ n. (n ≤ 65536)
+    ensures { MatchOption result (IsLongAt head.now at) (λ n. (n ≤ MAX_BODY_BYTES)
         × IsWrittenAt head.now at n) }
 {
     match line_end(head, at) {

@@ -8,7 +8,7 @@ ghost use Rattle.interleave.specs.Elements.{IsFirst, StartsMessage};
 ghost use Rattle.interleave.specs.Known.{IsKnown, IsSettled};
 
 use crate::elements::{DemuxFault, Step};
-use crate::lengths::body_length;
+use crate::lengths::{MAX_BODY_BYTES, body_length};
 
 /// What is kept about the request in front of the waiting bytes.
 #[derive(Clone, Copy)]
@@ -19,8 +19,8 @@ pub(crate) enum Known {
     Length(usize),
 }
 
-/// The most bytes of a head, with its empty line.
-const MAX_HEAD: usize = 16_384;
+/// The most bytes of a message's head, with its empty line.
+pub const MAX_HEAD_BYTES: usize = 16_384;
 
 /// Learns what the waiting bytes tell of the request in front.
 pub(crate) fn learn(bytes: &[u8], known: Known) -> Result<Known, DemuxFault>
@@ -31,10 +31,10 @@ pub(crate) fn learn(bytes: &[u8], known: Known) -> Result<Known, DemuxFault>
     let Known::Searched(from) = known else {
         return Ok(known);
     };
-    let to = bytes.len().min(MAX_HEAD);
+    let to = bytes.len().min(MAX_HEAD_BYTES);
     match find_head(bytes, from, to) {
         Some(head) => length_with_head(bytes, head),
-        None if to == MAX_HEAD => Err(DemuxFault::HeadTooLong),
+        None if to == MAX_HEAD_BYTES => Err(DemuxFault::HeadTooLong),
         None => Ok(Known::Searched(to)),
     }
 }
@@ -44,7 +44,7 @@ pub(crate) fn request_step(bytes: &[u8], known: Known) -> Step
     requires request { StartsMessage bytes.now }
     requires known { IsSettled bytes.now known }
     ensures first { IsFirst bytes.now (Ok result) }
-    ensures few { result ≡ Step.More → length bytes.now < 81920 }
+    ensures few { result ≡ Step.More → length bytes.now < MAX_HEAD_BYTES + MAX_BODY_BYTES }
 {
     match known {
         Known::Length(total) => {
@@ -89,7 +89,7 @@ fn find_head(bytes: &[u8], from: usize, to: usize) -> Option<usize>
 fn length_with_head(bytes: &[u8], head: usize) -> Result<Known, DemuxFault>
     requires request { StartsMessage bytes.now }
     requires is_head { IsHead bytes.now head }
-    requires fits { head ≤ 16384 }
+    requires fits { head ≤ MAX_HEAD_BYTES }
     ensures { MatchResult result (IsSettled bytes.now) (λ f. IsFirst bytes.now (Err f)) }
 {
     match body_length(&bytes[..head]) {

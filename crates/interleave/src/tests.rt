@@ -162,9 +162,9 @@ fn limits_what_waits(rt: HostRuntime) -> Result<(), Fail> {
 /// skipped.
 #[test]
 fn answers_stay(rt: HostRuntime) -> Result<(), Fail> {
-    law_later_bytes(b"$\x00\x00\x00", b"x", Ok(Step::Block(0, 4)));
-    law_skipping(b"\r", b"\n", 1, Ok(Step::Skip(2)));
-    law_one_answer(b"", Ok(Step::More), Ok(Step::More));
+    law_later_bytes();
+    law_skipping();
+    law_one_answer();
     for (waiting, later, early, late) in [
         (
             "$\x00\x00\x00",

@@ -2,4 +2,4 @@ use Rattle.interleave.proofs.Cuts.{whole_stays}
 use Rattle.interleave.proofs.laws.law_later_bytes.Goals as goal
 
 pub returns : goal.returns
-returns c = whole_stays c.args.waiting.now c.args.later.now c.args.answer c.requires.first c.requires.whole
+returns c = whole_stays

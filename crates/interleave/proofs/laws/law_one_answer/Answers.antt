@@ -2,4 +2,4 @@ use Rattle.interleave.proofs.Unique.{answer_once}
 use Rattle.interleave.proofs.laws.law_one_answer.Goals as goal
 
 pub returns : goal.returns
-returns c = answer_once c.args.waiting.now c.args.one c.args.other c.requires.one c.requires.other
+returns c = answer_once
