@@ -1,11 +1,14 @@
 -- The length of the body that the fields of a head give, where the head is spelled line by line.
-use Rattle.std.proofs.Common.{◌≡◌, ℕ, ◌+◌, ◌-◌, ◌<◌, ◌==◌, true, not, List, [], ◌∷◌, ◌++◌, All, codes, map, length, get_or, take, drop, Option, Some, None, refl, sym, ap, subst, ◌∙◌, arith, inl, inr, slice_range}
+use Rattle.std.proofs.Common.{◌≡◌, ℕ, ◌+◌, ◌-◌, ◌<◌, ◌==◌, true, not, List, [], ◌∷◌, ◌++◌, All, codes, map, length}
+use Rattle.std.proofs.Common.{get_or, take, drop, Option, Some, None, refl, sym, ap, subst, ◌∙◌, arith, inl, inr}
+use Rattle.std.proofs.Common.{slice_range}
 use Rattle.std.specs.List.{list_all}
 use Rattle.std.specs.Char.{to_ascii_lowercase}
 use Rattle.std.specs.Str.{str_eq_ignore_ascii_case}
 use Rattle.std.specs.Cmp.Lexicographic.{same_text, other_text}
 use Rattle.std.proofs.lemmas.Bool.{cases_Bool, cases_lt, cases_eq, cond-true, cond-false, and_from, and_parts}
-use Rattle.std.proofs.lemmas.List.{append_assoc, length-append, length-map, map-append, take_at, drop_at, take-append-drop, get_or_append_left, get_or-append_right}
+use Rattle.std.proofs.lemmas.List.{append_assoc, length-append, length-map, map-append, take_at, drop_at}
+use Rattle.std.proofs.lemmas.List.{take-append-drop, get_or_append_left, get_or-append_right}
 use Rattle.std.proofs.lemmas.List.Elements.{All-head, All-tail}
 use Rattle.vod_base.specs.Blanks.{without_blanks}
 use Rattle.vod_base.specs.Lines.{IsLine}
@@ -80,7 +83,8 @@ named_line a name value rest ended same = record {
   after = ended.some;
   begins = get_or_append_left a (name ++ 58 ∷ 32 ∷ (value ++ 13 ∷ 10 ∷ rest)) 0 (length a - 1)
       (omega (arith, ended.some)) ∙ ended.feed;
-  name = ap (map to_ascii_lowercase) (begin_slice a name value rest) ∙ name_same name (32 ∷ (value ++ 13 ∷ 10 ∷ rest)) same;
+  name = ap (map to_ascii_lowercase) (begin_slice a name value rest)
+      ∙ name_same name (32 ∷ (value ++ 13 ∷ 10 ∷ rest)) same;
 }
 
 other_line : (a name value rest : List ℕ) → list_all (λ b. not (b == 58)) name ≡ true →
@@ -136,10 +140,15 @@ length_given (Some value) = written_length value
 -- the lines from here on give this length, where no line before gives one
 scan : (a : List ℕ) (fields : List Field) → All IsPlain fields → EndsWithFeed a →
     ((k : ℕ) → k < length a → ¬ IsLengthLine (a ++ (flat (map text_of fields) ++ codes "\r\n")) k) →
-    IsBodyLength (a ++ (flat (map text_of fields) ++ codes "\r\n")) (length_given (value_named (codes "Content-Length") fields))
+    IsBodyLength (a ++ (flat (map text_of fields) ++ codes "\r\n"))
+    (length_given (value_named (codes "Content-Length") fields))
 unfolding value_named
 scan a [] all ended none =
-    inr ((λ k line. none k (omega (arith, name_within (a ++ codes "\r\n") k line, length-append a (codes "\r\n"))) line), refl)
+    inr (
+      (λ k line. none k
+          (omega (arith, name_within (a ++ codes "\r\n") k line, length-append a (codes "\r\n"))) line),
+      refl,
+    )
 scan a (f ∷ fs) all ended none =
     let plain = All-head IsPlain f fs all in
     let rest = flat (map text_of fs) ++ codes "\r\n" in
@@ -155,11 +164,13 @@ scan a (f ∷ fs) all ended none =
     let given : Option (List ℕ) → Type 0 = λ o. IsBodyLength w (length_given o) in
     elim (cases_Bool (str_eq_ignore_ascii_case f.name (codes "Content-Length"))) [
       | inl same ↦ (
-          let lower = same_text (map to_ascii_lowercase f.name) (map to_ascii_lowercase (codes "Content-Length")) (sym same) in
+          let lower =
+          same_text (map to_ascii_lowercase f.name) (map to_ascii_lowercase (codes "Content-Length")) (sym same) in
           let size : length f.name ≡ 14 = sym (length-map f.name to_ascii_lowercase) ∙ ap length lower in
           let here : IsLengthGiven w (written_length f.value) = record {
             at = length a;
-            is_line = subst (λ (v : List ℕ). IsLengthLine v (length a)) spelled (named_line a f.name f.value rest ended lower);
+            is_line = subst (λ (v : List ℕ). IsLengthLine v (length a)) spelled
+                (named_line a f.name f.value rest ended lower);
             first = none;
             value = inl (subst (λ (v : List ℕ). IsValueAt v (length a + 15) (written_length f.value)) spelled
                 (value_at a f.name rest size plain.one_line plain.bare));
@@ -181,7 +192,8 @@ scan a (f ∷ fs) all ended none =
             | inl before ↦ none k before line_w
             | inr from ↦ elim (cases_eq k (length a)) [
               | inl here ↦
-                  other_text (map to_ascii_lowercase f.name) (map to_ascii_lowercase (codes "Content-Length")) (sym other)
+                  other_text (map to_ascii_lowercase f.name) (map to_ascii_lowercase (codes "Content-Length"))
+                  (sym other)
                   (other_line a f.name f.value rest (token_without 58 refl f.name plain.name_is)
                   (subst (λ n. IsLengthLine (line_bytes a f.name f.value rest) n) here
                   (subst (λ (v : List ℕ). IsLengthLine v k) (sym spelled) line_w)))
@@ -190,7 +202,8 @@ scan a (f ∷ fs) all ended none =
                   (subst (λ (v : List ℕ). IsLengthLine v k) (sym shape) line_w)
             ]
           ] in
-          let there = scan next fs (All-tail IsPlain f fs all) (record { some = omega (arith, size); feed = last }) none_next in
+          let there =
+          scan next fs (All-tail IsPlain f fs all) (record { some = omega (arith, size); feed = last }) none_next in
           subst given (sym
           (cond-false (str_eq_ignore_ascii_case f.name (codes "Content-Length")) (Some f.value)
           (value_named (codes "Content-Length") fs) other))
@@ -207,7 +220,8 @@ scan a (f ∷ fs) all ended none =
 
 -- the head whose first line is this text and whose fields are these gives this length
 pub body_length_of : (s : List ℕ) (fields : List Field) → IsLineText s → All IsPlain fields →
-    IsBodyLength (flat (s ∷ map text_of fields) ++ codes "\r\n") (length_given (value_named (codes "Content-Length") fields))
+    IsBodyLength (flat (s ∷ map text_of fields) ++ codes "\r\n")
+    (length_given (value_named (codes "Content-Length") fields))
 body_length_of s fields one all =
     let a = s ++ codes "\r\n" in
     let rest = flat (map text_of fields) ++ codes "\r\n" in

@@ -1,5 +1,6 @@
 -- The bounds of a request's parts.
-use Rattle.std.proofs.Common.{◌≡◌, ℕ, ◌<◌, ◌≤◌, List, [], ◌∷◌, ◌++◌, length, take, Result, Ok, Err, refl, ap, subst, ◌∙◌, arith}
+use Rattle.std.proofs.Common.{◌≡◌, ℕ, ◌<◌, ◌≤◌, List, [], ◌∷◌, ◌++◌, length, take, Result, Ok, Err, refl, ap, subst}
+use Rattle.std.proofs.Common.{◌∙◌, arith}
 use Rattle.std.specs.Prelude.{IfOk}
 use Rattle.std.proofs.lemmas.List.{length-append, take_at}
 use Rattle.interleave.specs.Lengths.{IsBodyLength}
@@ -22,7 +23,8 @@ lengths_of message head body whole split =
     let same : whole.head ≡ length head = head_once message whole.head (length head) whole.is_head split.is_head in
     let front : take whole.head message ≡ head =
     ap (λ n. take n message) same ∙ ap (take (length head)) split.parts ∙ take_at head body (length head) refl in
-    let long : whole.body ≡ length body = omega (arith, same, whole.total_is, ap length split.parts, length-append head body) in
+    let long : whole.body ≡ length body =
+    omega (arith, same, whole.total_is, ap length split.parts, length-append head body) in
     record {
       head_short = omega (arith, same, whole.fits);
       body_is = subst (λ n. IsBodyLength head n) long (subst (λ h. IsBodyLength h whole.body) front whole.is_body);
@@ -51,22 +53,26 @@ pub record RequestParts (X : Type 0) : Type 0 where
   pub sequence : X → ℕ
 
 abbrev pub IsRequestOf : {X : Type 0} → RequestParts X → List ℕ → X → Type 0
-IsRequestOf parts message x = IsRequest message (parts.method x) (parts.url x) (parts.sequence x) (parts.head x) (parts.body x)
+IsRequestOf parts message x =
+    IsRequest message (parts.method x) (parts.url x) (parts.sequence x) (parts.head x) (parts.body x)
 
 -- the same of what was read
 pub read_head : {X E : Type 0} (message : List ℕ) (parts : RequestParts X) (r : Result X E) →
     IsMessageLength message (length message) →
     IfOk r (IsRequestOf parts message) → IfOk r (λ x. length (parts.head x) ≤ 16384)
-read_head message parts (Ok x) whole read = (lengths_of message (parts.head x) (parts.body x) whole read.split).head_short
+read_head message parts (Ok x) whole read =
+    (lengths_of message (parts.head x) (parts.body x) whole read.split).head_short
 read_head message parts (Err e) whole read = tt
 
 pub read_body : {X E : Type 0} (message : List ℕ) (parts : RequestParts X) (r : Result X E) →
     IsMessageLength message (length message) →
     IfOk r (IsRequestOf parts message) → IfOk r (λ x. length (parts.body x) ≤ 65536)
-read_body message parts (Ok x) whole read = (lengths_of message (parts.head x) (parts.body x) whole read.split).body_short
+read_body message parts (Ok x) whole read =
+    (lengths_of message (parts.head x) (parts.body x) whole read.split).body_short
 read_body message parts (Err e) whole read = tt
 
-pub read_url : {X E : Type 0} (message : List ℕ) (parts : RequestParts X) (r : Result X E) → IfOk r (IsRequestOf parts message) →
+pub read_url : {X E : Type 0} (message : List ℕ) (parts : RequestParts X) (r : Result X E)
+    → IfOk r (IsRequestOf parts message) →
     IfOk r (λ x. length (parts.url x) < length (parts.head x))
 read_url message parts (Ok x) read = url_short read.split read.line
 read_url message parts (Err e) read = tt

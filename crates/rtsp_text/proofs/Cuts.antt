@@ -1,5 +1,6 @@
 -- A text is cut at its first byte of a kind in one way.
-use Rattle.std.proofs.Common.{◌≡◌, ◌≢◌, ℕ, ◌&&◌, ◌==◌, Bool, true, false, not, List, [], ◌∷◌, ◌++◌, refl, sym, ap, ◌∙◌, ne_eqb, eq-eqb}
+use Rattle.std.proofs.Common.{◌≡◌, ◌≢◌, ℕ, ◌&&◌, ◌==◌, Bool, true, false, not, List, [], ◌∷◌, ◌++◌, refl, sym, ap}
+use Rattle.std.proofs.Common.{◌∙◌, ne_eqb, eq-eqb}
 use Rattle.std.specs.List.{list_all}
 use Rattle.std.proofs.lemmas.Bool.{and_from, and_parts, both_ways}
 use Rattle.std.proofs.lemmas.List.Folds.{list_all-append}
@@ -12,7 +13,8 @@ is_other x c h e = both_ways (not (x == c)) (ap not (eq-eqb x c e)) h
 pub other_is : (x c : ℕ) → x ≢ c → not (x == c) ≡ true
 other_is x c other = ap not (ne_eqb x c other)
 
-pub cut_none : (c : ℕ) (text front after : List ℕ) → list_all (λ b. not (b == c)) text ≡ true → text ≡ front ++ c ∷ after → ⊥
+pub cut_none : (c : ℕ) (text front after : List ℕ) → list_all (λ b. not (b == c)) text ≡ true
+    → text ≡ front ++ c ∷ after → ⊥
 cut_none c text front after none e =
     let all : (list_all (λ b. not (b == c)) front && (not (c == c) && list_all (λ b. not (b == c)) after)) ≡ true =
     sym (list_all-append (λ b. not (b == c)) front (c ∷ after)) ∙ ap (list_all (λ b. not (b == c))) (sym e) ∙ none in

@@ -1,5 +1,6 @@
 -- A head of lines that end with LF or CR LF is found.
-use Rattle.std.proofs.Common.{◌≡◌, ◌≢◌, ℕ, ◌+◌, ◌-◌, ◌<◌, ◌≤◌, ◌&&◌, ◌==◌, Bool, true, false, nat_lt, List, [], ◌∷◌, ◌++◌, All, flat_map, length, get_or, refl, sym, ap, subst, ◌∙◌, arith, inl, inr, ne_eqb}
+use Rattle.std.proofs.Common.{◌≡◌, ◌≢◌, ℕ, ◌+◌, ◌-◌, ◌<◌, ◌≤◌, ◌&&◌, ◌==◌, Bool, true, false, nat_lt, List, [], ◌∷◌}
+use Rattle.std.proofs.Common.{◌++◌, All, flat_map, length, get_or, refl, sym, ap, subst, ◌∙◌, arith, inl, inr, ne_eqb}
 use Rattle.std.proofs.lemmas.Bool.{cases_lt, cond-false}
 use Rattle.std.proofs.lemmas.Bool.Decides.{nat_tests}
 use Rattle.std.proofs.lemmas.List.{append_assoc, length-append, get_or_append_left, get_or-append_right}
@@ -26,7 +27,8 @@ line_here_lf a t rest one bare =
       within = omega (arith, size);
       feed = get_or-append_right a (t ++ 10 ∷ rest) (length a) (length a + length t + 1 - 1) 0 refl (omega arith)
           ∙ get_or-append_right t (10 ∷ rest) (length t) (length a + length t + 1 - 1 - length a) 0 refl (omega arith)
-          ∙ ap (λ n. get_or (10 ∷ rest) n 0) (let n : length a + length t + 1 - 1 - length a - length t ≡ 0 = omega arith in n);
+          ∙ ap (λ n. get_or (10 ∷ rest) n 0)
+          (let n : length a + length t + 1 - 1 - length a - length t ≡ 0 = omega arith in n);
       first = λ k from below feed. other_byte t (k - length a) one (omega (arith, from, below))
           (sym (here k from (omega (arith, below))) ∙ feed);
       text = (let e : length a + length t ≡ length a + length t + 1 - 1 = omega arith in e)
@@ -36,7 +38,8 @@ line_here_lf a t rest one bare =
           (length a + length t + 1 - 1) (no_cr here));
     }
   where
-    no_cr : ((k : ℕ) → length a ≤ k → k < length a + length t → get_or (a ++ (t ++ 10 ∷ rest)) k 0 ≡ get_or t (k - length a) 0) →
+    no_cr : ((k : ℕ) → length a ≤ k → k < length a + length t
+        → get_or (a ++ (t ++ 10 ∷ rest)) k 0 ≡ get_or t (k - length a) 0) →
         (nat_lt (length a + 1) (length a + length t + 1)
         && (get_or (a ++ (t ++ 10 ∷ rest)) (length a + length t + 1 - 2) 0 == 13)) ≡ false
     no_cr here =
@@ -48,7 +51,8 @@ line_here_lf a t rest one bare =
               omega (arith, some) in n) in
               right (nat_lt (length a + 1) (length a + length t + 1))
               (get_or (a ++ (t ++ 10 ∷ rest)) (length a + length t + 1 - 2) 0 == 13)
-              (ne_eqb (get_or (a ++ (t ++ 10 ∷ rest)) (length a + length t + 1 - 2) 0) 13 (λ e. bare some (sym same ∙ e)))
+              (ne_eqb (get_or (a ++ (t ++ 10 ∷ rest)) (length a + length t + 1 - 2) 0) 13
+              (λ e. bare some (sym same ∙ e)))
               )
           | inr none ↦
               left (nat_lt (length a + 1) (length a + length t + 1))
@@ -68,9 +72,11 @@ line_here_lf a t rest one bare =
 
 -- the line that stands after these bytes, however it ends
 crlf_here : (a t rest : List ℕ) → is_one_line t ≡ true
-    → IsLine (a ++ ((t ++ 13 ∷ 10 ∷ []) ++ rest)) (length a) (length a + length t) (length a + length (t ++ 13 ∷ 10 ∷ []))
+    → IsLine (a ++ ((t ++ 13 ∷ 10 ∷ []) ++ rest)) (length a) (length a + length t)
+    (length a + length (t ++ 13 ∷ 10 ∷ []))
 crlf_here a t rest one =
-    let size : length a + length t + 2 ≡ length a + length (t ++ 13 ∷ 10 ∷ []) = omega (arith, length-append t (13 ∷ 10 ∷ [])) in
+    let size : length a + length t + 2 ≡ length a + length (t ++ 13 ∷ 10 ∷ []) =
+    omega (arith, length-append t (13 ∷ 10 ∷ [])) in
     subst (λ n. IsLine (a ++ ((t ++ 13 ∷ 10 ∷ []) ++ rest)) (length a) (length a + length t) n) size
     (subst (λ (w : List ℕ). IsLine (a ++ w) (length a) (length a + length t) (length a + length t + 2))
     (sym (append_assoc t (13 ∷ 10 ∷ []) rest)) (line_here a t rest one))
@@ -84,7 +90,8 @@ lf_here a t rest one bare =
     (sym (append_assoc t (10 ∷ []) rest)) (line_here_lf a t rest one bare))
 
 here : (a : List ℕ) (line : EndedLine) (rest : List ℕ) → IsEnded line
-    → IsLine (a ++ (line_bytes line ++ rest)) (length a) (length a + length line.text) (length a + length (line_bytes line))
+    → IsLine (a ++ (line_bytes line ++ rest)) (length a) (length a + length line.text)
+    (length a + length (line_bytes line))
 here a line rest ended =
     let P : List ℕ → Type 0 =
     λ e. IsLine (a ++ ((line.text ++ e) ++ rest)) (length a) (length a + length line.text)
@@ -124,10 +131,12 @@ walk a (l ∷ ls) rest all at =
     let start : IsAfterLine ((a ++ line_bytes l) ++ tail) (length (a ++ line_bytes l)) =
     subst (λ (v : List ℕ). IsAfterLine v (length (a ++ line_bytes l))) moved (subst (λ k. IsAfterLine w k) size next) in
     let end = walk (a ++ line_bytes l) ls rest (All-tail IsHeader l ls all) start in
-    let total : length (a ++ line_bytes l) + length (flat_map line_bytes ls) ≡ length a + length (flat_map line_bytes (l ∷ ls)) =
+    let total : length (a ++ line_bytes l) + length (flat_map line_bytes ls)
+    ≡ length a + length (flat_map line_bytes (l ∷ ls)) =
     omega (arith, length-append a (line_bytes l), length-append (line_bytes l) (flat_map line_bytes ls)) in
     subst (λ k. IsAfterLine w k) total
-    (subst (λ (v : List ℕ). IsAfterLine v (length (a ++ line_bytes l) + length (flat_map line_bytes ls))) (sym moved) end)
+    (subst (λ (v : List ℕ). IsAfterLine v (length (a ++ line_bytes l) + length (flat_map line_bytes ls)))
+    (sym moved) end)
 
 -- the lines of a head
 pub record AreHeadLines (first : EndedLine) (headers : List EndedLine) (last : EndedLine) : Type 0 where
@@ -150,7 +159,8 @@ head_found {first} {headers} {last} later lines =
     let next : 0 + length a ≡ length a = omega arith in
     let zero : IsLine (a ++ (fields ++ rest)) 0 (length first.text) (length a) =
     subst (λ k. IsLine (a ++ (fields ++ rest)) 0 (length first.text) k) next
-    (subst (λ k. IsLine (a ++ (fields ++ rest)) 0 k (0 + length a)) text_end (here [] first (fields ++ rest) lines.first_is)) in
+    (subst (λ k. IsLine (a ++ (fields ++ rest)) 0 k (0 + length a)) text_end
+    (here [] first (fields ++ rest) lines.first_is)) in
     let start : IsAfterLine (a ++ (fields ++ rest)) (length a) = record {
       some = zero.after;
       feed = zero.feed;
@@ -164,7 +174,8 @@ head_found {first} {headers} {last} later lines =
     let there : IsLine ((a ++ fields) ++ rest) (length (a ++ fields)) (length (a ++ fields) + length last.text)
     (length (a ++ fields) + length (line_bytes last)) =
     here (a ++ fields) last later lines.last_is.is_ended in
-    let line : IsLine w (length (a ++ fields)) (length (a ++ fields)) (length (a ++ fields) + length (line_bytes last)) =
+    let line : IsLine w (length (a ++ fields)) (length (a ++ fields))
+    (length (a ++ fields) + length (line_bytes last)) =
     subst (λ (v : List ℕ). IsLine v (length (a ++ fields)) (length (a ++ fields))
     (length (a ++ fields) + length (line_bytes last))) (sym (append_assoc (a ++ fields) (line_bytes last) later))
     (subst (λ k. IsLine ((a ++ fields) ++ rest) (length (a ++ fields)) k

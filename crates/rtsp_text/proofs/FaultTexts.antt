@@ -1,5 +1,6 @@
 -- What a fault says of a message's lines.
-use Rattle.std.proofs.Common.{◌≡◌, ℕ, true, List, [], ◌∷◌, ◌++◌, All, codes, get_or, drop, Option, Some, None, refl, sym, ap, subst, ◌∙◌, inl, inr}
+use Rattle.std.proofs.Common.{◌≡◌, ℕ, true, List, [], ◌∷◌, ◌++◌, All, codes, get_or, drop, Option, Some, None, refl}
+use Rattle.std.proofs.Common.{sym, ap, subst, ◌∙◌, inl, inr}
 use Rattle.std.specs.Prelude.{IfSome, option_and_then, slice_index_or}
 use Rattle.std.proofs.lemmas.Bool.{cases_Bool, cases_order}
 use Rattle.std.proofs.lemmas.List.{append_assoc}
@@ -11,7 +12,8 @@ use Rattle.rtsp_text.specs.Requests.{HasVersion, IsRequest, IsFault, IsFirstBad}
 use Rattle.rtsp_text.specs.Spelled.{IsNamedText}
 use Rattle.rtsp_text.specs.Faults.{HasLines, IsFirstUnnamed, IsLineOf, IsWrong, Writes, WritesNoDigits}
 use Rattle.rtsp_text.specs.declared.requests.RequestFault.{RequestFault}
-use Rattle.rtsp_text.specs.declared.requests.RequestFault.TheVariants.{BadLine, BadVersion, BadHeader, NoSequenceNumber, BadLength}
+use Rattle.rtsp_text.specs.declared.requests.RequestFault.TheVariants.{BadLine, BadVersion, BadHeader}
+use Rattle.rtsp_text.specs.declared.requests.RequestFault.TheVariants.{NoSequenceNumber, BadLength}
 use Rattle.rtsp_text.proofs.FirstField.{field_value, first_tells, read_of}
 use Rattle.rtsp_text.proofs.Walks.{before_empty-all}
 use Rattle.rtsp_text.proofs.WordTexts.{line_named, named_line, named_texts, word_is, word_of}
@@ -21,13 +23,15 @@ first_is : (message first : List ℕ) (texts : List (List ℕ)) → HasLines mes
 unfolding first_line
 first_is message first texts has = ap (λ (ls : List (List ℕ)). slice_index_or ls 0 []) has.lines_are
 
-headers_are : (message first : List ℕ) (texts : List (List ℕ)) → HasLines message first texts → header_lines message ≡ texts
+headers_are : (message first : List ℕ) (texts : List (List ℕ)) → HasLines message first texts
+    → header_lines message ≡ texts
 unfolding header_lines
 headers_are message first texts has =
     ap (λ (ls : List (List ℕ)). before_empty (drop 1 ls)) has.lines_are ∙ before_empty-all texts has.others has.some
 
 -- a request line
-spaced : (method url version : List ℕ) → method ++ codes " " ++ url ++ codes " " ++ version ≡ method ++ 32 ∷ (url ++ 32 ∷ version)
+spaced : (method url version : List ℕ)
+    → method ++ codes " " ++ url ++ codes " " ++ version ≡ method ++ 32 ∷ (url ++ 32 ∷ version)
 spaced method url version =
     append_assoc (method ++ codes " " ++ url) (codes " ") version
     ∙ append_assoc (method ++ codes " ") url (codes " " ++ version)
@@ -43,7 +47,8 @@ line_of first method url version line = record {
   version_is = line.version_is;
 }
 
-request_line_of : (first version : List ℕ) (line : IsLineOf version first) → IsRequestLine first line.method line.url version
+request_line_of : (first version : List ℕ) (line : IsLineOf version first)
+    → IsRequestLine first line.method line.url version
 request_line_of first version line = record {
   parts = line.parts ∙ spaced line.method line.url version;
   method_is = word_is line.method line.method_is;
@@ -76,7 +81,12 @@ writes : (name : List ℕ) (texts : List (List ℕ)) (number : ℕ)
     → option_and_then number_of (first_value name texts) ≡ Some number → Writes name texts number
 writes name texts number is =
     let read = read_of (first_value name texts) number is in
-    record { value = read.value; field = (first_tells name texts).first read.value read.value_is; number_is = read.number_is }
+    record {
+      value = read.value;
+      field = (first_tells name texts).first read.value read.value_is;
+      number_is =
+          read.number_is;
+    }
 
 -- a value that isn't all digits
 no_digits : (name : List ℕ) (texts : List (List ℕ)) (o : Option (List ℕ)) → first_value name texts ≡ o
@@ -99,13 +109,15 @@ first_unnamed texts number f = record {
 }
 
 -- what a fault says of the lines
-wrong : {first : List ℕ} {texts : List (List ℕ)} (message : List ℕ) (fault : RequestFault) → first_line message ≡ first →
+wrong : {first : List ℕ} {texts : List (List ℕ)} (message : List ℕ) (fault : RequestFault)
+    → first_line message ≡ first →
     header_lines message ≡ texts → IsFault message fault → IsWrong first texts fault
 wrong {first} {texts} message fault line_is texts_are is = go fault is
   where
     line : (version : List ℕ) → HasVersion message version → IsLineOf version first
     line version has =
-        line_of first has.0 has.1.0 version (subst (λ (t : List ℕ). IsRequestLine t has.0 has.1.0 version) line_is has.1.1)
+        line_of first has.0 has.1.0 version
+        (subst (λ (t : List ℕ). IsRequestLine t has.0 has.1.0 version) line_is has.1.1)
 
     named : All IsHeaderLine (header_lines message) → All IsNamedText texts
     named all = named_texts texts (subst (All IsHeaderLine) texts_are all)
@@ -119,7 +131,8 @@ wrong {first} {texts} message fault line_is texts_are is = go fault is
           l.method,
           (
             l.url,
-            subst (λ (t : List ℕ). IsRequestLine t l.method l.url version) (sym line_is) (request_line_of first version l),
+            subst (λ (t : List ℕ). IsRequestLine t l.method l.url version) (sym line_is)
+                (request_line_of first version l),
           ),
         )
     go BadVersion has = (has.0, (line has.0 has.1.0, has.1.1))
@@ -134,7 +147,11 @@ wrong {first} {texts} message fault line_is texts_are is = go fault is
     go BadLength has = (
       record { line = line (codes "RTSP/1.0") has.0; named = named has.1 },
       (
-        (has.2.0, writes (codes "CSeq") texts has.2.0 (ap (option_and_then number_of) (sym (value (codes "CSeq"))) ∙ has.2.1)),
+        (
+          has.2.0,
+          writes (codes "CSeq") texts has.2.0
+              (ap (option_and_then number_of) (sym (value (codes "CSeq"))) ∙ has.2.1),
+        ),
         no_digits (codes "Content-Length") texts (first_value (codes "Content-Length") texts) refl
             (λ good. has.3
             (subst (λ (o : Option (List ℕ)). IfSome o (λ value. is_decimal value ≡ true))

@@ -1,5 +1,6 @@
 -- The first field of a name, found as a function of the lines.
-use Rattle.std.proofs.Common.{◌≡◌, ◌≢◌, ℕ, ◌<◌, ◌==◌, true, not, List, [], ◌∷◌, Option, Some, None, map, get_or, refl, sym, ap, ◌∙◌, arith, inl, inr, suc, zero}
+use Rattle.std.proofs.Common.{◌≡◌, ◌≢◌, ℕ, ◌<◌, ◌==◌, true, not, List, [], ◌∷◌, Option, Some, None, map, get_or, refl}
+use Rattle.std.proofs.Common.{sym, ap, ◌∙◌, arith, inl, inr, suc, zero}
 use Rattle.std.specs.Prelude.{option_map, option_and_then, IfSome, IfNone}
 use Rattle.std.specs.List.{list_all}
 use Rattle.std.specs.Str.{str_eq_ignore_ascii_case}
@@ -10,9 +11,11 @@ use Rattle.std.proofs.lemmas.Option.{same_Some}
 use Rattle.vod_base.specs.Numbers.{number_of}
 use Rattle.vod_base.specs.Blanks.{without_blanks}
 use Rattle.vod_base.specs.Splits.{IsSplitAtFirst}
-use Rattle.rtsp_text.specs.Fields.{value_in, first_value, IsField, first_number, IsFirstField, HasNoField, IsFirstNumber, HasNoNumber}
+use Rattle.rtsp_text.specs.Fields.{value_in, first_value, IsField, first_number, IsFirstField, HasNoField}
+use Rattle.rtsp_text.specs.Fields.{IsFirstNumber, HasNoNumber}
 use Rattle.rtsp_text.proofs.Cuts.{other_is}
-use Rattle.rtsp_text.proofs.Values.{value_some, value_other, value_none, first_value-nil, first_value_some, first_value_more, first_number-nil, first_number_some, first_number_more}
+use Rattle.rtsp_text.proofs.Values.{value_some, value_other, value_none, first_value-nil, first_value_some}
+use Rattle.rtsp_text.proofs.Values.{first_value_more, first_number-nil, first_number_some, first_number_more}
 
 -- a line that is a field of that name gives its value
 pub field_value : (name line value : List ℕ) → IsField name line value → value_in name line ≡ Some value
@@ -60,7 +63,8 @@ value_field name line value is = go (colon_of line)
             name_is = (bytes_decides (map to_ascii_lowercase front) (map to_ascii_lowercase name)).0 same;
             value_is = same_Some value (without_blanks after) (sym is ∙ value_some name line front after cut same);
           }
-          | inr other ↦ absurd (let bad : None ≡ Some value = sym (value_other name line front after cut other) ∙ is in cc)
+          | inr other ↦
+              absurd (let bad : None ≡ Some value = sym (value_other name line front after cut other) ∙ is in cc)
         ]
 
 -- one line in front
@@ -131,7 +135,8 @@ number_less : (name line value : List ℕ) → option_and_then number_of (value_
 number_less name line value none f = ap (option_and_then number_of) (sym (field_value name line value f)) ∙ none
 
 number_first_more : (name line : List ℕ) (lines : List (List ℕ)) (n : ℕ)
-    → option_and_then number_of (value_in name line) ≡ None → IsFirstNumber name lines n → IsFirstNumber name (line ∷ lines) n
+    → option_and_then number_of (value_in name line) ≡ None → IsFirstNumber name lines n
+    → IsFirstNumber name (line ∷ lines) n
 number_first_more name line lines n none f = record {
   index = suc f.index;
   value = f.value;
@@ -141,7 +146,8 @@ number_first_more name line lines n none f = record {
   before = before;
 }
   where
-    before : (k : ℕ) (other : List ℕ) → k < suc f.index → IsField name (get_or (line ∷ lines) k []) other → number_of other ≡ None
+    before : (k : ℕ) (other : List ℕ) → k < suc f.index → IsField name (get_or (line ∷ lines) k []) other
+        → number_of other ≡ None
     before zero other below field = number_less name line other none field
     before (suc k) other below field = f.before k other (omega (arith, below)) field
 
@@ -172,7 +178,8 @@ number_tells name [] = record {
 number_tells name (line ∷ lines) = go (option_and_then number_of (value_in name line)) refl (number_tells name lines)
   where
     go : (o : Option ℕ) → option_and_then number_of (value_in name line) ≡ o
-        → TellsNumber name lines (first_number name lines) → TellsNumber name (line ∷ lines) (first_number name (line ∷ lines))
+        → TellsNumber name lines (first_number name lines)
+        → TellsNumber name (line ∷ lines) (first_number name (line ∷ lines))
     go None o_is rest =
         let same = first_number_more name line (line ∷ lines) lines refl o_is in
         record {

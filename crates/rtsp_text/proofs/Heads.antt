@@ -1,14 +1,18 @@
 -- Where a head ends, found line by line.
-use Rattle.std.proofs.Common.{◌≡◌, ◌≢◌, ℕ, ◌+◌, ◌-◌, ◌<◌, ◌≤◌, ◌&&◌, ◌==◌, Bool, true, false, cond, nat_lt, List, [], ◌∷◌, ◌++◌, length, get_or, take, drop, refl, sym, ap, subst, ◌∙◌, arith, inl, inr, ne_eqb}
+use Rattle.std.proofs.Common.{◌≡◌, ◌≢◌, ℕ, ◌+◌, ◌-◌, ◌<◌, ◌≤◌, ◌&&◌, ◌==◌, Bool, true, false, cond, nat_lt, List, []}
+use Rattle.std.proofs.Common.{◌∷◌, ◌++◌, length, get_or, take, drop, refl, sym, ap, subst, ◌∙◌, arith, inl, inr}
+use Rattle.std.proofs.Common.{ne_eqb}
 use Rattle.std.specs.Str.Lines.{lines}
 use Rattle.std.proofs.lemmas.Bool.{cases_Bool, cases_lt, cases_eq, cond-true, cond-false}
 use Rattle.std.proofs.lemmas.Bool.Decides.{nat_tests}
-use Rattle.std.proofs.lemmas.List.{append-nil, append_assoc, take-append-drop, drop-drop, drop_all, take-take, drop-take, length-take, length-take-le, length-drop, get_or-take, get_or-drop}
+use Rattle.std.proofs.lemmas.List.{append-nil, append_assoc, take-append-drop, drop-drop, drop_all, take-take}
+use Rattle.std.proofs.lemmas.List.{drop-take, length-take, length-take-le, length-drop, get_or-take, get_or-drop}
 use Rattle.vod_base.specs.Lines.{IsLine, HasNoLine}
 use Rattle.interleave.specs.Heads.{empty_line_ends, HasNoHead, IsHead}
 use Rattle.interleave.specs.Elements.{IsMessageLength}
 use Rattle.rtsp_text.specs.Lines.{before_empty, first_line, lines_before_empty, header_lines, IsNextLine, IsSplit}
-use Rattle.rtsp_text.proofs.Walks.{next_here, first_line-next, header_lines-next, next_header, next_empty, before_empty-closed}
+use Rattle.rtsp_text.proofs.Walks.{next_here, first_line-next, header_lines-next, next_header, next_empty}
+use Rattle.rtsp_text.proofs.Walks.{before_empty-closed}
 
 -- a byte that ends no empty line
 not_feed : (w : List ℕ) (k : ℕ) → get_or w k 0 ≢ 10 → empty_line_ends w k ≡ false
@@ -73,13 +77,15 @@ no_head_more {w} {at} {n} after line some none = λ k below. (
     ])
 
 -- an empty line ends the head
-pub head_here : {w : List ℕ} {at n : ℕ} → 0 < at → get_or w (at - 1) 0 ≡ 10 → IsLine w at at n → HasNoHead w at → IsHead w n
+pub head_here : {w : List ℕ} {at n : ℕ} → 0 < at → get_or w (at - 1) 0 ≡ 10 → IsLine w at at n → HasNoHead w at
+    → IsHead w n
 head_here {w} {at} {n} after feed line none = record {
   some = omega (arith, line.after);
   within = line.within;
   ends = elim (cases_Bool (nat_lt (at + 1) n && (get_or w (n - 2) 0 == 13))) [
     | inl cr ↦ (
-        let text_end : at ≡ n - 2 = line.text ∙ cond-true (nat_lt (at + 1) n && (get_or w (n - 2) 0 == 13)) (n - 2) (n - 1) cr in
+        let text_end : at ≡ n - 2 = line.text
+        ∙ cond-true (nat_lt (at + 1) n && (get_or w (n - 2) 0 == 13)) (n - 2) (n - 1) cr in
         let more : 2 ≤ n = omega (arith, line.after) in
         let byte : get_or w (n - 1 - 1) 0 ≡ get_or w (n - 2) 0 =
         ap (λ j. get_or w j 0) (let j : n - 1 - 1 ≡ n - 2 = omega arith in j) in
@@ -127,7 +133,8 @@ line_bounds : (w : List ℕ) (at e n : ℕ) → IsLine w at e n → (at ≤ e) �
 line_bounds w at e n line =
     elim (cases_Bool (nat_lt (at + 1) n && (get_or w (n - 2) 0 == 13))) [
       | inl cr ↦ (
-          let text_end : e ≡ n - 2 = line.text ∙ cond-true (nat_lt (at + 1) n && (get_or w (n - 2) 0 == 13)) (n - 2) (n - 1) cr in
+          let text_end : e ≡ n - 2 = line.text
+          ∙ cond-true (nat_lt (at + 1) n && (get_or w (n - 2) 0 == 13)) (n - 2) (n - 1) cr in
           let more : at + 1 < n = grind (arith, nat_tests) in
           (omega arith, omega arith)
           )
@@ -138,6 +145,25 @@ line_bounds w at e n line =
           )
     ]
 
+-- whether a CR stands before the LF of the line from a place to n
+abbrev is_cr : ℕ → List ℕ → ℕ → Bool
+is_cr at w n = nat_lt (at + 1) n && (get_or w (n - 2) 0 == 13)
+
+-- the end of its text, from that place on
+cut_before : (at n : ℕ) (cr : Bool) → cond cr (n - 2) (n - 1) - at ≡ cond cr (n - at - 2) (n - at - 1)
+cut_before at n true = omega arith
+cut_before at n false = omega arith
+
+-- it stands there in what begins at the place
+same_cr : (at : ℕ) (w : List ℕ) (n : ℕ) → is_cr at w n ≡ is_cr 0 (drop at w) (n - at)
+same_cr at w n = elim (cases_lt (at + 1) n) [
+  | inl more ↦
+      let byte : get_or (drop at w) (n - at - 2) 0 ≡ get_or w (n - 2) 0 =
+      get_or-drop at w (n - at - 2) 0 ∙ ap (λ j. get_or w j 0) (let j : at + (n - at - 2) ≡ n - 2 = omega arith in j) in
+      rw byte (grind (arith, nat_tests))
+  | inr less ↦ let short : n - at ≤ 1 = omega (arith, less) in grind (arith, nat_tests)
+]
+
 -- a line at a place is the first line of what stands there
 line_drop : (w : List ℕ) (at e n : ℕ) → IsLine w at e n → IsLine (drop at w) 0 (e - at) (n - at)
 line_drop w at e n line = record {
@@ -146,38 +172,8 @@ line_drop w at e n line = record {
   feed = get_or-drop at w (n - at - 1) 0
       ∙ ap (λ j. get_or w j 0) (let j : at + (n - at - 1) ≡ n - 1 = omega (arith, line.after) in j) ∙ line.feed;
   first = λ k from below e10. line.first (at + k) (omega arith) (omega arith) (sym (get_or-drop at w k 0) ∙ e10);
-  text = elim (cases_lt (at + 1) n) [
-    | inl more ↦ (
-        let byte : get_or (drop at w) (n - at - 2) 0 ≡ get_or w (n - 2) 0 =
-        get_or-drop at w (n - at - 2) 0 ∙ ap (λ j. get_or w j 0) (let j : at + (n - at - 2) ≡ n - 2 = omega arith in j) in
-        elim (cases_Bool (get_or w (n - 2) 0 == 13)) [
-          | inl cr ↦ (
-              let text_end : e ≡ n - 2 =
-              line.text ∙ cond-true (nat_lt (at + 1) n && (get_or w (n - 2) 0 == 13)) (n - 2) (n - 1)
-              (grind (arith, nat_tests)) in
-              let e' : e - at ≡ n - at - 2 = omega arith in
-              e' ∙ sym (cond-true (nat_lt 1 (n - at) && (get_or (drop at w) (n - at - 2) 0 == 13)) (n - at - 2)
-              (n - at - 1) (rw byte (grind (arith, nat_tests))))
-              )
-          | inr other ↦ (
-              let text_end : e ≡ n - 1 =
-              line.text ∙ cond-false (nat_lt (at + 1) n && (get_or w (n - 2) 0 == 13)) (n - 2) (n - 1)
-              (grind (arith, nat_tests)) in
-              let e' : e - at ≡ n - at - 1 = omega arith in
-              e' ∙ sym (cond-false (nat_lt 1 (n - at) && (get_or (drop at w) (n - at - 2) 0 == 13)) (n - at - 2)
-              (n - at - 1) (rw byte (grind (arith, nat_tests))))
-              )
-        ]
-        )
-    | inr less ↦ (
-        let text_end : e ≡ n - 1 =
-        line.text ∙ cond-false (nat_lt (at + 1) n && (get_or w (n - 2) 0 == 13)) (n - 2) (n - 1) (grind (arith, nat_tests)) in
-        let e' : e - at ≡ n - at - 1 = omega arith in
-        let short : n - at ≤ 1 = omega (arith, less) in
-        e' ∙ sym (cond-false (nat_lt 1 (n - at) && (get_or (drop at w) (n - at - 2) 0 == 13)) (n - at - 2)
-        (n - at - 1) (grind (arith, nat_tests)))
-        )
-  ];
+  text = ap (λ end. end - at) line.text ∙ cut_before at n (is_cr at w n)
+      ∙ ap (λ cr. cond cr (n - at - 2) (n - at - 1)) (same_cr at w n);
 }
 
 -- a line within the first bytes
@@ -218,7 +214,8 @@ pub record HasWalked (message : List ℕ) (at : ℕ) : Type 0 where
   pub none : HasNoHead message at
   pub seen : List (List ℕ)
   pub whole : header_lines message ≡ seen ++ lines_before_empty (drop at message)
-  pub front : (m : ℕ) → at ≤ m → lines (take m message) ≡ first_line message ∷ (seen ++ lines (drop at (take m message)))
+  pub front : (m : ℕ) → at ≤ m
+      → lines (take m message) ≡ first_line message ∷ (seen ++ lines (drop at (take m message)))
 
 -- after the first line
 pub walk_first : (w : List ℕ) (e n : ℕ) → IsLine w 0 e n → HasWalked w n
@@ -274,12 +271,14 @@ same_header_lines head message e = ap (λ l. before_empty (drop 1 l)) e ∙ befo
 -- the empty line is found
 pub walk_end : (w : List ℕ) (at n : ℕ) → HasWalked w at → IsLine w at at n → IsSplit w (take n w) (drop n w)
 walk_end w at n walked line =
-    let empty : take (at - at) (drop at w) ≡ [] = ap (λ k. take k (drop at w)) (let k : at - at ≡ 0 = omega arith in k) in
+    let empty : take (at - at) (drop at w) ≡ [] =
+    ap (λ k. take k (drop at w)) (let k : at - at ≡ 0 = omega arith in k) in
     let none : length (take (at - at) (drop at w)) ≡ 0 = ap length empty in
     let last : header_lines w ≡ walked.seen =
     walked.whole
     ∙ ap (λ l. walked.seen ++ l)
-    (next_empty (drop at w) (take (at - at) (drop at w)) (drop n w) (next_at w at at n line) none) ∙ append-nil walked.seen in
+    (next_empty (drop at w) (take (at - at) (drop at w)) (drop n w) (next_at w at at n line) none)
+    ∙ append-nil walked.seen in
     let there = next_at (take n w) at at n (line_take n (omega arith) line) in
     let rest : drop n (take n w) ≡ [] = drop_all n (take n w) (omega (arith, length-take n w)) in
     let text : take (at - at) (drop at (take n w)) ≡ [] =

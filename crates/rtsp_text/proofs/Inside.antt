@@ -1,11 +1,13 @@
 -- A line of a text, and the value in it, have no LF and are no longer than the text.
-use Rattle.std.proofs.Common.{◌≡◌, ℕ, ◌+◌, ◌-◌, ◌≤◌, ◌&&◌, ◌==◌, Bool, true, false, not, List, [], ◌∷◌, ◌++◌, All, length, reverse, get_or, take, drop, refl, sym, ap, subst, ◌∙◌, arith, inl, inr}
+use Rattle.std.proofs.Common.{◌≡◌, ℕ, ◌+◌, ◌-◌, ◌≤◌, ◌&&◌, ◌==◌, Bool, true, false, not, List, [], ◌∷◌, ◌++◌, All}
+use Rattle.std.proofs.Common.{length, reverse, get_or, take, drop, refl, sym, ap, subst, ◌∙◌, arith, inl, inr}
 use Rattle.std.specs.Prelude.{Option, Some, None, IfSome}
 use Rattle.std.specs.List.{list_all, slice_split, onto_first}
 use Rattle.std.specs.Str.Lines.{lines, lines_of_parts, strip_carriage_return}
 use Rattle.std.proofs.lemmas.Bool.{cases_Bool, and_parts, and_from, cond-true, cond-false}
 use Rattle.std.proofs.lemmas.List.{length-append, length-reverse, length-take, take-append-drop}
-use Rattle.std.proofs.lemmas.List.Elements.{All-nil, All-cons, All-head, All-tail, All-weaker, All-take, All-drop, All-get_or}
+use Rattle.std.proofs.lemmas.List.Elements.{All-nil, All-cons, All-head, All-tail, All-weaker, All-take, All-drop}
+use Rattle.std.proofs.lemmas.List.Elements.{All-get_or}
 use Rattle.std.proofs.lemmas.List.Folds.{list_all-append}
 use Rattle.std.proofs.lemmas.List.Splits.{slice_split-cons_yes, slice_split-cons_no}
 use Rattle.vod_base.specs.Blanks.{is_blank, without_front_blanks, without_blanks}
@@ -51,7 +53,8 @@ parts_inside (x ∷ bytes) =
     let P : List (List ℕ) → Type 0 = λ ps. All (IsInside (length (x ∷ bytes))) ps in
     elim (cases_Bool (x == 10)) [
       | inl feed ↦ subst P (sym (slice_split-cons_yes (λ b. b == 10) x bytes feed))
-          (All-cons (IsInside (length (x ∷ bytes))) [] (slice_split (λ b. b == 10) bytes) (inside_nil (length (x ∷ bytes)))
+          (All-cons (IsInside (length (x ∷ bytes))) [] (slice_split (λ b. b == 10) bytes)
+          (inside_nil (length (x ∷ bytes)))
           (All-weaker (IsInside n) (IsInside (length (x ∷ bytes)))
           (inside_more n (length (x ∷ bytes)) (omega arith)) (slice_split (λ b. b == 10) bytes) rest))
       | inr other ↦ subst P (sym (slice_split-cons_no (λ b. b == 10) x bytes other))
@@ -115,7 +118,8 @@ all-front p (x ∷ text) all =
     let parts = and_parts (p x) (list_all p text) all in
     let P : List ℕ → Type 0 = λ t. list_all p t ≡ true in
     elim (cases_Bool (is_blank x)) [
-      | inl blank ↦ subst P (sym (cond-true (is_blank x) (without_front_blanks text) (x ∷ text) blank)) (all-front p text parts.1)
+      | inl blank ↦
+          subst P (sym (cond-true (is_blank x) (without_front_blanks text) (x ∷ text) blank)) (all-front p text parts.1)
       | inr other ↦ subst P (sym (cond-false (is_blank x) (without_front_blanks text) (x ∷ text) other)) all
     ]
 
@@ -131,7 +135,8 @@ length-front (x ∷ text) =
 pub all-trimmed : (p : ℕ → Bool) (text : List ℕ) → list_all p text ≡ true → list_all p (without_blanks text) ≡ true
 all-trimmed p text all =
     all-reverse p (without_front_blanks (reverse (without_front_blanks text)))
-    (all-front p (reverse (without_front_blanks text)) (all-reverse p (without_front_blanks text) (all-front p text all)))
+    (all-front p (reverse (without_front_blanks text))
+    (all-reverse p (without_front_blanks text) (all-front p text all)))
 
 pub length-trimmed : (text : List ℕ) → length (without_blanks text) ≤ length text
 length-trimmed text =
@@ -147,7 +152,8 @@ length-trimmed text =
 field_inside : (n : ℕ) (name line value : List ℕ) → IsInside n line → IsField name line value → IsInside n value
 field_inside n name line value i f =
     let whole : is_one_line f.front && (not (58 == 10) && is_one_line f.after) ≡ true =
-    sym (list_all-append (λ byte. not (byte == 10)) f.front (58 ∷ f.after)) ∙ ap is_one_line (sym f.cut.parts) ∙ i.one_line in
+    sym (list_all-append (λ byte. not (byte == 10)) f.front (58 ∷ f.after)) ∙ ap is_one_line (sym f.cut.parts)
+    ∙ i.one_line in
     let rest : is_one_line f.after ≡ true = (and_parts (is_one_line f.front) (is_one_line f.after) whole).1 in
     record {
       short = omega (
@@ -162,13 +168,15 @@ field_inside n name line value i f =
     }
 
 -- the value that a head gives a name
-pub value_inside : (head name value : List ℕ) → IsFirstField name (header_lines head) value → IsInside (length head) value
+pub value_inside : (head name value : List ℕ) → IsFirstField name (header_lines head) value
+    → IsInside (length head) value
 value_inside head name value f =
     field_inside (length head) name (get_or (header_lines head) f.index []) value
     (All-get_or (IsInside (length head)) (header_lines head) f.index [] f.inside (header_lines_inside head)) f.field
 
 -- the first line
-pub first_line_inside : (bytes line : List ℕ) (more : List (List ℕ)) → lines bytes ≡ line ∷ more → IsInside (length bytes) line
+pub first_line_inside : (bytes line : List ℕ) (more : List (List ℕ)) → lines bytes ≡ line ∷ more
+    → IsInside (length bytes) line
 first_line_inside bytes line more are =
     All-head (IsInside (length bytes)) line more (subst (All (IsInside (length bytes))) are (lines_inside bytes))
 

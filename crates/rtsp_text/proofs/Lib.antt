@@ -9,6 +9,7 @@ pub mod Texts
 pub mod Whole
 pub mod FirstField
 pub mod Inside
+pub mod UrlBytes
 pub mod Bounds
 pub mod OneLines
 pub mod StatusTexts

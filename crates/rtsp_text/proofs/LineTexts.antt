@@ -1,9 +1,12 @@
 -- Texts that are lines by themselves: each with its CR LF, and with an empty line as a head.
-use Rattle.std.proofs.Common.{◌≡◌, ◌≢◌, ℕ, ◌+◌, ◌-◌, ◌<◌, ◌&&◌, ◌==◌, true, false, not, nat_lt, List, [], ◌∷◌, ◌++◌, All, codes, length, get_or, take, drop, refl, sym, ap, subst, ◌∙◌, arith, inl, inr, ne_eqb, eq-eqb}
+use Rattle.std.proofs.Common.{◌≡◌, ◌≢◌, ℕ, ◌+◌, ◌-◌, ◌<◌, ◌&&◌, ◌==◌, true, false, not, nat_lt, List, [], ◌∷◌, ◌++◌}
+use Rattle.std.proofs.Common.{All, codes, length, get_or, take, drop, refl, sym, ap, subst, ◌∙◌, arith, inl, inr}
+use Rattle.std.proofs.Common.{ne_eqb, eq-eqb}
 use Rattle.std.specs.Str.Lines.{lines, strip_carriage_return}
 use Rattle.std.proofs.lemmas.Bool.{cases_lt, and_from, both_ways, cond-true}
 use Rattle.std.proofs.lemmas.Bool.Decides.{nat_tests}
-use Rattle.std.proofs.lemmas.List.{append_assoc, length-append, take_at, drop_at, get_or_append_left, get_or-append_right}
+use Rattle.std.proofs.lemmas.List.{append_assoc, length-append, take_at, drop_at, get_or_append_left}
+use Rattle.std.proofs.lemmas.List.{get_or-append_right}
 use Rattle.std.proofs.lemmas.List.Elements.{All-cons, All-head, All-tail, All-weaker, All-from_get_or}
 use Rattle.std.proofs.lemmas.List.Folds.{list_all_at}
 use Rattle.vod_base.specs.Lines.{IsLine}
@@ -29,7 +32,8 @@ other_byte t k all inside = λ feed.
     both_ways (is_one_line t) (list_all_at (λ byte. not (byte == 10)) t k 0 inside fails) all
 
 no_feed : (t : List ℕ) → is_one_line t ≡ true → All (λ b. (b == 10) ≡ false) t
-no_feed t all = All-from_get_or (λ b. (b == 10) ≡ false) t 0 (λ k inside. ne_eqb (get_or t k 0) 10 (other_byte t k all inside))
+no_feed t all =
+    All-from_get_or (λ b. (b == 10) ≡ false) t 0 (λ k inside. ne_eqb (get_or t k 0) 10 (other_byte t k all inside))
 
 -- the line that stands after these bytes
 pub line_here : (a t rest : List ℕ) → is_one_line t ≡ true
@@ -51,12 +55,14 @@ line_here a t rest one =
         | inl inside ↦ (λ feed. other_byte t (k - length a) one inside
             (sym (get_or-append_right a (t ++ 13 ∷ 10 ∷ rest) (length a) k 0 refl from
             ∙ get_or_append_left t (13 ∷ 10 ∷ rest) 0 (k - length a) inside) ∙ feed))
-        | inr past ↦ (λ feed. let bad : 13 ≡ 10 = sym (at k 0 (omega (arith, from, below, past))) ∙ feed in omega (arith, bad))
+        | inr past ↦
+            (λ feed. let bad : 13 ≡ 10 = sym (at k 0 (omega (arith, from, below, past))) ∙ feed in omega (arith, bad))
       ];
       text = (let e : length a + length t ≡ length a + length t + 2 - 2 = omega arith in e)
           ∙ sym (cond-true
           (nat_lt (length a + 1) (length a + length t + 2)
-          && (get_or w (length a + length t + 2 - 2) 0 == 13)) (length a + length t + 2 - 2) (length a + length t + 2 - 1)
+          && (get_or w (length a + length t + 2 - 2) 0 == 13)) (length a + length t + 2 - 2)
+          (length a + length t + 2 - 1)
           (and_from (nat_lt (length a + 1) (length a + length t + 2))
           (get_or w (length a + length t + 2 - 2) 0 == 13) (grind (arith, nat_tests))
           (eq-eqb (get_or w (length a + length t + 2 - 2) 0) 13 cr)));
@@ -66,7 +72,8 @@ line_here a t rest one =
 walk_texts : (a : List ℕ) (texts : List (List ℕ)) (rest : List ℕ) → All IsLineText texts →
     HasWalked (a ++ (flat texts ++ rest)) (length a) →
     HasWalked (a ++ (flat texts ++ rest)) (length a + length (flat texts))
-walk_texts a [] rest all walked = subst (λ n. HasWalked (a ++ rest) n) (let e : length a ≡ length a + 0 = omega arith in e) walked
+walk_texts a [] rest all walked =
+    subst (λ n. HasWalked (a ++ rest) n) (let e : length a ≡ length a + 0 = omega arith in e) walked
 walk_texts a (t ∷ ts) rest all walked =
     let line = All-head IsLineText t ts all in
     let m = a ++ (flat (t ∷ ts) ++ rest) in
@@ -95,7 +102,8 @@ strip-cr : (t : List ℕ) → strip_carriage_return (t ++ 13 ∷ []) ≡ t
 strip-cr t =
     let size : length (t ++ 13 ∷ []) - 1 ≡ length t = omega (arith, length-append t (13 ∷ [])) in
     let last : get_or (t ++ 13 ∷ []) (length (t ++ 13 ∷ []) - 1) 0 ≡ 13 =
-    ap (λ k. get_or (t ++ 13 ∷ []) k 0) size ∙ get_or-append_right t (13 ∷ []) (length t) (length t) 0 refl (omega arith)
+    ap (λ k. get_or (t ++ 13 ∷ []) k 0) size
+    ∙ get_or-append_right t (13 ∷ []) (length t) (length t) 0 refl (omega arith)
     ∙ ap (λ k. get_or (13 ∷ []) k 0) (let z : length t - length t ≡ 0 = omega arith in z) in
     cond-true (get_or (t ++ 13 ∷ []) (length (t ++ 13 ∷ []) - 1) 0 == 13)
     (take (length (t ++ 13 ∷ []) - 1) (t ++ 13 ∷ [])) (t ++ 13 ∷ [])
@@ -108,7 +116,8 @@ lines-line t rest one =
     ap lines (append_assoc t (codes "\r\n") rest ∙ sym (append_assoc t (13 ∷ []) (10 ∷ rest)))
     ∙ lines-at (t ++ 13 ∷ []) rest (no_feed (t ++ 13 ∷ []) one') ∙ ap (λ l. l ∷ lines rest) (strip-cr t)
 
-lines-flat : (texts : List (List ℕ)) (rest : List ℕ) → All IsLineText texts → lines (flat texts ++ rest) ≡ texts ++ lines rest
+lines-flat : (texts : List (List ℕ)) (rest : List ℕ) → All IsLineText texts
+    → lines (flat texts ++ rest) ≡ texts ++ lines rest
 lines-flat [] rest all = refl
 lines-flat (t ∷ ts) rest all =
     ap lines (append_assoc (t ++ codes "\r\n") (flat ts) rest)

@@ -1,5 +1,6 @@
 -- A message has one answer.
-use Rattle.std.proofs.Common.{◌≡◌, ℕ, ◌+◌, ◌<◌, List, [], ◌∷◌, All, codes, Result, Ok, Err, length, get_or, take, drop, refl, sym, ap, ◌∙◌, arith, inl, inr}
+use Rattle.std.proofs.Common.{◌≡◌, ℕ, ◌+◌, ◌<◌, List, [], ◌∷◌, All, codes, Result, Ok, Err, length, get_or, take}
+use Rattle.std.proofs.Common.{drop, refl, sym, ap, ◌∙◌, arith, inl, inr}
 use Rattle.std.specs.Prelude.{IfOk, IfErr, IsOkAnd}
 use Rattle.std.proofs.lemmas.Bool.{cases_order}
 use Rattle.std.proofs.lemmas.List.{take_at, drop_at, length-drop, get_or-drop, drop-drop}
@@ -10,11 +11,13 @@ use Rattle.rtsp_text.specs.Lines.{header_lines}
 use Rattle.rtsp_text.specs.Grammar.{IsRequestLine, IsHeaderLine}
 use Rattle.rtsp_text.specs.Requests.{HasVersion, IsRequest, IsFirstBad, IsFault}
 use Rattle.rtsp_text.specs.declared.requests.RequestFault.{RequestFault}
-use Rattle.rtsp_text.specs.declared.requests.RequestFault.TheVariants.{BadLine, BadVersion, BadHeader, NoSequenceNumber, BadLength}
+use Rattle.rtsp_text.specs.declared.requests.RequestFault.TheVariants.{BadLine, BadVersion, BadHeader}
+use Rattle.rtsp_text.specs.declared.requests.RequestFault.TheVariants.{NoSequenceNumber, BadLength}
 use Rattle.rtsp_text.proofs.Words.{AreLineParts, line_parts, method_cut, url_cut}
 
 -- a request line has one method, one URL and one version
-line_once : {text m u v m' u' v' : List ℕ} → IsRequestLine text m u v → IsRequestLine text m' u' v' → AreLineParts m u v m' u' v'
+line_once : {text m u v m' u' v' : List ℕ} → IsRequestLine text m u v → IsRequestLine text m' u' v'
+    → AreLineParts m u v m' u' v'
 line_once {text} {m} {u} {v} a b = line_parts (method_cut text m u v a) (url_cut text m u v a) b
 
 version_once : (message v w : List ℕ) → HasVersion message v → HasVersion message w → v ≡ w
@@ -41,7 +44,8 @@ fault_once message BadLine BadLength a b = absurd (a (codes "RTSP/1.0") b.0)
 fault_once message BadVersion BadLine a b = absurd (b a.0 a.1.0)
 fault_once message BadVersion BadVersion a b = refl
 fault_once message BadVersion (BadHeader m) a b = absurd (a.1.1 (version_once message a.0 (codes "RTSP/1.0") a.1.0 b.0))
-fault_once message BadVersion NoSequenceNumber a b = absurd (a.1.1 (version_once message a.0 (codes "RTSP/1.0") a.1.0 b.0))
+fault_once message BadVersion NoSequenceNumber a b =
+    absurd (a.1.1 (version_once message a.0 (codes "RTSP/1.0") a.1.0 b.0))
 fault_once message BadVersion BadLength a b = absurd (a.1.1 (version_once message a.0 (codes "RTSP/1.0") a.1.0 b.0))
 fault_once message (BadHeader n) BadLine a b = absurd (b (codes "RTSP/1.0") a.0)
 fault_once message (BadHeader n) BadVersion a b = absurd (b.1.1 (version_once message b.0 (codes "RTSP/1.0") b.1.0 a.0))
@@ -49,7 +53,8 @@ fault_once message (BadHeader n) (BadHeader m) a b = ap BadHeader (bad_once (hea
 fault_once message (BadHeader n) NoSequenceNumber a b = absurd (no_bad (header_lines message) n b.1 a.1)
 fault_once message (BadHeader n) BadLength a b = absurd (no_bad (header_lines message) n b.1 a.1)
 fault_once message NoSequenceNumber BadLine a b = absurd (b (codes "RTSP/1.0") a.0)
-fault_once message NoSequenceNumber BadVersion a b = absurd (b.1.1 (version_once message b.0 (codes "RTSP/1.0") b.1.0 a.0))
+fault_once message NoSequenceNumber BadVersion a b =
+    absurd (b.1.1 (version_once message b.0 (codes "RTSP/1.0") b.1.0 a.0))
 fault_once message NoSequenceNumber (BadHeader m) a b = absurd (no_bad (header_lines message) m a.1 b.1)
 fault_once message NoSequenceNumber NoSequenceNumber a b = refl
 fault_once message NoSequenceNumber BadLength a b = absurd (none-some b.2.0 (sym a.2 ∙ b.2.1))
@@ -77,7 +82,8 @@ pub record AreSameParts (m u : List ℕ) (s : ℕ) (h b m' u' : List ℕ) (s' : 
   pub head_is : h ≡ h'
   pub body_is : b ≡ b'
 
-pub request_once : {message m u : List ℕ} {s : ℕ} {h b m' u' : List ℕ} {s' : ℕ} {h' b' : List ℕ} → IsRequest message m u s h b →
+pub request_once : {message m u : List ℕ} {s : ℕ} {h b m' u' : List ℕ} {s' : ℕ} {h' b' : List ℕ}
+    → IsRequest message m u s h b →
     IsRequest message m' u' s' h' b' →
     AreSameParts m u s h b m' u' s' h' b'
 request_once {message} {s} {h} {b} {s'} {h'} {b'} x y =

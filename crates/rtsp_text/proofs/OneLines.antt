@@ -1,5 +1,6 @@
 -- Texts without LF, which the value of a field may have: for the crates above as well.
-use Rattle.std.proofs.Common.{◌≡◌, ℕ, ◌<◌, ◌^◌, ◌&&◌, ◌==◌, true, false, not, nat_lt, nat_le, List, ◌++◌, length, get_or, decimal, refl, Bool}
+use Rattle.std.proofs.Common.{◌≡◌, ℕ, ◌<◌, ◌^◌, ◌&&◌, ◌==◌, true, false, not, nat_lt, nat_le, List, ◌++◌, length}
+use Rattle.std.proofs.Common.{get_or, decimal, refl, Bool}
 use Rattle.std.specs.List.{list_all}
 use Rattle.std.specs.Char.{is_ascii_digit}
 use Rattle.std.proofs.lemmas.Bool.{and_parts}

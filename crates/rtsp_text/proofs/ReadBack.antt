@@ -1,5 +1,6 @@
 -- A reply that was written is read back.
-use Rattle.std.proofs.Common.{◌≡◌, ℕ, true, List, [], ◌∷◌, ◌++◌, All, codes, decimal, map, flat_map, length, Option, Some, None, refl, sym, ap, subst, ◌∙◌, arith, inl, inr}
+use Rattle.std.proofs.Common.{◌≡◌, ℕ, true, List, [], ◌∷◌, ◌++◌, All, codes, decimal, map, flat_map, length, Option}
+use Rattle.std.proofs.Common.{Some, None, refl, sym, ap, subst, ◌∙◌, arith, inl, inr}
 use Rattle.std.specs.Str.{str_eq_ignore_ascii_case}
 use Rattle.std.proofs.lemmas.Bool.{cases_Bool, cond-true, cond-false}
 use Rattle.std.proofs.lemmas.List.{append_assoc, length-append}
@@ -8,7 +9,8 @@ use Rattle.vod_base.specs.Splits.{IsSplitAtFirst}
 use Rattle.interleave.specs.Elements.{IsMessageLength}
 use Rattle.rtsp_text.specs.Lines.{first_line, header_lines, IsSplit}
 use Rattle.rtsp_text.specs.Fields.{first_value}
-use Rattle.rtsp_text.specs.Replies.{is_code, phrase, Field, field_line, sequence_line, status_line, reply_front, reply_text, all_fields, IsPlain, value_named, IsReadBack}
+use Rattle.rtsp_text.specs.Replies.{is_code, phrase, Field, field_line, sequence_line, status_line, reply_front}
+use Rattle.rtsp_text.specs.Replies.{reply_text, all_fields, IsPlain, value_named, IsReadBack}
 use Rattle.rtsp_text.specs.StatusLines.{IsStatusLine}
 use Rattle.rtsp_text.proofs.Bounds.{lengths_of}
 use Rattle.rtsp_text.proofs.OneLines.{one_line-append}
@@ -41,7 +43,11 @@ flat-fields (f ∷ fs) = ap (λ l. field_line f ++ l) (flat-fields fs)
 -- the value of a field's line
 field_cut : (field : Field) → IsPlain field → IsSplitAtFirst 58 (text_of field) field.name (32 ∷ field.value)
 field_cut field plain =
-    record { parts = append_assoc field.name (codes ": ") field.value; first = token_without 58 refl field.name plain.name_is }
+    record {
+      parts = append_assoc field.name (codes ": ") field.value;
+      first =
+          token_without 58 refl field.name plain.name_is;
+    }
 
 pub values_named : (name : List ℕ) (fields : List Field) → All IsPlain fields
     → first_value name (map text_of fields) ≡ value_named name fields
@@ -70,7 +76,8 @@ front_lines code sequence fields =
     append_assoc (status_line code) (sequence_line sequence) (flat_map field_line fields)
     ∙ ap (λ l. status_line code ++ l) (all_lines_of sequence)
   where
-    all_lines_of : (o : Option ℕ) → sequence_line o ++ flat_map field_line fields ≡ flat (map text_of (all_fields o fields))
+    all_lines_of : (o : Option ℕ)
+        → sequence_line o ++ flat_map field_line fields ≡ flat (map text_of (all_fields o fields))
     all_lines_of None = sym (flat-fields fields)
     all_lines_of (Some n) = sym (flat-fields (record { name = codes "CSeq"; value = decimal n } ∷ fields))
 
@@ -82,7 +89,8 @@ pub record ReplyParts : Type 0 where
   pub body : List ℕ
 
 -- a reply that was written is read back
-pub read_back : {message : List ℕ} (parts : ReplyParts) → IsMessageLength message (length message) → is_code parts.code ≡ true →
+pub read_back : {message : List ℕ} (parts : ReplyParts) → IsMessageLength message (length message)
+    → is_code parts.code ≡ true →
     All IsPlain (all_fields parts.sequence parts.fields) →
     message ≡ reply_text parts.code parts.sequence parts.fields parts.body
     → IsReadBack message parts.code parts.sequence parts.fields parts.body
@@ -92,7 +100,8 @@ read_back {message} parts whole is plain text =
     let ts = map text_of (all_fields sequence fields) in
     let front = reply_front code sequence fields in
     let lines_are = front_lines code sequence fields in
-    let c = core (status_text code) ts body (status_text-line code status) (texts_lines (all_fields sequence fields) plain) in
+    let c = core (status_text code) ts body (status_text-line code status)
+    (texts_lines (all_fields sequence fields) plain) in
     let split : IsSplit message (front ++ codes "\r\n") body =
     subst (λ (w : List ℕ). IsSplit w (front ++ codes "\r\n") body) (sym text)
     (subst (λ (f : List ℕ). IsSplit ((f ++ codes "\r\n") ++ body) (f ++ codes "\r\n") body) (sym lines_are) c.split) in

@@ -1,5 +1,7 @@
 -- A message that is spelled from its parts is cut whole from what comes, and read as these parts.
-use Rattle.std.proofs.Common.{◌≡◌, ℕ, ◌<◌, ◌≤◌, ◌==◌, true, false, nat_lt, List, [], ◌∷◌, ◌++◌, All, codes, decimal, map, flat_map, length, take, Option, Some, None, Ok, Err, MatchOption, refl, sym, ap, subst, ◌∙◌, arith, ne_eqb}
+use Rattle.std.proofs.Common.{◌≡◌, ℕ, ◌<◌, ◌≤◌, ◌==◌, true, false, nat_lt, List, [], ◌∷◌, ◌++◌, All, codes, decimal}
+use Rattle.std.proofs.Common.{map, flat_map, length, take, Option, Some, None, Ok, Err, MatchOption, refl, sym, ap}
+use Rattle.std.proofs.Common.{subst, ◌∙◌, arith, ne_eqb}
 use Rattle.std.specs.Prelude.{IfSome, option_and_then}
 use Rattle.std.specs.List.{list_all}
 use Rattle.std.specs.Str.Parse.{digits_value}
@@ -17,8 +19,10 @@ use Rattle.rtsp_text.specs.Lines.{first_line, header_lines, IsSplit}
 use Rattle.rtsp_text.specs.Grammar.{is_token, is_token_byte, is_value_byte, IsRequestLine, IsHeaderLine, IsVersion}
 use Rattle.rtsp_text.specs.Fields.{header_value, first_value}
 use Rattle.rtsp_text.specs.Requests.{IsRequest}
-use Rattle.rtsp_text.specs.Replies.{Field, field_line, IsPlain, value_named, is_code, reply_front, reply_text, all_fields}
-use Rattle.rtsp_text.specs.Spelled.{Parts, request_line, request_front, request_head, request_text, IsHeaderField, HasGivenLength, GivesLongBody, HasForm, AreFront, AreRequest, AreShort}
+use Rattle.rtsp_text.specs.Replies.{Field, field_line, IsPlain, value_named, is_code, reply_front, reply_text}
+use Rattle.rtsp_text.specs.Replies.{all_fields}
+use Rattle.rtsp_text.specs.Spelled.{Parts, request_line, request_front, request_head, request_text, IsHeaderField}
+use Rattle.rtsp_text.specs.Spelled.{HasGivenLength, GivesLongBody, HasForm, AreFront, AreRequest, AreShort}
 use Rattle.rtsp_text.proofs.OneLines.{one_line_from, one_line-append, one_line-url}
 use Rattle.rtsp_text.proofs.LineTexts.{IsLineText, core, flat}
 use Rattle.rtsp_text.proofs.Statuses.{status_of, status_text-line}
@@ -40,13 +44,15 @@ whole_message : {s : List ℕ} (fields : List Field) (body : List ℕ) → IsLin
     (length ((flat (s ∷ map text_of fields) ++ codes "\r\n") ++ body))
 whole_message {s} fields body one all given short =
     let head = flat (s ∷ map text_of fields) ++ codes "\r\n" in
-    let is_body : IsBodyLength head (length body) = subst (λ n. IsBodyLength head n) given (body_length_of s fields one all) in
+    let is_body : IsBodyLength head (length body) =
+    subst (λ n. IsBodyLength head n) given (body_length_of s fields one all) in
     record {
       head = length head;
       body = length body;
       is_head = (core s (map text_of fields) body one (texts_lines fields all)).split.is_head;
       fits = short.head_is;
-      is_body = subst (λ (h : List ℕ). IsBodyLength h (length body)) (sym (take_at head body (length head) refl)) is_body;
+      is_body =
+          subst (λ (h : List ℕ). IsBodyLength h (length body)) (sym (take_at head body (length head) refl)) is_body;
       small = short.body_is;
       total_is = length-append head body;
     }
@@ -61,7 +67,8 @@ given_is None body none = sym (ap length none)
 given_is (Some value) body read = let is = number_read value (length body) read in written_is value is.0 ∙ sym is.1
 
 given_digits : (o : Option (List ℕ)) (body : List ℕ)
-    → MatchOption o (body ≡ []) (λ value. number_of value ≡ Some (length body)) → IfSome o (λ value. is_decimal value ≡ true)
+    → MatchOption o (body ≡ []) (λ value. number_of value ≡ Some (length body))
+    → IfSome o (λ value. is_decimal value ≡ true)
 given_digits None body none = tt
 given_digits (Some value) body read = (number_read value (length body) read).0
 
@@ -77,7 +84,8 @@ plain_field field h =
 plain_fields : (fields : List Field) → All IsHeaderField fields → All IsPlain fields
 plain_fields [] all = All-nil IsPlain
 plain_fields (f ∷ fs) all =
-    All-cons IsPlain f fs (plain_field f (All-head IsHeaderField f fs all)) (plain_fields fs (All-tail IsHeaderField f fs all))
+    All-cons IsPlain f fs (plain_field f (All-head IsHeaderField f fs all))
+    (plain_fields fs (All-tail IsHeaderField f fs all))
 
 header_line_of : (field : Field) → IsHeaderField field → IsHeaderLine (text_of field)
 header_line_of field h = record {
@@ -112,7 +120,8 @@ version_1_0 = record {
   numbers_are = record { major = codes "1"; minor = codes "0"; parts = refl; major_is = refl; minor_is = refl };
 }
 
-line_of : (parts : Parts) → AreFront parts → IsRequestLine (request_line parts) parts.method parts.url (codes "RTSP/1.0")
+line_of : (parts : Parts) → AreFront parts
+    → IsRequestLine (request_line parts) parts.method parts.url (codes "RTSP/1.0")
 line_of parts front = record {
   parts = append_assoc (parts.method ++ codes " ") parts.url (codes " RTSP/1.0")
       ∙ append_assoc parts.method (codes " ") (parts.url ++ codes " RTSP/1.0");
@@ -138,7 +147,8 @@ spelled parts front =
     (texts_lines parts.fields (plain_fields parts.fields front.fields_are)) in
     let same = sym (front_of parts) in
     record {
-      split = subst (λ (f : List ℕ). IsSplit ((f ++ codes "\r\n") ++ parts.body) (f ++ codes "\r\n") parts.body) same c.split;
+      split = subst (λ (f : List ℕ). IsSplit ((f ++ codes "\r\n") ++ parts.body)
+          (f ++ codes "\r\n") parts.body) same c.split;
       first = ap (λ (f : List ℕ). first_line ((f ++ codes "\r\n") ++ parts.body)) (front_of parts) ∙ c.first;
       headers = ap (λ (f : List ℕ). header_lines (f ++ codes "\r\n")) (front_of parts) ∙ c.headers;
     }
@@ -157,12 +167,14 @@ request_of parts sequence request =
     let s = spelled parts front in
     let headers : header_lines (request_text parts) ≡ map text_of parts.fields = sym s.split.same_lines ∙ s.headers in
     let values : (name : List ℕ) → header_value (request_text parts) name ≡ value_named name parts.fields =
-    λ name. ap (first_value name) headers ∙ values_named name parts.fields (plain_fields parts.fields front.fields_are) in
+    λ name. ap (first_value name) headers
+    ∙ values_named name parts.fields (plain_fields parts.fields front.fields_are) in
     let digits : Option (List ℕ) → Type 0 = λ o. IfSome o (λ value. is_decimal value ≡ true) in
     let body : IsBodyLength (flat (request_line parts ∷ map text_of parts.fields) ++ codes "\r\n") (length parts.body) =
     subst (λ n. IsBodyLength (flat (request_line parts ∷ map text_of parts.fields) ++ codes "\r\n") n)
     (given_is (value_named (codes "Content-Length") parts.fields) parts.body request.length_is)
-    (body_length_of (request_line parts) parts.fields (line_text parts front) (plain_fields parts.fields front.fields_are)) in
+    (body_length_of (request_line parts) parts.fields (line_text parts front)
+    (plain_fields parts.fields front.fields_are)) in
     record {
       split = s.split;
       line = subst (λ (t : List ℕ). IsRequestLine t parts.method parts.url (codes "RTSP/1.0")) (sym s.first)
@@ -171,7 +183,8 @@ request_of parts sequence request =
       sequence_is = ap (option_and_then number_of) (values (codes "CSeq")) ∙ request.sequence_is;
       length_is = subst digits (sym (values (codes "Content-Length")))
           (given_digits (value_named (codes "Content-Length") parts.fields) parts.body request.length_is);
-      body_is = subst (λ (f : List ℕ). IsBodyLength (f ++ codes "\r\n") (length parts.body)) (sym (front_of parts)) body;
+      body_is =
+          subst (λ (f : List ℕ). IsBodyLength (f ++ codes "\r\n") (length parts.body)) (sym (front_of parts)) body;
     }
 
 -- it is whole by itself
@@ -202,7 +215,8 @@ token_begins (c ∷ method) rest token =
     (omega arith, here.0, here.1)
 
 -- the bytes after a request's method
-head_begins : (parts : Parts) (later : List ℕ) → is_token parts.method ≡ true → StartsMessage (request_head parts ++ later)
+head_begins : (parts : Parts) (later : List ℕ) → is_token parts.method ≡ true
+    → StartsMessage (request_head parts ++ later)
 unfolding request_front
 head_begins parts later token =
     let tail = (codes " "
@@ -217,7 +231,8 @@ pub request_found : (parts : Parts) (sequence : ℕ) (later : List ℕ) → AreR
 request_found parts sequence later request short = (
   subst StartsMessage (sym (append_assoc (request_head parts) parts.body later))
       (head_begins parts (parts.body ++ later) (word_is parts.method request.front.method_is)),
-  IsMessageLength-append (request_text parts) later (length (request_text parts)) (request_whole parts sequence request short),
+  IsMessageLength-append (request_text parts) later (length (request_text parts))
+      (request_whole parts sequence request short),
   omega (arith, length-append (request_text parts) later),
 )
 
@@ -253,7 +268,8 @@ body_refused parts later front long short =
     let body : IsBodyLength (request_head parts) n =
     subst (λ (f : List ℕ). IsBodyLength (f ++ codes "\r\n") n) (sym (front_of parts))
     (subst (λ m. IsBodyLength (flat (request_line parts ∷ map text_of parts.fields) ++ codes "\r\n") m) given
-    (body_length_of (request_line parts) parts.fields (line_text parts front) (plain_fields parts.fields front.fields_are))) in
+    (body_length_of (request_line parts) parts.fields (line_text parts front)
+    (plain_fields parts.fields front.fields_are))) in
     let w = request_head parts ++ later in
     let taken : take (length (request_head parts)) w ≡ request_head parts =
     take_at (request_head parts) later (length (request_head parts)) refl in (
@@ -267,7 +283,8 @@ body_refused parts later front long short =
     )
 
 -- a reply whose Content-Length gives its body's length is whole by itself
-pub reply_whole : (parts : ReplyParts) → is_code parts.code ≡ true → All IsPlain (all_fields parts.sequence parts.fields) →
+pub reply_whole : (parts : ReplyParts) → is_code parts.code ≡ true
+    → All IsPlain (all_fields parts.sequence parts.fields) →
     HasGivenLength (all_fields parts.sequence parts.fields) parts.body →
     length (reply_front parts.code parts.sequence parts.fields ++ codes "\r\n") ≤ 16384 →
     length parts.body ≤ 65536
@@ -277,7 +294,8 @@ unfolding reply_text
 reply_whole parts is plain given short small =
     let lines_are = front_lines code sequence fields in
     let long : List ℕ → Type 0 = λ f. length (f ++ codes "\r\n") ≤ 16384 in
-    subst (λ (f : List ℕ). IsMessageLength ((f ++ codes "\r\n") ++ body) (length ((f ++ codes "\r\n") ++ body))) (sym lines_are)
+    subst (λ (f : List ℕ). IsMessageLength ((f ++ codes "\r\n") ++ body) (length ((f ++ codes "\r\n") ++ body)))
+    (sym lines_are)
     (whole_message (all_fields sequence fields) body (status_text-line code (status_of code is)) plain
     (given_is (value_named (codes "Content-Length") (all_fields sequence fields)) body given)
     (record { head_is = subst long lines_are short; body_is = small }))

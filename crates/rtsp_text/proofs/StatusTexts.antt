@@ -1,5 +1,6 @@
 -- A status line, from where it is cut.
-use Rattle.std.proofs.Common.{◌≡◌, ◌≢◌, ℕ, ◌^◌, ◌<◌, ◌&&◌, ◌==◌, true, not, nat_lt, List, ◌∷◌, ◌++◌, codes, length, get_or, take, drop, Some, None, refl, sym, ap, ◌∙◌, arith, lt-ltb}
+use Rattle.std.proofs.Common.{◌≡◌, ◌≢◌, ℕ, ◌^◌, ◌<◌, ◌&&◌, ◌==◌, true, not, nat_lt, List, ◌∷◌, ◌++◌, codes, length}
+use Rattle.std.proofs.Common.{get_or, take, drop, Some, None, refl, sym, ap, ◌∙◌, arith, lt-ltb}
 use Rattle.std.specs.List.{list_all}
 use Rattle.std.specs.Char.{is_ascii_digit}
 use Rattle.std.specs.Str.Parse.{digits_value}
@@ -21,7 +22,8 @@ code_small text three decimal =
     (and_parts (nat_lt 0 (length text)) (list_all is_ascii_digit text) decimal).1 (omega (arith, three))
 
 -- three digits are read as a number
-digits_number : (text : List ℕ) → length text ≡ 3 → is_decimal text ≡ true → number_of text ≡ Some (digits_value 10 text)
+digits_number : (text : List ℕ) → length text ≡ 3 → is_decimal text ≡ true
+    → number_of text ≡ Some (digits_value 10 text)
 digits_number text three decimal =
     cond-true (is_decimal text && nat_lt (digits_value 10 text) (2 ^ 64)) (Some (digits_value 10 text)) None
     (and_from (is_decimal text) (nat_lt (digits_value 10 text) (2 ^ 64)) decimal
@@ -29,14 +31,17 @@ digits_number text three decimal =
 
 pub code_read : (text : List ℕ) (n : ℕ) → length text ≡ 3 → number_of text ≡ Some n → IsCode text n × (n < 1000)
 code_read text n three read =
-    let found = number_read text n read in
-    (record { three = three; decimal = found.0; code_is = found.1 }, omega (arith, found.1, code_small text three found.0))
+    let found = number_read text n read in (
+      record { three = three; decimal = found.0; code_is = found.1 },
+      omega (arith, found.1, code_small text three found.0),
+    )
 
 pub code_none : (text : List ℕ) (n : ℕ) → number_of text ≡ None → IsCode text n → ⊥
 code_none text n none code = none-some (digits_value 10 text) (sym none ∙ digits_number text code.three code.decimal)
 
 -- digits have no space
-digits_cut : (digits phrase : List ℕ) (code : ℕ) → IsCode digits code → IsSplitAtFirst 32 (digits ++ 32 ∷ phrase) digits phrase
+digits_cut : (digits phrase : List ℕ) (code : ℕ) → IsCode digits code
+    → IsSplitAtFirst 32 (digits ++ 32 ∷ phrase) digits phrase
 digits_cut digits phrase code is = record {
   parts = refl;
   first = all_other is_ascii_digit 32 refl digits
@@ -57,7 +62,8 @@ status_rest {text} {version} {code} {r} first line =
 
 pub status_none : {text version rest : List ℕ} {code : ℕ} {r : List ℕ} → IsSplitAtFirst 32 text version rest
     → list_all (λ byte. not (byte == 32)) rest ≡ true → IsStatusLine text code r → ⊥
-status_none {text} {version} {rest} {code} {r} first none line = cut_none 32 rest line.digits r none (status_rest first line).1
+status_none {text} {version} {rest} {code} {r} first none line =
+    cut_none 32 rest line.digits r none (status_rest first line).1
 
 pub status_parts : {text version rest digits phrase : List ℕ} {code : ℕ} {r : List ℕ}
     → IsSplitAtFirst 32 text version rest → IsSplitAtFirst 32 rest digits phrase
@@ -82,7 +88,8 @@ whole_status {text} {version} {rest} {digits} {code} first second version_is is 
 line_once : {text : List ℕ} {c : ℕ} {r : List ℕ} {d : ℕ} {s : List ℕ} → IsStatusLine text c r
     → IsStatusLine text d s → (c ≡ d) × (r ≡ s)
 line_once {text} {c} {r} {s} a b =
-    let first : IsSplitAtFirst 32 text (codes "RTSP/1.0") (a.digits ++ 32 ∷ r) = record { parts = a.parts; first = refl } in
+    let first : IsSplitAtFirst 32 text (codes "RTSP/1.0") (a.digits ++ 32 ∷ r) =
+    record { parts = a.parts; first = refl } in
     let same = status_parts first (digits_cut a.digits r c a.is_code) b in
     (a.is_code.code_is ∙ ap (digits_value 10) same.digits_are ∙ sym b.is_code.code_is, same.phrase_is)
 

@@ -23,7 +23,8 @@ pub front_field : {old new : List ℕ} (code : ℕ) (sequence : Option ℕ) (fie
 unfolding reply_front
 front_field code sequence fields field h is =
     let more : flat_map field_line (fields ++ field ∷ []) ≡ flat_map field_line fields ++ field_line field =
-    flat_map-append field_line fields (field ∷ []) ∙ ap (λ t. flat_map field_line fields ++ t) (append-nil (field_line field)) in
+    flat_map-append field_line fields (field ∷ [])
+    ∙ ap (λ t. flat_map field_line fields ++ t) (append-nil (field_line field)) in
     h ∙ ap (λ t. t ++ field_line field) is
     ∙ append_assoc (status_line code ++ sequence_line sequence) (flat_map field_line fields) (field_line field)
     ∙ ap (λ t. (status_line code ++ sequence_line sequence) ++ t) (sym more)
@@ -33,4 +34,5 @@ pub whole_reply : {old new : List ℕ} (code : ℕ) (sequence : Option ℕ) (fie
     old ≡ reply_front code sequence fields → new ≡ reply_text code sequence fields body
 unfolding reply_text
 whole_reply code sequence fields body h is =
-    h ∙ ap (λ t. t ++ (codes "\r\n" ++ body)) is ∙ sym (append_assoc (reply_front code sequence fields) (codes "\r\n") body)
+    h ∙ ap (λ t. t ++ (codes "\r\n" ++ body)) is
+    ∙ sym (append_assoc (reply_front code sequence fields) (codes "\r\n") body)

@@ -1,5 +1,6 @@
 -- The value of a header line, and the first of a name among a list of lines.
-use Rattle.std.proofs.Common.{◌≡◌, ℕ, ◌+◌, ◌&&◌, ◌||◌, ◌==◌, ◌↔◌, IsTrue, Bool, true, false, not, List, [], ◌∷◌, ◌++◌, Option, Some, None, map, length, take, drop, refl, sym, ap, ◌∙◌, arith}
+use Rattle.std.proofs.Common.{◌≡◌, ℕ, ◌+◌, ◌&&◌, ◌||◌, ◌==◌, ◌↔◌, IsTrue, Bool, true, false, not, List, [], ◌∷◌, ◌++◌}
+use Rattle.std.proofs.Common.{Option, Some, None, map, length, take, drop, refl, sym, ap, ◌∙◌, arith}
 use Rattle.std.specs.Prelude.{slice_get, option_and_then}
 use Rattle.std.specs.List.{list_all, list_any, filter_map, cons_option, prefix_len, before_first, after_first}
 use Rattle.std.specs.Str.{str_eq_ignore_ascii_case}
@@ -16,7 +17,8 @@ use Rattle.rtsp_text.specs.Fields.{has_name, value_in, first_value, first_number
 pub same_name : (r : Bool) (a b : List ℕ) → (IsTrue r ↔ (map to_ascii_lowercase a ≡ map to_ascii_lowercase b))
     → r ≡ str_eq_ignore_ascii_case a b
 same_name r a b h =
-    same_from_decides r (str_eq_ignore_ascii_case a b) h (bytes_decides (map to_ascii_lowercase a) (map to_ascii_lowercase b))
+    same_from_decides r (str_eq_ignore_ascii_case a b) h
+    (bytes_decides (map to_ascii_lowercase a) (map to_ascii_lowercase b))
 
 -- the first colon
 any_colon : (front after : List ℕ) → list_any (λ byte. byte == 58) (front ++ 58 ∷ after) ≡ true
@@ -27,7 +29,8 @@ any_colon (x ∷ front) after = rw (any_colon front after) (or_true (x == 58))
     or_true true = refl
     or_true false = refl
 
-no_colon : (line : List ℕ) → list_all (λ byte. not (byte == 58)) line ≡ true → list_any (λ byte. byte == 58) line ≡ false
+no_colon : (line : List ℕ) → list_all (λ byte. not (byte == 58)) line ≡ true
+    → list_any (λ byte. byte == 58) line ≡ false
 no_colon [] none = refl
 no_colon (x ∷ line) none =
     rw (
@@ -48,13 +51,15 @@ colon_place (x ∷ front) after none =
       colon_place front after (and_parts (not (x == 58)) (list_all (λ byte. not (byte == 58)) front) none).1,
     ) (omega arith)
 
-before_colon : (line front after : List ℕ) → IsSplitAtFirst 58 line front after → before_first (λ byte. byte == 58) line ≡ front
+before_colon : (line front after : List ℕ) → IsSplitAtFirst 58 line front after
+    → before_first (λ byte. byte == 58) line ≡ front
 before_colon line front after cut =
     ap (before_first (λ byte. byte == 58)) cut.parts
     ∙ ap (λ n. take n (front ++ 58 ∷ after)) (colon_place front after cut.first)
     ∙ take_at front (58 ∷ after) (length front) refl
 
-after_colon : (line front after : List ℕ) → IsSplitAtFirst 58 line front after → after_first (λ byte. byte == 58) line ≡ after
+after_colon : (line front after : List ℕ) → IsSplitAtFirst 58 line front after
+    → after_first (λ byte. byte == 58) line ≡ after
 after_colon line front after cut =
     ap (after_first (λ byte. byte == 58)) cut.parts
     ∙ ap (λ n. drop (n + 1) (front ++ 58 ∷ after)) (colon_place front after cut.first)

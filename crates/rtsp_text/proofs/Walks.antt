@@ -1,10 +1,12 @@
 -- Going through a text line by line, against its lines as a whole.
-use Rattle.std.proofs.Common.{◌≡◌, ◌≢◌, ℕ, ◌+◌, ◌-◌, ◌<◌, ◌&&◌, ◌==◌, ◌≤◌, true, false, nat_lt, List, [], ◌∷◌, ◌++◌, All, length, get_or, take, drop, refl, sym, ap, subst, ◌∙◌, arith, inl, inr, ne_eqb}
+use Rattle.std.proofs.Common.{◌≡◌, ◌≢◌, ℕ, ◌+◌, ◌-◌, ◌<◌, ◌&&◌, ◌==◌, ◌≤◌, false, nat_lt, List, [], ◌∷◌, ◌++◌}
+use Rattle.std.proofs.Common.{All, length, get_or, take, drop, refl, sym, ap, subst, ◌∙◌, arith, inl, inr, ne_eqb}
 use Rattle.std.specs.List.{slice_split, prefix_len}
 use Rattle.std.specs.Str.Lines.{lines, lines_of_parts, strip_carriage_return}
 use Rattle.std.proofs.lemmas.Bool.{cases_Bool, cases_lt, cond-true, cond-false, lt-ltb}
 use Rattle.std.proofs.lemmas.Bool.Decides.{nat_tests}
-use Rattle.std.proofs.lemmas.List.{take-append-drop, drop_more, take-take, length-take, length-take-le, length-drop, get_or-take}
+use Rattle.std.proofs.lemmas.List.{take-append-drop, drop_more, take-take, length-take, length-take-le, length-drop}
+use Rattle.std.proofs.lemmas.List.{get_or-take}
 use Rattle.std.proofs.lemmas.List.Elements.{All-head, All-tail, All-from_get_or}
 use Rattle.std.proofs.lemmas.List.Sums.{take_while-cons, count_by-le-length}
 use Rattle.std.proofs.lemmas.List.Splits.{slice_split_none, slice_split_at, length-slice_split}
@@ -79,7 +81,8 @@ next_here bytes e n line =
     let none : All (λ b. (b == 10) ≡ false) (take (n - 1) bytes) =
     All-from_get_or (λ b. (b == 10) ≡ false) (take (n - 1) bytes) 0 (λ i within.
     let few : i < n - 1 = omega (arith, within, length-take (n - 1) bytes) in
-    rw (get_or-take (n - 1) bytes i 0 few) (ne_eqb (get_or bytes i 0) 10 (line.first i (omega arith) (omega (arith, few))))) in
+    rw (get_or-take (n - 1) bytes i 0 few)
+    (ne_eqb (get_or bytes i 0) 10 (line.first i (omega arith) (omega (arith, few))))) in
     record {
       lines_are = ap lines cut ∙ lines-at (take (n - 1) bytes) (drop n bytes) none
           ∙ ap (λ x. x ∷ lines (drop n bytes)) (strip-take bytes e n line);
@@ -95,7 +98,8 @@ next_open (x ∷ bytes) some none =
     (λ i within. ne_eqb (get_or (x ∷ bytes) i 0) 10 (none i (omega arith) within)) in
     record {
       lines_are = ap lines_of_parts (slice_split_none (λ b. b == 10) (x ∷ bytes) all)
-          ∙ cond-false (length (x ∷ bytes) == 0) [] ((x ∷ bytes) ∷ []) (ne_eqb (length (x ∷ bytes)) 0 (λ e. omega (arith, e)));
+          ∙ cond-false (length (x ∷ bytes) == 0) [] ((x ∷ bytes) ∷ [])
+          (ne_eqb (length (x ∷ bytes)) 0 (λ e. omega (arith, e)));
       shorter = omega arith;
     }
 
@@ -107,13 +111,15 @@ pub first_line-nil : (bytes : List ℕ) → bytes ≡ [] → bytes ≡ first_lin
 unfolding first_line
 first_line-nil bytes none = none ∙ ap (λ b. first_line b) (sym none)
 
-pub header_lines-next : (bytes line rest : List ℕ) → IsNextLine bytes line rest → lines_before_empty rest ≡ header_lines bytes
+pub header_lines-next : (bytes line rest : List ℕ) → IsNextLine bytes line rest
+    → lines_before_empty rest ≡ header_lines bytes
 unfolding header_lines lines_before_empty
 header_lines-next bytes line rest h = ap (λ ls. before_empty (drop 1 ls)) (sym h.lines_are)
 
 pub header_lines-nil : (bytes : List ℕ) → bytes ≡ [] → lines_before_empty bytes ≡ header_lines bytes
 unfolding header_lines lines_before_empty
-header_lines-nil bytes none = let P : List ℕ → Type 0 = λ b. lines_before_empty b ≡ header_lines b in subst P (sym none) refl
+header_lines-nil bytes none = let P : List ℕ
+    → Type 0 = λ b. lines_before_empty b ≡ header_lines b in subst P (sym none) refl
 
 -- the lines before the first empty one, one line on
 before_empty-some : (x : List ℕ) (xs : List (List ℕ)) → 0 < length x → before_empty (x ∷ xs) ≡ x ∷ before_empty xs
@@ -140,7 +146,8 @@ unfolding lines_before_empty
 next_header bytes line rest h some =
     ap before_empty h.lines_are ∙ before_empty-some line (lines rest) some
 
-pub next_empty : (bytes line rest : List ℕ) → IsNextLine bytes line rest → length line ≡ 0 → lines_before_empty bytes ≡ []
+pub next_empty : (bytes line rest : List ℕ) → IsNextLine bytes line rest → length line ≡ 0
+    → lines_before_empty bytes ≡ []
 unfolding lines_before_empty
 next_empty bytes line rest h none =
     ap before_empty h.lines_are ∙ before_empty-none line (lines rest) none
@@ -191,6 +198,3 @@ before_empty-closed (x ∷ xs) =
 -- what the test of an empty text says
 pub some_bytes : (text : List ℕ) → (length text == 0) ≡ false → 0 < length text
 some_bytes text h = grind (arith, nat_tests)
-
-pub no_bytes : (text : List ℕ) → (length text == 0) ≡ true → length text ≡ 0
-no_bytes text h = grind (arith, nat_tests)

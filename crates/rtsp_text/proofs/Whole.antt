@@ -19,7 +19,8 @@ IsHead-take n w head few within h = record {
   first = λ k below. empty_line_ends-take n w k (omega arith) ∙ h.first k below;
 }
 
-pub request-take : (w : List ℕ) (n : ℕ) → n ≤ length w → IsMessageLength w n → IsMessageLength (take n w) (length (take n w))
+pub request-take : (w : List ℕ) (n : ℕ) → n ≤ length w → IsMessageLength w n
+    → IsMessageLength (take n w) (length (take n w))
 request-take w n within r =
     let few : r.head ≤ n = omega (arith, r.total_is) in
     let P : List ℕ → Type 0 = λ l. IsBodyLength l r.body in
@@ -39,7 +40,8 @@ first_taken w n first = request-take w n first.2 first.1
 
 -- what stands in front of the same bytes is the same step
 pub first_is : {b w : List ℕ} {s t : Step} → IsFirst b (Ok s) → w ≡ b → s ≡ t → IsFirst w (Ok t)
-first_is {b} {w} {s} {t} first same is = subst (λ x. IsFirst x (Ok t)) (sym same) (subst (λ x. IsFirst b (Ok x)) is first)
+first_is {b} {w} {s} {t} first same is =
+    subst (λ x. IsFirst x (Ok t)) (sym same) (subst (λ x. IsFirst b (Ok x)) is first)
 
 -- a request has a byte
 pub some_request : (bytes : List ℕ) (n : ℕ) → IsMessageLength bytes n → 0 < n

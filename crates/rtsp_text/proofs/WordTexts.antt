@@ -1,5 +1,6 @@
 -- The bytes of words and of values, as the tests of the grammar and as the laws say them.
-use Rattle.std.proofs.Common.{◌≡◌, ◌≢◌, ℕ, ◌≤◌, ◌||◌, ◌==◌, Bool, true, not, nat_lt, nat_le, List, [], ◌∷◌, All, codes, length, refl, sym, ◌∙◌, arith, inl, inr}
+use Rattle.std.proofs.Common.{◌≡◌, ◌≢◌, ℕ, ◌≤◌, ◌||◌, ◌==◌, Bool, true, not, nat_lt, nat_le, List, [], ◌∷◌, All}
+use Rattle.std.proofs.Common.{codes, length, refl, sym, ◌∙◌, arith, inl, inr}
 use Rattle.std.specs.List.{list_all}
 use Rattle.std.specs.Char.{is_ascii_alphanumeric}
 use Rattle.std.proofs.lemmas.Bool.{and_parts, and_from, or_cases, eqb-true, lt-ltb}
@@ -10,12 +11,14 @@ use Rattle.rtsp_text.specs.Grammar.{is_token, is_token_byte, is_url_byte, is_val
 use Rattle.rtsp_text.specs.Spelled.{IsWordByte, IsWord, IsTextByte, IsNamedText, IsVisibleByte}
 use Rattle.rtsp_text.proofs.Cuts.{is_other}
 
-all_from : (P : ℕ → Type 0) (q : ℕ → Bool) → ((c : ℕ) → P c → q c ≡ true) → (text : List ℕ) → All P text → list_all q text ≡ true
+all_from : (P : ℕ → Type 0) (q : ℕ → Bool) → ((c : ℕ) → P c → q c ≡ true) → (text : List ℕ) → All P text
+    → list_all q text ≡ true
 all_from P q is [] all = refl
 all_from P q is (c ∷ text) all =
     and_from (q c) (list_all q text) (is c (All-head P c text all)) (all_from P q is text (All-tail P c text all))
 
-all_to : (P : ℕ → Type 0) (q : ℕ → Bool) → ((c : ℕ) → q c ≡ true → P c) → (text : List ℕ) → list_all q text ≡ true → All P text
+all_to : (P : ℕ → Type 0) (q : ℕ → Bool) → ((c : ℕ) → q c ≡ true → P c) → (text : List ℕ) → list_all q text ≡ true
+    → All P text
 all_to P q is [] all = All-nil P
 all_to P q is (c ∷ text) all =
     All-cons P c text (is c (and_parts (q c) (list_all q text) all).0)
@@ -96,4 +99,5 @@ named_line text named = record {
 pub named_texts : (texts : List (List ℕ)) → All IsHeaderLine texts → All IsNamedText texts
 named_texts [] all = All-nil IsNamedText
 named_texts (t ∷ ts) all =
-    All-cons IsNamedText t ts (line_named t (All-head IsHeaderLine t ts all)) (named_texts ts (All-tail IsHeaderLine t ts all))
+    All-cons IsNamedText t ts (line_named t (All-head IsHeaderLine t ts all))
+    (named_texts ts (All-tail IsHeaderLine t ts all))

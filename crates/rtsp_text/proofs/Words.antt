@@ -1,12 +1,14 @@
 -- The words of a request line and of a header line, from where the line is cut.
-use Rattle.std.proofs.Common.{◌≡◌, ◌≢◌, ℕ, ◌<◌, ◌==◌, true, false, not, nat_lt, List, [], ◌∷◌, ◌++◌, codes, map, length, get_or, take, drop, refl, sym, ap, subst, ◌∙◌, arith, inl, inr}
+use Rattle.std.proofs.Common.{◌≡◌, ◌≢◌, ℕ, ◌<◌, ◌==◌, true, false, not, nat_lt, List, [], ◌∷◌, ◌++◌, codes, map}
+use Rattle.std.proofs.Common.{length, get_or, take, drop, refl, sym, ap, subst, ◌∙◌, arith, inl, inr}
 use Rattle.std.specs.List.{list_all}
 use Rattle.std.specs.Char.{is_ascii_digit, to_ascii_lowercase}
 use Rattle.std.proofs.lemmas.Bool.{cases_eq, and_from, and_parts}
 use Rattle.std.proofs.lemmas.List.{take_at, drop_at, length-map, length-append}
 use Rattle.vod_base.specs.Numbers.{is_decimal}
 use Rattle.vod_base.specs.Splits.{IsSplitAtFirst}
-use Rattle.rtsp_text.specs.Grammar.{is_token_byte, is_token, is_url_byte, is_value_byte, IsRtspUrl, AreVersionNumbers, IsRequestLine, IsHeaderLine}
+use Rattle.rtsp_text.specs.Grammar.{is_token_byte, is_token, is_url_byte, is_value_byte, IsRtspUrl, AreVersionNumbers}
+use Rattle.rtsp_text.specs.Grammar.{IsRequestLine, IsHeaderLine}
 use Rattle.rtsp_text.proofs.Cuts.{is_other, other_is, cut_once, all_other}
 
 -- a token has no byte that isn't a token's
@@ -19,10 +21,15 @@ pub record AreHeaderParts (name value : List ℕ) : Type 0 where
   pub name_is : is_token name ≡ true
   pub value_is : list_all is_value_byte value ≡ true
 
-pub header_parts : (text name value : List ℕ) → IsSplitAtFirst 58 text name value → IsHeaderLine text → AreHeaderParts name value
+pub header_parts : (text name value : List ℕ) → IsSplitAtFirst 58 text name value → IsHeaderLine text
+    → AreHeaderParts name value
 header_parts text name value cut line =
     let same = cut_once cut line.parts (token_without 58 refl line.name line.name_is) in
-    record { name_is = ap is_token same.front ∙ line.name_is; value_is = ap (list_all is_value_byte) same.after ∙ line.value_is }
+    record {
+      name_is = ap is_token same.front ∙ line.name_is;
+      value_is = ap (list_all is_value_byte) same.after
+          ∙ line.value_is;
+    }
 
 pub header_line : (text name value : List ℕ) → IsSplitAtFirst 58 text name value → is_token name ≡ true
     → list_all is_value_byte value ≡ true → IsHeaderLine text
@@ -39,7 +46,11 @@ number_parts text major minor cut numbers =
     let none = all_other is_ascii_digit 46 refl numbers.major
     (and_parts (nat_lt 0 (length numbers.major)) (list_all is_ascii_digit numbers.major) numbers.major_is).1 in
     let same = cut_once cut numbers.parts none in
-    record { major_is = ap is_decimal same.front ∙ numbers.major_is; minor_is = ap is_decimal same.after ∙ numbers.minor_is }
+    record {
+      major_is = ap is_decimal same.front ∙ numbers.major_is;
+      minor_is = ap is_decimal same.after
+          ∙ numbers.minor_is;
+    }
 
 -- the words of a request line are the parts at its first two spaces
 pub record AreLineParts (method url version m u v : List ℕ) : Type 0 where
@@ -65,7 +76,8 @@ record IsSlashSplit (rest authority path : List ℕ) : Type 0 where
   path_begins : 0 < length path → get_or path 0 0 ≡ 47
 
 slash_split : (rest : List ℕ) → (authority : List ℕ) × ((path : List ℕ) × IsSlashSplit rest authority path)
-slash_split [] = ([], ([], record { parts = refl; no_slash = refl; path_begins = λ some. absurd (omega (arith, some)) }))
+slash_split [] =
+    ([], ([], record { parts = refl; no_slash = refl; path_begins = λ some. absurd (omega (arith, some)) }))
 slash_split (x ∷ rest) =
     elim (cases_eq x 47) [
       | inl slash ↦ ([], (x ∷ rest, record { parts = refl; no_slash = refl; path_begins = λ some. slash }))
@@ -121,7 +133,8 @@ pub url_parts : (url : List ℕ) → IsRtspUrl url → AreUrlParts (take 7 url) 
 url_parts url u =
     let seven : length u.scheme ≡ 7 = sym (length-map u.scheme to_ascii_lowercase) ∙ ap length u.scheme_is in
     let front : take 7 url ≡ u.scheme = ap (take 7) u.parts ∙ take_at u.scheme (u.authority ++ u.path) 7 seven in
-    let rest : drop 7 url ≡ u.authority ++ u.path = ap (drop 7) u.parts ∙ drop_at u.scheme (u.authority ++ u.path) 7 seven in
+    let rest : drop 7 url ≡ u.authority ++ u.path = ap (drop 7) u.parts
+    ∙ drop_at u.scheme (u.authority ++ u.path) 7 seven in
     let P : List ℕ → Type 0 = λ l. get_or l 0 0 ≢ 47 in
     record {
       scheme_is = ap (map to_ascii_lowercase) front ∙ u.scheme_is;

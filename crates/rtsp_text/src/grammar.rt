@@ -17,8 +17,9 @@ pub fn has_url_bytes(text: &[u8]) -> bool
     text.iter().all(|byte| is_url_byte(*byte))
 }
 
-/// The scheme of a URL, with what parts it from the authority.
-const SCHEME: &[u8; 7] = b"rtsp://";
+/// The scheme of an RTSP URL, with what parts it from the authority; in any case (RFC 2326 section
+/// 3.2).
+pub const SCHEME: &[u8; 7] = b"rtsp://";
 
 /// The three words of a request line.
 #[derive(Clone, Copy)]

@@ -16,7 +16,7 @@ ghost use Rattle.rtsp_text.specs.Spelled.{AreFront, AreRequest, AreShort, GivesL
 ghost use Rattle.rtsp_text.specs.Spelled.{HasGivenLength, Parts, request_head, request_text};
 ghost use Rattle.rtsp_text.specs.EndedLines.{EndedLine, head_bytes, IsEmpty, IsEnded, IsHeader};
 
-use interleave::{DemuxFault, Step};
+use interleave::{DemuxFault, MAX_BODY_BYTES, MAX_HEAD_BYTES, Step};
 
 /// The bytes of a request that [`interleave::Demux::look`] tells are a whole request by themselves,
 /// as [`crate::read_request`] takes it.
@@ -31,24 +31,23 @@ pub fn law_whole_request(waiting: &[u8], count: usize)
 /// code and phrase, its body and, for each name, the value of the first field of that name, CSeq
 /// among them; where each field's name is a word of letters, digits, `_` and `-`, and its value has
 /// no LF and no blanks around it.
-pub fn law_reply_read(message: &[u8])
-    requires { IsMessageLength message.now (length message.now) }
-    ensures { (code : ℕ) (sequence : Option ℕ) (fields : List Field) (body : List ℕ) →
+pub fn law_reply_read()
+    ensures { (message : List ℕ) (code : ℕ) (sequence : Option ℕ) (fields : List Field)
+        (body : List ℕ) → IsMessageLength message (length message) →
         IsTrue (is_code code) → All IsPlain (all_fields sequence fields) →
-        message.now ≡ reply_text code sequence fields body →
-        IsReadBack message.now code sequence fields body }
-{
-    let _read = message.len();
-}
+        message ≡ reply_text code sequence fields body →
+        IsReadBack message code sequence fields body }
+{}
 
 /// A reply that [`crate::Reply`] wrote is a whole message by itself, as [`crate::read_reply`] takes
-/// it, where its head has at most 16,384 bytes, and its body at most 65,536 and the length that its
-/// first Content-Length writes, or none where there is none.
+/// it, where its head has at most [`MAX_HEAD_BYTES`] bytes, and its body at most [`MAX_BODY_BYTES`]
+/// and the length that its first Content-Length writes, or none where there is none.
 pub fn law_reply_whole()
     ensures { (code : ℕ) (sequence : Option ℕ) (fields : List Field) (body : List ℕ) →
         IsTrue (is_code code) → All IsPlain (all_fields sequence fields) →
         HasGivenLength (all_fields sequence fields) body →
-        length (reply_front code sequence fields ++ codes "\r\n") ≤ 16384 → length body ≤ 65536 →
+        length (reply_front code sequence fields ++ codes "\r\n") ≤ MAX_HEAD_BYTES →
+        length body ≤ MAX_BODY_BYTES →
         IsMessageLength (reply_text code sequence fields body)
         (length (reply_text code sequence fields body)) }
 {}
@@ -69,14 +68,14 @@ pub fn law_request_read()
         header_value (request_head parts) name ≡ value_named name parts.fields }
 {}
 
-/// A request whose head has more than 16,384 bytes is refused for it, and else one whose first
-/// Content-Length writes more than 65,536; whatever comes later.
+/// A request whose head has more than [`MAX_HEAD_BYTES`] bytes is refused for it, and else one whose
+/// first Content-Length writes more than [`MAX_BODY_BYTES`]; whatever comes later.
 pub fn law_request_refused()
     ensures head { (parts : Parts) (later : List ℕ) → AreFront parts →
-        16384 < length (request_head parts) →
+        MAX_HEAD_BYTES < length (request_head parts) →
         IsFirst (request_head parts ++ later) (Err DemuxFault.HeadTooLong) }
     ensures body { (parts : Parts) (later : List ℕ) → AreFront parts →
-        GivesLongBody parts.fields → length (request_head parts) ≤ 16384 →
+        GivesLongBody parts.fields → length (request_head parts) ≤ MAX_HEAD_BYTES →
         IsFirst (request_head parts ++ later) (Err DemuxFault.BodyTooLong) }
 {}
 

@@ -75,7 +75,8 @@ fn next_line(bytes: &[u8]) -> Option<(&[u8], &[u8])>
     }
 }
 
-/// Where the head of a whole request ends, after its empty line.
+/// Where the head of a whole request ends, after its empty line. It walks by places, which
+/// [`HeaderLines`] doesn't tell.
 fn head_end(message: &[u8]) -> usize
     requires { IsMessageLength message.now (length message.now) }
     ensures within { result ≤ length message.now }

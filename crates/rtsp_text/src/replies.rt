@@ -12,7 +12,7 @@ use std::alloc::Global;
 use std::marker::Model;
 use vod_base::NoMemory;
 
-/// The text of a reply (RFC 2326 section 7), in a buffer of 65,536 bytes.
+/// The text of a reply (RFC 2326 section 7), in a buffer of [`ROOM`] bytes.
 ///
 /// Contracts see the text so far as a list of bytes. Only `new` takes memory.
 #[derive(Drop)]
@@ -20,22 +20,22 @@ pub struct Reply {
     text: Vec<u8>,
 }
 
-/// The most bytes of a reply.
-const ROOM: usize = 65_536;
+/// The most bytes of a reply's text.
+pub const ROOM: usize = 65_536;
 
-/// The most bytes of a phrase.
-const PHRASE_ROOM: usize = 30;
+/// The most bytes of a phrase, which `Method Not Valid In This State` has.
+pub const PHRASE_ROOM: usize = 30;
 
 /// The most bytes of a status line: `RTSP/1.0 `, the code's digits, a space, the phrase and the
 /// line's end.
-const STATUS_ROOM: usize = 9 + 5 + 1 + PHRASE_ROOM + 2;
+pub const STATUS_ROOM: usize = 9 + 5 + 1 + PHRASE_ROOM + 2;
 
 /// The most bytes of a field's line after its name, where the value is a number: `: `, 20 digits
 /// and the line's end.
-const NUMBER_ROOM: usize = 24;
+pub const NUMBER_ROOM: usize = 24;
 
 /// The most bytes of a status line and a line `CSeq: N`.
-const START_ROOM: usize = STATUS_ROOM + 4 + NUMBER_ROOM;
+pub const START_ROOM: usize = STATUS_ROOM + 4 + NUMBER_ROOM;
 
 impl Model for Reply {
     ghost use Rattle.std.specs.Prelude.{ℕ, List, ◌≤◌, vec_capacity};
@@ -49,7 +49,7 @@ impl Model for Reply {
 }
 
 impl Reply {
-    /// Reserves room for 65,536 bytes; no other call takes memory.
+    /// Reserves room for [`ROOM`] bytes; no other call takes memory.
     pub fn new(alloc: Global) -> Result<Reply, NoMemory>
         ensures { IfOk result (λ reply. reply ≡ []) }
     {
@@ -111,8 +111,8 @@ impl Reply {
         self.put(b"\r\n");
     }
 
-    /// Appends the status line `RTSP/1.0 CODE REASON` and, where there is a sequence number, the
-    /// line `CSeq: N`: at most 75 bytes.
+    /// Appends the status line `RTSP/1.0 CODE PHRASE` and, where there is a sequence number, the
+    /// line `CSeq: N`: at most [`START_ROOM`] bytes.
     pub fn start(&mut self, code: u16, sequence: Option<u64>)
         requires code { IsTrue (is_code code) }
         requires fits { length self.old + START_ROOM ≤ ROOM }

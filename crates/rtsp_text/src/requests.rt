@@ -14,12 +14,13 @@ ghost use Rattle.rtsp_text.specs.Fields.{IsFirstNumber, HasNoNumber};
 use crate::fields;
 use crate::grammar::{is_header_line, is_rtsp_1_0, request_line};
 use crate::lines::{first_line, header_lines, split};
+use interleave::{MAX_BODY_BYTES, MAX_HEAD_BYTES};
 use std::error::Error;
 use std::fmt;
 use vod_base::is_decimal;
 
 /// A request of RTSP 1.0 (RFC 2326 section 6).
-#[derive(Clone, Copy, Debug)]
+#[derive(Clone, Copy, Debug, PartialEq, Eq)]
 pub struct Request<'a> {
     /// The method: one or more letters, digits, `_` and `-`.
     pub method: &'a [u8],
@@ -109,8 +110,7 @@ pub fn sequence_of(message: &[u8]) -> Option<u64>
 /// bytes.
 ///
 /// Ok exactly where the message is a request of RTSP 1.0, with its parts; each fault exactly where
-/// its cause holds and none before it in [`RequestFault`]. The head has at most 16,384 bytes, the
-/// body at most 65,536.
+/// its cause holds and none before it in [`RequestFault`].
 pub fn read_request(message: &[u8]) -> Result<Request<'_>, RequestFault>
     requires { IsMessageLength message.now (length message.now) }
     ensures read { IfOk result (λ r.
@@ -121,9 +121,9 @@ pub fn read_request(message: &[u8]) -> Result<Request<'_>, RequestFault>
         IsOkAnd result (λ r. (r.method.now ≡ method) × (r.url.now ≡ url)
         × (r.sequence ≡ sequence) × (r.head.now ≡ head) × (r.body.now ≡ body)) }
     ensures faults { (fault : RequestFault) → IsFault message.now fault → result ≡ Err fault }
-    ensures head { IfOk result (λ r. length r.head.now ≤ 16384) }
+    ensures head { IfOk result (λ r. length r.head.now ≤ MAX_HEAD_BYTES) }
     ensures url { IfOk result (λ r. length r.url.now < length r.head.now) }
-    ensures body { IfOk result (λ r. length r.body.now ≤ 65536) }
+    ensures body { IfOk result (λ r. length r.body.now ≤ MAX_BODY_BYTES) }
 {
     read_parts(message)
 }

@@ -7,10 +7,11 @@ ghost use Rattle.rtsp_text.specs.StatusLines.{IsCode, IsStatusLine, IsReply};
 
 use crate::grammar::is_rtsp_1_0;
 use crate::lines::{first_line, split};
+use interleave::{MAX_BODY_BYTES, MAX_HEAD_BYTES};
 use vod_base::{read_number, split_at_first};
 
 /// A reply of RTSP 1.0 (RFC 2326 section 7), as a client hears it.
-#[derive(Clone, Copy, Debug)]
+#[derive(Clone, Copy, Debug, PartialEq, Eq)]
 pub struct ReplyParts<'a> {
     /// The code: three digits.
     pub code: u16,
@@ -25,7 +26,7 @@ pub struct ReplyParts<'a> {
 /// Reads a whole reply, head and body, as [`interleave::Demux`] cuts it from a connection's bytes.
 ///
 /// None exactly where the first line isn't `RTSP/1.0`, three digits and a phrase, with single
-/// spaces. Header lines aren't judged. The head has at most 16,384 bytes, the body at most 65,536.
+/// spaces. Header lines aren't judged.
 pub fn read_reply(message: &[u8]) -> Option<ReplyParts<'_>>
     requires { IsMessageLength message.now (length message.now) }
     ensures read { MatchOption result ((code : ℕ) (phrase : List ℕ) →
@@ -35,8 +36,8 @@ pub fn read_reply(message: &[u8]) -> Option<ReplyParts<'_>>
         IsReply message.now code phrase head body →
         IsSomeAnd result (λ r. (r.code ≡ code) × (r.phrase.now ≡ phrase)
         × (r.head.now ≡ head) × (r.body.now ≡ body)) }
-    ensures head { IfSome result (λ r. length r.head.now ≤ 16384) }
-    ensures body { IfSome result (λ r. length r.body.now ≤ 65536) }
+    ensures head { IfSome result (λ r. length r.head.now ≤ MAX_HEAD_BYTES) }
+    ensures body { IfSome result (λ r. length r.body.now ≤ MAX_BODY_BYTES) }
 {
     let (code, phrase) = status_line(first_line(message))?;
     let (head, body) = split(message);

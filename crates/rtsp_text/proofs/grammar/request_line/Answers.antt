@@ -4,7 +4,9 @@ use Rattle.rtsp_text.specs.Grammar.{is_token, IsUrl, IsVersion}
 use Rattle.rtsp_text.proofs.Cuts.{cut_none}
 use Rattle.rtsp_text.proofs.Words.{line_rest, line_parts}
 use Rattle.rtsp_text.proofs.grammar.request_line.Goals as goal
-use Rattle.rtsp_text.proofs.grammar.request_line.Goals.{else-is_token-via-then-is_token+then-is_url+else-is_version, else-is_token-via-then-is_token+else-is_url, else-is_token-via-else-is_token}
+use Rattle.rtsp_text.proofs.grammar.request_line.Goals.{else-is_token-via-then-is_token+then-is_url+else-is_version}
+use Rattle.rtsp_text.proofs.grammar.request_line.Goals.{else-is_token-via-then-is_token+else-is_url}
+use Rattle.rtsp_text.proofs.grammar.request_line.Goals.{else-is_token-via-else-is_token}
 
 pub returns-in_err-url : goal.returns-in_err-url
 returns-in_err-url c =
@@ -22,5 +24,6 @@ returns-else-is_token c = λ m u v line.
       | else-is_token-via-then-is_token+else-is_url w ↦
           both_ways w.is_url.result w.if-is_url.false (w.is_url.ensures.1 (subst IsUrl (sym same.url_is) line.url_is))
       | else-is_token-via-else-is_token w ↦
-          both_ways c.is_token.result w.if-is_token.false (c.is_token.ensures ∙ ap is_token same.method_is ∙ line.method_is)
+          both_ways c.is_token.result w.if-is_token.false
+          (c.is_token.ensures ∙ ap is_token same.method_is ∙ line.method_is)
     ]

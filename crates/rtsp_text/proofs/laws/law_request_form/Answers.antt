@@ -6,7 +6,8 @@ pub returns-clause-form : goal.returns-clause-form
 returns-clause-form c = λ message method url sequence head body request. form_of request
 
 pub returns-clause-sequence : goal.returns-clause-sequence
-returns-clause-sequence c = λ message first texts method url sequence head body has request. sequence_written has request
+returns-clause-sequence c =
+    λ message first texts method url sequence head body has request. sequence_written has request
 
 pub returns-clause-length : goal.returns-clause-length
 returns-clause-length c =

@@ -14,4 +14,5 @@ returns-in-None c =
     let bytes = c.args.bytes.now in
     let some : bytes ≢ [] =
     λ e. both_ways c.is_empty.result c.if-is_empty.false (c.is_empty.ensures ∙ eq-eqb (length bytes) 0 (ap length e)) in
-    rw (take_rest bytes (length bytes), drop_all (length bytes) bytes (omega arith)) (next_open bytes some c.in-None.ensures.none)
+    rw (take_rest bytes (length bytes), drop_all (length bytes) bytes (omega arith))
+    (next_open bytes some c.in-None.ensures.none)

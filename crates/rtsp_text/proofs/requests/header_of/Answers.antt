@@ -12,7 +12,8 @@ returns-clause-none c =
     found_none (λ x. x.now) c.header_value.result c.args.name.now (header_lines c.args.head.now) c.header_value.ensures
 
 pub returns-clause-short : goal.returns-clause-short
-returns-clause-short c = found_short (λ x. x.now) c.header_value.result c.args.name.now c.args.head.now (returns-clause-first c)
+returns-clause-short c =
+    found_short (λ x. x.now) c.header_value.result c.args.name.now c.args.head.now (returns-clause-first c)
 
 pub returns-clause-one_line : goal.returns-clause-one_line
 returns-clause-one_line c =

@@ -21,7 +21,8 @@ returns-clause-read c = record {
   split = c.split.ensures;
   line = subst (λ (t : List ℕ). IsStatusLine t c.in_ok-code.code c.in_ok-code.phrase.now) c.first_line.ensures
       c.in_ok-code.ensures;
-  body_is = (lengths_of c.args.message.now c.split.result.0.now c.split.result.1.now c.requires c.split.ensures).body_is;
+  body_is =
+      (lengths_of c.args.message.now c.split.result.0.now c.split.result.1.now c.requires c.split.ensures).body_is;
 }
 
 pub returns-clause-replies : goal.returns-clause-replies

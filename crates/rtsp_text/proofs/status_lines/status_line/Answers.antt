@@ -1,10 +1,12 @@
 use Rattle.std.proofs.Common.{◌≡◌, ℕ, List, length, get_or, sym, ap, subst, ◌∙◌, arith}
-use Rattle.std.proofs.lemmas.Bool.{both_ways}
+use Rattle.std.proofs.lemmas.Bool.{both_ways, eqb-true}
 use Rattle.rtsp_text.specs.StatusLines.{IsCode}
-use Rattle.rtsp_text.proofs.Walks.{some_bytes, no_bytes}
+use Rattle.rtsp_text.proofs.Walks.{some_bytes}
 use Rattle.rtsp_text.proofs.StatusTexts.{status_none, status_parts, whole_status}
 use Rattle.rtsp_text.proofs.status_lines.status_line.Goals as goal
-use Rattle.rtsp_text.proofs.status_lines.status_line.Goals.{then-not-is_rtsp_1_0-via-then-not-is_rtsp_1_0, then-not-is_rtsp_1_0-via-else-not-is_rtsp_1_0+then-is_empty, then-not-is_rtsp_1_0-via-else-not-is_rtsp_1_0+else-is_empty+then-phrase-eq32}
+use Rattle.rtsp_text.proofs.status_lines.status_line.Goals.{then-not-is_rtsp_1_0-via-then-not-is_rtsp_1_0}
+use Rattle.rtsp_text.proofs.status_lines.status_line.Goals.{then-not-is_rtsp_1_0-via-else-not-is_rtsp_1_0+then-is_empty}
+use Rattle.rtsp_text.proofs.status_lines.status_line.Goals.{then-not-is_rtsp_1_0-via-else-not-is_rtsp_1_0+else-is_empty+then-phrase-eq32}
 
 pub returns-in_err-digits : goal.returns-in_err-digits
 returns-in_err-digits c =
@@ -19,7 +21,7 @@ returns-then-not-is_rtsp_1_0 c = λ code phrase line.
           both_ways c.is_rtsp_1_0.result w.if-not-is_rtsp_1_0.true (c.is_rtsp_1_0.ensures.1 same.version_is)
       | then-not-is_rtsp_1_0-via-else-not-is_rtsp_1_0+then-is_empty w ↦
           let none : length c.in_ok-digits.phrase.now ≡ 0 =
-          no_bytes c.in_ok-digits.phrase.now (sym w.is_empty.ensures ∙ w.if-is_empty.true) in
+          eqb-true (length c.in_ok-digits.phrase.now) 0 (sym w.is_empty.ensures ∙ w.if-is_empty.true) in
           omega (arith, none, ap length same.phrase_is, line.some)
       | then-not-is_rtsp_1_0-via-else-not-is_rtsp_1_0+else-is_empty+then-phrase-eq32 w ↦
           line.no_space (ap (λ (r : List ℕ). get_or r 0 0) (sym same.phrase_is) ∙ w.if-phrase-eq32.true)

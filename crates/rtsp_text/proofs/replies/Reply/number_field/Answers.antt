@@ -7,4 +7,5 @@ pub returns-clause-front : goal.returns-clause-front
 returns-clause-front c = λ code sequence fields is.
     let digits : c.as_bytes.result.now ≡ decimal c.args.value = c.as_bytes.ensures.value ∙ c.format.ensures.text in
     front_field code sequence fields (record { name = c.args.name.now; value = decimal c.args.value })
-    (c.put_field.ensures.text ∙ ap (λ t. c.args.self.now ++ field_line (record { name = c.args.name.now; value = t })) digits) is
+    (c.put_field.ensures.text
+    ∙ ap (λ t. c.args.self.now ++ field_line (record { name = c.args.name.now; value = t })) digits) is

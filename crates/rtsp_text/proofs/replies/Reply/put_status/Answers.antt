@@ -10,7 +10,8 @@ returns-clause-text c =
     let old = c.args.self.now in
     let version = codes "RTSP/1.0 " in
     let code = decimal c.args.code in
-    let with_code = two_put old version code c.put.ensures.text (c.put-2.ensures.text ∙ ap (λ t. c.put.new.self ++ t) digits) in
+    let with_code =
+    two_put old version code c.put.ensures.text (c.put-2.ensures.text ∙ ap (λ t. c.put.new.self ++ t) digits) in
     let with_phrase = two_put old (version ++ code ++ codes " ") (phrase c.args.code)
     (two_put old (version ++ code) (codes " ") with_code c.put-3.ensures.text)
     (c.put-4.ensures.text ∙ ap (λ t. c.put-3.new.self ++ t) c.phrase.ensures.text) in

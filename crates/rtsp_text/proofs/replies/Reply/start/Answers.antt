@@ -8,7 +8,8 @@ pub returns-in-Some-clause-text : goal.returns-in-Some-clause-text
 unfolding sequence_line
 returns-in-Some-clause-text c =
     let digits : c.as_bytes.result.now ≡ decimal c.in-Some.number = c.as_bytes.ensures.value ∙ c.format.ensures.text in
-    let line : field_line (record { name = codes "CSeq"; value = c.as_bytes.result.now }) ≡ sequence_line c.args.sequence =
+    let line : field_line (record { name = codes "CSeq"; value = c.as_bytes.result.now })
+    ≡ sequence_line c.args.sequence =
     ap (λ t. field_line (record { name = codes "CSeq"; value = t })) digits ∙ sym (ap sequence_line c.in-Some.is) in
     two_put c.args.self.now (status_line c.args.code) (sequence_line c.args.sequence) c.put_status.ensures.text
     (c.put_field.ensures.text ∙ ap (λ t. c.put_status.new.self ++ t) line)
