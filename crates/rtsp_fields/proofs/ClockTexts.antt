@@ -1,11 +1,13 @@
 -- Hours, minutes and seconds, put together with `:`, are read back.
 use Rattle.std.proofs.Common.{◌≡◌, ◌≢◌, ℕ, ◌+◌, ◌-◌, ◌*◌, ◌^◌, ◌<◌, ◌≤◌, ◌||◌, ◌==◌, Bool, true, false}
-use Rattle.std.proofs.Common.{List, [], ◌∷◌, ◌++◌, length, take, drop, get_or, slice_range, decimal, refl, sym, ap, subst, ◌∙◌, arith, inl, inr, nat_lt}
+use Rattle.std.proofs.Common.{List, [], ◌∷◌, ◌++◌, length, take, drop, get_or, slice_range, decimal, refl, sym, ap}
+use Rattle.std.proofs.Common.{subst, ◌∙◌, arith, inl, inr, nat_lt}
 use Rattle.std.specs.List.{list_all}
 use Rattle.std.specs.Char.{is_ascii_digit}
 use Rattle.std.proofs.lemmas.Bool.{and_parts, and_from, lt-ltb}
 use Rattle.std.proofs.lemmas.Fmt.{digits_decimal, digits_value-decimal, decimal_nonempty, length-decimal-le}
-use Rattle.std.proofs.lemmas.List.{append_assoc, take_at, drop_at, take_all, length-append, get_or_append_left, get_or-append-add}
+use Rattle.std.proofs.lemmas.List.{append_assoc, take_at, drop_at, take_all, length-append, get_or_append_left}
+use Rattle.std.proofs.lemmas.List.{get_or-append-add}
 use Rattle.std.proofs.lemmas.List.Folds.{list_all_at, list_all-append}
 use Rattle.vod_base.proofs.Digits.{decimal_numerals}
 use Rattle.rtsp_fields.specs.Parts.{IsPartEnd}
@@ -23,7 +25,8 @@ digits_end : (front digits tail : List ℕ) → list_all is_ascii_digit digits �
     IsPartEnd 58 (front ++ (digits ++ 58 ∷ tail)) (length front) (length front + length digits)
 digits_end front digits tail all =
     let long : length (front ++ (digits ++ 58 ∷ tail)) ≡ length front + (length digits + (1 + length tail)) =
-    length-append front (digits ++ 58 ∷ tail) ∙ ap (λ n. length front + n) (length-append digits (58 ∷ tail) ∙ omega arith) in
+    length-append front (digits ++ 58 ∷ tail)
+    ∙ ap (λ n. length front + n) (length-append digits (58 ∷ tail) ∙ omega arith) in
     record {
       after = omega arith;
       within = omega (arith, long);
@@ -55,7 +58,8 @@ record AreClockDigits (h m s : List ℕ) (a b c : ℕ) : Type 0 where
   small_minutes : b ≤ 59
   small_seconds : c ≤ 59
 
-clock_of : {h m s : List ℕ} {a b c : ℕ} → AreClockDigits h m s a b c → IsClock (clock_text h m s) (a * 3600 + b * 60 + c)
+clock_of : {h m s : List ℕ} {a b c : ℕ} → AreClockDigits h m s a b c
+    → IsClock (clock_text h m s) (a * 3600 + b * 60 + c)
 unfolding clock_text
 clock_of {h} {m} {s} {a} {b} {c} digits =
     let front = h ++ 58 ∷ [] in
@@ -91,7 +95,8 @@ clock_of {h} {m} {s} {a} {b} {c} digits =
       hours = a;
       minutes = b;
       rest = c;
-      are_hours = subst (λ (t : List ℕ). IsDigits 5 t a) (sym (take_at h (58 ∷ (m ++ 58 ∷ s)) (length h) refl)) digits.hours;
+      are_hours =
+          subst (λ (t : List ℕ). IsDigits 5 t a) (sym (take_at h (58 ∷ (m ++ 58 ∷ s)) (length h) refl)) digits.hours;
       are_minutes = subst (λ (t : List ℕ). IsDigits 2 t b) (sym minutes_are) digits.minutes;
       are_seconds = subst (λ (t : List ℕ). IsDigits 2 t c) (sym seconds_are) digits.seconds;
       small_minutes = digits.small_minutes;
@@ -116,7 +121,8 @@ no_point text k all inside = λ point.
     let wrong : true ≡ false = sym all ∙ list_all_at is_clock_byte text k 0 inside other in
     cc
 
-clock_is_time : (text : List ℕ) (n : ℕ) → list_all is_clock_byte text ≡ true → IsClock text n → IsTime text (n * 1000000000)
+clock_is_time : (text : List ℕ) (n : ℕ) → list_all is_clock_byte text ≡ true → IsClock text n
+    → IsTime text (n * 1000000000)
 clock_is_time text n all clock = record {
   point = length text;
   point_is = record {
@@ -161,7 +167,8 @@ clock_read hours minutes seconds h m s =
     short_digits 2 minutes (omega arith) (omega arith) (omega (arith, m)) (omega (arith, m)) in
     let sd : IsDigits 2 (decimal seconds) seconds =
     short_digits 2 seconds (omega arith) (omega arith) (omega (arith, s)) (omega (arith, s)) in
-    clock_is_time (clock_text (decimal hours) (decimal minutes) (decimal seconds)) (hours * 3600 + minutes * 60 + seconds)
+    clock_is_time (clock_text (decimal hours) (decimal minutes) (decimal seconds))
+    (hours * 3600 + minutes * 60 + seconds)
     (all_text (decimal hours) (decimal minutes) (decimal seconds) (digits_of 5 (decimal hours) hours hd)
     (digits_of 2 (decimal minutes) minutes md) (digits_of 2 (decimal seconds) seconds sd))
     (clock_of (record { hours = hd; minutes = md; seconds = sd; small_minutes = m; small_seconds = s }))

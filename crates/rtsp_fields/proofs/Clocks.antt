@@ -1,5 +1,6 @@
 -- Clock times and fractions of a second, at the places where they are cut.
-use Rattle.std.proofs.Common.{◌≡◌, ℕ, ◌+◌, ◌*◌, ◌^◌, ◌<◌, ◌≤◌, ◌⊎◌, List, length, take, refl, sym, ◌∙◌, subst, arith, inl, inr, slice_range, MatchOption, Option, Some, None}
+use Rattle.std.proofs.Common.{◌≡◌, ℕ, ◌+◌, ◌*◌, ◌^◌, ◌<◌, ◌≤◌, ◌⊎◌, List, length, take, refl, sym, ◌∙◌, subst, arith}
+use Rattle.std.proofs.Common.{inl, inr, slice_range, MatchOption, Option, Some, None}
 use Rattle.std.proofs.lemmas.Bool.{cases_order}
 use Rattle.rtsp_fields.specs.Parts.{IsPartEnd}
 use Rattle.rtsp_fields.specs.Times.{IsDigits, IsClock, AreSeconds, IsFraction, IsTime}
@@ -17,7 +18,8 @@ pub record IsClockAt (text : List ℕ) (first second seconds : ℕ) : Type 0 whe
   pub small_minutes : minutes ≤ 59
   pub small_seconds : rest ≤ 59
 
-pub first_colon : (text : List ℕ) (first seconds : ℕ) (clock : IsClock text seconds) → IsPartEnd 58 text 0 first → clock.first ≡ first
+pub first_colon : (text : List ℕ) (first seconds : ℕ) (clock : IsClock text seconds) → IsPartEnd 58 text 0 first
+    → clock.first ≡ first
 first_colon text first seconds clock e = end_once clock.hours_end e
 
 pub clock_at : {text : List ℕ} {first second seconds : ℕ} → IsPartEnd 58 text 0 first

@@ -1,5 +1,6 @@
 -- The description of a film, line by line.
-use Rattle.std.proofs.Common.{◌≡◌, ◌≢◌, ℕ, zero, suc, ◌+◌, ◌-◌, ◌*◌, ◌^◌, ◌<◌, true, List, [], ◌∷◌, ◌++◌, length, get_or, slice_range, codes, flat_map, refl, sym, ap, subst, ◌∙◌, arith, inl, Some}
+use Rattle.std.proofs.Common.{◌≡◌, ◌≢◌, ℕ, zero, suc, ◌+◌, ◌-◌, ◌*◌, ◌^◌, ◌<◌, true, List, [], ◌∷◌, ◌++◌, length}
+use Rattle.std.proofs.Common.{get_or, slice_range, codes, flat_map, refl, sym, ap, subst, ◌∙◌, arith, inl, Some}
 use Rattle.std.proofs.lemmas.List.{append_assoc, take_all, length-append}
 use Rattle.vod_base.specs.Names.{is_good_name}
 use Rattle.rtsp_text.proofs.OneLines.{one_line-append, one_line-name}

@@ -1,5 +1,6 @@
 -- Short numbers and their values.
-use Rattle.std.proofs.Common.{◌≡◌, ◌<◌, ◌≤◌, ◌+◌, ◌-◌, ◌*◌, ◌^◌, ◌&&◌, ℕ, true, List, length, Option, Some, None, nat_lt, inl, inr, arith, refl, sym, ap, ◌∙◌, lt-ltb, [], take, MatchOption, min}
+use Rattle.std.proofs.Common.{◌≡◌, ◌<◌, ◌≤◌, ◌+◌, ◌-◌, ◌*◌, ◌^◌, ◌&&◌, ℕ, true, List, length, Option, Some, None}
+use Rattle.std.proofs.Common.{nat_lt, inl, inr, arith, refl, sym, ap, ◌∙◌, lt-ltb, [], take, MatchOption, min}
 use Rattle.std.specs.Option.{unwrap_or}
 use Rattle.std.proofs.Math.Nat.{mul-lt-mul_of_pos_right, min_comm, one-le-pow}
 use Rattle.std.proofs.lemmas.Nat.{pow-add}
@@ -19,14 +20,16 @@ use Rattle.vod_base.proofs.Digits.{decimal_numerals}
 -- at most nine digits are below 10^9
 pub below_billion : (text : List ℕ) → is_decimal text ≡ true → length text ≤ 9 → digits_value 10 text < 10 ^ 9
 below_billion text decimal short =
-    digits_value_short decimal_numerals text 9 (and_parts (nat_lt 0 (length text)) (list_all is_ascii_digit text) decimal).1 short
+    digits_value_short decimal_numerals text 9
+    (and_parts (nat_lt 0 (length text)) (list_all is_ascii_digit text) decimal).1 short
 
 -- such digits are read
 pub short_is_read : (most : ℕ) (text : List ℕ) (n : ℕ) → most ≤ 9 → IsDigits most text n
     → number_of text ≡ Some (digits_value 10 text)
 short_is_read most text n few d =
     let small : digits_value 10 text < 10 ^ 9 = below_billion text d.decimal (omega (arith, few, d.short)) in
-    let fits : nat_lt (digits_value 10 text) (2 ^ 64) ≡ true = lt-ltb (digits_value 10 text) (2 ^ 64) (omega (arith, small)) in
+    let fits : nat_lt (digits_value 10 text) (2 ^ 64) ≡ true =
+    lt-ltb (digits_value 10 text) (2 ^ 64) (omega (arith, small)) in
     cond-true (is_decimal text && nat_lt (digits_value 10 text) (2 ^ 64)) (Some (digits_value 10 text)) None
     (and_from (is_decimal text) (nat_lt (digits_value 10 text) (2 ^ 64)) d.decimal fits)
 
@@ -48,7 +51,8 @@ digits_or_none (Some n) most text few short is = digits_read most text n few sho
 
 -- the first nine digits, where they were read or there are none
 pub counted_value : (o : Option ℕ) (text : List ℕ) → list_all is_ascii_digit text ≡ true → length text ≤ 9 →
-    MatchOption o ((n : ℕ) → ¬ IsDigits 9 text n) (λ n. IsDigits 9 text n × (n < 10 ^ 9)) → unwrap_or o 0 ≡ digits_value 10 text
+    MatchOption o ((n : ℕ) → ¬ IsDigits 9 text n) (λ n. IsDigits 9 text n × (n < 10 ^ 9))
+    → unwrap_or o 0 ≡ digits_value 10 text
 counted_value None text all short h =
     elim (cases_lt 0 (length text)) [
       | inl some ↦ (
@@ -56,11 +60,13 @@ counted_value None text all short h =
           and_from (nat_lt 0 (length text)) (list_all is_ascii_digit text) (lt-ltb 0 (length text) some) all in
           absurd (h (digits_value 10 text) (record { decimal = decimal; short = short; value = refl }))
           )
-      | inr none ↦ let empty : text ≡ [] = nil_from_length text (omega (arith, none)) in sym (ap (digits_value 10) empty)
+      | inr none ↦ let empty : text ≡ [] = nil_from_length text (omega (arith, none)) in
+          sym (ap (digits_value 10) empty)
     ]
 counted_value (Some n) text all short h = h.0.value
 
-pub fraction_read : {text : List ℕ} {k power : ℕ} (o : Option ℕ) → list_all is_ascii_digit text ≡ true → k ≡ min (length text) 9 →
+pub fraction_read : {text : List ℕ} {k power : ℕ} (o : Option ℕ) → list_all is_ascii_digit text ≡ true
+    → k ≡ min (length text) 9 →
     MatchOption o ((n : ℕ) → ¬ IsDigits 9 (take k text) n) (λ n. IsDigits 9 (take k text) n × (n < 10 ^ 9)) →
     power ≡ 10 ^ (9 - length (take k text)) → IsFraction text (unwrap_or o 0 * power) × (unwrap_or o 0 * power < 10 ^ 9)
 fraction_read {text} {k} {power} o all cut read is_power =

@@ -1,5 +1,6 @@
 -- The digits after a point: the part of a second that they write, rounded down to whole nanoseconds.
-use Rattle.std.proofs.Common.{◌≡◌, ℕ, zero, suc, ◌+◌, ◌-◌, ◌*◌, ◌/◌, ◌^◌, ◌<◌, ◌≤◌, true, List, ◌∷◌, ◌++◌, decimal, length, take, get_or, sym, ap, ◌∙◌, arith, inl, inr}
+use Rattle.std.proofs.Common.{◌≡◌, ℕ, zero, suc, ◌+◌, ◌-◌, ◌*◌, ◌/◌, ◌^◌, ◌<◌, ◌≤◌, true, List, ◌∷◌, ◌++◌, decimal}
+use Rattle.std.proofs.Common.{length, take, get_or, sym, ap, ◌∙◌, arith, inl, inr}
 use Rattle.std.specs.List.{list_all}
 use Rattle.std.specs.Char.{is_ascii_digit}
 use Rattle.std.specs.Str.Parse.{digits_value}
@@ -61,12 +62,14 @@ long_value digits all long =
     let P = 10 ^ m in
     let some : 0 < P = one-le-pow m 10 (omega arith) in
     let between = later_digits digits m all (omega (arith, long)) in
-    let whole : digits_value 10 (take (9 + m) digits) ≡ D = ap (digits_value 10) (take_all (9 + m) digits (omega arith)) in
+    let whole : digits_value 10 (take (9 + m) digits) ≡ D =
+    ap (digits_value 10) (take_all (9 + m) digits (omega arith)) in
     let low : A * P ≤ D = omega (arith, whole, between.0) in
     let high : D < A * P + P = omega (arith, whole, between.1) in
     let power : 10 ^ length digits ≡ P * 10 ^ 9 =
     ap (λ n. 10 ^ n) (let e : length digits ≡ m + 9 = omega (arith, long) in e) ∙ pow-add 10 m 9 in
-    let cut : D * 10 ^ 9 / 10 ^ length digits ≡ D / P = ap (λ n. D * 10 ^ 9 / n) power ∙ mul-div-mul_right D P (omega arith) in
+    let cut : D * 10 ^ 9 / 10 ^ length digits ≡ D / P = ap (λ n. D * 10 ^ 9 / n) power
+    ∙ mul-div-mul_right D P (omega arith) in
     let least : A ≤ D / P = le-div A D P some low in
     let most : D / P < A + 1 = elim (cases_lt (D / P) (A + 1)) [
       | inl below ↦ below
@@ -90,14 +93,16 @@ fraction_is digits all = record { digits = all; value = sym value }
           | inl long ↦ (
               let nine : length (take 9 digits) ≡ 9 = length-take 9 digits ∙ omega (arith, long) in
               ap (λ n. digits_value 10 (take 9 digits) * 10 ^ (9 - n)) nine
-              ∙ (let e : digits_value 10 (take 9 digits) * 10 ^ (9 - 9) ≡ digits_value 10 (take 9 digits) = omega arith in e)
+              ∙ (let e : digits_value 10 (take 9 digits) * 10 ^ (9 - 9) ≡ digits_value 10 (take 9 digits) =
+              omega arith in e)
               ∙ long_value digits all long
               )
           | inr short ↦ ap counted (take_all 9 digits short) ∙ short_value digits short
         ]
 
 pub fraction_read : (seconds : ℕ) (digits : List ℕ) → seconds < 10 ^ 9 → list_all is_ascii_digit digits ≡ true →
-    IsTime (decimal seconds ++ 46 ∷ digits) (seconds * 1000000000 + digits_value 10 digits * 10 ^ 9 / 10 ^ length digits)
+    IsTime (decimal seconds ++ 46 ∷ digits)
+    (seconds * 1000000000 + digits_value 10 digits * 10 ^ 9 / 10 ^ length digits)
 fraction_read seconds digits small all =
     time_of (decimal seconds) seconds digits (digits_value 10 digits * 10 ^ 9 / 10 ^ length digits)
     (seconds_digits seconds small) (fraction_is digits all)

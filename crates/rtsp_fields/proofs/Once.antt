@@ -1,5 +1,6 @@
 -- A text has one meaning.
-use Rattle.std.proofs.Common.{◌≡◌, ◌≢◌, ℕ, ◌+◌, ◌<◌, ◌≤◌, ◌⊎◌, List, length, take, get_or, refl, sym, ◌∙◌, ap, subst, arith, inl, inr, slice_range, Option, Some, None, true, nat_lt, ltb-true}
+use Rattle.std.proofs.Common.{◌≡◌, ◌≢◌, ℕ, ◌+◌, ◌<◌, ◌≤◌, ◌⊎◌, List, length, take, get_or, refl, sym, ◌∙◌, ap, subst}
+use Rattle.std.proofs.Common.{arith, inl, inr, slice_range, Option, Some, None, true, nat_lt, ltb-true}
 use Rattle.std.specs.List.{list_all}
 use Rattle.std.specs.Int.{IsInRange}
 use Rattle.std.specs.Char.{is_ascii_digit}
@@ -10,7 +11,8 @@ use Rattle.vod_base.specs.Numbers.{is_decimal}
 use Rattle.rtsp_fields.specs.Parts.{IsPartEnd}
 use Rattle.rtsp_fields.specs.Times.{IsDigits, IsClock, AreSeconds, IsFraction, IsTime}
 use Rattle.rtsp_fields.specs.Ranges.{IsOrigin, IsLimit, IsSpan}
-use Rattle.rtsp_fields.specs.Transports.{IsPair, IsSingle, AreChannels, NamesChannels, HasChannels, IsDelivery, CanBeTaken, IsTransport, after_name}
+use Rattle.rtsp_fields.specs.Transports.{IsPair, IsSingle, AreChannels, NamesChannels, HasChannels, IsDelivery}
+use Rattle.rtsp_fields.specs.Transports.{CanBeTaken, IsTransport, after_name}
 use Rattle.rtsp_fields.specs.Urls.{NamesFilm}
 use Rattle.rtsp_fields.specs.declared.transports.Channels.{Channels}
 use Rattle.rtsp_fields.specs.declared.ranges.Origin.{Origin}
@@ -43,7 +45,8 @@ clock_once text a b x y =
     let F : ℕ → Type 0 = λ n. IsPartEnd 58 text (n + 1) x.second in
     let second : x.second ≡ y.second = end_once (subst F first x.minutes_end) y.minutes_end in
     let H : ℕ → Type 0 = λ n. IsDigits 5 (take n text) x.hours in
-    let hours : x.hours ≡ y.hours = value_once 5 (take y.first text) x.hours y.hours (subst H first x.are_hours) y.are_hours in
+    let hours : x.hours ≡ y.hours =
+    value_once 5 (take y.first text) x.hours y.hours (subst H first x.are_hours) y.are_hours in
     let M : ℕ → Type 0 = λ n. IsDigits 2 (slice_range text (n + 1) x.second) x.minutes in
     let N : ℕ → Type 0 = λ n. IsDigits 2 (slice_range text (y.first + 1) n) x.minutes in
     let minutes : x.minutes ≡ y.minutes =
@@ -51,7 +54,8 @@ clock_once text a b x y =
     (subst N second (subst M first x.are_minutes)) y.are_minutes in
     let S : ℕ → Type 0 = λ n. IsDigits 2 (slice_range text (n + 1) (length text)) x.rest in
     let rest : x.rest ≡ y.rest =
-    value_once 2 (slice_range text (y.second + 1) (length text)) x.rest y.rest (subst S second x.are_seconds) y.are_seconds in
+    value_once 2 (slice_range text (y.second + 1) (length text)) x.rest y.rest
+    (subst S second x.are_seconds) y.are_seconds in
     omega (arith, hours, minutes, rest, x.seconds_are, y.seconds_are)
 
 pub seconds_once : (text : List ℕ) (a b : ℕ) → AreSeconds text a → AreSeconds text b → a ≡ b
@@ -61,7 +65,8 @@ seconds_once text a b (inr x) (inl y) = absurd (digits_no_clock text b a y x)
 seconds_once text a b (inr x) (inr y) = clock_once text a b x y
 
 part_once : (text : List ℕ) (point a b : ℕ) →
-    ((point ≡ length text) × (a ≡ 0)) ⊎ ((point < length text) × IsFraction (slice_range text (point + 1) (length text)) a) →
+    ((point ≡ length text) × (a ≡ 0))
+    ⊎ ((point < length text) × IsFraction (slice_range text (point + 1) (length text)) a) →
     ((point ≡ length text) × (b ≡ 0))
     ⊎ ((point < length text) × IsFraction (slice_range text (point + 1) (length text)) b) → a ≡ b
 part_once text point a b (inl x) (inl y) = x.1 ∙ sym y.1
@@ -73,11 +78,13 @@ pub time_once : (text : List ℕ) (a b : ℕ) → IsTime text a → IsTime text 
 time_once text a b x y =
     let point : x.point ≡ y.point = end_once x.point_is y.point_is in
     let W : ℕ → Type 0 = λ n. AreSeconds (take n text) x.seconds in
-    let seconds : x.seconds ≡ y.seconds = seconds_once (take y.point text) x.seconds y.seconds (subst W point x.whole) y.whole in
+    let seconds : x.seconds ≡ y.seconds =
+    seconds_once (take y.point text) x.seconds y.seconds (subst W point x.whole) y.whole in
     let P : ℕ → Type 0 =
     λ n. ((n ≡ length text) × (x.fraction ≡ 0))
     ⊎ ((n < length text) × IsFraction (slice_range text (n + 1) (length text)) x.fraction) in
-    let fraction : x.fraction ≡ y.fraction = part_once text y.point x.fraction y.fraction (subst P point x.part) y.part in
+    let fraction : x.fraction ≡ y.fraction =
+    part_once text y.point x.fraction y.fraction (subst P point x.part) y.part in
     omega (arith, seconds, fraction, x.nanoseconds_are, y.nanoseconds_are)
 
 -- digits begin with a digit
@@ -118,7 +125,8 @@ span_once value a b x y =
     let F : ℕ → Type 0 = λ n. IsOrigin (slice_range value 4 n) a.from in
     let from : a.from ≡ b.from = origin_once (slice_range value 4 y.dash) a.from b.from (subst F dash x.from) y.from in
     let T : ℕ → Type 0 = λ n. IsLimit (slice_range value (n + 1) (length value)) a.to in
-    let to : a.to ≡ b.to = limit_once (slice_range value (y.dash + 1) (length value)) a.to b.to (subst T dash x.to) y.to in
+    let to : a.to ≡ b.to =
+    limit_once (slice_range value (y.dash + 1) (length value)) a.to b.to (subst T dash x.to) y.to in
     let S : Origin → Span = λ o. record { from = o; to = a.to } in
     let U : Option ℕ → Span = λ o. record { from = b.from; to = o } in
     ap S from ∙ ap U to
@@ -152,7 +160,8 @@ has_once text a b (inl x) (inl y) =
     (record { part = y.part; holds = y.names; first = y.first }) in
     let P : ℕ → Type 0 = λ n. AreChannels (after_name (without_blanks (slice_range text n x.to))) a in
     let Q : ℕ → Type 0 = λ n. AreChannels (after_name (without_blanks (slice_range text y.from n))) a in
-    channels_once (after_name (without_blanks (slice_range text y.from y.to))) a b (subst Q same.1 (subst P same.0 x.are)) y.are
+    channels_once (after_name (without_blanks (slice_range text y.from y.to))) a b
+    (subst Q same.1 (subst P same.0 x.are)) y.are
 has_once text a b (inl x) (inr y) = absurd (y.none x.from x.to x.part x.names)
 has_once text a b (inr x) (inl y) = absurd (x.none y.from y.to y.part y.names)
 has_once text a b (inr x) (inr y) = same_channels a b (x.media ∙ sym y.media) (x.control ∙ sym y.control)

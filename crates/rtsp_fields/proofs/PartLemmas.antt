@@ -1,11 +1,13 @@
 -- What the parts of a Transport header come to.
-use Rattle.std.proofs.Common.{◌≡◌, ◌≢◌, ℕ, ◌+◌, ◌<◌, ◌≤◌, List, length, take, refl, sym, ◌∙◌, ap, subst, arith, inl, inr, slice_range, codes, MatchOption, Option, Some, None}
+use Rattle.std.proofs.Common.{◌≡◌, ◌≢◌, ℕ, ◌+◌, ◌<◌, ◌≤◌, List, length, take, refl, sym, ◌∙◌, ap, subst, arith, inl}
+use Rattle.std.proofs.Common.{inr, slice_range, codes, MatchOption, Option, Some, None}
 use Rattle.std.proofs.lemmas.List.{length-map, length-take}
 use Rattle.std.proofs.lemmas.Option.{same_Some}
 use Rattle.vod_base.specs.Blanks.{without_blanks}
 use Rattle.rtsp_fields.specs.Parts.{IsPartEnd, IsPart, NoneBefore, NoPart, Begins, in_lower_case}
-use Rattle.rtsp_fields.specs.Values.{WritesNumber}
-use Rattle.rtsp_fields.specs.Transports.{IsPair, IsSingle, AreChannels, part_word, AsksOtherDelivery, NamesChannels, HasChannels, IsDelivery, CanBeTaken, IsTransport, after_name}
+use Rattle.vod_base.specs.Limits.{WritesNumber}
+use Rattle.rtsp_fields.specs.Transports.{IsPair, IsSingle, AreChannels, part_word, AsksOtherDelivery, NamesChannels}
+use Rattle.rtsp_fields.specs.Transports.{HasChannels, IsDelivery, CanBeTaken, IsTransport, after_name}
 use Rattle.rtsp_fields.specs.declared.transports.Channels.{Channels}
 use Rattle.rtsp_fields.specs.declared.parts.Parts.{Parts}
 use Rattle.rtsp_fields.proofs.Places.{GivesNext, HasPassed, end_once, first_once, found_part}
@@ -25,7 +27,8 @@ pair_at text dash channels e p =
     (record { media = p.media; control = p.control; inside = p.inside; differ = p.differ })
 
 -- one text writes one number
-pub within_once : {low high : ℕ} {text : List ℕ} {a b : ℕ} → WritesNumber low high text a → WritesNumber low high text b → a ≡ b
+pub within_once : {low high : ℕ} {text : List ℕ} {a b : ℕ} → WritesNumber low high text a → WritesNumber low high text b
+    → a ≡ b
 within_once {a} {b} x y = same_Some a b (sym x.is_number ∙ y.is_number)
 
 pub not_pair_equal : {text : List ℕ} {dash a b : ℕ} {channels : Channels} → IsPartEnd 45 text 0 dash →
@@ -39,7 +42,8 @@ not_pair_equal {text} {dash} {a} {b} {channels} e x y same p =
 pub pair_or_single : (o : Option Channels) (text : List ℕ) → ((channels : Channels) → ¬ IsPair text channels) →
     MatchOption o ((channels : Channels) → ¬ IsSingle text channels) (IsSingle text)
     → MatchOption o ((channels : Channels) → ¬ AreChannels text channels) (AreChannels text)
-pair_or_single None text none h = λ channels are. elim are [ inl pair ↦ none channels pair | inr single ↦ h channels single ]
+pair_or_single None text none h =
+    λ channels are. elim are [ inl pair ↦ none channels pair | inr single ↦ h channels single ]
 pair_or_single (Some channels) text none h = inr h
 
 -- a text that begins with the name has its bytes
@@ -67,7 +71,8 @@ named_channels {text} {from} {to} None part names first h = λ channels has. eli
 named_channels {text} {from} {to} (Some channels) part names first h =
     inl (record { from = from; to = to; part = part; names = names; first = first; are = h })
 
-pub channels_found : {text part : List ℕ} {old : Parts} (o : Option Channels) (new : Parts) → HasPassed NamesChannels 59 text old →
+pub channels_found : {text part : List ℕ} {old : Parts} (o : Option Channels) (new : Parts)
+    → HasPassed NamesChannels 59 text old →
     GivesNext old part new → NamesChannels part →
     MatchOption o
     ((channels : Channels) →
@@ -77,7 +82,8 @@ pub channels_found : {text part : List ℕ} {old : Parts} (o : Option Channels) 
 channels_found o new passed gives names are =
     let found = found_part new passed gives names in
     named_channels o found.1.0.part found.1.0.holds found.1.0.first
-    (subst (λ (t : List ℕ). MatchOption o ((channels : Channels) → ¬ AreChannels (after_name (without_blanks t)) channels)
+    (subst (λ (t : List ℕ). MatchOption o
+    ((channels : Channels) → ¬ AreChannels (after_name (without_blanks t)) channels)
     (AreChannels (after_name (without_blanks t)))) found.1.1 are)
 
 -- no alternative with another first part can be taken
@@ -103,7 +109,8 @@ not_taken text none = λ t. none t.0 t.1
 pub no_transport : (value : List ℕ) (channels : Channels) → NoPart 44 value CanBeTaken → IsTransport value channels → ⊥
 no_transport value channels none t = none t.from t.to t.part (channels, t.taken)
 
-pub transport_found : {value part : List ℕ} {old : Parts} {channels : Channels} (new : Parts) → HasPassed CanBeTaken 44 value old →
+pub transport_found : {value part : List ℕ} {old : Parts} {channels : Channels} (new : Parts)
+    → HasPassed CanBeTaken 44 value old →
     GivesNext old part new → IsDelivery part channels → IsTransport value channels
 transport_found {old = old} {channels = channels} new passed gives taken =
     let found = found_part new passed gives (channels, taken) in

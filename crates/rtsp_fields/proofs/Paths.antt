@@ -1,8 +1,11 @@
 -- The path of a film, put together.
-use Rattle.std.proofs.Common.{◌≡◌, ◌≢◌, ℕ, suc, ◌+◌, ◌-◌, ◌<◌, ◌≤◌, ◌&&◌, ◌==◌, not, List, [], ◌∷◌, codes, ◌++◌, length, take, drop, get_or, refl, sym, ◌∙◌, ap, subst, arith, inl, inr, slice_range, slice_index, true, false, nat_lt, nat_le}
+use Rattle.std.proofs.Common.{◌≡◌, ◌≢◌, ℕ, suc, ◌+◌, ◌-◌, ◌<◌, ◌≤◌, ◌&&◌, ◌==◌, not, List, [], ◌∷◌, codes, ◌++◌}
+use Rattle.std.proofs.Common.{length, take, drop, get_or, refl, sym, ◌∙◌, ap, subst, arith, inl, inr, slice_range}
+use Rattle.std.proofs.Common.{slice_index, true, false, nat_lt, nat_le}
 use Rattle.std.specs.List.{list_all}
 use Rattle.std.proofs.lemmas.Bool.{and_parts}
-use Rattle.std.proofs.lemmas.List.{take_at, drop_at, take_all, append-nil, length-append, length-drop, take-append-drop, get_or_append_left, get_or-append_right}
+use Rattle.std.proofs.lemmas.List.{take_at, drop_at, take_all, append-nil, length-append, length-drop}
+use Rattle.std.proofs.lemmas.List.{take-append-drop, get_or_append_left, get_or-append_right}
 use Rattle.std.proofs.lemmas.List.Folds.{list_all_at}
 use Rattle.vod_base.specs.Names.{is_good_name, is_name_byte}
 use Rattle.rtsp_fields.specs.Laws.{IsFilmPath}
@@ -24,7 +27,8 @@ first_of_tail tail (inr (inl e)) some = rw e refl
 first_of_tail tail (inr (inr (inl e))) some = rw e refl
 first_of_tail tail (inr (inr (inr e))) some = rw e refl
 
-path_end : (name tail : List ℕ) → is_good_name name ≡ true → IsTail tail → IsPartEnd 47 (47 ∷ name ++ tail) 1 (1 + length name)
+path_end : (name tail : List ℕ) → is_good_name name ≡ true → IsTail tail
+    → IsPartEnd 47 (47 ∷ name ++ tail) 1 (1 + length name)
 path_end name tail good is_tail = record {
   after = omega arith;
   within = omega (arith, length-append (47 ∷ name) tail);
@@ -45,8 +49,10 @@ pub film_path : (name tail : List ℕ) → is_good_name name ≡ true → IsTail
 film_path name tail good is_tail =
     let size : 1 + length name - 1 ≡ length name = omega arith in
     let front : take (1 + length name - 1) (name ++ tail) ≡ name = take_at name tail (1 + length name - 1) (sym size) in
-    let after : drop (1 + length name) (47 ∷ name ++ tail) ≡ tail = drop_at (47 ∷ name) tail (1 + length name) (omega arith) in
-    let left : length (47 ∷ name ++ tail) - (1 + length name) ≡ length tail = omega (arith, length-append (47 ∷ name) tail) in
+    let after : drop (1 + length name) (47 ∷ name ++ tail) ≡ tail =
+    drop_at (47 ∷ name) tail (1 + length name) (omega arith) in
+    let left : length (47 ∷ name ++ tail) - (1 + length name) ≡ length tail =
+    omega (arith, length-append (47 ∷ name) tail) in
     let whole : slice_range (47 ∷ name ++ tail) (1 + length name) (length (47 ∷ name ++ tail)) ≡ tail =
     ap (λ (xs : List ℕ). take (length (47 ∷ name ++ tail) - (1 + length name)) xs) after
     ∙ take_all (length (47 ∷ name ++ tail) - (1 + length name)) tail (omega (arith, left)) in
@@ -79,7 +85,8 @@ path_written (x ∷ p) name n =
     let after : drop n.end (x ∷ p) ≡ drop (n.end - 1) p = ap (λ k. drop k (x ∷ p)) (sym some) in
     let left : length (drop (n.end - 1) p) ≤ length (x ∷ p) - n.end = omega (arith, length-drop (n.end - 1) p, some) in
     let tail : slice_range (x ∷ p) n.end (length (x ∷ p)) ≡ drop (n.end - 1) p =
-    ap (λ (xs : List ℕ). take (length (x ∷ p) - n.end) xs) after ∙ take_all (length (x ∷ p) - n.end) (drop (n.end - 1) p) left in
+    ap (λ (xs : List ℕ). take (length (x ∷ p) - n.end) xs) after
+    ∙ take_all (length (x ∷ p) - n.end) (drop (n.end - 1) p) left in
     let whole : x ∷ p ≡ 47 ∷ (name ++ drop (n.end - 1) p) =
     ap (λ y. y ∷ p) n.slash ∙ ap (λ l. 47 ∷ l) (sym (take-append-drop (n.end - 1) p))
     ∙ ap (λ l. 47 ∷ (l ++ drop (n.end - 1) p)) (sym n.name_is) in

@@ -14,7 +14,8 @@ end_once {a} {b} x y =
     ]
 
 -- no part begins after the place where one begins and before its end
-pub no_start_inside : {c : ℕ} {text : List ℕ} {from to k : ℕ} → IsPartEnd c text from to → from < k → k ≤ to → IsStart c text k → ⊥
+pub no_start_inside : {c : ℕ} {text : List ℕ} {from to k : ℕ} → IsPartEnd c text from to → from < k → k ≤ to
+    → IsStart c text k → ⊥
 no_start_inside {c} {text} {from} e after before (inl zero) = omega (arith, after, zero)
 no_start_inside {c} {text} {from} {k} e after before (inr s) =
     e.none (k - 1) (omega (arith, after)) (omega (arith, after, before)) s.1
@@ -26,7 +27,8 @@ pub none_before_next : {c : ℕ} {text : List ℕ} {from to : ℕ} (P : List ℕ
 none_before_next {c} {text} {from} {to} P e before here = λ k end below part.
     elim (cases_order k from) [
       | inl same ↦
-          let same_end : end ≡ to = end_once (let Q : ℕ → Type 0 = λ n. IsPartEnd c text n end in subst Q same part.end) e in
+          let same_end : end ≡ to =
+          end_once (let Q : ℕ → Type 0 = λ n. IsPartEnd c text n end in subst Q same part.end) e in
           let Q : ℕ → Type 0 = λ n. P (slice_range text n end) → ⊥ in
           let R : ℕ → Type 0 = λ n. P (slice_range text from n) → ⊥ in
           subst Q (sym same) (subst R (sym same_end) here)
@@ -35,14 +37,16 @@ none_before_next {c} {text} {from} {to} P e before here = λ k end below part.
     ]
 
 -- the next part begins after the separator
-pub next_start : (c : ℕ) (text : List ℕ) (from to : ℕ) → IsPartEnd c text from to → to + 1 ≤ length text → IsStart c text (to + 1)
+pub next_start : (c : ℕ) (text : List ℕ) (from to : ℕ) → IsPartEnd c text from to → to + 1 ≤ length text
+    → IsStart c text (to + 1)
 next_start c text from to e inside =
     inr (omega arith, let same : to + 1 - 1 ≡ to = omega arith in rw same (e.ends (omega (arith, inside))))
 
 -- all parts were passed
 pub passed_all : (c : ℕ) (text : List ℕ) (P : List ℕ → Type 0) (from : ℕ) → length text < from
     → NoneBefore c text from P → NoPart c text P
-passed_all c text P from past before = λ k end part. before k end (omega (arith, past, part.end.after, part.end.within)) part
+passed_all c text P from past before =
+    λ k end part. before k end (omega (arith, past, part.end.after, part.end.within)) part
 
 -- the first part of one kind
 pub record IsFirstPart (P : List ℕ → Type 0) (c : ℕ) (text : List ℕ) (a b : ℕ) : Type 0 where
@@ -84,20 +88,23 @@ passed_none P text_is separator_is first = record {
 }
 
 -- the part that came, as one of this text
-next_of : {P : List ℕ → Type 0} {c : ℕ} {text : List ℕ} {old : Parts} {part : List ℕ} (new : Parts) → HasPassed P c text old →
+next_of : {P : List ℕ → Type 0} {c : ℕ} {text : List ℕ} {old : Parts} {part : List ℕ} (new : Parts)
+    → HasPassed P c text old →
     GivesNext old part new → IsNextPart c text old.from new.from part
 next_of {text} {old} {part} new passed gives =
     subst (λ s. IsNextPart s text old.from new.from part) passed.separator_is
     (subst (λ t. IsNextPart old.separator t old.from new.from part) passed.text_is gives.0)
 
-pub passed_more : {P : List ℕ → Type 0} {c : ℕ} {text : List ℕ} {old new : Parts} {part : List ℕ} → HasPassed P c text old →
+pub passed_more : {P : List ℕ → Type 0} {c : ℕ} {text : List ℕ} {old new : Parts} {part : List ℕ}
+    → HasPassed P c text old →
     GivesNext old part new → ¬ P part → HasPassed P c text new
 passed_more {P} {c} {text} {old} {new} passed gives other =
     let next = next_of new passed gives in
     record {
       text_is = gives.1 ∙ passed.text_is;
       separator_is = gives.2 ∙ passed.separator_is;
-      start = subst (λ n. n ≤ length text → IsStart c text n) (sym next.next_is) (next_start c text old.from next.end next.is_end);
+      start = subst (λ n. n ≤ length text → IsStart c text n) (sym next.next_is)
+          (next_start c text old.from next.end next.is_end);
       before = subst (λ n. NoneBefore c text n P) (sym next.next_is)
           (none_before_next P next.is_end passed.before (subst (λ t. ¬ P t) next.part_is other));
     }
@@ -108,7 +115,8 @@ passed_every {P} {c} {text} {parts} passed past =
     passed_all c text P parts.from (subst (λ t. length t < parts.from) passed.text_is past) passed.before
 
 -- the first part that is such a text
-pub found_part : {P : List ℕ → Type 0} {c : ℕ} {text : List ℕ} {old : Parts} {part : List ℕ} (new : Parts) → HasPassed P c text old →
+pub found_part : {P : List ℕ → Type 0} {c : ℕ} {text : List ℕ} {old : Parts} {part : List ℕ} (new : Parts)
+    → HasPassed P c text old →
     GivesNext old part new → P part →
     (end : ℕ) × (IsFirstPart P c text old.from end × (part ≡ slice_range text old.from end))
 found_part {P = P} {text = text} {old = old} new passed gives holds =

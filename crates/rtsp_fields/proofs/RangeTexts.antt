@@ -1,8 +1,11 @@
 -- A Range value, put together, is read back.
-use Rattle.std.proofs.Common.{◌≡◌, ℕ, suc, ◌+◌, ◌-◌, ◌*◌, ◌/◌, ◌%◌, ◌^◌, ◌<◌, ◌≤◌, true, List, [], ◌∷◌, ◌++◌, codes, decimal, length, take, drop, get_or, slice_range, Some, None, refl, sym, ap, subst, ◌∙◌, arith}
+use Rattle.std.proofs.Common.{◌≡◌, ℕ, suc, ◌+◌, ◌-◌, ◌*◌, ◌/◌, ◌%◌, ◌^◌, ◌<◌, ◌≤◌, true, List, [], ◌∷◌, ◌++◌, codes}
+use Rattle.std.proofs.Common.{decimal, length, take, drop, get_or, slice_range, Some, None, refl, sym, ap, subst, ◌∙◌}
+use Rattle.std.proofs.Common.{arith}
 use Rattle.std.specs.List.{list_all}
 use Rattle.std.proofs.lemmas.Fmt.{digits_decimal}
-use Rattle.std.proofs.lemmas.List.{append_assoc, take_at, drop_at, take_all, length-append, get_or_append_left, get_or-append-add}
+use Rattle.std.proofs.lemmas.List.{append_assoc, take_at, drop_at, take_all, length-append, get_or_append_left}
+use Rattle.std.proofs.lemmas.List.{get_or-append-add}
 use Rattle.vod_base.proofs.Digits.{decimal_numerals}
 use Rattle.rtsp_text.proofs.Inside.{all-append}
 use Rattle.rtsp_fields.specs.Descriptions.{seconds_text}
@@ -44,7 +47,8 @@ span_read from to span free begins ends =
     let rest : drop (dash + 1) text ≡ to =
     ap (drop (dash + 1)) (sym whole) ∙ drop_at (codes "npt=" ++ from ++ 45 ∷ []) to (dash + 1) size in
     let back : slice_range text (dash + 1) (length text) ≡ to =
-    ap (λ (l : List ℕ). take (length text - (dash + 1)) l) rest ∙ take_all (length text - (dash + 1)) to (omega (arith, long)) in
+    ap (λ (l : List ℕ). take (length text - (dash + 1)) l) rest
+    ∙ take_all (length text - (dash + 1)) to (omega (arith, long)) in
     record {
       unit = refl;
       dash = dash;
@@ -52,7 +56,8 @@ span_read from to span free begins ends =
         after = omega arith;
         within = omega (arith, long);
         none = λ k low below is. none (k - 4) (omega arith) (omega (arith, low, below))
-            (sym (get_or_append_left from (45 ∷ to) 0 (k - 4) (omega (arith, low, below))) ∙ at_place from to k low ∙ is);
+            (sym (get_or_append_left from (45 ∷ to) 0 (k - 4) (omega (arith, low, below))) ∙ at_place from to k low
+            ∙ is);
         ends = λ inside.
             sym (at_place from to dash (omega arith))
             ∙ ap (λ n. get_or (from ++ 45 ∷ to) n 0) (let e : dash - 4 ≡ length from + 0 = omega arith in e)
@@ -70,7 +75,8 @@ number_free n fits = digits_other 45 (decimal n) refl (digits_decimal decimal_nu
 seconds_free : (ms : ℕ) → ms < 2 ^ 64 → list_all (other_than 45) (seconds_text ms) ≡ true
 unfolding other_than
 seconds_free ms small =
-    all-append (other_than 45) (decimal (ms / 1000) ++ codes "." ++ decimal (ms / 100 % 10) ++ decimal (ms / 10 % 10)) (decimal (ms % 10))
+    all-append (other_than 45) (decimal (ms / 1000) ++ codes "." ++ decimal (ms / 100 % 10) ++ decimal (ms / 10 % 10))
+    (decimal (ms % 10))
     (all-append (other_than 45) (decimal (ms / 1000) ++ codes "." ++ decimal (ms / 100 % 10)) (decimal (ms / 10 % 10))
     (all-append (other_than 45) (decimal (ms / 1000) ++ codes ".") (decimal (ms / 100 % 10))
     (all-append (other_than 45) (decimal (ms / 1000)) (codes ".") (number_free (ms / 1000) (omega (arith, small))) refl)
@@ -81,14 +87,16 @@ seconds_free ms small =
 pub from_read : (ms : ℕ) → ms < 10 ^ 12
     → IsSpan (codes "npt=" ++ (seconds_text ms ++ codes "-")) (record { from = At (ms * 1000000); to = None })
 from_read ms small =
-    span_read (seconds_text ms) [] (record { from = At (ms * 1000000); to = None }) (seconds_free ms (omega (arith, small)))
+    span_read (seconds_text ms) [] (record { from = At (ms * 1000000); to = None })
+    (seconds_free ms (omega (arith, small)))
     (seconds_read ms small) refl
 
 pub between_read : (ms end_ms : ℕ) → ms < 10 ^ 12 → end_ms < 10 ^ 12 →
     IsSpan (codes "npt=" ++ (seconds_text ms ++ (codes "-" ++ seconds_text end_ms)))
     (record { from = At (ms * 1000000); to = Some (end_ms * 1000000) })
 between_read ms end_ms small fits =
-    span_read (seconds_text ms) (seconds_text end_ms) (record { from = At (ms * 1000000); to = Some (end_ms * 1000000) })
+    span_read (seconds_text ms) (seconds_text end_ms)
+    (record { from = At (ms * 1000000); to = Some (end_ms * 1000000) })
     (seconds_free ms (omega (arith, small))) (seconds_read ms small) (seconds_read end_ms fits)
 
 pub now_read : IsSpan (codes "npt=now-") (record { from = Now; to = None })

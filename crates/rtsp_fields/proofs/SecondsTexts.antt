@@ -1,12 +1,16 @@
 -- Milliseconds as seconds with three digits: the text has no LF and is read back.
-use Rattle.std.proofs.Common.{◌≡◌, ◌≢◌, ℕ, ◌+◌, ◌-◌, ◌*◌, ◌/◌, ◌%◌, ◌^◌, ◌<◌, true, false, cond, nat_lt, List, [], ◌∷◌, ◌++◌, length, take, drop, get_or, slice_range, codes, decimal, refl, sym, ap, subst, ◌∙◌, arith, inl, inr}
+use Rattle.std.proofs.Common.{◌≡◌, ◌≢◌, ℕ, ◌+◌, ◌-◌, ◌*◌, ◌/◌, ◌%◌, ◌^◌, ◌<◌, true, false, cond, nat_lt, List, []}
+use Rattle.std.proofs.Common.{◌∷◌, ◌++◌, length, take, drop, get_or, slice_range, codes, decimal, refl, sym, ap}
+use Rattle.std.proofs.Common.{subst, ◌∙◌, arith, inl, inr}
 use Rattle.std.specs.List.{list_all}
 use Rattle.std.specs.Char.{is_ascii_digit, digit_value}
 use Rattle.std.specs.Str.Parse.{digits_value}
 use Rattle.std.proofs.lemmas.Bool.{and_parts, and_from, cond-true, cond-false, lt-ltb}
 use Rattle.std.proofs.lemmas.Bool.Decides.{nat_tests}
-use Rattle.std.proofs.lemmas.Fmt.{decimal_digit, digits_decimal, digits_value-decimal, decimal_nonempty, length-decimal-le}
-use Rattle.std.proofs.lemmas.List.{append_assoc, take_at, drop_at, take_all, length-append, get_or_append_left, get_or-append_right}
+use Rattle.std.proofs.lemmas.Fmt.{decimal_digit, digits_decimal, digits_value-decimal, decimal_nonempty}
+use Rattle.std.proofs.lemmas.Fmt.{length-decimal-le}
+use Rattle.std.proofs.lemmas.List.{append_assoc, take_at, drop_at, take_all, length-append, get_or_append_left}
+use Rattle.std.proofs.lemmas.List.{get_or-append_right}
 use Rattle.std.proofs.lemmas.List.Folds.{list_all_at}
 use Rattle.rtsp_text.specs.Lines.{is_one_line}
 use Rattle.vod_base.proofs.Digits.{decimal_numerals}
@@ -16,7 +20,8 @@ use Rattle.rtsp_fields.specs.Times.{IsDigits, IsFraction, IsTime}
 
 pub one_line-seconds : (ms : ℕ) → ms < 2 ^ 64 → is_one_line (seconds_text ms) ≡ true
 one_line-seconds ms small =
-    one_line-append (decimal (ms / 1000) ++ codes "." ++ decimal (ms / 100 % 10) ++ decimal (ms / 10 % 10)) (decimal (ms % 10))
+    one_line-append (decimal (ms / 1000) ++ codes "." ++ decimal (ms / 100 % 10) ++ decimal (ms / 10 % 10))
+    (decimal (ms % 10))
     (one_line-append (decimal (ms / 1000) ++ codes "." ++ decimal (ms / 100 % 10)) (decimal (ms / 10 % 10))
     (one_line-append (decimal (ms / 1000) ++ codes ".") (decimal (ms / 100 % 10))
     (one_line-append (decimal (ms / 1000)) (codes ".") (one_line-decimal (ms / 1000) (omega (arith, small))) refl)
@@ -49,7 +54,8 @@ three_value : (a b c : ℕ) → a < 10 → b < 10 → c < 10 → digits_value 10
 unfolding three_digits
 three_value a b c ha hb hc = rw (value_of_digit a ha, value_of_digit b hb, value_of_digit c hc) (omega arith)
 
-three_fraction : (a b c : ℕ) → a < 10 → b < 10 → c < 10 → IsFraction (three_digits a b c) ((a * 100 + b * 10 + c) * 1000000)
+three_fraction : (a b c : ℕ) → a < 10 → b < 10 → c < 10
+    → IsFraction (three_digits a b c) ((a * 100 + b * 10 + c) * 1000000)
 unfolding three_digits
 three_fraction a b c ha hb hc = record {
   digits = rw (is_digit_byte a ha, is_digit_byte b hb, is_digit_byte c hc) refl;
@@ -70,7 +76,8 @@ pub time_of : (w : List ℕ) (n : ℕ) (digits : List ℕ) (part : ℕ) → IsDi
 time_of w n digits part d is_part =
     let text = w ++ 46 ∷ digits in
     let size : length text ≡ length w + (length digits + 1) = length-append w (46 ∷ digits) ∙ omega arith in
-    let all : list_all is_ascii_digit w ≡ true = (and_parts (nat_lt 0 (length w)) (list_all is_ascii_digit w) d.decimal).1 in
+    let all : list_all is_ascii_digit w ≡ true =
+    (and_parts (nat_lt 0 (length w)) (list_all is_ascii_digit w) d.decimal).1 in
     let rest : drop (length w + 1) text ≡ digits =
     ap (drop (length w + 1)) (sym (append_assoc w (46 ∷ []) digits))
     ∙ drop_at (w ++ 46 ∷ []) digits (length w + 1) (length-append w (46 ∷ [])) in
@@ -82,7 +89,8 @@ time_of w n digits part d is_part =
       point_is = record {
         after = omega arith;
         within = omega (arith, size);
-        none = λ k from below point. digit_not_point w k all below (sym (get_or_append_left w (46 ∷ digits) 0 k below) ∙ point);
+        none = λ k from below point. digit_not_point w k all below
+            (sym (get_or_append_left w (46 ∷ digits) 0 k below) ∙ point);
         ends = λ inside. get_or-append_right w (46 ∷ digits) (length w) (length w) 0 refl (omega arith)
             ∙ ap (λ k. get_or (46 ∷ digits) k 0) (let zero : length w - length w ≡ 0 = omega arith in zero);
       };
@@ -106,7 +114,8 @@ seconds_digits n below =
     }
 
 -- the text by its digits
-seconds_text-is : (ms : ℕ) → seconds_text ms ≡ decimal (ms / 1000) ++ 46 ∷ three_digits (ms / 100 % 10) (ms / 10 % 10) (ms % 10)
+seconds_text-is : (ms : ℕ)
+    → seconds_text ms ≡ decimal (ms / 1000) ++ 46 ∷ three_digits (ms / 100 % 10) (ms / 10 % 10) (ms % 10)
 unfolding three_digits
 seconds_text-is ms =
     rw (

@@ -1,6 +1,7 @@
 -- A text that a separator cuts: its first part, and those of the rest.
 use Rattle.std.proofs.Common.{◌≡◌, ℕ, suc, ◌+◌, ◌-◌, ◌<◌, ◌≤◌, ◌⊎◌, ◌==◌, Bool, true, false, not}
-use Rattle.std.proofs.Common.{List, [], ◌∷◌, ◌++◌, length, take, drop, get_or, slice_range, refl, sym, ap, subst, ◌∙◌, arith, inl, inr}
+use Rattle.std.proofs.Common.{List, [], ◌∷◌, ◌++◌, length, take, drop, get_or, slice_range, refl, sym, ap, subst, ◌∙◌}
+use Rattle.std.proofs.Common.{arith, inl, inr}
 use Rattle.std.proofs.lemmas.Bool.{cases_lt}
 use Rattle.std.specs.List.{list_all}
 use Rattle.std.specs.Char.{is_ascii_digit}
@@ -19,7 +20,8 @@ here_of c a rest k inside = get_or_append_left a (c ∷ rest) 0 k inside
 cut_of : (c : ℕ) (a rest : List ℕ) → get_or (text_of c a rest) (length a) 0 ≡ c
 unfolding text_of
 cut_of c a rest =
-    ap (λ n. get_or (a ++ c ∷ rest) n 0) (let e : length a ≡ length a + 0 = omega arith in e) ∙ get_or-append-add a (c ∷ rest) 0 0
+    ap (λ n. get_or (a ++ c ∷ rest) n 0) (let e : length a ≡ length a + 0 = omega arith in e)
+    ∙ get_or-append-add a (c ∷ rest) 0 0
 
 later_of : (c : ℕ) (a rest : List ℕ) (k : ℕ) → get_or (text_of c a rest) (length a + 1 + k) 0 ≡ get_or rest k 0
 unfolding text_of
@@ -52,7 +54,8 @@ part_later c a rest k end p = record {
         ap (λ n. get_or (text_of c a rest) n 0) (let s : length a + 1 + k - 1 ≡ length a =
         omega (arith, e) in s) ∙ cut_of c a rest
     start (inr e) =
-        ap (λ n. get_or (text_of c a rest) n 0) (let s : length a + 1 + k - 1 ≡ length a + 1 + (k - 1) = omega (arith, e.0) in s)
+        ap (λ n. get_or (text_of c a rest) n 0)
+        (let s : length a + 1 + k - 1 ≡ length a + 1 + (k - 1) = omega (arith, e.0) in s)
         ∙ later_of c a rest (k - 1) ∙ e.1
 
 -- the first part
@@ -71,7 +74,13 @@ part_first c a rest none = record {
 pub part_whole : (c : ℕ) (a : List ℕ) → HasNone c a 0 (length a) → IsPart c a 0 (length a)
 part_whole c a none = record {
   start = inl refl;
-  end = record { after = omega arith; within = omega arith; none = none; ends = λ inside. absurd (omega (arith, inside)) };
+  end = record {
+    after = omega arith;
+    within = omega arith;
+    none = none;
+    ends =
+        λ inside. absurd (omega (arith, inside));
+  };
 }
 
 -- each part is the first one or one of the rest
@@ -82,7 +91,8 @@ record Later (c : ℕ) (a rest : List ℕ) (k end : ℕ) : Type 0 where
   to_is : end ≡ length a + 1 + to
   part : IsPart c rest from to
 
-end_first : (c : ℕ) (a rest : List ℕ) (end : ℕ) → HasNone c a 0 (length a) → IsPartEnd c (text_of c a rest) 0 end → end ≡ length a
+end_first : (c : ℕ) (a rest : List ℕ) (end : ℕ) → HasNone c a 0 (length a) → IsPartEnd c (text_of c a rest) 0 end
+    → end ≡ length a
 end_first c a rest end none is =
     let most : end ≤ length a = elim (cases_lt (length a) end) [
       | inl over ↦ absurd (is.none (length a) (omega arith) over (cut_of c a rest))
@@ -135,7 +145,11 @@ part_cases {c} {a} {rest} {k} {end} none p = go p.start
             elim (cases_lt 0 (k - (length a + 1))) [
               | inl some ↦ (
                   let at : length a + 1 + (k - (length a + 1) - 1) ≡ k - 1 = omega (arith, some) in
-                  inr (some, sym (later_of c a rest (k - (length a + 1) - 1)) ∙ ap (λ n. get_or (text_of c a rest) n 0) at ∙ is)
+                  inr (
+                    some,
+                    sym (later_of c a rest (k - (length a + 1) - 1))
+                        ∙ ap (λ n. get_or (text_of c a rest) n 0) at ∙ is,
+                  )
                   )
               | inr none ↦ inl (omega (arith, none))
             ]
@@ -177,7 +191,8 @@ none_more {c} {a} {rest} P none first more = λ k end p. go k end p (part_cases 
         (subst P (slice_later c a rest l.from l.to l.part.end.after) (subst E l.to_is (subst S l.from_is is)))
 
 -- the part of a text without the separator is the whole text
-pub part_is_whole : (c : ℕ) (a : List ℕ) (k end : ℕ) → HasNone c a 0 (length a) → IsPart c a k end → (k ≡ 0) × (end ≡ length a)
+pub part_is_whole : (c : ℕ) (a : List ℕ) (k end : ℕ) → HasNone c a 0 (length a) → IsPart c a k end
+    → (k ≡ 0) × (end ≡ length a)
 part_is_whole c a k end none p = go p.start
   where
     go : IsStart c a k → (k ≡ 0) × (end ≡ length a)
@@ -190,7 +205,8 @@ part_is_whole c a k end none p = go p.start
       ],
     )
 
-pub whole_slice : (c : ℕ) (a : List ℕ) (k end : ℕ) → HasNone c a 0 (length a) → IsPart c a k end → slice_range a k end ≡ a
+pub whole_slice : (c : ℕ) (a : List ℕ) (k end : ℕ) → HasNone c a 0 (length a) → IsPart c a k end
+    → slice_range a k end ≡ a
 whole_slice c a k end none p =
     let is = part_is_whole c a k end none p in
     ap (λ n. slice_range a n end) is.0 ∙ ap (λ n. slice_range a 0 n) is.1 ∙ take_all (length a - 0) a (omega arith)
@@ -235,4 +251,5 @@ pub digits_other : (c : ℕ) (ds : List ℕ) → is_ascii_digit c ≡ false → 
 digits_other c [] no_digit all = refl
 digits_other c (d ∷ ds) no_digit all =
     let parts = and_parts (is_ascii_digit d) (list_all is_ascii_digit ds) all in
-    and_from (other_than c d) (list_all (other_than c) ds) (digit_other c d no_digit parts.0) (digits_other c ds no_digit parts.1)
+    and_from (other_than c d) (list_all (other_than c) ds) (digit_other c d no_digit parts.0)
+    (digits_other c ds no_digit parts.1)

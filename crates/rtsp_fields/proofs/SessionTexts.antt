@@ -38,7 +38,8 @@ pub id_read : (id : List ℕ) → list_all is_ascii_alphanumeric id ≡ true →
 id_read id all some = record {
   end = length id;
   first = (part_whole 59 id (none_from 59 id (letters_other id all))).end;
-  same = ap (λ (t : List ℕ). in_lower_case (without_blanks t)) (take_all (length id) id (omega arith)) ∙ ap in_lower_case (id_bare id all some);
+  same = ap (λ (t : List ℕ). in_lower_case (without_blanks t)) (take_all (length id) id (omega arith))
+      ∙ ap in_lower_case (id_bare id all some);
 }
 
 pub id_read_before : (id rest : List ℕ) → list_all is_ascii_alphanumeric id ≡ true → 0 < length id
@@ -47,5 +48,6 @@ unfolding text_of
 id_read_before id rest all some = record {
   end = length id;
   first = (part_first 59 id rest (none_from 59 id (letters_other id all))).end;
-  same = ap (λ (t : List ℕ). in_lower_case (without_blanks t)) (take_at id (59 ∷ rest) (length id) refl) ∙ ap in_lower_case (id_bare id all some);
+  same = ap (λ (t : List ℕ). in_lower_case (without_blanks t)) (take_at id (59 ∷ rest) (length id) refl)
+      ∙ ap in_lower_case (id_bare id all some);
 }

@@ -1,5 +1,6 @@
 -- A Transport value of one alternative that names no channels.
-use Rattle.std.proofs.Common.{◌≡◌, ℕ, ◌-◌, true, List, [], ◌∷◌, ◌++◌, All, codes, flat_map, length, get_or, slice_range, refl, sym, ap, subst, ◌∙◌, arith, inr}
+use Rattle.std.proofs.Common.{◌≡◌, ℕ, ◌-◌, true, List, [], ◌∷◌, ◌++◌, All, codes, flat_map, length, get_or}
+use Rattle.std.proofs.Common.{slice_range, refl, sym, ap, subst, ◌∙◌, arith, inr}
 use Rattle.std.specs.List.{list_all}
 use Rattle.std.proofs.lemmas.Bool.{and_from}
 use Rattle.std.proofs.lemmas.List.{take_all, append-nil}
@@ -9,7 +10,8 @@ use Rattle.rtsp_fields.specs.Laws.{IsOtherParameter}
 use Rattle.rtsp_fields.specs.Parts.{HasNone, IsPart, NoPart}
 use Rattle.rtsp_fields.specs.Transports.{AsksOtherDelivery, NamesChannels, IsDelivery, IsTransport, part_word}
 use Rattle.rtsp_fields.specs.declared.transports.Channels.{Channels}
-use Rattle.rtsp_fields.proofs.SeparatedTexts.{text_of, other_than, none_from, part_first, part_whole, none_more, none_whole, slice_first}
+use Rattle.rtsp_fields.proofs.SeparatedTexts.{text_of, other_than, none_from, part_first, part_whole, none_more}
+use Rattle.rtsp_fields.proofs.SeparatedTexts.{none_whole, slice_first}
 use Rattle.rtsp_fields.proofs.TransportTexts.{first_letter, names_none, protocol_none}
 
 -- a part and those after it

@@ -1,22 +1,27 @@
 -- A Transport value of one alternative, put together, is read back.
 use Rattle.std.proofs.Common.{◌≡◌, ◌≢◌, ℕ, ◌+◌, ◌-◌, ◌<◌, ◌≤◌, true, false}
-use Rattle.std.proofs.Common.{List, [], ◌∷◌, ◌++◌, length, take, get_or, slice_range, reverse, codes, decimal, refl, sym, ap, subst, ◌∙◌, arith, inl, inr}
+use Rattle.std.proofs.Common.{List, [], ◌∷◌, ◌++◌, length, take, get_or, slice_range, reverse, codes, decimal, refl}
+use Rattle.std.proofs.Common.{sym, ap, subst, ◌∙◌, arith, inl, inr}
 use Rattle.std.proofs.lemmas.Bool.{cond-false}
 use Rattle.std.specs.List.{list_all}
 use Rattle.std.specs.Char.{is_ascii_digit}
 use Rattle.std.proofs.lemmas.Bool.{and_from}
 use Rattle.std.proofs.lemmas.Fmt.{digits_decimal, decimal_nonempty}
-use Rattle.std.proofs.lemmas.List.{take_all, length-append, length-reverse, get_or-append-add, get_or-reverse, append_assoc, reverse-reverse}
+use Rattle.std.proofs.lemmas.List.{take_all, length-append, length-reverse, get_or-append-add, get_or-reverse}
+use Rattle.std.proofs.lemmas.List.{append_assoc, reverse-reverse}
 use Rattle.std.proofs.lemmas.List.Folds.{list_all-append}
 use Rattle.vod_base.specs.Blanks.{is_blank, without_front_blanks, without_blanks}
 use Rattle.vod_base.proofs.Written.{written_read}
 use Rattle.vod_base.proofs.Digits.{is_digit_at}
 use Rattle.vod_base.proofs.Digits.{decimal_numerals}
 use Rattle.rtsp_fields.specs.Parts.{HasNone, Begins, in_lower_case}
-use Rattle.rtsp_fields.specs.Transports.{IsPair, AreChannels, AsksOtherDelivery, NamesChannels, AreNamed, IsDelivery, IsTransport, part_word, after_name}
-use Rattle.rtsp_fields.specs.Values.{WritesNumber}
+use Rattle.rtsp_fields.specs.Transports.{IsPair, AreChannels, AsksOtherDelivery, NamesChannels, AreNamed, IsDelivery}
+use Rattle.rtsp_fields.specs.Transports.{IsTransport, part_word, after_name}
+use Rattle.vod_base.specs.Limits.{WritesNumber}
 use Rattle.rtsp_fields.specs.declared.transports.Channels.{Channels}
-use Rattle.rtsp_fields.proofs.SeparatedTexts.{text_of, long_of, part_later, part_first, part_whole, slice_first, slice_later, none_more, none_whole, none_before, other_than, none_from, digits_other}
+use Rattle.rtsp_fields.proofs.SeparatedTexts.{text_of, long_of, part_later, part_first, part_whole, slice_first}
+use Rattle.rtsp_fields.proofs.SeparatedTexts.{slice_later, none_more, none_whole, none_before, other_than, none_from}
+use Rattle.rtsp_fields.proofs.SeparatedTexts.{digits_other}
 
 -- ---- a text that neither begins nor ends with a blank
 
@@ -28,7 +33,8 @@ pub bare : (text : List ℕ) → 0 < length text → is_blank (get_or text 0 0) 
     → is_blank (get_or text (length text - 1) 0) ≡ false → without_blanks text ≡ text
 bare text some first last =
     let back : get_or (reverse text) 0 0 ≡ get_or text (length text - 1) 0 =
-    get_or-reverse text 0 0 some ∙ ap (λ n. get_or text n 0) (let e : length text - 1 - 0 ≡ length text - 1 = omega arith in e) in
+    get_or-reverse text 0 0 some
+    ∙ ap (λ n. get_or text n 0) (let e : length text - 1 - 0 ≡ length text - 1 = omega arith in e) in
     ap (λ l. reverse (without_front_blanks (reverse l))) (bare_front text some first)
     ∙ ap reverse (bare_front (reverse text) (omega (arith, some, length-reverse text)) (ap is_blank back ∙ last))
     ∙ reverse-reverse text
@@ -117,7 +123,8 @@ named_bare : (numbers : List ℕ) (channels : Channels) → AreWritten numbers c
 named_bare numbers channels w =
     bare (named numbers) (omega (arith, named_long numbers)) (named_first numbers) (named_last numbers channels w)
 
-named_word : (numbers : List ℕ) (channels : Channels) → AreWritten numbers channels → part_word (named numbers) ≡ in_lower_case (named numbers)
+named_word : (numbers : List ℕ) (channels : Channels) → AreWritten numbers channels
+    → part_word (named numbers) ≡ in_lower_case (named numbers)
 named_word numbers channels w = ap in_lower_case (named_bare numbers channels w)
 
 named_names : (numbers : List ℕ) (channels : Channels) → AreWritten numbers channels → NamesChannels (named numbers)
@@ -125,14 +132,16 @@ unfolding named
 named_names numbers channels w =
     subst (λ (l : List ℕ). Begins (codes "interleaved=") l) (sym (named_word numbers channels w)) refl
 
-named_plain : (numbers : List ℕ) (channels : Channels) → AreWritten numbers channels → ¬ AsksOtherDelivery (named numbers)
+named_plain : (numbers : List ℕ) (channels : Channels) → AreWritten numbers channels
+    → ¬ AsksOtherDelivery (named numbers)
 unfolding named
 named_plain numbers channels w =
     first_letter (named numbers) 105 (ap (λ (l : List ℕ). get_or l 0 0) (named_word numbers channels w)) (omega arith)
 
 after_named : (numbers : List ℕ) → after_name (named numbers) ≡ numbers
 unfolding named
-after_named numbers = take_all (length (codes "interleaved=" ++ numbers) - 12) numbers (omega (arith, named_long numbers))
+after_named numbers =
+    take_all (length (codes "interleaved=" ++ numbers) - 12) numbers (omega (arith, named_long numbers))
 
 rest_of : List ℕ → List ℕ
 rest_of numbers = text_of 59 (codes "unicast") (named numbers)
@@ -170,7 +179,8 @@ taken numbers channels w = record {
   protocol = ap part_word (slice_first 59 (codes "RTP/AVP/TCP") (rest_of numbers));
   plain = none_more AsksOtherDelivery protocol_none (first_letter (codes "RTP/AVP/TCP") 114 refl (omega arith))
       (none_more AsksOtherDelivery unicast_none (first_letter (codes "unicast") 117 refl (omega arith))
-      (none_whole 59 (named numbers) AsksOtherDelivery (named_none numbers channels w) (named_plain numbers channels w)));
+      (none_whole 59 (named numbers) AsksOtherDelivery (named_none numbers channels w)
+      (named_plain numbers channels w)));
   has = inl (are_named numbers channels w);
 }
 
@@ -190,7 +200,8 @@ alone text channels none is =
 written_read_back : (numbers : List ℕ) (channels : Channels) → AreWritten numbers channels
     → IsTransport (codes "RTP/AVP/TCP;unicast;interleaved=" ++ numbers) channels
 unfolding value named text_of
-written_read_back numbers channels w = alone (value numbers) channels (value_none numbers channels w) (taken numbers channels w)
+written_read_back numbers channels w =
+    alone (value numbers) channels (value_none numbers channels w) (taken numbers channels w)
 
 -- ---- the numbers of channels
 
@@ -209,7 +220,8 @@ record IsSeparator (c : ℕ) : Type 0 where
   no_digit : is_ascii_digit c ≡ false
   no_dash : c ≢ 45
 
-pair_free : {c : ℕ} (m n : ℕ) → IsSeparator c → m ≤ 255 → n ≤ 255 → list_all (other_than c) (decimal m ++ 45 ∷ decimal n) ≡ true
+pair_free : {c : ℕ} (m n : ℕ) → IsSeparator c → m ≤ 255 → n ≤ 255
+    → list_all (other_than c) (decimal m ++ 45 ∷ decimal n) ≡ true
 pair_free {c} m n separator small fits =
     list_all-append (other_than c) (decimal m) (45 ∷ decimal n)
     ∙ and_from (list_all (other_than c) (decimal m)) (list_all (other_than c) (45 ∷ decimal n))
@@ -233,7 +245,8 @@ last_digit front n fits =
     (is_digit_at (decimal n) (length (decimal n) - 1) (digits n fits) (omega (arith, some)))
 
 within : (most n : ℕ) → n ≤ most → most ≤ 255 → WritesNumber 0 most (decimal n) n
-within most n fits few = record { is_number = written_read 0 n (omega (arith, fits, few)); above = omega arith; below = fits }
+within most n fits few =
+    record { is_number = written_read 0 n (omega (arith, fits, few)); above = omega arith; below = fits }
 
 pair : (m n : ℕ) → m ≤ 255 → n ≤ 255 → m ≢ n → IsPair (decimal m ++ 45 ∷ decimal n) (record { media = m; control = n })
 unfolding text_of
@@ -277,7 +290,8 @@ transport_read m n small fits differ =
 
 -- one channel, which means the next one too
 pub single_read : (media : ℕ) → media ≤ 254
-    → IsTransport (codes "RTP/AVP/TCP;unicast;interleaved=" ++ decimal media) (record { media = media; control = media + 1 })
+    → IsTransport (codes "RTP/AVP/TCP;unicast;interleaved=" ++ decimal media)
+    (record { media = media; control = media + 1 })
 single_read m small =
     let fits : m ≤ 255 = omega (arith, small) in
     written_read_back (decimal m) (record { media = m; control = m + 1 }) (record {

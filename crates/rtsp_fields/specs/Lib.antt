@@ -4,6 +4,5 @@ pub mod Transports
 pub mod Times
 pub mod Ranges
 pub mod Sessions
-pub mod Values
 pub mod Descriptions
 pub mod Laws

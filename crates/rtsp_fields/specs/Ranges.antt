@@ -22,7 +22,7 @@ IsLimit text (Some time) = IsTime text time
 pub record IsSpan (value : List ℕ) (span : Span) : Type 0 where
   pub unit : Begins (codes "npt=") (in_lower_case value)
   pub dash : ℕ
-  pub is_dash : IsPartEnd 45 value 4 dash
+  pub is_dash : IsPartEnd 45 value (length (codes "npt=")) dash
   pub inside : dash < length value
-  pub from : IsOrigin (slice_range value 4 dash) span.from
+  pub from : IsOrigin (slice_range value (length (codes "npt=")) dash) span.from
   pub to : IsLimit (slice_range value (dash + 1) (length value)) span.to

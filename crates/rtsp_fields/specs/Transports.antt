@@ -4,7 +4,7 @@
 use Rattle.std.specs.Prelude.{◌≡◌, ◌≢◌, ℕ, ◌+◌, ◌<◌, ◌⊎◌, List, length, take, codes, slice_range}
 use Rattle.vod_base.specs.Blanks.{without_blanks}
 use Rattle.rtsp_fields.specs.Parts.{IsPartEnd, IsPart, NoneBefore, NoPart, Begins, in_lower_case}
-use Rattle.rtsp_fields.specs.Values.{WritesNumber}
+use Rattle.vod_base.specs.Limits.{WritesNumber}
 use Rattle.rtsp_fields.specs.declared.transports.Channels.{Channels}
 
 -- two different numbers up to 255 with `-` between them
@@ -42,7 +42,7 @@ NamesChannels part = Begins (codes "interleaved=") (part_word part)
 
 -- the text after `interleaved=`
 abbrev pub after_name : List ℕ → List ℕ
-after_name part = slice_range part 12 (length part)
+after_name part = slice_range part (length (codes "interleaved=")) (length part)
 
 -- the first part that names channels names these
 pub record AreNamed (text : List ℕ) (channels : Channels) : Type 0 where

@@ -11,8 +11,8 @@ use Rattle.rtsp_fields.specs.Parts.{IsPartEnd, Begins, in_lower_case}
 pub record IsAbsoluteUrl (url : List ℕ) (path : ℕ) : Type 0 where
   pub bytes : list_all is_url_byte url ≡ true
   pub scheme : Begins (codes "rtsp://") (in_lower_case url)
-  pub authority : 7 < path
-  pub end : IsPartEnd 47 url 7 path
+  pub authority : length (codes "rtsp://") < path
+  pub end : IsPartEnd 47 url (length (codes "rtsp://")) path
 
 -- the name of a film's one stream, with `/` after it or not
 abbrev pub IsStream : List ℕ → Type 0
@@ -35,7 +35,7 @@ pub record NamesFilm (path name : List ℕ) : Type 0 where
 pub record IsRead (url authority : List ℕ) (name : Option (List ℕ)) : Type 0 where
   pub path : ℕ
   pub is_url : IsAbsoluteUrl url path
-  pub authority_is : authority ≡ slice_range url 7 path
+  pub authority_is : authority ≡ slice_range url (length (codes "rtsp://")) path
   pub name_is : MatchOption name ((any : List ℕ) →
       ¬ NamesFilm (slice_range url path (length url)) any)
       (NamesFilm (slice_range url path (length url)))

@@ -9,58 +9,46 @@ ghost use Rattle.vod_base.specs.Names.{is_good_name};
 ghost use Rattle.rtsp_text.specs.Grammar.{IsUrl};
 ghost use Rattle.rtsp_fields.specs.Laws.{HasNoComma, IsDescription, IsFilmPath, IsOtherParameter};
 ghost use Rattle.rtsp_fields.specs.Ranges.{IsSpan};
+ghost use Rattle.rtsp_fields.specs.declared.ranges.Span.{Span};
+ghost use Rattle.rtsp_fields.specs.declared.transports.Channels.{Channels};
 ghost use Rattle.rtsp_fields.specs.Descriptions.{description_text, seconds_text};
 ghost use Rattle.rtsp_fields.specs.Sessions.{IsSession};
 ghost use Rattle.rtsp_fields.specs.Times.{IsTime};
 ghost use Rattle.rtsp_fields.specs.Transports.{IsTransport};
 ghost use Rattle.rtsp_fields.specs.Urls.{IsAbsoluteUrl, NamesFilm};
 
-use crate::ranges::{Origin, Span};
-use crate::transports::Channels;
+use crate::ranges::Origin;
 
 /// A Range value gives one span.
-pub fn law_one_range(value: &[u8], one: Span, other: Span)
-    requires one { IsSpan value.now one }
-    requires other { IsSpan value.now other }
-    ensures { one ≡ other }
-{
-    let _read = (value.len(), one, other);
-}
+pub fn law_one_range()
+    ensures { (value : List ℕ) (one other : Span) → IsSpan value one → IsSpan value other →
+        one ≡ other }
+{}
 
 /// A Transport value gives one pair of channels.
-pub fn law_one_transport(value: &[u8], one: Channels, other: Channels)
-    requires one { IsTransport value.now one }
-    requires other { IsTransport value.now other }
-    ensures { one ≡ other }
-{
-    let _read = (value.len(), one, other);
-}
+pub fn law_one_transport()
+    ensures { (value : List ℕ) (one other : Channels) → IsTransport value one →
+        IsTransport value other → one ≡ other }
+{}
 
 /// The URLs that a request line may have (RFC 2326 section 6.1), but for `*`, are those that
 /// [`crate::read_url`] reads.
-pub fn law_asked_url(url: &[u8])
-    ensures { (IsUrl url.now × (url.now ≢ codes "*")) ↔ ((path : ℕ) × IsAbsoluteUrl url.now path) }
-{
-    let _read = url.len();
-}
+pub fn law_asked_url()
+    ensures { (url : List ℕ) →
+        (IsUrl url × (url ≢ codes "*")) ↔ ((path : ℕ) × IsAbsoluteUrl url path) }
+{}
 
 /// The authority of a URL ends at one place.
-pub fn law_one_authority(url: &[u8], one: usize, other: usize)
-    requires one { IsAbsoluteUrl url.now one }
-    requires other { IsAbsoluteUrl url.now other }
-    ensures { one ≡ other }
-{
-    let _read = (url.len(), one, other);
-}
+pub fn law_one_authority()
+    ensures { (url : List ℕ) (one other : ℕ) → IsAbsoluteUrl url one → IsAbsoluteUrl url other →
+        one ≡ other }
+{}
 
 /// A path names one film.
-pub fn law_one_name(path: &[u8], one: &[u8], other: &[u8])
-    requires one { NamesFilm path.now one.now }
-    requires other { NamesFilm path.now other.now }
-    ensures { one.now ≡ other.now }
-{
-    let _read = (path.len(), one.len(), other.len());
-}
+pub fn law_one_name()
+    ensures { (path one other : List ℕ) → NamesFilm path one → NamesFilm path other →
+        one ≡ other }
+{}
 
 /// A path names a film exactly where it is `/`, the film's good name, and nothing, `/`, or `/video`
 /// with `/` after it or not.
@@ -71,12 +59,9 @@ pub fn law_film_path()
 
 /// Milliseconds below 10^12, written as seconds with three digits, are read back as that time, in
 /// nanoseconds.
-pub fn law_seconds_read(ms: u64)
-    requires { ms < 10 ^ 12 }
-    ensures { IsTime (seconds_text ms) (ms * 1000000) }
-{
-    let _read = ms;
-}
+pub fn law_seconds_read()
+    ensures { (ms : ℕ) → ms < 10 ^ 12 → IsTime (seconds_text ms) (ms * 1000000) }
+{}
 
 /// Seconds, a point and digits are read as that time, in nanoseconds: the digits write a part of a
 /// second, which is rounded down (RFC 2326 section 3.6).

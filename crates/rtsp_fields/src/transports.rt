@@ -8,8 +8,7 @@ ghost use Rattle.rtsp_fields.specs.Transports.{IsDelivery, IsPair, IsSingle, IsT
 ghost use Rattle.rtsp_fields.specs.Transports.{NamesChannels};
 
 use crate::parts::{part_end, parts_of, starts_with};
-use crate::values::number_within;
-use vod_base::trim;
+use vod_base::{number_within, trim};
 
 /// What the part with the channels begins with.
 const NAME: &[u8; 12] = b"interleaved=";

@@ -8,13 +8,11 @@ ghost use Rattle.rtsp_text.specs.Lines.{is_one_line};
 ghost use Rattle.rtsp_fields.specs.Urls.{IsAbsoluteUrl, IsStream, IsTail, IsRead, NamesFilm};
 
 use crate::parts::{part_end, starts_with};
+use rtsp_text::{SCHEME, has_url_bytes};
 use vod_base::good_name;
 
-/// What an RTSP URL begins with.
-const SCHEME: &[u8; 7] = b"rtsp://";
-
 /// What an RTSP URL says (RFC 2326 section 3.2).
-#[derive(Clone, Copy, Debug)]
+#[derive(Clone, Copy, Debug, PartialEq, Eq)]
 pub struct Url<'a> {
     /// The authority, as `host:port`: one or more bytes without `/`.
     pub authority: &'a [u8],
@@ -38,7 +36,7 @@ pub fn read_url(url: &[u8]) -> Option<Url<'_>>
     ensures name_line { IfSome result (λ read.
         IfSome read.name (λ name. is_one_line name.now ≡ true)) }
 {
-    if !rtsp_text::has_url_bytes(url) || !starts_with(url, SCHEME) {
+    if !has_url_bytes(url) || !starts_with(url, SCHEME) {
         return None;
     }
     let path = part_end(url, SCHEME.len(), b'/');

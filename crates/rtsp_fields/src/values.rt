@@ -1,20 +1,9 @@
 //! Numbers in header values.
 
-ghost use Rattle.std.specs.Prelude.{◌≡◌, ℕ, ◌^◌, ◌≤◌, MatchOption};
-ghost use Rattle.rtsp_fields.specs.Values.{WritesNumber};
+ghost use Rattle.std.specs.Prelude.{ℕ, ◌^◌, MatchOption};
+ghost use Rattle.vod_base.specs.Limits.{WritesNumber};
 
-use vod_base::read_number;
-
-/// The number from `least` to `most` that the text writes, in decimal digits.
-pub(crate) fn number_within(text: &[u8], least: u64, most: u64) -> Option<u64>
-    ensures { MatchOption result ((n : ℕ) →
-        ¬ WritesNumber least most text.now n) (WritesNumber least most text.now) }
-{
-    match read_number(text) {
-        Ok(number) if least <= number && number <= most => Some(number),
-        _ => None,
-    }
-}
+use vod_base::number_within;
 
 /// The value of `x-Buffer`: the client's buffer, from 1 to 2^42 bytes.
 ///

@@ -3,7 +3,7 @@ use Rattle.std.specs.Prelude.{ℕ, ◌≡◌, ◌-◌, ◌⊎◌, true, List, []
 use Rattle.std.specs.Prelude.{codes, string_bytes}
 use Rattle.rtsp_text.specs.Fields.{header_value}
 use Rattle.rtsp_text.specs.Replies.{reply_front}
-use Rattle.rtsp_fields.specs.Values.{WritesNumber}
+use Rattle.vod_base.specs.Limits.{WritesNumber}
 use Rattle.early_start.specs.Offered.{Offers}
 use Rattle.rtsp_text.specs.declared.requests.Request.{Request}
 use Rattle.film_frames.specs.declared.stores.Stored.{Stored}

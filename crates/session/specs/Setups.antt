@@ -3,7 +3,7 @@
 use Rattle.std.specs.Prelude.{ℕ, ◌≡◌, ◌^◌, ◌⊎◌, List, Option, Some, None, Result, Ok, Err, codes}
 use Rattle.rtsp_text.specs.Fields.{header_value}
 use Rattle.rtsp_fields.specs.Transports.{IsTransport}
-use Rattle.rtsp_fields.specs.Values.{WritesNumber}
+use Rattle.vod_base.specs.Limits.{WritesNumber}
 use Rattle.rtsp_fields.specs.declared.transports.Channels.{Channels}
 use Rattle.session.specs.declared.settings.Settings.{Settings}
 use Rattle.session.specs.declared.states.Setup.{Setup}

@@ -2,4 +2,4 @@ use Rattle.rtsp_fields.proofs.Once.{span_once}
 use Rattle.rtsp_fields.proofs.laws.law_one_range.Goals as goal
 
 pub returns : goal.returns
-returns c = span_once c.args.value.now c.args.one c.args.other c.requires.one c.requires.other
+returns c = span_once

@@ -4,4 +4,5 @@ use Rattle.rtsp_fields.proofs.seconds.put_digit.Goals as goal
 
 pub returns-clause-text : goal.returns-clause-text
 returns-clause-text c =
-    c.put.ensures.text ∙ ap (λ t. take c.args.at c.args.into.now ++ t) (sym (decimal_digit c.args.digit c.requires.digit))
+    c.put.ensures.text
+    ∙ ap (λ t. take c.args.at c.args.into.now ++ t) (sym (decimal_digit c.args.digit c.requires.digit))

@@ -22,4 +22,5 @@ loop-part-preserved c =
     (λ names. let wrong : false ≡ true = c.if-starts_with.ensures.1 (rw c.trim-part.ensures names) in cc)
 
 pub returns : goal.returns
-returns c = inr (record { none = passed_every c.loop-part.invariant c.in-None.ensures.steps; media = refl; control = refl })
+returns c =
+    inr (record { none = passed_every c.loop-part.invariant c.in-None.ensures.steps; media = refl; control = refl })

@@ -13,7 +13,8 @@ pub returns-then-asks_other_delivery : goal.returns-then-asks_other_delivery
 returns-then-asks_other_delivery c = (
   λ wrong. cc,
   λ none.
-      let found = found_part c.next.new.self c.loop-part.invariant c.in-Some.ensures.steps (c.if-asks_other_delivery.ensures.0 refl) in
+      let found = found_part c.next.new.self c.loop-part.invariant c.in-Some.ensures.steps
+      (c.if-asks_other_delivery.ensures.0 refl) in
       absurd (none _ found.0 found.1.0.part found.1.0.holds),
 )
 

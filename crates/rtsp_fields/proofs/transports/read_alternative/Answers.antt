@@ -12,4 +12,5 @@ returns c =
 pub returns-then-not-eq_ignore_ascii_case : goal.returns-then-not-eq_ignore_ascii_case
 returns-then-not-eq_ignore_ascii_case c = λ channels t.
     other_protocol c.args.text.now c.part_end-end.result channels c.part_end-end.ensures
-    (λ same. let bad : false ≡ true = c.if-not-eq_ignore_ascii_case.ensures.test.1 (ap in_lower_case c.trim.ensures ∙ same) in cc) t
+    (λ same. let bad : false ≡ true =
+    c.if-not-eq_ignore_ascii_case.ensures.test.1 (ap in_lower_case c.trim.ensures ∙ same) in cc) t
