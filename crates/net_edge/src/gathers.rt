@@ -5,6 +5,7 @@ ghost use Rattle.std.specs.Prelude.{vec_capacity, IfOk};
 
 use std::alloc::{AllocError, Global};
 use std::marker::Model;
+use vod_base::move_to_front;
 
 /// Bytes that wait to be written, in a buffer whose room is taken when it is made. Contracts see
 /// the list of these bytes.
@@ -20,13 +21,14 @@ const ROOM: usize = 16_384;
 
 impl Model for Gathered {
     ghost use Rattle.std.specs.Prelude.{◌≤◌, ℕ, List, length, drop, vec_capacity};
+    ghost use Rattle.net_edge.specs.declared.gathers.TheConstants.{ROOM};
 
     ghost Value = { List ℕ };
 
     ghost view = { λ g. drop g.start g.bytes.items };
 
     ghost invariant = { λ g. (g.start ≤ length g.bytes.items)
-        × (length g.bytes.items ≤ 16384) × (16384 ≤ vec_capacity g.bytes) };
+        × (length g.bytes.items ≤ ROOM) × (ROOM ≤ vec_capacity g.bytes) };
 }
 
 impl Gathered {
@@ -49,7 +51,7 @@ impl Gathered {
 
     /// Appends as many of the bytes as there is room for, and answers how many.
     pub(crate) fn put(&mut self, bytes: &[u8]) -> usize
-        ensures count { result ≡ min (length bytes.now) (16384 - length self.old) }
+        ensures count { result ≡ min (length bytes.now) (ROOM - length self.old) }
         ensures waiting { self.new ≡ self.old ++ take result bytes.now }
     {
         let count = bytes.len().min(ROOM - (self.bytes.len() - self.start));
@@ -75,15 +77,4 @@ impl Gathered {
             self.start = 0;
         }
     }
-}
-
-/// Moves what stands from `start` on to the front, and leaves nothing else.
-fn move_to_front(bytes: &mut Vec<u8>, start: usize)
-    requires { start ≤ length bytes.old.items }
-    ensures items { bytes.new.items ≡ drop start bytes.old.items }
-    ensures capacity { vec_capacity bytes.new ≡ vec_capacity bytes.old }
-{
-    let left = bytes.len() - start;
-    bytes.copy_within(start.., 0);
-    bytes.truncate(left);
 }

@@ -9,7 +9,7 @@ use std::net::{Ipv4Addr, Net, Shutdown, SocketAddr, TcpListener, TcpStream};
 use std::test::Fail;
 use std::time::Clock;
 use std::{fs, io};
-use vod_base::{Gate, GateFault, Heard, Library, Link, Opening, Sink};
+use vod_base::{Gate, GateFault, Heard, Library, Link, Opening, Sink, SinkFault};
 
 /// Slots of ten milliseconds on a free port, and one connection for each part.
 const HOW: Opening = Opening {
@@ -252,5 +252,13 @@ fn writes_files(rt: HostRuntime) -> Result<(), Fail> {
         FileLibrary::new(&rt, rt.alloc()).find("o.txt"),
         Ok(Some(3))
     );
+    Ok(())
+}
+
+/// On a device that is full each write fails.
+#[test]
+fn answers_a_write_that_fails(rt: HostRuntime) -> Result<(), Fail> {
+    let mut sink = OutSink::new(fs::create(&rt, "/dev/full")?);
+    assert_eq!(rt; sink.write_all(b"out"), Err(SinkFault));
     Ok(())
 }
