@@ -12,7 +12,8 @@ use Rattle.std.proofs.lemmas.Option.{none-some, same_Some}
 use Rattle.vod_base.specs.Names.{is_good_name}
 use Rattle.vod_base.specs.Numbers.{number_of}
 use Rattle.slot_calendar.specs.declared.profiles.CapacityStep.{CapacityStep}
-use Rattle.command_words.specs.Settings.{in_range, number_or, one_name, one_number, values_of}
+use Rattle.vod_base.specs.Limits.{in_range}
+use Rattle.command_words.specs.Settings.{number_or, one_name, one_number, values_of}
 use Rattle.command_words.specs.Capacities.{IsFront, capacity_of, flat_steps, may_follow, one_capacity, part_more, stands_after, step_more, step_of, steps_of}
 use Rattle.command_words.specs.Keys.{film_given, cert_given, script_given, buffer_given, startup_given, slot_given, capacity_given, journal_given, port_given, workers_given, connections_given, seed_given, pictures_given, plays_given, one_kind, one_bind}
 use Rattle.command_words.specs.Commands.{command_named, is_word_of}

@@ -17,7 +17,8 @@ use Rattle.vod_base.proofs.Digits.{decimal_numerals}
 use Rattle.vod_base.proofs.Written.{decimal_read}
 use Rattle.slot_calendar.specs.declared.profiles.CapacityStep.{CapacityStep}
 use Rattle.slot_calendar.specs.Profiles.{no_step, step_at}
-use Rattle.command_words.specs.Settings.{one_name, in_range, one_number, number_or}
+use Rattle.vod_base.specs.Limits.{in_range}
+use Rattle.command_words.specs.Settings.{one_name, one_number, number_or}
 use Rattle.command_words.specs.Capacities.{step_of, stands_after, may_follow, step_more, part_more, steps_of, one_capacity}
 use Rattle.command_words.specs.Spelling.{IsCapacity, step_text, steps_text}
 use Rattle.command_words.proofs.SettingLemmas.{has_no, inside_of, before_of, after_of}

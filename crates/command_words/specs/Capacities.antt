@@ -7,7 +7,7 @@ use Rattle.std.specs.Option.{option_and_then}
 use Rattle.slot_calendar.specs.declared.profiles.CapacityStep.{CapacityStep}
 use Rattle.slot_calendar.specs.Profiles.{step_at}
 use Rattle.vod_base.specs.Numbers.{number_of}
-use Rattle.command_words.specs.Settings.{in_range}
+use Rattle.vod_base.specs.Limits.{in_range}
 
 -- one step of that many bytes in all slots
 abbrev pub flat_steps : ℕ → List CapacityStep

@@ -1,12 +1,13 @@
 -- Settings: words `key=value`, split at their first '='. Their order is free, and each key comes at
 -- most once, but for those that say otherwise.
-use Rattle.std.specs.Prelude.{ℕ, Bool, true, false, ◌&&◌, ◌==◌, if◌then◌else◌, nat_lt, nat_le, List}
+use Rattle.std.specs.Prelude.{ℕ, Bool, true, false, ◌&&◌, ◌==◌, if◌then◌else◌, nat_lt, List}
 use Rattle.std.specs.Prelude.{[], ◌∷◌, length, Option, Some, None, map, flat_map, string_bytes}
 use Rattle.std.specs.Prelude.{String}
 use Rattle.std.specs.Global.{Global}
 use Rattle.std.specs.List.{before_first, after_first, position_or_len}
 use Rattle.std.specs.Option.{option_to_list}
 use Rattle.std.specs.Str.{bytes_eq}
+use Rattle.vod_base.specs.Limits.{in_range}
 use Rattle.vod_base.specs.Names.{is_good_name}
 use Rattle.vod_base.specs.Numbers.{number_of}
 
@@ -35,11 +36,6 @@ abbrev pub one_name : List (List ℕ) → Option (List ℕ)
 one_name [] = None
 one_name (value ∷ []) = if is_good_name value then Some value else None
 one_name (value ∷ other ∷ others) = None
-
--- a number in its range
-abbrev pub in_range : ℕ → ℕ → Option ℕ → Option ℕ
-in_range least most None = None
-in_range least most (Some n) = if nat_le least n && nat_le n most then Some n else None
 
 -- a number that was given once, in its range
 abbrev pub one_number : ℕ → ℕ → List (List ℕ) → Option ℕ

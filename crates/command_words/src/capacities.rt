@@ -7,11 +7,11 @@ ghost use Rattle.command_words.specs.Capacities.{IsFront, capacity_of, flat_step
 ghost use Rattle.command_words.specs.Capacities.{one_capacity, stands_after, step_of, steps_of};
 ghost use Rattle.command_words.specs.Capacities.{step_more};
 
-use crate::settings::{Given, find_given, number_within};
+use crate::settings::{Given, find_given};
 use crate::steps::Steps;
 use slot_calendar::{CapacityStep, MAX_CAPACITY, MAX_STEPS, Profile};
 use std::alloc::Global;
-use vod_base::{LATEST_SLOT, NoMemory, read_number};
+use vod_base::{LATEST_SLOT, NoMemory, number_within, read_number};
 
 /// The capacity of each slot in bytes, where the words say nothing.
 const DEFAULT_CAPACITY: u64 = 50_000;
@@ -126,6 +126,6 @@ fn read_capacity(text: &str) -> Option<Steps>
     if text.split_once(':').is_some() {
         return read_steps(text);
     }
-    let bytes = number_within(text, 1, MAX_CAPACITY)?;
+    let bytes = number_within(text.as_bytes(), 1, MAX_CAPACITY)?;
     Some(flat_steps(bytes))
 }

@@ -3,12 +3,11 @@
 ghost use Rattle.std.specs.Prelude.{◌≡◌, ◌≤◌, ◌^◌, true, IfSome};
 ghost use Rattle.std.specs.Option.{option_copied};
 ghost use Rattle.vod_base.specs.Names.{is_good_name};
-ghost use Rattle.vod_base.specs.Numbers.{number_of};
-ghost use Rattle.command_words.specs.Settings.{texts, setting_value, values_of, one_name, in_range};
+ghost use Rattle.command_words.specs.Settings.{texts, setting_value, values_of, one_name};
 ghost use Rattle.command_words.specs.Settings.{one_number, number_or};
 ghost use Rattle.command_words.specs.Given.{IsGiven};
 
-use vod_base::{good_name, read_number};
+use vod_base::{good_name, number_within};
 
 /// How often words give a value to a key.
 #[derive(Clone, Copy)]
@@ -59,23 +58,12 @@ pub(crate) fn one_name<'a>(words: &'a [String], key: &str) -> Option<&'a str>
     }
 }
 
-/// The number in its range that a text writes.
-pub(crate) fn number_within(text: &str, least: u64, most: u64) -> Option<u64>
-    ensures number { result ≡ in_range least most (number_of text.now) }
-    ensures range { IfSome result (λ number. (least ≤ number) × (number ≤ most)) }
-{
-    match read_number(text.as_bytes()) {
-        Ok(number) if least <= number && number <= most => Some(number),
-        _ => None,
-    }
-}
-
 /// The number in its range that is given to a key once.
 pub(crate) fn one_number(words: &[String], key: &str, least: u64, most: u64) -> Option<u64>
     ensures { result ≡ one_number least most (values_of key.now (texts words.now)) }
 {
     match find_given(words, key) {
-        Given::Once(text) => number_within(text, least, most),
+        Given::Once(text) => number_within(text.as_bytes(), least, most),
         _ => None,
     }
 }
@@ -94,7 +82,7 @@ pub(crate) fn number_or(
 {
     match find_given(words, key) {
         Given::Absent => Some(default),
-        Given::Once(text) => number_within(text, least, most),
+        Given::Once(text) => number_within(text.as_bytes(), least, most),
         Given::Again => None,
     }
 }
