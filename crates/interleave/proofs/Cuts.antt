@@ -12,9 +12,11 @@ pub StartsBlock-append : (w v : List ℕ) → StartsBlock w → StartsBlock (w +
 StartsBlock-append w v h = (omega (arith, length-append w v, h.0), rw (get_or_append_left w v 0 0 h.0) h.1)
 
 pub StartsMessage-append : (w v : List ℕ) → StartsMessage w → StartsMessage (w ++ v)
-StartsMessage-append w v h =
-    (omega (arith, length-append w v, h.0), rw (get_or_append_left w v 0 0 h.0) h.1,
-        rw (get_or_append_left w v 0 0 h.0) h.2)
+StartsMessage-append w v h = (
+  omega (arith, length-append w v, h.0),
+  rw (get_or_append_left w v 0 0 h.0) h.1,
+  rw (get_or_append_left w v 0 0 h.0) h.2,
+)
 
 pub AreLineEnds-append : (w v : List ℕ) (n : ℕ) → n < length w → AreLineEnds w n → AreLineEnds (w ++ v) n
 AreLineEnds-append w v n more h = record {

@@ -115,10 +115,10 @@ named-line w at e =
     let first = and_parts (ltb 0 at)
     (eqb (get_or w (at - 1) 0) 10
     && same (map to_ascii_lowercase (slice_range w at (at + 15)))
-        (map to_ascii_lowercase (codes "Content-Length:"))) e in
+    (map to_ascii_lowercase (codes "Content-Length:"))) e in
     let rest = and_parts (eqb (get_or w (at - 1) 0) 10)
     (same (map to_ascii_lowercase (slice_range w at (at + 15)))
-        (map to_ascii_lowercase (codes "Content-Length:"))) first.1 in
+    (map to_ascii_lowercase (codes "Content-Length:"))) first.1 in
     record {
       after = ltb-true 0 at first.0;
       begins = eqb-true (get_or w (at - 1) 0) 10 rest.0;
@@ -185,7 +185,7 @@ request_with_head w head starts is fits =
     elim (cases_lt 65536 its.0) [
       | inl long ↦
           inr (only_request w starts
-              (λ n size inside. not_long w n size (long_body w head is fits (its.0, (long, its.1)))))
+          (λ n size inside. not_long w n size (long_body w head is fits (its.0, (long, its.1)))))
       | inr small ↦ request_whole w (head + its.0) starts (whole_length is fits its.1 small)
     ]
 
@@ -249,7 +249,7 @@ stream_by zero w short = ([], (w, (refl, nothing w (omega arith))))
 stream_by (suc most) w short = elim (element_decided w) [
   | inl element ↦
       (let rest = stream_by most (drop element.0 w)
-          (omega (arith, length-drop element.0 w, element_some w element.0 element.1, short)) in
+      (omega (arith, length-drop element.0 w, element_some w element.0 element.1, short)) in
       (take element.0 w ∷ rest.0, (rest.1.0, ((element.0, (element.1, refl, rest.1.1.0)), rest.1.1.1))))
   | inr none ↦ ([], (w, (refl, none)))
 ]

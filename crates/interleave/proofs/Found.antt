@@ -22,9 +22,10 @@ pub read_value : {head text : List ℕ} {at text_end next : ℕ} (o : Option ℕ
     text ≡ without_blanks (slice_range head at text_end) →
     MatchOption o (65536 < written_length text) (λ n. (n ≤ 65536) × (n ≡ written_length text)) →
     MatchOption o (IsLongAt head at) (λ n. (n ≤ 65536) × IsWrittenAt head at n)
-read_value {head} {text} {at} {text_end} {next} None line same h =
-    (written_length text,
-        (h, inl (record { text_end = text_end; next = next; line = line; written = ap written_length same })))
+read_value {head} {text} {at} {text_end} {next} None line same h = (
+  written_length text,
+  (h, inl (record { text_end = text_end; next = next; line = line; written = ap written_length same })),
+)
 read_value {head} {text} {at} {text_end} {next} (Some n) line same h =
     (h.0, inl (record { text_end = text_end; next = next; line = line; written = rw (← same) (h.1) }))
 

@@ -70,7 +70,7 @@ pub kept_known : {old : List ℕ} {from : ℕ} {items : List ℕ} {start : ℕ} 
 kept_known {items} {start} more known moved h =
     let P : List ℕ → Type 0 = λ l. IsKnown l known in
     rw (drop-append-le start items more moved.within)
-        (IsKnown-append (drop start items) more known (subst P (sym moved.same) h))
+    (IsKnown-append (drop start items) more known (subst P (sym moved.same) h))
 
 -- what is settled is known
 pub settled_known : (w : List ℕ) (known : Known) → IsSettled w known → IsKnown w known

@@ -14,7 +14,7 @@ use Rattle.interleave.proofs.Unique.{clash_end_block}
 pub front_line_end : (w v : List ℕ) (n : ℕ) → (0 < n) × AreLineEnds w n → is_line_end (get_or (w ++ v) 0 0) ≡ true
 front_line_end w v n h =
     let inside : 0 < length w = omega (arith, h.0, h.1.within) in
-        rw (get_or_append_left w v 0 0 inside) (h.1.line_ends 0 h.0)
+    rw (get_or_append_left w v 0 0 inside) (h.1.line_ends 0 h.0)
 
 pub as_many : (w v : List ℕ) (n m : ℕ) → AreLineEnds w n → AreLineEnds (w ++ v) m → n ≤ m
 as_many w v n m h k =
@@ -22,9 +22,9 @@ as_many w v n m h k =
       | inl less ↦
           let inside : m < length w = omega (arith, h.within, less) in
           let here : is_line_end (get_or (w ++ v) m 0) ≡ true =
-              rw (get_or_append_left w v 0 m inside) (h.line_ends m less) in
+          rw (get_or_append_left w v 0 m inside) (h.line_ends m less) in
           absurd (both_ways (is_line_end (get_or (w ++ v) m 0))
-              (k.last (omega (arith, inside, length-append w v))) here)
+          (k.last (omega (arith, inside, length-append w v))) here)
       | inr least ↦ least
     ]
 

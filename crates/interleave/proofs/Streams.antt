@@ -31,7 +31,7 @@ element_stays w v n (WholeBlock starts four size inside) =
     (rw (block_length-append w v four) size) (omega (arith, length-append w v, inside))
 element_stays w v n (WholeMessage starts size inside) =
     WholeMessage (StartsMessage-append w v starts) (IsMessageLength-append w v n size)
-        (omega (arith, length-append w v, inside))
+    (omega (arith, length-append w v, inside))
 
 -- a whole element has one length
 pub element_once : (w : List ℕ) (a b : ℕ) → IsElementLength w a → IsElementLength w b → a ≡ b
@@ -57,9 +57,15 @@ cut_grows w v (element ∷ elements) rest (n, cut) =
     let inside : n ≤ length w = element_within w n cut.0 in
     let front : take n (w ++ v) ≡ take n w = take-append-le n w v inside in
     let after : drop n (w ++ v) ≡ drop n w ++ v = drop-append-le n w v inside in
-    let P : List ℕ → Type 0 = λ xs. AreCut xs elements (rest ++ v) in
-    (n, (element_stays w v n cut.0, cut.1
-        ∙ sym front, subst P (sym after) (cut_grows (drop n w) v elements rest cut.2)))
+    let P : List ℕ → Type 0 = λ xs. AreCut xs elements (rest ++ v) in (
+      n,
+      (
+        element_stays w v n cut.0,
+        cut.1
+            ∙ sym front,
+        subst P (sym after) (cut_grows (drop n w) v elements rest cut.2),
+      ),
+    )
 
 -- one element more
 pub cut_more : (w : List ℕ) (elements : List (List ℕ)) (rest : List ℕ) (n : ℕ) → AreCut w elements rest
@@ -67,7 +73,7 @@ pub cut_more : (w : List ℕ) (elements : List (List ℕ)) (rest : List ℕ) (n 
     AreCut w (elements ++ take n rest ∷ []) (drop n rest)
 cut_more w [] rest n same element =
     let P : List ℕ
-        → Type 0 = λ xs. AreCut xs (take n rest ∷ []) (drop n rest) in subst P (sym same) (n, (element, refl, refl))
+    → Type 0 = λ xs. AreCut xs (take n rest ∷ []) (drop n rest) in subst P (sym same) (n, (element, refl, refl))
 cut_more w (first ∷ elements) rest n (m, cut) element =
     (m, (cut.0, cut.1, cut_more (drop m w) elements rest n cut.2 element))
 
@@ -127,11 +133,11 @@ stream_once {ps = []} {qs = []} streams = (refl, sym streams.one.0 ∙ streams.o
 stream_once {ps = []} {qs = q ∷ qs} streams =
     let cut = streams.other.0 in
     let P : List ℕ
-        → Type 0 = λ xs. IsElementLength xs cut.0 in absurd (streams.one.1 cut.0 (subst P streams.one.0 cut.1.0))
+    → Type 0 = λ xs. IsElementLength xs cut.0 in absurd (streams.one.1 cut.0 (subst P streams.one.0 cut.1.0))
 stream_once {ps = p ∷ ps} {qs = []} streams =
     let cut = streams.one.0 in
     let P : List ℕ
-        → Type 0 = λ xs. IsElementLength xs cut.0 in absurd (streams.other.1 cut.0 (subst P streams.other.0 cut.1.0))
+    → Type 0 = λ xs. IsElementLength xs cut.0 in absurd (streams.other.1 cut.0 (subst P streams.other.0 cut.1.0))
 stream_once {w} {ps = p ∷ ps} {qs = q ∷ qs} {r} {t} streams =
     let n = streams.one.0.0 in
     let m = streams.other.0.0 in
@@ -159,8 +165,11 @@ skips w ps (c ∷ cs) (suc n) cut ends =
     let next : AreCut w (ps ++ (c ∷ []) ∷ []) cs =
     cut_more w ps (c ∷ cs) 1 cut (LineEnd refl (omega arith) (ends.line_ends 0 (omega arith))) in
     let more = skips w (ps ++ (c ∷ []) ∷ []) cs n next
-    (record { within = omega (arith, ends.within); line_ends =
-        λ k below. ends.line_ends (suc k) (omega (arith, below)) }) in
+    (record {
+      within = omega (arith, ends.within);
+      line_ends =
+          λ k below. ends.line_ends (suc k) (omega (arith, below));
+    }) in
     let P : List (List ℕ) → Type 0 = λ xs. AreCut w xs (drop n cs) in
     subst P (append_assoc ps ((c ∷ []) ∷ []) (map (λ x. x ∷ []) (take n cs))) more
 

@@ -4,8 +4,8 @@ use Rattle.interleave.specs.Known.{IsKnown}
 use Rattle.interleave.specs.declared.demux.TheConstants.{ROOM}
 use Rattle.interleave.specs.declared.demux.Demux.TheInside.{Inside}
 
--- what waits are the bytes from `start` on, with those before it no more than there is room for, all
--- in reserved memory
+-- what waits are the bytes from `start` on; with those before it there is room for them, all in
+-- reserved memory
 pub record IsBuffer (d : Inside) : Type 0 where
   pub start : d.start ≤ vec_len d.bytes
   pub most : vec_len d.bytes ≤ ROOM

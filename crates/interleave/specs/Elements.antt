@@ -68,8 +68,8 @@ IsFirst bytes (Err HeadTooLong) = StartsMessage bytes × (16384 ≤ length bytes
     × HasNoHead bytes 16384
 IsFirst bytes (Err BodyTooLong) = StartsMessage bytes × IsBodyTooLong bytes
 
--- the answer is a fault or a whole element, and no byte that comes later belongs to it: after CR and
--- LF another byte waits
+-- the answer is a fault or a whole element, and no byte that comes later belongs to it: after CR
+-- and LF another byte waits
 abbrev pub IsWholeElement : List ℕ → Result Step DemuxFault → Type 0
 IsWholeElement bytes (Ok (Skip n)) = n < length bytes
 IsWholeElement bytes (Ok (Block channel n)) = Unit {0}

@@ -47,15 +47,16 @@ pub fn law_cuts_join()
         → AreCut (heard ++ later) (elements ++ more) end }
 {}
 
-/// Two cuts of one stream agree: the elements of one are a front of the other's, which cuts the rest
-/// of the one further.
+/// Two cuts of one stream agree: the elements of one are a front of the other's, which cuts the
+/// rest of the one further.
 pub fn law_cuts_agree()
     ensures { (heard : List ℕ) (one other : List (List ℕ)) (rest end : List ℕ)
         → AreCut heard one rest → AreCut heard other end → DoAgree one rest other end }
 {}
 
 /// An answer tells the next elements of a stream: they are those in front of the rest, and dropping
-/// them leaves what comes after them. Where it tells none, no whole element is in front of the rest.
+/// them leaves what comes after them. Where it tells none, no whole element is in front of the
+/// rest.
 pub fn law_next_elements()
     ensures elements { (heard rest : List ℕ) (elements : List (List ℕ))
         (answer : Result Step DemuxFault)
@@ -65,8 +66,8 @@ pub fn law_next_elements()
         TellsNone rest answer }
 {}
 
-/// All bytes heard are elements and a rest, in one way alone. So the elements are the same however the
-/// bytes came.
+/// All bytes heard are elements and a rest, in one way alone. So the elements are the same however
+/// the bytes came.
 pub fn law_one_stream()
     ensures some { (heard : List ℕ) → HasStream heard }
     ensures one { (heard : List ℕ) (one other : List (List ℕ)) (rest end : List ℕ)
@@ -92,7 +93,8 @@ pub fn law_block()
 /// Where neither a whole element nor a fault is in front, fewer bytes wait than the most of a head
 /// and of a body together.
 pub fn law_few_wait(demux: &Demux)
-    ensures { IsFirst demux.now (Ok Step.More) → length demux.now < MAX_HEAD_BYTES + MAX_BODY_BYTES }
+    ensures { IsFirst demux.now (Ok Step.More) →
+        length demux.now < MAX_HEAD_BYTES + MAX_BODY_BYTES }
 {
     // the contracts of these two calls bound how many bytes a block's head tells
     let waiting = demux.waiting_bytes();

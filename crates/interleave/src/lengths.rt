@@ -11,7 +11,8 @@ const CONTENT_LENGTH: &[u8; 15] = b"Content-Length:";
 /// The most bytes of a message's body.
 pub const MAX_BODY_BYTES: usize = 65_536;
 
-/// The length of the body of a message with this head, or None where it is above [`MAX_BODY_BYTES`].
+/// The length of the body of a message with this head, or None where it is above
+/// [`MAX_BODY_BYTES`].
 pub(crate) fn body_length(head: &[u8]) -> Option<usize>
     ensures { MatchOption result (IsLongBody head.now) (λ n. (n ≤ MAX_BODY_BYTES)
         × IsBodyLength head.now n) }
@@ -26,8 +27,8 @@ pub(crate) fn body_length(head: &[u8]) -> Option<usize>
 
 /// The length that a value writes, or None where it is above [`MAX_BODY_BYTES`].
 fn length_of_value(value: &[u8]) -> Option<usize>
-    ensures { MatchOption result (MAX_BODY_BYTES < written_length value.now) (λ n. (n ≤ MAX_BODY_BYTES)
-        × (n ≡ written_length value.now)) }
+    ensures { MatchOption result (MAX_BODY_BYTES < written_length value.now)
+        (λ n. (n ≤ MAX_BODY_BYTES) × (n ≡ written_length value.now)) }
 {
     match read_number(value) {
         Ok(length) if length <= MAX_BODY_BYTES as u64 => Some(length as usize),

@@ -68,8 +68,8 @@ pub fn law_request_read()
         header_value (request_head parts) name ≡ value_named name parts.fields }
 {}
 
-/// A request whose head has more than [`MAX_HEAD_BYTES`] bytes is refused for it, and else one whose
-/// first Content-Length writes more than [`MAX_BODY_BYTES`]; whatever comes later.
+/// A request whose head has more than [`MAX_HEAD_BYTES`] bytes is refused for it, and else one
+/// whose first Content-Length writes more than [`MAX_BODY_BYTES`]; whatever comes later.
 pub fn law_request_refused()
     ensures head { (parts : Parts) (later : List ℕ) → AreFront parts →
         MAX_HEAD_BYTES < length (request_head parts) →

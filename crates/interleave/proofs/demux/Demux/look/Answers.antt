@@ -17,7 +17,7 @@ invariant_of-self c = record {
 pub learn-requires-clause-known : goal.learn-requires-clause-known
 learn-requires-clause-known c =
     subst (λ (l : List ℕ). IsKnown l c.self.inside.known)
-        (c.self.view_is ∙ sym c.waiting_bytes-waiting.ensures) c.self.invariant.known
+    (c.self.view_is ∙ sym c.waiting_bytes-waiting.ensures) c.self.invariant.known
 
 pub returns-clause-waiting : goal.returns-clause-waiting
 returns-clause-waiting c = c.self.view_is
@@ -25,9 +25,9 @@ returns-clause-waiting c = c.self.view_is
 pub returns-clause-first : goal.returns-clause-first
 returns-clause-first c =
     subst (λ (l : List ℕ). IsFirst l
-        (Ok c.request_step-step.result)) c.waiting_bytes-waiting.ensures c.request_step-step.ensures.first
+    (Ok c.request_step-step.result)) c.waiting_bytes-waiting.ensures c.request_step-step.ensures.first
 
 pub returns-then-front-eq36-clause-first : goal.returns-then-front-eq36-clause-first
 returns-then-front-eq36-clause-first c =
     subst (λ (l : List ℕ). IsFirst l
-        (Ok c.block_step.result)) c.waiting_bytes-waiting.ensures c.block_step.ensures.first
+    (Ok c.block_step.result)) c.waiting_bytes-waiting.ensures c.block_step.ensures.first
