@@ -112,7 +112,7 @@ pub(crate) fn begin_play<'r>(
     ensures begun { result.pacer.passed ≡ 0 }
 {
     let pacer = Pacer::new(rest.reel.as_sending(), rest.run.sent, paced, start);
-    let _sent = pacer.sent();
+    let _sent = pacer.bytes_sent();
     Play {
         number,
         rest,

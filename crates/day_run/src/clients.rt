@@ -101,7 +101,7 @@ impl<'r> Client<'r> {
             Client::Playing(play) => send(&mut play.pacer, slot),
             Client::Pausing(stop) => {
                 let sent = send(&mut stop.pacer, slot);
-                if stop.pacer.sent() == stop.keep {
+                if stop.pacer.bytes_sent() == stop.keep {
                     let rest = stop.rest;
                     *self = Client::Paused(rest);
                 }
@@ -146,7 +146,7 @@ impl<'r> Client<'r> {
                 if play.pacer.is_done() {
                     Some(Halt {
                         number: play.number,
-                        keep: play.pacer.sent(),
+                        keep: play.pacer.bytes_sent(),
                     })
                 } else {
                     None
@@ -250,7 +250,7 @@ fn pause_play<'r>(play: Play<'r>) -> (Halt, Client<'r>)
         mut pacer,
     } = play;
     let last = pacer.last_slot();
-    let sent = pacer.sent();
+    let sent = pacer.bytes_sent();
     let keep = pacer.ask_halt();
     let run = run_after(rest.reel, &rest.playback, &rest.run, &plan, last, keep);
     let rest = Rest { run, ..rest };

@@ -17,7 +17,7 @@ use Rattle.film_frames.specs.declared.pieces.Piece.TheVariants.{Report, Frame}
 use Rattle.film_frames.specs.Laws.{frames_among, payloads, run_frames}
 use Rattle.film_frames.specs.Pieces.{octets_of, pieces_of, unit_pieces, unit_reports, wire_in}
 use Rattle.film_frames.specs.Pieces.{wire_size}
-use Rattle.film_frames.specs.Runs.{Run, blocks_from, payload, piece_bytes, run_of, run_pieces}
+use Rattle.film_frames.specs.Runs.{FramedRun, blocks_from, payload, piece_bytes, run_of, run_pieces}
 use Rattle.film_frames.specs.Runs.{pieces_in}
 use Rattle.film_frames.specs.Tracks.{framed_bytes}
 use Rattle.film_frames.proofs.TrackLemmas.{begin-all}
@@ -34,7 +34,7 @@ carried film [] = []
 carried film (Report unit ∷ pieces) = carried film pieces
 carried film (Frame unit p ∷ pieces) = payload film p ++ carried film pieces
 
-frames-carry : (run : Run) (frames octets : ℕ) (pieces : List Piece)
+frames-carry : (run : FramedRun) (frames octets : ℕ) (pieces : List Piece)
     → payloads (frames_among pieces (blocks_from run frames octets pieces)) ≡ carried run.film pieces
 unfolding carried
 frames-carry run frames octets [] = refl

@@ -12,7 +12,7 @@ use Rattle.rtp_pack.specs.Reports.{report_bytes, unit_report}
 use Rattle.film_frames.specs.Laws.{AreBlocks, IsBlock, HasPieceSize, HaveSizes, frames_among}
 use Rattle.film_frames.specs.Laws.{sequence_of}
 use Rattle.film_frames.specs.Pieces.{count_of, frames_in, octets_of, wire_of}
-use Rattle.film_frames.specs.Runs.{HaveEnded, Run, count_ended, interleaved_block, blocks_from, payload}
+use Rattle.film_frames.specs.Runs.{HaveEnded, FramedRun, count_ended, interleaved_block, blocks_from, payload}
 use Rattle.film_frames.specs.Runs.{piece_bytes, run_pieces, pieces_in}
 use Rattle.film_frames.specs.Tables.{IsSound}
 use Rattle.film_frames.proofs.PieceLemmas.{AreSound, sound-at}
@@ -25,14 +25,14 @@ head-sequence : (channel : ℕ) (head : Head) (rest : List ℕ) → head.sequenc
     → sequence_of (interleaved_block channel (head_bytes head ++ rest)) ≡ head.sequence
 head-sequence channel head rest small = omega arith
 
-frame-sequence : (run : Run) (frames octets : ℕ) (piece : Piece) → count_of piece ≡ 1
+frame-sequence : (run : FramedRun) (frames octets : ℕ) (piece : Piece) → count_of piece ≡ 1
     → sequence_of (piece_bytes run frames octets piece) ≡ (run.identity.sequence + frames) % 2 ^ 16
 frame-sequence run frames octets (Report unit) frame = cc
 frame-sequence run frames octets (Frame unit p) frame =
     head-sequence run.identity.channel (packet_head run.identity (picture_time run.rate) unit p frames)
     (payload run.film p) (omega arith)
 
-pub counts-on : (run : Run) (frames octets : ℕ) (pieces : List Piece) (k : ℕ)
+pub counts-on : (run : FramedRun) (frames octets : ℕ) (pieces : List Piece) (k : ℕ)
     → k < length (frames_among pieces (blocks_from run frames octets pieces))
     → sequence_of (get_or (frames_among pieces (blocks_from run frames octets pieces)) k [])
     ≡ (run.identity.sequence + (frames + k)) % 2 ^ 16
@@ -48,7 +48,7 @@ counts-on run frames octets (Frame unit p ∷ pieces) (suc k) h =
     counts-on run (frames + 1) (octets + octets_of (Frame unit p)) pieces k (omega (arith, h))
     ∙ ap (λ n. (run.identity.sequence + n) % 2 ^ 16) next
 
-pub frames-count : (run : Run) (frames octets : ℕ) (pieces : List Piece)
+pub frames-count : (run : FramedRun) (frames octets : ℕ) (pieces : List Piece)
     → length (frames_among pieces (blocks_from run frames octets pieces)) ≡ frames_in pieces
 frames-count run frames octets [] = refl
 frames-count run frames octets (Report unit ∷ pieces) =
@@ -66,7 +66,7 @@ piece-size : (film : List ℕ) (piece : Piece) → IsSound film piece → HasPie
 piece-size film (Report unit) sound = refl
 piece-size film (Frame unit p) sound = (omega arith, (omega (arith, sound.some), omega (arith, sound.short)))
 
-pub have-sizes : (run : Run) → AreSound run.film (pieces_in run) → HaveSizes (pieces_in run) (run_pieces run)
+pub have-sizes : (run : FramedRun) → AreSound run.film (pieces_in run) → HaveSizes (pieces_in run) (run_pieces run)
 have-sizes run sound = record {
   count = blocks_from-count run 0 0 (pieces_in run);
   each = λ k piece at.
@@ -82,14 +82,14 @@ have-sizes run sound = record {
 block-is : (channel : ℕ) (block : List ℕ) → IsBlock (interleaved_block channel block)
 block-is channel block = ((omega arith, refl), omega arith)
 
-piece-block : (run : Run) (frames octets : ℕ) (piece : Piece) → IsBlock (piece_bytes run frames octets piece)
+piece-block : (run : FramedRun) (frames octets : ℕ) (piece : Piece) → IsBlock (piece_bytes run frames octets piece)
 piece-block run frames octets (Report unit) =
     block-is run.identity.control (report_bytes (unit_report run.identity (picture_time run.rate) unit frames octets))
 piece-block run frames octets (Frame unit p) =
     block-is run.identity.channel
     (head_bytes (packet_head run.identity (picture_time run.rate) unit p frames) ++ payload run.film p)
 
-pub are-blocks : (run : Run) (frames octets : ℕ) (pieces : List Piece) → AreBlocks (blocks_from run frames octets pieces)
+pub are-blocks : (run : FramedRun) (frames octets : ℕ) (pieces : List Piece) → AreBlocks (blocks_from run frames octets pieces)
 are-blocks run frames octets [] k h = absurd (omega (arith, h))
 are-blocks run frames octets (piece ∷ pieces) zero h = piece-block run frames octets piece
 are-blocks run frames octets (piece ∷ pieces) (suc k) h =

@@ -7,14 +7,14 @@ use Rattle.mpeg_scan.specs.declared.units.Unit.{Unit as PictureUnit}
 use Rattle.rtp_pack.specs.declared.payloads.Packet.{Packet}
 use Rattle.rtp_pack.specs.Heads.{bit}
 use Rattle.film_frames.specs.declared.pieces.Piece.TheVariants.{Frame, Report}
-use Rattle.film_frames.specs.Runs.{Run, piece_bytes}
+use Rattle.film_frames.specs.Runs.{FramedRun, piece_bytes}
 use Rattle.film_frames.specs.Tables.{IsCutPacket}
 use Rattle.film_frames.specs.Tracks.{HasHeads, IsHeadEnd, IsSplit, begin_of, zero_frames}
 use Rattle.film_frames.proofs.RunLemmas.{piece-length}
 use Rattle.film_frames.proofs.TrackLemmas.{begin-le, begin-more}
 
 -- a report has no such heads, and a frame has
-pub report-heads : (run : Run) (frames octets : ℕ) (unit : PictureUnit)
+pub report-heads : (run : FramedRun) (frames octets : ℕ) (unit : PictureUnit)
     → HasHeads (piece_bytes run frames octets (Report unit)) → ⊥
 report-heads run frames octets unit heads = heads.no_report refl
 
@@ -22,7 +22,7 @@ no-report : (marker : Bool) → bit marker * 128 + 32 ≢ 200
 no-report true = λ is. omega (arith, is)
 no-report false = λ is. omega (arith, is)
 
-pub frame-heads : {unit : PictureUnit} {packet : Packet} (run : Run) (frames octets : ℕ) → IsCutPacket run.film unit packet
+pub frame-heads : {unit : PictureUnit} {packet : Packet} (run : FramedRun) (frames octets : ℕ) → IsCutPacket run.film unit packet
     → HasHeads (piece_bytes run frames octets (Frame unit packet))
 frame-heads {unit} {packet} run frames octets cut = record {
   interleaved = refl;

@@ -9,7 +9,7 @@ use Rattle.rtp_pack.specs.declared.payloads.Packet.{Packet}
 use Rattle.film_frames.specs.declared.pieces.Piece.{Piece}
 use Rattle.film_frames.specs.Pieces.{frames_in, octets_in, wire_of}
 use Rattle.film_frames.specs.Tables.{IsSound}
-use Rattle.film_frames.specs.Runs.{HaveEnded, Run, payload, piece_bytes, run_pieces, pieces_in}
+use Rattle.film_frames.specs.Runs.{HaveEnded, FramedRun, payload, piece_bytes, run_pieces, pieces_in}
 use Rattle.film_frames.specs.Tracks.{IsBoundary, IsBoundaryAfter, IsNext, begin_of, framed_bytes}
 use Rattle.film_frames.proofs.TrackLemmas.{begin-all, begin-le, begin-more, next-found}
 use Rattle.film_frames.proofs.RunLemmas.{blocks_from-at, blocks_from-count, piece-length}
@@ -28,7 +28,7 @@ count_ended-within pieces at k have within =
     ]
 
 -- before a run's end there is a piece that hasn't ended
-pub count-among : (run : Run) (at k : ℕ) → HaveEnded (run_pieces run) at k
+pub count-among : (run : FramedRun) (at k : ℕ) → HaveEnded (run_pieces run) at k
     → at < length (framed_bytes (run_pieces run)) → k < length (pieces_in run)
 count-among run at k have within =
     omega (arith, count_ended-within (run_pieces run) at k have within, blocks_from-count run 0 0 (pieces_in run))
@@ -131,7 +131,7 @@ frame-part {bytes} {film} {block} {low} {high} {o} {p} lies low_is high_is are =
 
 -- ---- the piece of a run in which a place lies
 
-pub record IsIn (run : Run) (at k : ℕ) (piece : Piece) : Type 0 where
+pub record IsIn (run : FramedRun) (at k : ℕ) (piece : Piece) : Type 0 where
   pub bytes : get_or (run_pieces run) k []
       ≡ piece_bytes run (frames_in (take k (pieces_in run))) (octets_in (take k (pieces_in run))) piece
   pub inside : at - begin_of (run_pieces run) k < wire_of piece
@@ -139,7 +139,7 @@ pub record IsIn (run : Run) (at k : ℕ) (piece : Piece) : Type 0 where
   pub begins : begin_of (run_pieces run) k ≤ at
   pub number : k < length (run_pieces run)
 
-pub is-in : {run : Run} {at k : ℕ} {piece : Piece} → HaveEnded (run_pieces run) at k
+pub is-in : {run : FramedRun} {at k : ℕ} {piece : Piece} → HaveEnded (run_pieces run) at k
     → at < length (framed_bytes (run_pieces run)) → slice_get (pieces_in run) k ≡ Some piece
     → IsSound run.film piece → IsIn run at k piece
 is-in {run} {at} {k} {piece} have within found sound =

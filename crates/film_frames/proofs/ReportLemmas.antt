@@ -7,14 +7,14 @@ use Rattle.film_frames.specs.declared.pieces.Piece.{Piece}
 use Rattle.film_frames.specs.declared.pieces.Piece.TheVariants.{Report, Frame}
 use Rattle.film_frames.specs.Laws.{AreBefore, AreOnChannels, DoReportsCount, channel_of}
 use Rattle.film_frames.specs.Pieces.{frames_in, octets_in}
-use Rattle.film_frames.specs.Runs.{HaveEnded, Run, count_ended, frames_before, octets_before, piece_bytes}
+use Rattle.film_frames.specs.Runs.{HaveEnded, FramedRun, count_ended, frames_before, octets_before, piece_bytes}
 use Rattle.film_frames.specs.Runs.{run_pieces, pieces_in}
 use Rattle.film_frames.specs.Tracks.{begin_of}
 use Rattle.film_frames.proofs.RunLemmas.{count_ended-is, blocks_from-at, blocks_from-count}
 use Rattle.film_frames.proofs.TrackLemmas.{begin-more}
 
 -- where a report begins, the pieces before it have ended
-count_ended-before : (run : Run) (k : ℕ) (unit : PictureUnit) → slice_get (pieces_in run) k ≡ Some (Report unit)
+count_ended-before : (run : FramedRun) (k : ℕ) (unit : PictureUnit) → slice_get (pieces_in run) k ≡ Some (Report unit)
     → count_ended (begin_of (run_pieces run) k) (run_pieces run) ≡ k
 count_ended-before run k unit at =
     let pieces = run_pieces run in
@@ -27,7 +27,7 @@ count_ended-before run k unit at =
       next = λ h. omega (arith, begin-more pieces k within, long);
     })
 
-pub reports-count : (run : Run) → DoReportsCount run
+pub reports-count : (run : FramedRun) → DoReportsCount run
 reports-count run = λ k unit at.
     let before = sym (count_ended-before run k unit at) in
     let f : 0 + frames_in (take k (pieces_in run)) ≡ frames_in (take k (pieces_in run)) = omega arith in
@@ -41,7 +41,7 @@ reports-count run = λ k unit at.
     ∙ ap (λ n. piece_bytes run (frames_before run (begin_of (run_pieces run) k)) n (Report unit)) octets
 
 -- what counts before a place
-pub counted-before : (run : Run) (at count : ℕ) → HaveEnded (run_pieces run) at count → AreBefore run at count
+pub counted-before : (run : FramedRun) (at count : ℕ) → HaveEnded (run_pieces run) at count → AreBefore run at count
 counted-before run at count have =
     let is = count_ended-is (run_pieces run) at count have in
     record {
@@ -51,12 +51,12 @@ counted-before run at count have =
 
 -- ---- channels
 
-piece-channel : (run : Run) (frames octets : ℕ) (piece : Piece)
+piece-channel : (run : FramedRun) (frames octets : ℕ) (piece : Piece)
     → slice_index (piece_bytes run frames octets piece) 1 ≡ channel_of run piece
 piece-channel run frames octets (Report unit) = refl
 piece-channel run frames octets (Frame unit p) = refl
 
-pub on-channels : (run : Run) → AreOnChannels run
+pub on-channels : (run : FramedRun) → AreOnChannels run
 on-channels run = λ k piece at.
     ap (λ (l : List ℕ). slice_index l 1) (blocks_from-at run 0 0 (pieces_in run) k at)
     ∙ piece-channel run (0 + frames_in (take k (pieces_in run))) (0 + octets_in (take k (pieces_in run))) piece

@@ -15,7 +15,7 @@ use Rattle.film_frames.specs.declared.pieces.Piece.TheVariants.{Report, Frame}
 use Rattle.film_frames.specs.Laws.{DoHeadsReadBack}
 use Rattle.film_frames.specs.Pieces.{count_of, frames_in, octets_in, octets_of, pieces_of}
 use Rattle.film_frames.specs.Pieces.{unit_pieces, wire_size}
-use Rattle.film_frames.specs.Runs.{Run, blocks_from, payload, piece_bytes, run_of, run_pieces}
+use Rattle.film_frames.specs.Runs.{FramedRun, blocks_from, payload, piece_bytes, run_of, run_pieces}
 use Rattle.film_frames.specs.Runs.{pieces_in}
 use Rattle.film_frames.specs.Tracks.{framed_bytes}
 use Rattle.film_frames.proofs.BackLemmas.{get-drop, run-sum}
@@ -24,7 +24,7 @@ use Rattle.film_frames.proofs.RunLemmas.{blocks_from-at, blocks_from-count}
 -- ---- a run's front is a run
 
 -- the bytes of pieces don't depend on the units of the run
-blocks_from-units : (run : Run) (units : List PictureUnit) (frames octets : ℕ) (pieces : List Piece)
+blocks_from-units : (run : FramedRun) (units : List PictureUnit) (frames octets : ℕ) (pieces : List Piece)
     → blocks_from (record run { units = units }) frames octets pieces ≡ blocks_from run frames octets pieces
 blocks_from-units run units frames octets [] = refl
 blocks_from-units run units frames octets (Report unit ∷ pieces) =
@@ -34,7 +34,7 @@ blocks_from-units run units frames octets (Frame unit packet ∷ pieces) =
     ap (λ (l : List (List ℕ)). piece_bytes run frames octets (Frame unit packet) ∷ l)
     (blocks_from-units run units (frames + 1) (octets + octets_of (Frame unit packet)) pieces)
 
-blocks_from-front : (run : Run) (frames octets : ℕ) (xs ys : List Piece)
+blocks_from-front : (run : FramedRun) (frames octets : ℕ) (xs ys : List Piece)
     → take (length xs) (blocks_from run frames octets (xs ++ ys)) ≡ blocks_from run frames octets xs
 blocks_from-front run frames octets [] ys = refl
 blocks_from-front run frames octets (x ∷ xs) ys =
@@ -131,7 +131,7 @@ head-by : {sequence timestamp ssrc : ℕ} (marker : Bool) (video : ℕ) (rest : 
 head-by {sequence} {timestamp} {ssrc} true video rest s t r = search rules
 head-by {sequence} {timestamp} {ssrc} false video rest s t r = search rules
 
-pub heads-back : (run : Run) → run.identity.ssrc < 2 ^ 32 → DoHeadsReadBack run
+pub heads-back : (run : FramedRun) → run.identity.ssrc < 2 ^ 32 → DoHeadsReadBack run
 heads-back run source = λ k unit packet is.
     let frames = frames_in (take k (pieces_in run)) in
     let head = packet_head run.identity (picture_time run.rate) unit packet frames in

@@ -12,7 +12,7 @@ use Rattle.film_frames.specs.declared.pieces.Piece.{Piece}
 use Rattle.film_frames.specs.declared.pieces.Piece.TheVariants.{Report, Frame}
 use Rattle.film_frames.specs.Pieces.{count_of, frames_in, octets_in, octets_of, wire_in, wire_of}
 use Rattle.film_frames.specs.Tables.{IsSound}
-use Rattle.film_frames.specs.Runs.{HaveEnded, Run, count_ended, blocks_from, payload, piece_bytes}
+use Rattle.film_frames.specs.Runs.{HaveEnded, FramedRun, count_ended, blocks_from, payload, piece_bytes}
 use Rattle.film_frames.specs.Tracks.{begin_of, framed_bytes}
 use Rattle.film_frames.proofs.PieceLemmas.{AreSound}
 use Rattle.film_frames.proofs.TrackLemmas.{AreEnds, begin-all, begin-le, begin-none}
@@ -23,19 +23,19 @@ pub payload-length : (film : List ℕ) (p : Packet) → p.from ≤ p.to → p.to
 payload-length film p order within =
     length-take-le (p.to - p.from) (drop p.from film) (omega (arith, length-drop p.from film, order, within))
 
-pub piece-length : (run : Run) (frames octets : ℕ) (piece : Piece) → IsSound run.film piece
+pub piece-length : (run : FramedRun) (frames octets : ℕ) (piece : Piece) → IsSound run.film piece
     → length (piece_bytes run frames octets piece) ≡ wire_of piece
 piece-length run frames octets (Report unit) sound = refl
 piece-length run frames octets (Frame unit p) sound =
     omega (arith, payload-length run.film p (omega (arith, sound.some)) sound.within)
 
-pub blocks_from-count : (run : Run) (frames octets : ℕ) (pieces : List Piece)
+pub blocks_from-count : (run : FramedRun) (frames octets : ℕ) (pieces : List Piece)
     → length (blocks_from run frames octets pieces) ≡ length pieces
 blocks_from-count run frames octets [] = refl
 blocks_from-count run frames octets (piece ∷ pieces) =
     ap suc (blocks_from-count run (frames + count_of piece) (octets + octets_of piece) pieces)
 
-blocks_from-sum : (run : Run) (frames octets : ℕ) (pieces : List Piece) (k : ℕ) → AreSound run.film pieces
+blocks_from-sum : (run : FramedRun) (frames octets : ℕ) (pieces : List Piece) (k : ℕ) → AreSound run.film pieces
     → sum_by length (take k (blocks_from run frames octets pieces)) ≡ wire_in (take k pieces)
 blocks_from-sum run frames octets [] zero sound = refl
 blocks_from-sum run frames octets [] (suc k) sound = refl
@@ -50,14 +50,14 @@ blocks_from-sum run frames octets (piece ∷ pieces) (suc k) sound =
     ∙ ap (λ n. wire_of piece + n) rest
     ∙ sym (sum_by-cons wire_of piece (take k pieces))
 
-pub blocks_from-begin : (run : Run) (frames octets : ℕ) (pieces : List Piece) (k : ℕ) → AreSound run.film pieces
+pub blocks_from-begin : (run : FramedRun) (frames octets : ℕ) (pieces : List Piece) (k : ℕ) → AreSound run.film pieces
     → begin_of (blocks_from run frames octets pieces) k ≡ wire_in (take k pieces)
 blocks_from-begin run frames octets pieces k sound =
     length-flat_map (λ (p : List ℕ). p) (take k (blocks_from run frames octets pieces))
     ∙ blocks_from-sum run frames octets pieces k sound
 
 -- the bytes of the piece of a number
-pub blocks_from-at : {piece : Piece} (run : Run) (frames octets : ℕ) (pieces : List Piece) (k : ℕ)
+pub blocks_from-at : {piece : Piece} (run : FramedRun) (frames octets : ℕ) (pieces : List Piece) (k : ℕ)
     → slice_get pieces k ≡ Some piece
     → get_or (blocks_from run frames octets pieces) k []
     ≡ piece_bytes run (frames + frames_in (take k pieces)) (octets + octets_in (take k pieces)) piece

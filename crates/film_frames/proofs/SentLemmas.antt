@@ -11,7 +11,7 @@ use Rattle.rtp_pack.specs.declared.reports.Identity.{Identity}
 use Rattle.film_frames.specs.declared.pieces.Piece.{Piece}
 use Rattle.film_frames.specs.Pieces.{count_of, film_pieces, frames_in, front_pieces, pieces_of}
 use Rattle.film_frames.specs.Pieces.{wire_in, wire_of}
-use Rattle.film_frames.specs.Runs.{Run, run_of, run_pieces, pieces_in}
+use Rattle.film_frames.specs.Runs.{FramedRun, run_of, run_pieces, pieces_in}
 use Rattle.film_frames.specs.Tracks.{begin_of, framed_bytes}
 use Rattle.film_frames.proofs.TrackLemmas.{AreEnds, begin-all}
 use Rattle.film_frames.proofs.PieceLemmas.{length-le-wire, AreSound, sound-left, sound-right}
@@ -20,13 +20,13 @@ use Rattle.film_frames.proofs.FrontLemmas.{front-back, front-front}
 use Rattle.film_frames.proofs.RunLemmas.{blocks_from-begin, blocks_from-count}
 
 -- a run of a film's units
-pub record IsRun (film : Film) (first_unit end_unit : ℕ) (identity : Identity) (run : Run) : Type 0 where
+pub record IsRun (film : Film) (first_unit end_unit : ℕ) (identity : Identity) (run : FramedRun) : Type 0 where
   pub view : run_of film first_unit end_unit identity ≡ run
   pub order : first_unit ≤ end_unit
   pub within : end_unit ≤ length film.units.items
 
 -- its pieces lie between others
-pub record IsBetween (film : Film) (first_unit end_unit : ℕ) (run : Run) : Type 0 where
+pub record IsBetween (film : Film) (first_unit end_unit : ℕ) (run : FramedRun) : Type 0 where
   pub rest : List Piece
   pub units : front_pieces film end_unit ≡ front_pieces film first_unit ++ pieces_in run
   pub all : film_pieces film ≡ front_pieces film first_unit ++ (pieces_in run ++ rest)
@@ -54,10 +54,10 @@ between-of film first_unit end_unit identity order =
           (sound-right film.bytes.items (front_pieces film first_unit) (pieces_in run ++ rest) (subst P all (film-sound film)));
     }
 
-pub between : (film : Film) (first_unit end_unit : ℕ) (identity : Identity) (run : Run)
+pub between : (film : Film) (first_unit end_unit : ℕ) (identity : Identity) (run : FramedRun)
     → IsRun film first_unit end_unit identity run → IsBetween film first_unit end_unit run
 between film first_unit end_unit identity run is =
-    let P : Run → Type 0 = λ r. IsBetween film first_unit end_unit r in
+    let P : FramedRun → Type 0 = λ r. IsBetween film first_unit end_unit r in
     subst P is.view (between-of film first_unit end_unit identity is.order)
 
 -- sums over the first pieces of the run and all before them
@@ -96,7 +96,7 @@ pub all-short : (film : Film) → length (film_pieces film) ≤ 2 ^ 42
 all-short film = omega (arith, length-le-wire (film_pieces film), film-wire film, film-bound film)
 
 -- how many pieces there are
-pub run-count : (film : Film) (first_unit end_unit : ℕ) (identity : Identity) (run : Run)
+pub run-count : (film : Film) (first_unit end_unit : ℕ) (identity : Identity) (run : FramedRun)
     → IsRun film first_unit end_unit identity run
     → (length (front_pieces film end_unit) ≡ length (front_pieces film first_unit) + length (pieces_in run))
     × (length (front_pieces film end_unit) ≤ length (film_pieces film))
@@ -111,13 +111,13 @@ run-count film first_unit end_unit identity run is =
     ∙ ap (λ n. length (front_pieces film first_unit) + n) (length-append (pieces_in run) lies.rest) in
     (units, omega (arith, units, all))
 
-among-run : {film : Film} {first_unit end_unit k n : ℕ} {run : Run}
+among-run : {film : Film} {first_unit end_unit k n : ℕ} {run : FramedRun}
     (lies : IsBetween film first_unit end_unit run) → k ≤ length (pieces_in run) → n ≡ length (front_pieces film first_unit) + k
     → IsAmong (film_pieces film) (front_pieces film first_unit) (pieces_in run) lies.rest k n
 among-run lies short at = record { split = lies.all; short = short; is = at }
 
 -- where a piece of the run begins
-pub run-wire : {film : Film} {first_unit end_unit : ℕ} {identity : Identity} {run : Run} {n : ℕ} (k : ℕ)
+pub run-wire : {film : Film} {first_unit end_unit : ℕ} {identity : Identity} {run : FramedRun} {n : ℕ} (k : ℕ)
     → IsRun film first_unit end_unit identity run → k ≤ length (pieces_in run) → n ≡ length (front_pieces film first_unit) + k
     → wire_in (take n (film_pieces film))
     ≡ wire_in (take (length (front_pieces film first_unit)) (film_pieces film)) + wire_in (take k (pieces_in run))
@@ -125,7 +125,7 @@ run-wire {film} {first_unit} {end_unit} {identity} {run} k is short at =
     let lies = between film first_unit end_unit identity run is in
     sum-between wire_of (among-run lies short at)
 
-pub run-frames : {film : Film} {first_unit end_unit : ℕ} {identity : Identity} {run : Run} {n : ℕ} (k : ℕ)
+pub run-frames : {film : Film} {first_unit end_unit : ℕ} {identity : Identity} {run : FramedRun} {n : ℕ} (k : ℕ)
     → IsRun film first_unit end_unit identity run → k ≤ length (pieces_in run) → n ≡ length (front_pieces film first_unit) + k
     → frames_in (take n (film_pieces film))
     ≡ frames_in (take (length (front_pieces film first_unit)) (film_pieces film)) + frames_in (take k (pieces_in run))
@@ -133,13 +133,13 @@ run-frames {film} {first_unit} {end_unit} {identity} {run} k is short at =
     let lies = between film first_unit end_unit identity run is in
     sum-between count_of (among-run lies short at)
 
-pub run-begin : {film : Film} (first_unit end_unit : ℕ) (identity : Identity) (run : Run) (k : ℕ)
+pub run-begin : {film : Film} (first_unit end_unit : ℕ) (identity : Identity) (run : FramedRun) (k : ℕ)
     → IsRun film first_unit end_unit identity run
     → begin_of (run_pieces run) k ≡ wire_in (take k (pieces_in run))
 run-begin {film} first_unit end_unit identity run k is =
     blocks_from-begin run 0 0 (pieces_in run) k (between film first_unit end_unit identity run is).sound
 
-pub run-piece : {film : Film} {first_unit end_unit : ℕ} {identity : Identity} {run : Run} {n : ℕ} (k : ℕ)
+pub run-piece : {film : Film} {first_unit end_unit : ℕ} {identity : Identity} {run : FramedRun} {n : ℕ} (k : ℕ)
     → IsRun film first_unit end_unit identity run → k < length (pieces_in run) → n ≡ length (front_pieces film first_unit) + k
     → slice_get (film_pieces film) n ≡ slice_get (pieces_in run) k
 run-piece {film} {first_unit} {end_unit} {identity} {run} k is within at =
@@ -150,7 +150,7 @@ run-piece {film} {first_unit} {end_unit} {identity} {run} k is within at =
     ∙ get-front (pieces_in run) lies.rest k within
 
 -- the ends of the run's pieces
-pub run-ends : {film : Film} {first_unit end_unit : ℕ} {identity : Identity} {run : Run} {first end base : ℕ}
+pub run-ends : {film : Film} {first_unit end_unit : ℕ} {identity : Identity} {run : FramedRun} {first end base : ℕ}
     {ends : List ℕ} → IsRun film first_unit end_unit identity run
     → first ≡ length (front_pieces film first_unit) → end ≡ length (front_pieces film end_unit)
     → base ≡ wire_in (take first (film_pieces film))
@@ -172,7 +172,7 @@ run-ends {film} {first_unit} {end_unit} {identity} {run} {first} {end} {base} {e
     }
 
 -- the bytes of the run and all before it
-pub run-total : (film : Film) (first_unit end_unit : ℕ) (identity : Identity) (run : Run)
+pub run-total : (film : Film) (first_unit end_unit : ℕ) (identity : Identity) (run : FramedRun)
     → IsRun film first_unit end_unit identity run
     → wire_in (take (length (front_pieces film first_unit)) (film_pieces film)) + length (framed_bytes (run_pieces run)) ≤ 2 ^ 42
 run-total film first_unit end_unit identity run is =

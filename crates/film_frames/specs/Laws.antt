@@ -12,8 +12,8 @@ use Rattle.interleave.specs.Elements.{StartsBlock, block_length}
 use Rattle.film_frames.specs.declared.pieces.Piece.{Piece}
 use Rattle.film_frames.specs.declared.pieces.Piece.TheVariants.{Report, Frame}
 use Rattle.film_frames.specs.Pieces.{frames_in, octets_in, octets_of}
-use Rattle.film_frames.specs.Runs.{Run, frames_before, interleaved_block, octets_before, run_pieces}
-use Rattle.film_frames.specs.Runs.{pieces_in}
+use Rattle.film_frames.specs.Runs.{FramedRun, frames_before, interleaved_block, octets_before}
+use Rattle.film_frames.specs.Runs.{pieces_in, run_pieces}
 use Rattle.film_frames.specs.Tracks.{begin_of}
 
 -- the bytes of the frames, among those of pieces
@@ -24,7 +24,7 @@ frames_among (Report unit ∷ pieces) (bytes ∷ all) = frames_among pieces all
 frames_among (Frame unit packet ∷ pieces) (bytes ∷ all) = bytes ∷ frames_among pieces all
 
 -- the bytes of each frame of a run, in order
-abbrev pub run_frames : Run → List (List ℕ)
+abbrev pub run_frames : FramedRun → List (List ℕ)
 run_frames run = frames_among (pieces_in run) (run_pieces run)
 
 -- the payloads of frames, one after another: what follows the 20 bytes of heads
@@ -61,11 +61,11 @@ abbrev pub AreBlocks : List (List ℕ) → Type 0
 AreBlocks pieces = (k : ℕ) → k < length pieces → IsBlock (slice_index_or pieces k [])
 
 -- the interleaved channel of a piece: reports go on one, frames on the other
-abbrev pub channel_of : Run → Piece → ℕ
+abbrev pub channel_of : FramedRun → Piece → ℕ
 channel_of run (Report unit) = run.identity.control
 channel_of run (Frame unit packet) = run.identity.channel
 
-abbrev pub AreOnChannels : Run → Type 0
+abbrev pub AreOnChannels : FramedRun → Type 0
 AreOnChannels run =
     (k : ℕ) (piece : Piece) → slice_get (pieces_in run) k ≡ Some piece
     → slice_index (slice_index_or (run_pieces run) k []) 1 ≡ channel_of run piece
@@ -84,26 +84,26 @@ DoReportsStand (Frame unit packet ∷ pieces) =
 
 -- a report of a unit that begins at a place: what it counts is what the session sent before the
 -- run, and the run's frames that have ended at that place
-abbrev pub counted_report : Run → PictureUnit → ℕ → List ℕ
+abbrev pub counted_report : FramedRun → PictureUnit → ℕ → List ℕ
 counted_report run unit at =
     let report = unit_report run.identity (picture_time run.rate) unit (frames_before run at)
     (octets_before run at) in
     interleaved_block run.identity.control (report_bytes report)
 
-abbrev pub DoReportsCount : Run → Type 0
+abbrev pub DoReportsCount : FramedRun → Type 0
 DoReportsCount run =
     (k : ℕ) (unit : PictureUnit) → slice_get (pieces_in run) k ≡ Some (Report unit)
     → slice_index_or (run_pieces run) k [] ≡ counted_report run unit (begin_of (run_pieces run) k)
 
 -- the head of a frame as it is read: that of its packet, with a video header of 32 bits
-abbrev pub head_read : Run → PictureUnit → Packet → ℕ → Head
+abbrev pub head_read : FramedRun → PictureUnit → Packet → ℕ → Head
 head_read run unit packet before =
     record (packet_head run.identity (picture_time run.rate) unit packet before) {
       video = video_word unit packet % 2 ^ 32;
     }
 
 -- the head of each frame reads back whole: its packet's, with the frames of the run before it
-abbrev pub DoHeadsReadBack : Run → Type 0
+abbrev pub DoHeadsReadBack : FramedRun → Type 0
 DoHeadsReadBack run =
     (k : ℕ) (unit : PictureUnit) (packet : Packet) →
     slice_get (pieces_in run) k ≡ Some (Frame unit packet)
@@ -111,6 +111,6 @@ DoHeadsReadBack run =
     ≡ Ok (head_read run unit packet (frames_in (take k (pieces_in run))))
 
 -- the frames before a place of a run, and their octets, are those among so many of its first pieces
-pub record AreBefore (run : Run) (at count : ℕ) : Type 0 where
+pub record AreBefore (run : FramedRun) (at count : ℕ) : Type 0 where
   pub frames : frames_before run at ≡ frames_in (take count (pieces_in run))
   pub octets : octets_before run at ≡ octets_in (take count (pieces_in run))

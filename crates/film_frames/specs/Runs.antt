@@ -14,7 +14,7 @@ use Rattle.film_frames.specs.declared.pieces.Piece.TheVariants.{Report, Frame}
 use Rattle.film_frames.specs.Pieces.{pieces_of, count_of, octets_of, frames_in, octets_in}
 use Rattle.film_frames.specs.Tracks.{begin_of}
 
-pub record Run : Type 0 where
+pub record FramedRun : Type 0 where
   -- the film's bytes, its picture rate code and the places of its slices
   pub film : List ℕ
   pub rate : ℕ
@@ -24,7 +24,7 @@ pub record Run : Type 0 where
   pub identity : Identity
 
 -- the run of a film's units from one on to another, which isn't in it
-abbrev pub run_of : Film → ℕ → ℕ → Identity → Run
+abbrev pub run_of : Film → ℕ → ℕ → Identity → FramedRun
 run_of film first_unit end_unit identity = record {
   film = film.bytes.items;
   rate = film.rate;
@@ -34,7 +34,7 @@ run_of film first_unit end_unit identity = record {
 }
 
 -- the reports and frames of a run
-abbrev pub pieces_in : Run → List Piece
+abbrev pub pieces_in : FramedRun → List Piece
 pieces_in run = pieces_of run.slice_starts run.units
 
 -- bytes in an interleaved block: `$`, the channel, the length in two bytes, and the bytes
@@ -46,7 +46,7 @@ abbrev pub payload : List ℕ → Packet → List ℕ
 payload film packet = take (packet.to - packet.from) (drop packet.from film)
 
 -- the bytes of a piece that has so many frames and octets of its run before it
-abbrev pub piece_bytes : Run → ℕ → ℕ → Piece → List ℕ
+abbrev pub piece_bytes : FramedRun → ℕ → ℕ → Piece → List ℕ
 piece_bytes run frames octets (Report unit) =
     interleaved_block run.identity.control
     (report_bytes (unit_report run.identity (picture_time run.rate) unit frames octets))
@@ -56,14 +56,14 @@ piece_bytes run frames octets (Frame unit packet) =
     ++ payload run.film packet)
 
 -- the bytes of each piece, where so many frames and octets of the run come before the first
-abbrev pub blocks_from : Run → ℕ → ℕ → List Piece → List (List ℕ)
+abbrev pub blocks_from : FramedRun → ℕ → ℕ → List Piece → List (List ℕ)
 blocks_from run frames octets [] = []
 blocks_from run frames octets (piece ∷ pieces) =
     piece_bytes run frames octets piece ∷ blocks_from run (frames + count_of piece) (octets
     + octets_of piece) pieces
 
 -- the bytes of each report and each frame of a run, in order
-abbrev pub run_pieces : Run → List (List ℕ)
+abbrev pub run_pieces : FramedRun → List (List ℕ)
 run_pieces run = blocks_from run 0 0 (pieces_in run)
 
 -- how many pieces end at or before a place, which counts from where the first begins
@@ -73,14 +73,14 @@ count_ended at (piece ∷ pieces) = if nat_le (length piece) at
     then count_ended (at - length piece) pieces + 1 else 0
 
 -- the reports and frames of a run that end at or before a place
-abbrev pub sent_by : Run → ℕ → List Piece
+abbrev pub sent_by : FramedRun → ℕ → List Piece
 sent_by run at = take (count_ended at (run_pieces run)) (pieces_in run)
 
 -- the number of the frames that end at or before a place, and the sum of their octets
-abbrev pub frames_before : Run → ℕ → ℕ
+abbrev pub frames_before : FramedRun → ℕ → ℕ
 frames_before run at = frames_in (sent_by run at)
 
-abbrev pub octets_before : Run → ℕ → ℕ
+abbrev pub octets_before : FramedRun → ℕ → ℕ
 octets_before run at = octets_in (sent_by run at)
 
 -- so many pieces have ended at a place: the last of them ends at or before it, and the next doesn't

@@ -35,9 +35,9 @@ pub struct Frames<'a> {
 
 impl<'a> Model for Frames<'a> {
     ghost use Rattle.std.specs.Prelude.{◌≤◌, ◌<◌, length};
-    ghost use Rattle.film_frames.specs.Runs.{Run, run_of};
+    ghost use Rattle.film_frames.specs.Runs.{FramedRun, run_of};
 
-    ghost Value = { Run };
+    ghost Value = { FramedRun };
 
     ghost view = { λ f. run_of f.stored.now.film f.first_unit f.end_unit f.identity };
 

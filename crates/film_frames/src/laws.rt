@@ -5,7 +5,7 @@ ghost use Rattle.film_frames.specs.Laws.{AreBefore, AreBlocks, AreOnChannels, Do
 ghost use Rattle.film_frames.specs.Laws.{DoHeadsReadBack, DoReportsCount, DoReportsStand};
 ghost use Rattle.film_frames.specs.Laws.{HaveSizes, payloads, run_frames};
 ghost use Rattle.film_frames.specs.Pieces.{frames_in, wire_size};
-ghost use Rattle.film_frames.specs.Runs.{HaveEnded, Run, count_ended, run_of, run_pieces};
+ghost use Rattle.film_frames.specs.Runs.{HaveEnded, FramedRun, count_ended, run_of, run_pieces};
 ghost use Rattle.film_frames.specs.Runs.{pieces_in};
 ghost use Rattle.film_frames.specs.Tracks.{framed_bytes};
 
@@ -114,12 +114,18 @@ pub fn law_unit_blocks(film: &Film, first_unit: usize, unit: usize, identity: Id
 /// The head of each frame of a run reads back whole: its marker, sequence number, timestamp, source
 /// and video header.
 pub fn law_heads_read_back()
-    ensures { (run : Run) → run.identity.ssrc < 2 ^ 32 → DoHeadsReadBack run }
+    ensures { (run : FramedRun) → run.identity.ssrc < 2 ^ 32 → DoHeadsReadBack run }
 {}
 
 /// How many pieces of a run have ended at a place: the last of them ends at or before it, and the
 /// next doesn't.
-pub fn law_ended(film: &Film, first_unit: usize, end_unit: usize, identity: Identity, at: u64)
+pub fn law_pieces_ended(
+    film: &Film,
+    first_unit: usize,
+    end_unit: usize,
+    identity: Identity,
+    at: u64,
+)
     ensures { HaveEnded (run_pieces (run_of film.now first_unit end_unit identity)) at
         (count_ended at (run_pieces (run_of film.now first_unit end_unit identity))) }
 {
@@ -128,6 +134,6 @@ pub fn law_ended(film: &Film, first_unit: usize, end_unit: usize, identity: Iden
 
 /// The frames before a place, and their octets, are those among the pieces that have ended there.
 pub fn law_frames_before()
-    ensures { (run : Run) (at count : ℕ) → HaveEnded (run_pieces run) at count →
+    ensures { (run : FramedRun) (at count : ℕ) → HaveEnded (run_pieces run) at count →
         AreBefore run at count }
 {}

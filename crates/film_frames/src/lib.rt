@@ -16,8 +16,8 @@ mod tracks;
 
 pub use frames::Frames;
 pub use laws::{
-    law_counts_on, law_ended, law_film_comes_back, law_frames_before, law_heads_read_back,
-    law_piece_sizes, law_reports_count, law_reports_stand, law_run_front, law_unit_blocks,
+    law_counts_on, law_film_comes_back, law_frames_before, law_heads_read_back, law_piece_sizes,
+    law_pieces_ended, law_reports_count, law_reports_stand, law_run_front, law_unit_blocks,
     law_wire_sizes,
 };
 pub use stores::Stored;

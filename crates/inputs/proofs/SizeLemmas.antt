@@ -15,7 +15,7 @@ use Rattle.mpeg_scan.proofs.CountLemmas.{film-numbered}
 use Rattle.mpeg_scan.proofs.LaidLemmas.{UnitFits, count-fits, film-chained, film-laid, own-slices, part-fits, unit-fits}
 use Rattle.mpeg_scan.proofs.TileLemmas.{film-tiles}
 use Rattle.rtp_pack.specs.Packets.{lengths_to, unit_lengths}
-use Rattle.rtp_pack.specs.Sizes.{Measure, measure_from_head, frames_of, measure_of, with_slice}
+use Rattle.rtp_pack.specs.Sizes.{Measure, measure_from_headers, frames_of, measure_of, with_slice}
 use Rattle.rtp_pack.proofs.SizeLemmas.{slices-append}
 use Rattle.film_frames.specs.Pieces.{wire_size}
 use Rattle.film_frames.proofs.FilmLemmas.{AreUnits, units-bound}
@@ -94,7 +94,7 @@ sizes-told (slice_call a b ∷ calls) s {part = within from head_end at n} {k} {
     let unit : with_slice s.unit (b - a) ≡ measure_of (head_end - from) (lengths_to b (its.cur ++ a ∷ [])) =
     ap (λ (m : Measure). with_slice m (b - a))
     (its.unit_is ∙ ap (λ t. measure_of (head_end - from) (lengths_to t its.cur)) (sym same))
-    ∙ sym (slices-append (lengths_to a its.cur) (measure_from_head (head_end - from)) (b - a))
+    ∙ sym (slices-append (lengths_to a its.cur) (measure_from_headers (head_end - from)) (b - a))
     ∙ ap (λ (l : List ℕ). measure_of (head_end - from) l) (sym (lengths-more its.cur a b)) in
     let next : MeasuredSoFar (within from head_end b (n + 1)) (record k { slices = k.slices + 1 })
     (past ++ a ∷ []) (sizing_after_call s (slice_call a b)).unit = record {

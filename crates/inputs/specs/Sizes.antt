@@ -3,7 +3,7 @@ use Rattle.std.specs.Prelude.{◌≡◌, ℕ, ◌+◌, ◌-◌, ◌^◌, ◌≤�
 use Rattle.std.specs.Prelude.{length, map, sum}
 use Rattle.mpeg_scan.specs.Calls.{Call, head_call, slice_call, unit_call}
 use Rattle.mpeg_scan.specs.Films.{film_calls, slices_in, units_in}
-use Rattle.rtp_pack.specs.Sizes.{Measure, measure_from_head, with_slice, frames_of}
+use Rattle.rtp_pack.specs.Sizes.{Measure, measure_from_headers, with_slice, frames_of}
 use Rattle.film_frames.specs.Pieces.{wire_size}
 
 -- the sizes of the units of a film on the wire, in order
@@ -18,11 +18,11 @@ pub record Sizing : Type 0 where
 
 -- a report of 52 bytes stands before each unit that starts a group
 abbrev pub sizing_after_call : Sizing → Call → Sizing
-sizing_after_call s (head_call from to) = record s { unit = measure_from_head (to - from) }
+sizing_after_call s (head_call from to) = record s { unit = measure_from_headers (to - from) }
 sizing_after_call s (slice_call from to) = record s { unit = with_slice s.unit (to - from) }
 sizing_after_call s (unit_call unit) =
     record {
-      unit = measure_from_head 1;
+      unit = measure_from_headers 1;
       sizes = s.sizes ++ ((if unit.starts_group then 52 else 0) + frames_of s.unit) ∷ [];
     }
 
@@ -32,7 +32,7 @@ sizing_after s (call ∷ calls) = sizing_after (sizing_after_call s call) calls
 
 -- before the first part
 abbrev pub first_sizing : Sizing
-first_sizing = record { unit = measure_from_head 1; sizes = [] }
+first_sizing = record { unit = measure_from_headers 1; sizes = [] }
 
 -- the sizes after these parts
 pub record IsSized (unit : Measure) (sizes : List ℕ) (calls : List Call) : Type 0 where

@@ -100,7 +100,7 @@ impl<T: Track> Pacer<T> {
         }
         let number = slot - self.start;
         let reached = self.cursor.sum_at(number).min(self.keep);
-        self.last = later(self.last, number);
+        self.last = later_of(self.last, number);
         self.due = self.due.max(reached);
     }
 
@@ -188,7 +188,7 @@ impl<T: Track> Pacer<T> {
     }
 
     /// The bytes that were sent.
-    pub fn sent(&self) -> u64
+    pub fn bytes_sent(&self) -> u64
         ensures value { result ≡ self.now.sent }
         ensures pacing { IsPacing self.now }
     {
@@ -250,7 +250,7 @@ impl<T: Track> Pacer<T> {
 }
 
 /// The later of two slots of a plan, where the first may be none.
-fn later(last: Option<u64>, slot: u64) -> Option<u64>
+fn later_of(last: Option<u64>, slot: u64) -> Option<u64>
     ensures { slots_through result ≡ max (slots_through last) (slot + 1) }
 {
     match last {

@@ -42,13 +42,13 @@ fn answer_to(
     let answer = match call {
         Call::Step(slot) => pacer.step(slot, false, link).ok().map(|step| step.sent),
         Call::Stop(slot) => pacer.step(slot, true, link).ok().map(|step| step.sent),
-        Call::Halt if pacer.bytes_due() == pacer.sent() => Some(pacer.ask_halt()),
+        Call::Halt if pacer.bytes_due() == pacer.bytes_sent() => Some(pacer.ask_halt()),
         Call::Halt => return Err(Fail::from("a halt before all was sent")),
     };
     Ok((
         answer,
         (
-            pacer.sent(),
+            pacer.bytes_sent(),
             pacer.bytes_due(),
             pacer.at_boundary(),
             pacer.is_done(),
@@ -112,7 +112,7 @@ fn sent_by(
         let got = answer_to(&mut pacer, &mut link, *call)?;
         assert_eq!(rt; got, (*answer, *after), "at {call:?}");
     }
-    assert_eq!(rt; link.sent().len() as u64, pacer.sent());
+    assert_eq!(rt; link.sent().len() as u64, pacer.bytes_sent());
     Ok(Vec::from_slice(alloc, link.sent())?)
 }
 

@@ -8,7 +8,7 @@ use Rattle.std.proofs.lemmas.Bool.{true≢false}
 use Rattle.mpeg_scan.specs.declared.units.Unit.{Unit as PictureUnit}
 use Rattle.rtp_pack.specs.declared.filling.Filling.{Filling}
 use Rattle.rtp_pack.specs.declared.filling.Holds.{Holds}
-use Rattle.rtp_pack.specs.declared.filling.Holds.TheVariants.{HeadAlone, Slices, LastFragment}
+use Rattle.rtp_pack.specs.declared.filling.Holds.TheVariants.{HeadersAlone, Slices, LastFragment}
 use Rattle.rtp_pack.specs.declared.payloads.Packet.{Packet}
 use Rattle.rtp_pack.specs.Cutting.{first_portion, full_before, full_ends, goes_in, goes_in_cut}
 use Rattle.rtp_pack.specs.Cutting.{goes_in_whole, next_filling, start_of}
@@ -96,7 +96,7 @@ pub record Right (unit : PictureUnit) (all : List ℕ) (f : Filling) : Type 0 wh
   pub after : unit.head_end ≤ f.at
   pub begin : begins unit all f.from f.at ≡ begins_slice f.holds
   pub end : is_among f.at (ends_to unit.to all) ≡ ends_slice f.holds
-  pub alone : f.holds ≡ HeadAlone → (f.from ≡ unit.from) × (f.at ≡ unit.head_end)
+  pub alone : f.holds ≡ HeadersAlone → (f.from ≡ unit.from) × (f.at ≡ unit.head_end)
   pub order : f.from ≤ f.at
 
 closed-right : (unit : PictureUnit) (all : List ℕ) (f : Filling) → Right unit all f
@@ -188,11 +188,11 @@ slice-rest {unit} {all} {f} {rest} false count right full is =
 record BeginsBy (unit : PictureUnit) (all : List ℕ) (from at : ℕ) (holds : Holds) : Type 0 where
   after : unit.head_end ≤ at
   begin : begins unit all from at ≡ begins_slice holds
-  alone : holds ≡ HeadAlone → (from ≡ unit.from) × (at ≡ unit.head_end)
+  alone : holds ≡ HeadersAlone → (from ≡ unit.from) × (at ≡ unit.head_end)
 
 begins-here : {unit : PictureUnit} {all : List ℕ} {from at : ℕ} {holds : Holds} (x : ℕ)
     → BeginsBy unit all from at holds → holds ≢ LastFragment → at < x → begins unit all from x ≡ true
-begins-here {unit} {all} {from} {holds = HeadAlone} x its other above =
+begins-here {unit} {all} {from} {holds = HeadersAlone} x its other above =
     or_right (is_among from all) (eqb from unit.from && ltb unit.head_end x)
     (and_from (eqb from unit.from) (ltb unit.head_end x) (eq-eqb from unit.from (its.alone refl).0)
     (lt-ltb unit.head_end x (omega (arith, its.after, above))))
@@ -203,7 +203,7 @@ begins-here {holds = LastFragment} x its other above = absurd (other refl)
 
 not-last : (from at n : ℕ) (holds : Holds) (short : Bool)
     → cond short (goes_in_whole from at holds n) (goes_in_cut from at holds) ≡ true → holds ≢ LastFragment
-not-last from at n HeadAlone short e is = cc
+not-last from at n HeadersAlone short e is = cc
 not-last from at n Slices short e is = cc
 not-last from at n LastFragment true e is = true≢false (sym e)
 not-last from at n LastFragment false e is = true≢false (sym e)
@@ -218,12 +218,12 @@ begins-start {unit} {all} {f} {goes = false} n x right here e above =
 
 room-whole : {at count : ℕ} (from n : ℕ) (holds : Holds) → goes_in_whole from at holds n ≡ true
     → from + 1380 * count < at + n → 0 < count → at < from + 1380
-room-whole {at} from n HeadAlone e before some = absurd (omega (arith, leb-true (at + n) (from + 1380) e, before, some))
+room-whole {at} from n HeadersAlone e before some = absurd (omega (arith, leb-true (at + n) (from + 1380) e, before, some))
 room-whole {at} from n Slices e before some = absurd (omega (arith, leb-true (at + n) (from + 1380) e, before, some))
 room-whole from n LastFragment e before some = absurd (true≢false (sym e))
 
 room-cut : (from at : ℕ) (holds : Holds) → goes_in_cut from at holds ≡ true → at < from + 1380
-room-cut from at HeadAlone e = ltb-true at (from + 1380) e
+room-cut from at HeadersAlone e = ltb-true at (from + 1380) e
 room-cut from at Slices e = absurd (true≢false (sym e))
 room-cut from at LastFragment e = absurd (true≢false (sym e))
 
@@ -276,7 +276,7 @@ held-ends : (short : Bool) → true ≡ ends_slice (cond short Slices LastFragme
 held-ends true = refl
 held-ends false = refl
 
-held-not_alone : (short : Bool) → cond short Slices LastFragment ≡ HeadAlone → ⊥
+held-not_alone : (short : Bool) → cond short Slices LastFragment ≡ HeadersAlone → ⊥
 held-not_alone true e = cc
 held-not_alone false e = cc
 

@@ -8,7 +8,7 @@ use Rattle.mpeg_scan.specs.declared.units.Kind.TheVariants.{I}
 use Rattle.mpeg_scan.specs.declared.units.Unit.{Unit as PictureUnit}
 use Rattle.rtp_pack.specs.declared.filling.Filling.{Filling}
 use Rattle.rtp_pack.specs.declared.filling.Holds.{Holds}
-use Rattle.rtp_pack.specs.declared.filling.Holds.TheVariants.{HeadAlone, Slices, LastFragment}
+use Rattle.rtp_pack.specs.declared.filling.Holds.TheVariants.{HeadersAlone, Slices, LastFragment}
 use Rattle.rtp_pack.specs.Cutting.{Cuts, IsCutting, filling_after, first_portion, full_ends, goes_in}
 use Rattle.rtp_pack.specs.Cutting.{goes_in_cut, goes_in_whole, holds_after}
 use Rattle.rtp_pack.specs.Laws.{ArePortions, AreShortUncut, DoLongEndPortions, IsUncut}
@@ -103,28 +103,28 @@ one-rest {Must} {Fits} {May} {start} {end} {cs = c ∷ cs} {bs = d ∷ bs} reaso
 
 -- a slice that is short
 abbrev Short : ℕ → List ℕ → ℕ → ℕ → Type 0
-Short head_end slices place length = SliceAt head_end slices place length × (length ≤ 1380)
+Short headers_end slices place length = SliceAt headers_end slices place length × (length ≤ 1380)
 
-the-reasons : (from head_end : ℕ) (slices : List ℕ)
-    → Reasons (IsCutPlace from head_end slices) (Short head_end slices) (MayEnd from head_end slices)
-the-reasons from head_end slices start cut (inl full) = inl full
-the-reasons from head_end slices start cut (inr (inl place)) = inr (inl place)
-the-reasons from head_end slices start cut (inr (inr over)) = inr (inr (over.length, ((over.slice, over.short), over.over)))
+the-reasons : (from headers_end : ℕ) (slices : List ℕ)
+    → Reasons (IsCutPlace from headers_end slices) (Short headers_end slices) (MayEnd from headers_end slices)
+the-reasons from headers_end slices start cut (inl full) = inl full
+the-reasons from headers_end slices start cut (inr (inl place)) = inr (inl place)
+the-reasons from headers_end slices start cut (inr (inr over)) = inr (inr (over.length, ((over.slice, over.short), over.over)))
 
-the-rest : (from head_end : ℕ) (slices cuts : List ℕ) → MeetsRules from head_end slices cuts
-    → Rest (IsCutPlace from head_end slices) (Short head_end slices) (MayEnd from head_end slices) from
-    (head_end + sum slices) cuts
-the-rest from head_end slices cuts meets = record {
+the-rest : (from headers_end : ℕ) (slices cuts : List ℕ) → MeetsRules from headers_end slices cuts
+    → Rest (IsCutPlace from headers_end slices) (Short headers_end slices) (MayEnd from headers_end slices) from
+    (headers_end + sum slices) cuts
+the-rest from headers_end slices cuts meets = record {
   portions = meets.portions;
   short = λ place length is. meets.short place length is.0 is.1;
   must = λ place after is. meets.long place is;
   ends = meets.ends;
 }
 
-pub one-meets : {from head_end : ℕ} {slices one other : List ℕ} → MeetsRules from head_end slices one
-    → MeetsRules from head_end slices other → one ≡ other
-one-meets {from} {head_end} {slices} {one} {other} a b =
-    one-rest (the-reasons from head_end slices) (the-rest from head_end slices one a) (the-rest from head_end slices other b)
+pub one-meets : {from headers_end : ℕ} {slices one other : List ℕ} → MeetsRules from headers_end slices one
+    → MeetsRules from headers_end slices other → one ≡ other
+one-meets {from} {headers_end} {slices} {one} {other} a b =
+    one-rest (the-reasons from headers_end slices) (the-rest from headers_end slices one a) (the-rest from headers_end slices other b)
 
 -- ---- the packer's list meets them
 
@@ -245,7 +245,7 @@ record BeginsShort (Begins : ℕ → ℕ → Type 0) (at n : ℕ) : Type 0 where
 why-short : {at n : ℕ} {holds : Holds} {Begins : ℕ → ℕ → Type 0} (Must : ℕ → Type 0) (from : ℕ) →
     BeginsShort Begins at n → (holds ≡ LastFragment → Must at) → goes_in_whole from at holds n ≡ false →
     MayBy Must Begins from at
-why-short {at} {n} {holds = HeadAlone} Must from slice last goes =
+why-short {at} {n} {holds = HeadersAlone} Must from slice last goes =
     inr (inr (n, (slice.begins, (slice.short, leb-false (at + n) (from + 1380) goes))))
 why-short {at} {n} {holds = Slices} Must from slice last goes =
     inr (inr (n, (slice.begins, (slice.short, leb-false (at + n) (from + 1380) goes))))
@@ -300,11 +300,11 @@ may-end {Must} {Begins} {slices = n ∷ slices} {f} cuts some reads (inr x) =
     subst (λ (l : List ℕ). MayAllEnd (MayBy Must Begins) f.from l) (sym x.1.1.0)
     (may-cons (MayBy Must Begins) f.from f.at x.1.0 (why reads x.0) tail)
 
-may-cs : (from head_end : ℕ) (slices : List ℕ) (start cut : ℕ)
-    → MayBy (IsCutPlace from head_end slices) (SliceAt head_end slices) start cut → MayEnd from head_end slices start cut
-may-cs from head_end slices start cut (inl full) = inl full
-may-cs from head_end slices start cut (inr (inl place)) = inr (inl place)
-may-cs from head_end slices start cut (inr (inr (length, over))) =
+may-cs : (from headers_end : ℕ) (slices : List ℕ) (start cut : ℕ)
+    → MayBy (IsCutPlace from headers_end slices) (SliceAt headers_end slices) start cut → MayEnd from headers_end slices start cut
+may-cs from headers_end slices start cut (inl full) = inl full
+may-cs from headers_end slices start cut (inr (inl place)) = inr (inl place)
+may-cs from headers_end slices start cut (inr (inr (length, over))) =
     inr (inr (record { length = length; slice = over.0; short = over.1.0; over = over.1.1 }))
 
 may-map : (May Other : ℕ → ℕ → Type 0) (start : ℕ) (cuts : List ℕ) → ((s c : ℕ) → May s c → Other s c)
@@ -314,53 +314,53 @@ may-map May Other start (cut ∷ []) cs may = tt
 may-map May Other start (cut ∷ (next ∷ cuts)) cs may = (cs start cut may.0, may-map May Other cut (next ∷ cuts) cs may.1)
 
 -- in the first portion a long slice goes in where the head leaves room
-head-goes : (from head_end n : ℕ) → 1380 < n → goes_in (first_portion from head_end) n ≡ false → from + 1380 ≤ head_end
-head-goes from head_end n long goes =
-    ltb-false head_end (from + 1380)
-    (sym (ap (λ b. cond b (goes_in_whole from head_end HeadAlone n) (goes_in_cut from head_end HeadAlone))
+head-goes : (from headers_end n : ℕ) → 1380 < n → goes_in (first_portion from headers_end) n ≡ false → from + 1380 ≤ headers_end
+head-goes from headers_end n long goes =
+    ltb-false headers_end (from + 1380)
+    (sym (ap (λ b. cond b (goes_in_whole from headers_end HeadersAlone n) (goes_in_cut from headers_end HeadersAlone))
     (leb-not n long)) ∙ goes)
 
-goes-head : (from head_end n : ℕ) → 1380 < n → from + 1380 ≤ head_end → goes_in (first_portion from head_end) n ≡ false
-goes-head from head_end n long full =
-    ap (λ b. cond b (goes_in_whole from head_end HeadAlone n) (goes_in_cut from head_end HeadAlone))
-    (leb-not n long) ∙ le-ltb head_end (from + 1380) full
+goes-head : (from headers_end n : ℕ) → 1380 < n → from + 1380 ≤ headers_end → goes_in (first_portion from headers_end) n ≡ false
+goes-head from headers_end n long full =
+    ap (λ b. cond b (goes_in_whole from headers_end HeadersAlone n) (goes_in_cut from headers_end HeadersAlone))
+    (leb-not n long) ∙ le-ltb headers_end (from + 1380) full
 
-first-reads : (from head_end : ℕ) (slices : List ℕ)
-    → Reads (IsCutPlace from head_end slices) (SliceAt head_end slices) (first_portion from head_end) slices
-first-reads from head_end slices = record {
+first-reads : (from headers_end : ℕ) (slices : List ℕ)
+    → Reads (IsCutPlace from headers_end slices) (SliceAt headers_end slices) (first_portion from headers_end) slices
+first-reads from headers_end slices = record {
   begins = λ place length is. is;
   long = λ place length is long goes. inl
-      (record { length = length; slice = is; long = long; apart = λ here. head-goes from head_end length long (goes here) });
+      (record { length = length; slice = is; long = long; apart = λ here. head-goes from headers_end length long (goes here) });
   long_end = λ start length is long. inr (record { start = start; length = length; slice = is; long = long; place_is = refl });
   last = λ is. cc;
 }
 
-long-cut : {from head_end : ℕ} {slices : List ℕ} (cuts : List ℕ) → IsCutting from head_end slices cuts
-    → (place : ℕ) → IsCutPlace from head_end slices place → is_among place cuts ≡ true
-long-cut {from} {head_end} {slices} cuts cutting place (inl b) =
-    begin-cut slices (first_portion from head_end) cuts cutting place b.length b.slice b.long
-    (λ here. goes-head from head_end b.length b.long (b.apart here))
-long-cut {from} {head_end} {slices} cuts cutting place (inr e) =
-    ap (λ p. is_among p cuts) e.place_is ∙ end-cut slices (first_portion from head_end) cuts cutting e.start e.length e.slice e.long
+long-cut : {from headers_end : ℕ} {slices : List ℕ} (cuts : List ℕ) → IsCutting from headers_end slices cuts
+    → (place : ℕ) → IsCutPlace from headers_end slices place → is_among place cuts ≡ true
+long-cut {from} {headers_end} {slices} cuts cutting place (inl b) =
+    begin-cut slices (first_portion from headers_end) cuts cutting place b.length b.slice b.long
+    (λ here. goes-head from headers_end b.length b.long (b.apart here))
+long-cut {from} {headers_end} {slices} cuts cutting place (inr e) =
+    ap (λ p. is_among p cuts) e.place_is ∙ end-cut slices (first_portion from headers_end) cuts cutting e.start e.length e.slice e.long
 
 -- a unit's head of 1 to 1,380 bytes, and its slices
-pub record HeadAndSlices (from head_end : ℕ) (slices : List ℕ) : Type 0 where
-  pub some : from < head_end
-  pub short : head_end ≤ from + 1380
+pub record HeadersAndSlices (from headers_end : ℕ) (slices : List ℕ) : Type 0 where
+  pub some : from < headers_end
+  pub short : headers_end ≤ from + 1380
   pub have : HaveBytes slices
 
-pub cutting-meets : {from head_end : ℕ} {slices : List ℕ} (cuts : List ℕ) → HeadAndSlices from head_end slices
-    → IsCutting from head_end slices cuts → MeetsRules from head_end slices cuts
-cutting-meets {from} {head_end} {slices} cuts unit cutting =
-    let f = first_portion from head_end in
-    let order : from ≤ head_end = omega (arith, unit.some) in record {
+pub cutting-meets : {from headers_end : ℕ} {slices : List ℕ} (cuts : List ℕ) → HeadersAndSlices from headers_end slices
+    → IsCutting from headers_end slices cuts → MeetsRules from headers_end slices cuts
+cutting-meets {from} {headers_end} {slices} cuts unit cutting =
+    let f = first_portion from headers_end in
+    let order : from ≤ headers_end = omega (arith, unit.some) in record {
       portions = portions-cover slices f cuts (unit.some, unit.short) cutting;
-      head = head-uncut from head_end cuts (cuts-from slices f cuts order cutting);
-      short = short-at slices head_end cuts (short-uncut slices f cuts order cutting);
+      head = head-uncut from headers_end cuts (cuts-from slices f cuts order cutting);
+      short = short-at slices headers_end cuts (short-uncut slices f cuts order cutting);
       long = long-cut cuts cutting;
-      ends = may-map (MayBy (IsCutPlace from head_end slices) (SliceAt head_end slices))
-          (MayEnd from head_end slices) from cuts (may-cs from head_end slices)
-          (may-end cuts (some-bytes slices unit.have) (first-reads from head_end slices) cutting);
+      ends = may-map (MayBy (IsCutPlace from headers_end slices) (SliceAt headers_end slices))
+          (MayEnd from headers_end slices) from cuts (may-cs from headers_end slices)
+          (may-end cuts (some-bytes slices unit.have) (first-reads from headers_end slices) cutting);
     }
 
 no_unit : PictureUnit
@@ -379,19 +379,19 @@ no_unit = record {
 }
 
 -- there is such a list
-pub some-meets : {from head_end : ℕ} {slices : List ℕ} → HeadAndSlices from head_end slices
-    → (cuts : List ℕ) × MeetsRules from head_end slices cuts
-some-meets {from} {head_end} {slices} unit =
-    let f = first_portion from head_end in
+pub some-meets : {from headers_end : ℕ} {slices : List ℕ} → HeadersAndSlices from headers_end slices
+    → (cuts : List ℕ) × MeetsRules from headers_end slices cuts
+some-meets {from} {headers_end} {slices} unit =
+    let f = first_portion from headers_end in
     let cuts = ends (packets_from no_unit f slices) in
     (cuts, cutting-meets cuts unit (packets-cut no_unit slices f (omega (arith, unit.some)) (some-bytes slices unit.have)))
 
 -- and it is the packer's
-pub meets-cutting : {from head_end : ℕ} {slices : List ℕ} (cuts : List ℕ) → HeadAndSlices from head_end slices
-    → MeetsRules from head_end slices cuts → IsCutting from head_end slices cuts
-meets-cutting {from} {head_end} {slices} cuts unit meets =
-    let f = first_portion from head_end in
+pub meets-cutting : {from headers_end : ℕ} {slices : List ℕ} (cuts : List ℕ) → HeadersAndSlices from headers_end slices
+    → MeetsRules from headers_end slices cuts → IsCutting from headers_end slices cuts
+meets-cutting {from} {headers_end} {slices} cuts unit meets =
+    let f = first_portion from headers_end in
     let made = ends (packets_from no_unit f slices) in
     let cutting = packets-cut no_unit slices f (omega (arith, unit.some)) (some-bytes slices unit.have) in
     let same = one-meets (cutting-meets made unit cutting) meets in
-    subst (λ (l : List ℕ). IsCutting from head_end slices l) same cutting
+    subst (λ (l : List ℕ). IsCutting from headers_end slices l) same cutting

@@ -5,10 +5,10 @@ use Rattle.std.proofs.Common.{inr}
 use Rattle.std.proofs.lemmas.Bool.{cases_Bool, leb-true, leb-false, ltb-true, ltb-false, true≢false}
 use Rattle.rtp_pack.specs.declared.filling.Filling.{Filling}
 use Rattle.rtp_pack.specs.declared.filling.Holds.{Holds}
-use Rattle.rtp_pack.specs.declared.filling.Holds.TheVariants.{HeadAlone, Slices, LastFragment}
+use Rattle.rtp_pack.specs.declared.filling.Holds.TheVariants.{HeadersAlone, Slices, LastFragment}
 use Rattle.rtp_pack.specs.Cutting.{Cuts, Fills, IsCutting, filling_after, full_before, full_ends}
 use Rattle.rtp_pack.specs.Cutting.{goes_in, goes_in_cut, goes_in_whole, last_start, start_of}
-use Rattle.rtp_pack.specs.Sizes.{IsMeasure, Measure, measure_from_head, cuts_size, frames_of, measure_of}
+use Rattle.rtp_pack.specs.Sizes.{IsMeasure, Measure, measure_from_headers, cuts_size, frames_of, measure_of}
 use Rattle.rtp_pack.specs.Sizes.{slice_portions, with_slice, with_slices}
 use Rattle.rtp_pack.proofs.CutLemmas.{full-once, full_before-less, full_before-within, start-less}
 
@@ -75,14 +75,14 @@ long-next {portions} {from} {at} n full kept long before within =
     }
 
 pub whole-fits : (from at n : ℕ) (holds : Holds) → goes_in_whole from at holds n ≡ true → at + n ≤ from + 1380
-whole-fits from at n HeadAlone e = leb-true (at + n) (from + 1380) e
+whole-fits from at n HeadersAlone e = leb-true (at + n) (from + 1380) e
 whole-fits from at n Slices e = leb-true (at + n) (from + 1380) e
 whole-fits from at n LastFragment e = absurd (true≢false (sym e))
 
 -- where a short slice begins the next portion there is room for one more head
 whole-room : {portions from at : ℕ} {holds : Holds} (n : ℕ) → Kept portions from at holds → 4 ≤ n
     → goes_in_whole from at holds n ≡ false → 20 * portions ≤ at + n
-whole-room {from} {at} {holds = HeadAlone} n kept least e = omega (arith, leb-false (at + n) (from + 1380) e, kept.ended)
+whole-room {from} {at} {holds = HeadersAlone} n kept least e = omega (arith, leb-false (at + n) (from + 1380) e, kept.ended)
 whole-room {from} {at} {holds = Slices} n kept least e = omega (arith, leb-false (at + n) (from + 1380) e, kept.ended)
 whole-room {from} {at} {holds = LastFragment} n kept least e = omega (arith, kept.last refl)
 
@@ -136,7 +136,7 @@ pub keeps-slices : (slices : List ℕ) (m : Measure) → IsKept m → AreLong sl
 keeps-slices [] m kept long = kept
 keeps-slices (n ∷ slices) m kept long = keeps-slices slices (with_slice m n) (keeps-slice m n kept long.0) long.1
 
-pub begun-kept : (head : ℕ) → 0 < head → IsKept (measure_from_head head)
+pub begun-kept : (head : ℕ) → 0 < head → IsKept (measure_from_headers head)
 begun-kept head some = record { some = some; portions = omega arith; whole = omega arith; ended = omega arith; last = λ e. cc }
 
 pub slices-append : (slices : List ℕ) (m : Measure) (n : ℕ)
@@ -172,7 +172,7 @@ ltb-moved {x'} {y'} base x y ex ey = elim (cases_Bool (ltb x y)) [
 
 cut-moved : {from' at' : ℕ} (base from at : ℕ) (holds : Holds) → from' ≡ base + from → at' ≡ base + at
     → goes_in_cut from' at' holds ≡ goes_in_cut from at holds
-cut-moved base from at HeadAlone ef ea = ltb-moved base at (from + 1380) ea (omega (arith, ef))
+cut-moved base from at HeadersAlone ef ea = ltb-moved base at (from + 1380) ea (omega (arith, ef))
 cut-moved base from at Slices ef ea = refl
 cut-moved base from at LastFragment ef ea = refl
 
@@ -184,7 +184,7 @@ pub record IsMoved (base : ℕ) (f g : Filling) : Type 0 where
 
 whole-moved : {base : ℕ} {f g : Filling} (n : ℕ) (holds : Holds) → IsMoved base f g
     → goes_in_whole g.from g.at holds n ≡ goes_in_whole f.from f.at holds n
-whole-moved {base} {f} n HeadAlone is = leb-moved base (f.at + n) (f.from + 1380) (omega (arith, is.at)) (omega (arith, is.from))
+whole-moved {base} {f} n HeadersAlone is = leb-moved base (f.at + n) (f.from + 1380) (omega (arith, is.at)) (omega (arith, is.from))
 whole-moved {base} {f} n Slices is = leb-moved base (f.at + n) (f.from + 1380) (omega (arith, is.at)) (omega (arith, is.from))
 whole-moved n LastFragment is = refl
 
@@ -266,6 +266,6 @@ size-from {base} {g} (n ∷ slices) m cuts is order (inr x) =
 pub size-unit : (head : ℕ) (slices : List ℕ) (from : ℕ) (cuts : List ℕ)
     → IsCutting from (from + head) slices cuts → frames_of (measure_of head slices) ≡ cuts_size from cuts
 size-unit head slices from cuts cutting =
-    let all = size-from slices (measure_from_head head) cuts
+    let all = size-from slices (measure_from_headers head) cuts
     (record { from = omega arith; at = refl; holds = refl }) (omega arith) cutting in
     omega (arith, all)

@@ -7,7 +7,7 @@ use Rattle.rtp_pack.specs.Cutting.{IsCutting, first_portion}
 use Rattle.rtp_pack.specs.Packets.{ArePackets, AreInOrder, DoCover, IsLaid, frames_size, lengths_to}
 use Rattle.rtp_pack.specs.Packets.{next_place, portion_packets, unit_lengths, unit_packets}
 use Rattle.rtp_pack.specs.Packets.{unit_starts}
-use Rattle.rtp_pack.specs.Sizes.{IsPacked, measure_from_head, bytes_of, cuts_size, frames_of, measure_of, with_slice}
+use Rattle.rtp_pack.specs.Sizes.{IsPacked, measure_from_headers, bytes_of, cuts_size, frames_of, measure_of, with_slice}
 use Rattle.rtp_pack.specs.Sizes.{with_slices, Measure}
 use Rattle.rtp_pack.proofs.CutLemmas.{AreSome, ends, packets-cut}
 use Rattle.rtp_pack.proofs.FlagLemmas.{first-right, flags}
@@ -90,9 +90,9 @@ pub packets-bound : (starts : List ℕ) (unit : PictureUnit) → IsLaid starts u
 packets-bound starts unit laid =
     let slices = unit_lengths starts unit in
     let head = unit.head_end - unit.from in
-    let kept = keeps-slices slices (measure_from_head head) (begun-kept head (omega (arith, laid.head)))
+    let kept = keeps-slices slices (measure_from_headers head) (begun-kept head (omega (arith, laid.head)))
     (lengths-long (unit_starts starts unit) unit.head_end unit.to laid.in_order) in
-    let bytes = lengths-bytes (unit_starts starts unit) unit.head_end unit.to (measure_from_head head) laid.in_order in
+    let bytes = lengths-bytes (unit_starts starts unit) unit.head_end unit.to (measure_from_headers head) laid.in_order in
     omega (arith, packets-size starts unit laid, kept.whole, bytes, laid.head)
 
 pub packed : (starts : List ℕ) (unit : PictureUnit) (packets : List Packet) → IsLaid starts unit

@@ -17,18 +17,18 @@ use Rattle.std.specs.Prelude.{ℕ, zero, suc, ◌+◌, ◌-◌, ◌*◌, ◌/◌
 use Rattle.std.specs.Prelude.{false, nat_le, nat_lt, if◌then◌else◌, List, [], ◌∷◌, ◌++◌}
 use Rattle.rtp_pack.specs.declared.filling.Filling.{Filling}
 use Rattle.rtp_pack.specs.declared.filling.Holds.{Holds}
-use Rattle.rtp_pack.specs.declared.filling.Holds.TheVariants.{HeadAlone, Slices, LastFragment}
+use Rattle.rtp_pack.specs.declared.filling.Holds.TheVariants.{HeadersAlone, Slices, LastFragment}
 
 -- a slice of at most 1,380 bytes goes into the portion that has the bytes `from` to `at` where all of
 -- it fits, and never after a longer slice's last fragment
 abbrev pub goes_in_whole : ℕ → ℕ → Holds → ℕ → Bool
-goes_in_whole from at HeadAlone length = nat_le (at + length) (from + 1380)
+goes_in_whole from at HeadersAlone length = nat_le (at + length) (from + 1380)
 goes_in_whole from at Slices length = nat_le (at + length) (from + 1380)
 goes_in_whole from at LastFragment length = false
 
 -- a longer slice begins in the portion where nothing but the head stands in it and leaves room
 abbrev pub goes_in_cut : ℕ → ℕ → Holds → Bool
-goes_in_cut from at HeadAlone = nat_lt at (from + 1380)
+goes_in_cut from at HeadersAlone = nat_lt at (from + 1380)
 goes_in_cut from at Slices = false
 goes_in_cut from at LastFragment = false
 
@@ -80,11 +80,11 @@ Cuts f (length ∷ slices) cuts =
 
 -- the first portion of a unit begins with its whole head
 abbrev pub first_portion : ℕ → ℕ → Filling
-first_portion from head_end = record { from = from; at = head_end; holds = HeadAlone }
+first_portion from headers_end = record { from = from; at = headers_end; holds = HeadersAlone }
 
--- the cut points of a unit at place `from` with a head to `head_end` and slices of these lengths
+-- the cut points of a unit at place `from` with a head to `headers_end` and slices of these lengths
 abbrev pub IsCutting : ℕ → ℕ → List ℕ → List ℕ → Type 0
-IsCutting from head_end slices cuts = Cuts (first_portion from head_end) slices cuts
+IsCutting from headers_end slices cuts = Cuts (first_portion from headers_end) slices cuts
 
 -- how many full portions from `start` on end before `end`
 abbrev pub full_before : ℕ → ℕ → ℕ

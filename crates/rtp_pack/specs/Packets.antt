@@ -5,7 +5,7 @@ use Rattle.mpeg_scan.specs.declared.units.Unit.{Unit as PictureUnit}
 pub use Rattle.mpeg_scan.specs.Layout.{OfUnit, next_place, unit_starts, AreInOrder, IsLaid}
 use Rattle.rtp_pack.specs.declared.filling.Filling.{Filling}
 use Rattle.rtp_pack.specs.declared.filling.Holds.{Holds}
-use Rattle.rtp_pack.specs.declared.filling.Holds.TheVariants.{HeadAlone, Slices, LastFragment}
+use Rattle.rtp_pack.specs.declared.filling.Holds.TheVariants.{HeadersAlone, Slices, LastFragment}
 use Rattle.rtp_pack.specs.declared.payloads.Packet.{Packet}
 use Rattle.rtp_pack.specs.Cutting.{IsCutting, goes_in, start_of, full_before, next_filling}
 use Rattle.rtp_pack.specs.Cutting.{first_portion}
@@ -42,12 +42,12 @@ full_packets unit begin start (suc count) =
     packet unit start (start + 1380) begin false ∷ full_packets unit false (start + 1380) count
 
 abbrev pub begins_slice : Holds → Bool
-begins_slice HeadAlone = false
+begins_slice HeadersAlone = false
 begins_slice Slices = true
 begins_slice LastFragment = false
 
 abbrev pub ends_slice : Holds → Bool
-ends_slice HeadAlone = false
+ends_slice HeadersAlone = false
 ends_slice Slices = true
 ends_slice LastFragment = true
 

@@ -1,6 +1,6 @@
 -- The rules of cutting as conditions on the list of cut points, with no step of the packer: where a
--- cut may stand, and where it must. A unit has a head from `from` to `head_end`, and then slices of
--- these lengths; its cut points are the places where its portions end.
+-- cut may stand, and where it must. A unit has headers from `from` to `headers_end`, and then slices
+-- of these lengths; its cut points are the places where its portions end.
 use Rattle.std.specs.Prelude.{ℕ, ◌+◌, ◌<◌, ◌≤◌, ◌≡◌, ◌⊎◌, true, List, [], ◌∷◌, sum}
 use Rattle.rtp_pack.specs.Laws.{ArePortions, IsUncut}
 use Rattle.rtp_pack.specs.Packets.{is_among}
@@ -18,38 +18,38 @@ SliceAt at (n ∷ slices) place length = ((at ≡ place) × (n ≡ length))
 
 -- a slice of more than 1,380 bytes begins there, and not in the portion that has nothing but the head
 -- and room
-pub record LongBegins (from head_end : ℕ) (slices : List ℕ) (place : ℕ) : Type 0 where
+pub record LongBegins (from headers_end : ℕ) (slices : List ℕ) (place : ℕ) : Type 0 where
   pub length : ℕ
-  pub slice : SliceAt head_end slices place length
+  pub slice : SliceAt headers_end slices place length
   pub long : 1380 < length
-  pub apart : place ≡ head_end → from + 1380 ≤ head_end
+  pub apart : place ≡ headers_end → from + 1380 ≤ headers_end
 
 -- one ends there
-pub record LongEnds (head_end : ℕ) (slices : List ℕ) (place : ℕ) : Type 0 where
+pub record LongEnds (headers_end : ℕ) (slices : List ℕ) (place : ℕ) : Type 0 where
   pub start : ℕ
   pub length : ℕ
-  pub slice : SliceAt head_end slices start length
+  pub slice : SliceAt headers_end slices start length
   pub long : 1380 < length
   pub place_is : place ≡ start + length
 
 -- a cut must stand there
 abbrev pub IsCutPlace : ℕ → ℕ → List ℕ → ℕ → Type 0
-IsCutPlace from head_end slices place = LongBegins from head_end slices place
-    ⊎ LongEnds head_end slices place
+IsCutPlace from headers_end slices place = LongBegins from headers_end slices place
+    ⊎ LongEnds headers_end slices place
 
 -- a slice of at most 1,380 bytes begins there that doesn't fit in a portion from a place on
-pub record DoesNotFit (head_end : ℕ) (slices : List ℕ) (start place : ℕ) : Type 0 where
+pub record DoesNotFit (headers_end : ℕ) (slices : List ℕ) (start place : ℕ) : Type 0 where
   pub length : ℕ
-  pub slice : SliceAt head_end slices place length
+  pub slice : SliceAt headers_end slices place length
   pub short : length ≤ 1380
   pub over : start + 1380 < place + length
 
 -- a portion from `start` on may end there, before the unit's end: it is full, a cut must stand there,
 -- or the next slice doesn't fit
 abbrev pub MayEnd : ℕ → ℕ → List ℕ → ℕ → ℕ → Type 0
-MayEnd from head_end slices start cut =
+MayEnd from headers_end slices start cut =
     (cut ≡ start + 1380)
-    ⊎ (IsCutPlace from head_end slices cut ⊎ DoesNotFit head_end slices start cut)
+    ⊎ (IsCutPlace from headers_end slices cut ⊎ DoesNotFit headers_end slices start cut)
 
 -- each portion but the last may end where it does, of portions from `start` on that end at these places
 abbrev pub MayAllEnd : (ℕ → ℕ → Type 0) → ℕ → List ℕ → Type 0
@@ -58,15 +58,15 @@ MayAllEnd May start (cut ∷ []) = Unit {0}
 MayAllEnd May start (cut ∷ (next ∷ cuts)) = May start cut × MayAllEnd May cut (next ∷ cuts)
 
 -- the four rules
-pub record MeetsRules (from head_end : ℕ) (slices cuts : List ℕ) : Type 0 where
+pub record MeetsRules (from headers_end : ℕ) (slices cuts : List ℕ) : Type 0 where
   -- portions of 1 to 1,380 bytes cover the unit, and the first has the whole head
-  pub portions : ArePortions from cuts (head_end + sum slices)
-  pub head : IsUncut from head_end cuts
+  pub portions : ArePortions from cuts (headers_end + sum slices)
+  pub head : IsUncut from headers_end cuts
   -- a slice of at most 1,380 bytes is never cut
-  pub short : (place length : ℕ) → SliceAt head_end slices place length → length ≤ 1380 →
+  pub short : (place length : ℕ) → SliceAt headers_end slices place length → length ≤ 1380 →
       IsUncut place (place + length) cuts
   -- a longer slice begins and ends with a portion, but for one that begins after the head where that
   -- leaves room
-  pub long : (place : ℕ) → IsCutPlace from head_end slices place → is_among place cuts ≡ true
+  pub long : (place : ℕ) → IsCutPlace from headers_end slices place → is_among place cuts ≡ true
   -- a portion ends only there, where it is full, or where the next slice doesn't fit
-  pub ends : MayAllEnd (MayEnd from head_end slices) from cuts
+  pub ends : MayAllEnd (MayEnd from headers_end slices) from cuts

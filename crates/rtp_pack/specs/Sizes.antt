@@ -18,8 +18,8 @@ pub record Measure : Type 0 where
   pub filling : Filling
 
 -- a unit with a head of so many bytes
-abbrev pub measure_from_head : ℕ → Measure
-measure_from_head head = record { portions = 0; filling = first_portion 0 head }
+abbrev pub measure_from_headers : ℕ → Measure
+measure_from_headers head = record { portions = 0; filling = first_portion 0 head }
 
 -- how many portions end before or in the next slice, of `length` bytes
 abbrev pub slice_portions : Filling → ℕ → ℕ
@@ -41,7 +41,7 @@ with_slices m (length ∷ slices) = with_slices (with_slice m length) slices
 
 -- a unit with a head of so many bytes and slices of these lengths
 abbrev pub measure_of : ℕ → List ℕ → Measure
-measure_of head slices = with_slices (measure_from_head head) slices
+measure_of head slices = with_slices (measure_from_headers head) slices
 
 -- the unit has one more slice, of `length` bytes, than it had
 abbrev pub HasSlice : ℕ → Measure → Measure → Type 0

@@ -6,7 +6,7 @@ ghost use Rattle.rtp_pack.specs.Cutting.{full_before, goes_in, holds_after};
 #[derive(Clone, Copy)]
 pub(crate) enum Holds {
     /// The unit's head alone.
-    HeadAlone,
+    HeadersAlone,
     /// Whole slices, after the head in the unit's first portion.
     Slices,
     /// The last fragment of a slice that is longer than a portion.
@@ -35,7 +35,7 @@ pub(crate) fn goes_in(filling: Filling, length: u64) -> bool
 {
     let used = filling.at - filling.from;
     match filling.holds {
-        Holds::HeadAlone if length > PAYLOAD => used < PAYLOAD,
+        Holds::HeadersAlone if length > PAYLOAD => used < PAYLOAD,
         Holds::Slices if length > PAYLOAD => false,
         Holds::LastFragment => false,
         _ => used <= PAYLOAD && length <= PAYLOAD - used,

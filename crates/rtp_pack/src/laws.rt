@@ -21,27 +21,27 @@ use mpeg_scan::Unit;
 
 /// The rules for cutting leave one list: two lists of cut points that meet them for one unit are
 /// equal.
-pub fn law_one_cutting(from: u64, head_end: u64, slices: &[u64], one: &[u64], other: &[u64])
-    requires one { IsCutting from head_end slices.now one.now }
-    requires other { IsCutting from head_end slices.now other.now }
+pub fn law_one_cutting(from: u64, headers_end: u64, slices: &[u64], one: &[u64], other: &[u64])
+    requires one { IsCutting from headers_end slices.now one.now }
+    requires other { IsCutting from headers_end slices.now other.now }
     ensures { one.now ≡ other.now }
 {
-    let _read = (from, head_end, slices.len(), one.len(), other.len());
+    let _read = (from, headers_end, slices.len(), one.len(), other.len());
 }
 
 /// What the rules for cutting come to. The portions have 1 to 1,380 bytes and cover the unit in
 /// order. The head is never cut, nor is a slice of at most 1,380 bytes. A longer slice ends with
 /// its last portion.
-pub fn law_cutting(from: u64, head_end: u64, slices: &[u64], cuts: &[u64])
-    requires head { from < head_end }
-    requires short { head_end ≤ from + 1380 }
-    requires cutting { IsCutting from head_end slices.now cuts.now }
-    ensures portions { ArePortions from cuts.now (head_end + sum slices.now) }
-    ensures head { IsUncut from head_end cuts.now }
-    ensures short_slices { AreShortUncut head_end slices.now cuts.now }
-    ensures long_slices { DoLongEndPortions head_end slices.now cuts.now }
+pub fn law_cutting(from: u64, headers_end: u64, slices: &[u64], cuts: &[u64])
+    requires head { from < headers_end }
+    requires short { headers_end ≤ from + 1380 }
+    requires cutting { IsCutting from headers_end slices.now cuts.now }
+    ensures portions { ArePortions from cuts.now (headers_end + sum slices.now) }
+    ensures head { IsUncut from headers_end cuts.now }
+    ensures short_slices { AreShortUncut headers_end slices.now cuts.now }
+    ensures long_slices { DoLongEndPortions headers_end slices.now cuts.now }
 {
-    let _read = (from, head_end, slices.len(), cuts.len());
+    let _read = (from, headers_end, slices.len(), cuts.len());
 }
 
 /// The last packet of a unit has the marker, and no other (RFC 2250 section 3.3). `packets` gives
@@ -64,18 +64,18 @@ pub fn law_head_read_back(head: Head, payload: &[u8])
 /// The rules of cutting as conditions on the list of cut points: exactly one list meets them, and
 /// it is the packer's.
 pub fn law_rules()
-    ensures some { (from head_end : ℕ) (slices : List ℕ) → from < head_end →
-        head_end ≤ from + 1380 → HaveBytes slices
-        → (cuts : List ℕ) × MeetsRules from head_end slices cuts }
-    ensures one { (from head_end : ℕ) (slices one other : List ℕ)
-        → MeetsRules from head_end slices one → MeetsRules from head_end slices other
+    ensures some { (from headers_end : ℕ) (slices : List ℕ) → from < headers_end →
+        headers_end ≤ from + 1380 → HaveBytes slices
+        → (cuts : List ℕ) × MeetsRules from headers_end slices cuts }
+    ensures one { (from headers_end : ℕ) (slices one other : List ℕ)
+        → MeetsRules from headers_end slices one → MeetsRules from headers_end slices other
         → one ≡ other }
-    ensures meets { (from head_end : ℕ) (slices cuts : List ℕ) → from < head_end →
-        head_end ≤ from + 1380 → HaveBytes slices
-        → IsCutting from head_end slices cuts → MeetsRules from head_end slices cuts }
-    ensures cutting { (from head_end : ℕ) (slices cuts : List ℕ) → from < head_end →
-        head_end ≤ from + 1380 → HaveBytes slices
-        → MeetsRules from head_end slices cuts → IsCutting from head_end slices cuts }
+    ensures meets { (from headers_end : ℕ) (slices cuts : List ℕ) → from < headers_end →
+        headers_end ≤ from + 1380 → HaveBytes slices
+        → IsCutting from headers_end slices cuts → MeetsRules from headers_end slices cuts }
+    ensures cutting { (from headers_end : ℕ) (slices cuts : List ℕ) → from < headers_end →
+        headers_end ≤ from + 1380 → HaveBytes slices
+        → MeetsRules from headers_end slices cuts → IsCutting from headers_end slices cuts }
 {}
 
 /// The fields of a packet's head, each read at its bits (RFC 3550 section 5.1).

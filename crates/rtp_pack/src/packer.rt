@@ -26,7 +26,7 @@ pub(crate) fn pack(
     let mut filling = Filling {
         from: unit.from,
         at: unit.head_end,
-        holds: Holds::HeadAlone,
+        holds: Holds::HeadersAlone,
     };
     for index in 0..starts.len() {
         let end = slice_end(starts, index, unit.to);
@@ -65,7 +65,7 @@ fn close(packets: &mut Vec<Packet>, unit: &Unit, filling: Filling) -> Result<(),
         packets.old.items ++ filling_packet unit.now filling ∷ []) }
 {
     let begin = matches!(filling.holds, Holds::Slices);
-    let end = !matches!(filling.holds, Holds::HeadAlone);
+    let end = !matches!(filling.holds, Holds::HeadersAlone);
     put(packets, packet(unit, filling.from, filling.at, begin, end))
 }
 

@@ -1,6 +1,6 @@
 //! The size of a unit's frames, counted while its slices come in.
 ghost use Rattle.std.specs.Prelude.{◌≡◌, ◌+◌, ◌*◌, ◌^◌, ◌≤◌, []};
-ghost use Rattle.rtp_pack.specs.Sizes.{HasSlice, IsSize, measure_from_head, bytes_of, frames_of};
+ghost use Rattle.rtp_pack.specs.Sizes.{HasSlice, IsSize, measure_from_headers, bytes_of, frames_of};
 ghost use Rattle.rtp_pack.specs.Sizes.{measure_of};
 ghost use Rattle.rtp_pack.specs.Sizes.{with_slice};
 
@@ -35,7 +35,7 @@ impl UnitSize {
     pub fn begin(head: u64) -> UnitSize
         requires some { 1 ≤ head }
         requires most { head ≤ 1380 }
-        ensures begun { result ≡ measure_from_head head }
+        ensures begun { result ≡ measure_from_headers head }
         ensures measured { result ≡ measure_of head [] }
     {
         UnitSize {
@@ -43,7 +43,7 @@ impl UnitSize {
             filling: Filling {
                 from: 0,
                 at: head,
-                holds: Holds::HeadAlone,
+                holds: Holds::HeadersAlone,
             },
         }
     }

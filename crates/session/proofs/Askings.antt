@@ -3,7 +3,7 @@ use Rattle.std.proofs.Common.{◌≡◌, ℕ, ◌≤◌, Bool, List, Option, len
 use Rattle.plan_cert.specs.declared.Segment.{Segment}
 use Rattle.plan_cert.specs.Slots.{total_bytes}
 use Rattle.film_frames.specs.declared.stores.Stored.{Stored}
-use Rattle.film_frames.specs.Runs.{Run as Sending, run_pieces}
+use Rattle.film_frames.specs.Runs.{FramedRun, run_pieces}
 use Rattle.film_frames.specs.Tracks.{IsBoundary, framed_bytes}
 use Rattle.film_run.specs.declared.runs.Run.{Run}
 use Rattle.film_run.specs.Runs.{bytes_between}
@@ -70,7 +70,7 @@ prepared_in {source} {settings} {setup} {stored} {prepared} films state ready at
     let same : IsPlayable stored source settings setup prepared.counts prepared.run prepared.plan =
     subst (λ (l : List Segment). IsPlayable stored source settings setup prepared.counts prepared.run l) (sym own) playable in
     let boundary : IsBoundary (run_pieces prepared.frames) prepared.run.sent =
-    subst (λ (s : Sending). IsBoundary (run_pieces s) prepared.run.sent) (sym frames) same.run_of.boundary in
+    subst (λ (s : FramedRun). IsBoundary (run_pieces s) prepared.run.sent) (sym frames) same.run_of.boundary in
     ready_in films state ready
     (record { going = record { boundary = boundary; whole = same.bytes ∙ sym bytes }; paced = paced ∙ sym own })
     (of_film films setup.film stored (λ s. IsPreparedAs s source settings setup prepared) at

@@ -2,7 +2,7 @@
 use Rattle.std.proofs.Common.{◌≡◌, ℕ, ◌+◌, ◌*◌, ◌/◌, ◌%◌, List, Option, Some, None, add_comm, refl, sym, ap, subst, ◌∙◌, arith}
 use Rattle.std.proofs.Math.Nat.{add-mul-mod_self_left, mod-add-div}
 use Rattle.film_frames.specs.declared.stores.Stored.{Stored}
-use Rattle.film_frames.specs.Runs.{Run as Sending, frames_before, octets_before}
+use Rattle.film_frames.specs.Runs.{FramedRun, frames_before, octets_before}
 use Rattle.film_run.specs.declared.runs.Run.{Run}
 use Rattle.mpeg_scan.specs.declared.films.Film.{Film}
 use Rattle.rtsp_fields.specs.declared.ranges.Span.{Span}
@@ -35,7 +35,7 @@ number_goes_on source frames more =
     ∙ sym (sum_mod more (source + frames) 65536)
     ∙ ap (λ n. n % 65536) (add_comm more ((source + frames) % 65536))
 
-pub identity_goes_on : (source : Source) (setup : Setup) (counts : Counts) (sending : Sending) (bytes : ℕ)
+pub identity_goes_on : (source : Source) (setup : Setup) (counts : Counts) (sending : FramedRun) (bytes : ℕ)
     → GoesOn (identity_of source setup counts) (identity_of source setup (counts_after counts sending bytes))
     (frames_before sending bytes) (octets_before sending bytes)
 identity_goes_on source setup counts sending bytes = record {

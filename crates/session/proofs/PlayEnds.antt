@@ -4,7 +4,7 @@ use Rattle.std.proofs.lemmas.List.{take_all}
 use Rattle.plan_cert.specs.Slots.{total_bytes}
 use Rattle.film_frames.specs.declared.stores.Stored.{Stored}
 use Rattle.film_frames.specs.Pieces.{frames_in, octets_in}
-use Rattle.film_frames.specs.Runs.{Run as Sending, count_ended, frames_before, octets_before, pieces_in, run_pieces, sent_by}
+use Rattle.film_frames.specs.Runs.{FramedRun, count_ended, frames_before, octets_before, pieces_in, run_pieces, sent_by}
 use Rattle.film_frames.specs.Tracks.{IsBoundaryAfter, framed_bytes}
 use Rattle.film_frames.proofs.RunLemmas.{blocks_from-count, count_ended-is}
 use Rattle.film_frames.proofs.TrackLemmas.{begin-all}
@@ -90,7 +90,7 @@ halts_at_boundary heard keep halt hand pacing =
 -- ---- what is counted after a run
 
 -- all pieces of a run have ended at its end
-all_sent : (sending : Sending) → sent_by sending (length (framed_bytes (run_pieces sending))) ≡ pieces_in sending
+all_sent : (sending : FramedRun) → sent_by sending (length (framed_bytes (run_pieces sending))) ≡ pieces_in sending
 all_sent sending =
     let blocks = run_pieces sending in
     let count : length blocks ≡ length (pieces_in sending) = blocks_from-count sending 0 0 (pieces_in sending) in

@@ -6,7 +6,7 @@ use Rattle.mpeg_scan.specs.declared.films.Film.{Film}
 use Rattle.rtp_pack.specs.declared.reports.Identity.{Identity}
 use Rattle.rtsp_fields.specs.Urls.{IsRead}
 use Rattle.film_frames.specs.declared.stores.Stored.{Stored}
-use Rattle.film_frames.specs.Runs.{Run as Sending, frames_before, octets_before, run_of}
+use Rattle.film_frames.specs.Runs.{FramedRun, frames_before, octets_before, run_of}
 use Rattle.session.specs.declared.states.Setup.{Setup}
 use Rattle.film_run.specs.declared.runs.Run.{Run}
 use Rattle.session.specs.declared.states.Counts.{Counts}
@@ -44,13 +44,13 @@ identity_of source setup counts = record {
 }
 
 -- a run as it is sent
-abbrev pub sending_of : Film → Source → Setup → Counts → Run → Sending
+abbrev pub sending_of : Film → Source → Setup → Counts → Run → FramedRun
 sending_of film source setup counts run =
     run_of film run.first_unit run.end_unit (identity_of source setup counts)
 
 -- what was sent in all, where so many bytes of a run were sent; both numbers count modulo 2^32 (RFC
 -- 3550 section 6.4.1)
-abbrev pub counts_after : Counts → Sending → ℕ → Counts
+abbrev pub counts_after : Counts → FramedRun → ℕ → Counts
 counts_after counts sending bytes = record {
   frames = (counts.frames + frames_before sending bytes) % 2 ^ 32;
   octets = (counts.octets + octets_before sending bytes) % 2 ^ 32;

@@ -5,7 +5,7 @@ use Rattle.std.specs.List.{range_with_len}
 use Rattle.plan_cert.specs.Slots.{total_bytes}
 use Rattle.film_frames.specs.declared.stores.Stored.{Stored}
 use Rattle.film_frames.specs.Pieces.{frames_in, octets_in}
-use Rattle.film_frames.specs.Runs.{Run as Sending, pieces_in, run_pieces}
+use Rattle.film_frames.specs.Runs.{FramedRun, pieces_in, run_pieces}
 use Rattle.film_frames.specs.Tracks.{IsBoundaryAfter}
 use Rattle.film_run.specs.declared.runs.Run.{Run}
 use Rattle.film_run.specs.declared.plans.Playback.{Playback}
@@ -67,7 +67,7 @@ slots_missed heard slot start =
     sum_by (λ t. if nat_lt heard t && nat_le start t then 1 else 0) (range_with_len 0 slot)
 
 -- after a run that was sent whole, all its frames were counted
-abbrev pub HasCountedAll : Identity → Identity → Sending → Type 0
+abbrev pub HasCountedAll : Identity → Identity → FramedRun → Type 0
 HasCountedAll before after sending =
     GoesOn before after (frames_in (pieces_in sending)) (octets_in (pieces_in sending))
 

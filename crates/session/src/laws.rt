@@ -3,7 +3,7 @@
 ghost use Rattle.std.specs.Prelude.{◌≡◌, ◌<◌, ℕ, List, Some, None, Ok, string_bytes};
 ghost use Rattle.rtsp_text.specs.Replies.{Field, phrase, reply_front};
 ghost use Rattle.film_frames.specs.declared.stores.Stored.{Stored};
-ghost use Rattle.film_frames.specs.Runs.{Run as Sending, frames_before, octets_before};
+ghost use Rattle.film_frames.specs.Runs.{FramedRun, frames_before, octets_before};
 ghost use Rattle.film_run.specs.declared.runs.Run.{Run};
 ghost use Rattle.session.specs.declared.asks.Ask.{Ask};
 ghost use Rattle.session.specs.declared.plans.Planned.{Planned};
@@ -48,7 +48,7 @@ pub fn law_play_goes_on()
 /// modulo 2^16, and the packets and octets that reports count modulo 2^32 (RFC 3550 sections 5.1
 /// and 6.4.1). So does a new run from what was sent of a paused one that it takes the place of.
 pub fn law_numbers_go_on()
-    ensures run { (source : Source) (setup : Setup) (counts : Counts) (sending : Sending)
+    ensures run { (source : Source) (setup : Setup) (counts : Counts) (sending : FramedRun)
         (bytes : ℕ) → GoesOn (identity_of source setup counts)
         (identity_of source setup (counts_after counts sending bytes))
         (frames_before sending bytes) (octets_before sending bytes) }

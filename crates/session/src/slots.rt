@@ -243,7 +243,7 @@ fn done_bytes(state: &State<'_>) -> Option<u64>
     ensures halt { IfSome result (IsHaltIn state.now) }
 {
     match state {
-        State::Playing(_, play) if play.pacer.is_done() => Some(play.pacer.sent()),
+        State::Playing(_, play) if play.pacer.is_done() => Some(play.pacer.bytes_sent()),
         _ => None,
     }
 }

@@ -8,7 +8,7 @@ use Rattle.rtp_pack.specs.Packets.{unit_packets}
 use Rattle.rtp_pack.specs.Reports.{report_bytes, unit_report}
 use Rattle.film_frames.specs.Laws.{frames_among}
 use Rattle.film_frames.specs.Pieces.{count_of, octets_of, unit_of, unit_pieces}
-use Rattle.film_frames.specs.Runs.{Run, blocks_from, interleaved_block, payload, piece_bytes}
+use Rattle.film_frames.specs.Runs.{FramedRun, blocks_from, interleaved_block, payload, piece_bytes}
 use Rattle.rtsp_client.specs.Answers.{block_moments, moments_of}
 use Rattle.rtsp_client.specs.Moments.{Frame, Report, is_last}
 use Rattle.transcript.proofs.Sums.{AreOneBlocks, blocks-one-append}
@@ -29,7 +29,7 @@ abbrev pub octets_after : ℕ → List Part → ℕ
 octets_after o [] = o
 octets_after o (x ∷ xs) = octets_after (o + octets_of x) xs
 
-pub blocks-append : (run : Run) (f o : ℕ) (xs ys : List Part)
+pub blocks-append : (run : FramedRun) (f o : ℕ) (xs ys : List Part)
     → blocks_from run f o (xs ++ ys) ≡ blocks_from run f o xs ++ blocks_from run (frames_after f xs) (octets_after o xs) ys
 blocks-append run f o [] ys = refl
 blocks-append run f o (x ∷ xs) ys =
@@ -37,33 +37,33 @@ blocks-append run f o (x ∷ xs) ys =
 
 -- ---- a unit
 
-abbrev pub frame_block : Run → PictureUnit → Packet → ℕ → List ℕ
+abbrev pub frame_block : FramedRun → PictureUnit → Packet → ℕ → List ℕ
 frame_block run unit p f =
     interleaved_block run.identity.channel
     (head_bytes (packet_head run.identity (picture_time run.rate) unit p f) ++ payload run.film p)
 
-abbrev pub report_block : Run → PictureUnit → ℕ → ℕ → List ℕ
+abbrev pub report_block : FramedRun → PictureUnit → ℕ → ℕ → List ℕ
 report_block run unit f o =
     interleaved_block run.identity.control (report_bytes (unit_report run.identity (picture_time run.rate) unit f o))
 
-abbrev pub frame_blocks : Run → PictureUnit → ℕ → List Packet → List (List ℕ)
+abbrev pub frame_blocks : FramedRun → PictureUnit → ℕ → List Packet → List (List ℕ)
 frame_blocks run unit f [] = []
 frame_blocks run unit f (p ∷ packets) = frame_block run unit p f ∷ frame_blocks run unit (f + 1) packets
 
-abbrev pub report_if : Bool → Run → PictureUnit → ℕ → ℕ → List (List ℕ)
+abbrev pub report_if : Bool → FramedRun → PictureUnit → ℕ → ℕ → List (List ℕ)
 report_if starts run unit f o = cond starts (report_block run unit f o ∷ []) []
 
-abbrev pub unit_blocks : Run → List ℕ → PictureUnit → ℕ → ℕ → List (List ℕ)
+abbrev pub unit_blocks : FramedRun → List ℕ → PictureUnit → ℕ → ℕ → List (List ℕ)
 unit_blocks run starts unit f o = report_if unit.starts_group run unit f o ++ frame_blocks run unit f (unit_packets starts unit)
 
 -- frames are made of packets
-pub record IsMaker (run : Run) (unit : PictureUnit) (make : Packet → Part) : Type 0 where
+pub record IsMaker (run : FramedRun) (unit : PictureUnit) (make : Packet → Part) : Type 0 where
   pub bytes : (p : Packet) (f o : ℕ) → piece_bytes run f o (make p) ≡ frame_block run unit p f
   pub count : (p : Packet) → count_of (make p) ≡ 1
   pub among : (p : Packet) (ps : List Part) (b : List ℕ) (bs : List (List ℕ))
       → frames_among (make p ∷ ps) (b ∷ bs) ≡ b ∷ frames_among ps bs
 
-frames-made : {run : Run} {unit : PictureUnit} {make : Packet → Part} (f o : ℕ) (packets : List Packet) → IsMaker run unit make
+frames-made : {run : FramedRun} {unit : PictureUnit} {make : Packet → Part} (f o : ℕ) (packets : List Packet) → IsMaker run unit make
     → blocks_from run f o (map make packets) ≡ frame_blocks run unit f packets
 frames-made f o [] is = refl
 frames-made {run} {unit} {make} f o (p ∷ packets) is =
@@ -75,12 +75,12 @@ plain : (f : ℕ) → f + 0 ≡ f
 plain f = omega arith
 
 -- a part of a film's pieces that is the report before a unit's frames, and no packet
-record ReportPart (run : Run) (unit : PictureUnit) (f o : ℕ) : Type 0 where
+record ReportPart (run : FramedRun) (unit : PictureUnit) (f o : ℕ) : Type 0 where
   report : Part
   bytes : piece_bytes run f o report ≡ report_block run unit f o
   count : count_of report ≡ 0
 
-with-report : {run : Run} {unit : PictureUnit} {make : Packet → Part} {f o : ℕ} (starts : Bool)
+with-report : {run : FramedRun} {unit : PictureUnit} {make : Packet → Part} {f o : ℕ} (starts : Bool)
     (part : ReportPart run unit f o) (packets : List Packet) → IsMaker run unit make →
     blocks_from run f o (cond starts (part.report ∷ []) [] ++ map make packets)
     ≡ report_if starts run unit f o ++ frame_blocks run unit f packets
@@ -93,7 +93,7 @@ with-report {run} {unit} {make} {f} {o} true part packets is =
   where
     open part use {report, bytes, count}
 
-pub unit-made : (run : Run) (f o : ℕ) (starts : List ℕ) (unit : PictureUnit)
+pub unit-made : (run : FramedRun) (f o : ℕ) (starts : List ℕ) (unit : PictureUnit)
     → blocks_from run f o (unit_pieces starts unit) ≡ unit_blocks run starts unit f o
 unit-made run f o starts unit =
     with-report {run = run} {unit = unit} {make = _} unit.starts_group (record { report = _; bytes = refl; count = refl })
@@ -101,7 +101,7 @@ unit-made run f o starts unit =
 
 -- ---- the frames among them
 
-frames-among-made : {run : Run} {unit : PictureUnit} {make : Packet → Part} (f : ℕ) (packets : List Packet)
+frames-among-made : {run : FramedRun} {unit : PictureUnit} {make : Packet → Part} (f : ℕ) (packets : List Packet)
     (ps : List Part) (bs : List (List ℕ))
     → IsMaker run unit make
     → frames_among (map make packets ++ ps) (frame_blocks run unit f packets ++ bs)
@@ -127,7 +127,7 @@ pub record AfterUnit : Type 0 where
   pub parts : List Part
   pub blocks : List (List ℕ)
 
-among-report : {run : Run} {unit : PictureUnit} {make : Packet → Part} (starts : Bool) (uncounted : UncountedReport)
+among-report : {run : FramedRun} {unit : PictureUnit} {make : Packet → Part} (starts : Bool) (uncounted : UncountedReport)
     (from : PacketsFrom) (rest : AfterUnit) → IsMaker run unit make →
     frames_among ((cond starts (uncounted.report ∷ []) [] ++ map make from.packets) ++ rest.parts)
     ((report_if starts run unit from.frames from.octets ++ frame_blocks run unit from.frames from.packets) ++ rest.blocks)
@@ -139,7 +139,7 @@ among-report {run} {unit} {make} true uncounted from rest is =
   where
     open from use {frames as f, octets as o, packets}
 
-pub unit-among : (run : Run) (f o : ℕ) (starts : List ℕ) (unit : PictureUnit) (rest : AfterUnit) →
+pub unit-among : (run : FramedRun) (f o : ℕ) (starts : List ℕ) (unit : PictureUnit) (rest : AfterUnit) →
     frames_among (unit_pieces starts unit ++ rest.parts) (unit_blocks run starts unit f o ++ rest.blocks)
     ≡ frame_blocks run unit f
     (unit_packets starts unit) ++ frames_among rest.parts rest.blocks
@@ -154,18 +154,18 @@ bit-read : (m : Bool) → nat_le 128 (bit m * 128 + 32) ≡ m
 bit-read true = refl
 bit-read false = refl
 
-pub last-is : (run : Run) (f : ℕ) (unit : PictureUnit) (p : Packet) → is_last (frame_block run unit p f) ≡ p.marker
+pub last-is : (run : FramedRun) (f : ℕ) (unit : PictureUnit) (p : Packet) → is_last (frame_block run unit p f) ≡ p.marker
 last-is run f unit p = bit-read p.marker
 
-pub frame-moment : (run : Run) (f : ℕ) (unit : PictureUnit) (p : Packet) → run.identity.channel ≡ 0
+pub frame-moment : (run : FramedRun) (f : ℕ) (unit : PictureUnit) (p : Packet) → run.identity.channel ≡ 0
     → moments_of (frame_block run unit p f) ≡ Frame (frame_block run unit p f) ∷ []
 frame-moment run f unit p media = ap (λ c. block_moments c (frame_block run unit p f)) media
 
-pub report-moment : (run : Run) (f o : ℕ) (unit : PictureUnit) → run.identity.control ≡ 1
+pub report-moment : (run : FramedRun) (f o : ℕ) (unit : PictureUnit) → run.identity.control ≡ 1
     → moments_of (report_block run unit f o) ≡ Report (report_block run unit f o) ∷ []
 report-moment run f o unit control = ap (λ c. block_moments c (report_block run unit f o)) control
 
-pub frames-one : (run : Run) (f : ℕ) (unit : PictureUnit) (packets : List Packet) → run.identity.channel ≡ 0
+pub frames-one : (run : FramedRun) (f : ℕ) (unit : PictureUnit) (packets : List Packet) → run.identity.channel ≡ 0
     → AreOneBlocks (frame_blocks run unit f packets)
 frames-one run f unit [] media = tt
 frames-one run f unit (p ∷ packets) media =
@@ -174,7 +174,7 @@ frames-one run f unit (p ∷ packets) media =
       frames-one run (f + 1) unit packets media,
     )
 
-reports-one : (starts : Bool) (run : Run) (f o : ℕ) (unit : PictureUnit) → run.identity.control ≡ 1
+reports-one : (starts : Bool) (run : FramedRun) (f o : ℕ) (unit : PictureUnit) → run.identity.control ≡ 1
     → AreOneBlocks (report_if starts run unit f o)
 reports-one true run f o unit control =
     let c : run.identity.control < 2 = omega (arith, control) in
@@ -183,7 +183,7 @@ reports-one false run f o unit control = tt
 
 -- a run on channels 0 and 1, with the frames and octets that it sent before
 pub record RunFrom : Type 0 where
-  pub run : Run
+  pub run : FramedRun
   pub frames : ℕ
   pub octets : ℕ
   pub media : run.identity.channel ≡ 0

@@ -14,7 +14,7 @@ use Rattle.mpeg_scan.proofs.FirstLemmas.{film-begins, film-some}
 use Rattle.rtp_pack.specs.declared.reports.Identity.{Identity}
 use Rattle.film_frames.specs.Laws.{frames_among, payloads as joined}
 use Rattle.film_frames.specs.Pieces.{pieces_of, wire_size}
-use Rattle.film_frames.specs.Runs.{Run, blocks_from, count_ended, run_of, run_pieces}
+use Rattle.film_frames.specs.Runs.{FramedRun, blocks_from, count_ended, run_of, run_pieces}
 use Rattle.film_frames.specs.Tracks.{framed_bytes}
 use Rattle.film_frames.proofs.BackLemmas.{FirstAndLast, comes-back, run-sum}
 use Rattle.film_frames.proofs.FilmLemmas.{laid-film}
@@ -31,7 +31,7 @@ use Rattle.transcript.proofs.Reading.{IsReadingOf, Stream, begun_sum, film_place
 use Rattle.transcript.proofs.Sums.{Sum, blocks-one-take, blocks-received, blocks-same, steps, steps-payloads, sum_of}
 use Rattle.transcript.proofs.Units.{HasCome, units-come, units-told}
 
-abbrev pub film_run : Film → Identity → Run
+abbrev pub film_run : Film → Identity → FramedRun
 film_run film identity = run_of film 0 (length film.units.items) identity
 
 abbrev pub film_sizes : Film → List ℕ

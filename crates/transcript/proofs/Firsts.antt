@@ -13,7 +13,7 @@ use Rattle.rtp_pack.specs.Heads.{head_of}
 use Rattle.rtp_pack.specs.Packets.{DoCover, unit_packets}
 use Rattle.rtp_pack.proofs.UnitLemmas.{packets-cover}
 use Rattle.film_frames.specs.Pieces.{pieces_of, unit_pieces}
-use Rattle.film_frames.specs.Runs.{Run, blocks_from, payload}
+use Rattle.film_frames.specs.Runs.{FramedRun, blocks_from, payload}
 use Rattle.rtsp_client.specs.Answers.{GoOn, GoesOn, after, moments_in}
 use Rattle.rtsp_client.specs.Films.{begins_film, is_complete, is_first_good, is_next_good, time_in, units_until}
 use Rattle.rtsp_client.specs.Moments.{History, Moment, Frame, Reply, Report, Slot, end_ms, first_frame, frames, is_playing}
@@ -98,7 +98,7 @@ lead true from (suc k) first sum some =
     open from use {run, frames as f, octets as o, control}
     open first use {unit, packet as p, rest}
 
-pub record IsLed (run : Run) (starts : List ℕ) (unit : PictureUnit) (f : ℕ) (first : List ℕ) : Type 0 where
+pub record IsLed (run : FramedRun) (starts : List ℕ) (unit : PictureUnit) (f : ℕ) (first : List ℕ) : Type 0 where
   pub packet : Packet
   pub packets : List Packet
   pub are : unit_packets starts unit ≡ packet ∷ packets
@@ -147,7 +147,7 @@ first-frame {starts} {unit} from k units s none some =
 -- ---- the time of a picture
 
 -- a first frame that begins a film tells its rate
-pub time-is : {run : Run} {starts : List ℕ} {unit : PictureUnit} {f rate : ℕ} {first : List ℕ}
+pub time-is : {run : FramedRun} {starts : List ℕ} {unit : PictureUnit} {f rate : ℕ} {first : List ℕ}
     → IsLaid starts unit → IsLed run starts unit f first
     → BeginsSequence run.film rate unit.from → begins_film (drop 20 first) ≡ true → time_in first ≡ picture_time rate
 time-is {run} {starts} {unit} {first} laid led begins good =

@@ -18,7 +18,7 @@ use Rattle.rtp_pack.proofs.UnitLemmas.{packets-are, packets-cover}
 use Rattle.film_frames.specs.Laws.{frames_among}
 use Rattle.film_frames.specs.Tracks.{framed_bytes}
 use Rattle.film_frames.specs.Pieces.{pieces_of, unit_pieces, wire_in, wire_size}
-use Rattle.film_frames.specs.Runs.{Run, blocks_from, count_ended}
+use Rattle.film_frames.specs.Runs.{FramedRun, blocks_from, count_ended}
 use Rattle.film_frames.proofs.PieceLemmas.{pieces-cons, unit-sound, unit-wire}
 use Rattle.film_frames.proofs.RunLemmas.{blocks_from-begin, blocks_from-count}
 use Rattle.film_frames.proofs.TrackLemmas.{begin-all}
@@ -51,7 +51,7 @@ report-sizes b bs s P is met = let Q : List Moment → Type 0 = λ l. P (steps s
 
 -- a unit of a run on channel 0, with the frames that the run sent before
 record UnitOfRun : Type 0 where
-  run : Run
+  run : FramedRun
   frames : ℕ
   unit : PictureUnit
   media : run.identity.channel ≡ 0
@@ -232,7 +232,7 @@ unit-marked : (starts : List ℕ) (unit : PictureUnit) → IsLaid starts unit �
 unit-marked starts unit laid =
     last-marked starts unit (unit_packets starts unit) (packets-are starts unit laid) (packets-cover starts unit laid)
 
-unit-size : {starts : List ℕ} {unit : PictureUnit} (run : Run) (f o : ℕ) → IsLaid starts unit → unit.to ≤ length run.film
+unit-size : {starts : List ℕ} {unit : PictureUnit} (run : FramedRun) (f o : ℕ) → IsLaid starts unit → unit.to ≤ length run.film
     → length (framed_bytes (unit_blocks run starts unit f o)) ≡ wire_size starts unit
 unit-size {starts} {unit} run f o laid short =
     let pieces = unit_pieces starts unit in
@@ -246,7 +246,7 @@ one-more : (n : ℕ) → suc n + 1 ≡ suc (n + 1)
 one-more n = omega arith
 
 -- the blocks of one unit more
-pub more-blocks : (run : Run) (f o : ℕ) (starts : List ℕ) (unit : PictureUnit) (units : List PictureUnit)
+pub more-blocks : (run : FramedRun) (f o : ℕ) (starts : List ℕ) (unit : PictureUnit) (units : List PictureUnit)
     → blocks_from run f o (pieces_of starts (unit ∷ units))
     ≡ unit_blocks run starts unit f o
     ++ blocks_from run (frames_after f (unit_pieces starts unit)) (octets_after o (unit_pieces starts unit))
@@ -349,7 +349,7 @@ frames-parts (Frame x ∷ a) b = ap (λ l. x ∷ l) (frames-parts a b)
 frames-parts (Report x ∷ a) b = frames-parts a b
 frames-parts (Slot t cut ∷ a) b = frames-parts a b
 
-frames-told : (run : Run) (f : ℕ) (unit : PictureUnit) (packets : List Packet) → run.identity.channel ≡ 0
+frames-told : (run : FramedRun) (f : ℕ) (unit : PictureUnit) (packets : List Packet) → run.identity.channel ≡ 0
     → frames_of (moments_in (frame_blocks run unit f packets)) ≡ frame_blocks run unit f packets
 frames-told run f unit [] media = refl
 frames-told run f unit (p ∷ packets) media =

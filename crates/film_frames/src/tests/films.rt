@@ -3,7 +3,7 @@
 //! slice. Expected bytes are worked out by hand from RFC 2326 section 10.12, RFC 3550 and RFC 2250.
 
 use crate::{
-    Frames, Stored, Track, law_counts_on, law_ended, law_film_comes_back, law_piece_sizes,
+    Frames, Stored, Track, law_counts_on, law_film_comes_back, law_piece_sizes, law_pieces_ended,
     law_reports_count, law_wire_sizes,
 };
 use mpeg_scan::scan;
@@ -207,7 +207,7 @@ fn run_of<'a>(
     law_counts_on(&stored.film, first_unit, end_unit, identity);
     law_reports_count(&stored.film, first_unit, end_unit, identity);
     law_piece_sizes(&stored.film, first_unit, end_unit, identity);
-    law_ended(&stored.film, first_unit, end_unit, identity, 52);
+    law_pieces_ended(&stored.film, first_unit, end_unit, identity, 52);
     Ok(Frames::new(stored, first_unit, end_unit, identity))
 }
 

@@ -29,7 +29,7 @@ returns c =
         pieces_are = ap (λ (p : Pacing). p.pieces) is ∙ c.as_sending.ensures.pieces;
         before_is = ap (λ (p : Pacing). p.before) is;
         whole = ap (λ (p : Pacing). p.keep) is ∙ ap total_bytes c.requires.paced;
-        pacing = c.sent-sent.ensures.pacing;
+        pacing = c.bytes_sent-sent.ensures.pacing;
         all_sent = ap (λ (p : Pacing). p.sent) is ∙ sym (ap (λ (p : Pacing). p.due) is);
       };
       undone = ap is_done is;

@@ -2,7 +2,7 @@ use Rattle.std.proofs.Common.{◌-◌, ℕ, List, length, sum, take, drop, sym, 
 use Rattle.std.proofs.lemmas.List.{drop-map, take-map}
 use Rattle.mpeg_scan.specs.declared.units.Unit.{Unit as PictureUnit}
 use Rattle.film_frames.specs.Pieces.{wire_size}
-use Rattle.film_frames.specs.Runs.{Run as Sending, run_pieces}
+use Rattle.film_frames.specs.Runs.{FramedRun, run_pieces}
 use Rattle.film_frames.specs.Tracks.{framed_bytes}
 use Rattle.session.proofs.films.frames_of.Goals as goal
 
@@ -12,7 +12,7 @@ returns-clause-bytes c =
     let first = c.args.run.now.first_unit in
     let count = c.args.run.now.end_unit - first in
     let wire : PictureUnit → ℕ = λ u. wire_size film.slice_starts.items u in
-    ap (λ (s : Sending). length (framed_bytes (run_pieces s))) c.new.ensures
+    ap (λ (s : FramedRun). length (framed_bytes (run_pieces s))) c.new.ensures
     ∙ c.law_piece_sizes.ensures.all
     ∙ sym (ap (λ (l : List ℕ). sum (take count l)) (drop-map wire first film.units.items)
     ∙ ap sum (take-map wire count (drop first film.units.items)))

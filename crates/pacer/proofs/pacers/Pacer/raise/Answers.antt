@@ -12,12 +12,12 @@ invariant_of-self g c =
     let pieces = g.T.Track.pieces old.track in
     let number : ℕ = c.args.slot - old.start + 1 in
     let both = due-of-both old.cursor (slots_through old.last) number old.keep old.due is.due in
-    let due : c.max-self-inside.result ≡ min (first_slots old.cursor (slots_through c.later-self-inside.result)) old.keep =
+    let due : c.max-self-inside.result ≡ min (first_slots old.cursor (slots_through c.later_of-self-inside.result)) old.keep =
     c.max-self-inside.ensures
     ∙ ap (λ n. max old.due n) (c.min-reached.ensures ∙ ap (λ n. min n old.keep) c.sum_at.ensures.value)
-    ∙ both ∙ ap (λ n. min (first_slots old.cursor n) old.keep) (sym c.later-self-inside.ensures) in
+    ∙ both ∙ ap (λ n. min (first_slots old.cursor n) old.keep) (sym c.later_of-self-inside.ensures) in
     let P : List Segment → Type 0 = λ plan.
-    IsPacing (pacing_of pieces old.before plan old.start old.keep (slots_through c.later-self-inside.result)
+    IsPacing (pacing_of pieces old.before plan old.start old.keep (slots_through c.later_of-self-inside.result)
     c.max-self-inside.result old.sent)
     × (old.total ≡ length (framed_bytes pieces)) in
     subst P (sym c.sum_at.ensures.plan) (

@@ -1,5 +1,5 @@
 use Rattle.std.proofs.Common.{ap, ◌∙◌, sym, subst, rules}
-use Rattle.rtp_pack.specs.Sizes.{IsMeasure, Measure, measure_from_head, with_slice}
+use Rattle.rtp_pack.specs.Sizes.{IsMeasure, Measure, measure_from_headers, with_slice}
 use Rattle.rtp_pack.proofs.SizeLemmas.{keeps-measure, slices-append}
 use Rattle.rtp_pack.proofs.sizes.UnitSize.slice.Goals as goal
 
@@ -15,4 +15,4 @@ invariant_of-self c =
 pub returns-clause-measured : goal.returns-clause-measured
 returns-clause-measured c = λ head slices is.
     returns-clause-slice c ∙ ap (λ (m : Measure). with_slice m c.args.length) is
-    ∙ sym (slices-append slices (measure_from_head head) c.args.length)
+    ∙ sym (slices-append slices (measure_from_headers head) c.args.length)

@@ -1,7 +1,7 @@
 use Rattle.std.proofs.Common.{◌≡◌, ℕ, List, Ok, refl, sym, ap, subst, ◌∙◌, string_bytes, arith, inl}
 use Rattle.std.proofs.lemmas.List.{length-map}
 use Rattle.film_frames.specs.Pieces.{wire_size}
-use Rattle.film_frames.specs.Runs.{Run as Sending}
+use Rattle.film_frames.specs.Runs.{FramedRun}
 use Rattle.mpeg_scan.specs.declared.units.Unit.{Unit as PictureUnit}
 use Rattle.rtsp_text.specs.Lines.{is_one_line}
 use Rattle.rtsp_text.proofs.OneLines.{one_line-name}
@@ -98,7 +98,7 @@ returns-clause-exact c =
     let old = standing_of inside in
     let number : info.sequence ≡ first_number old stored setup planned =
     c.info_of-info.ensures.number
-    ∙ ap (λ (s : Sending). (identity_of inside.source setup (counts_after planned.counts s planned.run.sent)).sequence)
+    ∙ ap (λ (s : FramedRun). (identity_of inside.source setup (counts_after planned.counts s planned.run.sent)).sequence)
     c.frames_of-frames.ensures.frames in
     let text : c.put_play.new.reply ≡ play_front old stored setup planned sequence authority =
     c.put_play.ensures.text
@@ -110,7 +110,7 @@ returns-clause-exact c =
       number,
       c.info_of-info.ensures.time,
     ) refl in
-    let new : Sending → List Segment → List Segment → List ℕ → List Receipt → List PlayNote → List OfferNote → Standing =
+    let new : FramedRun → List Segment → List Segment → List ℕ → List Receipt → List PlayNote → List OfferNote → Standing =
     λ frames own paced reply receipts plays offers. record old {
       awaited = Play (record {
         run = planned.run;
@@ -139,7 +139,7 @@ returns-clause-exact c =
       at = c.stored_at-stored.ensures.film;
       command = refl;
       state =
-          ap (λ (f : Sending). new f own paced c.put_play.new.reply log.receipts log.plays log.offers)
+          ap (λ (f : FramedRun). new f own paced c.put_play.new.reply log.receipts log.plays log.offers)
           c.frames_of-frames.ensures.frames
           ∙ ap (λ (l : List Segment). new sending l paced c.put_play.new.reply log.receipts log.plays
           log.offers) c.in-Ok.ensures.own
