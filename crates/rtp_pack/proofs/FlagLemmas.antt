@@ -184,7 +184,7 @@ slice-rest {unit} {all} {f} {rest} false count right full is =
 
 -- ---- where a slice begins
 
--- a portion that goes on with a slice begins with it, or with a slice before it, or with the head
+-- a portion that goes on with a slice begins with it, or with a slice before it, or with the headers
 record BeginsBy (unit : PictureUnit) (all : List ℕ) (from at : ℕ) (holds : Holds) : Type 0 where
   after : unit.head_end ≤ at
   begin : begins unit all from at ≡ begins_slice holds

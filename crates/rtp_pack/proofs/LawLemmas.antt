@@ -96,8 +96,8 @@ cuts-from (n ∷ slices) f cuts order (inr x) =
           (from-more f.at (f.at + n) fills.rest (omega arith) rest)),
     )
 
-pub head-uncut : (from headers_end : ℕ) (cuts : List ℕ) → AreFrom headers_end cuts → IsUncut from headers_end cuts
-head-uncut from headers_end cuts after = uncut-from from headers_end cuts after
+pub headers-uncut : (from headers_end : ℕ) (cuts : List ℕ) → AreFrom headers_end cuts → IsUncut from headers_end cuts
+headers-uncut from headers_end cuts after = uncut-from from headers_end cuts after
 
 -- a cut before the slices cuts none of them
 short-more : (slices : List ℕ) (at cut : ℕ) (cuts : List ℕ) → cut ≤ at → AreShortUncut at slices cuts

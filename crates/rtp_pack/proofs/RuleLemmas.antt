@@ -15,7 +15,7 @@ use Rattle.rtp_pack.specs.Laws.{ArePortions, AreShortUncut, DoLongEndPortions, I
 use Rattle.rtp_pack.specs.Packets.{is_among, packets_from}
 use Rattle.rtp_pack.specs.Rules.{HaveBytes, IsCutPlace, MayAllEnd, MayEnd, MeetsRules, SliceAt}
 use Rattle.rtp_pack.proofs.CutLemmas.{AreSome, ends, packets-cut}
-use Rattle.rtp_pack.proofs.LawLemmas.{among-full, cuts-from, head-uncut, long-ends, portions-cover}
+use Rattle.rtp_pack.proofs.LawLemmas.{among-full, cuts-from, headers-uncut, long-ends, portions-cover}
 use Rattle.rtp_pack.proofs.LawLemmas.{short-uncut}
 
 -- ---- one list
@@ -313,15 +313,15 @@ may-map May Other start [] cs may = tt
 may-map May Other start (cut ∷ []) cs may = tt
 may-map May Other start (cut ∷ (next ∷ cuts)) cs may = (cs start cut may.0, may-map May Other cut (next ∷ cuts) cs may.1)
 
--- in the first portion a long slice goes in where the head leaves room
-head-goes : (from headers_end n : ℕ) → 1380 < n → goes_in (first_portion from headers_end) n ≡ false → from + 1380 ≤ headers_end
-head-goes from headers_end n long goes =
+-- in the first portion a long slice goes in where the headers leave room
+headers-go : (from headers_end n : ℕ) → 1380 < n → goes_in (first_portion from headers_end) n ≡ false → from + 1380 ≤ headers_end
+headers-go from headers_end n long goes =
     ltb-false headers_end (from + 1380)
     (sym (ap (λ b. cond b (goes_in_whole from headers_end HeadersAlone n) (goes_in_cut from headers_end HeadersAlone))
     (leb-not n long)) ∙ goes)
 
-goes-head : (from headers_end n : ℕ) → 1380 < n → from + 1380 ≤ headers_end → goes_in (first_portion from headers_end) n ≡ false
-goes-head from headers_end n long full =
+goes-headers : (from headers_end n : ℕ) → 1380 < n → from + 1380 ≤ headers_end → goes_in (first_portion from headers_end) n ≡ false
+goes-headers from headers_end n long full =
     ap (λ b. cond b (goes_in_whole from headers_end HeadersAlone n) (goes_in_cut from headers_end HeadersAlone))
     (leb-not n long) ∙ le-ltb headers_end (from + 1380) full
 
@@ -330,7 +330,7 @@ first-reads : (from headers_end : ℕ) (slices : List ℕ)
 first-reads from headers_end slices = record {
   begins = λ place length is. is;
   long = λ place length is long goes. inl
-      (record { length = length; slice = is; long = long; apart = λ here. head-goes from headers_end length long (goes here) });
+      (record { length = length; slice = is; long = long; apart = λ here. headers-go from headers_end length long (goes here) });
   long_end = λ start length is long. inr (record { start = start; length = length; slice = is; long = long; place_is = refl });
   last = λ is. cc;
 }
@@ -339,11 +339,11 @@ long-cut : {from headers_end : ℕ} {slices : List ℕ} (cuts : List ℕ) → Is
     → (place : ℕ) → IsCutPlace from headers_end slices place → is_among place cuts ≡ true
 long-cut {from} {headers_end} {slices} cuts cutting place (inl b) =
     begin-cut slices (first_portion from headers_end) cuts cutting place b.length b.slice b.long
-    (λ here. goes-head from headers_end b.length b.long (b.apart here))
+    (λ here. goes-headers from headers_end b.length b.long (b.apart here))
 long-cut {from} {headers_end} {slices} cuts cutting place (inr e) =
     ap (λ p. is_among p cuts) e.place_is ∙ end-cut slices (first_portion from headers_end) cuts cutting e.start e.length e.slice e.long
 
--- a unit's head of 1 to 1,380 bytes, and its slices
+-- a unit's headers of 1 to 1,380 bytes, and its slices
 pub record HeadersAndSlices (from headers_end : ℕ) (slices : List ℕ) : Type 0 where
   pub some : from < headers_end
   pub short : headers_end ≤ from + 1380
@@ -355,7 +355,7 @@ cutting-meets {from} {headers_end} {slices} cuts unit cutting =
     let f = first_portion from headers_end in
     let order : from ≤ headers_end = omega (arith, unit.some) in record {
       portions = portions-cover slices f cuts (unit.some, unit.short) cutting;
-      head = head-uncut from headers_end cuts (cuts-from slices f cuts order cutting);
+      headers = headers-uncut from headers_end cuts (cuts-from slices f cuts order cutting);
       short = short-at slices headers_end cuts (short-uncut slices f cuts order cutting);
       long = long-cut cuts cutting;
       ends = may-map (MayBy (IsCutPlace from headers_end slices) (SliceAt headers_end slices))

@@ -136,8 +136,8 @@ pub keeps-slices : (slices : List ℕ) (m : Measure) → IsKept m → AreLong sl
 keeps-slices [] m kept long = kept
 keeps-slices (n ∷ slices) m kept long = keeps-slices slices (with_slice m n) (keeps-slice m n kept long.0) long.1
 
-pub begun-kept : (head : ℕ) → 0 < head → IsKept (measure_from_headers head)
-begun-kept head some = record { some = some; portions = omega arith; whole = omega arith; ended = omega arith; last = λ e. cc }
+pub begun-kept : (headers : ℕ) → 0 < headers → IsKept (measure_from_headers headers)
+begun-kept headers some = record { some = some; portions = omega arith; whole = omega arith; ended = omega arith; last = λ e. cc }
 
 pub slices-append : (slices : List ℕ) (m : Measure) (n : ℕ)
     → with_slices m (slices ++ n ∷ []) ≡ with_slice (with_slices m slices) n
@@ -263,9 +263,9 @@ size-from {base} {g} (n ∷ slices) m cuts is order (inr x) =
     omega (arith, rest, first, is.from, is.at, order)
 
 -- the frames of a unit
-pub size-unit : (head : ℕ) (slices : List ℕ) (from : ℕ) (cuts : List ℕ)
-    → IsCutting from (from + head) slices cuts → frames_of (measure_of head slices) ≡ cuts_size from cuts
-size-unit head slices from cuts cutting =
-    let all = size-from slices (measure_from_headers head) cuts
+pub size-unit : (headers : ℕ) (slices : List ℕ) (from : ℕ) (cuts : List ℕ)
+    → IsCutting from (from + headers) slices cuts → frames_of (measure_of headers slices) ≡ cuts_size from cuts
+size-unit headers slices from cuts cutting =
+    let all = size-from slices (measure_from_headers headers) cuts
     (record { from = omega arith; at = refl; holds = refl }) (omega arith) cutting in
     omega (arith, all)

@@ -79,9 +79,9 @@ pub packets-size : (starts : List ℕ) (unit : PictureUnit) → IsLaid starts un
     → frames_size (unit_packets starts unit) ≡ frames_of (measure_of (unit.head_end - unit.from) (unit_lengths starts unit))
 packets-size starts unit laid =
     let are = packets-are starts unit laid in
-    let head : unit.from + (unit.head_end - unit.from) ≡ unit.head_end = omega (arith, laid.head) in
+    let end : unit.from + (unit.head_end - unit.from) ≡ unit.head_end = omega (arith, laid.head) in
     let cutting : IsCutting unit.from (unit.from + (unit.head_end - unit.from)) (unit_lengths starts unit)
-    are.cuts = rw head are.cutting in
+    are.cuts = rw end are.cutting in
     ap frames_size are.portions ∙ frames-portions unit (unit_starts starts unit) are.cuts unit.from
     ∙ sym (size-unit (unit.head_end - unit.from) (unit_lengths starts unit) unit.from are.cuts cutting)
 
@@ -89,10 +89,10 @@ pub packets-bound : (starts : List ℕ) (unit : PictureUnit) → IsLaid starts u
     → frames_size (unit_packets starts unit) + 52 ≤ 2 * (unit.to - unit.from) + 112
 packets-bound starts unit laid =
     let slices = unit_lengths starts unit in
-    let head = unit.head_end - unit.from in
-    let kept = keeps-slices slices (measure_from_headers head) (begun-kept head (omega (arith, laid.head)))
+    let headers = unit.head_end - unit.from in
+    let kept = keeps-slices slices (measure_from_headers headers) (begun-kept headers (omega (arith, laid.head)))
     (lengths-long (unit_starts starts unit) unit.head_end unit.to laid.in_order) in
-    let bytes = lengths-bytes (unit_starts starts unit) unit.head_end unit.to (measure_from_headers head) laid.in_order in
+    let bytes = lengths-bytes (unit_starts starts unit) unit.head_end unit.to (measure_from_headers headers) laid.in_order in
     omega (arith, packets-size starts unit laid, kept.whole, bytes, laid.head)
 
 pub packed : (starts : List ℕ) (unit : PictureUnit) (packets : List Packet) → IsLaid starts unit

@@ -2,31 +2,31 @@
 -- bytes. RFC 2250 section 3.1 wants that headers begin a packet and that a slice begins one too, or
 -- follows headers or whole slices. Of the ways that it leaves this is one.
 --
--- The first portion begins with the whole head.
+-- The first portion begins with all headers.
 --
 -- A slice of at most 1,380 bytes is never cut: it goes into the portion that is being filled where
 -- all of it fits, and else begins the next.
 --
--- A longer slice begins in the portion that has nothing but the head, where that leaves room, and
+-- A longer slice begins in the portion that has nothing but the headers, where they leave room, and
 -- else begins the next; it fills each portion to 1,380 bytes, and no slice goes after its last
 -- fragment.
 --
--- A portion ends only where this says so, or with the unit. A unit's cut points are the places where
--- its portions end, the last of them the unit's end.
+-- A portion ends only where this says so, or with the unit. A unit's cut points are the places
+-- where its portions end, the last of them the unit's end.
 use Rattle.std.specs.Prelude.{ℕ, zero, suc, ◌+◌, ◌-◌, ◌*◌, ◌/◌, ◌<◌, ◌≤◌, ◌≡◌, ◌⊎◌, Bool, true}
 use Rattle.std.specs.Prelude.{false, nat_le, nat_lt, if◌then◌else◌, List, [], ◌∷◌, ◌++◌}
 use Rattle.rtp_pack.specs.declared.filling.Filling.{Filling}
 use Rattle.rtp_pack.specs.declared.filling.Holds.{Holds}
 use Rattle.rtp_pack.specs.declared.filling.Holds.TheVariants.{HeadersAlone, Slices, LastFragment}
 
--- a slice of at most 1,380 bytes goes into the portion that has the bytes `from` to `at` where all of
--- it fits, and never after a longer slice's last fragment
+-- a slice of at most 1,380 bytes goes into the portion that has the bytes `from` to `at` where all
+-- of it fits, and never after a longer slice's last fragment
 abbrev pub goes_in_whole : ℕ → ℕ → Holds → ℕ → Bool
 goes_in_whole from at HeadersAlone length = nat_le (at + length) (from + 1380)
 goes_in_whole from at Slices length = nat_le (at + length) (from + 1380)
 goes_in_whole from at LastFragment length = false
 
--- a longer slice begins in the portion where nothing but the head stands in it and leaves room
+-- a longer slice begins in the portion where nothing but the headers stand in it and leave room
 abbrev pub goes_in_cut : ℕ → ℕ → Holds → Bool
 goes_in_cut from at HeadersAlone = nat_lt at (from + 1380)
 goes_in_cut from at Slices = false
@@ -78,11 +78,11 @@ Cuts f (length ∷ slices) cuts =
     Fills (λ last rest. Cuts (filling_after f length last) slices rest) start end left)
     (goes_in f length) f.from f.at cuts
 
--- the first portion of a unit begins with its whole head
+-- the first portion of a unit begins with all its headers
 abbrev pub first_portion : ℕ → ℕ → Filling
 first_portion from headers_end = record { from = from; at = headers_end; holds = HeadersAlone }
 
--- the cut points of a unit at place `from` with a head to `headers_end` and slices of these lengths
+-- the cut points of a unit at place `from` with headers to `headers_end` and slices of these lengths
 abbrev pub IsCutting : ℕ → ℕ → List ℕ → List ℕ → Type 0
 IsCutting from headers_end slices cuts = Cuts (first_portion from headers_end) slices cuts
 
@@ -94,7 +94,7 @@ full_before start end = (end - start - 1) / 1380
 abbrev pub start_of : Bool → Filling → ℕ
 start_of goes f = if goes then f.from else f.at
 
--- where the portion begins in which a slice ends, if the portion in which it begins is from `start` on
+-- where the portion begins in which a slice ends, if the one in which it begins is from `start` on
 abbrev pub last_start : ℕ → ℕ → ℕ
 last_start start end = start + 1380 * full_before start end
 

@@ -34,8 +34,8 @@ packet unit from to begin end = record {
   sequence_header = unit.has_sequence && (from == unit.from);
 }
 
--- so many full portions of a slice; the first of them begins with its code, or with the head and its
--- code
+-- so many full portions of a slice; the first of them begins with its code, or with the headers and
+-- its code
 abbrev pub full_packets : PictureUnit → Bool → ℕ → ℕ → List Packet
 full_packets unit begin start zero = []
 full_packets unit begin start (suc count) =
@@ -103,7 +103,7 @@ ends_to to [] = []
 ends_to to (start ∷ starts) = next_place to starts ∷ ends_to to starts
 
 -- the packet of a portion of a unit (RFC 2250 section 3.4): B where it begins with a slice, or with
--- the head and a slice after it; E where its last byte is a slice's last byte; S where it begins
+-- the headers and a slice after them; E where its last byte is a slice's last byte; S where it begins
 -- with a sequence header; the marker where it ends with the unit
 abbrev pub portion_packet : PictureUnit → List ℕ → ℕ → ℕ → Packet
 portion_packet unit starts from to =

@@ -16,8 +16,8 @@ SliceAt at [] place length = ⊥
 SliceAt at (n ∷ slices) place length = ((at ≡ place) × (n ≡ length))
     ⊎ SliceAt (at + n) slices place length
 
--- a slice of more than 1,380 bytes begins there, and not in the portion that has nothing but the head
--- and room
+-- a slice of more than 1,380 bytes begins there, and not in the portion that has nothing but the
+-- headers and room
 pub record LongBegins (from headers_end : ℕ) (slices : List ℕ) (place : ℕ) : Type 0 where
   pub length : ℕ
   pub slice : SliceAt headers_end slices place length
@@ -59,14 +59,14 @@ MayAllEnd May start (cut ∷ (next ∷ cuts)) = May start cut × MayAllEnd May c
 
 -- the four rules
 pub record MeetsRules (from headers_end : ℕ) (slices cuts : List ℕ) : Type 0 where
-  -- portions of 1 to 1,380 bytes cover the unit, and the first has the whole head
+  -- portions of 1 to 1,380 bytes cover the unit, and the first has all headers
   pub portions : ArePortions from cuts (headers_end + sum slices)
-  pub head : IsUncut from headers_end cuts
+  pub headers : IsUncut from headers_end cuts
   -- a slice of at most 1,380 bytes is never cut
   pub short : (place length : ℕ) → SliceAt headers_end slices place length → length ≤ 1380 →
       IsUncut place (place + length) cuts
-  -- a longer slice begins and ends with a portion, but for one that begins after the head where that
-  -- leaves room
+  -- a longer slice begins and ends with a portion, but for one that begins after the headers where
+  -- they leave room
   pub long : (place : ℕ) → IsCutPlace from headers_end slices place → is_among place cuts ≡ true
   -- a portion ends only there, where it is full, or where the next slice doesn't fit
   pub ends : MayAllEnd (MayEnd from headers_end slices) from cuts

@@ -17,9 +17,9 @@ pub record Measure : Type 0 where
   -- the one that is being filled
   pub filling : Filling
 
--- a unit with a head of so many bytes
+-- a unit with headers of so many bytes
 abbrev pub measure_from_headers : ℕ → Measure
-measure_from_headers head = record { portions = 0; filling = first_portion 0 head }
+measure_from_headers headers = record { portions = 0; filling = first_portion 0 headers }
 
 -- how many portions end before or in the next slice, of `length` bytes
 abbrev pub slice_portions : Filling → ℕ → ℕ
@@ -39,15 +39,15 @@ abbrev pub with_slices : Measure → List ℕ → Measure
 with_slices m [] = m
 with_slices m (length ∷ slices) = with_slices (with_slice m length) slices
 
--- a unit with a head of so many bytes and slices of these lengths
+-- a unit with headers of so many bytes and slices of these lengths
 abbrev pub measure_of : ℕ → List ℕ → Measure
-measure_of head slices = with_slices (measure_from_headers head) slices
+measure_of headers slices = with_slices (measure_from_headers headers) slices
 
 -- the unit has one more slice, of `length` bytes, than it had
 abbrev pub HasSlice : ℕ → Measure → Measure → Type 0
 HasSlice length old new =
-    (head : ℕ) (slices : List ℕ) → old ≡ measure_of head slices →
-    new ≡ measure_of head (slices ++ length ∷ [])
+    (headers : ℕ) (slices : List ℕ) → old ≡ measure_of headers slices →
+    new ≡ measure_of headers (slices ++ length ∷ [])
 
 -- the bytes of a unit so far
 abbrev pub bytes_of : Measure → ℕ
@@ -84,8 +84,8 @@ cuts_size from (cut ∷ cuts) = 20 + (cut - from) + cuts_size cut cuts
 -- begins
 abbrev pub IsSize : Measure → ℕ → Type 0
 IsSize m size =
-    (head : ℕ) (slices : List ℕ) (from : ℕ) (cuts : List ℕ) → m ≡ measure_of head slices
-    → IsCutting from (from + head) slices cuts → size ≡ cuts_size from cuts
+    (headers : ℕ) (slices : List ℕ) (from : ℕ) (cuts : List ℕ) → m ≡ measure_of headers slices
+    → IsCutting from (from + headers) slices cuts → size ≡ cuts_size from cuts
 
 -- what is kept: each portion that ended has a byte at least; and the heads of those that ended take
 -- at most 40 bytes more than these portions, at most 20 more than the unit so far, and no more than

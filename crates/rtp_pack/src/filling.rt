@@ -5,9 +5,9 @@ ghost use Rattle.rtp_pack.specs.Cutting.{full_before, goes_in, holds_after};
 /// What stands in the portion of a unit that is being filled.
 #[derive(Clone, Copy)]
 pub(crate) enum Holds {
-    /// The unit's head alone.
+    /// The unit's headers alone.
     HeadersAlone,
-    /// Whole slices, after the head in the unit's first portion.
+    /// Whole slices, after the headers in the unit's first portion.
     Slices,
     /// The last fragment of a slice that is longer than a portion.
     LastFragment,

@@ -2,7 +2,7 @@
 ghost use Rattle.std.specs.Prelude.{◌≡◌, ◌+◌, ◌*◌, ◌%◌, ◌^◌, ◌<◌, ◌≤◌, ◌++◌, ℕ, List, sum};
 ghost use Rattle.std.specs.Prelude.{Ok};
 ghost use Rattle.mpeg_scan.specs.declared.units.Unit.{Unit as PictureUnit};
-ghost use Rattle.rtp_pack.specs.declared.heads.Head.{Head as RtpHead};
+ghost use Rattle.rtp_pack.specs.declared.heads.Head.{Head};
 ghost use Rattle.rtp_pack.specs.declared.payloads.Packet.{Packet};
 ghost use Rattle.rtp_pack.specs.declared.reports.Identity.{Identity};
 ghost use Rattle.rtp_pack.specs.declared.reports.Report.{Report};
@@ -10,56 +10,45 @@ ghost use Rattle.rtp_pack.specs.Cutting.{IsCutting};
 ghost use Rattle.rtp_pack.specs.Fields.{HasReportFields, HasRtpFields, HasVideoFields, IsTickOf};
 ghost use Rattle.rtp_pack.specs.Heads.{head_bytes, head_of, unit_timestamp, video_word};
 ghost use Rattle.rtp_pack.specs.Laws.{ArePortions, AreShortUncut, DoLongEndPortions, IsLastMarked};
-ghost use Rattle.rtp_pack.specs.Laws.{IsUncut};
+ghost use Rattle.rtp_pack.specs.Laws.{IsUncut, OfCuttings};
 ghost use Rattle.rtp_pack.specs.Reports.{report_bytes, media_time};
 ghost use Rattle.rtp_pack.specs.Rules.{HaveBytes, MeetsRules};
 ghost use Rattle.rtp_pack.specs.Packets.{ArePackets, DoCover};
 
-use crate::heads::Head;
-use crate::payloads::Packet;
-use mpeg_scan::Unit;
-
 /// The rules for cutting leave one list: two lists of cut points that meet them for one unit are
 /// equal.
-pub fn law_one_cutting(from: u64, headers_end: u64, slices: &[u64], one: &[u64], other: &[u64])
-    requires one { IsCutting from headers_end slices.now one.now }
-    requires other { IsCutting from headers_end slices.now other.now }
-    ensures { one.now ≡ other.now }
-{
-    let _read = (from, headers_end, slices.len(), one.len(), other.len());
-}
+pub fn law_one_cutting()
+    ensures { (from headers_end : ℕ) (slices one other : List ℕ) →
+        IsCutting from headers_end slices one → IsCutting from headers_end slices other →
+        one ≡ other }
+{}
 
 /// What the rules for cutting come to. The portions have 1 to 1,380 bytes and cover the unit in
-/// order. The head is never cut, nor is a slice of at most 1,380 bytes. A longer slice ends with
-/// its last portion.
-pub fn law_cutting(from: u64, headers_end: u64, slices: &[u64], cuts: &[u64])
-    requires head { from < headers_end }
-    requires short { headers_end ≤ from + 1380 }
-    requires cutting { IsCutting from headers_end slices.now cuts.now }
-    ensures portions { ArePortions from cuts.now (headers_end + sum slices.now) }
-    ensures head { IsUncut from headers_end cuts.now }
-    ensures short_slices { AreShortUncut headers_end slices.now cuts.now }
-    ensures long_slices { DoLongEndPortions headers_end slices.now cuts.now }
-{
-    let _read = (from, headers_end, slices.len(), cuts.len());
-}
+/// order. The headers are never cut, nor is a slice of at most 1,380 bytes. A longer slice ends
+/// with its last portion.
+pub fn law_cutting()
+    ensures portions { OfCuttings (λ from headers_end slices cuts.
+        ArePortions from cuts (headers_end + sum slices)) }
+    ensures headers { OfCuttings (λ from headers_end slices cuts. IsUncut from headers_end cuts) }
+    ensures short_slices { OfCuttings (λ from headers_end slices cuts.
+        AreShortUncut headers_end slices cuts) }
+    ensures long_slices { OfCuttings (λ from headers_end slices cuts.
+        DoLongEndPortions headers_end slices cuts) }
+{}
 
 /// The last packet of a unit has the marker, and no other (RFC 2250 section 3.3). `packets` gives
 /// what this asks for.
-pub fn law_last_marked(unit: &Unit, slice_starts: &[u64], packets: &[Packet])
-    requires rules { ArePackets slice_starts.now unit.now packets.now }
-    requires cover { DoCover unit.now.from packets.now unit.now.to }
-    ensures { IsLastMarked packets.now }
-{
-    let _read = (unit.to, slice_starts.len(), packets.len());
-}
+pub fn law_last_marked()
+    ensures { (unit : PictureUnit) (slice_starts : List ℕ) (packets : List Packet) →
+        ArePackets slice_starts unit packets → DoCover unit.from packets unit.to →
+        IsLastMarked packets }
+{}
 
 /// A head is read back from what is written of it, whatever follows.
-pub fn law_head_read_back(head: Head, payload: &[u8])
-    ensures { head_of (head_bytes head ++ payload.now) ≡ Ok head }
-{
-    let _read = (head, payload.len());
-}
+pub fn law_head_read_back()
+    ensures { (head : Head) (rest : List ℕ) → head.sequence < 2 ^ 16 → head.timestamp < 2 ^ 32 →
+        head.ssrc < 2 ^ 32 → head.video < 2 ^ 32 → head_of (head_bytes head ++ rest) ≡ Ok head }
+{}
 
 /// The rules of cutting as conditions on the list of cut points: exactly one list meets them, and
 /// it is the packer's.
@@ -80,7 +69,7 @@ pub fn law_rules()
 
 /// The fields of a packet's head, each read at its bits (RFC 3550 section 5.1).
 pub fn law_rtp_header()
-    ensures { (head : RtpHead) → head.sequence < 2 ^ 16 → head.timestamp < 2 ^ 32 →
+    ensures { (head : Head) → head.sequence < 2 ^ 16 → head.timestamp < 2 ^ 32 →
         head.ssrc < 2 ^ 32 → head.video < 2 ^ 32 → HasRtpFields (head_bytes head) head }
 {}
 

@@ -80,7 +80,7 @@ fn put_full(packets: &mut Vec<Packet>, unit: &Unit, start: u64, end: u64) -> Res
 {
     let mut last = start;
     let mut begin = true;
-    for portion in 0..full_before(start, end) {
+    for _portion in 0..full_before(start, end) {
         put(packets, packet(unit, last, last + PAYLOAD, begin, false))?;
         last += PAYLOAD;
         begin = false;

@@ -8,8 +8,8 @@ use mpeg_scan::Film;
 use std::alloc::Global;
 use vod_base::NoMemory;
 
-/// A packet of a unit: a portion of the film's bytes, with what its heads say of it (RFC 2250 section
-/// 3).
+/// A packet of a unit: a portion of the film's bytes, with what its heads say of it (RFC 2250
+/// section 3).
 #[derive(Clone, Copy, Debug, PartialEq, Eq)]
 pub struct Packet {
     /// The place of its first byte in the film.
@@ -18,7 +18,7 @@ pub struct Packet {
     pub to: u64,
     /// The RTP marker: it is the unit's last packet.
     pub marker: bool,
-    /// B: it begins with a slice code, or with the unit's head and a slice after it.
+    /// B: it begins with a slice code, or with the unit's headers and a slice after them.
     pub begin: bool,
     /// E: its last byte is a slice's last byte.
     pub end: bool,
@@ -37,7 +37,7 @@ pub fn packets(alloc: Global, film: &Film, unit: usize) -> Result<Vec<Packet>, N
         IfOk result (λ p. IsPacked film.now.slice_starts.items u p.items)) }
 {
     let mut packets = Vec::new(alloc);
-    pack(&mut packets, &film.units[unit], &film.slice_starts)?;
+    refill_packets(&mut packets, film, unit)?;
     Ok(packets)
 }
 

@@ -7,8 +7,8 @@ ghost use Rattle.rtp_pack.specs.Sizes.{with_slice};
 use crate::filling::{Filling, Holds, PAYLOAD, full_before, goes_in, holds_after};
 use std::marker::Model;
 
-/// The size of a unit's frames, counted while the lengths of its head and slices come in. It takes
-/// no memory.
+/// The size of a unit's frames, counted while the lengths of its headers and slices come in. It
+/// takes no memory.
 ///
 /// Contracts see how many portions ended so far, and the one that is being filled.
 #[derive(Drop)]
@@ -31,18 +31,18 @@ impl Model for UnitSize {
 pub const FRAME_HEADS: u64 = 20;
 
 impl UnitSize {
-    /// Begins a unit by the length of its head.
-    pub fn begin(head: u64) -> UnitSize
-        requires some { 1 ≤ head }
-        requires most { head ≤ 1380 }
-        ensures begun { result ≡ measure_from_headers head }
-        ensures measured { result ≡ measure_of head [] }
+    /// Begins a unit by the length of its headers.
+    pub fn begin(headers: u64) -> UnitSize
+        requires some { 1 ≤ headers }
+        requires most { headers ≤ 1380 }
+        ensures begun { result ≡ measure_from_headers headers }
+        ensures measured { result ≡ measure_of headers [] }
     {
         UnitSize {
             portions: 0,
             filling: Filling {
                 from: 0,
-                at: head,
+                at: headers,
                 holds: Holds::HeadersAlone,
             },
         }

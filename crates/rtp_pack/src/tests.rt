@@ -2,7 +2,9 @@
 //! sequence header, a group header, an I picture and one slice, and film B is film A, a P picture
 //! and one slice.
 
-ghost use Rattle.std.specs.Prelude.{◌≤◌, ◌^◌};
+ghost use Rattle.std.specs.Prelude.{◌≡◌, ◌<◌, ◌≤◌, ◌^◌, ℕ, List, [], ◌∷◌, length, IfOk};
+ghost use Rattle.rtp_pack.specs.Cutting.{IsCutting};
+ghost use Rattle.rtp_pack.specs.Laws.{ArePortions, IsLastMarked};
 
 use crate::{
     Head, HeadFault, Identity, Packet, Report, UnitSize, law_cutting, law_head_read_back,
@@ -76,6 +78,15 @@ fn portion(from: u64, to: u64, set: &str) -> Packet {
     }
 }
 
+/// The packets of a film's first unit, of which the last alone has the marker.
+fn marked_packets(alloc: Global, film: &Film) -> Result<Vec<Packet>, Fail>
+    requires { 0 < length film.now.units.items }
+    ensures { IfOk result (λ packets. IsLastMarked packets.items) }
+{
+    law_last_marked();
+    Ok(packets(alloc, film, 0)?)
+}
+
 /// Checks the packets of a film of one unit, by their places and letters; those of another film may
 /// stand in the list before.
 fn check_cuts(
@@ -86,8 +97,7 @@ fn check_cuts(
     list: &mut Vec<Packet>,
 ) -> Result<(), Fail> {
     assert_eq!(rt; film.units.len(), 1);
-    let packets = packets(alloc, film, 0)?;
-    law_last_marked(&film.units[0], &film.slice_starts, &packets);
+    let packets = marked_packets(alloc, film)?;
     assert_eq!(rt; packets.len(), want.len());
     for (packet, (from, to, set)) in packets.iter().zip(want) {
         assert_eq!(rt; *packet, portion(*from, *to, set));
@@ -305,7 +315,7 @@ fn reads_heads(rt: HostRuntime) {
     };
     let bytes = b"\x80\x20\x12\x34\x56\x78\x9a\xbc\xde\xf0\x11\x22\x33\x44\x55\x66";
     assert_eq!(rt; write_head(&head), *bytes);
-    law_head_read_back(head, b"payload");
+    law_head_read_back();
     for (bytes, want) in [
         (bytes.as_slice(), Ok(head)),
         (
@@ -352,11 +362,20 @@ fn reports_units(rt: HostRuntime) -> Result<(), Fail> {
     Ok(())
 }
 
+/// The rules cut headers of 28 bytes and a slice of 1,353 at these places alone.
+fn check_rules()
+    ensures cutting { IsCutting 0 28 (1353 ∷ []) (28 ∷ 1381 ∷ []) }
+    ensures one { (cuts : List ℕ) → IsCutting 0 28 (1353 ∷ []) cuts → cuts ≡ 28 ∷ 1381 ∷ [] }
+    ensures portions { ArePortions 0 (28 ∷ 1381 ∷ []) 1381 }
+{
+    law_one_cutting();
+    law_cutting();
+}
+
 /// The cut points of a unit by the rules, and those of its packets.
 #[test]
 fn cuts_by_the_rules(rt: HostRuntime) -> Result<(), Fail> {
-    law_one_cutting(0, 28, &[1353], &[28, 1381], &[28, 1381]);
-    law_cutting(0, 28, &[1353], &[28, 1381]);
+    check_rules();
     let film = film_of(rt.alloc(), 28, &[1353])?;
     assert_eq!(rt; film.units.len(), 1);
     let mut cuts = Vec::new(rt.alloc());

@@ -3,5 +3,4 @@ use Rattle.rtp_pack.proofs.CutLemmas.{one-cutting}
 use Rattle.rtp_pack.proofs.laws.law_one_cutting.Goals as goal
 
 pub returns : goal.returns
-returns c = one-cutting c.args.slices.now (first_portion c.args.from c.args.headers_end) c.args.one.now
-    c.args.other.now c.requires.one c.requires.other
+returns c = λ from headers_end slices. one-cutting slices (first_portion from headers_end)

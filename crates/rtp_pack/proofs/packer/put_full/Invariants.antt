@@ -4,7 +4,7 @@ use Rattle.rtp_pack.proofs.packer.put_full.Given as goal
 
 abbrev pub invariant-loop-portion : goal.invariant-loop-portion
 invariant-loop-portion l = record {
-  last : l.last ≡ l.start + 1380 * l.portion;
-  packets : l.packets.items ++ full_packets l.unit l.begin l.last (l.portion-end - l.portion)
-      ≡ l.fn.packets.items ++ full_packets l.unit true l.start l.portion-end;
+  last : l.last ≡ l.start + 1380 * l._portion;
+  packets : l.packets.items ++ full_packets l.unit l.begin l.last (l._portion-end - l._portion)
+      ≡ l.fn.packets.items ++ full_packets l.unit true l.start l._portion-end;
 }

@@ -5,5 +5,5 @@ use Rattle.rtp_pack.proofs.sizes.UnitSize.end.Goals as goal
 
 pub returns-clause-frames : goal.returns-clause-frames
 returns-clause-frames c =
-    λ head slices from cuts is cutting. ap (λ (m : Measure). frames_of m) (c.self.view_is ∙ is)
-    ∙ size-unit head slices from cuts cutting
+    λ headers slices from cuts is cutting. ap (λ (m : Measure). frames_of m) (c.self.view_is ∙ is)
+    ∙ size-unit headers slices from cuts cutting

@@ -13,6 +13,6 @@ invariant_of-self c =
     (keeps-measure c.args.self.now c.args.length (subst P c.self.view_is c.self.invariant) c.requires.least c.requires.most)
 
 pub returns-clause-measured : goal.returns-clause-measured
-returns-clause-measured c = λ head slices is.
+returns-clause-measured c = λ headers slices is.
     returns-clause-slice c ∙ ap (λ (m : Measure). with_slice m c.args.length) is
-    ∙ sym (slices-append slices (measure_from_headers head) c.args.length)
+    ∙ sym (slices-append slices (measure_from_headers headers) c.args.length)
