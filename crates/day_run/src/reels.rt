@@ -84,7 +84,7 @@ impl<'s> Reel<'s> {
         match self {
             Reel::Film(stored) => {
                 let end = stored.film.units.len();
-                law_piece_sizes(&stored.film, 0, end, NOBODY);
+                law_piece_sizes();
                 Sending::Film(Frames::new(stored, 0, end, NOBODY))
             }
             Reel::Trace(rolled) => Sending::Trace(&rolled.track),

@@ -38,7 +38,7 @@ fn reel_of<'s>(alloc: Global, source: &'s Source) -> Result<Reel<'s>, NoMemory>
     match source {
         Source::Film(stored) => {
             law_film(&stored.film);
-            law_wire_sizes(&stored.film);
+            law_wire_sizes();
             Ok(Reel::Film(stored))
         }
         Source::Trace(sizes) => Reel::trace(alloc, sizes),

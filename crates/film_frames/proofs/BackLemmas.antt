@@ -22,7 +22,7 @@ use Rattle.film_frames.specs.Runs.{pieces_in}
 use Rattle.film_frames.specs.Tracks.{framed_bytes}
 use Rattle.film_frames.proofs.TrackLemmas.{begin-all}
 use Rattle.film_frames.proofs.PieceLemmas.{AreSound, cover-le, pieces-cons, unit-le}
-use Rattle.film_frames.proofs.FilmLemmas.{AreUnits, later-units}
+use Rattle.film_frames.proofs.FilmLemmas.{AreUnits, later-units, units-le}
 use Rattle.film_frames.proofs.FilmLemmas.{film-from, film-in_order, laid-film, units-wire}
 use Rattle.film_frames.proofs.RunLemmas.{blocks_from-count}
 use Rattle.film_frames.proofs.SentLemmas.{IsRun, between, run-begin}
@@ -89,17 +89,6 @@ unit-carries film starts unit laid =
     (reports-carry film unit unit.starts_group)
     ∙ packets-carry film unit (unit_packets starts unit) unit.from unit.to (packets-cover starts unit laid)
 
-chained-le : {from to : ℕ} (end : ℕ) (starts : List ℕ) (units : List PictureUnit) → AreLaid end starts units
-    → AreChained from units to → from ≤ to
-chained-le {from} end starts [] laid chained = omega (arith, chained)
-chained-le {from} {to} end starts (unit ∷ units) laid chained =
-    omega (
-      arith,
-      chained.0,
-      unit-le starts unit laid.0.1,
-      chained-le {from = unit.to} {to = to} end starts units laid.1 chained.1,
-    )
-
 units-carry : {end : ℕ} {starts : List ℕ} {units : List PictureUnit} {from to : ℕ} (film : List ℕ)
     → AreUnits end starts units from to → carried film (pieces_of starts units) ≡ take (to - from) (drop from film)
 unfolding carried
@@ -112,7 +101,7 @@ units-carry {end} {starts} {units = unit ∷ units} {from} {to} film are =
     ∙ ap (λ (l : List ℕ). take (unit.to - unit.from) (drop unit.from film) ++ l) (units-carry {units = units} film later)
     ∙ ap (λ n. take (unit.to - n) (drop n film) ++ take (to - unit.to) (drop unit.to film)) are.chained.0
     ∙ ranges-join film from unit.to to (omega (arith, are.chained.0, unit-le starts unit are.laid.0.1))
-    (chained-le end starts units later.laid later.chained)
+    (units-le later)
 
 -- ---- units among those of a film
 

@@ -5,7 +5,7 @@ use Rattle.std.proofs.Common.{refl, sym, ap, subst, ◌∙◌, arith}
 use Rattle.std.proofs.lemmas.List.Sums.{sum_by-cons, sum_by-take-le}
 use Rattle.mpeg_scan.specs.declared.units.Unit.{Unit as PictureUnit}
 use Rattle.mpeg_scan.specs.declared.films.Film.{Film}
-use Rattle.mpeg_scan.specs.Layout.{AreChained, AreLaid, IsLaid}
+use Rattle.mpeg_scan.specs.Layout.{AreChained, IsLaid}
 use Rattle.mpeg_scan.proofs.BoundLemmas.{film-bytes}
 use Rattle.rtp_pack.specs.declared.payloads.Packet.{Packet}
 use Rattle.rtp_pack.specs.Packets.{DoCover, unit_packets}
@@ -14,11 +14,10 @@ use Rattle.film_frames.specs.declared.pieces.Piece.{Piece}
 use Rattle.film_frames.specs.declared.pieces.Piece.TheVariants.{Report, Frame}
 use Rattle.film_frames.specs.Pieces.{count_of, film_pieces, frames_in, from_of, pieces_of}
 use Rattle.film_frames.specs.Pieces.{unit_pieces, unit_reports, wire_in, wire_of}
-use Rattle.film_frames.proofs.PieceLemmas.{pieces-cons, unit-le}
+use Rattle.film_frames.proofs.PieceLemmas.{pieces-cons}
 use Rattle.film_frames.proofs.ReportNumbers.{frames-few}
-use Rattle.film_frames.proofs.FilmLemmas.{AreUnits, later-units, units-film}
+use Rattle.film_frames.proofs.FilmLemmas.{AreUnits, later-units, units-film, units-le}
 use Rattle.film_frames.proofs.FilmLemmas.{film-bound, film-from, film-in_order, film-wire}
-use Rattle.film_frames.proofs.FilmLemmas.{laid-film}
 
 -- where the payload of a piece ends; a report has none
 abbrev to_of : Piece → ℕ
@@ -146,18 +145,8 @@ heads-le (Frame unit p ∷ pieces) (suc k) reports h count =
     let wire = sum_by-cons wire_of (Frame unit p) (take k pieces) in
     omega (arith, heads-le pieces k reports (omega (arith, h)) (omega (arith, count, frames)), frames, wire)
 
-chained-le : {from to : ℕ} (end : ℕ) (starts : List ℕ) (units : List PictureUnit) → AreLaid end starts units
-    → AreChained from units to → from ≤ to
-chained-le {from} end starts [] laid chained = omega (arith, chained)
-chained-le {from} {to} end starts (unit ∷ units) laid chained =
-    omega (
-      arith,
-      chained.0,
-      unit-le starts unit laid.0.1,
-      chained-le {from = unit.to} {to = to} end starts units laid.1 chained.1,
-    )
-
--- what is known of the place of a piece of a film, by its number, the frames before it and the place of the film's first unit
+-- what is known of the place of a piece of a film, by its number, the frames before it and the place
+-- of the film's first unit
 pub record HasPlace (number frames place first : ℕ) : Type 0 where
   pub few : frames ≤ number
   pub heads : 20 * frames + 52 * (number - frames) ≤ place
@@ -173,7 +162,7 @@ film-place {number} {frames} {place} {first} film h is frames_is place_is =
     let chained = film-in_order film in
     let few : frames ≤ number = omega (arith, frames_is, frames-few pieces number) in
     let from = first-from film.units.items (length film.bytes.items) chained (film-some film number h) is in
-    let low = chained-le (length film.bytes.items) film.slice_starts.items film.units.items (laid-film film) chained in
+    let low = units-le (units-film film) in
     record {
       few = few;
       heads = omega (

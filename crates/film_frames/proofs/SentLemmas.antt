@@ -116,22 +116,15 @@ among-run : {film : Film} {first_unit end_unit k n : ℕ} {run : FramedRun}
     → IsAmong (film_pieces film) (front_pieces film first_unit) (pieces_in run) lies.rest k n
 among-run lies short at = record { split = lies.all; short = short; is = at }
 
--- where a piece of the run begins
-pub run-wire : {film : Film} {first_unit end_unit : ℕ} {identity : Identity} {run : FramedRun} {n : ℕ} (k : ℕ)
-    → IsRun film first_unit end_unit identity run → k ≤ length (pieces_in run) → n ≡ length (front_pieces film first_unit) + k
-    → wire_in (take n (film_pieces film))
-    ≡ wire_in (take (length (front_pieces film first_unit)) (film_pieces film)) + wire_in (take k (pieces_in run))
-run-wire {film} {first_unit} {end_unit} {identity} {run} k is short at =
+-- a sum over the film's pieces up to one of the run, as over their bytes or frames
+pub sum-in-run : {film : Film} {first_unit end_unit : ℕ} {identity : Identity} {run : FramedRun} {n : ℕ}
+    (f : Piece → ℕ) (k : ℕ) → IsRun film first_unit end_unit identity run → k ≤ length (pieces_in run)
+    → n ≡ length (front_pieces film first_unit) + k
+    → sum_by f (take n (film_pieces film))
+    ≡ sum_by f (take (length (front_pieces film first_unit)) (film_pieces film)) + sum_by f (take k (pieces_in run))
+sum-in-run {film} {first_unit} {end_unit} {identity} {run} f k is short at =
     let lies = between film first_unit end_unit identity run is in
-    sum-between wire_of (among-run lies short at)
-
-pub run-frames : {film : Film} {first_unit end_unit : ℕ} {identity : Identity} {run : FramedRun} {n : ℕ} (k : ℕ)
-    → IsRun film first_unit end_unit identity run → k ≤ length (pieces_in run) → n ≡ length (front_pieces film first_unit) + k
-    → frames_in (take n (film_pieces film))
-    ≡ frames_in (take (length (front_pieces film first_unit)) (film_pieces film)) + frames_in (take k (pieces_in run))
-run-frames {film} {first_unit} {end_unit} {identity} {run} k is short at =
-    let lies = between film first_unit end_unit identity run is in
-    sum-between count_of (among-run lies short at)
+    sum-between f (among-run lies short at)
 
 pub run-begin : {film : Film} (first_unit end_unit : ℕ) (identity : Identity) (run : FramedRun) (k : ℕ)
     → IsRun film first_unit end_unit identity run
@@ -164,8 +157,8 @@ run-ends {film} {first_unit} {end_unit} {identity} {run} {first} {end} {base} {e
       count = omega (arith, count, counts.0, first_is, end_is, pieces);
       each = λ k h.
           let short : k + 1 ≤ length (pieces_in run) = omega (arith, h, count, counts.0, first_is, end_is) in
-          let sum = run-wire {film = film} {first_unit = first_unit} {end_unit = end_unit} {identity = identity}
-          {run = run} {n = first + k + 1} (k + 1) is short (omega (arith, first_is)) in
+          let sum = sum-in-run {film = film} {first_unit = first_unit} {end_unit = end_unit} {identity = identity}
+          {run = run} {n = first + k + 1} wire_of (k + 1) is short (omega (arith, first_is)) in
           let from : base ≡ wire_in (take (length (front_pieces film first_unit)) (film_pieces film)) =
           base_is ∙ ap (λ n. wire_in (take n (film_pieces film))) first_is in
           omega (arith, each k (omega (arith, h, count)), sum, from, run-begin first_unit end_unit identity run (k + 1) is);
@@ -177,7 +170,7 @@ pub run-total : (film : Film) (first_unit end_unit : ℕ) (identity : Identity) 
     → wire_in (take (length (front_pieces film first_unit)) (film_pieces film)) + length (framed_bytes (run_pieces run)) ≤ 2 ^ 42
 run-total film first_unit end_unit identity run is =
     let n = length (pieces_in run) in
-    let sum = run-wire n is (omega arith) refl in
+    let sum = sum-in-run wire_of n is (omega arith) refl in
     let some = sum_by-take-le wire_of (film_pieces film) (length (front_pieces film first_unit) + n) in
     let last : begin_of (run_pieces run) (length (run_pieces run)) ≡ begin_of (run_pieces run) n =
     ap (λ m. begin_of (run_pieces run) m) (blocks_from-count run 0 0 (pieces_in run)) in

@@ -3,9 +3,11 @@ use Rattle.std.specs.Prelude.{ℕ, ◌+◌, ◌%◌, ◌^◌, ◌<◌, ◌≤◌
 use Rattle.std.specs.Prelude.{false, flat_map, slice_get, slice_index, slice_index_or, take, true}
 use Rattle.std.specs.Prelude.{Ok, Some}
 use Rattle.mpeg_scan.specs.declared.units.Unit.{Unit as PictureUnit}
+use Rattle.mpeg_scan.specs.declared.films.Film.{Film}
 use Rattle.mpeg_scan.specs.Rates.{picture_time}
 use Rattle.rtp_pack.specs.declared.heads.Head.{Head}
 use Rattle.rtp_pack.specs.declared.payloads.Packet.{Packet}
+use Rattle.rtp_pack.specs.declared.reports.Identity.{Identity}
 use Rattle.rtp_pack.specs.Heads.{head_at, head_of, packet_head, video_word}
 use Rattle.rtp_pack.specs.Reports.{report_bytes, unit_report}
 use Rattle.interleave.specs.Elements.{StartsBlock, block_length}
@@ -15,6 +17,13 @@ use Rattle.film_frames.specs.Pieces.{frames_in, octets_in, octets_of}
 use Rattle.film_frames.specs.Runs.{FramedRun, frames_before, interleaved_block, octets_before}
 use Rattle.film_frames.specs.Runs.{pieces_in, run_pieces}
 use Rattle.film_frames.specs.Tracks.{begin_of}
+
+-- a fact of each run of one or more of a film's units, which goes from one to another that isn't in
+-- it
+abbrev pub OfRuns : (Film → ℕ → ℕ → Identity → Type 0) → Type 0
+OfRuns Fact =
+    (film : Film) (first_unit end_unit : ℕ) (identity : Identity) → first_unit < end_unit
+    → end_unit ≤ length film.units.items → Fact film first_unit end_unit identity
 
 -- the bytes of the frames, among those of pieces
 abbrev pub frames_among : List Piece → List (List ℕ) → List (List ℕ)
@@ -58,7 +67,7 @@ abbrev pub IsBlock : List ℕ → Type 0
 IsBlock bytes = StartsBlock bytes × (block_length bytes ≡ length bytes)
 
 abbrev pub AreBlocks : List (List ℕ) → Type 0
-AreBlocks pieces = (k : ℕ) → k < length pieces → IsBlock (slice_index_or pieces k [])
+AreBlocks blocks = (k : ℕ) → k < length blocks → IsBlock (slice_index_or blocks k [])
 
 -- the interleaved channel of a piece: reports go on one, frames on the other
 abbrev pub channel_of : FramedRun → Piece → ℕ

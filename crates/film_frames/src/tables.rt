@@ -79,8 +79,8 @@ impl FrameTable {
         let mut places = Vec::with_capacity(alloc, pieces + 1)?;
         let rows = Vec::with_capacity(alloc, pieces)?;
         let mut firsts = Vec::with_capacity(alloc, units + 1)?;
-        push(&mut places, 0)?;
-        push(&mut firsts, 0)?;
+        put_number(&mut places, 0)?;
+        put_number(&mut firsts, 0)?;
         Ok(FrameTable {
             places,
             rows,
@@ -101,8 +101,8 @@ impl FrameTable {
     {
         let last = self.rows.len();
         let end = self.places[last] + wire_of(&piece);
-        push(&mut self.places, end)?;
-        add_report(&mut self.reports, last as u64, &piece)?;
+        put_number(&mut self.places, end)?;
+        put_report_number(&mut self.reports, last as u64, &piece)?;
         self.rows.push(Row::new(number, &piece))?;
         Ok(())
     }
@@ -163,7 +163,7 @@ impl FrameTable {
         self.put_report(film, number)?;
         self.put_frames(film, number, packets)?;
         let pieces = self.rows.len() as u64;
-        push(&mut self.firsts, pieces)
+        put_number(&mut self.firsts, pieces)
     }
 
     /// How many pieces come before a unit.
@@ -208,7 +208,7 @@ impl FrameTable {
 }
 
 /// Appends a number.
-fn push(numbers: &mut Vec<u64>, number: u64) -> Result<(), NoMemory>
+fn put_number(numbers: &mut Vec<u64>, number: u64) -> Result<(), NoMemory>
     ensures { OnOk result (numbers.new.items ≡ numbers.old.items ++ number ∷ []) }
 {
     numbers.push(number)?;
@@ -235,11 +235,11 @@ fn count_pieces(packets: &mut Vec<Packet>, film: &Film) -> Result<usize, NoMemor
 }
 
 /// Appends the number of a piece if it is a report.
-fn add_report(reports: &mut Vec<u64>, number: u64, piece: &Piece) -> Result<(), NoMemory>
+fn put_report_number(reports: &mut Vec<u64>, number: u64, piece: &Piece) -> Result<(), NoMemory>
     ensures { OnOk result (reports.new.items ≡ with_report number piece.now reports.old.items) }
 {
     match piece {
-        Piece::Report(_) => push(reports, number),
+        Piece::Report(_) => put_number(reports, number),
         Piece::Frame(..) => Ok(()),
     }
 }

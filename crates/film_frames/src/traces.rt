@@ -69,12 +69,12 @@ impl Track for TraceTrack {
     }
 
     /// The bytes from `at` on, none of them in the head: what is left of the frame, or 1,024 of it.
-    fn part(&self, at: u64, _head: &mut [u8; 52]) -> Part<'_>
+    fn part(&self, at: u64, head: &mut [u8; 52]) -> Part<'_>
         requires { at < length (framed_bytes (zero_frames self.now)) }
         ensures order { result.head_from ≤ result.head_to }
         ensures within { result.head_to ≤ 52 }
         ensures bytes { IsNext (zero_frames self.now) at
-            (slice_range _head.new result.head_from result.head_to ++ result.payload.now) }
+            (slice_range head.new result.head_from result.head_to ++ result.payload.now) }
         ensures heads { IsSplit (zero_frames self.now) at (result.head_to - result.head_from)
             (length result.payload.now) }
         ensures no_head { result.head_from ≡ result.head_to }

@@ -31,7 +31,7 @@ impl Units for Stored {
 
     fn count(&self) -> usize {
         law_film(&self.film);
-        law_wire_sizes(&self.film);
+        law_wire_sizes();
         self.film.units.len()
     }
 

@@ -2,7 +2,7 @@
 
 ghost use Rattle.std.specs.Prelude.{◌≡◌, ◌-◌, ◌^◌, ◌<◌, ◌≤◌, ◌↔◌, ℕ, List, length, take, drop};
 ghost use Rattle.rtp_pack.specs.Packets.{OfUnit};
-ghost use Rattle.film_frames.specs.Laws.{run_frames};
+ghost use Rattle.film_frames.specs.Laws.{OfRuns, run_frames};
 ghost use Rattle.film_frames.specs.Runs.{run_of};
 ghost use Rattle.rtsp_client.specs.Answers.{payloads_of};
 ghost use Rattle.rtsp_client.specs.Asked.{IsAsked, IsSessionId};
@@ -16,8 +16,6 @@ ghost use Rattle.rtsp_client.specs.declared.wishes.Wish.{Wish};
 
 use crate::wishes::Wish;
 use film_frames::law_film_comes_back;
-use mpeg_scan::Film;
-use rtp_pack::Identity;
 
 /// Where at each reading the bytes that came lie between the two curves of a film's units, the
 /// meter stays between empty and the buffer: no picture lacks when it is used, and what waits fits.
@@ -49,16 +47,14 @@ pub fn law_meter_tells(wish: &Wish)
 
 /// Where the frames that came are those of a run of a film's units, what is handed on are the
 /// film's bytes from where the run's first unit begins to where its last one ends.
-pub fn law_film_watched(film: &Film, first_unit: usize, end_unit: usize, identity: Identity)
-    requires order { first_unit < end_unit }
-    requires within { end_unit ≤ length film.now.units.items }
-    ensures { (moments : List Moment) →
-        frames_of moments ≡ run_frames (run_of film.now first_unit end_unit identity) →
-        OfUnit film.now.units.items first_unit (λ first.
-        OfUnit film.now.units.items (end_unit - 1) (λ last.
-        payloads_of moments ≡ take (last.to - first.from) (drop first.from film.now.bytes.items))) }
+pub fn law_film_watched()
+    ensures { OfRuns (λ film first_unit end_unit identity. (moments : List Moment) →
+        frames_of moments ≡ run_frames (run_of film first_unit end_unit identity) →
+        OfUnit film.units.items first_unit (λ first.
+        OfUnit film.units.items (end_unit - 1) (λ last.
+        payloads_of moments ≡ take (last.to - first.from) (drop first.from film.bytes.items)))) }
 {
-    law_film_comes_back(film, first_unit, end_unit, identity);
+    law_film_comes_back();
 }
 
 /// The texts that a client sends are whole requests of RTSP 1.0, whatever comes after them, and are

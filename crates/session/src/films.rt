@@ -27,7 +27,7 @@ pub(crate) fn stored_at(films: &[Stored], film: usize) -> &Stored
 {
     let stored = &films[film];
     law_film(&stored.film);
-    law_wire_sizes(&stored.film);
+    law_wire_sizes();
     stored
 }
 
@@ -90,7 +90,7 @@ pub(crate) fn frames_of<'a>(
         ≡ bytes_between (stored_sizes stored.now) run.now.first_unit run.now.end_unit }
 {
     let identity = identity_of(source, setup, counts);
-    law_piece_sizes(&stored.film, run.first_unit, run.end_unit, identity);
+    law_piece_sizes();
     Frames::new(stored, run.first_unit, run.end_unit, identity)
 }
 

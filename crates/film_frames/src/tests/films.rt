@@ -203,11 +203,11 @@ fn run_of<'a>(
     if first_unit >= end_unit || end_unit > stored.film.units.len() {
         return Err(Fail::from("a unit is missing"));
     }
-    law_film_comes_back(&stored.film, first_unit, end_unit, identity);
-    law_counts_on(&stored.film, first_unit, end_unit, identity);
-    law_reports_count(&stored.film, first_unit, end_unit, identity);
-    law_piece_sizes(&stored.film, first_unit, end_unit, identity);
-    law_pieces_ended(&stored.film, first_unit, end_unit, identity, 52);
+    law_film_comes_back();
+    law_counts_on();
+    law_reports_count();
+    law_piece_sizes();
+    law_pieces_ended();
     Ok(Frames::new(stored, first_unit, end_unit, identity))
 }
 
@@ -215,7 +215,7 @@ fn run_of<'a>(
 fn sends_whole_films(rt: HostRuntime) -> Result<(), Fail> {
     let alloc = rt.alloc();
     let film_c = stored(alloc, joined(alloc, &[HEAD_A, SLICE, UNIT_B, UNIT_C])?)?;
-    law_wire_sizes(&film_c.film);
+    law_wire_sizes();
     let mut want = joined(
         alloc,
         &[

@@ -5,7 +5,7 @@ use Rattle.day_run.proofs.sources.reel_of.Goals as goal
 pub returns-in-Film-clause-playable : goal.returns-in-Film-clause-playable
 returns-in-Film-clause-playable c =
     film-playable c.in-Film.stored c.in-Film.is c.law_film.ensures.slowest c.law_film.ensures.fastest
-    c.law_film.ensures.units c.law_wire_sizes.ensures.all
+    c.law_film.ensures.units (c.law_wire_sizes.ensures.all c.in-Film.stored.film)
 
 pub returns-in-Trace-clause-content : goal.returns-in-Trace-clause-content
 returns-in-Trace-clause-content c =

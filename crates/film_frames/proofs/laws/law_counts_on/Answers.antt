@@ -1,14 +1,12 @@
 use Rattle.std.proofs.Common.{◌≡◌, ◌+◌, ◌%◌, ◌^◌, arith, ap, ◌∙◌}
-use Rattle.film_frames.specs.Runs.{run_of, pieces_in}
+use Rattle.film_frames.specs.Runs.{pieces_in}
 use Rattle.film_frames.proofs.CountLemmas.{counts-on, frames-count}
 use Rattle.film_frames.proofs.laws.law_counts_on.Goals as goal
 
 pub returns-clause-frames : goal.returns-clause-frames
-returns-clause-frames c =
-    let run = run_of c.args.film.now c.args.first_unit c.args.end_unit c.args.identity in frames-count run 0 0 (pieces_in run)
+returns-clause-frames c = λ run. frames-count run 0 0 (pieces_in run)
 
 pub returns-clause-numbers : goal.returns-clause-numbers
-returns-clause-numbers c = λ k h.
-    let run = run_of c.args.film.now c.args.first_unit c.args.end_unit c.args.identity in
+returns-clause-numbers c = λ run k h.
     let from : 0 + k ≡ k = omega arith in
-    counts-on run 0 0 (pieces_in run) k h ∙ ap (λ n. (c.args.identity.sequence + n) % 2 ^ 16) from
+    counts-on run 0 0 (pieces_in run) k h ∙ ap (λ n. (run.identity.sequence + n) % 2 ^ 16) from

@@ -5,9 +5,12 @@ use Rattle.film_frames.proofs.RunFronts.{sum-range}
 use Rattle.film_frames.proofs.laws.law_wire_sizes.Goals as goal
 
 pub returns : goal.returns
-returns c =
-    let film = c.args.film.now in record {
-      range = λ from count.
-          omega (arith, sum-range (λ u. wire_size film.slice_starts.items u) film.units.items from count, film-bound film);
-      all = film-bound film;
-    }
+returns c = record {
+  range = λ film from count.
+      omega (
+        arith,
+        sum-range (λ u. wire_size film.slice_starts.items u) film.units.items from count,
+        film-bound film,
+      );
+  all = film-bound;
+}

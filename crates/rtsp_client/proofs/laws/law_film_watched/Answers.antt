@@ -4,5 +4,7 @@ use Rattle.rtsp_client.proofs.Handing.{payloads-are}
 use Rattle.rtsp_client.proofs.laws.law_film_watched.Goals as goal
 
 pub returns : goal.returns
-returns c = λ moments is first at_first last at_last.
-    payloads-are moments ∙ (ap payloads is ∙ c.law_film_comes_back.ensures first at_first last at_last)
+returns c = λ film first_unit end_unit identity order within moments is first at_first last at_last.
+    payloads-are moments
+    ∙ (ap payloads is
+    ∙ c.law_film_comes_back.ensures film first_unit end_unit identity order within first at_first last at_last)

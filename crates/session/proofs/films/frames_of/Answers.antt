@@ -1,5 +1,5 @@
-use Rattle.std.proofs.Common.{◌-◌, ℕ, List, length, sum, take, drop, sym, ap, ◌∙◌}
-use Rattle.std.proofs.lemmas.List.{drop-map, take-map}
+use Rattle.std.proofs.Common.{◌-◌, ◌≤◌, ℕ, List, arith, length, sum, take, drop, sym, ap, ◌∙◌}
+use Rattle.std.proofs.lemmas.List.{drop-map, length-map, take-map}
 use Rattle.mpeg_scan.specs.declared.units.Unit.{Unit as PictureUnit}
 use Rattle.film_frames.specs.Pieces.{wire_size}
 use Rattle.film_frames.specs.Runs.{FramedRun, run_pieces}
@@ -12,7 +12,9 @@ returns-clause-bytes c =
     let first = c.args.run.now.first_unit in
     let count = c.args.run.now.end_unit - first in
     let wire : PictureUnit → ℕ = λ u. wire_size film.slice_starts.items u in
+    let within : c.args.run.now.end_unit ≤ length film.units.items =
+    omega (arith, c.requires.within, length-map film.units.items wire) in
     ap (λ (s : FramedRun). length (framed_bytes (run_pieces s))) c.new.ensures
-    ∙ c.law_piece_sizes.ensures.all
+    ∙ c.law_piece_sizes.ensures.all film first c.args.run.now.end_unit c.identity_of-identity.result c.requires.order within
     ∙ sym (ap (λ (l : List ℕ). sum (take count l)) (drop-map wire first film.units.items)
     ∙ ap sum (take-map wire count (drop first film.units.items)))

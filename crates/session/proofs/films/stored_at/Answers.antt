@@ -1,8 +1,10 @@
-use Rattle.std.proofs.Common.{◌≡◌, true, refl, sym, subst, string_bytes, length}
+use Rattle.std.proofs.Common.{◌≡◌, true, refl, sym, subst, string_bytes, length, arith}
 use Rattle.std.proofs.lemmas.Option.{slice_get_read}
+use Rattle.std.proofs.lemmas.List.{length-map}
 use Rattle.std.proofs.lemmas.List.Elements.{All-get_or}
 use Rattle.vod_base.specs.Names.{is_good_name}
 use Rattle.film_frames.specs.declared.stores.Stored.{Stored}
+use Rattle.film_frames.specs.Pieces.{wire_size}
 use Rattle.session.proofs.films.stored_at.Goals as goal
 
 pub returns-clause-good : goal.returns-clause-good
@@ -15,3 +17,14 @@ pub returns-clause-film : goal.returns-clause-film
 returns-clause-film c =
     slice_get_read c.args.films.now (length c.args.films.now) c.args.film c.index-films-film.result refl c.requires.within
     c.index-films-film.is
+
+pub returns-clause-sizes : goal.returns-clause-sizes
+returns-clause-sizes c =
+    let film = c.index-films-film.result.film in record {
+      few = omega (
+        arith,
+        c.law_film.ensures.units,
+        length-map film.units.items (wire_size film.slice_starts.items),
+      );
+      small = c.law_wire_sizes.ensures.all film;
+    }

@@ -1,5 +1,6 @@
 use Rattle.std.proofs.Common.{arith, sym, ◌∙◌}
-use Rattle.film_frames.proofs.FrameFacts.{is-run-of, wire-from}
+use Rattle.film_frames.specs.Pieces.{wire_of}
+use Rattle.film_frames.proofs.FrameFacts.{is-run-of, sum-from}
 use Rattle.film_frames.proofs.SentLemmas.{run-begin}
 use Rattle.film_frames.proofs.frames.Frames.begin_of.Goals as goal
 
@@ -21,12 +22,14 @@ place-requires-2 c =
 pub overflow_sub-result : goal.overflow_sub-result
 overflow_sub-result c =
     let has = is-run-of c.self.inside c.args.self.now c.self.view_is c.self.invariant in
-    omega (arith, c.place.ensures, c.place-2.ensures, wire-from c.args.piece has c.requires c.first_piece-first.ensures)
+    let sum = sum-from wire_of c.args.piece has c.requires c.first_piece-first.ensures in
+    omega (arith, c.place.ensures, c.place-2.ensures, sum)
 
 pub returns-clause-wire : goal.returns-clause-wire
 returns-clause-wire c =
     let has = is-run-of c.self.inside c.args.self.now c.self.view_is c.self.invariant in
-    omega (arith, c.place.ensures, c.place-2.ensures, wire-from c.args.piece has c.requires c.first_piece-first.ensures)
+    let sum = sum-from wire_of c.args.piece has c.requires c.first_piece-first.ensures in
+    omega (arith, c.place.ensures, c.place-2.ensures, sum)
 
 pub returns-clause-begin : goal.returns-clause-begin
 returns-clause-begin c =

@@ -1,9 +1,8 @@
-use Rattle.std.proofs.Common.{arith, take, ap}
-use Rattle.film_frames.specs.Pieces.{film_pieces, wire_in}
+use Rattle.std.proofs.Common.{arith}
 use Rattle.film_frames.specs.Runs.{run_pieces}
-use Rattle.film_frames.proofs.FrameFacts.{is-run-of}
+use Rattle.film_frames.proofs.FrameFacts.{is-run-of, total-from}
 use Rattle.film_frames.proofs.RunLemmas.{have-count_ended}
-use Rattle.film_frames.proofs.SentLemmas.{run-ends, run-total}
+use Rattle.film_frames.proofs.SentLemmas.{run-ends}
 use Rattle.film_frames.proofs.TrackLemmas.{AreEnds, ends-rise}
 use Rattle.film_frames.proofs.frames.Frames.count_ended.Goals as goal
 use Rattle.film_frames.proofs.frames.Frames.count_ended.Goals.{After-ends}
@@ -11,7 +10,6 @@ use Rattle.film_frames.proofs.frames.Frames.count_ended.Goals.{After-ends}
 -- the ends of the run's pieces
 ends-are : (c : After-ends) → AreEnds c.place.result (run_pieces c.args.self.now) c.ends.result.now
 ends-are c =
-    let f = c.self.inside in
     let has = is-run-of c.self.inside c.args.self.now c.self.view_is c.self.invariant in
     run-ends has.is
     c.first_piece-first.ensures c.first_piece-end.ensures c.place.ensures c.ends.ensures.count c.ends.ensures.each
@@ -23,31 +21,15 @@ place-requires c =
 
 pub overflow_add-place : goal.overflow_add-place
 overflow_add-place c =
-    let f = c.self.inside in
     let has = is-run-of c.self.inside c.args.self.now c.self.view_is c.self.invariant in
-    let from = ap (λ n. wire_in (take n (film_pieces f.stored.now.film))) c.first_piece-first.ensures in
-    omega (
-      arith,
-      c.place.ensures,
-      c.min.ensures,
-      c.total.ensures,
-      from,
-      run-total f.stored.now.film f.first_unit f.end_unit f.identity c.args.self.now has.is,
-    )
+    let total = total-from has c.first_piece-first.ensures in
+    omega (arith, c.place.ensures, c.min.ensures, c.total.ensures, total)
 
 pub overflow_add-place-2 : goal.overflow_add-place-2
 overflow_add-place-2 c =
-    let f = c.self.inside in
     let has = is-run-of c.self.inside c.args.self.now c.self.view_is c.self.invariant in
-    let from = ap (λ n. wire_in (take n (film_pieces f.stored.now.film))) c.first_piece-first.ensures in
-    omega (
-      arith,
-      c.place.ensures,
-      c.min.ensures,
-      c.total.ensures,
-      from,
-      run-total f.stored.now.film f.first_unit f.end_unit f.identity c.args.self.now has.is,
-    )
+    let total = total-from has c.first_piece-first.ensures in
+    omega (arith, c.place.ensures, c.min.ensures, c.total.ensures, total)
 
 pub ends-requires-clause-order : goal.ends-requires-clause-order
 ends-requires-clause-order c =
@@ -61,7 +43,8 @@ ends-requires-clause-within c =
 
 pub ends_below-requires : goal.ends_below-requires
 ends_below-requires c =
-    ends-rise c.place.result (run_pieces c.args.self.now) c.ends.result.now (ends-are (goal.at.ends_below-requires c).After-ends)
+    let at = (goal.at.ends_below-requires c).After-ends in
+    ends-rise c.place.result (run_pieces c.args.self.now) c.ends.result.now (ends-are at)
 
 pub returns-clause-count_ended : goal.returns-clause-count_ended
 returns-clause-count_ended c =

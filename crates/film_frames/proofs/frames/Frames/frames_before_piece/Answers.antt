@@ -1,5 +1,6 @@
 use Rattle.std.proofs.Common.{arith}
-use Rattle.film_frames.proofs.FrameFacts.{frames-from, is-run-of}
+use Rattle.film_frames.specs.Pieces.{count_of}
+use Rattle.film_frames.proofs.FrameFacts.{is-run-of, sum-from}
 use Rattle.film_frames.proofs.frames.Frames.frames_before_piece.Goals as goal
 
 pub overflow_add-first : goal.overflow_add-first
@@ -20,9 +21,11 @@ frames-requires-2 c =
 pub overflow_sub-result : goal.overflow_sub-result
 overflow_sub-result c =
     let has = is-run-of c.self.inside c.args.self.now c.self.view_is c.self.invariant in
-    omega (arith, c.frames.ensures, c.frames-2.ensures, frames-from c.args.piece has c.requires c.first_piece-first.ensures)
+    let sum = sum-from count_of c.args.piece has c.requires c.first_piece-first.ensures in
+    omega (arith, c.frames.ensures, c.frames-2.ensures, sum)
 
 pub returns : goal.returns
 returns c =
     let has = is-run-of c.self.inside c.args.self.now c.self.view_is c.self.invariant in
-    omega (arith, c.frames.ensures, c.frames-2.ensures, frames-from c.args.piece has c.requires c.first_piece-first.ensures)
+    let sum = sum-from count_of c.args.piece has c.requires c.first_piece-first.ensures in
+    omega (arith, c.frames.ensures, c.frames-2.ensures, sum)

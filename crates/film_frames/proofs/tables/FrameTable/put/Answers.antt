@@ -11,7 +11,7 @@ returns-clause-table c = λ film units pieces sound its is.
     let place : c.index.result.now ≡ get_or old.places.items (length old.rows.items) 0 =
     get_or_read old.places.items c.len-last.result c.index.result.now
     (omega (arith, last, is.rows_count, is.places_count)) c.index.ensures 0 ∙ ap (λ n. get_or old.places.items n 0) last in
-    let reports = c.in_ok-add_report.ensures ∙ ap (λ n. with_report n c.args.piece old.reports.items) last in
+    let reports = c.in_ok-put_report_number.ensures ∙ ap (λ n. with_report n c.args.piece old.reports.items) last in
     table-push
-    is (c.new.ensures film units sound its) c.in_ok-push.ensures c.in_ok-push-2.ensures.items reports
+    is (c.new.ensures film units sound its) c.in_ok-put_number.ensures c.in_ok-push.ensures.items reports
     (omega (arith, place, c.wire_of.ensures))
