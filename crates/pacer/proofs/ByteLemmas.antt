@@ -12,7 +12,8 @@ use Rattle.pacer.proofs.SendingLemmas.{between-join}
 
 pub parts-join : (p : Pacing) → IsPacing p → DoPartsJoin p
 parts-join p is =
-    λ from at to le more. between-join p.pieces (p.before + from) (p.before + at) (p.before + to) (omega arith) (omega arith)
+    λ from at to le more.
+    between-join p.pieces (p.before + from) (p.before + at) (p.before + to) (omega arith) (omega arith)
 
 pub sends-track : (p : Pacing) → IsPacing p → SendsTheTrack p
 sends-track p is =
@@ -27,7 +28,8 @@ tells-boundaries p is =
     let at = p.before + p.sent in
     let next = boundary-from p.pieces at (omega (arith, is.sent, is.due, is.most, is.whole)) in (
       (λ stands.
-          let same : boundary_from p.pieces at ≡ at = omega (arith, next.after, eqb-true (next_boundary p) p.sent stands) in
+          let same : boundary_from p.pieces at ≡ at =
+          omega (arith, next.after, eqb-true (next_boundary p) p.sent stands) in
           subst (IsBoundary p.pieces) same next.boundary),
       (λ boundary. eq-eqb (next_boundary p) p.sent (omega (arith, next.after, next.least at boundary (omega arith)))),
     )
@@ -36,8 +38,12 @@ pub tells-end : (p : Pacing) → IsPacing p → TellsTheEnd p
 tells-end p is = (
   (λ done.
       let both = and_parts (nat_lt 0 p.passed) (p.sent == p.keep) done in
-      record { begun = omega (arith, ltb-true 0 p.passed both.0); none_left = omega (arith, eqb-true p.sent p.keep both.1) }),
+      record {
+        begun = omega (arith, ltb-true 0 p.passed both.0);
+        none_left = omega (arith, eqb-true p.sent p.keep both.1);
+      }),
   (λ out.
       let all : p.sent ≡ p.keep = omega (arith, out.none_left, is.sent, is.due) in
-      and_from (nat_lt 0 p.passed) (p.sent == p.keep) (lt-ltb 0 p.passed (omega (arith, out.begun))) (eq-eqb p.sent p.keep all)),
+      and_from (nat_lt 0 p.passed) (p.sent == p.keep) (lt-ltb 0 p.passed (omega (arith, out.begun)))
+      (eq-eqb p.sent p.keep all)),
 )

@@ -19,13 +19,15 @@ use Rattle.pacer.specs.Steps.{HasFailed}
 
 framed-cons : (piece : List ℕ) (pieces : List (List ℕ))
     → length (framed_bytes (piece ∷ pieces)) ≡ length piece + length (framed_bytes pieces)
-framed-cons piece pieces = ap length (flat_map-cons (λ (p : List ℕ). p) piece pieces) ∙ length-append piece (framed_bytes pieces)
+framed-cons piece pieces =
+    ap length (flat_map-cons (λ (p : List ℕ). p) piece pieces) ∙ length-append piece (framed_bytes pieces)
 
 -- the least boundary past a first piece
 least-cons : {pieces : List (List ℕ)} {at other : ℕ} (piece : List ℕ) (place : ℕ) → 0 < at
     → ((x : ℕ) → IsBoundary pieces x → at - length piece ≤ x → place ≤ x)
     → IsBoundary (piece ∷ pieces) other → at ≤ other → length piece + place ≤ other
-least-cons {pieces} {at} {other} piece place some least boundary after = numbered boundary.number boundary.among boundary.place_is
+least-cons {pieces} {at} {other} piece place some least boundary after =
+    numbered boundary.number boundary.among boundary.place_is
   where
     numbered : (number : ℕ) → number ≤ length (piece ∷ pieces) → other ≡ begin_of (piece ∷ pieces) number
         → length piece + place ≤ other
@@ -37,7 +39,8 @@ least-cons {pieces} {at} {other} piece place some least boundary after = numbere
         omega (arith, h, begins, is)
 
 -- the choice between the place and what the rest of the pieces give
-boundary-cons : {piece : List ℕ} {pieces : List (List ℕ)} {at : ℕ} {b : Bool} → (b ≡ true → at ≡ 0) → (b ≡ false → 0 < at)
+boundary-cons : {piece : List ℕ} {pieces : List (List ℕ)} {at : ℕ} {b : Bool} → (b ≡ true → at ≡ 0)
+    → (b ≡ false → 0 < at)
     → IsBoundaryAfter pieces (at - length piece) (boundary_from pieces (at - length piece))
     → IsBoundaryAfter (piece ∷ pieces) at (cond b 0 (length piece + boundary_from pieces (at - length piece)))
 boundary-cons {piece} {pieces} {at} {b = true} none some rest =
@@ -78,7 +81,11 @@ boundary-is pieces at place within is =
 
 pub first-slots-rise : (plan : List Segment) (a b : ℕ) → a ≤ b → first_slots plan a ≤ first_slots plan b
 first-slots-rise plan a b h =
-    omega (arith, sum_by-take-le (λ (x : ℕ). x) (take b (plan_slots plan)) a, ap sum (take-take a b (plan_slots plan) h))
+    omega (
+      arith,
+      sum_by-take-le (λ (x : ℕ). x) (take b (plan_slots plan)) a,
+      ap sum (take-take a b (plan_slots plan) h),
+    )
 
 -- what is due after two slots is what is due after the later of them
 pub due-of-both : (plan : List Segment) (a b keep due : ℕ) → due ≡ min (first_slots plan a) keep
@@ -128,11 +135,21 @@ step-failed {stop} {slot} {old} {to} {whole} {told_old} pacing are end order sto
       one_piece = λ place boundary less.
           let same : before + place ≡ before + sent + (place - sent) = omega (arith, less) in
           let there = subst (λ (p : Pacing). IsBoundary p.pieces (p.before + place)) (sym are) boundary in
-          omega (arith, less, stopped.one_send (place - sent) (inl (subst (IsBoundary pieces) same there)) (omega (arith, less)));
+          omega (
+            arith,
+            less,
+            stopped.one_send (place - sent) (inl (subst (IsBoundary pieces) same there))
+                (omega (arith, less)),
+          );
       one_send = λ place head less.
           let same : before + place ≡ before + sent + (place - sent) = omega (arith, less) in
           let there = subst (λ (p : Pacing). IsHeadEnd p.pieces (p.before + place)) (sym are) head in
-          omega (arith, less, stopped.one_send (place - sent) (inr (subst (IsHeadEnd pieces) same there)) (omega (arith, less)));
+          omega (
+            arith,
+            less,
+            stopped.one_send (place - sent) (inr (subst (IsHeadEnd pieces) same there))
+                (omega (arith, less)),
+          );
       told = stopped.told ∙ ap (λ (l : List ℕ). told_more told_old (sends l)) cut
           ∙ ap (λ (p : Pacing). told_more told_old
           (sends (bytes_between p.pieces (p.before + p.sent) (p.before + (sent + stopped.out))))) are;

@@ -1,6 +1,8 @@
 -- Bytes that are sent in several sends.
-use Rattle.std.proofs.Common.{◌≡◌, ℕ, ◌+◌, ◌-◌, ◌<◌, ◌≤◌, List, ◌++◌, length, take, drop, min, Option, refl, sym, ap, ◌∙◌, arith, inl, inr}
-use Rattle.std.proofs.lemmas.List.{append-nil, take-append-le, take-take, take_all, length-take, length-append, length-drop, drop-drop, map-append}
+use Rattle.std.proofs.Common.{◌≡◌, ℕ, ◌+◌, ◌-◌, ◌<◌, ◌≤◌, List, ◌++◌, length, take, drop, min, Option}
+use Rattle.std.proofs.Common.{refl, sym, ap, ◌∙◌, arith, inl, inr}
+use Rattle.std.proofs.lemmas.List.{append-nil, take-append-le, take-take, take_all, length-take}
+use Rattle.std.proofs.lemmas.List.{length-append, length-drop, drop-drop, map-append}
 use Rattle.std.proofs.Math.Seq.{take-append-add, take-add}
 use Rattle.std.proofs.lemmas.Bool.{cases_lt}
 use Rattle.film_frames.specs.Tracks.{framed_bytes, IsNext, IsSplit}
@@ -17,10 +19,14 @@ sends-more {new} old a b first then =
     then ∙ ap (λ (t : Option (List Doing)). told_more t (sends b)) first ∙ told_more-append old (sends a) (sends b)
     ∙ ap (λ (l : List Doing). told_more old l) (sym (map-append Sent a b))
 
--- the first bytes of two texts, one after the other
-pub take-both : {c d : List ℕ} (most : ℕ) (a b : List ℕ) → c ≡ take most a → d ≡ take (most - length c) b
+-- the first bytes of a head and of the payload after it, so many in all
+pub record AreFirst (most : ℕ) (head payload first then : List ℕ) : Type 0 where
+  pub of_head : first ≡ take most head
+  pub of_payload : then ≡ take (most - length first) payload
+
+take-first : {c d : List ℕ} (most : ℕ) (a b : List ℕ) → c ≡ take most a → d ≡ take (most - length c) b
     → take most (a ++ b) ≡ c ++ d
-take-both {c} most a b first then =
+take-first {c} most a b first then =
     elim (cases_lt (length a) most) [
       | inl l ↦
           let whole : take most a ≡ a = take_all most a (omega arith) in
@@ -34,6 +40,14 @@ take-both {c} most a b first then =
           ∙ ap (λ (l : List ℕ). c ++ l) (sym then)
     ]
 
+pub take-both : {most : ℕ} {head payload first then : List ℕ} → AreFirst most head payload first then
+    → take most (head ++ payload) ≡ first ++ then
+take-both {most} {head} {payload} are = take-first most head payload are.of_head are.of_payload
+
+take-size : {most : ℕ} {head payload first then : List ℕ} → AreFirst most head payload first then
+    → length (take most (head ++ payload)) ≡ length first + length then
+take-size {first} {then} are = ap length (take-both are) ∙ length-append first then
+
 -- bytes in two sends
 pub both-sent : {middle new : Option (List Doing)} {all : List ℕ} (old : Option (List Doing))
     (first then : List ℕ) → all ≡ first ++ then → middle ≡ told_more old (sends first)
@@ -42,14 +56,13 @@ both-sent {new} {all} old first then are one other =
     sends-more old first then one other ∙ ap (λ (l : List ℕ). told_more old (sends l)) (sym are)
 
 -- the head's send failed
-pub head-stopped : {old new : Option (List Doing)} {first then : List ℕ} (most : ℕ) (head payload : List ℕ)
-    → first ≡ take most head → then ≡ take (most - length first) payload → IsFrontTold old new first → 0 < length first
+pub head-stopped : {old new : Option (List Doing)} {most : ℕ} {head payload first then : List ℕ}
+    → AreFirst most head payload first then → IsFrontTold old new first → 0 < length first
     → HasStopped (λ place. place ≡ length head) (take most (head ++ payload)) old new 0
-head-stopped {old} {new} {first} {then} most head payload first_is then_is front some =
+head-stopped {old} {most} {head} {payload} {first} {then} are front some =
     let out = front.0 in
-    let are = take-both most head payload first_is then_is in
-    let size : length (take most (head ++ payload)) ≡ length first + length then = ap length are ∙ length-append first then in
-    let within : length first ≤ length head = omega (arith, ap length first_is, length-take most head) in
+    let size = take-size are in
+    let within : length first ≤ length head = omega (arith, ap length are.of_head, length-take most head) in
     record {
       before_end = omega (arith, size, some);
       out = out;
@@ -58,25 +71,24 @@ head-stopped {old} {new} {first} {then} most head payload first_is then_is front
       one_send = λ seam is less. omega (arith, is, front.1.0, within);
       told = front.1.1
           ∙ ap (λ (l : List ℕ). told_more old (sends l))
-          (sym (take-append-le out first then front.1.0) ∙ ap (λ (l : List ℕ). take out l) (sym are));
+          (sym (take-append-le out first then front.1.0) ∙ ap (λ (l : List ℕ). take out l) (sym (take-both are)));
     }
 
 -- the payload's send failed: then the head was sent to its end
-pub payload-stopped : {old middle new : Option (List Doing)} {first then : List ℕ} (most : ℕ) (head payload : List ℕ)
-    → first ≡ take most head → then ≡ take (most - length first) payload → middle ≡ told_more old (sends first)
+pub payload-stopped : {old middle new : Option (List Doing)} {most : ℕ} {head payload first then : List ℕ}
+    → AreFirst most head payload first then → middle ≡ told_more old (sends first)
     → IsFrontTold middle new then → 0 < length then
     → HasStopped (λ place. place ≡ length head) (take most (head ++ payload)) old new (length first)
-payload-stopped {old} {new} {first} {then} most head payload first_is then_is one front some =
+payload-stopped {old} {most} {head} {payload} {first} {then} are one front some =
     let out = front.0 in
-    let are = take-both most head payload first_is then_is in
-    let size : length (take most (head ++ payload)) ≡ length first + length then = ap length are ∙ length-append first then in
+    let size = take-size are in
     let all : length head ≤ length first =
     omega (
       arith,
       some,
-      ap length first_is,
+      ap length are.of_head,
       length-take most head,
-      ap length then_is,
+      ap length are.of_payload,
       length-take (most - length first) payload,
     ) in
     record {
@@ -87,7 +99,8 @@ payload-stopped {old} {new} {first} {then} most head payload first_is then_is on
       one_send = λ seam is less. absurd (omega (arith, is, less, all));
       told = sends-more old first (take out then) one front.1.1
           ∙ ap (λ (l : List ℕ). told_more old (sends l))
-          (sym (take-append-add first then out) ∙ ap (λ (l : List ℕ). take (length first + out) l) (sym are));
+          (sym (take-append-add first then out)
+          ∙ ap (λ (l : List ℕ). take (length first + out) l) (sym (take-both are)));
     }
 
 -- ---- bytes of a track
@@ -97,7 +110,8 @@ pub between-join : (pieces : List (List ℕ)) (from at to : ℕ) → from ≤ at
 between-join pieces from at to first then =
     let all = framed_bytes pieces in
     let place : from + (at - from) ≡ at = omega (arith, first) in
-    let moved : drop (at - from) (drop from all) ≡ drop at all = drop-drop (at - from) from all ∙ ap (λ n. drop n all) place in
+    let moved : drop (at - from) (drop from all) ≡ drop at all =
+    drop-drop (at - from) from all ∙ ap (λ n. drop n all) place in
     let count : at - from + (to - at) ≡ to - from = omega (arith, first, then) in
     sym (ap (λ n. take n (drop from all)) (sym count) ∙ take-add (at - from) (to - at) (drop from all)
     ∙ ap (λ (l : List ℕ). take (at - from) (drop from all) ++ take (to - at) l) moved)
@@ -130,8 +144,8 @@ next-are pieces at most next is =
     ]
 
 -- one part more was sent
-pub more-sent : {pieces : List (List ℕ)} {at : ℕ} {next : List ℕ} {middle new : Option (List Doing)} {from : ℕ} (most : ℕ)
-    (old : Option (List Doing)) → IsNext pieces at next → from ≤ at
+pub more-sent : {pieces : List (List ℕ)} {at : ℕ} {next : List ℕ} {middle new : Option (List Doing)} {from : ℕ}
+    (most : ℕ) (old : Option (List Doing)) → IsNext pieces at next → from ≤ at
     → middle ≡ told_more old (sends (bytes_between pieces from at)) → new ≡ told_more middle (sends (take most next))
     → new ≡ told_more old (sends (bytes_between pieces from (at + min (length next) most)))
 more-sent {pieces} {at} {next} {new} {from} most old is order first then =
@@ -140,22 +154,30 @@ more-sent {pieces} {at} {next} {new} {from} most old is order first then =
     (ap (λ (l : List ℕ). bytes_between pieces from at ++ l) (next-are pieces at most next is)
     ∙ between-join pieces from at (at + min (length next) most) order (omega arith))
 
+-- where a track's bytes go out from one place to another, and were sent up to `at`, its part there: the
+-- head and the payload that come next
+pub record IsPartAt (pieces : List (List ℕ)) (from to at : ℕ) (head payload : List ℕ) : Type 0 where
+  pub order : from ≤ at
+  pub before_end : at ≤ to
+  pub within : to ≤ length (framed_bytes pieces)
+  pub next : IsNext pieces at (head ++ payload)
+  pub split : IsSplit pieces at (length head) (length payload)
+
 -- a part failed
-pub part-stopped : {pieces : List (List ℕ)} {at head_bytes : ℕ} {old middle new : Option (List Doing)}
-    {whole from to : ℕ} (head payload : List ℕ) → IsNext pieces at (head ++ payload)
-    → IsSplit pieces at head_bytes (length payload) → length head ≡ head_bytes
-    → from ≤ at → at ≤ to
-    → to ≤ length (framed_bytes pieces) → middle ≡ told_more old (sends (bytes_between pieces from at))
+pub part-stopped : {pieces : List (List ℕ)} {from to at : ℕ} {head payload : List ℕ}
+    {old middle new : Option (List Doing)} {whole : ℕ} → IsPartAt pieces from to at head payload
+    → middle ≡ told_more old (sends (bytes_between pieces from at))
     → HasStopped (λ place. place ≡ length head) (take (to - at) (head ++ payload)) middle new whole
     → HasStopped (λ place. IsSeam pieces (from + place)) (bytes_between pieces from to) old new (at - from + whole)
-part-stopped {pieces} {at} {head_bytes} {old} {new} {whole} {from} {to} head payload is split long order
-    then within first stopped =
+part-stopped {pieces} {from} {to} {at} {head} {payload} {old} {whole} part first stopped =
     let next = head ++ payload in
     let most = to - at in
     let end = at + min (length next) most in
-    let are = next-are pieces at most next is in
+    let are = next-are pieces at most next part.next in
+    let order : from ≤ at = part.order in
+    let then : at ≤ to = part.before_end in
     let size : length (take most next) ≤ most = omega (arith, length-take most next) in
-    let all = between-length pieces from to (omega (arith, order, then)) within in
+    let all = between-length pieces from to (omega (arith, order, then)) part.within in
     let out = stopped.out in
     let cut : take out (take most next) ≡ bytes_between pieces at (at + out) =
     ap (λ (l : List ℕ). take out l) are
@@ -163,7 +185,8 @@ part-stopped {pieces} {at} {head_bytes} {old} {new} {whole} {from} {to} head pay
     ∙ ap (λ n. take n (drop at (framed_bytes pieces))) (omega arith) in
     let joined : bytes_between pieces from at ++ take out (take most next)
     ≡ take (at - from + out) (bytes_between pieces from to) =
-    ap (λ (l : List ℕ). bytes_between pieces from at ++ l) cut ∙ between-join pieces from at (at + out) order (omega arith)
+    ap (λ (l : List ℕ). bytes_between pieces from at ++ l) cut
+    ∙ between-join pieces from at (at + out) order (omega arith)
     ∙ ap (λ n. take n (drop from (framed_bytes pieces))) (omega (arith, order))
     ∙ sym (take-take (at - from + out) (to - from) (drop from (framed_bytes pieces))
     (omega (arith, order, then, stopped.out_most, size))) in
@@ -176,17 +199,17 @@ part-stopped {pieces} {at} {head_bytes} {old} {new} {whole} {from} {to} head pay
         | inl boundary ↦
             omega (
               arith,
-              is.one_piece (from + place) boundary (omega (arith, order, less)),
+              part.next.one_piece (from + place) boundary (omega (arith, order, less)),
               stopped.out_most,
               length-take most next,
               order,
             )
-        | inr end ↦ elim (cases_lt (from + place) (at + head_bytes + length payload)) [
+        | inr end ↦ elim (cases_lt (from + place) (at + length head + length payload)) [
           | inl l ↦
-              let here : from + place ≡ at + head_bytes = split.only (from + place) end (omega (arith, order, less)) l in
-              omega (arith, here, order, long, stopped.one_send (length head) refl (omega (arith, here, order, long, less)))
-          | inr g ↦
-              omega (arith, g, order, long, length-append head payload, stopped.out_most, length-take most next)
+              let here : from + place ≡ at + length head =
+              part.split.only (from + place) end (omega (arith, order, less)) l in
+              omega (arith, here, order, stopped.one_send (length head) refl (omega (arith, here, order, less)))
+          | inr g ↦ omega (arith, g, order, length-append head payload, stopped.out_most, length-take most next)
         ]
       ];
       told = sends-more old (bytes_between pieces from at) (take out (take most next)) first stopped.told

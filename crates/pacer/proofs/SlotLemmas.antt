@@ -1,5 +1,6 @@
 -- What each slot brings.
-use Rattle.std.proofs.Common.{◌≡◌, ℕ, ◌+◌, ◌-◌, ◌≤◌, List, length, sum, min, max, slice_index, refl, sym, ap, ◌∙◌, arith, inl, inr}
+use Rattle.std.proofs.Common.{◌≡◌, ℕ, ◌+◌, ◌-◌, ◌≤◌, List, length, sum, min, max, slice_index, refl}
+use Rattle.std.proofs.Common.{sym, ap, ◌∙◌, arith, inl, inr}
 use Rattle.std.proofs.lemmas.Bool.{cases_lt}
 use Rattle.std.proofs.lemmas.List.{take_all}
 use Rattle.std.proofs.lemmas.List.Sums.{sum_by_more, sum_by-take-le}
@@ -28,7 +29,8 @@ due-through : (p : Pacing) (slot : ℕ) → IsPacing p → IsLatest p slot
 due-through p slot is at =
     let begun = at.begun in
     let same : slots_by p slot ≡ slot - p.start + 1 = omega arith in
-    let bytes : first_slots p.plan (slots_by p slot) ≡ sum_through p.plan (slot - p.start) = ap (first_slots p.plan) same in
+    let bytes : first_slots p.plan (slots_by p slot) ≡ sum_through p.plan (slot - p.start) =
+    ap (first_slots p.plan) same in
     let rise = first-slots-rise p.plan p.passed (slot - p.start + 1) at.latest in
     omega (arith, bytes, rise, is.due)
 
@@ -61,12 +63,20 @@ sends-next p slot is = λ at.
     let most = most-slots p.plan (slot - p.start + 1) is.plan in
     record {
       bytes = omega (arith, due, before, more, most, at.whole, at.even);
-      next = record { begun = omega (arith, begun); passed = omega (arith, at.passed, begun); whole = at.whole; even = refl };
+      next =
+          record {
+            begun = omega (arith, begun);
+            passed = omega
+                (arith, at.passed, begun);
+            whole = at.whole;
+            even = refl;
+          };
     }
 
 pub stops-at-boundary : (p : Pacing) (slot : ℕ) → IsPacing p → StopsAtBoundary p slot
 stops-at-boundary p slot is = λ place at.
-    let within : p.before + p.sent ≤ length (framed_bytes p.pieces) = omega (arith, is.sent, is.due, is.most, is.whole) in
+    let within : p.before + p.sent ≤ length (framed_bytes p.pieces) =
+    omega (arith, is.sent, is.due, is.most, is.whole) in
     let same = boundary-is p.pieces (p.before + p.sent) (p.before + place) within at in
     let next : place ≡ boundary_from p.pieces (p.before + p.sent) - p.before = omega (arith, same) in
     ap (λ n. min (due_by p slot) n) (sym next)

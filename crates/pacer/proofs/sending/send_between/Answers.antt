@@ -2,8 +2,9 @@ use Rattle.std.proofs.Common.{◌≡◌, ◌+◌, ◌-◌, ◌++◌, drop, lengt
 use Rattle.std.specs.Prelude.{slice_range}
 use Rattle.std.proofs.lemmas.List.{length-drop, length-take-le}
 use Rattle.vod_base.specs.Links.{told_more, sends}
+use Rattle.film_frames.specs.Tracks.{IsSplit}
 use Rattle.pacer.specs.Boundaries.{bytes_between}
-use Rattle.pacer.proofs.SendingLemmas.{more-sent, part-stopped}
+use Rattle.pacer.proofs.SendingLemmas.{IsPartAt, more-sent, part-stopped}
 use Rattle.pacer.proofs.sending.send_between.Goals as goal
 
 pub loop-at-preserved : goal.loop-at-preserved
@@ -31,5 +32,13 @@ returns-in-Err-clause-stopped g c =
     let rest = drop its.head_from block in
     let long = length-take-le (its.head_to - its.head_from) rest
     (omega (arith, length-drop its.head_from block, part.within, c.part-part.array_long)) in
-    part-stopped (slice_range block its.head_from its.head_to) its.payload.now part.bytes part.heads long
-    c.loop-at.invariant.least c.loop-at.invariant.most c.requires.within c.loop-at.invariant.told c.in-Err.ensures.stopped
+    let pieces = g.T.Track.pieces c.args.track.now in
+    let head = slice_range block its.head_from its.head_to in
+    let at : IsPartAt pieces c.args.from c.args.to c.loop-at.at head its.payload.now = record {
+      order = c.loop-at.invariant.least;
+      before_end = c.loop-at.invariant.most;
+      within = c.requires.within;
+      next = part.bytes;
+      split = subst (λ n. IsSplit pieces c.loop-at.at n (length its.payload.now)) (sym long) part.heads;
+    } in
+    part-stopped at c.loop-at.invariant.told c.in-Err.ensures.stopped

@@ -12,7 +12,8 @@ invariant_of-self g c =
     let pieces = g.T.Track.pieces old.track in
     let number : ℕ = c.args.slot - old.start + 1 in
     let both = due-of-both old.cursor (slots_through old.last) number old.keep old.due is.due in
-    let due : c.max-self-inside.result ≡ min (first_slots old.cursor (slots_through c.later_of-self-inside.result)) old.keep =
+    let due : c.max-self-inside.result ≡ min (first_slots old.cursor
+    (slots_through c.later_of-self-inside.result)) old.keep =
     c.max-self-inside.ensures
     ∙ ap (λ n. max old.due n) (c.min-reached.ensures ∙ ap (λ n. min n old.keep) c.sum_at.ensures.value)
     ∙ both ∙ ap (λ n. min (first_slots old.cursor n) old.keep) (sym c.later_of-self-inside.ensures) in
