@@ -42,7 +42,8 @@ frames-carry run frames octets (Report unit ∷ pieces) = frames-carry run (fram
 frames-carry run frames octets (Frame unit p ∷ pieces) =
     flat_map-cons (λ (frame : List ℕ). drop 20 frame) (piece_bytes run frames octets (Frame unit p))
     (frames_among pieces (blocks_from run (frames + 1) (octets + octets_of (Frame unit p)) pieces))
-    ∙ ap (λ (l : List ℕ). payload run.film p ++ l) (frames-carry run (frames + 1) (octets + octets_of (Frame unit p)) pieces)
+    ∙ ap (λ (l : List ℕ). payload run.film p ++ l)
+    (frames-carry run (frames + 1) (octets + octets_of (Frame unit p)) pieces)
 
 carried-append : (film : List ℕ) (xs ys : List Piece) → carried film (xs ++ ys) ≡ carried film xs ++ carried film ys
 unfolding carried
@@ -52,7 +53,8 @@ carried-append film (Frame unit p ∷ xs) ys =
     ap (λ (l : List ℕ). payload film p ++ l) (carried-append film xs ys)
     ∙ sym (append_assoc (payload film p) (carried film xs) (carried film ys))
 
-reports-carry : (film : List ℕ) (unit : PictureUnit) (starts : Bool) → carried film (cond starts (Report unit ∷ []) []) ≡ []
+reports-carry : (film : List ℕ) (unit : PictureUnit) (starts : Bool)
+    → carried film (cond starts (Report unit ∷ []) []) ≡ []
 unfolding carried
 reports-carry film unit true = refl
 reports-carry film unit false = refl
@@ -98,7 +100,8 @@ units-carry {end} {starts} {units = unit ∷ units} {from} {to} film are =
     ap (λ (l : List Piece). carried film l) (pieces-cons starts unit units)
     ∙ carried-append film (unit_pieces starts unit) (pieces_of starts units)
     ∙ ap (λ (l : List ℕ). l ++ carried film (pieces_of starts units)) (unit-carries film starts unit are.laid.0.1)
-    ∙ ap (λ (l : List ℕ). take (unit.to - unit.from) (drop unit.from film) ++ l) (units-carry {units = units} film later)
+    ∙ ap (λ (l : List ℕ). take (unit.to - unit.from) (drop unit.from film) ++ l)
+    (units-carry {units = units} film later)
     ∙ ap (λ n. take (unit.to - n) (drop n film) ++ take (to - unit.to) (drop unit.to film)) are.chained.0
     ∙ ranges-join film from unit.to to (omega (arith, are.chained.0, unit-le starts unit are.laid.0.1))
     (units-le later)
@@ -175,7 +178,8 @@ pub run-sum : (film : Film) (first_unit end_unit : ℕ) (identity : Identity) �
     → end_unit ≤ length film.units.items
     → AreSound film.bytes.items (pieces_in (run_of film first_unit end_unit identity))
     × (length (framed_bytes (run_pieces (run_of film first_unit end_unit identity)))
-    ≡ sum (map (λ u. wire_size film.slice_starts.items u) (take (end_unit - first_unit) (drop first_unit film.units.items))))
+    ≡ sum (map (λ u. wire_size film.slice_starts.items u)
+    (take (end_unit - first_unit) (drop first_unit film.units.items))))
 run-sum film first_unit end_unit identity order within =
     let run = run_of film first_unit end_unit identity in
     let starts = film.slice_starts.items in

@@ -89,7 +89,8 @@ piece-block run frames octets (Frame unit p) =
     block-is run.identity.channel
     (head_bytes (packet_head run.identity (picture_time run.rate) unit p frames) ++ payload run.film p)
 
-pub are-blocks : (run : FramedRun) (frames octets : ℕ) (pieces : List Piece) → AreBlocks (blocks_from run frames octets pieces)
+pub are-blocks : (run : FramedRun) (frames octets : ℕ) (pieces : List Piece)
+    → AreBlocks (blocks_from run frames octets pieces)
 are-blocks run frames octets [] k h = absurd (omega (arith, h))
 are-blocks run frames octets (piece ∷ pieces) zero h = piece-block run frames octets piece
 are-blocks run frames octets (piece ∷ pieces) (suc k) h =

@@ -50,8 +50,10 @@ units-wire end starts [] laid = refl
 units-wire end starts (unit ∷ units) laid =
     let rest = units-wire end starts units laid.1 in
     let one = unit-wire starts unit laid.0.1 in
-    let all : wire_in (pieces_of starts (unit ∷ units)) ≡ wire_in (unit_pieces starts unit) + wire_in (pieces_of starts units) =
-    ap (λ l. wire_in l) (pieces-cons starts unit units) ∙ wire-append (unit_pieces starts unit) (pieces_of starts units) in
+    let all : wire_in (pieces_of starts (unit ∷ units))
+    ≡ wire_in (unit_pieces starts unit) + wire_in (pieces_of starts units) =
+    ap (λ l. wire_in l) (pieces-cons starts unit units)
+    ∙ wire-append (unit_pieces starts unit) (pieces_of starts units) in
     omega (arith, all, one, rest, sum_by-cons (λ n. n) (wire_size starts unit) (map (λ u. wire_size starts u) units))
 
 -- units that lie so, one after another, from a place to another
@@ -69,7 +71,8 @@ units-le {units = []} are = omega (arith, are.chained)
 units-le {starts} {units = unit ∷ units} are =
     omega (arith, are.chained.0, unit-le starts unit are.laid.0.1, units-le {units = units} (later-units are))
 
-pub units-bound : {end : ℕ} {starts : List ℕ} {units : List PictureUnit} {from to : ℕ} → AreUnits end starts units from to
+pub units-bound : {end : ℕ} {starts : List ℕ} {units : List PictureUnit} {from to : ℕ}
+    → AreUnits end starts units from to
     → sum (map (λ u. wire_size starts u) units) + 2 * from ≤ 2 * to + 112 * length units
 units-bound {units = []} are = omega (arith, are.chained)
 units-bound {starts} {units = unit ∷ units} are =
@@ -84,15 +87,18 @@ units-bound {starts} {units = unit ∷ units} are =
     )
 
 pub units-film : (film : Film)
-    → AreUnits (length film.bytes.items) film.slice_starts.items film.units.items (film-from film) (length film.bytes.items)
+    → AreUnits (length film.bytes.items) film.slice_starts.items film.units.items (film-from film)
+    (length film.bytes.items)
 units-film film = record { laid = laid-film film; chained = film-in_order film }
 
-pub film-wire : (film : Film) → wire_in (film_pieces film) ≡ sum (map (λ u. wire_size film.slice_starts.items u) film.units.items)
+pub film-wire : (film : Film) → wire_in (film_pieces film)
+    ≡ sum (map (λ u. wire_size film.slice_starts.items u) film.units.items)
 film-wire film = units-wire (length film.bytes.items) film.slice_starts.items film.units.items (laid-film film)
 
 pub film-few : (film : Film) → length film.units.items ≤ 4194304
 film-few film =
-    let units = ap (λ (l : List PictureUnit). length l) film.grammar.units ∙ film-units film.bytes.items film.grammar.accepted in
+    let units =
+    ap (λ (l : List PictureUnit). length l) film.grammar.units ∙ film-units film.bytes.items film.grammar.accepted in
     omega (arith, units, film-pictures (read_after [] film.bytes.items) film.grammar.accepted)
 
 pub film-bound : (film : Film) → sum (map (λ u. wire_size film.slice_starts.items u) film.units.items) ≤ 2 ^ 42

@@ -25,14 +25,16 @@ pub front-back : (film : Film) (number : ℕ)
     → film_pieces film ≡ front_pieces film number ++ pieces_of film.slice_starts.items (drop number film.units.items)
 front-back film number =
     ap (λ l. pieces_of film.slice_starts.items l) (sym (take-append-drop number film.units.items))
-    ∙ flat_map-append (unit_pieces film.slice_starts.items) (take number film.units.items) (drop number film.units.items)
+    ∙ flat_map-append (unit_pieces film.slice_starts.items) (take number film.units.items)
+    (drop number film.units.items)
 
 pub front-more : (film : Film) (number : ℕ) (unit : PictureUnit) → slice_get film.units.items number ≡ Some unit
     → front_pieces film (number + 1) ≡ front_pieces film number ++ unit_pieces film.slice_starts.items unit
 front-more film number unit is =
     let starts = film.slice_starts.items in
     let its = get_or_from_slice_get film.units.items number unit unit is in
-    ap (λ l. pieces_of starts l) (take_more film.units.items number unit (slice_get_within film.units.items number unit is))
+    ap (λ l. pieces_of starts l)
+    (take_more film.units.items number unit (slice_get_within film.units.items number unit is))
     ∙ flat_map-append (unit_pieces starts) (take number film.units.items) (get_or film.units.items number unit ∷ [])
     ∙ ap (λ u. front_pieces film number ++ pieces_of starts (u ∷ [])) its
     ∙ ap (λ l. front_pieces film number ++ l) (append-nil (unit_pieces starts unit))
@@ -49,7 +51,8 @@ front-bound film number =
 pub room : (units : List PictureUnit) (pieces : List Piece) (table : FrameTable) → IsTable units pieces table
     → wire_in pieces ≤ 2 ^ 42 → HasRoom table
 room units pieces table is most =
-    let wire = is.place (length pieces) (omega arith) ∙ ap (λ l. wire_in l) (take_all (length pieces) pieces (omega arith)) in
+    let wire =
+    is.place (length pieces) (omega arith) ∙ ap (λ l. wire_in l) (take_all (length pieces) pieces (omega arith)) in
     let place : get_or table.places.items (length table.rows.items) 0
     ≡ get_or table.places.items (length pieces) 0 = ap (λ n. get_or table.places.items n 0) is.rows_count in
     record {
@@ -75,7 +78,8 @@ pub packets-more : {i : ℕ} (film : Film) (number : ℕ) (unit : PictureUnit) (
 packets-more {i} film number unit packets some h =
     append_assoc (front_pieces film number ++ unit_reports unit) (map (λ p. Frame unit p) (take i packets))
     (Frame unit (get_or packets i some) ∷ [])
-    ∙ ap (λ l. (front_pieces film number ++ unit_reports unit) ++ l) (sym (map_more (λ p. Frame unit p) packets i some h))
+    ∙ ap (λ l. (front_pieces film number ++ unit_reports unit) ++ l)
+    (sym (map_more (λ p. Frame unit p) packets i some h))
 
 pub packets-all : {unit : PictureUnit} {packets : List Packet} (film : Film) (number i : ℕ)
     → slice_get film.units.items number ≡ Some unit → packets ≡ unit_packets film.slice_starts.items unit
@@ -92,7 +96,8 @@ pub packets-bound : {unit : PictureUnit} {packets : List Packet} (film : Film) (
     → wire_in (before_packet film number unit packets i) ≤ 2 ^ 42
 packets-bound {unit} {packets} film number i at is =
     let rest = map (λ p. Frame unit p) (drop i packets) in
-    let all : before_packet film number unit packets i ++ rest ≡ before_packet film number unit packets (length packets) =
+    let all : before_packet film number unit packets i ++ rest
+    ≡ before_packet film number unit packets (length packets) =
     append_assoc (front_pieces film number ++ unit_reports unit) (map (λ p. Frame unit p) (take i packets)) rest
     ∙ ap (λ l. (front_pieces film number ++ unit_reports unit) ++ l)
     (sym (map-append (λ p. Frame unit p) (take i packets) (drop i packets))
@@ -126,7 +131,8 @@ reports-some unit starts = ap (λ b. cond b (Report unit ∷ []) []) (sym starts
 pub reports-none : (film : Film) (number : ℕ) (unit : PictureUnit) → unit.starts_group ≡ false
     → front_pieces film number ≡ front_pieces film number ++ unit_reports unit
 reports-none film number unit starts =
-    sym (append-nil (front_pieces film number)) ∙ ap (λ b. front_pieces film number ++ cond b (Report unit ∷ []) []) (sym starts)
+    sym (append-nil (front_pieces film number))
+    ∙ ap (λ b. front_pieces film number ++ cond b (Report unit ∷ []) []) (sym starts)
 
 -- ---- more units have more pieces
 

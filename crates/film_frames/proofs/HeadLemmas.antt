@@ -22,7 +22,8 @@ no-report : (marker : Bool) → bit marker * 128 + 32 ≢ 200
 no-report true = λ is. omega (arith, is)
 no-report false = λ is. omega (arith, is)
 
-pub frame-heads : {unit : PictureUnit} {packet : Packet} (run : FramedRun) (frames octets : ℕ) → IsCutPacket run.film unit packet
+pub frame-heads : {unit : PictureUnit} {packet : Packet} (run : FramedRun) (frames octets : ℕ)
+    → IsCutPacket run.film unit packet
     → HasHeads (piece_bytes run frames octets (Frame unit packet))
 frame-heads {unit} {packet} run frames octets cut = record {
   interleaved = refl;
@@ -54,16 +55,24 @@ head-here : {pieces : List (List ℕ)} {at k bytes place : ℕ} → IsPart piece
     → HasHeads (get_or pieces k []) × (place ≡ begin_of pieces k + 20)
 head-here {pieces} {place} part past before is =
     let same = one-piece is.number part past before (omega (arith, is.place_is))
-    (omega (arith, is.place_is, is.frame.payload, begin-more pieces is.number is.among)) in
-    (subst (λ n. HasHeads (get_or pieces n [])) same is.frame, subst (λ n. place ≡ begin_of pieces n + 20) same is.place_is)
+    (omega (arith, is.place_is, is.frame.payload, begin-more pieces is.number is.among)) in (
+      subst (λ n. HasHeads (get_or pieces n [])) same is.frame,
+      subst (λ n. place ≡ begin_of pieces n + 20) same is.place_is,
+    )
 
 -- the bytes of a frame from a place on are split at the end of its heads
 pub frame-split : {pieces : List (List ℕ)} {at k : ℕ} (head payload : ℕ) → IsPart pieces k at (head + payload)
     → HasHeads (get_or pieces k [])
     → head ≡ 20 - min (at - begin_of pieces k) 20 → IsSplit pieces at head payload
 frame-split {k} head payload part heads is = record {
-  ends = λ some more. record { number = k; among = part.among; frame = heads; place_is = omega (arith, is, part.begins, some) };
-  only = λ place end past before. omega (arith, (head-here part past (omega (arith, before)) end).1, is, part.begins, past);
+  ends = λ some more. record {
+    number = k;
+    among = part.among;
+    frame = heads;
+    place_is = omega (arith, is, part.begins, some);
+  };
+  only = λ place end past before.
+      omega (arith, (head-here part past (omega (arith, before)) end).1, is, part.begins, past);
 }
 
 -- those of a report are all in the head

@@ -65,9 +65,11 @@ rest-next {pieces} {at} {k} {bytes} have within are =
 
 -- ---- the bytes of a report or a frame from a place on
 
-pub report-rest : (block : List ℕ) (o : ℕ) → length block ≡ 52 → o ≤ 52 → take (52 - o) (drop o block) ++ [] ≡ drop o block
+pub report-rest : (block : List ℕ) (o : ℕ) → length block ≡ 52 → o ≤ 52
+    → take (52 - o) (drop o block) ++ [] ≡ drop o block
 report-rest block o long within =
-    append-nil (take (52 - o) (drop o block)) ∙ take_all (52 - o) (drop o block) (omega (arith, length-drop o block, long))
+    append-nil (take (52 - o) (drop o block))
+    ∙ take_all (52 - o) (drop o block) (omega (arith, length-drop o block, long))
 
 -- a place in a frame: in the heads that begin these bytes, or in the payload of a packet of the film
 pub record InFrame (film block : List ℕ) (p : Packet) (o : ℕ) : Type 0 where

@@ -85,7 +85,8 @@ unit-sound film starts unit laid short =
 
 -- ---- the bytes of a unit on the wire
 
-frames-wire : (unit : PictureUnit) (packets : List Packet) → wire_in (map (λ p. Frame unit p) packets) ≡ frames_size packets
+frames-wire : (unit : PictureUnit) (packets : List Packet)
+    → wire_in (map (λ p. Frame unit p) packets) ≡ frames_size packets
 frames-wire unit [] = refl
 frames-wire unit (p ∷ packets) =
     sum_by-cons wire_of (Frame unit p) (map (λ q. Frame unit q) packets)
@@ -100,7 +101,8 @@ pub unit-wire : (starts : List ℕ) (unit : PictureUnit) → IsLaid starts unit
 unit-wire starts unit laid =
     sum_by-append wire_of (unit_reports unit) (map (λ p. Frame unit p) (unit_packets starts unit))
     ∙ ap (λ n. n + wire_in (map (λ p. Frame unit p) (unit_packets starts unit))) (reports-wire unit unit.starts_group)
-    ∙ ap (λ n. cond unit.starts_group 52 0 + n) (frames-wire unit (unit_packets starts unit) ∙ packets-size starts unit laid)
+    ∙ ap (λ n. cond unit.starts_group 52 0 + n)
+    (frames-wire unit (unit_packets starts unit) ∙ packets-size starts unit laid)
 
 at-most : (starts : Bool) → cond starts 52 0 ≤ 52
 at-most true = omega arith

@@ -35,7 +35,8 @@ record DoBothFollow (from mid to : ℕ) (xs ys : List Piece) : Type 0 where
   one : AreFollowing from xs mid
   other : AreFollowing mid ys to
 
-following-append : {from mid to : ℕ} {xs ys : List Piece} → DoBothFollow from mid to xs ys → AreFollowing from (xs ++ ys) to
+following-append : {from mid to : ℕ} {xs ys : List Piece} → DoBothFollow from mid to xs ys
+    → AreFollowing from (xs ++ ys) to
 following-append {to} {xs = []} {ys} both = subst (λ n. AreFollowing n ys to) (sym both.one) both.other
 following-append {mid} {to} {xs = x ∷ xs} {ys} both =
     let later : DoBothFollow (to_of x) mid to xs ys = record { one = both.one.1.1; other = both.other } in
@@ -47,7 +48,8 @@ frames-following unit from to [] cover = cover
 frames-following unit from to (p ∷ packets) cover =
     (cover.0, (omega (arith, cover.0, cover.1.0), frames-following unit p.to to packets cover.1.1.1))
 
-reports-following : (unit : PictureUnit) (starts : Bool) → AreFollowing unit.from (cond starts (Report unit ∷ []) []) unit.from
+reports-following : (unit : PictureUnit) (starts : Bool)
+    → AreFollowing unit.from (cond starts (Report unit ∷ []) []) unit.from
 reports-following unit true = (refl, (omega arith, refl))
 reports-following unit false = refl
 
@@ -95,7 +97,8 @@ from-at {pieces = Report unit ∷ pieces} {k = suc k} {piece} {reports} from to 
 from-at {pieces = Frame unit p ∷ pieces} {k = suc k} {piece} {reports} from to are stands =
     let frames = sum_by-cons count_of (Frame unit p) (take k pieces) in
     let wire = sum_by-cons wire_of (Frame unit p) (take k pieces) in
-    let later : StandsAfter pieces k piece reports = record { at = stands.at; count = omega (arith, stands.count, frames) } in
+    let later : StandsAfter pieces k piece reports =
+    record { at = stands.at; count = omega (arith, stands.count, frames) } in
     let rest = from-at {pieces = pieces} {k = k} p.to to are.1.1 later in
     omega (arith, rest, are.0, are.1.0, frames, wire)
 
@@ -106,7 +109,8 @@ first-from : {from : ℕ} {first : PictureUnit} (units : List PictureUnit) (to :
 first-from {from} {first} [] to chained some is = absurd (omega (arith, some))
 first-from {from} {first} (unit ∷ units) to chained some is = ap (λ (u : PictureUnit). u.from) is ∙ chained.0
 
-some-units : (starts : List ℕ) (units : List PictureUnit) (k : ℕ) → k < length (pieces_of starts units) → 0 < length units
+some-units : (starts : List ℕ) (units : List PictureUnit) (k : ℕ) → k < length (pieces_of starts units)
+    → 0 < length units
 some-units starts [] k h = absurd (omega (arith, h))
 some-units starts (unit ∷ units) k h = omega arith
 
@@ -119,7 +123,8 @@ pub film-payload : {number : ℕ} {first : PictureUnit} {piece : Piece} (film : 
     → from_of piece + 20 * frames_in (take number (film_pieces film)) + 52 * reports
     ≡ first.from + wire_in (take number (film_pieces film))
 film-payload {number} {first} {piece} film reports h is at count =
-    let from = first-from film.units.items (length film.bytes.items) (film-in_order film) (film-some film number h) is in
+    let from =
+    first-from film.units.items (length film.bytes.items) (film-in_order film) (film-some film number h) is in
     let stands : StandsAfter (film_pieces film) number piece reports = record { at = at; count = count } in
     from-at (film-from film) (length film.bytes.items) (units-following (units-film film)) stands
     ∙ ap (λ n. n + wire_in (take number (film_pieces film))) (sym from)

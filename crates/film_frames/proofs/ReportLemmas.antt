@@ -20,7 +20,8 @@ count_ended-before run k unit at =
     let pieces = run_pieces run in
     let within : k < length pieces =
     omega (arith, slice_get_within (pieces_in run) k (Report unit) at, blocks_from-count run 0 0 (pieces_in run)) in
-    let long : length (get_or pieces k []) ≡ 52 = ap (λ (l : List ℕ). length l) (blocks_from-at run 0 0 (pieces_in run) k at) in
+    let long : length (get_or pieces k []) ≡ 52 =
+    ap (λ (l : List ℕ). length l) (blocks_from-at run 0 0 (pieces_in run) k at) in
     count_ended-is pieces (begin_of pieces k) k (record {
       among = omega (arith, within);
       last = omega arith;

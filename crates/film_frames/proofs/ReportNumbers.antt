@@ -17,13 +17,15 @@ reports-push number last (Report other ∷ pieces) (Report unit) is =
     ap (λ l. number ∷ l) (reports-push (number + 1) last pieces (Report unit) (omega (arith, is)))
 reports-push number last (Report other ∷ pieces) (Frame unit p) is =
     ap (λ l. number ∷ l) (reports-push (number + 1) last pieces (Frame unit p) (omega (arith, is)))
-reports-push number last (Frame other q ∷ pieces) piece is = reports-push (number + 1) last pieces piece (omega (arith, is))
+reports-push number last (Frame other q ∷ pieces) piece is =
+    reports-push (number + 1) last pieces piece (omega (arith, is))
 
 pub reports-least : (number : ℕ) (pieces : List Piece) (i : ℕ) → i < length (report_numbers number pieces)
     → number ≤ get_or (report_numbers number pieces) i 0
 reports-least number [] i h = absurd (omega (arith, h))
 reports-least number (Report unit ∷ pieces) zero h = omega arith
-reports-least number (Report unit ∷ pieces) (suc i) h = omega (arith, reports-least (number + 1) pieces i (omega (arith, h)))
+reports-least number (Report unit ∷ pieces) (suc i) h =
+    omega (arith, reports-least (number + 1) pieces i (omega (arith, h)))
 reports-least number (Frame unit p ∷ pieces) i h = omega (arith, reports-least (number + 1) pieces i h)
 
 rise : (number : ℕ) (pieces : List Piece) (i j : ℕ) → i ≤ j → j < length (report_numbers number pieces)
@@ -37,7 +39,8 @@ rise number (Frame unit p ∷ pieces) i j order h = rise (number + 1) pieces i j
 
 pub reports-rise : (number : ℕ) (pieces : List Piece) → IsNonDecreasing (report_numbers number pieces)
 reports-rise number pieces =
-    IsNonDecreasingBy-from_default (λ n. n) (report_numbers number pieces) 0 (λ i j order h. rise number pieces i j order h)
+    IsNonDecreasingBy-from_default (λ n. n) (report_numbers number pieces) 0
+    (λ i j order h. rise number pieces i j order h)
 
 -- so many of these numbers lie below a place
 pub record AreBelow (numbers : List ℕ) (place count : ℕ) : Type 0 where
@@ -56,7 +59,8 @@ pub frames-below : (number : ℕ) (pieces : List Piece) (k count : ℕ) → k �
     → frames_in (take k pieces) + count ≡ k
 frames-below number pieces zero count h are = omega (arith, none-below number pieces count are)
 frames-below number [] (suc k) count h are = absurd (omega (arith, h))
-frames-below number (Report unit ∷ pieces) (suc k) zero h are = absurd (omega (arith, are.from 0 (omega arith) (omega arith)))
+frames-below number (Report unit ∷ pieces) (suc k) zero h are =
+    absurd (omega (arith, are.from 0 (omega arith) (omega arith)))
 frames-below number (Report unit ∷ pieces) (suc k) (suc count) h are =
     let rest : AreBelow (report_numbers (number + 1) pieces) (number + 1 + k) count = record {
       few = omega (arith, are.few);
@@ -91,6 +95,7 @@ reports-count {k} {count} pieces same h are =
 pub frames-few : (pieces : List Piece) (k : ℕ) → frames_in (take k pieces) ≤ k
 frames-few pieces zero = omega arith
 frames-few [] (suc k) = omega arith
-frames-few (Report unit ∷ pieces) (suc k) = omega (arith, frames-few pieces k, sum_by-cons count_of (Report unit) (take k pieces))
+frames-few (Report unit ∷ pieces) (suc k) =
+    omega (arith, frames-few pieces k, sum_by-cons count_of (Report unit) (take k pieces))
 frames-few (Frame unit p ∷ pieces) (suc k) =
     omega (arith, frames-few pieces k, sum_by-cons count_of (Frame unit p) (take k pieces))

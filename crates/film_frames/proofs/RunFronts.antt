@@ -86,7 +86,8 @@ sum-next f (u ∷ units) (suc k) unit is =
 pub unit-blocks : {unit : PictureUnit} {first_unit number : ℕ} (film : Film) (identity : Identity)
     → first_unit ≤ number → number < length film.units.items → slice_get film.units.items number ≡ Some unit
     → length (framed_bytes (run_pieces (run_of film first_unit (number + 1) identity)))
-    ≡ length (framed_bytes (run_pieces (run_of film first_unit number identity))) + wire_size film.slice_starts.items unit
+    ≡ length (framed_bytes (run_pieces (run_of film first_unit number identity)))
+    + wire_size film.slice_starts.items unit
 unit-blocks {unit} {first_unit} {number} film identity order within is =
     let units = drop first_unit film.units.items in
     let k = number - first_unit in
@@ -101,7 +102,8 @@ unit-blocks {unit} {first_unit} {number} film identity order within is =
 
 -- ---- the units of a range
 
-sum-front : (f : PictureUnit → ℕ) (units : List PictureUnit) (count : ℕ) → sum (map f (take count units)) ≤ sum (map f units)
+sum-front : (f : PictureUnit → ℕ) (units : List PictureUnit) (count : ℕ)
+    → sum (map f (take count units)) ≤ sum (map f units)
 sum-front f [] zero = omega arith
 sum-front f [] (suc count) = omega arith
 sum-front f (u ∷ units) zero = omega arith

@@ -19,7 +19,8 @@ use Rattle.film_frames.proofs.TrackLemmas.{AreEnds, begin-all, begin-le, begin-n
 
 -- ---- what a piece takes
 
-pub payload-length : (film : List ℕ) (p : Packet) → p.from ≤ p.to → p.to ≤ length film → length (payload film p) ≡ p.to - p.from
+pub payload-length : (film : List ℕ) (p : Packet) → p.from ≤ p.to → p.to ≤ length film
+    → length (payload film p) ≡ p.to - p.from
 payload-length film p order within =
     length-take-le (p.to - p.from) (drop p.from film) (omega (arith, length-drop p.from film, order, within))
 
@@ -126,7 +127,14 @@ have-count_ended {base} {pieces} {ends} {at} {upto} {k} are among least cut belo
       let later = from within in
       elim (cases_lt upto at) [
         | inl l ↦ absurd
-            (omega (arith, cut l, end, later, begin-le pieces (k + 1) (length pieces) (omega (arith, h)), begin-all pieces))
+            (omega (
+              arith,
+              cut l,
+              end,
+              later,
+              begin-le pieces (k + 1) (length pieces) (omega (arith, h)),
+              begin-all pieces,
+            ))
         | inr g ↦ omega (arith, g, end, later)
       ];
 }
@@ -154,4 +162,5 @@ count_ended-is (piece ∷ pieces) at (suc count) have =
       last = omega (arith, have.last, begin-cons piece pieces count);
       next = λ h. omega (arith, have.next (omega (arith, h)), begin-next piece pieces count, here);
     }) in
-    ap (λ b. cond b (count_ended (at - length piece) pieces + 1) 0) (le-leb (length piece) at here) ∙ omega (arith, rest)
+    ap (λ b. cond b (count_ended (at - length piece) pieces + 1) 0) (le-leb (length piece) at here)
+    ∙ omega (arith, rest)

@@ -40,18 +40,21 @@ between-of film first_unit end_unit identity order =
     let rest = pieces_of starts (drop end_unit film.units.items) in
     let last : end_unit ≡ first_unit + (end_unit - first_unit) = omega (arith, order) in
     let taken : drop first_unit (take end_unit film.units.items) ≡ run.units =
-    ap (λ n. drop first_unit (take n film.units.items)) last ∙ drop-take first_unit (end_unit - first_unit) film.units.items in
+    ap (λ n. drop first_unit (take n film.units.items)) last
+    ∙ drop-take first_unit (end_unit - first_unit) film.units.items in
     let units : front_pieces film end_unit ≡ front_pieces film first_unit ++ pieces_in run =
     front-front film first_unit end_unit order ∙ ap (λ l. front_pieces film first_unit ++ pieces_of starts l) taken in
     let all : film_pieces film ≡ front_pieces film first_unit ++ (pieces_in run ++ rest) =
-    front-back film end_unit ∙ ap (λ l. l ++ rest) units ∙ append_assoc (front_pieces film first_unit) (pieces_in run) rest in
+    front-back film end_unit ∙ ap (λ l. l ++ rest) units
+    ∙ append_assoc (front_pieces film first_unit) (pieces_in run) rest in
     let P : List Piece → Type 0 = λ l. AreSound film.bytes.items l in
     record {
       rest = rest;
       units = units;
       all = all;
       sound = sound-left film.bytes.items (pieces_in run) rest
-          (sound-right film.bytes.items (front_pieces film first_unit) (pieces_in run ++ rest) (subst P all (film-sound film)));
+          (sound-right film.bytes.items (front_pieces film first_unit) (pieces_in run ++ rest)
+          (subst P all (film-sound film)));
     }
 
 pub between : (film : Film) (first_unit end_unit : ℕ) (identity : Identity) (run : FramedRun)
@@ -72,7 +75,8 @@ sum-between {all} {before} {middle} {rest} {k} f among =
     let front_is : take (length before) all ≡ before =
     ap (λ (l : List Piece). take (length before) l) split ∙ take_at before (middle ++ rest) (length before) refl in
     let first : take (length before + k) (before ++ (middle ++ rest)) ≡ before ++ take k middle =
-    take-append-add before (middle ++ rest) k ∙ ap (λ (l : List Piece). before ++ l) (take-append-le k middle rest short) in
+    take-append-add before (middle ++ rest) k
+    ∙ ap (λ (l : List Piece). before ++ l) (take-append-le k middle rest short) in
     ap (λ m. sum_by f (take m all)) is
     ∙ ap (λ (l : List Piece). sum_by f (take (length before + k) l)) split
     ∙ ap (λ (l : List Piece). sum_by f l) first
@@ -105,14 +109,16 @@ run-count film first_unit end_unit identity run is =
     let units : length (front_pieces film end_unit)
     ≡ length (front_pieces film first_unit) + length (pieces_in run) =
     ap (λ (l : List Piece). length l) lies.units ∙ length-append (front_pieces film first_unit) (pieces_in run) in
-    let all : length (film_pieces film) ≡ length (front_pieces film first_unit) + (length (pieces_in run) + length lies.rest) =
+    let all : length (film_pieces film)
+    ≡ length (front_pieces film first_unit) + (length (pieces_in run) + length lies.rest) =
     ap (λ (l : List Piece). length l) lies.all
     ∙ length-append (front_pieces film first_unit) (pieces_in run ++ lies.rest)
     ∙ ap (λ n. length (front_pieces film first_unit) + n) (length-append (pieces_in run) lies.rest) in
     (units, omega (arith, units, all))
 
 among-run : {film : Film} {first_unit end_unit k n : ℕ} {run : FramedRun}
-    (lies : IsBetween film first_unit end_unit run) → k ≤ length (pieces_in run) → n ≡ length (front_pieces film first_unit) + k
+    (lies : IsBetween film first_unit end_unit run) → k ≤ length (pieces_in run)
+    → n ≡ length (front_pieces film first_unit) + k
     → IsAmong (film_pieces film) (front_pieces film first_unit) (pieces_in run) lies.rest k n
 among-run lies short at = record { split = lies.all; short = short; is = at }
 
@@ -133,7 +139,8 @@ run-begin {film} first_unit end_unit identity run k is =
     blocks_from-begin run 0 0 (pieces_in run) k (between film first_unit end_unit identity run is).sound
 
 pub run-piece : {film : Film} {first_unit end_unit : ℕ} {identity : Identity} {run : FramedRun} {n : ℕ} (k : ℕ)
-    → IsRun film first_unit end_unit identity run → k < length (pieces_in run) → n ≡ length (front_pieces film first_unit) + k
+    → IsRun film first_unit end_unit identity run → k < length (pieces_in run)
+    → n ≡ length (front_pieces film first_unit) + k
     → slice_get (film_pieces film) n ≡ slice_get (pieces_in run) k
 run-piece {film} {first_unit} {end_unit} {identity} {run} k is within at =
     let lies = between film first_unit end_unit identity run is in
@@ -150,7 +157,8 @@ pub run-ends : {film : Film} {first_unit end_unit : ℕ} {identity : Identity} {
     → length ends ≡ end - first
     → ((k : ℕ) → k < end - first → get_or ends k 0 ≡ wire_in (take (first + k + 1) (film_pieces film)))
     → AreEnds base (run_pieces run) ends
-run-ends {film} {first_unit} {end_unit} {identity} {run} {first} {end} {base} {ends} is first_is end_is base_is count each =
+run-ends {film} {first_unit} {end_unit} {identity} {run} {first} {end} {base} {ends}
+    is first_is end_is base_is count each =
     let counts = run-count film first_unit end_unit identity run is in
     let pieces = blocks_from-count run 0 0 (pieces_in run) in
     record {
@@ -161,13 +169,20 @@ run-ends {film} {first_unit} {end_unit} {identity} {run} {first} {end} {base} {e
           {run = run} {n = first + k + 1} wire_of (k + 1) is short (omega (arith, first_is)) in
           let from : base ≡ wire_in (take (length (front_pieces film first_unit)) (film_pieces film)) =
           base_is ∙ ap (λ n. wire_in (take n (film_pieces film))) first_is in
-          omega (arith, each k (omega (arith, h, count)), sum, from, run-begin first_unit end_unit identity run (k + 1) is);
+          omega (
+            arith,
+            each k (omega (arith, h, count)),
+            sum,
+            from,
+            run-begin first_unit end_unit identity run (k + 1) is,
+          );
     }
 
 -- the bytes of the run and all before it
 pub run-total : (film : Film) (first_unit end_unit : ℕ) (identity : Identity) (run : FramedRun)
     → IsRun film first_unit end_unit identity run
-    → wire_in (take (length (front_pieces film first_unit)) (film_pieces film)) + length (framed_bytes (run_pieces run)) ≤ 2 ^ 42
+    → wire_in (take (length (front_pieces film first_unit)) (film_pieces film))
+    + length (framed_bytes (run_pieces run)) ≤ 2 ^ 42
 run-total film first_unit end_unit identity run is =
     let n = length (pieces_in run) in
     let sum = sum-in-run wire_of n is (omega arith) refl in

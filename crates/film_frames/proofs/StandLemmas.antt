@@ -21,7 +21,8 @@ use Rattle.film_frames.proofs.BackLemmas.{laid-drop, laid-take}
 
 -- frames after a unit's first
 later-stand : {at : ℕ} (unit : PictureUnit) (packets : List Packet) (rest : List Piece)
-    → DoCover at packets unit.to → unit.from < at → DoReportsStand rest → DoReportsStand (map (λ p. Frame unit p) packets ++ rest)
+    → DoCover at packets unit.to → unit.from < at → DoReportsStand rest
+    → DoReportsStand (map (λ p. Frame unit p) packets ++ rest)
 later-stand {at} unit [] rest cover past stand = stand
 later-stand {at} unit (p ∷ packets) rest cover past stand = (
   (λ first. absurd (omega (arith, first, cover.0, past))),
@@ -48,7 +49,8 @@ order-le [] at to order = omega (arith, order)
 order-le (s ∷ starts) at to order = omega (arith, order.1.0, order-le starts (next_place to starts) to order.1.1)
 
 unit-some : (starts : List ℕ) (unit : PictureUnit) → IsLaid starts unit → unit.from < unit.to
-unit-some starts unit laid = omega (arith, laid.head, order-le (unit_starts starts unit) unit.head_end unit.to laid.in_order)
+unit-some starts unit laid =
+    omega (arith, laid.head, order-le (unit_starts starts unit) unit.head_end unit.to laid.in_order)
 
 units-stand : (starts : List ℕ) (end : ℕ) (units : List PictureUnit) → AreLaid end starts units
     → DoReportsStand (pieces_of starts units)

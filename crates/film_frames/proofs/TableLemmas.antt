@@ -20,7 +20,8 @@ use Rattle.film_frames.specs.declared.rows.Row.{Row}
 use Rattle.film_frames.specs.declared.tables.FrameTable.{FrameTable}
 use Rattle.film_frames.specs.Pieces.{film_pieces, from_of, front_pieces, pieces_of, unit_of}
 use Rattle.film_frames.specs.Pieces.{unit_pieces, unit_reports, wire_in, wire_of, wire_size}
-use Rattle.film_frames.specs.Tables.{IsFrameKept, IsFrameRow, IsRow, IsSound, IsTable, IsTableOf, kept_piece, with_report}
+use Rattle.film_frames.specs.Tables.{IsFrameKept, IsFrameRow, IsRow, IsSound, IsTable, IsTableOf}
+use Rattle.film_frames.specs.Tables.{kept_piece, with_report}
 use Rattle.film_frames.proofs.PieceLemmas.{length-le-wire, sound-at, unit-wire, wire-append}
 use Rattle.film_frames.proofs.FilmLemmas.{film-sound, unit-laid}
 use Rattle.film_frames.proofs.FrontLemmas.{front-back, front-bound, front-more}
@@ -109,7 +110,8 @@ table-push {units} {pieces} {piece} {row} {old} {new} {end} is its places rows r
     let w_new = subst P (sym places) w in
     record {
       places_count = w_new.count;
-      rows_count = ap length rows ∙ length_push old.rows.items row ∙ ap (λ n. n + 1) last ∙ sym (length_push pieces piece);
+      rows_count =
+          ap length rows ∙ length_push old.rows.items row ∙ ap (λ n. n + 1) last ∙ sym (length_push pieces piece);
       place = w_new.each;
       reports = reports ∙ ap (λ l. with_report (length old.rows.items) piece l) is.reports
           ∙ reports-push 0 (length old.rows.items) pieces piece (omega (arith, last));
@@ -145,11 +147,13 @@ front-place {film} {table} {first} {place} unit is h read its =
     (take_at (front_pieces film unit) (pieces_of film.slice_starts.items (drop unit film.units.items)) n refl)
 
 pub unit-place : (film : Film) (number : ℕ) (unit : PictureUnit) → slice_get film.units.items number ≡ Some unit
-    → wire_in (front_pieces film (number + 1)) ≡ wire_in (front_pieces film number) + wire_size film.slice_starts.items unit
+    → wire_in (front_pieces film (number + 1))
+    ≡ wire_in (front_pieces film number) + wire_size film.slice_starts.items unit
 unit-place film number unit at =
     ap (λ l. wire_in l) (front-more film number unit at)
     ∙ wire-append (front_pieces film number) (unit_pieces film.slice_starts.items unit)
-    ∙ ap (λ n. wire_in (front_pieces film number) + n) (unit-wire film.slice_starts.items unit (unit-laid film number unit at))
+    ∙ ap (λ n. wire_in (front_pieces film number) + n)
+    (unit-wire film.slice_starts.items unit (unit-laid film number unit at))
 
 -- ---- a piece that is read back
 
@@ -235,4 +239,5 @@ count-bound film number = omega (arith, length-le-wire (front_pieces film number
 pub count-all : (film : Film) (number count : ℕ) → length film.units.items ≤ number
     → count ≡ length (front_pieces film number) → count ≡ length (film_pieces film)
 count-all film number count all is =
-    is ∙ ap (λ (l : List PictureUnit). length (pieces_of film.slice_starts.items l)) (take_all number film.units.items all)
+    is ∙ ap (λ (l : List PictureUnit). length (pieces_of film.slice_starts.items l))
+    (take_all number film.units.items all)

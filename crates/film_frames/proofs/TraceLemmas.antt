@@ -40,7 +40,12 @@ running_sums-at from (size ∷ sizes) zero h = omega (arith, sum_by-cons (λ x. 
 running_sums-at from (size ∷ sizes) (suc k) h =
     let more : sum (take (suc k + 1) (size ∷ sizes)) ≡ sum (size ∷ take (k + 1) sizes) =
     ap (λ n. sum (take n (size ∷ sizes))) (let e : suc k + 1 ≡ suc (k + 1) = omega arith in e) in
-    omega (arith, running_sums-at (from + size) sizes k (omega (arith, h)), more, sum_by-cons (λ x. x) size (take (k + 1) sizes))
+    omega (
+      arith,
+      running_sums-at (from + size) sizes k (omega (arith, h)),
+      more,
+      sum_by-cons (λ x. x) size (take (k + 1) sizes),
+    )
 
 pub differences-running_sums : (from : ℕ) (sizes : List ℕ) → differences from (running_sums from sizes) ≡ sizes
 differences-running_sums from [] = refl
@@ -53,7 +58,11 @@ ends-zeros : (sizes : List ℕ) → AreEnds 0 (zero_frames sizes) (running_sums 
 ends-zeros sizes = record {
   count = length-running_sums 0 sizes ∙ sym (length-map sizes (λ size. replicate size 0));
   each = λ k h.
-      omega (arith, running_sums-at 0 sizes k (omega (arith, h, length-running_sums 0 sizes)), begin-zeros sizes (k + 1));
+      omega (
+        arith,
+        running_sums-at 0 sizes k (omega (arith, h, length-running_sums 0 sizes)),
+        begin-zeros sizes (k + 1),
+      );
 }
 
 pub trace-ends : (ends : List ℕ) → AreRunningSums ends → AreEnds 0 (zero_frames (differences 0 ends)) ends
@@ -63,7 +72,8 @@ trace-ends ends is =
 -- numbers that are the sums so far are the running sums
 pub running_sums-is : (sizes now : List ℕ) → length now ≡ length sizes
     → ((k : ℕ) → k < length sizes → get_or now k 0 ≡ sum (take (k + 1) sizes)) → now ≡ running_sums 0 sizes
-running_sums-is sizes now count each = same_lists now (running_sums 0 sizes) (count ∙ sym (length-running_sums 0 sizes)) (λ k d h.
+running_sums-is sizes now count each =
+    same_lists now (running_sums 0 sizes) (count ∙ sym (length-running_sums 0 sizes)) (λ k d h.
     get_or_default now k d 0 h ∙ each k (omega (arith, h, count)) ∙ let e : sum (take (k + 1) sizes)
     ≡ get_or (running_sums 0 sizes) k 0 = omega (arith, running_sums-at 0 sizes k (omega (arith, h, count))) in
     e ∙ get_or_default (running_sums 0 sizes) k 0 d (omega (arith, h, count, length-running_sums 0 sizes)))
@@ -100,7 +110,11 @@ trace-total ends sizes seen is =
           ≡ begin_of (zero_frames sizes) (length (zero_frames sizes)) =
           ap (λ n. begin_of (zero_frames sizes) n) (omega (arith, l, are.count)) in
           omega (arith, are.each last (omega (arith, l)), is.most last (omega (arith, l)), same, all)
-      | inr z ↦ omega (arith, begin-none (zero_frames sizes) (length (zero_frames sizes)) (omega (arith, z, are.count)), all)
+      | inr z ↦ omega (
+        arith,
+        begin-none (zero_frames sizes) (length (zero_frames sizes)) (omega (arith, z, are.count)),
+        all,
+      )
     ]
 
 -- the last end is the length of all
@@ -148,7 +162,8 @@ zeros-next {k} {at} {n} sizes are taken =
     open taken use {within, below, is, later, some, fits, zeros}
 
 -- one more sum
-pub sum-more : (sizes : List ℕ) (k : ℕ) → k < length sizes → sum (take (k + 1) sizes) ≡ sum (take k sizes) + get_or sizes k 0
+pub sum-more : (sizes : List ℕ) (k : ℕ) → k < length sizes
+    → sum (take (k + 1) sizes) ≡ sum (take k sizes) + get_or sizes k 0
 sum-more sizes k h = sum_by_more (λ x. x) sizes k 0 h
 
 pub sum-within : (sizes : List ℕ) (k : ℕ) → k < length sizes → sum (take k sizes) + get_or sizes k 0 ≤ sum sizes
@@ -182,10 +197,13 @@ summed-more {sizes} {now} {end} {number} {size} h is read =
           | inl e ↦
               let at : get_or (set now number (end + size)) k 0
               ≡ get_or (set now number (end + size)) number 0 = ap (λ n. get_or (set now number (end + size)) n 0) e in
-              let then : sum (take (number + 1) sizes) ≡ sum (take (k + 1) sizes) = ap (λ n. sum (take (n + 1) sizes)) (sym e) in
+              let then : sum (take (number + 1) sizes) ≡ sum (take (k + 1) sizes) =
+              ap (λ n. sum (take (n + 1) sizes)) (sym e) in
               at ∙ get_or-set_same now number (end + size) 0 (omega (arith, h, is.len)) ∙ more ∙ then
           | inr n ↦ get_or-set_other now number k (end + size) 0 n ∙ is.done k (omega (arith, l, n))
         ];
-        left = λ k l. get_or-set_other now number k (end + size) 0 (λ e. omega (arith, l, e)) ∙ is.left k (omega (arith, l));
+        left =
+            λ k l. get_or-set_other now number k (end + size) 0 (λ e. omega (arith, l, e))
+            ∙ is.left k (omega (arith, l));
       },
     )

@@ -136,7 +136,8 @@ next-found {pieces} {k} {at} {bytes} n within begins some ends are =
     record {
       some = omega (arith, some, count);
       bytes_are = are ∙ sym (bytes-within pieces k o n within fits)
-          ∙ ap (λ i. take n (drop i (framed_bytes pieces))) place ∙ ap (λ m. take m (drop at (framed_bytes pieces))) (sym count);
+          ∙ ap (λ i. take n (drop i (framed_bytes pieces))) place
+          ∙ ap (λ m. take m (drop at (framed_bytes pieces))) (sym count);
       one_piece = λ other b h.
           elim (cases_lt k b.number) [
             | inl l ↦ omega (arith, begin-le pieces (k + 1) b.number (omega (arith, l)), b.place_is, ends, count)
@@ -145,7 +146,8 @@ next-found {pieces} {k} {at} {bytes} n within begins some ends are =
     }
 
 -- where the piece begins that a search finds
-pub found-begins : {base : ℕ} {pieces : List (List ℕ)} {ends : List ℕ} (at k : ℕ) → AreEnds base pieces ends → k < length ends
+pub found-begins : {base : ℕ} {pieces : List (List ℕ)} {ends : List ℕ} (at k : ℕ) → AreEnds base pieces ends
+    → k < length ends
     → ((j : ℕ) → j < k → get_or ends j 0 < base + at + 1) → begin_of pieces k ≤ at
 found-begins {base} {pieces} {ends} at k are within below =
     elim (cases_lt 0 k) [

@@ -9,7 +9,8 @@ overflow_add-count-in-loop-number c =
     let unit = c.index.result.now in
     let at = slice_get_read film.units.items (length film.units.items) c.loop-number.number unit refl
     (omega (arith, c.loop-number-test.true, c.len-number-end.ensures, film.units.ok)) c.index.ensures in
-    let more = count-more film c.loop-number.number c.report_count.ensures at (c.in_ok-refill_packets.ensures unit at).list in
+    let more =
+    count-more film c.loop-number.number c.report_count.ensures at (c.in_ok-refill_packets.ensures unit at).list in
     omega (
       arith,
       more,
@@ -26,9 +27,11 @@ loop-number-preserved c =
     let unit = c.index.result.now in
     let at = slice_get_read film.units.items (length film.units.items) c.loop-number.number unit refl
     (omega (arith, c.loop-number-test.true, c.len-number-end.ensures, film.units.ok)) c.index.ensures in
-    let more = count-more film c.loop-number.number c.report_count.ensures at (c.in_ok-refill_packets.ensures unit at).list in
+    let more =
+    count-more film c.loop-number.number c.report_count.ensures at (c.in_ok-refill_packets.ensures unit at).list in
     omega (arith, more, c.loop-number.invariant, c.len.ensures, c.report_count.ensures, c.refill_packets.new.packets.ok)
 
 pub returns : goal.returns
 returns c = count-all c.args.film.now c.loop-number.number c.loop-number.count
-    (omega (arith, c.loop-number-test.false, c.len-number-end.ensures, c.args.film.now.units.ok)) c.loop-number.invariant
+    (omega (arith, c.loop-number-test.false, c.len-number-end.ensures, c.args.film.now.units.ok))
+    c.loop-number.invariant

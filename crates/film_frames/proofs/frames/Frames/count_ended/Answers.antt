@@ -49,7 +49,8 @@ ends_below-requires c =
 pub returns-clause-count_ended : goal.returns-clause-count_ended
 returns-clause-count_ended c =
     have-count_ended
-    (ends-are (goal.at.returns-clause-count_ended c).After-ends) c.ends_below.ensures.count (omega (arith, c.min.ensures))
+    (ends-are (goal.at.returns-clause-count_ended c).After-ends) c.ends_below.ensures.count
+    (omega (arith, c.min.ensures))
     (λ cut. omega (arith, c.min.ensures, c.total.ensures, cut)) (λ j h. c.ends_below.ensures.below j h)
     (λ h. c.ends_below.ensures.from c.ends_below.result (omega arith) h)
 

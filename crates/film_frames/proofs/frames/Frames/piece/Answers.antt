@@ -19,7 +19,8 @@ pub returns-clause-piece : goal.returns-clause-piece
 returns-clause-piece c =
     let f = c.self.inside in
     let has = is-run-of c.self.inside c.args.self.now c.self.view_is c.self.invariant in
-    sym (run-piece c.args.number has.is c.requires (ap (λ n. n + c.args.number) c.first_piece.ensures)) ∙ c.piece.ensures
+    sym (run-piece c.args.number has.is c.requires (ap (λ n. n + c.args.number) c.first_piece.ensures))
+    ∙ c.piece.ensures
 
 pub returns-clause-sound : goal.returns-clause-sound
 returns-clause-sound c =

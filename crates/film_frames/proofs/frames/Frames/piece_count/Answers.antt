@@ -15,4 +15,5 @@ returns-clause-count c =
     omega (arith, c.first_piece.ensures, c.first_piece-2.ensures, has.count)
 
 pub returns-clause-pieces : goal.returns-clause-pieces
-returns-clause-pieces c = returns-clause-count c ∙ sym (blocks_from-count c.args.self.now 0 0 (pieces_in c.args.self.now))
+returns-clause-pieces c =
+    returns-clause-count c ∙ sym (blocks_from-count c.args.self.now 0 0 (pieces_in c.args.self.now))

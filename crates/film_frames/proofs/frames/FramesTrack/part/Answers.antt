@@ -9,16 +9,20 @@ use Rattle.film_frames.proofs.RunLemmas.{count_ended-is}
 use Rattle.film_frames.proofs.NextLemmas.{InFrame, IsIn, count-among, ends-boundary, frame-part, is-in}
 use Rattle.film_frames.proofs.NextLemmas.{report-rest, rest-next}
 use Rattle.film_frames.proofs.frames.FramesTrack.part.Goals as goal
-use Rattle.film_frames.proofs.frames.FramesTrack.part.Goals.{After-count_ended-number, After-payload, After-put_heads, After-report}
+use Rattle.film_frames.proofs.frames.FramesTrack.part.Goals.{After-count_ended-number}
+use Rattle.film_frames.proofs.frames.FramesTrack.part.Goals.{After-payload, After-put_heads}
+use Rattle.film_frames.proofs.frames.FramesTrack.part.Goals.{After-report}
 
 -- ---- where the place lies
 
 among : (c : After-count_ended-number) → c.count_ended-number.result < length (pieces_in c.args.self.now)
 among c =
-    count-among c.args.self.now c.args.at c.count_ended-number.result c.count_ended-number.ensures.count_ended c.requires
+    count-among c.args.self.now c.args.at c.count_ended-number.result c.count_ended-number.ensures.count_ended
+    c.requires
 
 in-report : (c : After-report) → IsIn c.args.self.now c.args.at c.count_ended-number.result (Report c.in-Report.unit)
-in-report c = is-in c.count_ended-number.ensures.count_ended c.requires c.in-Report.ensures.piece c.in-Report.ensures.sound
+in-report c =
+    is-in c.count_ended-number.ensures.count_ended c.requires c.in-Report.ensures.piece c.in-Report.ensures.sound
 
 in-frame : (c : After-put_heads)
     → IsIn c.args.self.now c.args.at c.count_ended-number.result (Frame c.in-Frame.unit c.in-Frame.packet)
@@ -27,14 +31,16 @@ in-frame c = is-in c.count_ended-number.ensures.count_ended c.requires c.in-Fram
 -- what is taken of the frame: its bytes from the place on, and how many they are
 taken : (c : After-payload)
     → (take (20 - c.min.result) (drop c.min.result c.put_heads.new.head) ++ c.payload.result.now
-    ≡ drop (c.args.at - c.begin_of.result) (take 20 c.put_heads.new.head ++ payload c.args.self.now.film c.in-Frame.packet))
+    ≡ drop (c.args.at - c.begin_of.result)
+    (take 20 c.put_heads.new.head ++ payload c.args.self.now.film c.in-Frame.packet))
     × (20 - c.min.result + length c.payload.result.now + (c.args.at - c.begin_of.result)
     ≡ 20 + (c.in-Frame.packet.to - c.in-Frame.packet.from))
 taken c =
     let lies : IsIn c.args.self.now c.args.at c.count_ended-number.result (Frame c.in-Frame.unit c.in-Frame.packet) =
     is-in c.count_ended-number.ensures.count_ended c.requires c.in-Frame.ensures.piece c.in-Frame.ensures.sound in
     let cut = c.in-Frame.ensures.sound in
-    let inside : InFrame c.args.self.now.film c.put_heads.new.head c.in-Frame.packet (c.args.at - c.begin_of.result) = record {
+    let inside : InFrame c.args.self.now.film c.put_heads.new.head c.in-Frame.packet (c.args.at - c.begin_of.result) =
+    record {
       long = c.payload.array_long;
       order = omega (arith, cut.some);
       within = cut.within;

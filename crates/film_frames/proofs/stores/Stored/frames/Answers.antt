@@ -8,19 +8,28 @@ use Rattle.film_frames.proofs.stores.Stored.frames.Goals as goal
 pub ends_below-reports-requires : goal.ends_below-reports-requires
 ends_below-reports-requires c =
     let pieces = film_pieces c.args.self.now.film in
-    let same : c.reports.result.now ≡ report_numbers 0 pieces = c.reports.ensures ∙ c.args.self.now.table_is.pieces.reports in
+    let same : c.reports.result.now ≡ report_numbers 0 pieces =
+    c.reports.ensures ∙ c.args.self.now.table_is.pieces.reports in
     subst (λ (l : List ℕ). IsNonDecreasing l) (sym same) (reports-rise 0 pieces)
 
 pub overflow_sub-result : goal.overflow_sub-result
 overflow_sub-result c =
     let pieces = film_pieces c.args.self.now.film in
-    let same : c.reports.result.now ≡ report_numbers 0 pieces = c.reports.ensures ∙ c.args.self.now.table_is.pieces.reports in
+    let same : c.reports.result.now ≡ report_numbers 0 pieces =
+    c.reports.ensures ∙ c.args.self.now.table_is.pieces.reports in
     let below = c.ends_below-reports.ensures in
-    omega (arith, reports-count pieces same c.requires (record { few = below.count; below = below.below; from = below.from }))
+    omega (
+      arith,
+      reports-count pieces same c.requires (record { few = below.count; below = below.below; from = below.from }),
+    )
 
 pub returns : goal.returns
 returns c =
     let pieces = film_pieces c.args.self.now.film in
-    let same : c.reports.result.now ≡ report_numbers 0 pieces = c.reports.ensures ∙ c.args.self.now.table_is.pieces.reports in
+    let same : c.reports.result.now ≡ report_numbers 0 pieces =
+    c.reports.ensures ∙ c.args.self.now.table_is.pieces.reports in
     let below = c.ends_below-reports.ensures in
-    omega (arith, reports-count pieces same c.requires (record { few = below.count; below = below.below; from = below.from }))
+    omega (
+      arith,
+      reports-count pieces same c.requires (record { few = below.count; below = below.below; from = below.from }),
+    )

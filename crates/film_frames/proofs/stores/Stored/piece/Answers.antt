@@ -48,7 +48,8 @@ returns c =
     let row = c.row-row.result in
     let back = read-back c.args.self.now.table_is c.requires c.row-row.ensures c.place-2.ensures c.place.ensures in
     let unit : c.index.result.now ≡ unit_of back.piece =
-    let found = get_or_from_slice_get film.units.items row.unit (unit_of back.piece) c.index.result.now back.is_row.unit in
+    let found =
+    get_or_from_slice_get film.units.items row.unit (unit_of back.piece) c.index.result.now back.is_row.unit in
     let read = c.index.ensures in
     let number = c.unit.ensures in cc in
     let size : c.place.result - c.place-2.result ≡ wire_of back.piece = omega (arith, back.size) in

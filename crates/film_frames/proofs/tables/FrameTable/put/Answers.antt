@@ -10,7 +10,8 @@ returns-clause-table c = λ film units pieces sound its is.
     let last : c.len-last.result ≡ length old.rows.items = omega (arith, c.len-last.ensures, old.rows.ok) in
     let place : c.index.result.now ≡ get_or old.places.items (length old.rows.items) 0 =
     get_or_read old.places.items c.len-last.result c.index.result.now
-    (omega (arith, last, is.rows_count, is.places_count)) c.index.ensures 0 ∙ ap (λ n. get_or old.places.items n 0) last in
+    (omega (arith, last, is.rows_count, is.places_count)) c.index.ensures 0
+    ∙ ap (λ n. get_or old.places.items n 0) last in
     let reports = c.in_ok-put_report_number.ensures ∙ ap (λ n. with_report n c.args.piece old.reports.items) last in
     table-push
     is (c.new.ensures film units sound its) c.in_ok-put_number.ensures c.in_ok-push.ensures.items reports

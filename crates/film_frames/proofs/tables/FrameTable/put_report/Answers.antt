@@ -24,7 +24,8 @@ returns-then-unit-clause-table c = λ unit at.
     let here = c.index-unit.result.now in
     let found = slice_get_read units (length units) c.args.number here refl c.requires.within c.index-unit.ensures in
     let same : here ≡ unit = cc in
-    let P : List Piece → Type 0 = λ l. OnOk c.put.result (IsTable units (front_pieces film c.args.number ++ l) c.put.new.self) in
+    let P : List Piece → Type 0 =
+    λ l. OnOk c.put.result (IsTable units (front_pieces film c.args.number ++ l) c.put.new.self) in
     let Q : PictureUnit → Type 0 = λ u. P (unit_reports u) in
     subst Q same
     (subst P (reports-some here c.if-unit.true)
