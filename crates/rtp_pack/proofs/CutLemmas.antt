@@ -21,7 +21,8 @@ one-fill {G} same {start} {end} {a} x y =
     let full : x.full ≡ y.full = full-once start end x.before x.within y.before y.within in
     let there : G (start + 1380 * y.full) x.rest = subst (λ k. G (start + 1380 * k) x.rest) full x.goes_on in
     let rest : x.rest ≡ y.rest = same (start + 1380 * y.full) x.rest y.rest there y.goes_on in
-    x.filled ∙ ap (λ k. full_ends start k ++ x.rest) full ∙ ap (λ (r : List ℕ). full_ends start y.full ++ r) rest ∙ sym y.filled
+    x.filled ∙ ap (λ k. full_ends start k ++ x.rest) full ∙ ap (λ (r : List ℕ). full_ends start y.full ++ r) rest
+    ∙ sym y.filled
 
 pub one-cutting : (slices : List ℕ) (f : Filling) (a b : List ℕ) → Cuts f slices a → Cuts f slices b → a ≡ b
 one-cutting [] f a b x y = x ∙ sym y
@@ -52,7 +53,8 @@ ends-append (p ∷ a) b = ap (λ (l : List ℕ). p.to ∷ l) (ends-append a b)
 pub ends-full : (unit : PictureUnit) (begin : Bool) (start count : ℕ)
     → ends (full_packets unit begin start count) ≡ full_ends start count
 ends-full unit begin start zero = refl
-ends-full unit begin start (suc count) = ap (λ (l : List ℕ). (start + 1380) ∷ l) (ends-full unit false (start + 1380) count)
+ends-full unit begin start (suc count) =
+    ap (λ (l : List ℕ). (start + 1380) ∷ l) (ends-full unit false (start + 1380) count)
 
 pub full_before-less : (start end : ℕ) → start < end → start + 1380 * full_before start end < end
 full_before-less start end less = omega arith
@@ -99,7 +101,8 @@ start-less f n true order some = omega arith
 start-less f n false order some = omega arith
 
 pub next-order : (f : Filling) (n : ℕ) → f.from ≤ f.at → 0 < n → (next_filling f n).from < (next_filling f n).at
-next-order f n order some = full_before-less (start_of (goes_in f n) f) (f.at + n) (start-less f n (goes_in f n) order some)
+next-order f n order some =
+    full_before-less (start_of (goes_in f n) f) (f.at + n) (start-less f n (goes_in f n) order some)
 
 -- the packets end where the rules say
 pub packets-cut : (unit : PictureUnit) (slices : List ℕ) (f : Filling) → f.from ≤ f.at → AreSome slices

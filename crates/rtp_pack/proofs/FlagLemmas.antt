@@ -80,7 +80,8 @@ agrees-next {to} {all} {s} {left} {at} agrees order =
     let next = next_place to left in
     record {
       starts = λ x above. agrees.starts x (omega (arith, above, order.1.0))
-          ∙ or-rest (eqb x s) (is_among x left) (ne_eqb x s (λ e. absurd (omega (arith, e, order.0, order.1.0, above))));
+          ∙ or-rest (eqb x s) (is_among x left)
+          (ne_eqb x s (λ e. absurd (omega (arith, e, order.0, order.1.0, above))));
       ends = λ x above. agrees.ends x (omega (arith, above, order.1.0))
           ∙ or-rest (eqb x next) (is_among x (ends_to to left)) (ne_eqb x next (λ e. absurd (omega (arith, e, above))));
     }
@@ -115,14 +116,16 @@ no-begin : {unit : PictureUnit} {all : List ℕ} {at next : ℕ} (x to : ℕ) �
     → x < next → begins unit all x to ≡ false
 no-begin {unit} {all} x to its above below =
     or_from (is_among x all) (eqb x unit.from && ltb unit.head_end to) (its.slice.no_start x above below)
-    (and_left (eqb x unit.from) (ltb unit.head_end to) (ne_eqb x unit.from (λ e. absurd (omega (arith, e, its.after, above)))))
+    (and_left (eqb x unit.from) (ltb unit.head_end to)
+    (ne_eqb x unit.from (λ e. absurd (omega (arith, e, its.after, above)))))
 
 -- full portions that end in a slice
 record PortionsEndIn (at next start count : ℕ) : Type 0 where
   above : 0 < count → at < start + 1380
   below : start + 1380 * count < next
 
-full-portions : {unit : PictureUnit} {all : List ℕ} {at next : ℕ} {begin : Bool} (start count : ℕ) → IsSliceOf unit all at next
+full-portions : {unit : PictureUnit} {all : List ℕ} {at next : ℕ} {begin : Bool} (start count : ℕ)
+    → IsSliceOf unit all at next
     → (0 < count → begins unit all start (start + 1380) ≡ begin) → PortionsEndIn at next start count
     → full_packets unit begin start count ≡ portion_packets unit all start (full_ends start count)
 full-portions start zero its first inside = refl
@@ -138,7 +141,8 @@ full-portions {unit} {all} {at} {next} {begin} start (suc count) its first insid
     record { above = λ _. omega (arith, after); below = omega (arith, inside.below) } in
     ap (λ (p : Packet). p ∷ full_packets unit false (start + 1380) count) one
     ∙ ap (λ (l : List Packet). portion_packet unit all start (start + 1380) ∷ l)
-    (full-portions (start + 1380) count its (λ _. no-begin (start + 1380) (start + 1380 + 1380) its after next_inside) rest)
+    (full-portions (start + 1380) count its
+    (λ _. no-begin (start + 1380) (start + 1380 + 1380) its after next_inside) rest)
 
 abbrev pub last_cut : ℕ → List ℕ → ℕ
 last_cut from [] = from
@@ -170,7 +174,8 @@ full-rest {rest} unit all start count full is =
     (ends-append (full_packets unit true start count) rest
     ∙ ap (λ (l : List ℕ). l ++ ends rest) (ends-full unit true start count)))
 
-slice-rest : {unit : PictureUnit} {all : List ℕ} {f : Filling} {rest : List Packet} (goes : Bool) (count : ℕ) → Right unit all f
+slice-rest : {unit : PictureUnit} {all : List ℕ} {f : Filling} {rest : List Packet} (goes : Bool) (count : ℕ)
+    → Right unit all f
     → full_packets unit true (start_of goes f) count
     ≡ portion_packets unit all (start_of goes f) (full_ends (start_of goes f) count)
     → rest ≡ portion_packets unit all (start_of goes f + 1380 * count) (ends rest)
@@ -211,14 +216,16 @@ not-last from at n LastFragment false e is = true≢false (sym e)
 begins-start : {unit : PictureUnit} {all : List ℕ} {f : Filling} {goes : Bool} (n x : ℕ) → Right unit all f
     → is_among f.at all ≡ true → goes_in f n ≡ goes → f.at < x → begins unit all (start_of goes f) x ≡ true
 begins-start {unit} {all} {f} {goes = true} n x right here e above =
-    let its : BeginsBy unit all f.from f.at f.holds = record { after = right.after; begin = right.begin; alone = right.alone } in
+    let its : BeginsBy unit all f.from f.at f.holds =
+    record { after = right.after; begin = right.begin; alone = right.alone } in
     begins-here x its (not-last f.from f.at n f.holds (leb n 1380) e) above
 begins-start {unit} {all} {f} {goes = false} n x right here e above =
     or_left (is_among f.at all) (eqb f.at unit.from && ltb unit.head_end x) here
 
 room-whole : {at count : ℕ} (from n : ℕ) (holds : Holds) → goes_in_whole from at holds n ≡ true
     → from + 1380 * count < at + n → 0 < count → at < from + 1380
-room-whole {at} from n HeadersAlone e before some = absurd (omega (arith, leb-true (at + n) (from + 1380) e, before, some))
+room-whole {at} from n HeadersAlone e before some =
+    absurd (omega (arith, leb-true (at + n) (from + 1380) e, before, some))
 room-whole {at} from n Slices e before some = absurd (omega (arith, leb-true (at + n) (from + 1380) e, before, some))
 room-whole from n LastFragment e before some = absurd (true≢false (sym e))
 
@@ -239,8 +246,10 @@ pub record FullBefore (goes : Bool) (f : Filling) (n count : ℕ) : Type 0 where
   pub goes_is : goes_in f n ≡ goes
   pub before : start_of goes f + 1380 * count < f.at + n
 
-pub start-room : {goes : Bool} {f : Filling} {n count : ℕ} → FullBefore goes f n count → 0 < count → f.at < start_of goes f + 1380
-start-room {goes = true} {f} {n} {count} full some = room-here {count = count} f n (leb n 1380) full.goes_is full.before some
+pub start-room : {goes : Bool} {f : Filling} {n count : ℕ} → FullBefore goes f n count → 0 < count
+    → f.at < start_of goes f + 1380
+start-room {goes = true} {f} {n} {count} full some =
+    room-here {count = count} f n (leb n 1380) full.goes_is full.before some
 start-room {goes = false} full some = omega arith
 
 -- ---- one slice, and all
@@ -249,7 +258,8 @@ start-room {goes = false} full some = omega arith
 pub none-full : {goes : Bool} {f : Filling} {n count : ℕ} → leb n 1380 ≡ true → FullBefore goes f n count → count ≡ 0
 none-full {goes = true} {f} {n} short full =
     let fits = whole-fits f.from f.at n f.holds
-    (sym (ap (λ b. cond b (goes_in_whole f.from f.at f.holds n) (goes_in_cut f.from f.at f.holds)) short) ∙ full.goes_is) in
+    (sym (ap (λ b. cond b (goes_in_whole f.from f.at f.holds n) (goes_in_cut f.from f.at f.holds)) short)
+    ∙ full.goes_is) in
     omega (arith, fits, full.before)
 none-full {goes = false} {n} short full = omega (arith, leb-true n 1380 short, full.before)
 
@@ -265,11 +275,13 @@ next-begin : {unit : PictureUnit} {all : List ℕ} {f : Filling} {goes short : B
 next-begin {unit} {all} {f} {goes} {short = true} {n} {count} right slice some is full within =
     let none : count ≡ 0 = none-full is full in
     let start : start_of goes f + 1380 * count ≡ start_of goes f = omega (arith, none) in
-    ap (λ s. begins unit all s (f.at + n)) start ∙ begins-start n (f.at + n) right slice.starts full.goes_is (omega (arith, some))
+    ap (λ s. begins unit all s (f.at + n)) start
+    ∙ begins-start n (f.at + n) right slice.starts full.goes_is (omega (arith, some))
 next-begin {unit} {all} {f} {goes} {short = false} {n} {count} right slice some is full within =
     let more : 0 < count = some-full f n goes right.order is within in
     let room = start-room full more in
-    let its : IsSliceOf unit all f.at (f.at + n) = record { slice = slice; after = omega (arith, right.first, right.after) } in
+    let its : IsSliceOf unit all f.at (f.at + n) =
+    record { slice = slice; after = omega (arith, right.first, right.after) } in
     no-begin (start_of goes f + 1380 * count) (f.at + n) its (omega (arith, room, more)) full.before
 
 held-ends : (short : Bool) → true ≡ ends_slice (cond short Slices LastFragment)
@@ -307,7 +319,8 @@ flags {unit} {all} {left = s ∷ left} {f} right agrees order =
     let n = next - s in
     let end : f.at + n ≡ next = omega (arith, order.0, order.1.0) in
     let some : 0 < n = omega (arith, order.0, order.1.0) in
-    let known : Slice unit.to all f.at (f.at + n) = subst (λ e. Slice unit.to all f.at e) (sym end) (slice-known agrees order) in
+    let known : Slice unit.to all f.at (f.at + n) =
+    subst (λ e. Slice unit.to all f.at e) (sym end) (slice-known agrees order) in
     let after : Agrees unit.to all (f.at + n) left =
     subst (λ e. Agrees unit.to all e left) (sym end) (agrees-next agrees order) in
     let ordered : AreInOrder (f.at + n) left unit.to = subst (λ e. AreInOrder e left unit.to) (sym end) order.1.1 in
@@ -315,7 +328,8 @@ flags {unit} {all} {left = s ∷ left} {f} right agrees order =
     let start = start_of goes f in
     let before : FullBefore goes f n (full_before start (f.at + n)) =
     record { goes_is = refl; before = full_before-less start (f.at + n) (start-less f n goes right.order some) } in
-    let its : IsSliceOf unit all f.at (f.at + n) = record { slice = known; after = omega (arith, right.first, right.after) } in
+    let its : IsSliceOf unit all f.at (f.at + n) =
+    record { slice = known; after = omega (arith, right.first, right.after) } in
     let inside : PortionsEndIn f.at (f.at + n) start (full_before start (f.at + n)) =
     record { above = λ more. start-room before more; below = before.before } in
     let full = full-portions start (full_before start (f.at + n)) its
@@ -332,7 +346,8 @@ first-right unit all first order = record {
   after = omega arith;
   begin = or_from (is_among unit.from all) (eqb unit.from unit.from && ltb unit.head_end unit.head_end)
       (among-below all unit.head_end unit.to unit.from order first)
-      (and_right (eqb unit.from unit.from) (ltb unit.head_end unit.head_end) (le-ltb unit.head_end unit.head_end (omega arith)));
+      (and_right (eqb unit.from unit.from) (ltb unit.head_end unit.head_end)
+      (le-ltb unit.head_end unit.head_end (omega arith)));
   end = ends-below all unit.head_end unit.to unit.head_end order (omega arith);
   alone = λ e. (refl, refl);
   order = omega (arith, first);

@@ -25,15 +25,22 @@ Fit f = (f.from < f.at) × (f.at ≤ f.from + 1380)
 full-cover : (start count : ℕ) (rest : List ℕ) (to : ℕ) → ArePortions (start + 1380 * count) rest to
     → ArePortions start (full_ends start count ++ rest) to
 full-cover start zero rest to portions = subst (λ s. ArePortions s rest to) (omega arith) portions
-full-cover start (suc count) rest to portions =
-    (omega arith, (omega arith, full-cover (start + 1380) count rest to (subst (λ s. ArePortions s rest to) (omega arith) portions)))
+full-cover start (suc count) rest to portions = (
+  omega arith,
+  (
+    omega arith,
+    full-cover (start + 1380) count rest to (subst (λ s. ArePortions s rest to) (omega arith) portions),
+  ),
+)
 
 pub portions-cover : (slices : List ℕ) (f : Filling) (cuts : List ℕ) → Fit f → Cuts f slices cuts
     → ArePortions f.from cuts (f.at + sum slices)
 portions-cover [] f cuts fit e =
     let P : List ℕ → Type 0 = λ l. ArePortions f.from l (f.at + 0) in subst P (sym e) (fit.0, (fit.1, omega arith))
 portions-cover (n ∷ slices) f cuts fit (inl x) =
-    let rest = portions-cover slices (filling_after f n (f.from + 1380 * x.1.full)) x.1.rest (x.1.before, x.1.within) x.1.goes_on in
+    let rest =
+    portions-cover slices (filling_after f n (f.from + 1380 * x.1.full)) x.1.rest
+    (x.1.before, x.1.within) x.1.goes_on in
     let P : List ℕ → Type 0 = λ l. ArePortions f.from l (f.at + sum (n ∷ slices)) in
     subst P (sym x.1.filled)
     (full-cover f.from x.1.full x.1.rest (f.at + sum (n ∷ slices))
@@ -78,7 +85,8 @@ uncut-from from to (cut ∷ cuts) after = (inr after.0, uncut-from from to cuts 
 pub cuts-from : (slices : List ℕ) (f : Filling) (cuts : List ℕ) → f.from ≤ f.at → Cuts f slices cuts → AreFrom f.at cuts
 cuts-from [] f cuts order e = let P : List ℕ → Type 0 = λ l. AreFrom f.at l in subst P (sym e) (omega arith, tt)
 cuts-from (n ∷ slices) f cuts order (inl x) =
-    let rest = cuts-from slices (filling_after f n (f.from + 1380 * x.1.full)) x.1.rest (omega (arith, x.1.before)) x.1.goes_on in
+    let rest =
+    cuts-from slices (filling_after f n (f.from + 1380 * x.1.full)) x.1.rest (omega (arith, x.1.before)) x.1.goes_on in
     let full : FullBefore true f n x.1.full = record { goes_is = x.0; before = x.1.before } in
     let P : List ℕ → Type 0 = λ l. AreFrom f.at l in
     subst P (sym x.1.filled)
@@ -150,7 +158,8 @@ short-uncut (n ∷ slices) f cuts order (inr x) =
 
 -- ---- the last fragment ends its portion
 
-pub among-full : (x start count : ℕ) (cuts : List ℕ) → is_among x cuts ≡ true → is_among x (full_ends start count ++ cuts) ≡ true
+pub among-full : (x start count : ℕ) (cuts : List ℕ) → is_among x cuts ≡ true
+    → is_among x (full_ends start count ++ cuts) ≡ true
 among-full x start zero cuts is = is
 among-full x start (suc count) cuts is =
     or_right (eqb x (start + 1380)) (is_among x (full_ends (start + 1380) count ++ cuts))
@@ -159,8 +168,10 @@ among-full x start (suc count) cuts is =
 long-more : (slices : List ℕ) (at cut : ℕ) (cuts : List ℕ) → DoLongEndPortions at slices cuts
     → DoLongEndPortions at slices (cut ∷ cuts)
 long-more [] at cut cuts ends = tt
-long-more (n ∷ slices) at cut cuts ends =
-    (λ long. or_right (eqb (at + n) cut) (is_among (at + n) cuts) (ends.0 long), long-more slices (at + n) cut cuts ends.1)
+long-more (n ∷ slices) at cut cuts ends = (
+  λ long. or_right (eqb (at + n) cut) (is_among (at + n) cuts) (ends.0 long),
+  long-more slices (at + n) cut cuts ends.1,
+)
 
 long-full : (slices : List ℕ) (at start count : ℕ) (cuts : List ℕ) → DoLongEndPortions at slices cuts
     → DoLongEndPortions at slices (full_ends start count ++ cuts)
@@ -182,7 +193,8 @@ goes-not f n last =
 
 fragment-ends : (slices : List ℕ) (f : Filling) (cuts : List ℕ) → f.holds ≡ LastFragment → Cuts f slices cuts
     → is_among f.at cuts ≡ true
-fragment-ends [] f cuts last e = ap (λ (l : List ℕ). is_among f.at l) e ∙ or_left (eqb f.at f.at) false (eq-eqb f.at f.at refl)
+fragment-ends [] f cuts last e =
+    ap (λ (l : List ℕ). is_among f.at l) e ∙ or_left (eqb f.at f.at) false (eq-eqb f.at f.at refl)
 fragment-ends (n ∷ slices) f cuts last (inl x) = absurd (both_ways (goes_in f n) (goes-not f n last) x.0)
 fragment-ends (n ∷ slices) f cuts last (inr x) =
     ap (λ (l : List ℕ). is_among f.at l) x.1.1.0 ∙ or_left (eqb f.at f.at) (is_among f.at x.1.0) (eq-eqb f.at f.at refl)
@@ -193,13 +205,15 @@ leb-not n long = elim (cases_Bool (leb n 1380)) [ inl e ↦ absurd (omega (arith
 held-last : (n : ℕ) → 1380 < n → holds_after n ≡ LastFragment
 held-last n long = ap (λ b. cond b Slices LastFragment) (leb-not n long)
 
-pub long-ends : (slices : List ℕ) (f : Filling) (cuts : List ℕ) → Cuts f slices cuts → DoLongEndPortions f.at slices cuts
+pub long-ends : (slices : List ℕ) (f : Filling) (cuts : List ℕ) → Cuts f slices cuts
+    → DoLongEndPortions f.at slices cuts
 long-ends [] f cuts e = tt
 long-ends (n ∷ slices) f cuts (inl x) =
     let g = filling_after f n (f.from + 1380 * x.1.full) in
     let P : List ℕ → Type 0 = λ l. DoLongEndPortions f.at (n ∷ slices) l in
     subst P (sym x.1.filled) (
-      λ long. among-full (f.at + n) f.from x.1.full x.1.rest (fragment-ends slices g x.1.rest (held-last n long) x.1.goes_on),
+      λ long. among-full (f.at + n) f.from x.1.full x.1.rest
+          (fragment-ends slices g x.1.rest (held-last n long) x.1.goes_on),
       long-full slices (f.at + n) f.from x.1.full x.1.rest (long-ends slices g x.1.rest x.1.goes_on),
     )
 long-ends (n ∷ slices) f cuts (inr x) =
@@ -209,7 +223,8 @@ long-ends (n ∷ slices) f cuts (inr x) =
     let Q : List ℕ → Type 0 = λ l. DoLongEndPortions f.at (n ∷ slices) (f.at ∷ l) in
     subst P (sym x.1.1.0) (subst Q (sym fills.filled) (
       λ long. or_right (eqb (f.at + n) f.at) (is_among (f.at + n) (full_ends f.at fills.full ++ fills.rest))
-          (among-full (f.at + n) f.at fills.full fills.rest (fragment-ends slices g fills.rest (held-last n long) fills.goes_on)),
+          (among-full (f.at + n) f.at fills.full fills.rest
+          (fragment-ends slices g fills.rest (held-last n long) fills.goes_on)),
       long-more slices (f.at + n) f.at (full_ends f.at fills.full ++ fills.rest)
           (long-full slices (f.at + n) f.at fills.full fills.rest (long-ends slices g fills.rest fills.goes_on)),
     ))

@@ -12,7 +12,8 @@ covers-some from [] to same = omega (arith, same)
 covers-some from (p ∷ packets) to cover = omega (arith, cover.1.0, covers-some p.to packets to cover.1.1.1)
 
 portions-marked : (unit : PictureUnit) (starts : List ℕ) (from : ℕ) (cuts : List ℕ)
-    → DoCover from (portion_packets unit starts from cuts) unit.to → IsLastMarked (portion_packets unit starts from cuts)
+    → DoCover from (portion_packets unit starts from cuts) unit.to
+    → IsLastMarked (portion_packets unit starts from cuts)
 portions-marked unit starts from [] cover = tt
 portions-marked unit starts from (cut ∷ []) cover = eq-eqb cut unit.to cover.1.1.1
 portions-marked unit starts from (cut ∷ (next ∷ cuts)) cover =

@@ -29,7 +29,8 @@ from-place starts i less = rw (add-one, drop-cons starts i 0) refl
 pub record AtSlice (to : ℕ) (starts : List ℕ) (i at : ℕ) : Type 0 where
   pub least : at + 4 ≤ next_place to (drop (i + 1) starts)
   pub after : AreInOrder (next_place to (drop (i + 1) starts)) (drop (i + 1) starts) to
-  pub lengths : lengths_to to (drop i starts) ≡ (next_place to (drop (i + 1) starts) - at) ∷ lengths_to to (drop (i + 1) starts)
+  pub lengths : lengths_to to (drop i starts)
+      ≡ (next_place to (drop (i + 1) starts) - at) ∷ lengths_to to (drop (i + 1) starts)
 
 pub at-slice : (to : ℕ) (starts : List ℕ) (i at : ℕ) → i < length starts → AreInOrder at (drop i starts) to
     → AtSlice to starts i at
@@ -51,12 +52,14 @@ put-next {n} {rest} unit f out is =
     ∙ sym (ap (λ (l : List ℕ). out ++ packets_from unit f l) is)
 
 -- before the slice at a place of the list: the packets that are out, and those that are to come
-pub record Remaining (unit : PictureUnit) (starts : List ℕ) (i : ℕ) (f : Filling) (out whole : List Packet) : Type 0 where
+pub record Remaining (unit : PictureUnit) (starts : List ℕ) (i : ℕ) (f : Filling)
+    (out whole : List Packet) : Type 0 where
   pub in_order : AreInOrder f.at (drop i starts) unit.to
   pub packets : out ++ packets_from unit f (lengths_to unit.to (drop i starts)) ≡ whole
 
 -- that slice, its end, and the filling after it
-pub record SliceEnds (unit : PictureUnit) (starts : List ℕ) (i : ℕ) (f : Filling) (end : ℕ) (next : Filling) : Type 0 where
+pub record SliceEnds (unit : PictureUnit) (starts : List ℕ) (i : ℕ) (f : Filling) (end : ℕ)
+    (next : Filling) : Type 0 where
   pub less : i < length starts
   pub at_end : end ≡ next_place unit.to (drop (i + 1) starts)
   pub at_next : next ≡ next_filling f (end - f.at)

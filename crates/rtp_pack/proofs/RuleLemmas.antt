@@ -21,7 +21,8 @@ use Rattle.rtp_pack.proofs.LawLemmas.{short-uncut}
 -- ---- one list
 
 -- what two lists are compared by, from the place on where a portion begins
-record Rest (Must : ℕ → Type 0) (Fits : ℕ → ℕ → Type 0) (May : ℕ → ℕ → Type 0) (start end : ℕ) (cuts : List ℕ) : Type 0 where
+record Rest (Must : ℕ → Type 0) (Fits : ℕ → ℕ → Type 0) (May : ℕ → ℕ → Type 0) (start end : ℕ)
+    (cuts : List ℕ) : Type 0 where
   portions : ArePortions start cuts end
   short : (place length : ℕ) → Fits place length → IsUncut place (place + length) cuts
   must : (place : ℕ) → start < place → Must place → is_among place cuts ≡ true
@@ -45,12 +46,14 @@ portions-end : (start end : ℕ) (cuts : List ℕ) → ArePortions start cuts en
 portions-end start end [] portions = omega (arith, portions)
 portions-end start end (cut ∷ cuts) portions = omega (arith, portions.0, portions-end cut end cuts portions.1.1)
 
-among-rest : (place cut : ℕ) (cuts : List ℕ) → cut < place → is_among place (cut ∷ cuts) ≡ true → is_among place cuts ≡ true
+among-rest : (place cut : ℕ) (cuts : List ℕ) → cut < place → is_among place (cut ∷ cuts) ≡ true
+    → is_among place cuts ≡ true
 among-rest place cut cuts less e =
     let other : eqb place cut ≡ false = ne_eqb place cut (λ is. absurd (omega (arith, is, less))) in
     sym (ap (λ b. b || is_among place cuts) other) ∙ e
 
-ends-next : (May : ℕ → ℕ → Type 0) (start cut : ℕ) (cuts : List ℕ) → MayAllEnd May start (cut ∷ cuts) → MayAllEnd May cut cuts
+ends-next : (May : ℕ → ℕ → Type 0) (start cut : ℕ) (cuts : List ℕ) → MayAllEnd May start (cut ∷ cuts)
+    → MayAllEnd May cut cuts
 ends-next May start cut [] ends_ = tt
 ends-next May start cut (next ∷ cuts) ends_ = ends_.1
 
@@ -109,7 +112,8 @@ the-reasons : (from headers_end : ℕ) (slices : List ℕ)
     → Reasons (IsCutPlace from headers_end slices) (Short headers_end slices) (MayEnd from headers_end slices)
 the-reasons from headers_end slices start cut (inl full) = inl full
 the-reasons from headers_end slices start cut (inr (inl place)) = inr (inl place)
-the-reasons from headers_end slices start cut (inr (inr over)) = inr (inr (over.length, ((over.slice, over.short), over.over)))
+the-reasons from headers_end slices start cut (inr (inr over)) =
+    inr (inr (over.length, ((over.slice, over.short), over.over)))
 
 the-rest : (from headers_end : ℕ) (slices cuts : List ℕ) → MeetsRules from headers_end slices cuts
     → Rest (IsCutPlace from headers_end slices) (Short headers_end slices) (MayEnd from headers_end slices) from
@@ -124,7 +128,8 @@ the-rest from headers_end slices cuts meets = record {
 pub one-meets : {from headers_end : ℕ} {slices one other : List ℕ} → MeetsRules from headers_end slices one
     → MeetsRules from headers_end slices other → one ≡ other
 one-meets {from} {headers_end} {slices} {one} {other} a b =
-    one-rest (the-reasons from headers_end slices) (the-rest from headers_end slices one a) (the-rest from headers_end slices other b)
+    one-rest (the-reasons from headers_end slices) (the-rest from headers_end slices one a)
+    (the-rest from headers_end slices other b)
 
 -- ---- the packer's list meets them
 
@@ -193,7 +198,8 @@ begin-cut (n ∷ slices) f cuts (inr x) place length (inl here) long goes =
 begin-cut (n ∷ slices) f cuts (inr x) place length (inr later) long goes =
     let fills = x.1.1.1 in
     let g = filling_after f n (f.at + 1380 * fills.full) in
-    let there = begin-cut slices g fills.rest fills.goes_on place length later long (λ _. long-not g length long (held-is n)) in
+    let there =
+    begin-cut slices g fills.rest fills.goes_on place length later long (λ _. long-not g length long (held-is n)) in
     ap (λ (l : List ℕ). is_among place l) x.1.1.0
     ∙ or_right (eqb place f.at) (is_among place x.1.0)
     (ap (λ (l : List ℕ). is_among place l) fills.filled ∙ among-full place f.at fills.full fills.rest there)
@@ -207,7 +213,8 @@ end-by : (slices : List ℕ) (at : ℕ) (cuts : List ℕ) → DoLongEndPortions 
 end-by [] at cuts ends_ start length is long = absurd is
 end-by (n ∷ slices) at cuts ends_ start length (inl here) long =
     ap (λ p. is_among p cuts) (omega (arith, here.0, here.1)) ∙ ends_.0 (omega (arith, here.1, long))
-end-by (n ∷ slices) at cuts ends_ start length (inr later) long = end-by slices (at + n) cuts ends_.1 start length later long
+end-by (n ∷ slices) at cuts ends_ start length (inr later) long =
+    end-by slices (at + n) cuts ends_.1 start length later long
 
 end-cut : (slices : List ℕ) (f : Filling) (cuts : List ℕ) → Cuts f slices cuts → DoLongEnd f.at slices cuts
 end-cut slices f cuts cutting = end-by slices f.at cuts (long-ends slices f cuts cutting)
@@ -222,7 +229,8 @@ record Reads (Must : ℕ → Type 0) (Begins : ℕ → ℕ → Type 0) (f : Fill
 
 abbrev MayBy : (ℕ → Type 0) → (ℕ → ℕ → Type 0) → ℕ → ℕ → Type 0
 MayBy Must Begins start cut =
-    (cut ≡ start + 1380) ⊎ (Must cut ⊎ ((length : ℕ) × (Begins cut length × ((length ≤ 1380) × (start + 1380 < cut + length)))))
+    (cut ≡ start + 1380)
+    ⊎ (Must cut ⊎ ((length : ℕ) × (Begins cut length × ((length ≤ 1380) × (start + 1380 < cut + length)))))
 
 may-cons : (May : ℕ → ℕ → Type 0) (start cut : ℕ) (cuts : List ℕ) → May start cut → MayAllEnd May cut cuts
     → MayAllEnd May start (cut ∷ cuts)
@@ -235,7 +243,8 @@ full-may : (Must : ℕ → Type 0) (Begins : ℕ → ℕ → Type 0) (start coun
 full-may Must Begins start zero rest may = subst (λ s. MayAllEnd (MayBy Must Begins) s rest) (omega arith) may
 full-may Must Begins start (suc count) rest may =
     may-cons (MayBy Must Begins) start (start + 1380) (full_ends (start + 1380) count ++ rest) (inl refl)
-    (full-may Must Begins (start + 1380) count rest (subst (λ s. MayAllEnd (MayBy Must Begins) s rest) (omega arith) may))
+    (full-may Must Begins (start + 1380) count rest
+    (subst (λ s. MayAllEnd (MayBy Must Begins) s rest) (omega arith) may))
 
 -- why a slice doesn't go in
 record BeginsShort (Begins : ℕ → ℕ → Type 0) (at n : ℕ) : Type 0 where
@@ -286,14 +295,16 @@ may-end {Must} {Begins} {slices = []} {f} cuts some reads e =
 may-end {Must} {Begins} {slices = n ∷ slices} {f} cuts some reads (inl x) =
     let last = f.from + 1380 * x.1.full in
     let rest = may-end {Must = Must} {Begins = Begins} {slices = slices} {f = filling_after f n last} x.1.rest
-    some.1 (reads-next {Must = Must} {Begins = Begins} {f = f} {n = n} {slices = slices} last some.0 reads) x.1.goes_on in
+    some.1 (reads-next {Must = Must} {Begins = Begins} {f = f} {n = n} {slices = slices} last some.0 reads)
+    x.1.goes_on in
     subst (λ (l : List ℕ). MayAllEnd (MayBy Must Begins) f.from l) (sym x.1.filled)
     (full-may Must Begins f.from x.1.full x.1.rest rest)
 may-end {Must} {Begins} {slices = n ∷ slices} {f} cuts some reads (inr x) =
     let fills = x.1.1.1 in
     let last = f.at + 1380 * fills.full in
     let rest = may-end {Must = Must} {Begins = Begins} {slices = slices} {f = filling_after f n last} fills.rest
-    some.1 (reads-next {Must = Must} {Begins = Begins} {f = f} {n = n} {slices = slices} last some.0 reads) fills.goes_on in
+    some.1 (reads-next {Must = Must} {Begins = Begins} {f = f} {n = n} {slices = slices} last some.0 reads)
+    fills.goes_on in
     let tail : MayAllEnd (MayBy Must Begins) f.at x.1.0 =
     subst (λ (l : List ℕ). MayAllEnd (MayBy Must Begins) f.at l) (sym fills.filled)
     (full-may Must Begins f.at fills.full fills.rest rest) in
@@ -301,7 +312,8 @@ may-end {Must} {Begins} {slices = n ∷ slices} {f} cuts some reads (inr x) =
     (may-cons (MayBy Must Begins) f.from f.at x.1.0 (why reads x.0) tail)
 
 may-cs : (from headers_end : ℕ) (slices : List ℕ) (start cut : ℕ)
-    → MayBy (IsCutPlace from headers_end slices) (SliceAt headers_end slices) start cut → MayEnd from headers_end slices start cut
+    → MayBy (IsCutPlace from headers_end slices) (SliceAt headers_end slices) start cut
+    → MayEnd from headers_end slices start cut
 may-cs from headers_end slices start cut (inl full) = inl full
 may-cs from headers_end slices start cut (inr (inl place)) = inr (inl place)
 may-cs from headers_end slices start cut (inr (inr (length, over))) =
@@ -311,16 +323,19 @@ may-map : (May Other : ℕ → ℕ → Type 0) (start : ℕ) (cuts : List ℕ) �
     → MayAllEnd May start cuts → MayAllEnd Other start cuts
 may-map May Other start [] cs may = tt
 may-map May Other start (cut ∷ []) cs may = tt
-may-map May Other start (cut ∷ (next ∷ cuts)) cs may = (cs start cut may.0, may-map May Other cut (next ∷ cuts) cs may.1)
+may-map May Other start (cut ∷ (next ∷ cuts)) cs may =
+    (cs start cut may.0, may-map May Other cut (next ∷ cuts) cs may.1)
 
 -- in the first portion a long slice goes in where the headers leave room
-headers-go : (from headers_end n : ℕ) → 1380 < n → goes_in (first_portion from headers_end) n ≡ false → from + 1380 ≤ headers_end
+headers-go : (from headers_end n : ℕ) → 1380 < n → goes_in (first_portion from headers_end) n ≡ false
+    → from + 1380 ≤ headers_end
 headers-go from headers_end n long goes =
     ltb-false headers_end (from + 1380)
     (sym (ap (λ b. cond b (goes_in_whole from headers_end HeadersAlone n) (goes_in_cut from headers_end HeadersAlone))
     (leb-not n long)) ∙ goes)
 
-goes-headers : (from headers_end n : ℕ) → 1380 < n → from + 1380 ≤ headers_end → goes_in (first_portion from headers_end) n ≡ false
+goes-headers : (from headers_end n : ℕ) → 1380 < n → from + 1380 ≤ headers_end
+    → goes_in (first_portion from headers_end) n ≡ false
 goes-headers from headers_end n long full =
     ap (λ b. cond b (goes_in_whole from headers_end HeadersAlone n) (goes_in_cut from headers_end HeadersAlone))
     (leb-not n long) ∙ le-ltb headers_end (from + 1380) full
@@ -330,8 +345,14 @@ first-reads : (from headers_end : ℕ) (slices : List ℕ)
 first-reads from headers_end slices = record {
   begins = λ place length is. is;
   long = λ place length is long goes. inl
-      (record { length = length; slice = is; long = long; apart = λ here. headers-go from headers_end length long (goes here) });
-  long_end = λ start length is long. inr (record { start = start; length = length; slice = is; long = long; place_is = refl });
+      (record {
+        length = length;
+        slice = is;
+        long = long;
+        apart = λ here. headers-go from headers_end length long (goes here);
+      });
+  long_end = λ start length is long.
+      inr (record { start = start; length = length; slice = is; long = long; place_is = refl });
   last = λ is. cc;
 }
 
@@ -341,7 +362,8 @@ long-cut {from} {headers_end} {slices} cuts cutting place (inl b) =
     begin-cut slices (first_portion from headers_end) cuts cutting place b.length b.slice b.long
     (λ here. goes-headers from headers_end b.length b.long (b.apart here))
 long-cut {from} {headers_end} {slices} cuts cutting place (inr e) =
-    ap (λ p. is_among p cuts) e.place_is ∙ end-cut slices (first_portion from headers_end) cuts cutting e.start e.length e.slice e.long
+    ap (λ p. is_among p cuts) e.place_is
+    ∙ end-cut slices (first_portion from headers_end) cuts cutting e.start e.length e.slice e.long
 
 -- a unit's headers of 1 to 1,380 bytes, and its slices
 pub record HeadersAndSlices (from headers_end : ℕ) (slices : List ℕ) : Type 0 where
@@ -383,8 +405,10 @@ pub some-meets : {from headers_end : ℕ} {slices : List ℕ} → HeadersAndSlic
     → (cuts : List ℕ) × MeetsRules from headers_end slices cuts
 some-meets {from} {headers_end} {slices} unit =
     let f = first_portion from headers_end in
-    let cuts = ends (packets_from no_unit f slices) in
-    (cuts, cutting-meets cuts unit (packets-cut no_unit slices f (omega (arith, unit.some)) (some-bytes slices unit.have)))
+    let cuts = ends (packets_from no_unit f slices) in (
+      cuts,
+      cutting-meets cuts unit (packets-cut no_unit slices f (omega (arith, unit.some)) (some-bytes slices unit.have)),
+    )
 
 -- and it is the packer's
 pub meets-cutting : {from headers_end : ℕ} {slices : List ℕ} (cuts : List ℕ) → HeadersAndSlices from headers_end slices

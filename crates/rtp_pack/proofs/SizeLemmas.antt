@@ -24,7 +24,8 @@ pub record Kept (count from at : ℕ) (holds : Holds) : Type 0 where
 
 -- a short slice in the portion, or in the next
 short-here : {portions from at : ℕ} {holds : Holds} (n full : ℕ) → Kept portions from at holds
-    → at + n ≤ from + 1380 → from + 1380 * full < at + n → Kept (portions + (0 + full)) (from + 1380 * full) (at + n) Slices
+    → at + n ≤ from + 1380 → from + 1380 * full < at + n
+    → Kept (portions + (0 + full)) (from + 1380 * full) (at + n) Slices
 short-here {portions} {from} {at} n full kept fits before =
     let none : full ≡ 0 = omega arith in
     record {
@@ -36,7 +37,8 @@ short-here {portions} {from} {at} n full kept fits before =
     }
 
 short-next : {portions from at : ℕ} {holds : Holds} (n full : ℕ) → Kept portions from at holds → n ≤ 1380
-    → 20 * portions ≤ at + n → at + 1380 * full < at + n → Kept (portions + (1 + full)) (at + 1380 * full) (at + n) Slices
+    → 20 * portions ≤ at + n → at + 1380 * full < at + n
+    → Kept (portions + (1 + full)) (at + 1380 * full) (at + n) Slices
 short-next {portions} {from} {at} n full kept short room before =
     let none : full ≡ 0 = omega arith in
     record {
@@ -82,7 +84,8 @@ whole-fits from at n LastFragment e = absurd (true≢false (sym e))
 -- where a short slice begins the next portion there is room for one more head
 whole-room : {portions from at : ℕ} {holds : Holds} (n : ℕ) → Kept portions from at holds → 4 ≤ n
     → goes_in_whole from at holds n ≡ false → 20 * portions ≤ at + n
-whole-room {from} {at} {holds = HeadersAlone} n kept least e = omega (arith, leb-false (at + n) (from + 1380) e, kept.ended)
+whole-room {from} {at} {holds = HeadersAlone} n kept least e =
+    omega (arith, leb-false (at + n) (from + 1380) e, kept.ended)
 whole-room {from} {at} {holds = Slices} n kept least e = omega (arith, leb-false (at + n) (from + 1380) e, kept.ended)
 whole-room {from} {at} {holds = LastFragment} n kept least e = omega (arith, kept.last refl)
 
@@ -95,7 +98,8 @@ record SliceFills (from at : ℕ) (holds : Holds) (n full : ℕ) (short goes : B
 
 kept-slice : {portions from at n full : ℕ} {holds : Holds} {short goes : Bool} → Kept portions from at holds → 4 ≤ n
     → SliceFills from at holds n full short goes
-    → Kept (portions + (cond goes 0 1 + full)) (cond goes from at + 1380 * full) (at + n) (cond short Slices LastFragment)
+    → Kept (portions + (cond goes 0 1 + full)) (cond goes from at + 1380 * full) (at + n)
+    (cond short Slices LastFragment)
 kept-slice {from} {at} {n} {full} {holds} {short = true} {goes = true} kept least fills =
     short-here n full kept (whole-fits from at n holds fills.goes_is) fills.before
 kept-slice {n} {full} {short = true} {goes = false} kept least fills =
@@ -125,7 +129,14 @@ pub keeps-measure : (m : Measure) (n : ℕ) → IsMeasure m → 4 ≤ n → m.fi
 keeps-measure m n is least most =
     let kept = keeps-slice m n
     (record { some = is.some; portions = is.portions; whole = is.whole; ended = is.ended; last = is.last }) least in
-    record { most = most; some = kept.some; portions = kept.portions; whole = kept.whole; ended = kept.ended; last = kept.last }
+    record {
+      most = most;
+      some = kept.some;
+      portions = kept.portions;
+      whole = kept.whole;
+      ended = kept.ended;
+      last = kept.last;
+    }
 
 -- slices of at least 4 bytes
 abbrev pub AreLong : List ℕ → Type 0
@@ -137,7 +148,8 @@ keeps-slices [] m kept long = kept
 keeps-slices (n ∷ slices) m kept long = keeps-slices slices (with_slice m n) (keeps-slice m n kept long.0) long.1
 
 pub begun-kept : (headers : ℕ) → 0 < headers → IsKept (measure_from_headers headers)
-begun-kept headers some = record { some = some; portions = omega arith; whole = omega arith; ended = omega arith; last = λ e. cc }
+begun-kept headers some =
+    record { some = some; portions = omega arith; whole = omega arith; ended = omega arith; last = λ e. cc }
 
 pub slices-append : (slices : List ℕ) (m : Measure) (n : ℕ)
     → with_slices m (slices ++ n ∷ []) ≡ with_slice (with_slices m slices) n
@@ -184,15 +196,18 @@ pub record IsMoved (base : ℕ) (f g : Filling) : Type 0 where
 
 whole-moved : {base : ℕ} {f g : Filling} (n : ℕ) (holds : Holds) → IsMoved base f g
     → goes_in_whole g.from g.at holds n ≡ goes_in_whole f.from f.at holds n
-whole-moved {base} {f} n HeadersAlone is = leb-moved base (f.at + n) (f.from + 1380) (omega (arith, is.at)) (omega (arith, is.from))
-whole-moved {base} {f} n Slices is = leb-moved base (f.at + n) (f.from + 1380) (omega (arith, is.at)) (omega (arith, is.from))
+whole-moved {base} {f} n HeadersAlone is =
+    leb-moved base (f.at + n) (f.from + 1380) (omega (arith, is.at)) (omega (arith, is.from))
+whole-moved {base} {f} n Slices is =
+    leb-moved base (f.at + n) (f.from + 1380) (omega (arith, is.at)) (omega (arith, is.from))
 whole-moved n LastFragment is = refl
 
 goes-moved : (base n : ℕ) (f g : Filling) → IsMoved base f g → goes_in g n ≡ goes_in f n
 goes-moved base n f g is =
     ap (λ (h : Holds). cond (leb n 1380) (goes_in_whole g.from g.at h n) (goes_in_cut g.from g.at h)) is.holds
     ∙ ap (λ b. cond (leb n 1380) b (goes_in_cut g.from g.at f.holds)) (whole-moved n f.holds is)
-    ∙ ap (λ b. cond (leb n 1380) (goes_in_whole f.from f.at f.holds n) b) (cut-moved base f.from f.at f.holds is.from is.at)
+    ∙ ap (λ b. cond (leb n 1380) (goes_in_whole f.from f.at f.holds n) b)
+    (cut-moved base f.from f.at f.holds is.from is.at)
 
 size-full : (start full : ℕ) (rest : List ℕ)
     → cuts_size start (full_ends start full ++ rest) ≡ 1400 * full + cuts_size (start + 1380 * full) rest
@@ -228,7 +243,8 @@ next-size {m} {g} {n} {start} {place} {goes} {cuts} slices starts more fills =
     let all : start_of (goes_in f n) f ≡ start = ap (λ b. start_of b f) at_goes ∙ at_start in
     let less : start < f.at + n = omega (arith, is.at, at_place, fills.before) in
     let full : fills.full ≡ full_before start (f.at + n) =
-    full-once start (f.at + n) (omega (arith, is.at, at_place, fills.before)) (omega (arith, is.at, at_place, fills.within))
+    full-once start (f.at + n) (omega (arith, is.at, at_place, fills.before))
+    (omega (arith, is.at, at_place, fills.within))
     (full_before-less start (f.at + n) less) (full_before-within start (f.at + n) less) in
     let last : last_start (start_of (goes_in f n) f) (f.at + n) ≡ start + 1380 * fills.full =
     ap (λ s. last_start s (f.at + n)) all ∙ ap (λ k. start + 1380 * k) (sym full) in
@@ -251,7 +267,12 @@ size-from {base} {g} [] m cuts is order e =
     omega (arith, size, is.from, is.at, order)
 size-from {base} {g} (n ∷ slices) m cuts is order (inl x) =
     let starts : StartsAt m g n base m.filling.from g.from true =
-    record { moved = is; at_start = refl; at_place = is.from; at_goes = sym (goes-moved base n m.filling g is) ∙ x.0 } in
+    record {
+      moved = is;
+      at_start = refl;
+      at_place = is.from;
+      at_goes = sym (goes-moved base n m.filling g is) ∙ x.0;
+    } in
     let rest = next-size slices starts (λ m' g' rest moved less cut. size-from slices m' rest moved less cut) x.1 in
     omega (arith, rest)
 size-from {base} {g} (n ∷ slices) m cuts is order (inr x) =

@@ -36,14 +36,16 @@ frames-portions : (unit : PictureUnit) (starts : List ℕ) (cuts : List ℕ) (fr
 frames-portions unit starts [] from = refl
 frames-portions unit starts (cut ∷ cuts) from = ap (λ n. 20 + (cut - from) + n) (frames-portions unit starts cuts cut)
 
-pub packets-are : (starts : List ℕ) (unit : PictureUnit) → IsLaid starts unit → ArePackets starts unit (unit_packets starts unit)
+pub packets-are : (starts : List ℕ) (unit : PictureUnit) → IsLaid starts unit
+    → ArePackets starts unit (unit_packets starts unit)
 packets-are starts unit laid =
     let f = first_portion unit.from unit.head_end in
     let packets = unit_packets starts unit in
     record {
       cuts = ends packets;
       cutting = packets-cut unit (unit_lengths starts unit) f (omega (arith, laid.head))
-          (long-some (unit_lengths starts unit) (lengths-long (unit_starts starts unit) unit.head_end unit.to laid.in_order));
+          (long-some (unit_lengths starts unit)
+          (lengths-long (unit_starts starts unit) unit.head_end unit.to laid.in_order));
       portions = flags (first-right unit (unit_starts starts unit) laid.head laid.in_order)
           (record { starts = λ x h. refl; ends = λ x h. refl }) laid.in_order;
     }
@@ -76,7 +78,8 @@ packets-cover starts unit laid =
 
 -- what the frames of the unit take
 pub packets-size : (starts : List ℕ) (unit : PictureUnit) → IsLaid starts unit
-    → frames_size (unit_packets starts unit) ≡ frames_of (measure_of (unit.head_end - unit.from) (unit_lengths starts unit))
+    → frames_size (unit_packets starts unit)
+    ≡ frames_of (measure_of (unit.head_end - unit.from) (unit_lengths starts unit))
 packets-size starts unit laid =
     let are = packets-are starts unit laid in
     let end : unit.from + (unit.head_end - unit.from) ≡ unit.head_end = omega (arith, laid.head) in
@@ -92,7 +95,8 @@ packets-bound starts unit laid =
     let headers = unit.head_end - unit.from in
     let kept = keeps-slices slices (measure_from_headers headers) (begun-kept headers (omega (arith, laid.head)))
     (lengths-long (unit_starts starts unit) unit.head_end unit.to laid.in_order) in
-    let bytes = lengths-bytes (unit_starts starts unit) unit.head_end unit.to (measure_from_headers headers) laid.in_order in
+    let bytes =
+    lengths-bytes (unit_starts starts unit) unit.head_end unit.to (measure_from_headers headers) laid.in_order in
     omega (arith, packets-size starts unit laid, kept.whole, bytes, laid.head)
 
 pub packed : (starts : List ℕ) (unit : PictureUnit) (packets : List Packet) → IsLaid starts unit

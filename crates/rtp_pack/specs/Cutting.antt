@@ -82,7 +82,7 @@ Cuts f (length ∷ slices) cuts =
 abbrev pub first_portion : ℕ → ℕ → Filling
 first_portion from headers_end = record { from = from; at = headers_end; holds = HeadersAlone }
 
--- the cut points of a unit at place `from` with headers to `headers_end` and slices of these lengths
+-- the cut points of a unit with headers from `from` to `headers_end` and slices of these lengths
 abbrev pub IsCutting : ℕ → ℕ → List ℕ → List ℕ → Type 0
 IsCutting from headers_end slices cuts = Cuts (first_portion from headers_end) slices cuts
 

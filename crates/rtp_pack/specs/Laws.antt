@@ -4,8 +4,8 @@ use Rattle.rtp_pack.specs.declared.payloads.Packet.{Packet}
 use Rattle.rtp_pack.specs.Cutting.{IsCutting}
 use Rattle.rtp_pack.specs.Packets.{is_among}
 
--- a fact of each cutting of a unit: where its headers of 1 to 1,380 bytes begin and end, the lengths
--- of its slices, and its cut points
+-- a fact of each cutting of a unit: where its headers of 1 to 1,380 bytes begin and end, the
+-- lengths of its slices, and its cut points
 abbrev pub OfCuttings : (ℕ → ℕ → List ℕ → List ℕ → Type 0) → Type 0
 OfCuttings Fact =
     (from headers_end : ℕ) (slices cuts : List ℕ) → from < headers_end → headers_end ≤ from + 1380
@@ -28,11 +28,13 @@ AreShortUncut at [] cuts = Unit {0}
 AreShortUncut at (length ∷ slices) cuts =
     (length ≤ 1380 → IsUncut at (at + length) cuts) × AreShortUncut (at + length) slices cuts
 
--- each slice of more than 1,380 bytes ends with a portion, of slices of these lengths from a place on
+-- each slice of more than 1,380 bytes ends with a portion, of slices of these lengths from a place
+-- on
 abbrev pub DoLongEndPortions : ℕ → List ℕ → List ℕ → Type 0
 DoLongEndPortions at [] cuts = Unit {0}
 DoLongEndPortions at (length ∷ slices) cuts =
-    (1380 < length → is_among (at + length) cuts ≡ true) × DoLongEndPortions (at + length) slices cuts
+    (1380 < length → is_among (at + length) cuts ≡ true)
+    × DoLongEndPortions (at + length) slices cuts
 
 -- the last of these packets has the marker, and no other
 abbrev pub IsLastMarked : List Packet → Type 0

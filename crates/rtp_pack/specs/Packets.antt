@@ -103,8 +103,8 @@ ends_to to [] = []
 ends_to to (start ∷ starts) = next_place to starts ∷ ends_to to starts
 
 -- the packet of a portion of a unit (RFC 2250 section 3.4): B where it begins with a slice, or with
--- the headers and a slice after them; E where its last byte is a slice's last byte; S where it begins
--- with a sequence header; the marker where it ends with the unit
+-- the headers and a slice after them; E where its last byte is a slice's last byte; S where it
+-- begins with a sequence header; the marker where it ends with the unit
 abbrev pub portion_packet : PictureUnit → List ℕ → ℕ → ℕ → Packet
 portion_packet unit starts from to =
     packet unit from to (is_among from starts

@@ -1,6 +1,6 @@
 -- The rules of cutting as conditions on the list of cut points, with no step of the packer: where a
--- cut may stand, and where it must. A unit has headers from `from` to `headers_end`, and then slices
--- of these lengths; its cut points are the places where its portions end.
+-- cut may stand, and where it must. A unit has headers from `from` to `headers_end`, and then
+-- slices of these lengths; its cut points are the places where its portions end.
 use Rattle.std.specs.Prelude.{ℕ, ◌+◌, ◌<◌, ◌≤◌, ◌≡◌, ◌⊎◌, true, List, [], ◌∷◌, sum}
 use Rattle.rtp_pack.specs.Laws.{ArePortions, IsUncut}
 use Rattle.rtp_pack.specs.Packets.{is_among}
@@ -44,14 +44,15 @@ pub record DoesNotFit (headers_end : ℕ) (slices : List ℕ) (start place : ℕ
   pub short : length ≤ 1380
   pub over : start + 1380 < place + length
 
--- a portion from `start` on may end there, before the unit's end: it is full, a cut must stand there,
--- or the next slice doesn't fit
+-- a portion from `start` on may end there, before the unit's end: it is full, a cut must stand
+-- there, or the next slice doesn't fit
 abbrev pub MayEnd : ℕ → ℕ → List ℕ → ℕ → ℕ → Type 0
 MayEnd from headers_end slices start cut =
     (cut ≡ start + 1380)
     ⊎ (IsCutPlace from headers_end slices cut ⊎ DoesNotFit headers_end slices start cut)
 
--- each portion but the last may end where it does, of portions from `start` on that end at these places
+-- each portion but the last may end where it does, of portions from `start` on that end at these
+-- places
 abbrev pub MayAllEnd : (ℕ → ℕ → Type 0) → ℕ → List ℕ → Type 0
 MayAllEnd May start [] = Unit {0}
 MayAllEnd May start (cut ∷ []) = Unit {0}

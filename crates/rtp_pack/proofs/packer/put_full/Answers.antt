@@ -12,6 +12,7 @@ loop-portion-preserved c = record {
       ++ full_packets c.args.unit.now false (c.loop-portion.last + 1380)
       (c.full_before-portion-end.result - (c.loop-portion._portion + 1)))
       (c.in_ok-put.ensures ∙ ap (λ (p : Packet). c.loop-portion.packets.items ++ p ∷ []) c.packet.ensures)
-      ∙ put-full_packet c.args.unit.now c.loop-portion.begin c.loop-portion.last c.loop-portion.packets.items c.loop-portion-test.true
+      ∙ put-full_packet c.args.unit.now c.loop-portion.begin c.loop-portion.last c.loop-portion.packets.items
+      c.loop-portion-test.true
       ∙ c.loop-portion.invariant.packets;
 }

@@ -10,7 +10,8 @@ pub invariant_of-self : goal.invariant_of-self
 invariant_of-self c =
     let P : Measure → Type 0 = λ m. IsMeasure m in
     subst P (sym (returns-clause-slice c))
-    (keeps-measure c.args.self.now c.args.length (subst P c.self.view_is c.self.invariant) c.requires.least c.requires.most)
+    (keeps-measure c.args.self.now c.args.length (subst P c.self.view_is c.self.invariant)
+    c.requires.least c.requires.most)
 
 pub returns-clause-measured : goal.returns-clause-measured
 returns-clause-measured c = λ headers slices is.
