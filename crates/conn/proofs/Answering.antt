@@ -14,7 +14,7 @@ use Rattle.session.specs.Hearings.{started_text}
 use Rattle.session.specs.Methods.{play_front, prepared_of}
 use Rattle.session.specs.Standings.{Standing, sequence_of}
 use Rattle.session.proofs.Changing.{hears_good, hears_ground, hears_state}
-use Rattle.conn.specs.Turns.{Outcome, Unasked, Entered, WasFull, Offered, HasHeard, IsAnswered}
+use Rattle.conn.specs.Turns.{Outcome, Unasked, Entered, WasFull, Offered, HasHeard, IsAskAnswered}
 use Rattle.conn.specs.Turns.{IsPlayAnswered}
 use Rattle.conn.specs.Films.{IsReady}
 use Rattle.conn.specs.Admissions.{IsEntryReplied, IsPlayReplied}
@@ -65,7 +65,7 @@ entry_replied entered (Looked now at booked) new answered = absurd answered
 
 asked_replied : {old asking : Standing} (is : IsPlayAsked old asking) (outcome : Outcome) (new : Standing) →
     asking.state ≡ old.state → asking.heard ≡ old.heard →
-    IsAnswered asking (AskPlay is.planned.plan) outcome new → IsPlayReplied old outcome new
+    IsAskAnswered asking (AskPlay is.planned.plan) outcome new → IsPlayReplied old outcome new
 asked_replied is Unasked new same heard answered = absurd answered
 asked_replied is (Entered placed) new same heard answered =
     entry_replied (record { asked = is; same = same; command = answered.0 ∙ ap (λ h. play_of h is.planned.plan) heard })
@@ -76,7 +76,7 @@ asked_replied is (Offered at_slot note) new same heard answered = absurd answere
 
 lacks_replied : {old : Standing} {ask : Ask} {asking : Standing} (outcome : Outcome) (new : Standing) →
     LacksMemory old ask asking →
-    IsAnswered asking AskReply outcome new → IsPlayReplied old outcome new
+    IsAskAnswered asking AskReply outcome new → IsPlayReplied old outcome new
 lacks_replied {old} {ask} {asking} Unasked new lacks answered =
     subst (HasCode 500) (sym (ap (λ (s : Standing). s.text) answered)) (memory_code old ask asking lacks)
 lacks_replied {ask} (Entered placed) new lacks answered = absurd answered
@@ -85,12 +85,12 @@ lacks_replied {ask} (Offered at_slot note) new lacks answered = absurd answered
 
 either_replied : {old : Standing} {ask : Ask} {asking : Standing} (outcome : Outcome) (new : Standing) →
     AsksOrLacks old ask asking →
-    ChangesState ask old asking → asking.heard ≡ old.heard → IsAnswered asking ask outcome new → IsPlayReplied old outcome new
+    ChangesState ask old asking → asking.heard ≡ old.heard → IsAskAnswered asking ask outcome new → IsPlayReplied old outcome new
 either_replied {old} {ask} {asking} outcome new (inl asks) changes heard answered =
     let state = subst (λ a. ChangesState a old asking) asks.command changes in
-    asked_replied asks.play outcome new state.0 heard (subst (λ a. IsAnswered asking a outcome new) asks.command answered)
+    asked_replied asks.play outcome new state.0 heard (subst (λ a. IsAskAnswered asking a outcome new) asks.command answered)
 either_replied {ask} {asking} outcome new (inr lacks) changes heard answered =
-    lacks_replied outcome new lacks (subst (λ a. IsAnswered asking a outcome new) lacks.refused.0 answered)
+    lacks_replied outcome new lacks (subst (λ a. IsAskAnswered asking a outcome new) lacks.refused.0 answered)
 
 pub play_answered : (old new : Standing) (message : List ℕ) (outcome : Outcome) → CanBePlayed old message →
     HasHeard old message outcome new →

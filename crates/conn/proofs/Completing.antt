@@ -20,7 +20,7 @@ use Rattle.session.specs.Changes.{AsksOrLacks, CanBePlayed, IsPlayAsked}
 use Rattle.session.specs.Replies.{full_text, overflow_text}
 use Rattle.session.specs.Standings.{Standing}
 use Rattle.session.proofs.Changing.{hears_good, hears_ground}
-use Rattle.conn.specs.Turns.{Outcome, Unasked, Entered, WasFull, Offered, HasHeard, IsAnswered}
+use Rattle.conn.specs.Turns.{Outcome, Unasked, Entered, WasFull, Offered, HasHeard, IsAskAnswered}
 use Rattle.conn.specs.Admissions.{HasBegunPlay, HasTurn, IsDecided, IsEntryReplied, IsPlayCompleted}
 use Rattle.conn.specs.Admissions.{IsPlayReplied, start_at}
 use Rattle.conn.specs.Journals.{HasRoomAt, IsFullIn, StandsIn, Terms, entries_needed}
@@ -99,7 +99,7 @@ full_turn {terms} {journal} {from} {asking} {more} {entries} {new} asked full tw
 
 asked_completed : {old asking : Standing} {outcome : Outcome} {new : Standing}
     (asked : IsPlayAsked old asking) → asking.heard ≡ old.heard →
-    IsAnswered asking (AskPlay asked.planned.plan) outcome new → IsPlayReplied old outcome new → IsPlayCompleted old outcome new
+    IsAskAnswered asking (AskPlay asked.planned.plan) outcome new → IsPlayReplied old outcome new → IsPlayCompleted old outcome new
 asked_completed {outcome = Unasked} {new} asked same answered replied = absurd answered
 asked_completed {outcome = Entered placed} {new} asked same answered replied = λ terms journal from legal agree.
     inl (entry_turn asked legal agree.0 (answered.0 ∙ ap (λ h. play_of h asked.planned.plan) same) replied)
@@ -109,7 +109,7 @@ asked_completed {outcome = Offered at_slot note} {new} asked same answered repli
 
 -- memory was wanting
 lacks_completed : (old asking : Standing) (outcome : Outcome) (new : Standing) →
-    IsAnswered asking AskReply outcome new → IsPlayReplied old outcome new →
+    IsAskAnswered asking AskReply outcome new → IsPlayReplied old outcome new →
     IsPlayCompleted old outcome new
 lacks_completed old asking Unasked new answered replied = λ terms journal from legal agree. inr (refl, replied)
 lacks_completed old asking (Entered placed) new answered replied = absurd answered
@@ -118,11 +118,11 @@ lacks_completed old asking (Offered at_slot note) new answered replied = absurd 
 
 either_completed : {old : Standing} {ask : Ask} {asking : Standing} {outcome : Outcome} {new : Standing} →
     AsksOrLacks old ask asking → asking.heard ≡ old.heard →
-    IsAnswered asking ask outcome new → IsPlayReplied old outcome new → IsPlayCompleted old outcome new
+    IsAskAnswered asking ask outcome new → IsPlayReplied old outcome new → IsPlayCompleted old outcome new
 either_completed {ask} {asking} {outcome} {new} (inl asks) same answered replied =
-    asked_completed asks.play same (subst (λ a. IsAnswered asking a outcome new) asks.command answered) replied
+    asked_completed asks.play same (subst (λ a. IsAskAnswered asking a outcome new) asks.command answered) replied
 either_completed {old} {ask} {asking} {outcome} {new} (inr lacks) same answered replied =
-    lacks_completed old asking outcome new (subst (λ a. IsAnswered asking a outcome new) lacks.refused.0 answered) replied
+    lacks_completed old asking outcome new (subst (λ a. IsAskAnswered asking a outcome new) lacks.refused.0 answered) replied
 
 pub play_completed : (old new : Standing) (message : List ℕ) (outcome : Outcome) → CanBePlayed old message →
     HasHeard old message outcome new →

@@ -20,14 +20,14 @@ use Rattle.session.specs.Standings.{Standing}
 use Rattle.conn.specs.Journals.{entries_needed}
 use Rattle.conn.proofs.Journals.{entry_agrees, full_agrees, offer_agrees}
 use Rattle.conn.specs.Turns.{Entered, WasFull, Offered}
-use Rattle.conn.specs.Turns.{IsAnswered}
+use Rattle.conn.specs.Turns.{IsAskAnswered}
 use Rattle.conn.specs.Sights.{HasAnswered}
 
 -- the station's answers
 pub answered_entry : {old : Standing} {ask : Ask} {new : Standing} {seat next : SeatState} {more : ℕ}
     {command : Command} {place : ℕ} {answer : Answer}
     → IsSeat seat → IsSeat next → IsSameSeat seat next → HasMade seat next more command place answer → more ≡ entries_needed command
-    → IsAnswered old ask
+    → IsAskAnswered old ask
     (Entered (record { place = place; entry = record { maker = seat.number; command = command; answer = answer } })) new
     → HasAnswered old ask new seat next
 answered_entry {ask} {new} {seat} {next} {more} {command} {place} {answer} kept also same made needed answered = record {
@@ -38,7 +38,7 @@ answered_entry {ask} {new} {seat} {next} {more} {command} {place} {answer} kept 
 
 pub answered_full : {old : Standing} {ask : Ask} {new : Standing} {seat next : SeatState} {more entries open_plays : ℕ}
     → IsSameSeat seat next
-    → IsFull seat next more entries open_plays → IsAnswered old ask (WasFull more entries open_plays) new → HasAnswered old ask new seat next
+    → IsFull seat next more entries open_plays → IsAskAnswered old ask (WasFull more entries open_plays) new → HasAnswered old ask new seat next
 answered_full {ask} {new} {seat} {next} {more} {entries} {open_plays} same full answered = record {
   outcome = WasFull more entries open_plays;
   answered = answered;
@@ -48,7 +48,7 @@ answered_full {ask} {new} {seat} {next} {more} {entries} {open_plays} same full 
 pub answered_offer : {old : Standing} {ask : Ask} {new : Standing} {seat next : SeatState} {heard : ℕ}
     {plan : List Segment} {told : Told} {found : Offers}
     → IsSameSeat seat next → next.mine ≡ seat.mine → IsOffered next.steps next.seen heard plan told found
-    → IsAnswered old ask (Offered heard (record { seen = told.seen; first = told.first; plan = plan; offers = found })) new
+    → IsAskAnswered old ask (Offered heard (record { seen = told.seen; first = told.first; plan = plan; offers = found })) new
     → HasAnswered old ask new seat next
 answered_offer {ask} {new} {seat} {next} {heard} {plan} {told} {found} same mine offered answered = record {
   outcome = Offered heard (record { seen = told.seen; first = told.first; plan = plan; offers = found });

@@ -23,15 +23,15 @@ use Rattle.session.specs.Standings.{Awaits, NoAnswer, PlayAnswer, HaltAnswer, Lo
 use Rattle.session.specs.Standings.{OfferAnswer, Standing, awaited_answer}
 use Rattle.session.specs.Steps.{after_stop}
 use Rattle.conn.specs.Turns.{Outcome, Unasked, Entered, WasFull, Offered, Part, Film, Text, Stage}
-use Rattle.conn.specs.Turns.{Taking, Passed, Answered, HasHeard, IsAnswered, IsFinished, IsHalted}
+use Rattle.conn.specs.Turns.{Taking, Passed, Answered, HasHeard, IsAskAnswered, IsFinished, IsHalted}
 use Rattle.conn.specs.Turns.{IsLookAnswered, IsPlayAnswered, Takes, TakesAll, after_reply}
 use Rattle.conn.specs.Turns.{due_parts, film_bytes, slot_parts}
 use Rattle.vod_base.specs.Links.{Doing, HeardBytes, HeardEnd, HeardSlot, Sent}
 use Rattle.session.specs.Hearings.{Hears}
 use Rattle.conn.specs.Rounds.{Round, Runs, RunsAll, round_outcomes, rounds_outcomes}
 use Rattle.conn.specs.Rounds.{taking_outcomes, takings_outcomes}
-use Rattle.conn.specs.Films.{AreUnhalted, GoesOn, HasSent, HasSentOn, IsNoHalt}
-use Rattle.conn.specs.Films.{IsUnhalted, Stretch, rounds_film}
+use Rattle.conn.specs.Films.{HaveNoHalt, GoesOn, HasSent, HasSentOn, IsNoHalt}
+use Rattle.conn.specs.Films.{HasNoHalt, Stretch, rounds_film}
 use Rattle.session.specs.Laws.{AsksNoHalt}
 use Rattle.session.proofs.Grounds.{HeardMessage}
 use Rattle.session.proofs.HearingLaws.{hears_plays}
@@ -40,14 +40,14 @@ use Rattle.conn.proofs.Occasions.{SlotPacings, PlayGoing, EventCome}
 
 -- a halt is an entry that halts
 no_halt : (old : Standing) (keep : ℕ) (outcome : Outcome) (new : Standing) → IsHalted old keep outcome new
-    → IsUnhalted outcome → ⊥
+    → HasNoHalt outcome → ⊥
 no_halt old keep Unasked new halted free = halted
 no_halt old keep (Entered placed) new halted free = subst IsNoHalt halted.command free
 no_halt old keep (WasFull more entries open_plays) new halted free = halted
 no_halt old keep (Offered at_slot note) new halted free = halted
 
 finished_same : (asks : Awaits) (old : Standing) (halt : Outcome) (new : Standing)
-    → IsFinished asks old halt new → IsUnhalted halt → new ≡ old
+    → IsFinished asks old halt new → HasNoHalt halt → new ≡ old
 finished_same NoAnswer old Unasked new is free = is
 finished_same NoAnswer old (Entered placed) new is free = absurd is
 finished_same NoAnswer old (WasFull more entries open_plays) new is free = absurd is
@@ -97,8 +97,8 @@ film_cases false between one after plain text = append-nil plain
 film_cases true false one after plain text = refl
 film_cases true true one after plain text = ap (λ bs. one ++ bs) (append-nil after)
 
-abbrev state_after : Bool → State → ℕ → State
-state_after waits state slot =
+abbrev state_after_slot : Bool → State → ℕ → State
+state_after_slot waits state slot =
     if waits && is_between (stepped_in true slot state) then after_stop (due_state waits state slot)
     else due_state waits state slot
 
@@ -110,7 +110,7 @@ parts_of waits state text slot =
     else Film (step_bytes false slot state) ∷ []
 
 play_state : (waits : Bool) (setup : Setup) (play : Played) (slot : ℕ) →
-    state_after waits (Playing setup play) slot ≡ with_pacer setup play (slot_pacing waits slot play.pacer)
+    state_after_slot waits (Playing setup play) slot ≡ with_pacer setup play (slot_pacing waits slot play.pacer)
 play_state waits setup play slot =
     let p = play.pacer in
     state_cases waits (stands_at_boundary (after_step true slot p))
@@ -140,7 +140,7 @@ taken_slot {setup} {play} {film} old slot is has later =
     let s : Standing = sent_slot old slot in
     let now : Played = record play { pacer = slot_pacing old.waits slot play.pacer } in
     let state : (after_play s).state ≡ Playing setup now =
-    finished_state s ∙ reply_state goes (sent_due old slot) ∙ ap (λ st. state_after old.waits st slot) is
+    finished_state s ∙ reply_state goes (sent_due old slot) ∙ ap (λ st. state_after_slot old.waits st slot) is
     ∙ play_state old.waits setup play slot in
     let heard : (after_play s).heard ≡ slot = finished_heard s ∙ reply_heard goes (sent_due old slot) in
     let bytes : film_bytes (due_parts old slot) ≡ slot_film old.waits slot play.pacer =
@@ -194,7 +194,7 @@ later_slot old slot taken = ltb-true old.heard slot (and_parts (nat_lt old.heard
 -- a play goes on by a slot
 pub play_slot : {new : Standing} {setup : Setup} {play : Played} {film : List ℕ} {old : Standing} (slot : ℕ)
     (halt : Outcome) → PlayGoing setup play film old →
-    IsFinished (awaited_answer (after_slot old slot)) (after_slot old slot) halt new → IsUnhalted halt →
+    IsFinished (awaited_answer (after_slot old slot)) (after_slot old slot) halt new → HasNoHalt halt →
     HasSentOn setup play new (film ++ film_bytes (slot_parts old slot))
 play_slot {new} {setup} {play} {film} {old} slot halt going finishes free =
     subst (λ s. HasSentOn setup play s (film ++ film_bytes (slot_parts old slot)))
@@ -250,8 +250,8 @@ look_left old placed (Looked now at booked) new answered = subst (IsLeft old) (s
 
 -- the station's answer to what a session asks, which halts no booking
 pub record UnhaltedAnswer (old : Standing) (ask : Ask) (outcome : Outcome) (new : Standing) : Type 0 where
-  pub answered : IsAnswered old ask outcome new
-  pub free : IsUnhalted outcome
+  pub answered : IsAskAnswered old ask outcome new
+  pub free : HasNoHalt outcome
 
 answer_left : {setup : Setup} {play : Played} {old new : Standing} (ask : Ask) (outcome : Outcome) →
     old.state ≡ Playing setup play → UnhaltedAnswer old ask outcome new → IsLeft old new
@@ -282,8 +282,8 @@ hears_left : {setup : Setup} {play : Played} (heard : HeardMessage) → heard.ol
 hears_left {setup} {play} heard is free =
     let plays = hears_plays heard setup play is free in (plays.state, plays.heard)
 
-ask_free : (old : Standing) (ask : Ask) (outcome : Outcome) (new : Standing) → IsAnswered old ask outcome new
-    → IsUnhalted outcome → AsksNoHalt ask
+ask_free : (old : Standing) (ask : Ask) (outcome : Outcome) (new : Standing) → IsAskAnswered old ask outcome new
+    → HasNoHalt outcome → AsksNoHalt ask
 ask_free old AskReply outcome new answered free = tt
 ask_free old (AskPlay plan) outcome new answered free = tt
 ask_free old (AskHalt keep) outcome new answered free = no_halt old keep outcome new answered free
@@ -292,7 +292,7 @@ ask_free old (AskOffer plan offers) outcome new answered free = tt
 
 pub heard_left : {old : Standing} {message : List ℕ} {outcome : Outcome} {new : Standing} {setup : Setup}
     {play : Played} → HasHeard old message outcome new →
-    IsUnhalted outcome → old.state ≡ Playing setup play → IsLeft old new
+    HasNoHalt outcome → old.state ≡ Playing setup play → IsLeft old new
 heard_left {old} {message} {outcome} {new} heard free is =
     let asking : IsLeft old heard.asking =
     hears_left (record { old = old; new = heard.asking; message = message; ask = heard.ask; hears = heard.hears }) is
@@ -309,7 +309,7 @@ reply_left true s setup play is = (settled_play s.state setup play is, refl)
 reply_left false s setup play is = (refl, refl)
 
 pub taking_left : {setup : Setup} {play : Played} (old new : Stage) (taking : Taking) → Takes old taking new →
-    AreUnhalted (taking_outcomes taking) →
+    HaveNoHalt (taking_outcomes taking) →
     old.session.state ≡ Playing setup play → IsLeft old.session new.session
 taking_left old new (Passed n) takes free is = subst (λ (s : Stage). IsLeft old.session s.session) (sym takes.2) (refl, refl)
 taking_left {setup} {play} old new (Answered message outcome parts) takes free is =
@@ -318,16 +318,16 @@ taking_left {setup} {play} old new (Answered message outcome parts) takes free i
     (left_on old.session takes.answered (after_reply takes.answered) heard
     (reply_left (can_reply takes.answered) takes.answered setup play (heard.0 ∙ is)))
 
-pub unhalted_front : (xs ys : List Outcome) → AreUnhalted (xs ++ ys) → AreUnhalted xs
+pub unhalted_front : (xs ys : List Outcome) → HaveNoHalt (xs ++ ys) → HaveNoHalt xs
 unhalted_front [] ys free = tt
 unhalted_front (x ∷ xs) ys free = (free.0, unhalted_front xs ys free.1)
 
-pub unhalted_rest : (xs ys : List Outcome) → AreUnhalted (xs ++ ys) → AreUnhalted ys
+pub unhalted_rest : (xs ys : List Outcome) → HaveNoHalt (xs ++ ys) → HaveNoHalt ys
 unhalted_rest [] ys free = free
 unhalted_rest (x ∷ xs) ys free = unhalted_rest xs ys free.1
 
 pub takes_left : {setup : Setup} {play : Played} (old new : Stage) (takings : List Taking) → TakesAll old takings new →
-    AreUnhalted (takings_outcomes takings) → old.session.state ≡ Playing setup play → IsLeft old.session new.session
+    HaveNoHalt (takings_outcomes takings) → old.session.state ≡ Playing setup play → IsLeft old.session new.session
 takes_left old new [] takes free is = subst (λ (s : Stage). IsLeft old.session s.session) (sym takes) (refl, refl)
 takes_left old new (taking ∷ takings) takes free is =
     let first : IsLeft old.session takes.0.session = taking_left old takes.0 taking takes.1.0
@@ -353,7 +353,7 @@ on_left {new} {film} on left = record {
 }
 
 pub comes_on : {setup : Setup} {play : Played} {film : List ℕ} {old new : Stage} {event : Doing}
-    (come : EventCome old event new) → IsUnhalted come.halt → PlayGoing setup play film old.session →
+    (come : EventCome old event new) → HasNoHalt come.halt → PlayGoing setup play film old.session →
     HasSentOn setup play new.session (film ++ film_bytes come.due)
 comes_on {setup} {play} {film} {old} {new} {event = HeardBytes bytes} come free going =
     subst (λ ps. HasSentOn setup play new.session (film ++ film_bytes ps)) (sym come.comes.0)
@@ -367,7 +367,7 @@ comes_on {event = HeardEnd} come free going = absurd come.comes
 comes_on {event = Sent byte} come free going = absurd come.comes
 
 pub round_on : {old new : Stage} {round : Round} {setup : Setup} {play : Played} {film : List ℕ} →
-    Runs old round new → AreUnhalted (round_outcomes round) →
+    Runs old round new → HaveNoHalt (round_outcomes round) →
     old.session.state ≡ Playing setup play → HasSent play old.session.heard film
     → HasSentOn setup play new.session (film ++ film_bytes round.due)
 round_on {old} {new} {round} {setup} {play} {film} runs free is has =
@@ -378,7 +378,7 @@ round_on {old} {new} {round} {setup} {play} {film} runs free is has =
 
 -- a play goes on by events, as long as it isn't halted
 pub rounds_on : {setup : Setup} {play : Played} {film : List ℕ} (old new : Stage) (rounds : List Round) →
-    RunsAll old rounds new → AreUnhalted (rounds_outcomes rounds) → PlayGoing setup play film old.session →
+    RunsAll old rounds new → HaveNoHalt (rounds_outcomes rounds) → PlayGoing setup play film old.session →
     HasSentOn setup play new.session (film ++ rounds_film rounds)
 rounds_on {setup} {play} {film} old new [] runs free going =
     subst (λ (s : Stage). HasSentOn setup play s.session (film ++ [])) (sym runs)

@@ -7,11 +7,11 @@ use Rattle.admission.specs.declared.entries.Answer.TheVariants.{Overflow}
 use Rattle.admission.specs.Makers.{Placed}
 use Rattle.session.specs.declared.asks.Ask.TheVariants.{Play as AskPlay}
 use Rattle.session.specs.Standings.{Standing}
-use Rattle.conn.specs.Turns.{Entered, IsAnswered, IsPlayAnswered}
+use Rattle.conn.specs.Turns.{Entered, IsAskAnswered, IsPlayAnswered}
 use Rattle.conn.specs.Films.{TellsOverflow}
 
 pub overflow_told : {old new : Standing} {plan : List Segment} {placed : Placed} {over : Over} →
-    IsAnswered old (AskPlay plan) (Entered placed) new →
+    IsAskAnswered old (AskPlay plan) (Entered placed) new →
     placed.entry.answer ≡ Overflow over.slot over.booked over.asked → TellsOverflow old plan placed over new
 overflow_told {old} {new} {placed} {over} answered is =
     let after = subst (λ (a : Answer). IsPlayAnswered old placed a new) is answered.1 in

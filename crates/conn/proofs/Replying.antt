@@ -20,7 +20,7 @@ use Rattle.conn.specs.Turns.{Part, Film, Text, Stage, Taking, Passed, Answered, 
 use Rattle.conn.specs.Turns.{due_parts, film_bytes, reply_parts}
 use Rattle.conn.specs.Rounds.{Round, Runs, RunsAll, round_outcomes, rounds_outcomes}
 use Rattle.conn.specs.Rounds.{takings_outcomes}
-use Rattle.conn.specs.Films.{AreUnhalted, GoesOn, HasSent, StandBetween, Stretch, round_parts}
+use Rattle.conn.specs.Films.{HaveNoHalt, GoesOn, HasSent, StandBetween, Stretch, round_parts}
 use Rattle.conn.specs.Films.{rounds_parts, takings_parts}
 use Rattle.pacer.proofs.SlotLemmas.{most-slots}
 use Rattle.conn.proofs.Filming.{stopped_is}
@@ -157,7 +157,7 @@ takings_film old new (Answered message outcome parts ∷ takings) takes =
     ∙ takings_film takes.0 new takings takes.1.1
 
 takes_stand : {setup : Setup} {play : Played} {film : List ℕ} (old new : Stage) (takings : List Taking) →
-    TakesAll old takings new → AreUnhalted (takings_outcomes takings) → PlayGoing setup play film old.session →
+    TakesAll old takings new → HaveNoHalt (takings_outcomes takings) → PlayGoing setup play film old.session →
     StandBetween play.pacer.pieces (play.pacer.before + length film) (takings_parts takings)
 takes_stand old new [] takes free going = tt
 takes_stand {play} {film} old new (Passed n ∷ takings) takes free going =
@@ -167,7 +167,7 @@ takes_stand {play} {film} old new (Passed n ∷ takings) takes free going =
       sent = subst (λ h. HasSent play h film) (sym left.1) going.sent;
     })
 takes_stand {setup} {play} {film} old new (Answered message outcome parts ∷ takings) takes free going =
-    let first : AreUnhalted (outcome ∷ []) = (free.0, tt) in
+    let first : HaveNoHalt (outcome ∷ []) = (free.0, tt) in
     let left = taking_left old takes.0 (Answered message outcome parts) takes.1.0 first is in
     let heard = heard_left takes.1.0.heard free.0 is in
     let place : ℕ = play.pacer.before + length film in
@@ -185,7 +185,7 @@ takes_stand {setup} {play} {film} old new (Answered message outcome parts ∷ ta
     open going use {state as is, sent as has}
 
 round_stands : {old new : Stage} {round : Round} {setup : Setup} {play : Played} {film : List ℕ} →
-    Runs old round new → AreUnhalted (round_outcomes round) →
+    Runs old round new → HaveNoHalt (round_outcomes round) →
     old.session.state ≡ Playing setup play → HasSent play old.session.heard film →
     StandBetween play.pacer.pieces (play.pacer.before + length film) (round_parts round)
 round_stands {old} {new} {round} {play} {film} runs free is has =
@@ -206,7 +206,7 @@ round_stands {old} {new} {round} {play} {film} runs free is has =
 
 -- while a play goes on, each reply stands between frames and reports
 pub rounds_stand : {setup : Setup} {play : Played} {film : List ℕ} (old new : Stage) (rounds : List Round) →
-    RunsAll old rounds new → AreUnhalted (rounds_outcomes rounds) → PlayGoing setup play film old.session →
+    RunsAll old rounds new → HaveNoHalt (rounds_outcomes rounds) → PlayGoing setup play film old.session →
     StandBetween play.pacer.pieces (play.pacer.before + length film) (rounds_parts rounds)
 rounds_stand old new [] runs free going = tt
 rounds_stand {setup} {play} {film} old new (round ∷ rounds) runs free going =

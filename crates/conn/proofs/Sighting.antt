@@ -18,7 +18,7 @@ use Rattle.vod_base.specs.declared.links.Heard.TheVariants.{Bytes, Slot, End}
 use Rattle.station.specs.Seats.{SeatState}
 use Rattle.conn.specs.declared.reports.ConnEnd.{ConnEnd}
 use Rattle.conn.specs.declared.reports.ConnEnd.TheVariants.{Ended, TornDown, LinkFault, TooMuchInput}
-use Rattle.conn.specs.declared.reports.ConnEnd.TheVariants.{HeadTooLong, BodyTooLong, TurnsSpent}
+use Rattle.conn.specs.declared.reports.ConnEnd.TheVariants.{HeadTooLong, BodyTooLong, EventsSpent}
 use Rattle.conn.specs.declared.reports.ConnEnd.TheVariants.{NoMemory}
 use Rattle.session.specs.Sendings.{IsTold, can_reply, due_bytes, is_between, is_sending, is_taken}
 use Rattle.session.specs.Sendings.{step_bytes, stepped_in}
@@ -360,7 +360,7 @@ run_end {count} {event} {end} {a} {b} {c} run stage_is seat_is told_is more last
 -- no more than 2^40 events were heard
 few_heard : (end : ConnEnd) (count : ℕ) → IsUnheard end count → count ≤ 2 ^ 40
 few_heard LinkFault count is = omega (arith, is)
-few_heard TurnsSpent count is = omega (arith, is)
+few_heard EventsSpent count is = omega (arith, is)
 few_heard Ended count is = absurd is
 few_heard TornDown count is = absurd is
 few_heard TooMuchInput count is = absurd is

@@ -36,12 +36,12 @@ use Rattle.session.specs.Playing.{playback_of}
 use Rattle.session.specs.Ranges.{AreSettings, IsSetup}
 use Rattle.session.specs.Sendings.{can_reply, due_state, after_play, halted_in, is_between}
 use Rattle.session.specs.Sendings.{is_sending, is_taken, next_of, sent_due, sent_reply, sent_slot}
-use Rattle.session.specs.Sendings.{after_slot, state_after, stepped_in}
+use Rattle.session.specs.Sendings.{after_slot, state_once_halted, stepped_in}
 use Rattle.session.specs.Standings.{Awaits, NoAnswer, PlayAnswer, HaltAnswer, LookAnswer}
 use Rattle.session.specs.Standings.{OfferAnswer, Standing, awaited_answer}
 use Rattle.session.specs.Steps.{IsPlayIn, after_stop}
 use Rattle.conn.specs.Turns.{Outcome, Unasked, Entered, WasFull, Offered, Stage, Taking}
-use Rattle.conn.specs.Turns.{Passed, Answered, HasHeard, IsAnswered, IsFinished, IsHalted}
+use Rattle.conn.specs.Turns.{Passed, Answered, HasHeard, IsAskAnswered, IsFinished, IsHalted}
 use Rattle.conn.specs.Turns.{IsLookAnswered, IsPlayAnswered, Takes, TakesAll, after_reply}
 use Rattle.conn.specs.Turns.{due_parts, film_bytes, slot_parts}
 use Rattle.conn.specs.Rounds.{Round, Runs, RunsAll}
@@ -126,7 +126,7 @@ ground_of s film = record {
 
 -- after a halt no play goes on
 next_values : {setup : Setup} (ground : Ground) (play : Played) (next : Next) → IsSetup (length ground.films) setup →
-    IsStateOf ground.films ground.source ground.settings ground.counts ground.heard ground.film (state_after setup play next)
+    IsStateOf ground.films ground.source ground.settings ground.counts ground.heard ground.film (state_once_halted setup play next)
 next_values ground play Done values = values
 next_values ground play (Paused run) values = values
 next_values ground play Torn values = values
@@ -169,7 +169,7 @@ halting_of s film well = record {
 
 -- the station's answers
 answered_well : {new : Standing} (old : Standing) (ask : Ask) (outcome : Outcome) (film : List ℕ) → IsAskedWell ask old film →
-    IsAnswered old ask outcome new → IsWell new (film_since film outcome)
+    IsAskAnswered old ask outcome new → IsWell new (film_since film outcome)
 answered_well {new} old AskReply Unasked film well answered = subst (λ s. IsWell s film) (sym answered) well
 answered_well {new} old AskReply (Entered placed) film well answered = absurd answered
 answered_well {new} old AskReply (WasFull more entries open_plays) film well answered = absurd answered

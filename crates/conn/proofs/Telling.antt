@@ -23,7 +23,7 @@ use Rattle.session.specs.Sendings.{sent_reply, sent_slot, after_slot, stepped_in
 use Rattle.session.specs.Standings.{Awaits, NoAnswer, PlayAnswer, HaltAnswer, LookAnswer}
 use Rattle.session.specs.Standings.{OfferAnswer, Standing, awaited_answer}
 use Rattle.conn.specs.Turns.{Outcome, Unasked, Entered, WasFull, Offered, Part, Film, Text, Stage}
-use Rattle.conn.specs.Turns.{Taking, Passed, Answered, HasHeard, IsAnswered, IsFinished, IsHalted}
+use Rattle.conn.specs.Turns.{Taking, Passed, Answered, HasHeard, IsAskAnswered, IsFinished, IsHalted}
 use Rattle.conn.specs.Turns.{IsLookAnswered, IsPlayAnswered, Takes as TakesElement, TakesAll}
 use Rattle.conn.specs.Turns.{slot_parts}
 use Rattle.conn.specs.Rounds.{Comes, Ending, Ends, Unheard, PeerEnded, Overfull, AtElement, InSlot}
@@ -207,7 +207,7 @@ halted_text old keep (Offered at_slot note) new halted = absurd halted
 -- the station's answer to a session whose text tells of no refusal
 pub record PlainAnswer (old : Standing) (ask : Ask) (outcome : Outcome) (new : Standing) : Type 0 where
   pub plain : RefusesNone ask old
-  pub answered : IsAnswered old ask outcome new
+  pub answered : IsAskAnswered old ask outcome new
 
 answered_told : {old new : Standing} (made : List Outcome) (ask : Ask) (outcome : Outcome) →
     PlainAnswer old ask outcome new → IsTold (made ++ outcome ∷ []) new.text

@@ -16,7 +16,7 @@ use Rattle.conn.specs.declared.connections.Taken.TheVariants.{Gone, Waits, End}
 use Rattle.conn.specs.declared.reports.ConnEnd.{ConnEnd}
 use Rattle.conn.specs.declared.reports.ConnEnd.TheVariants.{Ended, TornDown, LinkFault}
 use Rattle.conn.specs.declared.reports.ConnEnd.TheVariants.{TooMuchInput, HeadTooLong, BodyTooLong}
-use Rattle.conn.specs.declared.reports.ConnEnd.TheVariants.{TurnsSpent, NoMemory}
+use Rattle.conn.specs.declared.reports.ConnEnd.TheVariants.{EventsSpent, NoMemory}
 
 -- a framing fault as the end of a connection
 abbrev pub IsEndOf : DemuxFault → ConnEnd → Type 0
@@ -38,7 +38,7 @@ IsTakenUp (Some HeadTooLong) c = IsFirst c.input (Err LongHead)
 IsTakenUp (Some BodyTooLong) c = IsFirst c.input (Err LongBody)
 IsTakenUp (Some Ended) c = ⊥
 IsTakenUp (Some TooMuchInput) c = ⊥
-IsTakenUp (Some TurnsSpent) c = ⊥
+IsTakenUp (Some EventsSpent) c = ⊥
 IsTakenUp (Some NoMemory) c = ⊥
 
 -- an event was taken up, where so many bytes waited before it
@@ -77,7 +77,7 @@ is_fault (Some TornDown) = false
 is_fault (Some TooMuchInput) = false
 is_fault (Some HeadTooLong) = false
 is_fault (Some BodyTooLong) = false
-is_fault (Some TurnsSpent) = false
+is_fault (Some EventsSpent) = false
 is_fault (Some NoMemory) = false
 
 abbrev pub end_in : Taken → Option ConnEnd

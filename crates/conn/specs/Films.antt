@@ -48,15 +48,15 @@ IsNoHalt (Play slot plan) = ⊤
 IsNoHalt (Halt number keep) = ⊥
 IsNoHalt (Look slot) = ⊤
 
-abbrev pub IsUnhalted : Outcome → Type 0
-IsUnhalted Unasked = ⊤
-IsUnhalted (Entered placed) = IsNoHalt placed.entry.command
-IsUnhalted (WasFull more entries open_plays) = ⊤
-IsUnhalted (Offered at_slot note) = ⊤
+abbrev pub HasNoHalt : Outcome → Type 0
+HasNoHalt Unasked = ⊤
+HasNoHalt (Entered placed) = IsNoHalt placed.entry.command
+HasNoHalt (WasFull more entries open_plays) = ⊤
+HasNoHalt (Offered at_slot note) = ⊤
 
-abbrev pub AreUnhalted : List Outcome → Type 0
-AreUnhalted [] = ⊤
-AreUnhalted (outcome ∷ outcomes) = IsUnhalted outcome × AreUnhalted outcomes
+abbrev pub HaveNoHalt : List Outcome → Type 0
+HaveNoHalt [] = ⊤
+HaveNoHalt (outcome ∷ outcomes) = HasNoHalt outcome × HaveNoHalt outcomes
 
 -- the film's bytes that were sent in rounds
 abbrev pub rounds_film : List Round → List ℕ
@@ -146,7 +146,7 @@ pub record GoesOn (stretch : Stretch) : Type 0 where
   pub mid : Stage
   pub takes : TakesAll stretch.old stretch.takings mid
   pub runs : RunsAll mid stretch.rounds stretch.new
-  pub unhalted : AreUnhalted
+  pub unhalted : HaveNoHalt
       (takings_outcomes stretch.takings ++ rounds_outcomes stretch.rounds)
 
 -- a play that the link has no room for is answered with the slot that its entry names, and with the

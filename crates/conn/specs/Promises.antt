@@ -80,7 +80,7 @@ pub record KeepsIn (session : Standing) (rounds : List Round) (ending : Ending) 
 
 -- After each entry that a seat has seen, what the plays book in a slot, each with its plan as far
 -- as it is kept, is never above the link's capacity.
-pub record IsNeverOverbooked (seat : SeatState) : Type 0 where
+pub record IsNeverAboveCapacity (seat : SeatState) : Type 0 where
   pub legal : IsLegal seat.steps seat.seen
   pub within : (n slot : ℕ) → booked_after (take n seat.seen) slot ≤ capacity_at seat.steps slot
 
@@ -89,7 +89,7 @@ pub record IsNeverOverbooked (seat : SeatState) : Type 0 where
 pub record KeepsCourse (session : Standing) (old_told new_told : Option (List Doing))
     (old_seat new_seat : SeatState) (report : ConnReport) : Type 0 where
   pub served : HasServedFrom session old_told new_told old_seat new_seat report
-  pub booked : IsNeverOverbooked new_seat
+  pub booked : IsNeverAboveCapacity new_seat
   pub keeps : KeepsIn session served.course.rounds served.course.ending new_seat
 
 -- or it found no memory and did nothing

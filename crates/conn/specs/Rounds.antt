@@ -17,7 +17,7 @@ use Rattle.conn.specs.Turns.{Passed, Answered, TakesAll, entry_in, parts_bytes, 
 use Rattle.conn.specs.declared.reports.ConnEnd.{ConnEnd}
 use Rattle.conn.specs.declared.reports.ConnEnd.TheVariants.{Ended, TornDown, LinkFault}
 use Rattle.conn.specs.declared.reports.ConnEnd.TheVariants.{TooMuchInput, HeadTooLong, BodyTooLong}
-use Rattle.conn.specs.declared.reports.ConnEnd.TheVariants.{TurnsSpent}
+use Rattle.conn.specs.declared.reports.ConnEnd.TheVariants.{EventsSpent}
 
 -- an event, what was sent in its slot, the halt of a play that was done, and the elements that were
 -- taken up after it
@@ -70,7 +70,7 @@ pub data Ending : Type 0 where
 -- the end of a connection that hears no event any more, after so many
 abbrev pub IsUnheard : ConnEnd → ℕ → Type 0
 IsUnheard LinkFault count = count < 2 ^ 40
-IsUnheard TurnsSpent count = count ≡ 2 ^ 40
+IsUnheard EventsSpent count = count ≡ 2 ^ 40
 IsUnheard _ count = ⊥
 
 -- the cause for which nothing more is taken up: the 200 of a TEARDOWN was sent, or the element in

@@ -11,7 +11,7 @@ use Rattle.conn.specs.declared.connections.Taken.TheVariants.{Gone, Waits, End}
 use Rattle.conn.specs.declared.reports.ConnEnd.{ConnEnd}
 use Rattle.conn.specs.declared.reports.ConnEnd.TheVariants.{LinkFault}
 use Rattle.conn.specs.Journals.{AgreeWith, terms_of}
-use Rattle.conn.specs.Turns.{HasHeard, HasStepped, IsAnswered, Outcome, Part, Stage}
+use Rattle.conn.specs.Turns.{HasHeard, HasStepped, IsAskAnswered, Outcome, Part, Stage}
 use Rattle.conn.specs.Turns.{Taking, TakesAll, parts_bytes, stage}
 use Rattle.conn.specs.Rounds.{Ending, Ends, HasFailedInReply, HasFailedInSlot, IsIdle, IsStopped}
 use Rattle.conn.specs.Rounds.{Round, Runs, RunsAll, ending_bytes, ending_doings, ending_events}
@@ -43,7 +43,7 @@ IsSent old bytes new = new ≡ told_more old (sends bytes)
 pub record HasAnswered (old : Standing) (ask : Ask) (new : Standing) (old_seat new_seat : SeatState)
     : Type 0 where
   pub outcome : Outcome
-  pub answered : IsAnswered old ask outcome new
+  pub answered : IsAskAnswered old ask outcome new
   pub noted : AreNoted old_seat new_seat (outcome ∷ [])
 
 -- a request was heard, and answered as far as the station goes

@@ -88,22 +88,22 @@ IsHalted old keep (WasFull more entries open_plays) new = ⊥
 IsHalted old keep (Offered at_slot note) new = ⊥
 
 -- what the session asked, what came of it, and the session after it
-abbrev pub IsAnswered : Standing → Ask → Outcome → Standing → Type 0
-IsAnswered old AskReply Unasked new = new ≡ old
-IsAnswered old (AskPlay plan) (Entered placed) new =
+abbrev pub IsAskAnswered : Standing → Ask → Outcome → Standing → Type 0
+IsAskAnswered old AskReply Unasked new = new ≡ old
+IsAskAnswered old (AskPlay plan) (Entered placed) new =
     (placed.entry.command ≡ play_of old.heard plan)
     × IsPlayAnswered old placed placed.entry.answer new
-IsAnswered old (AskPlay plan) (WasFull more entries open_plays) new =
+IsAskAnswered old (AskPlay plan) (WasFull more entries open_plays) new =
     (new ≡ after_full old entries open_plays) × (more ≡ 2)
-IsAnswered old (AskHalt keep) outcome new = IsHalted old keep outcome new
-IsAnswered old (AskLook slot) (Entered placed) new =
+IsAskAnswered old (AskHalt keep) outcome new = IsHalted old keep outcome new
+IsAskAnswered old (AskLook slot) (Entered placed) new =
     (placed.entry.command ≡ look_at slot) × IsLookAnswered old placed placed.entry.answer new
-IsAnswered old (AskLook slot) (WasFull more entries open_plays) new =
+IsAskAnswered old (AskLook slot) (WasFull more entries open_plays) new =
     (new ≡ after_full old entries open_plays) × (more ≡ 1)
-IsAnswered old (AskOffer plan offers) (Offered at_slot note) new =
+IsAskAnswered old (AskOffer plan offers) (Offered at_slot note) new =
     (note.plan ≡ plan) × (note.offers.wait ≡ offers.wait) × (new ≡ after_offer old note)
     × (at_slot ≡ old.heard)
-IsAnswered _ _ _ _ = ⊥
+IsAskAnswered _ _ _ _ = ⊥
 
 -- a request was heard and answered, with what the station answered on the way
 pub record HasHeard (old : Standing) (message : List ℕ) (outcome : Outcome) (new : Standing)
@@ -111,7 +111,7 @@ pub record HasHeard (old : Standing) (message : List ℕ) (outcome : Outcome) (n
   pub ask : Ask
   pub asking : Standing
   pub hears : Hears old message ask asking
-  pub answered : IsAnswered asking ask outcome new
+  pub answered : IsAskAnswered asking ask outcome new
 
 -- a reply goes out where no frame and no report is cut
 abbrev pub reply_parts : Standing → List Part

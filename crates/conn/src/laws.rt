@@ -19,7 +19,7 @@ ghost use Rattle.session.specs.Changes.{CanBePlayed};
 ghost use Rattle.session.specs.Hearings.{new_standing};
 ghost use Rattle.session.specs.Standings.{AreSettings, Standing};
 ghost use Rattle.conn.specs.Admissions.{IsPlayCompleted, IsPlayReplied};
-ghost use Rattle.conn.specs.Turns.{Entered, HasHeard, IsAnswered, IsPlayAnswered, Outcome};
+ghost use Rattle.conn.specs.Turns.{Entered, HasHeard, IsAskAnswered, IsPlayAnswered, Outcome};
 ghost use Rattle.conn.specs.Plays.{ArePlaysKept};
 ghost use Rattle.conn.specs.declared.reports.ConnEnd.{ConnEnd};
 ghost use Rattle.conn.specs.Endings.{events_heard};
@@ -87,7 +87,7 @@ pub fn law_replies_between()
 #[tactic(auto, using(crate::proofs::Refusing::overflow_told))]
 pub fn law_overflow_told()
     ensures { (old new : Standing) (plan : List Segment) (placed : Placed) (over : Overflow)
-        → IsAnswered old (Ask.Play plan) (Entered placed) new
+        → IsAskAnswered old (Ask.Play plan) (Entered placed) new
         → placed.entry.answer ≡ Answer.Overflow over.slot over.booked over.asked
         → TellsOverflow old plan placed over new }
 {}
@@ -112,15 +112,15 @@ pub fn law_play_completed()
         → IsPlayCompleted old outcome new }
 {}
 
-/// At most 2^40 events of a connection are heard. [`crate::ConnEnd::TurnsSpent`] is its end exactly
-/// where so many were and none of them ended it.
-pub fn law_turns_spent()
+/// At most 2^40 events of a connection are heard. [`crate::ConnEnd::EventsSpent`] is its end
+/// exactly where so many were and none of them ended it.
+pub fn law_events_spent()
     ensures few { (end : ConnEnd) (old new : Sight) (course : HasCourse end old new)
         → events_heard end old new course ≤ 2 ^ 40 }
-    ensures spent { (old new : Sight) (course : HasCourse ConnEnd.TurnsSpent old new)
-        → events_heard ConnEnd.TurnsSpent old new course ≡ 2 ^ 40 }
+    ensures spent { (old new : Sight) (course : HasCourse ConnEnd.EventsSpent old new)
+        → events_heard ConnEnd.EventsSpent old new course ≡ 2 ^ 40 }
     ensures all { (end : ConnEnd) (old new : Sight) (course : HasCourse end old new)
-        → length course.rounds ≡ 2 ^ 40 → end ≡ ConnEnd.TurnsSpent }
+        → length course.rounds ≡ 2 ^ 40 → end ≡ ConnEnd.EventsSpent }
 {}
 
 /// The words of a worker's connection are the first five of the first block of ChaCha20, ten double

@@ -11,9 +11,9 @@ mod serving;
 mod words;
 
 pub use laws::{
-    law_between_curves, law_connection_words, law_count_by_plan, law_film_by_plan,
-    law_overflow_told, law_play_answered, law_play_begins, law_play_completed, law_replies_between,
-    law_turns_spent,
+    law_between_curves, law_connection_words, law_count_by_plan, law_events_spent,
+    law_film_by_plan, law_overflow_told, law_play_answered, law_play_begins, law_play_completed,
+    law_replies_between,
 };
 pub use parts::serve_part;
 pub use reports::{ConnEnd, ConnReport, PartEnd, PartReport};

@@ -108,7 +108,7 @@ fn hear_all<R: Wait, K: Link>(
             return end;
         }
     }
-    ConnEnd::TurnsSpent
+    ConnEnd::EventsSpent
 }
 
 /// The report of a connection, whose lists keep no more memory than they need.

@@ -10,7 +10,7 @@ use Rattle.film_run.specs.Runs.{bytes_between}
 use Rattle.film_run.specs.Units.{stored_sizes}
 use Rattle.pacer.specs.Pacings.{IsPacing, Pacing, is_done, next_boundary, whole_pacing}
 use Rattle.session.specs.Films.{IsFilmAt, OfFilm, sending_of}
-use Rattle.session.specs.Inside.{IsAwaitedKept, IsGoing, IsKept, IsNextIn, IsPreparedAs, IsPreparedIn, IsStateKept, IsUnhalted, open_receipts, standing_of}
+use Rattle.session.specs.Inside.{IsAwaitedKept, IsGoing, IsKept, IsNextIn, IsPreparedAs, IsPreparedIn, IsStateKept, IsPlayGoing, open_receipts, standing_of}
 use Rattle.session.specs.Plans.{IsPrepared}
 use Rattle.session.specs.Playing.{IsPlayable}
 use Rattle.session.specs.Ranges.{IsSetup}
@@ -161,8 +161,8 @@ pub playing_in : {inside : Inside} (hand : HeardInPlay inside)
 playing_in {inside} hand =
     subst (λ (s : State). IsStateKept inside.films.now inside.source inside.settings inside.counts s) hand.state hand.kept.state
 
-pub unhalted : {inside : Inside} (hand : HeardInPlay inside) → IsUnhalted hand.play
-unhalted {inside} hand = subst (λ (s : State). IsGoing inside.lost s) hand.state
+pub play_going : {inside : Inside} (hand : HeardInPlay inside) → IsPlayGoing hand.play
+play_going {inside} hand = subst (λ (s : State). IsGoing inside.lost s) hand.state
     (subst (λ (a : Awaited). IsAwaitedKept inside.films.now inside.source inside.settings inside.counts
     inside.lost inside.state a)
     (nothing_of inside.awaited hand.hear.rest) hand.kept.awaited) hand.hear.lost
@@ -192,7 +192,7 @@ halt_asked {inside} hand halt =
       settings = kept.settings;
       id = kept.id;
       state = halting_kept inside.films.now (next_boundary play.pacer) (playing_in hand) pacing pacer_is;
-      awaited = (keeps_within play keep (unhalted hand) most, left);
+      awaited = (keeps_within play keep (play_going hand) most, left);
       stop = tt;
       receipt_room = omega (arith, kept.receipt_room);
       play_room = omega (arith, kept.play_room);

@@ -15,7 +15,7 @@ use Rattle.session.specs.Inside.{IsAwaitedKept, IsGoing, IsKept, IsNextIn, IsSta
 use Rattle.session.specs.Standings.{CanHear}
 use Rattle.session.specs.declared.sessions.Session.TheInside.{Inside}
 use Rattle.session.specs.declared.states.Awaited.{Awaited}
-use Rattle.session.specs.Sendings.{state_after}
+use Rattle.session.specs.Sendings.{state_once_halted}
 use Rattle.session.proofs.Carries.{nothing_of}
 use Rattle.session.proofs.Grounds.{Ground}
 
@@ -23,24 +23,24 @@ use Rattle.session.proofs.Grounds.{Ground}
 pub halted_kept : {source : Source} {settings : Settings} {counts : Counts} {setup : Setup} {play : Played}
     (films : List Stored) (keep : ℕ) (next : Next) → IsStateKept films source settings counts (Playing setup play)
     → IsNextIn films source counts (Playing setup play) next
-    → IsStateKept films source settings (counts_next films source counts setup play.run keep next) (state_after setup play next)
+    → IsStateKept films source settings (counts_next films source counts setup play.run keep next) (state_once_halted setup play next)
 halted_kept films keep Done kept left = (kept.0, tt)
 halted_kept films keep (Paused rest) kept left = (kept.0, kept.1.pacing, left)
 halted_kept films keep Torn kept left = (kept.0, kept.1.pacing, tt)
 
 pub halted_rest : (ground : Ground) (lost : Bool) (setup : Setup) (play : Played) (next : Next)
-    → IsAwaitedKept ground.films ground.source ground.settings ground.counts lost (state_after setup play next) Nothing
+    → IsAwaitedKept ground.films ground.source ground.settings ground.counts lost (state_once_halted setup play next) Nothing
 halted_rest ground lost setup play Done = tt
 halted_rest ground lost setup play (Paused rest) = tt
 halted_rest ground lost setup play Torn = tt
 
 pub halted_stop : (setup : Setup) (play : Played) (next : Next) (waits : Bool)
-    → IsStopAnswered (state_after setup play next) (if is_answered next then true else waits)
+    → IsStopAnswered (state_once_halted setup play next) (if is_answered next then true else waits)
 halted_stop setup play Done waits = tt
 halted_stop setup play (Paused rest) waits = refl
 halted_stop setup play Torn waits = refl
 
-pub halted_closed : (setup : Setup) (play : Played) (next : Next) → open_receipts (state_after setup play next) ≡ 0
+pub halted_closed : (setup : Setup) (play : Played) (next : Next) → open_receipts (state_once_halted setup play next) ≡ 0
 halted_closed setup play Done = refl
 halted_closed setup play (Paused rest) = refl
 halted_closed setup play Torn = refl

@@ -11,7 +11,7 @@ use Rattle.session.specs.declared.states.State.{State}
 use Rattle.session.specs.declared.states.State.TheVariants.{Init, Ready, Playing, Stopping}
 use Rattle.session.specs.Hearings.{Hears, after_admission, after_halt}
 use Rattle.session.specs.Laws.{InitStage, PlayingStage, ReadyStage, StaysOr, stage_of}
-use Rattle.session.specs.Sendings.{admitted_in, halted_in, next_of, state_after}
+use Rattle.session.specs.Sendings.{admitted_in, halted_in, next_of, state_once_halted}
 use Rattle.session.specs.Standings.{Standing}
 use Rattle.session.proofs.Results.{ComesTo, Lacks, Refuses, Says, SettlesSetup, AsksForPlay, AsksForHalt, AsksForLook, AsksForOffer, comes_to}
 
@@ -56,7 +56,7 @@ admission_moves old place start =
       | inr goes ↦ inr (record { begins = goes.0; ends = goes.1 })
     ]
 
-after_moves : (setup : Setup) (play : Played) (next : Next) → stage_of (state_after setup play next) ≡ ReadyStage
+after_moves : (setup : Setup) (play : Played) (next : Next) → stage_of (state_once_halted setup play next) ≡ ReadyStage
 after_moves setup play Done = refl
 after_moves setup play (Paused run) = refl
 after_moves setup play Torn = refl

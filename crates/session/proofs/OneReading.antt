@@ -46,7 +46,7 @@ setup_once {settings} {head} {film} {one} {other} is its =
     let film_is = its.film_is ∙ sym is.film_is in
     let channels = channels_once (header_value head (codes "Transport")) (C one) (C other) is.channels its.channels in
     let buffer = chosen_once (header_value head (codes "x-Buffer")) settings.buffer 1 (2 ^ 42) is.buffer its.buffer in
-    let delay = chosen_once (header_value head (codes "x-Startup")) settings.startup 0 10000 is.delay its.delay in
+    let delay = chosen_once (header_value head (codes "x-Startup")) settings.delay 0 10000 is.delay its.delay in
     ap (λ f. S f (C other) other.buffer other.delay) film_is ∙ ap (λ c. S one.film c other.buffer other.delay) channels
     ∙ ap (λ b. S one.film (C one) b other.delay) buffer ∙ ap (λ d. S one.film (C one) one.buffer d) delay
 

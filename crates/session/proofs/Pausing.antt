@@ -16,7 +16,7 @@ use Rattle.film_run.specs.Units.{stored_sizes}
 use Rattle.plan_cert.specs.declared.Segment.{Segment}
 use Rattle.pacer.specs.Pacings.{IsPacing, Pacing, first_slots, is_done, next_boundary, slots_through}
 use Rattle.session.specs.Films.{identity_of, sending_of}
-use Rattle.session.specs.Inside.{IsPlaying, IsUnhalted}
+use Rattle.session.specs.Inside.{IsPlaying, IsPlayGoing}
 use Rattle.session.specs.Plans.{IsPacedPlay}
 use Rattle.session.specs.Playing.{IsRunOf, playback_of}
 use Rattle.session.specs.declared.settings.Settings.{Settings}
@@ -83,7 +83,7 @@ pub record HaltAtBoundary (play : Played) (keep : ℕ) (halted : Pacing) : Type 
   pub most : keep ≤ play.pacer.keep
 
 -- a play in hand is halted
-pub halts_play : {play : Played} {keep : ℕ} {halted : Pacing} (last : Option ℕ) → IsPacedPlay play → IsUnhalted play
+pub halts_play : {play : Played} {keep : ℕ} {halted : Pacing} (last : Option ℕ) → IsPacedPlay play → IsPlayGoing play
     → HaltAtBoundary play keep halted → slots_through last ≡ halted.passed → IsHalt play.plan last keep
 halts_play {play} {keep} {halted} last is unhalted halt through =
     subst (λ (plan : List Segment). IsHalt plan last keep) is.plan
@@ -97,7 +97,7 @@ halts_play {play} {keep} {halted} last is unhalted halt through =
     }) last (through ∙ ap (λ (p : Pacing). p.passed) halt.state))
 
 -- what it keeps is of its plan
-pub keeps_within : (play : Played) (keep : ℕ) → IsUnhalted play → keep ≤ play.pacer.keep → keep ≤ total_bytes play.plan
+pub keeps_within : (play : Played) (keep : ℕ) → IsPlayGoing play → keep ≤ play.pacer.keep → keep ≤ total_bytes play.plan
 keeps_within play keep unhalted most = subst (λ (n : ℕ). keep ≤ n) unhalted.whole most
 
 -- what a halt leaves of a play's run, which fits in the client's buffer

@@ -115,7 +115,7 @@ setup_ranges : {settings : Settings} {head : List ℕ} {film films : ℕ} {setup
     → film < films → AreSettings settings → IsSetup films setup
 setup_ranges {head} {film} {films} asks within good =
     let buffer = chosen _ asks.buffer good.some_buffer good.most_buffer in
-    let delay = chosen _ asks.delay (omega arith) good.most_startup in
+    let delay = chosen _ asks.delay (omega arith) good.most_delay in
     record {
       film = subst (λ n. n < films) (sym asks.film_is) within;
       some_buffer = buffer.above;

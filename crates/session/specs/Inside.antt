@@ -113,7 +113,7 @@ IsPreparedIn films source settings (Stopping setup stop) prepared = ⊥
 
 -- in a play in which no halt was asked all that is due was sent, and some of it isn't due yet,
 -- unless the link failed
-pub record IsUnhalted (play : Played) : Type 0 where
+pub record IsPlayGoing (play : Played) : Type 0 where
   pub even : play.pacer.due ≡ play.pacer.sent
   pub whole : play.pacer.keep ≡ total_bytes play.plan
   pub going : is_done play.pacer ≡ false
@@ -121,7 +121,7 @@ pub record IsUnhalted (play : Played) : Type 0 where
 abbrev pub IsGoing : Bool → State → Type 0
 IsGoing lost Init = ⊤
 IsGoing lost (Ready setup paused) = ⊤
-IsGoing lost (Playing setup play) = lost ≡ false → IsUnhalted play
+IsGoing lost (Playing setup play) = lost ≡ false → IsPlayGoing play
 IsGoing lost (Stopping setup stop) = ⊤
 
 -- what a halt leaves can be sent on

@@ -37,9 +37,9 @@ IsSpanOf None span = span ≡ record { from = Now; to = None }
 IsSpanOf (Some value) span = IsSpan value span
 
 -- a new run between two times
-abbrev pub IsNewRun : Film → ℕ → Option ℕ → Wanted → Type 0
-IsNewRun film from to (Resumed run) = ⊥
-IsNewRun film from to (New run) = IsAsked film from to run
+abbrev pub WantsNewRun : Film → ℕ → Option ℕ → Wanted → Type 0
+WantsNewRun film from to (Resumed run) = ⊥
+WantsNewRun film from to (New run) = IsAsked film from to run
 
 abbrev pub IsResumed : Run → Wanted → Type 0
 IsResumed paused (Resumed run) = run ≡ paused
@@ -48,10 +48,10 @@ IsResumed paused (New run) = ⊥
 -- from now on a paused run is resumed, whatever its end; where none is paused, now is the film's
 -- beginning
 abbrev pub IsWanted : Film → Option Run → Origin → Option ℕ → Wanted → Type 0
-IsWanted film None Now to wanted = IsNewRun film 0 to wanted
+IsWanted film None Now to wanted = WantsNewRun film 0 to wanted
 IsWanted film (Some paused) Now to wanted = IsResumed paused wanted
-IsWanted film None (At time) to wanted = IsNewRun film time to wanted
-IsWanted film (Some paused) (At time) to wanted = IsNewRun film time to wanted
+IsWanted film None (At time) to wanted = WantsNewRun film time to wanted
+IsWanted film (Some paused) (At time) to wanted = WantsNewRun film time to wanted
 
 abbrev pub WantsNothing : Film → Option Run → Origin → Option ℕ → Type 0
 WantsNothing film None Now to = HasNothing film 0 to

@@ -12,7 +12,7 @@ pub record AreSettings (settings : Settings) : Type 0 where
   pub short_slots : settings.slot_units ≤ 360000
   pub some_buffer : 1 ≤ settings.buffer
   pub most_buffer : settings.buffer ≤ 2 ^ 42
-  pub most_startup : settings.startup ≤ 10000
+  pub most_delay : settings.delay ≤ 10000
 
 abbrev pub names_of : List Stored → List (List ℕ)
 names_of films = map (λ film. string_bytes film.name) films

@@ -111,17 +111,17 @@ next_of (Look sequence) = Done
 next_of (Offer sequence) = Done
 
 -- the state after a halt
-abbrev pub state_after : Setup → Played → Next → State
-state_after setup play Done = Ready setup None
-state_after setup play (Paused run) =
+abbrev pub state_once_halted : Setup → Played → Next → State
+state_once_halted setup play Done = Ready setup None
+state_once_halted setup play (Paused run) =
     Stopping setup (record { paused = Some run; start = play.start; pacer = play.pacer })
-state_after setup play Torn =
+state_once_halted setup play Torn =
     Stopping setup (record { paused = None; start = play.start; pacer = play.pacer })
 
 abbrev pub halted_in : State → Awaited → State
 halted_in Init awaited = Init
 halted_in (Ready setup paused) awaited = Ready setup paused
-halted_in (Playing setup play) awaited = state_after setup play (next_of awaited)
+halted_in (Playing setup play) awaited = state_once_halted setup play (next_of awaited)
 halted_in (Stopping setup stop) awaited = Stopping setup stop
 
 abbrev pub halted_notes : State → Awaited → List PlayNote

@@ -11,7 +11,7 @@ ghost use Rattle.session.specs.Films.{OfFilm};
 ghost use Rattle.session.specs.Plans.{IsPrepared};
 ghost use Rattle.session.specs.Ranges.{AreFilms};
 ghost use Rattle.session.specs.Sendings.{halted_in, halted_notes, kept_of, next_of, note_of};
-ghost use Rattle.session.specs.Sendings.{state_after};
+ghost use Rattle.session.specs.Sendings.{state_once_halted};
 ghost use Rattle.admission.specs.declared.entries.Answer.{Answer};
 ghost use Rattle.session.specs.declared.notes.Receipt.{Receipt};
 ghost use Rattle.session.specs.Standings.{AreNotesKept, IsAtRest, IsHalt, IsHandedIn, IsLook};
@@ -284,7 +284,7 @@ fn counts_next(
 /// The state after a halt, and the note of the play, whose booking keeps so many bytes.
 fn state_and_note<'a>(setup: Setup, play: Play<'a>, keep: u64, next: Next) -> (State<'a>, PlayNote)
     requires { setup.film < 2 ^ 32 }
-    ensures state { result.0 ≡ state_after setup play.entry next }
+    ensures state { result.0 ≡ state_once_halted setup play.entry next }
     ensures note { result.1 ≡ note_of setup play.entry keep }
 {
     let Play {

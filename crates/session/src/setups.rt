@@ -64,6 +64,6 @@ fn delay_of(request: &Request<'_>, settings: &Settings) -> Option<u64>
 {
     match header(request, b"x-Startup") {
         Some(value) => read_startup(value),
-        None => Some(settings.startup),
+        None => Some(settings.delay),
     }
 }

@@ -3,7 +3,7 @@
 ghost use Rattle.std.specs.Prelude.{◌≡◌, ℕ, MatchOption, option_map};
 ghost use Rattle.rtsp_fields.specs.declared.ranges.Span.{Span};
 ghost use Rattle.film_run.specs.Seeks.{HasNothing};
-ghost use Rattle.session.specs.Playing.{IsAskedRun, IsNewRun, IsNoRange, IsSpanOf, IsWanted};
+ghost use Rattle.session.specs.Playing.{IsAskedRun, IsNoRange, IsSpanOf, IsWanted, WantsNewRun};
 ghost use Rattle.session.specs.Playing.{WantsNothing};
 
 use film_run::{Run, run_between};
@@ -48,7 +48,7 @@ fn span_of(range: Option<&[u8]>) -> Option<Span>
 /// A new run between two times in nanoseconds.
 fn new_run(film: &Film, from: u128, to: Option<u128>) -> Option<Wanted>
     ensures { MatchOption result (HasNothing film.now from to) (λ wanted.
-        IsNewRun film.now from to wanted) }
+        WantsNewRun film.now from to wanted) }
 {
     Some(Wanted::New(run_between(film, from, to)?))
 }

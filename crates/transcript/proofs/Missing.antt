@@ -17,7 +17,7 @@ use Rattle.session.specs.Standings.{Awaits, HaltAnswer, LookAnswer, NoAnswer, Of
 use Rattle.session.proofs.SlotCounts.{missed_is}
 use Rattle.session.proofs.Shapes.{HearsAs, Replies, SetsUp, AsksPlay, Stops, AsksLook, AsksOffer, hears_as}
 use Rattle.conn.specs.Rounds.{Comes, Ending, Unheard, PeerEnded, Overfull, AtElement, InSlot, InReply, Ends, Round, Runs, RunsAll}
-use Rattle.conn.specs.Turns.{HasHeard, IsAnswered, IsClosed, IsFinished, IsHalted, IsLookAnswered}
+use Rattle.conn.specs.Turns.{HasHeard, IsAskAnswered, IsClosed, IsFinished, IsHalted, IsLookAnswered}
 use Rattle.conn.specs.Turns.{IsPlayAnswered, Outcome, Unasked, Entered, WasFull, Offered, Part}
 use Rattle.conn.specs.Turns.{Stage, Taking, Passed, Answered, TakesAll}
 use Rattle.conn.specs.declared.reports.ConnEnd.{ConnEnd}
@@ -56,7 +56,7 @@ halted-late s keep (WasFull more entries open_plays) new halted = absurd halted
 halted-late s keep (Offered at_slot note) new halted = absurd halted
 
 answered-late : (asking : Standing) (ask : Ask) (outcome : Outcome) (new : Standing)
-    → IsAnswered asking ask outcome new → new.late ≡ asking.late
+    → IsAskAnswered asking ask outcome new → new.late ≡ asking.late
 answered-late asking AskReply Unasked new answered = ap (λ (s : Standing). s.late) answered
 answered-late asking AskReply (Entered placed) new answered = absurd answered
 answered-late asking AskReply (WasFull more entries open_plays) new answered = absurd answered

@@ -24,10 +24,10 @@ use Rattle.session.specs.declared.states.Setup.{Setup}
 use Rattle.session.specs.declared.states.State.{State}
 use Rattle.session.specs.declared.states.State.TheVariants.{Init, Ready, Playing, Stopping}
 use Rattle.session.specs.Hearings.{after_halt}
-use Rattle.session.specs.Sendings.{admitted_in, halted_in, halted_notes, kept_of, note_of, state_after}
+use Rattle.session.specs.Sendings.{admitted_in, halted_in, halted_notes, kept_of, note_of, state_once_halted}
 use Rattle.session.specs.Standings.{Standing}
 use Rattle.session.proofs.Shapes.{HearsAs, Replies, SetsUp, AsksPlay, Stops, AsksLook, AsksOffer, hears_as}
-use Rattle.conn.specs.Turns.{HasHeard, IsAnswered, IsHalted, IsLookAnswered, IsPlayAnswered, Outcome, Unasked, Entered, WasFull, Offered}
+use Rattle.conn.specs.Turns.{HasHeard, IsAskAnswered, IsHalted, IsLookAnswered, IsPlayAnswered, Outcome, Unasked, Entered, WasFull, Offered}
 use Rattle.transcript.specs.Notes.{Turn, kept_later, note_for, notes_of_turns, noted_entry, noted_for, turn_of}
 use Rattle.transcript.specs.Plays.{kept_by, kept_with}
 use Rattle.transcript.proofs.Occasions.{HaltGiven, PlayEntry, HaltAsked}
@@ -120,7 +120,7 @@ no-note (Stopping setup stop) awaited placed later other = refl
 
 -- ---- a halt
 after-open : (setup : Setup) (play : Played) (next : Next) (later : List Turn)
-    → open_note (state_after setup play next) later ≡ []
+    → open_note (state_once_halted setup play next) later ≡ []
 after-open setup play Done later = refl
 after-open setup play (Paused run) later = refl
 after-open setup play Torn later = refl
@@ -185,7 +185,7 @@ stays-on {asking} {outcome} old new plays state none kept =
 
 -- the session's own reply
 replied-on : {asking : Standing} {outcome : Outcome} (old new : Standing)
-    → IsAnswered asking AskReply outcome new → asking.plays ≡ old.plays
+    → IsAskAnswered asking AskReply outcome new → asking.plays ≡ old.plays
     → ((later : List Turn) → open_note asking.state later ≡ open_note old.state later) → CarriesOn old asking outcome new
 replied-on {asking} {outcome = Unasked} old new answered plays state =
     carries-as refl (λ later. refl)
@@ -252,7 +252,7 @@ play-on {answer = Halted} new entry answered ready same awaited = absurd answere
 play-on {answer = Looked now at booked} new entry answered ready same awaited = absurd answered
 
 asks-play : {asking : Standing} {setup : Setup} {paused : Option Run} {prepared : Prepared} {outcome : Outcome}
-    {old : Standing} (new : Standing) → IsAnswered asking (AskPlay prepared.plan) outcome new →
+    {old : Standing} (new : Standing) → IsAskAnswered asking (AskPlay prepared.plan) outcome new →
     old.state ≡ Ready setup paused → SameSession old asking → asking.awaited ≡ Play prepared →
     CarriesOn old asking outcome new
 asks-play {outcome = Unasked} new answered ready same awaited = absurd answered
@@ -287,7 +287,7 @@ look-on (Overflow over booked asks) entered same awaited = absurd entered.answer
 look-on Halted entered same awaited = absurd entered.answered
 
 asks-look : {asking : Standing} {sequence : ℕ} {outcome : Outcome} {old : Standing} (new : Standing) (slot : ℕ) →
-    IsAnswered asking (AskLook slot) outcome new → SameSession old asking → asking.awaited ≡ Look sequence →
+    IsAskAnswered asking (AskLook slot) outcome new → SameSession old asking → asking.awaited ≡ Look sequence →
     CarriesOn old asking outcome new
 asks-look {outcome = Unasked} new slot answered same awaited = absurd answered
 asks-look {outcome = Entered placed} new slot answered same awaited =
@@ -299,7 +299,7 @@ asks-look {outcome = WasFull more entries open_plays} {old} new slot answered sa
 asks-look {outcome = Offered at_slot note} new slot answered same awaited = absurd answered
 
 asks-offer : {asking : Standing} {outcome : Outcome} {old : Standing} (new : Standing) (plan : List Segment)
-    (offers : Offers) → IsAnswered asking (AskOffer plan offers) outcome new → SameSession old asking →
+    (offers : Offers) → IsAskAnswered asking (AskOffer plan offers) outcome new → SameSession old asking →
     CarriesOn old asking outcome new
 asks-offer {outcome = Unasked} new plan offers answered same = absurd answered
 asks-offer {outcome = Entered placed} new plan offers answered same = absurd answered
@@ -332,26 +332,26 @@ asks-halt {asking} {setup} {play} {keep} {next} new halted plays asked =
 
 -- by what was asked
 answered-on : {old asking : Standing} {ask : Ask} {outcome : Outcome} (new : Standing)
-    → IsAnswered asking ask outcome new → HearsAs old ask asking → CarriesOn old asking outcome new
+    → IsAskAnswered asking ask outcome new → HearsAs old ask asking → CarriesOn old asking outcome new
 answered-on {old} {asking} {ask} {outcome} new answered (Replies text tearing ask_is is) =
-    replied-on old new (subst (λ a. IsAnswered asking a outcome new) ask_is answered) (ap (λ (s : Standing). s.plays) is)
+    replied-on old new (subst (λ a. IsAskAnswered asking a outcome new) ask_is answered) (ap (λ (s : Standing). s.plays) is)
     (λ later. ap (λ (s : Standing). open_note s.state later) is)
 answered-on {old} {asking} {ask} {outcome} new answered (SetsUp text setup init ask_is is) =
-    replied-on old new (subst (λ a. IsAnswered asking a outcome new) ask_is answered) (ap (λ (s : Standing). s.plays) is)
+    replied-on old new (subst (λ a. IsAskAnswered asking a outcome new) ask_is answered) (ap (λ (s : Standing). s.plays) is)
     (λ later. ap (λ (s : Standing). open_note s.state later) is ∙ sym (ap (λ s. open_note s later) init))
 answered-on {old} {asking} {ask} {outcome} new answered (AsksPlay setup paused prepared text ready ask_is is) =
-    asks-play {old = old} new (subst (λ a. IsAnswered asking a outcome new) ask_is answered) ready
+    asks-play {old = old} new (subst (λ a. IsAskAnswered asking a outcome new) ask_is answered) ready
     (record { state = ap (λ (s : Standing). s.state) is; plays = ap (λ (s : Standing). s.plays) is })
     (ap (λ (s : Standing). s.awaited) is)
 answered-on {old} {asking} {ask} {outcome} new answered (Stops setup play keep next text playing told keep_is ask_is is) =
-    asks-halt {old = old} new (subst (λ a. IsAnswered asking a outcome new) ask_is answered) (ap (λ (s : Standing). s.plays) is)
+    asks-halt {old = old} new (subst (λ a. IsAskAnswered asking a outcome new) ask_is answered) (ap (λ (s : Standing). s.plays) is)
     (record { playing = playing; state = ap (λ (s : Standing). s.state) is; awaited = ap (λ (s : Standing). s.awaited) is })
 answered-on {old} {asking} {ask} {outcome} new answered (AsksLook looks sequence ask_is is) =
-    asks-look {old = old} new old.heard (subst (λ a. IsAnswered asking a outcome new) ask_is answered)
+    asks-look {old = old} new old.heard (subst (λ a. IsAskAnswered asking a outcome new) ask_is answered)
     (record { state = ap (λ (s : Standing). s.state) is; plays = ap (λ (s : Standing). s.plays) is })
     (ap (λ (s : Standing). s.awaited) is)
 answered-on {old} {asking} {ask} {outcome} new answered (AsksOffer plan offers sequence ask_is is) =
-    asks-offer {old = old} new plan offers (subst (λ a. IsAnswered asking a outcome new) ask_is answered)
+    asks-offer {old = old} new plan offers (subst (λ a. IsAskAnswered asking a outcome new) ask_is answered)
     (record { state = ap (λ (s : Standing). s.state) is; plays = ap (λ (s : Standing). s.plays) is })
 
 pub heard-on : (old new : Standing) (message : List ℕ) (outcome : Outcome) (heard : HasHeard old message outcome new)

@@ -13,7 +13,7 @@ use Rattle.session.proofs.OneHearing.{hears_once}
 use Rattle.session.specs.Sendings.{can_reply, after_play, is_between, is_sending, is_taken, sent_due, sent_reply, sent_slot, after_slot, stepped_in}
 use Rattle.session.specs.Standings.{Awaits, NoAnswer, PlayAnswer, HaltAnswer, LookAnswer, OfferAnswer, Standing, awaited_answer}
 use Rattle.conn.specs.Turns.{Outcome, Unasked, Entered, WasFull, Offered, Part, HasStepped}
-use Rattle.conn.specs.Turns.{IsAnswered, IsFinished, IsHalted, IsLookAnswered, IsPlayAnswered}
+use Rattle.conn.specs.Turns.{IsAskAnswered, IsFinished, IsHalted, IsLookAnswered, IsPlayAnswered}
 use Rattle.conn.specs.Turns.{after_reply}
 use Rattle.transcript.specs.Cuttings.{AreSameAnswers, Hearing, LackAlike, LacksMemory, answer_in}
 
@@ -86,7 +86,7 @@ halted_answer old keep (Entered placed) new halted = tt
 halted_answer old keep (WasFull more entries open_plays) new halted = absurd halted
 halted_answer old keep (Offered at_slot note) new halted = absurd halted
 
-outcome_of : (old : Standing) (ask : Ask) (outcome : Outcome) (new : Standing) → IsAnswered old ask outcome new
+outcome_of : (old : Standing) (ask : Ask) (outcome : Outcome) (new : Standing) → IsAskAnswered old ask outcome new
     → IsOutcomeOf ask outcome
 outcome_of old AskReply Unasked new is = refl
 outcome_of old AskReply (Entered placed) new is = absurd is
@@ -140,8 +140,8 @@ halted_once {one} {other} old keep (Entered placed) is also = also.halts ∙ sym
 halted_once {one} {other} old keep (WasFull more entries open_plays) is also = absurd is
 halted_once {one} {other} old keep (Offered at_slot note) is also = absurd is
 
-answered_once : {one other : Standing} (old : Standing) (ask : Ask) (outcome : Outcome) → IsAnswered old ask outcome one
-    → IsAnswered old ask outcome other → other ≡ one
+answered_once : {one other : Standing} (old : Standing) (ask : Ask) (outcome : Outcome) → IsAskAnswered old ask outcome one
+    → IsAskAnswered old ask outcome other → other ≡ one
 answered_once {one} {other} old AskReply Unasked is also = also ∙ sym is
 answered_once {one} {other} old AskReply (Entered placed) is also = absurd is
 answered_once {one} {other} old AskReply (WasFull more entries open_plays) is also = absurd is
@@ -168,12 +168,12 @@ pub record AnswersAlike (one other : Outcome) : Type 0 where
 
 -- the same answer, and the same session after it
 pub answers_same : {new again : Standing} {one other : Outcome} (old : Standing) (ask : Ask)
-    (alike : AnswersAlike one other) → IsAnswered old ask one new → IsAnswered old ask other again →
+    (alike : AnswersAlike one other) → IsAskAnswered old ask one new → IsAskAnswered old ask other again →
     (again ≡ new) × AreSameAnswers alike.ones alike.others
 answers_same {new} {again} {one} {other} old ask alike is also =
     let both = outcomes_same ask alike.ones alike.others (outcome_of old ask one new is)
     (outcome_of old ask other again also) alike.same in
-    (answered_once old ask one is (subst (λ o. IsAnswered old ask o again) both.0 also), both.1)
+    (answered_once old ask one is (subst (λ o. IsAskAnswered old ask o again) both.0 also), both.1)
 
 -- ---- a slot is taken up
 
@@ -238,7 +238,7 @@ halted_films old keep (WasFull more entries open_plays) new is = absurd is
 halted_films old keep (Offered at_slot note) new is = absurd is
 
 pub answered_films : (old : Standing) (ask : Ask) (outcome : Outcome) (new : Standing)
-    → IsAnswered old ask outcome new → new.films ≡ old.films
+    → IsAskAnswered old ask outcome new → new.films ≡ old.films
 answered_films old AskReply Unasked new is = ap (λ (s : Standing). s.films) is
 answered_films old AskReply (Entered placed) new is = absurd is
 answered_films old AskReply (WasFull more entries open_plays) new is = absurd is

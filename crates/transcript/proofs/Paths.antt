@@ -19,11 +19,11 @@ use Rattle.session.specs.Standings.{Standing}
 use Rattle.session.proofs.Changing.{hears_ground}
 use Rattle.conn.proofs.Sighting.{stage_is}
 use Rattle.conn.specs.Rounds.{IsStopped, takings_bytes, takings_outcomes}
-use Rattle.conn.specs.Turns.{Answered, IsAnswered, IsNext, IsPassed, IsReplied, Outcome, Part}
+use Rattle.conn.specs.Turns.{Answered, IsAskAnswered, IsNext, IsPassed, IsReplied, Outcome, Part}
 use Rattle.conn.specs.Turns.{Passed, Stage, Taking, TakesAll, after_reply, parts_bytes, reply_parts}
 use Rattle.conn.specs.Turns.{stage}
 use Rattle.conn.specs.declared.reports.ConnEnd.{ConnEnd}
-use Rattle.conn.specs.declared.reports.ConnEnd.TheVariants.{Ended, TornDown, LinkFault, TooMuchInput, HeadTooLong, BodyTooLong, TurnsSpent, NoMemory}
+use Rattle.conn.specs.declared.reports.ConnEnd.TheVariants.{Ended, TornDown, LinkFault, TooMuchInput, HeadTooLong, BodyTooLong, EventsSpent, NoMemory}
 use Rattle.transcript.specs.Cuttings.{AllLackAlike, AreSameAnswers, Hearing, IsDone, LackAlike, answer_in, answers_in, takings_hearings}
 use Rattle.transcript.proofs.Once.{answered_films, answers_same, hearing, hears_same, replied_films}
 use Rattle.transcript.proofs.Once.{AnswersAlike}
@@ -70,7 +70,7 @@ pub record IsTaken (old : Stage) (turn : Turn) (new : Stage) : Type 0 where
   pub session_is : turn.session ≡ old.session
   pub next : IsNext old turn.message
   pub hears : Hears old.session turn.message turn.ask turn.asking
-  pub answered : IsAnswered turn.asking turn.ask turn.outcome turn.answered
+  pub answered : IsAskAnswered turn.asking turn.ask turn.outcome turn.answered
   pub new_is : new ≡ stage (after_reply turn.answered) (drop (length turn.message) old.input)
 
 pub record IsPassing (old : Stage) (n : ℕ) (new : Stage) : Type 0 where
@@ -302,7 +302,7 @@ stopped_done old new element HeadTooLong stopped goes =
     let first = first_element old new element goes in tells_none old.input (Err LongHead) stopped.1 first.0 first.1
 stopped_done old new element BodyTooLong stopped goes =
     let first = first_element old new element goes in tells_none old.input (Err LongBody) stopped.1 first.0 first.1
-stopped_done old new element TurnsSpent stopped goes = absurd stopped
+stopped_done old new element EventsSpent stopped goes = absurd stopped
 stopped_done old new element NoMemory stopped goes = absurd stopped
 
 done_goes : (old new : Stage) (element : Element) → IsDone old → Goes old element new → ⊥
@@ -369,9 +369,9 @@ turns_same {old} {one} {other} {turn} {again} given films taken also alike =
       message_is = refl;
       also_message = message;
     }) alike) in
-    let answered : IsAnswered turn.asking turn.ask again.outcome again.answered =
-    subst (λ a. IsAnswered turn.asking a again.outcome again.answered) heard.0
-    (subst (λ s. IsAnswered s again.ask again.outcome again.answered) heard.1 also.answered) in
+    let answered : IsAskAnswered turn.asking turn.ask again.outcome again.answered =
+    subst (λ a. IsAskAnswered turn.asking a again.outcome again.answered) heard.0
+    (subst (λ s. IsAskAnswered s again.ask again.outcome again.answered) heard.1 also.answered) in
     let both = answers_same turn.asking turn.ask given taken.answered answered in (
       also.new_is
           ∙ stage_is (ap after_reply both.0) (ap (λ (m : List ℕ). drop (length m) old.input) message)

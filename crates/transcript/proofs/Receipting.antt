@@ -16,7 +16,7 @@ use Rattle.session.proofs.Shapes.{HearsAs, Replies, SetsUp, AsksPlay, Stops, Ask
 use Rattle.conn.specs.Rounds.{Comes, Ending, Unheard, PeerEnded, Overfull, AtElement, InSlot, InReply}
 use Rattle.conn.specs.Rounds.{Ends, Round, Runs, RunsAll, ending_outcomes, round_outcomes}
 use Rattle.conn.specs.Rounds.{rounds_outcomes, takings_outcomes}
-use Rattle.conn.specs.Turns.{HasHeard, IsAnswered, IsClosed, IsFinished, IsHalted, IsLookAnswered}
+use Rattle.conn.specs.Turns.{HasHeard, IsAskAnswered, IsClosed, IsFinished, IsHalted, IsLookAnswered}
 use Rattle.conn.specs.Turns.{IsPlayAnswered, Outcome, Unasked, Entered, WasFull, Offered, Part}
 use Rattle.conn.specs.Turns.{Stage, Taking, Passed, Answered, TakesAll, after_reply}
 use Rattle.conn.specs.declared.reports.ConnEnd.{ConnEnd}
@@ -114,7 +114,7 @@ logs-unasked old new (Entered placed) is = absurd is
 logs-unasked old new (WasFull more entries open_plays) is = absurd is
 logs-unasked old new (Offered at_slot note) is = absurd is
 
-logs-answer : (asking new : Standing) (ask : Ask) (outcome : Outcome) → IsAnswered asking ask outcome new
+logs-answer : (asking new : Standing) (ask : Ask) (outcome : Outcome) → IsAskAnswered asking ask outcome new
     → Logs asking new (outcome ∷ [])
 logs-answer asking new AskReply Unasked answered = logs-unasked asking new Unasked answered
 logs-answer asking new AskReply (Entered placed) answered = absurd answered

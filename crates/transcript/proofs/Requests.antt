@@ -13,7 +13,7 @@ use Rattle.interleave.proofs.Streams.{cut_grows, tells_none}
 use Rattle.conn.specs.Rounds.{Comes, IsStopped, Round}
 use Rattle.conn.specs.Turns.{Outcome, Part, Stage, stage}
 use Rattle.conn.specs.declared.reports.ConnEnd.{ConnEnd}
-use Rattle.conn.specs.declared.reports.ConnEnd.TheVariants.{Ended, TornDown, LinkFault, TooMuchInput, HeadTooLong, BodyTooLong, TurnsSpent, NoMemory}
+use Rattle.conn.specs.declared.reports.ConnEnd.TheVariants.{Ended, TornDown, LinkFault, TooMuchInput, HeadTooLong, BodyTooLong, EventsSpent, NoMemory}
 use Rattle.transcript.specs.Courses.{first_stage}
 use Rattle.transcript.specs.Cuttings.{Beginning, Cutting, Hearing, IsDone, TakesUp, hearings_in, takings_hearings}
 use Rattle.transcript.specs.Requests.{AreTaken, AwaitsReply, bytes_in, is_other, message_of, requests_in, rounds_input}
@@ -190,7 +190,7 @@ stopped_rest stage LinkFault stopped = absurd stopped
 stopped_rest stage TooMuchInput stopped = absurd stopped
 stopped_rest stage HeadTooLong stopped = inl (tells_none stage.input (Err LongHead) stopped.1)
 stopped_rest stage BodyTooLong stopped = inl (tells_none stage.input (Err LongBody) stopped.1)
-stopped_rest stage TurnsSpent stopped = absurd stopped
+stopped_rest stage EventsSpent stopped = absurd stopped
 stopped_rest stage NoMemory stopped = absurd stopped
 
 done_rest : (stage : Stage) → IsDone stage → IsRest stage

@@ -24,10 +24,10 @@ use Rattle.session.specs.declared.states.Setup.{Setup}
 use Rattle.session.specs.declared.states.State.{State}
 use Rattle.session.specs.declared.states.State.TheVariants.{Init, Ready, Playing, Stopping}
 use Rattle.session.specs.Hearings.{after_halt, is_answered}
-use Rattle.session.specs.Sendings.{admitted_in, halted_in, next_of, state_after}
+use Rattle.session.specs.Sendings.{admitted_in, halted_in, next_of, state_once_halted}
 use Rattle.session.specs.Standings.{Standing}
 use Rattle.session.specs.Steps.{IsPlayIn}
-use Rattle.conn.specs.Turns.{HasHeard, IsAnswered, IsHaltAnswered, IsHalted, IsLookAnswered, IsPlayAnswered, Outcome, Unasked, Entered, WasFull, Offered}
+use Rattle.conn.specs.Turns.{HasHeard, IsAskAnswered, IsHaltAnswered, IsHalted, IsLookAnswered, IsPlayAnswered, Outcome, Unasked, Entered, WasFull, Offered}
 use Rattle.transcript.specs.Plays.{Asking, plays_admitted, plays_begun, booked_by, kept_by, kept_with}
 use Rattle.session.proofs.Shapes.{HearsAs, Replies, SetsUp, AsksPlay, Stops, AsksLook, AsksOffer, hears_as}
 use Rattle.transcript.proofs.Occasions.{PlayEntry, HaltAsked}
@@ -109,7 +109,7 @@ record ReplyWaits (old asked : Standing) : Type 0 where
   waits : asked.waits ≡ true
 
 -- a reply of the session's own
-reply_turns : {old : Standing} {outcome : Outcome} {new asked : Standing} → IsAnswered asked AskReply outcome new →
+reply_turns : {old : Standing} {outcome : Outcome} {new asked : Standing} → IsAskAnswered asked AskReply outcome new →
     old.awaited ≡ Nothing → ReplyWaits old asked → TurnsAs old asked.awaited outcome new
 reply_turns {old} {outcome = Unasked} {new} {asked} answered rest waiting =
     subst (λ (s : Standing). TurnsAs old asked.awaited Unasked s) (sym answered)
@@ -189,7 +189,7 @@ play_turns {answer = Looked now at booked} {new} entry answered ready same await
 
 asked_play : {old : Standing} {setup : Setup} {paused : Option Run} {prepared : Prepared} {outcome : Outcome}
     {new : Standing} (asked : Standing)
-    → IsAnswered asked (AskPlay prepared.plan) outcome new → old.state ≡ Ready setup paused
+    → IsAskAnswered asked (AskPlay prepared.plan) outcome new → old.state ≡ Ready setup paused
     → asked.state ≡ old.state → asked.heard ≡ old.heard
     → asked.awaited ≡ Play prepared → TurnsAs old asked.awaited outcome new
 asked_play {outcome = Unasked} {new} asked answered ready state heard awaited = absurd answered
@@ -206,7 +206,7 @@ asked_play {outcome = Offered at_slot note} {new} asked answered ready state hea
 
 -- a halt's answer
 stopped_sends : (setup : Setup) (play : Played) (next : Next) → is_answered next ≡ true
-    → sends_in (state_after setup play next) ≡ Ending play.pacer
+    → sends_in (state_once_halted setup play next) ≡ Ending play.pacer
 stopped_sends setup play Done told = absurd (let no : ⊥ = cc in no)
 stopped_sends setup play (Paused run) told = refl
 stopped_sends setup play Torn told = refl
@@ -217,7 +217,7 @@ told_if false waits is = absurd (let no : ⊥ = cc in no)
 
 halt_state : {state : State} {awaited : Awaited} {setup : Setup} {play : Played} {keep : ℕ} {next : Next}
     → state ≡ Playing setup play
-    → awaited ≡ Halt keep next → halted_in state awaited ≡ state_after setup play next
+    → awaited ≡ Halt keep next → halted_in state awaited ≡ state_once_halted setup play next
 halt_state {awaited} {setup} {play} {next} is asks =
     ap (λ (s : State). halted_in s awaited) is ∙ ap (λ (a : Awaited). halted_in (Playing setup play) a) asks
 
@@ -278,7 +278,7 @@ look_answered {new} (Overflow slot booked asks) command answered same awaited = 
 look_answered {new} Halted command answered same awaited = absurd answered
 
 asked_look : {old : Standing} {slot sequence : ℕ} {outcome : Outcome} {new : Standing} (asked : Standing)
-    → IsAnswered asked (AskLook slot) outcome new
+    → IsAskAnswered asked (AskLook slot) outcome new
     → slot ≡ asked.heard → asked.state ≡ old.state → asked.heard ≡ old.heard → asked.awaited ≡ Look sequence
     → TurnsAs old asked.awaited outcome new
 asked_look {slot} {outcome = Unasked} {new} asked answered slot_is state heard awaited = absurd answered
@@ -295,7 +295,7 @@ asked_look {slot} {outcome = Offered at_slot note} {new} asked answered slot_is 
 
 asked_offer : {old : Standing} {outcome : Outcome} {new : Standing} (plan : List Segment) (offers : Offers)
     (asked : Standing)
-    → IsAnswered asked (AskOffer plan offers) outcome new → asked.state ≡ old.state → asked.heard ≡ old.heard
+    → IsAskAnswered asked (AskOffer plan offers) outcome new → asked.state ≡ old.state → asked.heard ≡ old.heard
     → TurnsAs old asked.awaited outcome new
 asked_offer {outcome = Unasked} {new} plan offers asked answered state heard = absurd answered
 asked_offer {outcome = Entered placed} {new} plan offers asked answered state heard = absurd answered
@@ -309,10 +309,10 @@ asked_offer {outcome = Offered at_slot note} {new} plan offers asked answered st
 
 -- by what was asked
 answers_as : {old : Standing} {ask : Ask} {outcome : Outcome} {asked new : Standing} → old.awaited ≡ Nothing
-    → IsAnswered asked ask outcome new
+    → IsAskAnswered asked ask outcome new
     → HearsAs old ask asked → TurnsAs old asked.awaited outcome new
 answers_as {ask} {outcome} {asked} {new} rest answered (Replies text tearing ask_is is) =
-    reply_turns (subst (λ a. IsAnswered asked a outcome new) ask_is answered) rest
+    reply_turns (subst (λ a. IsAskAnswered asked a outcome new) ask_is answered) rest
     (record {
       sends = ap (λ (s : Standing). sends_in s.state) is;
       heard = ap (λ (s : Standing). s.heard) is;
@@ -320,7 +320,7 @@ answers_as {ask} {outcome} {asked} {new} rest answered (Replies text tearing ask
       waits = ap (λ (s : Standing). s.waits) is;
     })
 answers_as {ask} {outcome} {asked} {new} rest answered (SetsUp text setup init ask_is is) =
-    reply_turns (subst (λ a. IsAnswered asked a outcome new) ask_is answered) rest
+    reply_turns (subst (λ a. IsAskAnswered asked a outcome new) ask_is answered) rest
     (record {
       sends = ap (λ (s : Standing). sends_in s.state) is ∙ sym (ap sends_in init);
       heard = ap (λ (s : Standing). s.heard) is;
@@ -328,18 +328,18 @@ answers_as {ask} {outcome} {asked} {new} rest answered (SetsUp text setup init a
       waits = ap (λ (s : Standing). s.waits) is;
     })
 answers_as {ask} {outcome} {asked} {new} rest answered (AsksPlay setup paused prepared text ready ask_is is) =
-    asked_play asked (subst (λ a. IsAnswered asked a outcome new) ask_is answered) ready
+    asked_play asked (subst (λ a. IsAskAnswered asked a outcome new) ask_is answered) ready
     (ap (λ (s : Standing). s.state) is) (ap (λ (s : Standing). s.heard) is) (ap (λ (s : Standing). s.awaited) is)
 answers_as {ask} {outcome} {asked} {new} rest answered (Stops setup play keep next text playing told keep_is ask_is is) =
-    asked_halt (subst (λ a. IsAnswered asked a outcome new) ask_is answered) told keep_is
+    asked_halt (subst (λ a. IsAskAnswered asked a outcome new) ask_is answered) told keep_is
     (record { playing = playing; state = ap (λ (s : Standing). s.state) is; awaited = ap (λ (s : Standing). s.awaited) is })
     (ap (λ (s : Standing). s.heard) is)
 answers_as {ask} {outcome} {asked} {new} rest answered (AsksLook looks sequence ask_is is) =
-    asked_look asked (subst (λ a. IsAnswered asked a outcome new) ask_is answered)
+    asked_look asked (subst (λ a. IsAskAnswered asked a outcome new) ask_is answered)
     (sym (ap (λ (s : Standing). s.heard) is)) (ap (λ (s : Standing). s.state) is) (ap (λ (s : Standing). s.heard) is)
     (ap (λ (s : Standing). s.awaited) is)
 answers_as {ask} {outcome} {asked} {new} rest answered (AsksOffer plan offers sequence ask_is is) =
-    asked_offer plan offers asked (subst (λ a. IsAnswered asked a outcome new) ask_is answered)
+    asked_offer plan offers asked (subst (λ a. IsAskAnswered asked a outcome new) ask_is answered)
     (ap (λ (s : Standing). s.state) is) (ap (λ (s : Standing). s.heard) is)
 
 -- a request was heard and answered

@@ -136,7 +136,7 @@ where
     let settings = Settings {
         slot_units: serving.pace.slot,
         buffer: serving.pace.buffer,
-        startup: serving.pace.startup,
+        delay: serving.pace.startup,
     };
     let mut workers = Vec::new(alloc);
     let mut reports = Vec::new(alloc);

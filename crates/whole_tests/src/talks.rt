@@ -26,7 +26,7 @@ pub(crate) const WORDS: [u32; 5] = [0x0123_4567, 0x89ab_cdef, 0x0102_0304, 1, 0]
 pub(crate) const SETTINGS: Settings = Settings {
     slot_units: 14_400,
     buffer: 1_048_576,
-    startup: 25,
+    delay: 25,
 };
 
 /// The capacity of the link that offers are found for: a byte less than the first slot of `b.mpg`

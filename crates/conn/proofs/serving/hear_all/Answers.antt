@@ -1,6 +1,6 @@
 use Rattle.std.proofs.Common.{◌≡◌, ◌∷◌, [], List, length, Option, rules, refl, ap, arith, Some}
 use Rattle.vod_base.specs.Links.{Doing, doing_of, told_more}
-use Rattle.conn.specs.declared.reports.ConnEnd.TheVariants.{LinkFault, TurnsSpent}
+use Rattle.conn.specs.declared.reports.ConnEnd.TheVariants.{LinkFault, EventsSpent}
 use Rattle.conn.specs.Sights.{Sight, sight}
 use Rattle.conn.specs.Turns.{stage}
 use Rattle.conn.proofs.Counting.{counted_fault, counted_on, counted_same}
@@ -83,7 +83,7 @@ returns-in-Some-clause-counted g c =
 
 pub returns-clause-counted : goal.returns-clause-counted
 returns-clause-counted g c =
-    counted_same (Some TurnsSpent) (g.K.Link.faults c.args.link.now) (g.K.Link.faults c.events.link) c.events.invariant.4 refl
+    counted_same (Some EventsSpent) (g.K.Link.faults c.args.link.now) (g.K.Link.faults c.events.link) c.events.invariant.4 refl
 
 pub returns-in-Some-clause-kept : goal.returns-in-Some-clause-kept
 returns-in-Some-clause-kept g c =

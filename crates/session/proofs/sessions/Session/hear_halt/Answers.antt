@@ -2,7 +2,7 @@ use Rattle.std.proofs.Common.{◌≡◌, ◌-◌, ◌||◌, true, if◌then◌el
 use Rattle.session.specs.Hearings.{counts_next, is_answered}
 use Rattle.session.specs.Inside.{IsAwaitedKept, IsNextIn, IsStateKept, IsStopAnswered, awaited_offers, awaited_plays, awaited_receipts, open_receipts}
 use Rattle.session.specs.Logs.{Logged}
-use Rattle.session.specs.Sendings.{next_of, state_after}
+use Rattle.session.specs.Sendings.{next_of, state_once_halted}
 use Rattle.session.specs.declared.states.Awaited.{Awaited}
 use Rattle.session.specs.declared.states.Awaited.TheVariants.{Nothing}
 use Rattle.session.specs.declared.states.Counts.{Counts}
@@ -41,7 +41,7 @@ invariant_of-self c =
     (subst (λ (n : Next). IsNextIn films inside.source inside.counts inside.state n) asked
     (next_in (ground_of inside) inside.lost inside.state inside.awaited c.self.invariant.awaited)) in
     let none : c.replace-asked.new.dest ≡ Nothing = c.replace-asked.ensures.after in
-    let is : state ≡ state_after setup play next = c.state_and_note-state.ensures.state in
+    let is : state ≡ state_once_halted setup play next = c.state_and_note-state.ensures.state in
     let counted : counts ≡ counts_next films inside.source inside.counts setup play.run keep next =
     c.counts_next-self-inside.ensures in
     let waits : (inside.waits || c.is_answered.result) ≡ (if is_answered next then true else inside.waits) =

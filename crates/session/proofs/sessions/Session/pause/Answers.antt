@@ -12,7 +12,7 @@ use Rattle.session.specs.declared.states.Next.TheVariants.{Paused}
 use Rattle.session.specs.declared.states.State.{State}
 use Rattle.session.specs.declared.states.State.TheVariants.{Playing}
 use Rattle.session.specs.declared.asks.Ask.TheVariants.{Halt as AskHalt}
-use Rattle.session.proofs.Askings.{HeardInPlay, halt_asked, playing_in, unhalted}
+use Rattle.session.proofs.Askings.{HeardInPlay, halt_asked, play_going, playing_in}
 use Rattle.session.proofs.Pausing.{halts_play, left_runs}
 use Rattle.session.proofs.Playables.{of_film}
 use Rattle.session.proofs.sessions.Session.pause.Goals as goal
@@ -25,7 +25,7 @@ run_after-left-requires-clause-halt c =
     let state : inside.state ≡ Playing setup play = sym c.in-Playing.ensures.value in
     let hear : CanHear (standing_of inside) = subst CanHear (sym c.self.view_is) c.requires.hear in
     let hand : HeardInPlay inside = record { setup = setup; play = play; kept = c.self.invariant; state = state; hear = hear } in
-    halts_play c.last_slot-last.result (playing_in hand).1 (unhalted hand) (record {
+    halts_play c.last_slot-last.result (playing_in hand).1 (play_going hand) (record {
       state = c.ask_halt-keep.ensures.state;
       after = c.ask_halt-keep.ensures.boundary;
       most = c.ask_halt-keep.ensures.most;
