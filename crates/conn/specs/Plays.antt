@@ -22,8 +22,8 @@ use Rattle.session.specs.Playing.{playback_of}
 use Rattle.session.specs.Standings.{Standing, taken_up}
 use Rattle.conn.specs.Turns.{Outcome, Unasked, Entered, WasFull, Offered, Stage, Taking, Passed}
 use Rattle.conn.specs.Turns.{Answered, film_bytes, stage}
-use Rattle.conn.specs.Rounds.{Comes, Ending, Unheard, PeerEnded, Overfull, AtElement, InSlot, InReply}
-use Rattle.conn.specs.Rounds.{Round, RunsAll}
+use Rattle.conn.specs.Rounds.{Comes, Ending, Unheard, PeerEnded, Overfull, AtElement, InSlot}
+use Rattle.conn.specs.Rounds.{InReply, Round, RunsAll}
 use Rattle.conn.specs.Films.{IsBetween}
 
 -- what holds of each film: its units are those of a trace, and a picture's time is in its range
