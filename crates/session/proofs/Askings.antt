@@ -10,7 +10,9 @@ use Rattle.film_run.specs.Runs.{bytes_between}
 use Rattle.film_run.specs.Units.{stored_sizes}
 use Rattle.pacer.specs.Pacings.{IsPacing, Pacing, is_done, next_boundary, whole_pacing}
 use Rattle.session.specs.Films.{IsFilmAt, OfFilm, sending_of}
-use Rattle.session.specs.Inside.{IsAwaitedKept, IsGoing, IsKept, IsNextIn, IsPreparedAs, IsPreparedIn, IsStateKept, IsPlayGoing, open_receipts, standing_of}
+use Rattle.session.specs.Inside.{Ground, IsAwaitedKept, IsGoing, IsKept, IsNextIn, IsPlayGoing}
+use Rattle.session.specs.Inside.{IsPreparedAs, IsPreparedIn, IsStateKept, ground_of, open_receipts}
+use Rattle.session.specs.Inside.{standing_of}
 use Rattle.session.specs.Plans.{IsPrepared}
 use Rattle.session.specs.Playing.{IsPlayable}
 use Rattle.session.specs.Ranges.{IsSetup}
@@ -29,7 +31,6 @@ use Rattle.session.specs.declared.states.State.{State}
 use Rattle.session.specs.declared.states.State.TheVariants.{Init, Ready, Playing, Stopping}
 use Rattle.session.specs.declared.sessions.Session.TheInside.{Inside}
 use Rattle.session.proofs.Carries.{nothing_of}
-use Rattle.session.proofs.Grounds.{Ground}
 use Rattle.session.proofs.Pausing.{keeps_within}
 use Rattle.session.proofs.Playables.{of_film}
 
@@ -86,11 +87,11 @@ pub record PlayAdmitted (prepared : Prepared) (play : Played) : Type 0 where
   pub pacer : play.pacer ≡ whole_pacing (run_pieces prepared.frames) prepared.run.sent prepared.paced play.start
 
 -- what an admission makes of it
-pub admitted_state : {source : Source} {settings : Settings} {setup : Setup} {prepared : Prepared} {play : Played}
-    (films : List Stored) (paused : Option Run) → IsSetup (length films) setup
-    → IsPreparedIn films source settings (Ready setup paused) prepared
-    → PlayAdmitted prepared play → IsStateKept films source settings prepared.counts (Playing setup play)
-admitted_state {source} {settings} {setup} {prepared} {play} films paused is_setup kept given = (
+pub admitted_state : {setup : Setup} {prepared : Prepared} {play : Played} (ground : Ground) (paused : Option Run)
+    → IsSetup (length ground.films) setup
+    → IsPreparedIn ground.films ground.source ground.settings (Ready setup paused) prepared
+    → PlayAdmitted prepared play → IsStateKept (record ground { counts = prepared.counts }) (Playing setup play)
+admitted_state {setup} {prepared} {play} ground paused is_setup kept given = (
   is_setup,
   record {
     pacing = pacing;
@@ -109,6 +110,7 @@ admitted_state {source} {settings} {setup} {prepared} {play} films paused is_set
 )
   where
     open given use {pacing, run, plan, pacer}
+    open ground use {source, settings}
 
 pub admitted_going : {lost : Bool} {play : Played} {paced : List Segment} (setup : Setup) (pieces : List (List ℕ))
     (before start : ℕ)
@@ -121,7 +123,7 @@ admitted_going setup pieces before start pacer same = λ linked. record {
 
 -- what a halt leads to can be sent on
 pub next_in : (ground : Ground) (lost : Bool) (state : State) (awaited : Awaited)
-    → IsAwaitedKept ground.films ground.source ground.settings ground.counts lost state awaited
+    → IsAwaitedKept ground lost state awaited
     → IsNextIn ground.films ground.source ground.counts state (next_of awaited)
 next_in ground lost state Nothing kept = tt
 next_in ground lost state (Play prepared) kept = tt
@@ -130,12 +132,10 @@ next_in ground lost state (Look sequence) kept = tt
 next_in ground lost state (Offer sequence) kept = tt
 
 -- a play of which a halt is asked is the same but for what is kept
-halting_kept : {source : Source} {settings : Settings} {counts : Counts} {setup : Setup} {play : Played}
-    {pacer : Pacing} (films : List Stored) (keep : ℕ)
-    → IsStateKept films source settings counts (Playing setup play) → IsPacing pacer
-    → pacer ≡ record play.pacer { keep = keep }
-    → IsStateKept films source settings counts (Playing setup (record play { pacer = pacer }))
-halting_kept films keep kept pacing is = (
+halting_kept : {setup : Setup} {play : Played} {pacer : Pacing} (ground : Ground) (keep : ℕ)
+    → IsStateKept ground (Playing setup play) → IsPacing pacer → pacer ≡ record play.pacer { keep = keep }
+    → IsStateKept ground (Playing setup (record play { pacer = pacer }))
+halting_kept ground keep kept pacing is = (
   kept.0,
   record {
     pacing = pacing;
@@ -157,14 +157,13 @@ pub record HeardInPlay (inside : Inside) : Type 0 where
   pub hear : CanHear (standing_of inside)
 
 pub playing_in : {inside : Inside} (hand : HeardInPlay inside)
-    → IsStateKept inside.films.now inside.source inside.settings inside.counts (Playing hand.setup hand.play)
+    → IsStateKept (ground_of inside) (Playing hand.setup hand.play)
 playing_in {inside} hand =
-    subst (λ (s : State). IsStateKept inside.films.now inside.source inside.settings inside.counts s) hand.state hand.kept.state
+    subst (λ (s : State). IsStateKept (ground_of inside) s) hand.state hand.kept.state
 
 pub play_going : {inside : Inside} (hand : HeardInPlay inside) → IsPlayGoing hand.play
 play_going {inside} hand = subst (λ (s : State). IsGoing inside.lost s) hand.state
-    (subst (λ (a : Awaited). IsAwaitedKept inside.films.now inside.source inside.settings inside.counts
-    inside.lost inside.state a)
+    (subst (λ (a : Awaited). IsAwaitedKept (ground_of inside) inside.lost inside.state a)
     (nothing_of inside.awaited hand.hear.rest) hand.kept.awaited) hand.hear.lost
 
 -- a halt that was asked for: the pacer, what is kept, what comes then, and the reply
@@ -191,7 +190,7 @@ halt_asked {inside} hand halt =
       films = kept.films;
       settings = kept.settings;
       id = kept.id;
-      state = halting_kept inside.films.now (next_boundary play.pacer) (playing_in hand) pacing pacer_is;
+      state = halting_kept (ground_of inside) (next_boundary play.pacer) (playing_in hand) pacing pacer_is;
       awaited = (keeps_within play keep (play_going hand) most, left);
       stop = tt;
       receipt_room = omega (arith, kept.receipt_room);

@@ -6,8 +6,8 @@ use Rattle.film_frames.specs.declared.stores.Stored.{Stored}
 use Rattle.film_frames.specs.Runs.{run_pieces}
 use Rattle.film_run.specs.declared.runs.Run.{Run}
 use Rattle.session.specs.Films.{sending_of}
-use Rattle.session.specs.Inside.{IsAwaitedKept, IsGoing, IsPlaying, IsStateKept, IsStopAnswered}
-use Rattle.session.specs.Inside.{coming_of, open_receipts}
+use Rattle.session.specs.Inside.{Ground, IsAwaitedKept, IsGoing, IsPlaying, IsStateKept}
+use Rattle.session.specs.Inside.{IsStopAnswered, coming_of, open_receipts}
 use Rattle.session.specs.Planning.{IsPausedIn}
 use Rattle.session.specs.Plans.{IsPacedPlay}
 use Rattle.session.specs.Playing.{IsPlayable}
@@ -24,7 +24,6 @@ use Rattle.session.specs.declared.states.Setup.{Setup}
 use Rattle.session.specs.declared.states.Source.{Source}
 use Rattle.session.specs.declared.states.State.{State}
 use Rattle.session.specs.declared.states.State.TheVariants.{Init, Ready, Playing, Stopping}
-use Rattle.session.proofs.Grounds.{Ground}
 
 play_kept : (old new : Played) → IsPacedPlay old → new.run ≡ old.run → new.plan ≡ old.plan
     → IsSamePacing old.pacer new.pacer → IsPacedPlay new
@@ -45,24 +44,22 @@ playing_kept {stored} {source} {settings} {setup} {counts} {old} {new} kept run 
 }
 
 pub state_kept : (ground : Ground) (old new : State)
-    → IsStateKept ground.films ground.source ground.settings ground.counts old → IsCarried old new
-    → IsStateKept ground.films ground.source ground.settings ground.counts new
+    → IsStateKept ground old → IsCarried old new
+    → IsStateKept ground new
 state_kept ground Init Init kept carried = tt
 state_kept ground Init (Ready s p) kept carried = absurd carried
 state_kept ground Init (Playing s p) kept carried = absurd carried
 state_kept ground Init (Stopping s p) kept carried = absurd carried
 state_kept ground (Ready setup paused) Init kept carried = absurd carried
 state_kept ground (Ready setup paused) (Ready s p) kept carried =
-    subst (λ (x : State). IsStateKept films source settings counts x)
+    subst (λ (x : State). IsStateKept ground x)
     (let same : Ready setup paused ≡ Ready s p = cc in same) kept
-  where
-    open ground use {films, source, settings, counts}
 state_kept ground (Ready setup paused) (Playing s p) kept carried = absurd carried
 state_kept ground (Ready setup paused) (Stopping s p) kept carried = absurd carried
 state_kept ground (Playing setup play) Init kept carried = absurd carried
 state_kept ground (Playing setup play) (Ready s p) kept carried = absurd carried
 state_kept ground (Playing setup play) (Playing s p) kept carried =
-    subst (λ (x : Setup). IsStateKept ground.films ground.source ground.settings ground.counts (Playing x p)) (sym carried.0) (
+    subst (λ (x : Setup). IsStateKept ground (Playing x p)) (sym carried.0) (
       kept.0,
       play_kept play p kept.1 carried.1 carried.4 carried.5,
       λ stored at. playing_kept (kept.2 stored at) carried.1 carried.4 carried.5,
@@ -72,17 +69,17 @@ state_kept ground (Stopping setup stop) Init kept carried = absurd carried
 state_kept ground (Stopping setup stop) (Ready s p) kept carried = absurd carried
 state_kept ground (Stopping setup stop) (Playing s p) kept carried = absurd carried
 state_kept ground (Stopping setup stop) (Stopping s p) kept carried =
-    subst (λ (x : Setup). IsStateKept films source settings counts (Stopping x p)) (sym carried.0) (
+    subst (λ (x : Setup). IsStateKept ground (Stopping x p)) (sym carried.0) (
       kept.0,
       carried.3.pacing,
       subst (λ (paused : Option Run). IsPausedIn films source counts setup paused) (sym carried.1) kept.2,
     )
   where
-    open ground use {films, source, settings, counts}
+    open ground use {films, source, counts}
 
 pub settled_kept : (ground : Ground) (state : State)
-    → IsStateKept ground.films ground.source ground.settings ground.counts state
-    → IsStateKept ground.films ground.source ground.settings ground.counts (after_stop state)
+    → IsStateKept ground state
+    → IsStateKept ground (after_stop state)
 settled_kept ground Init kept = kept
 settled_kept ground (Ready setup paused) kept = kept
 settled_kept ground (Playing setup play) kept = kept
@@ -108,11 +105,11 @@ going_kept (Stopping setup stop) (Playing s p) given undone = absurd given.carri
 going_kept old (Stopping s p) given undone = tt
 
 pub awaited_kept : {lost : Bool} {old new : State} (ground : Ground) (awaited : Awaited) → SteppedState lost old new
-    → HaltsIfDone new awaited → IsAwaitedKept ground.films ground.source ground.settings ground.counts lost new awaited
+    → HaltsIfDone new awaited → IsAwaitedKept ground lost new awaited
 awaited_kept {old} {new} ground Nothing step is = going_kept old new step is
 awaited_kept ground (Play prepared) step is = absurd is
 awaited_kept {lost} {new} ground (Halt keep next) step is =
-    subst (λ (n : Next). IsAwaitedKept ground.films ground.source ground.settings ground.counts lost new
+    subst (λ (n : Next). IsAwaitedKept ground lost new
     (Halt keep n)) (sym is.1) (is.0, tt)
 awaited_kept ground (Look sequence) step is = absurd is
 awaited_kept ground (Offer sequence) step is = absurd is
@@ -120,7 +117,7 @@ awaited_kept ground (Offer sequence) step is = absurd is
 -- the same once the reply of a PAUSE or a TEARDOWN was sent
 pub awaited_settled : {lost : Bool} {old : State} (ground : Ground) (new : State) (awaited : Awaited)
     → SteppedState lost old new → HaltsIfDone (after_stop new) awaited
-    → IsAwaitedKept ground.films ground.source ground.settings ground.counts lost (after_stop new) awaited
+    → IsAwaitedKept ground lost (after_stop new) awaited
 awaited_settled {lost} ground Init awaited step is =
     awaited_kept {lost = lost} {old = Init} {new = Init} ground awaited (record { going = tt; carried = tt; even = tt }) is
 awaited_settled {lost} ground (Ready s p) awaited step is =
@@ -134,7 +131,7 @@ awaited_settled {lost} ground (Stopping s p) awaited step is =
 
 -- and where the link failed
 pub awaited_lost : (ground : Ground) (state : State)
-    → IsAwaitedKept ground.films ground.source ground.settings ground.counts true state Nothing
+    → IsAwaitedKept ground true state Nothing
 awaited_lost ground Init = tt
 awaited_lost ground (Ready setup paused) = tt
 awaited_lost ground (Playing setup play) = λ linked. cc

@@ -22,7 +22,7 @@ use Rattle.session.specs.declared.states.State.TheVariants.{Ready}
 use Rattle.session.specs.Changes.{AsksOrLacks, CanBePlayed, ChangesState, IsGoodPlay, IsPlayAskedFor, IsSameGround}
 use Rattle.session.specs.Hearings.{Hears, HearsOn}
 use Rattle.session.specs.Judging.{IsJudged}
-use Rattle.session.specs.Methods.{AsksPlayOr, IsRefused, IsReplied, Plays, Takes, play_front, prepared_of}
+use Rattle.session.specs.Methods.{AsksPlayOr, IsRefused, IsReplied, Plays, Takes, play_call, play_front, prepared_of}
 use Rattle.session.specs.Planning.{IsPlanned, IsPlannedRun}
 use Rattle.session.specs.Standings.{Standing}
 use Rattle.session.proofs.Playables.{of_film}
@@ -112,7 +112,7 @@ hears_state old new message ask hears = (comes_changes old new message ask (come
 no_refusal : {old : Standing} {request : Request} {setup : Setup} {paused : Option Run} {ask : Ask} {new : Standing}
     (authority : List ℕ) (planned : Result Planned Refusal) → old.state ≡ Ready setup paused → IsGoodPlay old setup paused request
     → IsPlanned old setup paused (header_value request.head.now (codes "Range")) planned
-    → AsksPlayOr old request.sequence authority setup planned ask new → AsksOrLacks old ask new
+    → AsksPlayOr old (play_call request.sequence authority setup) planned ask new → AsksOrLacks old ask new
 no_refusal {old} {request} {setup} {paused} {ask} {new} authority (Ok planned) ready good is (inl asks) =
     let range = header_value request.head.now (codes "Range") in
     let own = of_film old.films setup.film is.0 (λ s. IsPlannedRun old s setup paused range planned) is.1.at

@@ -176,15 +176,20 @@ record IsTakenUp (old : Standing) (message : List ℕ) (task : Task) : Type 0 wh
   is_request : IsReadAs message request
   judged : IsJudged old.films old.id old.state request (Ok task)
 
+-- the same message, read again as a request, with what it's judged and what comes of it
+record IsReadAgain (request : Request) (taken : TakenRequest) (judgement : Result Task Refusal) : Type 0 where
+  alike : AreAlike request taken.request
+  judged : IsJudged taken.old.films taken.old.id taken.old.state taken.request judgement
+  takes : Takes taken.old taken.request judgement taken.ask taken.new
+
 takes_up : (P : Standing → Ask → Standing → Type 0) {message : List ℕ} {task : Task}
     → DoesTask P (method_of task) → (taken : TakenRequest)
-    (judgement : Result Task Refusal) (is : IsTakenUp taken.old message task) → AreAlike is.request taken.request
-    → IsJudged taken.old.films taken.old.id taken.old.state taken.request judgement
-    → Takes taken.old taken.request judgement taken.ask taken.new → P taken.old taken.ask taken.new
-takes_up P {task} does taken (Ok other) is alike judged takes =
-    does taken other (method_once taken.request.method.now (method_of other) (method_of task) judged.talk.spoken.named
-    (alike.method ∙ is.judged.talk.spoken.named)) takes
-takes_up P does taken (Err refusal) is alike judged takes = absurd (not_both refusal alike is.judged judged)
+    (judgement : Result Task Refusal) (is : IsTakenUp taken.old message task) → IsReadAgain is.request taken judgement
+    → P taken.old taken.ask taken.new
+takes_up P {task} does taken (Ok other) is again =
+    does taken other (method_once taken.request.method.now (method_of other) (method_of task)
+    again.judged.talk.spoken.named (again.alike.method ∙ is.judged.talk.spoken.named)) again.takes
+takes_up P does taken (Err refusal) is again = absurd (not_both refusal again.alike is.judged again.judged)
 
 -- it does what its task does
 hears_up : (P : Standing → Ask → Standing → Type 0) {task : Task} → DoesTask P (method_of task) → {lost : Bool} {old : Standing}
@@ -194,8 +199,11 @@ hears_up P does {lost = true} {ask} {new} linked is hears = absurd (let no : ⊥
 hears_up P does {lost = false} {message} {ask} {new} linked is (inl fault) =
     absurd (no_fault fault.fault is.is_request fault.is_fault)
 hears_up P does {lost = false} {old} {message} {ask} {new} linked is (inr whole) =
-    takes_up P does (record { old = old; new = new; request = whole.request; ask = ask }) whole.hears.judgement is
-    (same_request message is.request whole.request is.is_request whole.is_request) whole.hears.judged whole.hears.takes
+    takes_up P does (record { old = old; new = new; request = whole.request; ask = ask }) whole.hears.judgement is (record {
+      alike = same_request message is.request whole.request is.is_request whole.is_request;
+      judged = whole.hears.judged;
+      takes = whole.hears.takes;
+    })
 
 pub teardown_taken : (old new : Standing) (message : List ℕ) (ask : Ask) → CanBeTornDown old message → Hears old message ask new
     → IsTornDown old ask new

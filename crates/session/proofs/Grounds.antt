@@ -1,4 +1,4 @@
--- What a session stands on while its state moves, and what it hears.
+-- What a session begins with, what it hears, and a play that it has in hand.
 use Rattle.std.proofs.Common.{◌≡◌, ℕ, List}
 use Rattle.film_frames.specs.declared.stores.Stored.{Stored}
 use Rattle.rtsp_text.specs.declared.requests.Request.{Request}
@@ -6,28 +6,10 @@ use Rattle.session.specs.Hearings.{Hears}
 use Rattle.session.specs.Ranges.{AreFilms}
 use Rattle.session.specs.Standings.{Standing}
 use Rattle.session.specs.declared.asks.Ask.{Ask}
-use Rattle.session.specs.declared.sessions.Session.TheInside.{Inside}
 use Rattle.session.specs.declared.settings.Settings.{Settings}
-use Rattle.session.specs.declared.states.Counts.{Counts}
 use Rattle.session.specs.declared.states.Play.{Play as Played}
 use Rattle.session.specs.declared.states.Setup.{Setup}
-use Rattle.session.specs.declared.states.Source.{Source}
 use Rattle.session.specs.declared.states.State.TheVariants.{Playing}
-
--- the ground of a session: its films, its source, its settings, and what was sent before
-pub record Ground : Type 0 where
-  pub films : List Stored
-  pub source : Source
-  pub settings : Settings
-  pub counts : Counts
-
-abbrev pub ground_of : Inside → Ground
-ground_of session = record {
-  films = session.films.now;
-  source = session.source;
-  settings = session.settings;
-  counts = session.counts;
-}
 
 -- what a session begins with: the server's films and settings, and the connection's words
 pub record Beginning : Type 0 where

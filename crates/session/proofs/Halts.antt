@@ -11,25 +11,24 @@ use Rattle.session.specs.declared.states.Setup.{Setup}
 use Rattle.session.specs.declared.states.Source.{Source}
 use Rattle.session.specs.declared.states.State.TheVariants.{Playing}
 use Rattle.session.specs.Hearings.{counts_next, is_answered, is_torn}
-use Rattle.session.specs.Inside.{IsAwaitedKept, IsGoing, IsKept, IsNextIn, IsStateKept, IsStopAnswered, open_receipts, standing_of}
+use Rattle.session.specs.Inside.{Ground, IsAwaitedKept, IsGoing, IsKept, IsNextIn, IsStateKept}
+use Rattle.session.specs.Inside.{IsStopAnswered, ground_of, open_receipts, standing_of}
 use Rattle.session.specs.Standings.{CanHear}
 use Rattle.session.specs.declared.sessions.Session.TheInside.{Inside}
 use Rattle.session.specs.declared.states.Awaited.{Awaited}
 use Rattle.session.specs.Sendings.{state_once_halted}
 use Rattle.session.proofs.Carries.{nothing_of}
-use Rattle.session.proofs.Grounds.{Ground}
 
 -- how the state is kept that a halt leaves
-pub halted_kept : {source : Source} {settings : Settings} {counts : Counts} {setup : Setup} {play : Played}
-    (films : List Stored) (keep : ℕ) (next : Next) → IsStateKept films source settings counts (Playing setup play)
-    → IsNextIn films source counts (Playing setup play) next
-    → IsStateKept films source settings (counts_next films source counts setup play.run keep next) (state_once_halted setup play next)
-halted_kept films keep Done kept left = (kept.0, tt)
-halted_kept films keep (Paused rest) kept left = (kept.0, kept.1.pacing, left)
-halted_kept films keep Torn kept left = (kept.0, kept.1.pacing, tt)
+pub halted_kept : {setup : Setup} {play : Played} (ground : Ground) (done : Counts) (next : Next)
+    → IsStateKept ground (Playing setup play) → IsNextIn ground.films ground.source ground.counts (Playing setup play) next
+    → IsStateKept (record ground { counts = counts_next ground.counts done next }) (state_once_halted setup play next)
+halted_kept ground done Done kept left = (kept.0, tt)
+halted_kept ground done (Paused rest) kept left = (kept.0, kept.1.pacing, left)
+halted_kept ground done Torn kept left = (kept.0, kept.1.pacing, tt)
 
 pub halted_rest : (ground : Ground) (lost : Bool) (setup : Setup) (play : Played) (next : Next)
-    → IsAwaitedKept ground.films ground.source ground.settings ground.counts lost (state_once_halted setup play next) Nothing
+    → IsAwaitedKept ground lost (state_once_halted setup play next) Nothing
 halted_rest ground lost setup play Done = tt
 halted_rest ground lost setup play (Paused rest) = tt
 halted_rest ground lost setup play Torn = tt
@@ -61,6 +60,5 @@ or_if false false = refl
 -- a session that hears a request stands between halts
 pub going_in : {inside : Inside} → IsKept inside → CanHear (standing_of inside) → IsGoing false inside.state
 going_in {inside} kept hear = subst (λ (lost : Bool). IsGoing lost inside.state) hear.lost
-    (subst (λ (a : Awaited). IsAwaitedKept inside.films.now inside.source inside.settings inside.counts
-    inside.lost inside.state a)
+    (subst (λ (a : Awaited). IsAwaitedKept (ground_of inside) inside.lost inside.state a)
     (nothing_of inside.awaited hear.rest) kept.awaited)

@@ -36,7 +36,7 @@ use Rattle.session.specs.declared.states.State.{State}
 use Rattle.session.specs.declared.states.State.TheVariants.{Init, Ready, Playing, Stopping}
 use Rattle.session.specs.Hearings.{Hears, HearsOn, after_offer}
 use Rattle.session.specs.Judging.{IsJudged, IsReadAs, IsTopic}
-use Rattle.session.specs.Methods.{AsksOfferOr, AsksPlayOr, Gets, GetsOffer, HasWait, IsWaitOf, Looks, Pauses, Plays, IsSetUp, Takes, TearsDown}
+use Rattle.session.specs.Methods.{AsksOfferOr, AsksPlayOr, Gets, GetsOffer, HasWait, IsWaitOf, Looks, Pauses, Plays, IsSetUp, Takes, TearsDown, play_call}
 use Rattle.session.specs.OfferLaws.{IsLeastBuffer, IsLeastTold, IsOfferAsked, IsOfferRequest, IsOfferTold, IsWaitIn, found_line, tried_line}
 use Rattle.session.specs.Planning.{HasNoPlan, IsPlanned}
 use Rattle.session.specs.Playing.{curve_refusal, playback_of, run_of}
@@ -114,7 +114,7 @@ module _ (old : Standing) (message : List ℕ) (plan : List Segment) (offers : O
   no_setup sequence (Err refusal) is = let no : ⊥ = cc (is.0) in no
 
   no_play_asked : (sequence : ℕ) (authority : List ℕ) (setup : Setup) (planned : Result Planned Refusal)
-      → AsksPlayOr old sequence authority setup planned (AskOffer plan offers) new → ⊥
+      → AsksPlayOr old (play_call sequence authority setup) planned (AskOffer plan offers) new → ⊥
   no_play_asked sequence authority setup (Ok planned) (inl asks) = let no : ⊥ = cc (asks.command) in no
   no_play_asked sequence authority setup (Ok planned) (inr refused) = let no : ⊥ = cc (refused.0) in no
   no_play_asked sequence authority setup (Err refusal) refused = let no : ⊥ = cc (refused.0) in no

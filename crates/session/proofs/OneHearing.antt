@@ -40,7 +40,7 @@ use Rattle.session.specs.Films.{Names, length_ms}
 use Rattle.session.specs.Hearings.{HearsOn, HearsWhole}
 use Rattle.session.specs.Judging.{IsJudged, IsTaskOf, IsTopic, fault_refusal, method_of, option_of}
 use Rattle.session.specs.Laws.{IsOneHearing}
-use Rattle.session.specs.Methods.{AsksHalt, AsksOffer, AsksOfferOr, AsksPlay, AsksPlayOr, Describes}
+use Rattle.session.specs.Methods.{AsksHalt, AsksOffer, AsksOfferOr, AsksPlay, AsksPlayOr, Describes, play_call}
 use Rattle.session.specs.Methods.{Gets, GetsOffer, GetsParameter, HasWait, IsRefused, IsReplied}
 use Rattle.session.specs.Methods.{IsSetUp, Looks, OffersReady, Pauses, PausesPlay, Plays, SetsUp}
 use Rattle.session.specs.Methods.{Takes, TearsDown, prepared_of, play_front}
@@ -146,8 +146,8 @@ module _ (old : Standing) (message : List ℕ) (ask again : Ask) (one other : St
       }) film ∙ sym is.state)
 
   play_or_once : {sequence : ℕ} (authority : List ℕ) (setup : Setup) (planned : Result Planned Refusal)
-      → first_sequence message ≡ Some sequence → AsksPlayOr old sequence authority setup planned ask one
-      → AsksPlayOr old sequence authority setup planned again other → Agree
+      → first_sequence message ≡ Some sequence → AsksPlayOr old (play_call sequence authority setup) planned ask one
+      → AsksPlayOr old (play_call sequence authority setup) planned again other → Agree
   play_or_once {sequence} authority setup (Ok planned) number (inl is) (inl its) =
       asks_play_once sequence authority setup planned is its
   play_or_once {sequence} authority setup (Ok planned) number (inl is) (inr its) = second_wants sequence number its
@@ -156,13 +156,13 @@ module _ (old : Standing) (message : List ℕ) (ask again : Ask) (one other : St
 
   plays_ready_once : {sequence : ℕ} {a b : Result Planned Refusal} (authority : List ℕ) (setup : Setup)
       → first_sequence message ≡ Some sequence → (b ≡ a) ⊎ ((a ≡ Err Memory) ⊎ (b ≡ Err Memory))
-      → AsksPlayOr old sequence authority setup a ask one → AsksPlayOr old sequence authority setup b again other → Agree
+      → AsksPlayOr old (play_call sequence authority setup) a ask one → AsksPlayOr old (play_call sequence authority setup) b again other → Agree
   plays_ready_once {sequence} {a} authority setup number (inl alike) is its =
-      play_or_once authority setup a number is (subst (λ p. AsksPlayOr old sequence authority setup p again other) alike its)
+      play_or_once authority setup a number is (subst (λ p. AsksPlayOr old (play_call sequence authority setup) p again other) alike its)
   plays_ready_once {sequence} authority setup number (inr (inl lacks)) is its =
-      first_wants sequence number (subst (λ p. AsksPlayOr old sequence authority setup p ask one) lacks is)
+      first_wants sequence number (subst (λ p. AsksPlayOr old (play_call sequence authority setup) p ask one) lacks is)
   plays_ready_once {sequence} authority setup number (inr (inr lacks)) is its =
-      second_wants sequence number (subst (λ p. AsksPlayOr old sequence authority setup p again other) lacks its)
+      second_wants sequence number (subst (λ p. AsksPlayOr old (play_call sequence authority setup) p again other) lacks its)
 
   looks_once : (sequence : ℕ) → first_sequence message ≡ Some sequence → Looks old sequence ask one
       → Looks old sequence again other → Agree
@@ -253,7 +253,7 @@ module _ (old : Standing) (message : List ℕ) (ask again : Ask) (one other : St
       plays_ready_once old message ask again one other {a = is.planned} {b = its.planned} authority setup number
       (planned_once old setup paused (header_value request.head.now (codes "Range")) is.planned its.planned
       is.is_planned planned) is.asks
-      (subst (λ s. AsksPlayOr old s authority setup its.planned again other) alike.sequence its.asks)
+      (subst (λ s. AsksPlayOr old (play_call s authority setup) its.planned again other) alike.sequence its.asks)
   plays_once (Playing setup play) authority is its =
       replied_once old message ask again one other _ _ (ap (λ s. session_text s old.id) alike.sequence) is its
   plays_once (Stopping setup stop) authority is its =

@@ -1,5 +1,6 @@
 -- Where a halt cuts, what is counted after a run, and its note.
-use Rattle.std.proofs.Common.{◌≡◌, ℕ, ◌+◌, ◌≤◌, false, List, ◌++◌, length, Option, refl, sym, ap, subst, ◌∙◌, arith}
+use Rattle.std.proofs.Common.{◌≡◌, ℕ, ◌+◌, ◌≤◌, false, List, ◌++◌, length, Option, slice_get, refl, sym, ap, subst}
+use Rattle.std.proofs.Common.{◌∙◌, arith}
 use Rattle.std.proofs.lemmas.List.{take_all}
 use Rattle.plan_cert.specs.Slots.{total_bytes}
 use Rattle.film_frames.specs.declared.stores.Stored.{Stored}
@@ -102,14 +103,10 @@ all_sent sending =
     }) in
     take_all (count_ended (length (framed_bytes blocks)) blocks) (pieces_in sending) (omega (arith, count, ended))
 
-counts_of_done : {stored : Stored} (old : Standing) (hand : PlayInHand old) (keep : ℕ) (next : Next) → is_answered next ≡ false
-    → IsFilmAt old.films hand.setup.film stored
-    → counts_next old.films old.source old.counts hand.setup hand.play.run keep next
-    ≡ counts_after old.counts (sending_of stored.film old.source hand.setup old.counts hand.play.run) (hand.play.run.sent + keep)
-counts_of_done old hand keep Done none at =
-    ap (counts_done old.source old.counts hand.setup hand.play.run keep) at
-counts_of_done old hand keep (Paused run) none at = absurd (let no : ⊥ = cc in no)
-counts_of_done old hand keep Torn none at = absurd (let no : ⊥ = cc in no)
+counts_of_done : (counts done : Counts) (next : Next) → is_answered next ≡ false → counts_next counts done next ≡ done
+counts_of_done counts done Done none = refl
+counts_of_done counts done (Paused run) none = absurd (let no : ⊥ = cc in no)
+counts_of_done counts done Torn none = absurd (let no : ⊥ = cc in no)
 
 pub run_counted : {stored : Stored} (old : Standing) (place : ℕ) (hand : PlayInHand old)
     → is_answered (next_of old.awaited) ≡ false → IsFilmAt old.films hand.setup.film stored
@@ -121,9 +118,12 @@ pub run_counted : {stored : Stored} (old : Standing) (place : ℕ) (hand : PlayI
 run_counted {stored} old place hand none at all =
     let sending = sending_of stored.film old.source setup old.counts play.run in
     let end = length (framed_bytes (run_pieces sending)) in
+    let done : Option Stored → Counts =
+    counts_done old.source old.counts setup play.run (kept_of old.awaited play.pacer.due) in
     let counts : halted_counts old old.state ≡ counts_after old.counts sending end =
-    ap (halted_counts old) playing ∙ counts_of_done old hand (kept_of old.awaited play.pacer.due) (next_of old.awaited) none at
-    ∙ ap (counts_after old.counts sending) all in
+    ap (halted_counts old) playing
+    ∙ counts_of_done old.counts (done (slice_get old.films setup.film)) (next_of old.awaited) none
+    ∙ ap done at ∙ ap (counts_after old.counts sending) all in
     let its = identity_goes_on old.source setup old.counts sending end in
     let goes = subst (λ (c : Counts). GoesOn (identity_of old.source setup old.counts) (identity_of old.source setup c)
     (frames_before sending end) (octets_before sending end)) (sym counts) its in

@@ -39,7 +39,7 @@ use Rattle.session.specs.EndLaws.{IsTeardown}
 use Rattle.session.specs.Hearings.{Hears, HearsOn, is_answered, is_torn}
 use Rattle.session.specs.Judging.{IsJudged, IsReadAs, IsTopic, IsWord, fault_refusal, option_of}
 use Rattle.session.specs.Laws.{IsOfMethod, IsWanting, MayWantMemory}
-use Rattle.session.specs.Methods.{AsksHalt, AsksLook, AsksOffer, AsksOfferOr, AsksPlayOr, Gets}
+use Rattle.session.specs.Methods.{AsksHalt, AsksLook, AsksOffer, AsksOfferOr, AsksPlayOr, Gets, play_call}
 use Rattle.session.specs.Methods.{GetsOffer, IsRefused, IsReplied, IsSetUp, Looks, Pauses, Plays}
 use Rattle.session.specs.Methods.{Takes, TearsDown, play_front, prepared_of}
 use Rattle.session.specs.Planning.{IsPlanned, IsPlannedRun}
@@ -230,7 +230,7 @@ module _ (old : Standing) (message : List ℕ) (ask : Ask) (new : Standing) wher
 
   asks_play_to : (heard : PlayHeard old message) (planned : Result Planned Refusal)
       → IsPlanned old heard.setup heard.paused heard.range planned
-      → AsksPlayOr old heard.sequence heard.authority heard.setup planned ask new → Comes
+      → AsksPlayOr old (play_call heard.sequence heard.authority heard.setup) planned ask new → Comes
   asks_play_to heard (Ok planned) is (inl asks) =
       AsksForPlay asks.stored setup paused range planned sequence authority ready
       (of_film old.films setup.film is.0 (λ s. IsPlannedRun old s setup paused range planned) is.1.at is.1 asks.stored asks.at)

@@ -129,18 +129,18 @@ counts_done source counts setup run keep None = counts
 counts_done source counts setup run keep (Some stored) =
     counts_after counts (sending_of stored.film source setup counts run) (run.sent + keep)
 
-abbrev pub counts_next : List Stored → Source → Counts → Setup → Run → ℕ → Next → Counts
-counts_next films source counts setup run keep Done =
-    counts_done source counts setup run keep (slice_get films setup.film)
-counts_next films source counts setup run keep (Paused rest) = counts
-counts_next films source counts setup run keep Torn = counts
+-- only a play that is done is counted
+abbrev pub counts_next : Counts → Counts → Next → Counts
+counts_next counts done Done = done
+counts_next counts done (Paused rest) = counts
+counts_next counts done Torn = counts
 
 abbrev pub halted_counts : Standing → State → Counts
 halted_counts old Init = old.counts
 halted_counts old (Ready setup paused) = old.counts
 halted_counts old (Playing setup play) =
-    counts_next old.films old.source old.counts setup play.run
-    (kept_of old.awaited play.pacer.due) (next_of old.awaited)
+    counts_next old.counts (counts_done old.source old.counts setup play.run
+    (kept_of old.awaited play.pacer.due) (slice_get old.films setup.film)) (next_of old.awaited)
 halted_counts old (Stopping setup stop) = old.counts
 
 -- a PAUSE and a TEARDOWN are answered once the rest up to a boundary was sent; a play that is done

@@ -79,22 +79,37 @@ awaited_plays awaited = (coming_of awaited).plays
 abbrev pub awaited_offers : Awaited → ℕ
 awaited_offers awaited = (coming_of awaited).offers
 
+-- the ground of a session: its films, its source, its settings, and what was sent before
+pub record Ground : Type 0 where
+  pub films : List Stored
+  pub source : Source
+  pub settings : Settings
+  pub counts : Counts
+
+abbrev pub ground_of : Inside → Ground
+ground_of session = record {
+  films = session.films.now;
+  source = session.source;
+  settings = session.settings;
+  counts = session.counts;
+}
+
 -- a play is sent as such a run
 pub record IsPlaying (stored : Stored) (source : Source) (settings : Settings) (setup : Setup)
     (counts : Counts) (play : Played) : Type 0 where
   pub playable : IsPlayable stored source settings setup counts play.run play.plan
   pub pieces : play.pacer.pieces ≡ run_pieces (sending_of stored.film source setup counts play.run)
 
-abbrev pub IsStateKept : List Stored → Source → Settings → Counts → State → Type 0
-IsStateKept films source settings counts Init = ⊤
-IsStateKept films source settings counts (Ready setup paused) = IsSetup (length films) setup
-    × IsPausedIn films source counts setup paused
-IsStateKept films source settings counts (Playing setup play) =
-    IsSetup (length films) setup × IsPacedPlay play
-    × OfFilm films setup.film (λ stored. IsPlaying stored source settings setup counts play)
-IsStateKept films source settings counts (Stopping setup stop) =
-    IsSetup (length films) setup × IsPacing stop.pacer
-    × IsPausedIn films source counts setup stop.paused
+abbrev pub IsStateKept : Ground → State → Type 0
+IsStateKept own Init = ⊤
+IsStateKept own (Ready setup paused) = IsSetup (length own.films) setup
+    × IsPausedIn own.films own.source own.counts setup paused
+IsStateKept own (Playing setup play) =
+    IsSetup (length own.films) setup × IsPacedPlay play × OfFilm own.films setup.film
+    (λ stored. IsPlaying stored own.source own.settings setup own.counts play)
+IsStateKept own (Stopping setup stop) =
+    IsSetup (length own.films) setup × IsPacing stop.pacer
+    × IsPausedIn own.films own.source own.counts setup stop.paused
 
 -- a play is asked for in Ready: the frames of a run, and its plan
 pub record IsPreparedAs (stored : Stored) (source : Source) (settings : Settings) (setup : Setup)
@@ -137,15 +152,14 @@ IsNextIn films source counts state Done = ⊤
 IsNextIn films source counts state (Paused run) = IsLeftIn films source counts state run
 IsNextIn films source counts state Torn = ⊤
 
-abbrev pub IsAwaitedKept : List Stored → Source → Settings → Counts → Bool → State → Awaited →
-    Type 0
-IsAwaitedKept films source settings counts lost state Nothing = IsGoing lost state
-IsAwaitedKept films source settings counts lost state (Play prepared) =
-    IsPreparedIn films source settings state prepared
-IsAwaitedKept films source settings counts lost state (Halt keep next) = IsHaltIn state keep
-    × IsNextIn films source counts state next
-IsAwaitedKept films source settings counts lost state (Look sequence) = IsGoing lost state
-IsAwaitedKept films source settings counts lost state (Offer sequence) = IsGoing lost state
+abbrev pub IsAwaitedKept : Ground → Bool → State → Awaited → Type 0
+IsAwaitedKept own lost state Nothing = IsGoing lost state
+IsAwaitedKept own lost state (Play prepared) =
+    IsPreparedIn own.films own.source own.settings state prepared
+IsAwaitedKept own lost state (Halt keep next) = IsHaltIn state keep
+    × IsNextIn own.films own.source own.counts state next
+IsAwaitedKept own lost state (Look sequence) = IsGoing lost state
+IsAwaitedKept own lost state (Offer sequence) = IsGoing lost state
 
 -- the reply to a request that stopped a play waits until it is sent
 abbrev pub IsStopAnswered : State → Bool → Type 0
@@ -158,10 +172,8 @@ pub record IsKept (session : Inside) : Type 0 where
   pub films : AreFilms session.films.now
   pub settings : AreSettings session.settings
   pub id : is_one_line session.id ≡ true
-  pub state : IsStateKept session.films.now session.source session.settings session.counts
-      session.state
-  pub awaited : IsAwaitedKept session.films.now session.source session.settings session.counts
-      session.lost session.state session.awaited
+  pub state : IsStateKept (ground_of session) session.state
+  pub awaited : IsAwaitedKept (ground_of session) session.lost session.state session.awaited
   pub stop : IsStopAnswered session.state session.waits
   pub receipt_room : session.looks_left
       + (open_receipts session.state + awaited_receipts session.awaited) ≤ session.log.receipt_room

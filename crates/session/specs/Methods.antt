@@ -150,14 +150,25 @@ pub record AsksPlay (old : Standing) (sequence : ℕ) (authority : List ℕ) (se
     text = play_front old stored setup planned sequence authority;
   }
 
+-- what a PLAY comes with: its number, the authority of its URL, and what SETUP settled
+pub record PlayCall : Type 0 where
+  pub sequence : ℕ
+  pub authority : List ℕ
+  pub setup : Setup
+
+abbrev pub play_call : ℕ → List ℕ → Setup → PlayCall
+play_call sequence authority setup = record {
+  sequence = sequence;
+  authority = authority;
+  setup = setup;
+}
+
 -- where memory is wanting for what the play leaves for the report, the request is refused
-abbrev pub AsksPlayOr : Standing → ℕ → List ℕ → Setup → Result Planned Refusal → Ask → Standing →
-    Type 0
-AsksPlayOr old sequence authority setup (Ok planned) ask new =
-    AsksPlay old sequence authority setup planned ask new
-    ⊎ IsRefused old (Some sequence) Memory [] ask new
-AsksPlayOr old sequence authority setup (Err refusal) ask new =
-    IsRefused old (Some sequence) refusal [] ask new
+abbrev pub AsksPlayOr : Standing → PlayCall → Result Planned Refusal → Ask → Standing → Type 0
+AsksPlayOr old call (Ok planned) ask new =
+    AsksPlay old call.sequence call.authority call.setup planned ask new
+    ⊎ IsRefused old (Some call.sequence) Memory [] ask new
+AsksPlayOr old call (Err refusal) ask new = IsRefused old (Some call.sequence) refusal [] ask new
 
 pub record PlaysReady (old : Standing) (request : Request) (authority : List ℕ) (setup : Setup)
     (paused : Option Run) (ask : Ask)
@@ -165,7 +176,7 @@ pub record PlaysReady (old : Standing) (request : Request) (authority : List ℕ
   pub planned : Result Planned Refusal
   pub is_planned : IsPlanned old setup paused
       (header_value request.head.now (codes "Range")) planned
-  pub asks : AsksPlayOr old request.sequence authority setup planned ask new
+  pub asks : AsksPlayOr old (play_call request.sequence authority setup) planned ask new
 
 -- a PLAY in Playing changes nothing
 abbrev pub Plays : State → Standing → Request → List ℕ → Ask → Standing → Type 0

@@ -1,7 +1,7 @@
 //! The station's answers.
 
 ghost use Rattle.std.specs.Prelude.{◌≡◌, ◌<◌, ◌^◌, ◌++◌, [], ◌∷◌, true, None, ◌-◌, List, Some};
-ghost use Rattle.std.specs.Prelude.{◌+◌, length};
+ghost use Rattle.std.specs.Prelude.{◌+◌, length, slice_get};
 ghost use Rattle.film_frames.specs.Runs.{run_pieces};
 ghost use Rattle.film_run.specs.Runs.{IsRun};
 ghost use Rattle.film_run.specs.Units.{stored_sizes};
@@ -18,7 +18,8 @@ ghost use Rattle.session.specs.Standings.{AreNotesKept, IsAtRest, IsHalt, IsHand
 ghost use Rattle.session.specs.Standings.{IsOffer, IsPlay, IsPlayOrLook};
 ghost use Rattle.session.specs.Standings.{awaited_answer, booking_of, open_of, sequence_of};
 ghost use Rattle.session.specs.Hearings.{Halts, after_admission, after_full, after_look};
-ghost use Rattle.session.specs.Hearings.{after_offer, after_overflow, counts_next, is_answered};
+ghost use Rattle.session.specs.Hearings.{after_offer, after_overflow, counts_done, counts_next};
+ghost use Rattle.session.specs.Hearings.{is_answered};
 ghost use Rattle.session.specs.Replies.{play_text};
 ghost use Rattle.session.specs.Steps.{IsPlayIn};
 
@@ -269,7 +270,8 @@ fn counts_next(
     requires run { OfFilm films.now setup.now.film
         (λ stored. IsRun (stored_sizes stored) run.now) }
     requires fits { run.now.sent + keep < 2 ^ 64 }
-    ensures { result ≡ counts_next films.now source counts setup.now run.now keep next }
+    ensures { result ≡ counts_next counts (counts_done source counts setup.now run.now keep
+        (slice_get films.now setup.now.film)) next }
 {
     match next {
         Next::Done => {

@@ -12,7 +12,7 @@ ghost use Rattle.session.specs.Films.{OfFilm};
 ghost use Rattle.session.specs.Logs.{IsSameLists};
 ghost use Rattle.session.specs.Methods.{AsksOfferOr, AsksPlayOr, Describes, GetsParameter, HasWait};
 ghost use Rattle.session.specs.Methods.{HearsRequest, Looks, GetsOffer, OffersReady};
-ghost use Rattle.session.specs.Methods.{Pauses, Plays, SetsUp, Takes, TearsDown};
+ghost use Rattle.session.specs.Methods.{Pauses, Plays, SetsUp, Takes, TearsDown, play_call};
 ghost use Rattle.session.specs.Planning.{IsPausedIn};
 ghost use Rattle.session.specs.Tasks.{IsTask};
 ghost use Rattle.session.specs.Replies.{refusal_text};
@@ -217,7 +217,7 @@ impl<'a> Session<'a> {
         requires run { OfFilm self.old.films setup.now.film (λ stored.
             IsPlayable stored self.old.source self.old.settings setup.now
             planned.counts planned.run planned.plan) }
-        ensures exact { AsksPlayOr self.old sequence authority.now setup.now
+        ensures exact { AsksPlayOr self.old (play_call sequence authority.now setup.now)
             (Ok planned) result self.new }
         ensures asks { AsksFor result self.new }
         ensures same { IsSameBusiness self.old self.new }

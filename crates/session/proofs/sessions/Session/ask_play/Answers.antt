@@ -7,7 +7,7 @@ use Rattle.rtsp_text.specs.Lines.{is_one_line}
 use Rattle.rtsp_text.proofs.OneLines.{one_line-name}
 use Rattle.session.specs.Films.{IsFilmAt, OfFilm, counts_after, identity_of, sending_of}
 use Rattle.session.specs.Inside.{open_receipts, standing_of}
-use Rattle.session.specs.Methods.{AsksPlayOr, first_number, play_front}
+use Rattle.session.specs.Methods.{AsksPlayOr, first_number, play_call, play_front}
 use Rattle.session.specs.declared.asks.Ask.TheVariants.{Play as AskPlay}
 use Rattle.session.specs.Playing.{IsPlayable}
 use Rattle.session.specs.Standings.{IsReadyIn, Standing}
@@ -132,7 +132,7 @@ returns-clause-exact c =
     let paced = c.in-Ok.paced in
     let log = c.plans_with_room.new.log in
     let lists = c.plans_with_room.ensures.lists in
-    rw c.set.ensures (subst (λ (s : Standing). AsksPlayOr s sequence authority setup (Ok planned) (AskPlay plan)
+    rw c.set.ensures (subst (λ (s : Standing). AsksPlayOr s (play_call sequence authority setup) (Ok planned) (AskPlay plan)
     (new c.frames_of-frames.result own paced c.put_play.new.reply log.receipts log.plays log.offers)) c.self.view_is
     (inl (record {
       stored = stored;

@@ -1,7 +1,8 @@
 use Rattle.std.proofs.Common.{◌≡◌, ◌-◌, refl, sym, ap, subst, ◌∙◌, arith}
 use Rattle.film_frames.specs.Runs.{run_pieces}
 use Rattle.pacer.specs.Pacings.{IsPacing, whole_pacing}
-use Rattle.session.specs.Inside.{IsAwaitedKept, IsPreparedIn, IsStateKept, awaited_offers, awaited_plays, awaited_receipts, open_receipts}
+use Rattle.session.specs.Inside.{Ground, IsAwaitedKept, IsPreparedIn, IsStateKept, awaited_offers}
+use Rattle.session.specs.Inside.{awaited_plays, awaited_receipts, ground_of, open_receipts}
 use Rattle.session.specs.Logs.{Logged}
 use Rattle.session.specs.declared.states.Awaited.{Awaited}
 use Rattle.session.specs.declared.states.Awaited.TheVariants.{Nothing, Play}
@@ -15,17 +16,17 @@ pub invariant_of-self : goal.invariant_of-self
 invariant_of-self c =
     let inside = c.self.inside in
     let films = inside.films.now in
+    let ground : Ground = ground_of inside in
     let setup = c.in-Ready.setup in
     let prepared = c.in-Play.prepared in
     let state : inside.state ≡ Ready setup c.in-Ready.field-1 = c.in-Ready.is in
     let awaited : inside.awaited ≡ Play prepared = sym c.replace.ensures.value ∙ c.in-Play.is in
     let asked : IsPreparedIn films inside.source inside.settings inside.state prepared =
-    subst (λ (a : Awaited). IsAwaitedKept films inside.source inside.settings inside.counts inside.lost inside.state a) awaited
+    subst (λ (a : Awaited). IsAwaitedKept ground inside.lost inside.state a) awaited
     c.self.invariant.awaited in
     let kept : IsPreparedIn films inside.source inside.settings (Ready setup c.in-Ready.field-1) prepared =
     subst (λ (s : State). IsPreparedIn films inside.source inside.settings s prepared) state asked in
-    let ready = subst (λ (s : State). IsStateKept films inside.source inside.settings inside.counts s) state
-    c.self.invariant.state in
+    let ready = subst (λ (s : State). IsStateKept ground s) state c.self.invariant.state in
     let play : Played = record {
       run = prepared.run;
       place = c.args.place;
@@ -49,9 +50,9 @@ invariant_of-self c =
       films = c.self.invariant.films;
       settings = c.self.invariant.settings;
       id = c.self.invariant.id;
-      state = admitted_state films c.in-Ready.field-1 ready.0 kept
+      state = admitted_state ground c.in-Ready.field-1 ready.0 kept
           (record { pacing = pacing; run = refl; plan = refl; pacer = refl });
-      awaited = subst (λ (a : Awaited). IsAwaitedKept films inside.source inside.settings prepared.counts inside.lost
+      awaited = subst (λ (a : Awaited). IsAwaitedKept (record ground { counts = prepared.counts }) inside.lost
           (Playing setup play) a) (sym none)
           (admitted_going setup (run_pieces prepared.frames) prepared.run.sent c.args.start refl kept.0.paced);
       stop = tt;

@@ -1,6 +1,8 @@
 use Rattle.std.proofs.Common.{◌≡◌, ◌-◌, ◌||◌, true, if◌then◌else◌, sym, ap, subst, ◌∙◌, arith}
-use Rattle.session.specs.Hearings.{counts_next, is_answered}
-use Rattle.session.specs.Inside.{IsAwaitedKept, IsNextIn, IsStateKept, IsStopAnswered, awaited_offers, awaited_plays, awaited_receipts, open_receipts}
+use Rattle.std.specs.Prelude.{slice_get}
+use Rattle.session.specs.Hearings.{counts_done, counts_next, is_answered}
+use Rattle.session.specs.Inside.{Ground, IsAwaitedKept, IsNextIn, IsStateKept, IsStopAnswered}
+use Rattle.session.specs.Inside.{awaited_offers, awaited_plays, awaited_receipts, ground_of, open_receipts}
 use Rattle.session.specs.Logs.{Logged}
 use Rattle.session.specs.Sendings.{next_of, state_once_halted}
 use Rattle.session.specs.declared.states.Awaited.{Awaited}
@@ -10,14 +12,13 @@ use Rattle.session.specs.declared.states.Next.{Next}
 use Rattle.session.specs.declared.states.State.{State}
 use Rattle.session.specs.declared.states.State.TheVariants.{Playing}
 use Rattle.session.proofs.Askings.{next_in}
-use Rattle.session.proofs.Grounds.{ground_of}
 use Rattle.session.proofs.Halts.{halted_closed, halted_kept, halted_rest, halted_stop, halted_torn, or_if}
 use Rattle.session.proofs.sessions.Session.hear_halt.Goals as goal
 
 pub counts_next-self-inside-requires-clause-run : goal.counts_next-self-inside-requires-clause-run
 counts_next-self-inside-requires-clause-run c =
     let inside = c.self.inside in
-    let kept = subst (λ (s : State). IsStateKept inside.films.now inside.source inside.settings inside.counts s)
+    let kept = subst (λ (s : State). IsStateKept (ground_of inside) s)
     (sym c.in-Playing.ensures.value) c.self.invariant.state in
     λ stored at. (kept.2 stored at).playable.run_of.run_is
 
@@ -32,18 +33,18 @@ invariant_of-self c =
     let state = c.state_and_note-state.result.0 in
     let counts = c.counts_next-self-inside.result in
     let was : inside.state ≡ Playing setup play = sym c.in-Playing.ensures.value in
-    let kept = subst (λ (s : State). IsStateKept films inside.source inside.settings inside.counts s) was
-    c.self.invariant.state in
+    let ground : Ground = ground_of inside in
+    let kept = subst (λ (s : State). IsStateKept ground s) was c.self.invariant.state in
     let asked : next_of inside.awaited ≡ next =
     sym (ap next_of c.replace-asked.ensures.value) ∙ sym c.kept_and_next-keep.ensures.next in
     let left : IsNextIn films inside.source inside.counts (Playing setup play) next =
     subst (λ (s : State). IsNextIn films inside.source inside.counts s next) was
     (subst (λ (n : Next). IsNextIn films inside.source inside.counts inside.state n) asked
-    (next_in (ground_of inside) inside.lost inside.state inside.awaited c.self.invariant.awaited)) in
+    (next_in ground inside.lost inside.state inside.awaited c.self.invariant.awaited)) in
     let none : c.replace-asked.new.dest ≡ Nothing = c.replace-asked.ensures.after in
     let is : state ≡ state_once_halted setup play next = c.state_and_note-state.ensures.state in
-    let counted : counts ≡ counts_next films inside.source inside.counts setup play.run keep next =
-    c.counts_next-self-inside.ensures in
+    let done : Counts = counts_done inside.source inside.counts setup play.run keep (slice_get films setup.film) in
+    let counted : counts ≡ counts_next inside.counts done next = c.counts_next-self-inside.ensures in
     let waits : (inside.waits || c.is_answered.result) ≡ (if is_answered next then true else inside.waits) =
     ap (λ b. inside.waits || b) c.is_answered.ensures ∙ or_if inside.waits (is_answered next) in
     let closed : open_receipts state ≡ 0 = ap open_receipts is ∙ halted_closed setup play next in
@@ -57,15 +58,12 @@ invariant_of-self c =
       films = c.self.invariant.films;
       settings = c.self.invariant.settings;
       id = c.self.invariant.id;
-      state = subst (λ (n : Counts). IsStateKept films inside.source inside.settings n state) (sym counted)
-          (subst (λ (s : State). IsStateKept films inside.source inside.settings
-          (counts_next films inside.source inside.counts setup play.run keep next) s) (sym is)
-          (halted_kept films keep next kept left));
-      awaited = subst (λ (a : Awaited). IsAwaitedKept films inside.source inside.settings counts inside.lost state a) (sym none)
-          (subst (λ (s : State). IsAwaitedKept films inside.source inside.settings counts inside.lost s Nothing) (sym is)
-          (halted_rest
-          (record { films = films; source = inside.source; settings = inside.settings; counts = counts })
-          inside.lost setup play next));
+      state = subst (λ (n : Counts). IsStateKept (record ground { counts = n }) state) (sym counted)
+          (subst (λ (s : State). IsStateKept (record ground { counts = counts_next inside.counts done next }) s) (sym is)
+          (halted_kept ground done next kept left));
+      awaited = subst (λ (a : Awaited). IsAwaitedKept (record ground { counts = counts }) inside.lost state a) (sym none)
+          (subst (λ (s : State). IsAwaitedKept (record ground { counts = counts }) inside.lost s Nothing) (sym is)
+          (halted_rest (record ground { counts = counts }) inside.lost setup play next));
       stop = subst (IsStopAnswered state) (sym waits)
           (subst (λ (s : State). IsStopAnswered s (if is_answered next then true else inside.waits)) (sym is)
           (halted_stop setup play next inside.waits));

@@ -1,5 +1,5 @@
 use Rattle.std.proofs.Common.{◌≡◌, ℕ, List, Option, Ok, sym, subst}
-use Rattle.session.specs.Inside.{IsStateKept}
+use Rattle.session.specs.Inside.{IsStateKept, ground_of}
 use Rattle.session.specs.Methods.{Plays}
 use Rattle.session.specs.Planning.{IsPausedIn, IsPlanned}
 use Rattle.session.specs.Standings.{Standing}
@@ -10,7 +10,7 @@ use Rattle.session.proofs.sessions.Session.play.Goals as goal
 pub plan_play-requires-clause-paused : goal.plan_play-requires-clause-paused
 plan_play-requires-clause-paused c =
     let inside = c.self.inside in
-    let kept = subst (λ (s : State). IsStateKept inside.films.now inside.source inside.settings inside.counts s) c.in-Ready.is
+    let kept = subst (λ (s : State). IsStateKept (ground_of inside) s) c.in-Ready.is
     c.self.invariant.state in
     subst (λ (old : Standing). IsPausedIn old.films old.source old.counts c.in-Ready.setup c.in-Ready.paused)
     c.self.view_is kept.1

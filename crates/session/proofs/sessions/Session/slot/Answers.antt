@@ -1,7 +1,7 @@
 use Rattle.std.proofs.Common.{◌≡◌, false, true, sym, ap, subst, ◌∙◌, rules, arith}
 use Rattle.session.specs.Inside.{Coming, IsAwaitedKept, IsGoing, IsKept, IsStateKept}
 use Rattle.session.specs.Inside.{IsStopAnswered, awaited_offers, awaited_plays, awaited_receipts}
-use Rattle.session.specs.Inside.{coming_of, open_receipts, standing_of}
+use Rattle.session.specs.Inside.{coming_of, ground_of, open_receipts, standing_of}
 use Rattle.session.specs.Sendings.{HaltsIfDone}
 use Rattle.session.specs.Standings.{IsAtRest}
 use Rattle.session.specs.Steps.{IsCarried, IsEven, after_stop}
@@ -11,7 +11,6 @@ use Rattle.session.specs.declared.states.Awaited.TheVariants.{Nothing}
 use Rattle.session.specs.declared.states.State.{State}
 use Rattle.session.proofs.Carries.{awaited_kept, awaited_lost, awaited_settled, finished_none}
 use Rattle.session.proofs.Carries.{nothing_of, receipts_kept, receipts_settled, settled_kept, state_kept, stop_kept, stop_settled}
-use Rattle.session.proofs.Grounds.{ground_of}
 use Rattle.session.proofs.sessions.Session.slot.Goals as goal
 use Rattle.session.proofs.sessions.Session.slot.Goals.{then-replied, else-replied}
 
@@ -29,7 +28,7 @@ invariant_of-self-in_default-send_due g c =
       settings = c.self.invariant.settings;
       id = c.self.invariant.id;
       state = state_kept (ground_of inside) inside.state new c.self.invariant.state carried;
-      awaited = subst (λ (a : Awaited). IsAwaitedKept films inside.source inside.settings inside.counts true new a) (sym none)
+      awaited = subst (λ (a : Awaited). IsAwaitedKept (ground_of inside) true new a) (sym none)
           (awaited_lost (ground_of inside) new);
       stop = stop_kept inside.waits inside.state new c.self.invariant.stop carried;
       receipt_room = omega (arith, c.self.invariant.receipt_room);
@@ -54,7 +53,7 @@ invariant_of-self-2 g c =
     let rest : IsAtRest (standing_of inside) = subst IsAtRest (sym c.self.view_is) c.requires.rest in
     let none : inside.awaited ≡ Nothing = nothing_of inside.awaited rest in
     let going : IsGoing inside.lost inside.state =
-    subst (λ (a : Awaited). IsAwaitedKept films inside.source inside.settings inside.counts inside.lost inside.state a) none
+    subst (λ (a : Awaited). IsAwaitedKept (ground_of inside) inside.lost inside.state a) none
     c.self.invariant.awaited in
     let coming : coming_of awaited ≡ coming_of Nothing = finished_none c.if-replied.self-inside.state awaited finished in
     let receipts : awaited_receipts awaited ≡ 0 = ap (λ (n : Coming). n.receipts) coming in
@@ -73,11 +72,10 @@ invariant_of-self-2 g c =
             films = c.self.invariant.films;
             settings = c.self.invariant.settings;
             id = c.self.invariant.id;
-            state = subst (λ (s : State). IsStateKept films inside.source inside.settings inside.counts s) (sym is)
+            state = subst (λ (s : State). IsStateKept (ground_of inside) s) (sym is)
                 (settled_kept (ground_of inside) new
                 (state_kept (ground_of inside) inside.state new c.self.invariant.state carried));
-            awaited = subst (λ (s : State). IsAwaitedKept films inside.source inside.settings inside.counts
-                inside.lost s awaited) (sym is)
+            awaited = subst (λ (s : State). IsAwaitedKept (ground_of inside) inside.lost s awaited) (sym is)
                 (awaited_settled (ground_of inside) new awaited (record { going = going; carried = carried; even = even })
                 (subst (λ (s : State). HaltsIfDone s awaited) is over));
             stop = subst (λ (s : State). IsStopAnswered s false) (sym is) (stop_settled false new);
