@@ -36,9 +36,11 @@ pub served_fresh : {films : List Stored} {settings : Settings} {words : List ℕ
     {before after : ℕ} {seat next : SeatState} {report : ConnReport} → before ≡ 0 →
     IfSome old (λ told. told ≡ []) → report.words ≡ words →
     HasServedConnection (new_standing films settings words) old new seat next report →
-    KeepsPromise (new_standing films settings words) old new seat next report → (report.end ≡ LinkFault → HasRisen before after) →
+    KeepsPromise (new_standing films settings words) old new seat next report →
+    (report.end ≡ LinkFault → HasRisen before after) →
     HasServedOne films settings (record { faults = after; told = new }) report seat next
-served_fresh {films} {settings} {words} {old} {new} {after} {seat} {next} {report} zero fresh is_words served keeps fault =
+served_fresh {films} {settings} {words} {old} {new} {after} {seat} {next} {report} zero fresh is_words served keeps
+    fault =
     let more = told_after served in
     let told : HasServedConnection (new_standing films settings words) (fresh_told new) new seat next report =
     subst (λ t. HasServedConnection (new_standing films settings words) t new seat next report)
@@ -84,11 +86,14 @@ pub told_one : {films : List Stored} {settings : Settings} {taken new : Option C
     (reports : List ConnReport) → AreTold films settings mid reports old between → TakenBack mid taken new returned →
     more ≡ reports ++ report ∷ [] → HasServedOne films settings returned report between next →
     AreTold films settings new more old next
-told_one {films} {settings} {taken} {new} {between} {next} {more} {returned} {mid = None} old reports are back items one =
+told_one {films} {settings} {taken} {new} {between} {next} {more} {returned} {mid = None} old reports are back items
+    one =
     subst (λ c. AreTold films settings c more old next)
     (sym (back.returns ∙ ap (option_map (after_return returned)) back.takes)) tt
-told_one {films} {settings} {taken} {new} {between} {next} {more} {returned} {mid = Some mid} old reports are back items one =
-    subst (λ c. AreTold films settings c more old next) (sym (back.returns ∙ ap (option_map (after_return returned)) back.takes))
+told_one {films} {settings} {taken} {new} {between} {next} {more} {returned} {mid = Some mid} old reports are back
+    items one =
+    subst (λ c. AreTold films settings c more old next)
+    (sym (back.returns ∙ ap (option_map (after_return returned)) back.takes))
     (subst (λ rs. AreServed films settings old (mid.own.back ++ returned ∷ []) rs next) (sym items)
     (served_more old mid.own.back reports are one))
 

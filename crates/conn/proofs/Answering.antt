@@ -85,10 +85,12 @@ lacks_replied {ask} (Offered at_slot note) new lacks answered = absurd answered
 
 either_replied : {old : Standing} {ask : Ask} {asking : Standing} (outcome : Outcome) (new : Standing) →
     AsksOrLacks old ask asking →
-    ChangesState ask old asking → asking.heard ≡ old.heard → IsAskAnswered asking ask outcome new → IsPlayReplied old outcome new
+    ChangesState ask old asking → asking.heard ≡ old.heard → IsAskAnswered asking ask outcome new →
+    IsPlayReplied old outcome new
 either_replied {old} {ask} {asking} outcome new (inl asks) changes heard answered =
     let state = subst (λ a. ChangesState a old asking) asks.command changes in
-    asked_replied asks.play outcome new state.0 heard (subst (λ a. IsAskAnswered asking a outcome new) asks.command answered)
+    asked_replied asks.play outcome new state.0 heard
+    (subst (λ a. IsAskAnswered asking a outcome new) asks.command answered)
 either_replied {ask} {asking} outcome new (inr lacks) changes heard answered =
     lacks_replied outcome new lacks (subst (λ a. IsAskAnswered asking a outcome new) lacks.refused.0 answered)
 

@@ -17,7 +17,8 @@ asked_on {old} {asking} {ask} {arm} {bytes} hears same is answered = record {
   heard = record {
     ask = arm;
     asking = asking;
-    hears = subst (λ (a : Ask). Hears old bytes a asking) is (subst (λ (m : List ℕ). Hears old m ask asking) same hears);
+    hears = subst (λ (a : Ask). Hears old bytes a asking) is
+        (subst (λ (m : List ℕ). Hears old m ask asking) same hears);
     answered = answered.answered;
   };
   noted = answered.noted;

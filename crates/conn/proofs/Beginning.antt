@@ -48,7 +48,8 @@ nothing_sent prepared place start heard later is =
 admitted_is : (state : State) (setup : Setup) (prepared : Prepared) (place start : ℕ) → IsReady setup state →
     admitted_in state (Play prepared) place start ≡ Playing setup (new_play prepared place start)
 admitted_is Init setup prepared place start ready = absurd ready
-admitted_is (Ready own paused) setup prepared place start ready = ap (λ s. Playing s (new_play prepared place start)) ready
+admitted_is (Ready own paused) setup prepared place start ready =
+    ap (λ s. Playing s (new_play prepared place start)) ready
 admitted_is (Playing own play) setup prepared place start ready = absurd ready
 admitted_is (Stopping own stop) setup prepared place start ready = absurd ready
 

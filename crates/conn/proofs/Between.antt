@@ -26,7 +26,8 @@ used_most sizes timing t =
     (λ k l u. cond_le (ltb (due_slot timing k) t) (get_or sizes k 0)) in
     omega (arith, below, sum_by-range-all sizes)
 
--- by the end of any slot of a play, also one after its plan's last, what its plan has through it lies between the curves
+-- by the end of any slot of a play, also one after its plan's last, what its plan has through it
+-- lies between the curves
 pub planned_between : {sizes : List ℕ} {playback : Playback} {run : Run} {plan : List Segment} {slot count : ℕ} →
     IsPlan plan → IsSending sizes playback run plan → count ≡ first_slots plan (slot + 1) →
     IsBetween sizes playback run slot (run.sent + count)
@@ -37,8 +38,18 @@ planned_between {sizes} {playback} {run} {plan} {slot} is_plan sending count_is 
     let slots = low-slots rest timing in
     elim (cases_lt slot (slot_count rest timing)) [
       | inl within ↦ record {
-        above = omega (arith, count_is, good.above slot (omega (arith, slots, within)), low-at-slot rest timing slot within);
-        below = omega (arith, count_is, good.below slot (omega (arith, slots, within)), up-at-slot rest timing slot within);
+        above = omega (
+          arith,
+          count_is,
+          good.above slot (omega (arith, slots, within)),
+          low-at-slot rest timing slot within,
+        );
+        below = omega (
+          arith,
+          count_is,
+          good.below slot (omega (arith, slots, within)),
+          up-at-slot rest timing slot within,
+        );
       }
       | inr past ↦
           let keeps = sending-keeps sizes playback run plan sending in

@@ -99,11 +99,13 @@ full_turn {terms} {journal} {from} {asking} {more} {entries} {new} asked full tw
 
 asked_completed : {old asking : Standing} {outcome : Outcome} {new : Standing}
     (asked : IsPlayAsked old asking) → asking.heard ≡ old.heard →
-    IsAskAnswered asking (AskPlay asked.planned.plan) outcome new → IsPlayReplied old outcome new → IsPlayCompleted old outcome new
+    IsAskAnswered asking (AskPlay asked.planned.plan) outcome new → IsPlayReplied old outcome new →
+    IsPlayCompleted old outcome new
 asked_completed {outcome = Unasked} {new} asked same answered replied = absurd answered
 asked_completed {outcome = Entered placed} {new} asked same answered replied = λ terms journal from legal agree.
     inl (entry_turn asked legal agree.0 (answered.0 ∙ ap (λ h. play_of h asked.planned.plan) same) replied)
-asked_completed {outcome = WasFull more entries live_plays} {new} asked same answered replied = λ terms journal from legal agree.
+asked_completed {outcome = WasFull more entries live_plays} {new} asked same answered replied =
+    λ terms journal from legal agree.
     inl (full_turn asked agree.0 answered.1 replied)
 asked_completed {outcome = Offered at_slot note} {new} asked same answered replied = absurd answered
 
@@ -122,7 +124,8 @@ either_completed : {old : Standing} {ask : Ask} {asking : Standing} {outcome : O
 either_completed {ask} {asking} {outcome} {new} (inl asks) same answered replied =
     asked_completed asks.play same (subst (λ a. IsAskAnswered asking a outcome new) asks.command answered) replied
 either_completed {old} {ask} {asking} {outcome} {new} (inr lacks) same answered replied =
-    lacks_completed old asking outcome new (subst (λ a. IsAskAnswered asking a outcome new) lacks.refused.0 answered) replied
+    lacks_completed old asking outcome new
+    (subst (λ a. IsAskAnswered asking a outcome new) lacks.refused.0 answered) replied
 
 pub play_completed : (old new : Standing) (message : List ℕ) (outcome : Outcome) → CanBePlayed old message →
     HasHeard old message outcome new →

@@ -1,13 +1,9 @@
--- Lemmas on elements, on what was sent, and on a seat, one step after another.
-use Rattle.std.proofs.Common.{◌≡◌, ℕ, List, [], ◌++◌, drop, Ok, refl, ap, sym, ◌∙◌, subst}
-use Rattle.std.proofs.lemmas.List.{append-nil, append_assoc}
-use mathlib.Core.List.{IsPrefix}
-use Rattle.admission.specs.declared.entries.Entry.{Entry}
+-- Lemmas on elements and on what was sent, one step after another.
+use Rattle.std.proofs.Common.{◌≡◌, ℕ, List, ◌++◌, drop, Ok, ap, sym, ◌∙◌, subst}
 use Rattle.interleave.specs.Streams.{AreCut, told_length, told_elements}
 use Rattle.interleave.specs.Elements.{IsFirst}
 use Rattle.interleave.specs.declared.elements.Step.{Step}
 use Rattle.interleave.proofs.Streams.{next_elements}
-use Rattle.station.specs.Seats.{SeatState, IsSameSeat}
 use Rattle.conn.specs.Events.{CutsOn}
 
 pub cuts_none : (input : List ℕ) → CutsOn input input
@@ -32,27 +28,6 @@ cuts_drop {input} {rest} step first length_is dropped = record {
 -- bytes came after those that wait
 pub cuts_same : (old new : List ℕ) → new ≡ old → CutsOn old new
 cuts_same old new same = subst (CutsOn old) (sym same) (cuts_none old)
-
-prefix_on : (a b c : List Entry) → IsPrefix a b → IsPrefix b c → IsPrefix a c
-prefix_on a b c p q = (p.0 ++ q.0, sym (append_assoc a p.0 q.0) ∙ (ap (λ w. w ++ q.0) p.1 ∙ q.1))
-
-prefix_none : (a : List Entry) → IsPrefix a a
-prefix_none a = ([], append-nil a)
-
-pub seat_none : (seat : SeatState) → IsSameSeat seat seat
-seat_none seat =
-    record { id = refl; steps = refl; limit = refl; number = refl; splits = refl; joined = refl; longer = prefix_none seat.seen }
-
-pub seat_on : (a b c : SeatState) → IsSameSeat a b → IsSameSeat b c → IsSameSeat a c
-seat_on a b c first second = record {
-  id = second.id ∙ first.id;
-  steps = second.steps ∙ first.steps;
-  limit = second.limit ∙ first.limit;
-  number = second.number ∙ first.number;
-  splits = second.splits ∙ first.splits;
-  joined = second.joined ∙ first.joined;
-  longer = prefix_on a.seen b.seen c.seen first.longer second.longer;
-}
 
 -- an element of the bytes that wait is dropped
 pub drop_is : {old mid new : List ℕ} (n : ℕ) → new ≡ drop n mid → mid ≡ old → new ≡ drop n old

@@ -9,7 +9,8 @@ stream_is : (worker connection : ℕ) → worker < 2 ^ 32 → connection < 2 ^ 3
 stream_is worker connection small few = omega (arith, small, few)
 
 word_of : (seed : List ℕ) (worker connection place : ℕ) → place < 5
-    → slice_index (words_of seed worker connection) place ≡ block_word 10 (key_of seed) 0 (stream_of worker connection) place
+    → slice_index (words_of seed worker connection) place
+    ≡ block_word 10 (key_of seed) 0 (stream_of worker connection) place
 word_of seed worker connection zero less = refl
 word_of seed worker connection (suc zero) less = refl
 word_of seed worker connection (suc (suc zero)) less = refl
@@ -24,7 +25,8 @@ pub record ConnectionNumbers (worker connection : ℕ) : Type 0 where
 
 pub word_drawn : {worker connection : ℕ} (seed : List ℕ) (place : ℕ) → ConnectionNumbers worker connection →
     place < 5 →
-    slice_index (words_of seed worker connection) place ≡ block_word 10 (key_of seed) 0 (worker * 2 ^ 32 + connection) place
+    slice_index (words_of seed worker connection) place
+    ≡ block_word 10 (key_of seed) 0 (worker * 2 ^ 32 + connection) place
 word_drawn {worker} {connection} seed place numbers less =
     word_of seed worker connection place less
     ∙ ap (λ stream. block_word 10 (key_of seed) 0 stream place)

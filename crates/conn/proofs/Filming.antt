@@ -90,16 +90,20 @@ slot_bytes true false slot p is between_is =
 slot_bytes true true slot p is between_is =
     let due : ℕ = due_by p slot in
     let mid : ℕ = step_end true (at_slot slot p) in
-    let end : step_end false (at_slot slot (after_step true slot p)) ≡ due = ap (λ (q : Pacing). q.sent) (both_steps slot p) in
-    let inside : p.before + p.sent ≤ length (framed_bytes p.pieces) = omega (arith, is.whole, is.most, is.due, is.sent) in
+    let end : step_end false (at_slot slot (after_step true slot p)) ≡ due =
+    ap (λ (q : Pacing). q.sent) (both_steps slot p) in
+    let inside : p.before + p.sent ≤ length (framed_bytes p.pieces) =
+    omega (arith, is.whole, is.most, is.due, is.sent) in
     let next = boundary-from p.pieces (p.before + p.sent) inside in
     let least : p.sent ≤ mid = omega (arith, next.after, is.sent) in
     let most : mid ≤ due = omega arith in
     ap (λ n. plan_bytes p p.sent mid ++ plan_bytes p mid n) end
-    ∙ between-join p.pieces (p.before + p.sent) (p.before + mid) (p.before + due) (omega (arith, least)) (omega (arith, most))
+    ∙ between-join p.pieces (p.before + p.sent) (p.before + mid) (p.before + due) (omega (arith, least))
+    (omega (arith, most))
 
 -- it is a pacing again, and so it is where less of what is due was sent
-sent_upto : (slot sent : ℕ) (p : Pacing) → IsPacing p → sent ≤ due_by p slot → IsPacing (record (at_slot slot p) { sent = sent })
+sent_upto : (slot sent : ℕ) (p : Pacing) → IsPacing p → sent ≤ due_by p slot
+    → IsPacing (record (at_slot slot p) { sent = sent })
 sent_upto slot sent p is most = record {
   plan = is.plan;
   whole = is.whole;
@@ -118,13 +122,15 @@ pub stopped_is : (slot : ℕ) (p : Pacing) → IsPacing p → IsPacing (after_st
 stopped_is slot p is = sent_upto slot (step_end true (at_slot slot p)) p is (omega arith)
 
 -- a play goes on by a slot
-pub sent_slot : {play : Played} {heard slot : ℕ} {film : List ℕ} (waits : Bool) → HasSent play heard film → heard < slot →
+pub sent_slot : {play : Played} {heard slot : ℕ} {film : List ℕ} (waits : Bool) → HasSent play heard film →
+    heard < slot →
     HasSent (record play { pacer = slot_pacing waits slot play.pacer }) slot (film ++ slot_film waits slot play.pacer)
 sent_slot {play} {heard} {slot} {film} waits has later =
     let p = play.pacer in
     let between : Bool = stands_at_boundary (after_step true slot p) in
     let q : slot_pacing waits slot p ≡ sent_through slot p = slot_is waits between slot p has.pacing refl in
-    let bytes : slot_film waits slot p ≡ plan_bytes p p.sent (due_by p slot) = slot_bytes waits between slot p has.pacing refl in
+    let bytes : slot_film waits slot p ≡ plan_bytes p p.sent (due_by p slot) =
+    slot_bytes waits between slot p has.pacing refl in
     let passed : max p.passed (slots_by p slot) ≡ slot + 1 - play.start = omega (arith, has.passed, has.start, later) in
     let due : due_by p slot ≡ first_slots p.plan (max p.passed (slots_by p slot)) =
     omega (
@@ -136,13 +142,17 @@ sent_slot {play} {heard} {slot} {film} waits has later =
     let before : p.sent ≤ due_by p slot = omega (arith, has.pacing.sent) in
     let old : ℕ = heard + 1 - p.start in
     let new : ℕ = slot + 1 - p.start in
-    let old_sent : p.sent ≡ first_slots p.plan old = has.sent ∙ ap (first_slots p.plan) (omega (arith, has.passed, has.start)) in
-    let new_sent : due_by p slot ≡ first_slots p.plan new = due ∙ ap (first_slots p.plan) (omega (arith, passed, has.start)) in
+    let old_sent : p.sent ≡ first_slots p.plan old =
+    has.sent ∙ ap (first_slots p.plan) (omega (arith, has.passed, has.start)) in
+    let new_sent : due_by p slot ≡ first_slots p.plan new =
+    due ∙ ap (first_slots p.plan) (omega (arith, passed, has.start)) in
     let first : film ≡ bytes_between p.pieces p.before (p.before + p.sent) =
     has.film_is ∙ ap (λ n. take n (drop p.before (framed_bytes p.pieces))) (omega (arith, old_sent)) in
     let joined : film ++ slot_film waits slot p ≡ bytes_between p.pieces p.before (p.before + due_by p slot) =
-    ap (λ bs. bs ++ slot_film waits slot p) first ∙ ap (λ bs. bytes_between p.pieces p.before (p.before + p.sent) ++ bs) bytes
-    ∙ between-join p.pieces p.before (p.before + p.sent) (p.before + due_by p slot) (omega arith) (omega (arith, before)) in
+    ap (λ bs. bs ++ slot_film waits slot p) first
+    ∙ ap (λ bs. bytes_between p.pieces p.before (p.before + p.sent) ++ bs) bytes
+    ∙ between-join p.pieces p.before (p.before + p.sent) (p.before + due_by p slot) (omega arith)
+    (omega (arith, before)) in
     let all : film ++ slot_film waits slot p ≡ planned_bytes p slot =
     joined ∙ ap (λ n. take n (drop p.before (framed_bytes p.pieces))) (omega (arith, new_sent)) in
     subst (λ (r : Pacing). HasSent (record play { pacer = r }) slot (film ++ slot_film waits slot p)) (sym q) (record {

@@ -34,7 +34,8 @@ gone_none {old} {new} full mine booking receipts none = record {
   made = [];
   mine_is = mine ∙ sym (append-nil old.mine);
   receipts_are =
-      ap entry_receipts receipts ∙ entry_receipts-append old.receipts full ∙ ap (λ rs. entry_receipts old.receipts ++ rs) none;
+      ap entry_receipts receipts ∙ entry_receipts-append old.receipts full
+      ∙ ap (λ rs. entry_receipts old.receipts ++ rs) none;
   open_is = ap open_play_of (sym booking);
 }
 
@@ -111,7 +112,8 @@ pub record HasEntered (old new : Business) (placed : Placed) : Type 0 where
 -- the calls at the station, each with what it leaves
 pub gone_full : {old new : Business} (entries open_plays : ℕ) → new.mine ≡ old.mine → new.booking ≡ old.booking →
     new.receipts ≡ old.receipts ++ FullReceipt entries open_plays ∷ [] → HasGone old new
-gone_full {new} entries open_plays mine booking receipts = gone_none (FullReceipt entries open_plays ∷ []) mine booking receipts refl
+gone_full {new} entries open_plays mine booking receipts =
+    gone_none (FullReceipt entries open_plays ∷ []) mine booking receipts refl
 
 -- the values of a look's entry in the journal
 pub record LookEntry : Type 0 where
@@ -136,7 +138,8 @@ pub gone_look : {old new : Business} {maker place slot now at booked : ℕ} → 
     HasGone old new
 gone_look {old} {new} {maker} {place} {slot} {now} {at} {booked} same entered =
     gone_one old new _ entered.mine entered.receipts (at_look old.booking
-    (record { maker = maker; place = place; slot = slot; now = now; at = at; booked = booked }) ∙ ap open_play_of (sym same))
+    (record { maker = maker; place = place; slot = slot; now = now; at = at; booked = booked })
+    ∙ ap open_play_of (sym same))
 
 pub gone_overflow : {old new : Business} {maker place slot : ℕ} {plan : List Segment} {over booked asked : ℕ} →
     old.booking ≡ None → new.booking ≡ old.booking →

@@ -1,5 +1,6 @@
--- Through each request a session keeps its films, its settings and what SETUP settled, and a play that it asks for is a sending.
-use Rattle.std.proofs.Common.{◌≡◌, ℕ, List, length, Option, refl, sym, subst, ◌∙◌, inl, inr}
+-- Through each request a session keeps its films, its settings and what SETUP settled, and a play
+-- that it asks for is a sending.
+use Rattle.std.proofs.Common.{◌≡◌, ℕ, List, length, Option, refl, sym, ap, subst, ◌∙◌, inl, inr}
 use Rattle.film_frames.specs.declared.stores.Stored.{Stored}
 use Rattle.film_frames.specs.Runs.{run_pieces}
 use Rattle.film_run.specs.declared.runs.Run.{Run}
@@ -34,28 +35,46 @@ use Rattle.conn.proofs.Grounds.{sending_of_run}
 abbrev pub AreShown : List Stored → Type 0
 AreShown films = (number : ℕ) → OfFilm films number IsShown
 
--- a play of a film's run, of which these bytes were sent
-pub record HasPlay (films : List Stored) (source : Source) (settings : Settings) (counts : Counts) (heard : ℕ)
-    (film : List ℕ) (setup : Setup)
-    (play : Played) : Type 0 where
-  pub stored : Stored
-  pub at : IsFilmAt films setup.film stored
-  pub sending : IsSending (stored_sizes stored) (playback_of stored.film settings setup) play.run play.plan
-  pub pieces : play.pacer.pieces ≡ run_pieces (sending_of stored.film source setup counts play.run)
-  pub sent : HasSent play heard film
+-- what a session's state is told by: its films, source, settings and counts, the heard slot, and
+-- the bytes that were sent of its film
+pub record Ground : Type 0 where
+  pub films : List Stored
+  pub source : Source
+  pub settings : Settings
+  pub counts : Counts
+  pub heard : ℕ
+  pub film : List ℕ
 
-abbrev pub IsStateOf : List Stored → Source → Settings → Counts → ℕ → List ℕ → State → Type 0
-IsStateOf films source settings counts heard film Init = Unit {0}
-IsStateOf films source settings counts heard film (Ready setup paused) = IsSetup (length films) setup
-IsStateOf films source settings counts heard film (Playing setup play) =
-    IsSetup (length films) setup × HasPlay films source settings counts heard film setup play
-IsStateOf films source settings counts heard film (Stopping setup stop) = IsSetup (length films) setup
+abbrev pub ground_of : Standing → List ℕ → Ground
+ground_of s film = record {
+  films = s.films;
+  source = s.source;
+  settings = s.settings;
+  counts = s.counts;
+  heard = s.heard;
+  film = film;
+}
+
+-- a play of a film's run, of which these bytes were sent
+pub record HasPlay (ground : Ground) (setup : Setup) (play : Played) : Type 0 where
+  pub stored : Stored
+  pub at : IsFilmAt ground.films setup.film stored
+  pub sending : IsSending (stored_sizes stored) (playback_of stored.film ground.settings setup) play.run play.plan
+  pub pieces : play.pacer.pieces
+      ≡ run_pieces (sending_of stored.film ground.source setup ground.counts play.run)
+  pub sent : HasSent play ground.heard ground.film
+
+abbrev pub IsStateOf : Ground → State → Type 0
+IsStateOf ground Init = Unit {0}
+IsStateOf ground (Ready setup paused) = IsSetup (length ground.films) setup
+IsStateOf ground (Playing setup play) = IsSetup (length ground.films) setup × HasPlay ground setup play
+IsStateOf ground (Stopping setup stop) = IsSetup (length ground.films) setup
 
 -- a session in a course, with what was sent of its play
 pub record IsWell (s : Standing) (film : List ℕ) : Type 0 where
   pub films : AreShown s.films
   pub settings : AreSettings s.settings
-  pub state : IsStateOf s.films s.source s.settings s.counts s.heard film s.state
+  pub state : IsStateOf (ground_of s film) s.state
 
 -- a play is asked for in Ready
 pub record HasPrepared (films : List Stored) (source : Source) (settings : Settings) (state : State)
@@ -92,31 +111,32 @@ IsAskedWell (AskHalt keep) s film = IsHalting s
 IsAskedWell (AskLook slot) s film = IsWell s film
 IsAskedWell (AskOffer plan offers) s film = IsWell s film
 
-state_carried : (old new : Standing) (film : List ℕ) → IsSameGround old new →
-    IsStateOf old.films old.source old.settings old.counts old.heard film new.state →
-    IsStateOf new.films new.source new.settings new.counts new.heard film new.state
-state_carried old new film same is =
-    subst (λ h. IsStateOf new.films new.source new.settings new.counts h film new.state) (sym same.heard)
-    (subst (λ c. IsStateOf new.films new.source new.settings c old.heard film new.state) (sym same.counts)
-    (subst (λ g. IsStateOf new.films new.source g old.counts old.heard film new.state) (sym same.settings)
-    (subst (λ o. IsStateOf new.films o old.settings old.counts old.heard film new.state) (sym same.source)
-    (subst (λ f. IsStateOf f old.source old.settings old.counts old.heard film new.state) (sym same.films) is))))
+pub ground_same : (old new : Standing) (film : List ℕ) → IsSameGround old new → ground_of old film ≡ ground_of new film
+ground_same old new film same =
+    ap (λ (f : List Stored). record (ground_of old film) { films = f }) (sym same.films)
+    ∙ ap (λ (o : Source). record (ground_of old film) { films = new.films; source = o }) (sym same.source)
+    ∙ ap (λ (g : Settings). record (ground_of new film) { settings = g; counts = old.counts; heard = old.heard })
+    (sym same.settings)
+    ∙ ap (λ (c : Counts). record (ground_of new film) { counts = c; heard = old.heard }) (sym same.counts)
+    ∙ ap (λ (h : ℕ). record (ground_of new film) { heard = h }) (sym same.heard)
 
 -- the same state, in a session with the same films and settings
-carried : (old new : Standing) (film : List ℕ) → IsWell old film → IsSameGround old new → new.state ≡ old.state → IsWell new film
+carried : (old new : Standing) (film : List ℕ) → IsWell old film → IsSameGround old new → new.state ≡ old.state
+    → IsWell new film
 carried old new film well same state = record {
   films = subst AreShown (sym same.films) well.films;
   settings = subst AreSettings (sym same.settings) well.settings;
-  state = state_carried old new film same
-      (subst (IsStateOf old.films old.source old.settings old.counts old.heard film) (sym state) well.state);
+  state = subst (λ g. IsStateOf g new.state) (ground_same old new film same)
+      (subst (IsStateOf (ground_of old film)) (sym state) well.state);
 }
 
 -- a SETUP
-set_up_well : (old new : Standing) (film : List ℕ) → IsWell old film → IsSameGround old new → IsSetUpBy old new → IsWell new film
+set_up_well : (old new : Standing) (film : List ℕ) → IsWell old film → IsSameGround old new → IsSetUpBy old new
+    → IsWell new film
 set_up_well old new film well same is = record {
   films = subst AreShown (sym same.films) well.films;
   settings = subst AreSettings (sym same.settings) well.settings;
-  state = subst (IsStateOf new.films new.source new.settings new.counts new.heard film) (sym is.state)
+  state = subst (IsStateOf (ground_of new film)) (sym is.state)
       (subst (λ (f : List Stored). IsSetup (length f) is.setup) (sym same.films) (is.ranges well.settings));
 }
 
@@ -126,7 +146,7 @@ prepared_well : {old new : Standing} {film : List ℕ} → IsWell old film → I
     HasPrepared new.films new.source new.settings new.state new.awaited
 prepared_well {old} {new} {film} well same state is =
     let values : IsSetup (length old.films) is.setup =
-    subst (IsStateOf old.films old.source old.settings old.counts old.heard film) is.ready well.state in
+    subst (IsStateOf (ground_of old film)) is.ready well.state in
     let planned = is.planned_is in
     let made : HasPrepared old.films old.source old.settings new.state new.awaited = record {
       setup = is.setup;
@@ -146,9 +166,10 @@ prepared_well {old} {new} {film} well same state is =
     (subst (λ f. HasPrepared f old.source old.settings new.state new.awaited) (sym same.films) made))
 
 -- a PAUSE or a TEARDOWN in Playing
-halting_well : (old new : Standing) (film : List ℕ) → IsWell old film → IsSameGround old new → IsHaltAsked old new → IsHalting new
+halting_well : (old new : Standing) (film : List ℕ) → IsWell old film → IsSameGround old new → IsHaltAsked old new
+    → IsHalting new
 halting_well old new film well same is =
-    let was = subst (IsStateOf old.films old.source old.settings old.counts old.heard film) is.was well.state in record {
+    let was = subst (IsStateOf (ground_of old film)) is.was well.state in record {
       films = subst AreShown (sym same.films) well.films;
       settings = subst AreSettings (sym same.settings) well.settings;
       values = subst (IsSetUpIn (length new.films)) (sym is.now)

@@ -23,7 +23,8 @@ use Rattle.conn.specs.Journals.{AgreeWith, IsFullIn, IsOfferedIn, StandsIn, Term
 use Rattle.conn.specs.Turns.{Outcome, Unasked, Entered, WasFull, Offered}
 
 prefix_length : (journal longer : List Entry) → IsPrefix journal longer → length journal ≤ length longer
-prefix_length journal longer prefix = omega (arith, length-append journal prefix.0, ap (λ (xs : List Entry). length xs) prefix.1)
+prefix_length journal longer prefix =
+    omega (arith, length-append journal prefix.0, ap (λ (xs : List Entry). length xs) prefix.1)
 
 -- a journal and its terms, and two places, the first no later than the second
 pub record EarlierPlace : Type 0 where
@@ -88,18 +89,22 @@ full_longer : {limit from more entries live_plays : ℕ} {journal longer : List 
 full_longer {from} {more} {entries} {journal} {longer} prefix full = record {
   after = full.after;
   within = omega (arith, full.within, prefix_length journal longer prefix);
-  open_is = full.open_is ∙ ap (λ (xs : List Entry). open_count xs) (sym (prefix-take journal longer prefix entries full.within));
+  open_is = full.open_is ∙ ap (λ (xs : List Entry). open_count xs)
+      (sym (prefix-take journal longer prefix entries full.within));
   full = full.full;
 }
 
-offered_longer : {steps : List CapacityStep} {from slot : ℕ} {journal longer : List Entry} {note : OfferNote} → IsPrefix journal longer
+offered_longer : {steps : List CapacityStep} {from slot : ℕ} {journal longer : List Entry} {note : OfferNote}
+    → IsPrefix journal longer
     → IsOfferedIn steps journal from slot note → IsOfferedIn steps longer from slot note
 offered_longer {steps} {from} {slot} {journal} {longer} {note} prefix offered =
-    let same : take note.seen longer ≡ take note.seen journal = prefix-take journal longer prefix note.seen offered.within in
+    let same : take note.seen longer ≡ take note.seen journal =
+    prefix-take journal longer prefix note.seen offered.within in
     record {
       after = offered.after;
       within = omega (arith, offered.within, prefix_length journal longer prefix);
-      first_is = offered.first_is ∙ ap (λ (xs : List Entry). start_after (state_after xs) (min slot (2 ^ 62))) (sym same);
+      first_is = offered.first_is ∙ ap (λ (xs : List Entry). start_after (state_after xs) (min slot (2 ^ 62)))
+          (sym same);
       offer = subst (λ (xs : List Entry). IsOffer 0 (booked_after xs) (capacity_at steps) note.plan note.first
           note.offers) (sym same) offered.offer;
     }
@@ -174,7 +179,8 @@ entry_after {seat} {next} {more} {command} {place} {answer} [] kept also number 
     let seen : next.seen ≡ seat.seen = sym longer ∙ append-nil seat.seen in
     let mine : next.mine ≡ seat.mine =
     also.own ∙ ap (λ n. made_by n next.seen) number ∙ ap (made_by seat.number) seen ∙ sym kept.own in
-    let e : Placed = record { place = place; entry = record { maker = seat.number; command = command; answer = answer } } in
+    let e : Placed =
+    record { place = place; entry = record { maker = seat.number; command = command; answer = answer } } in
     let long : length seat.mine ≡ length seat.mine + 1 =
     ap (λ (ps : List Placed). length ps) (sym mine ∙ made.mine) ∙ length-append seat.mine (e ∷ []) in
     absurd (omega (arith, long))
@@ -190,13 +196,15 @@ pub entry_agrees : {seat next : SeatState} {more : ℕ} {command : Command} {pla
     → IsSeat seat → IsSeat next → IsSameSeat seat next
     → HasMade seat next more command place answer → more ≡ entries_needed command
     → AgreeWith (terms_of seat) next.seen (length seat.seen)
-    (Entered (record { place = place; entry = record { maker = seat.number; command = command; answer = answer } }) ∷ [])
+    (Entered
+    (record { place = place; entry = record { maker = seat.number; command = command; answer = answer } }) ∷ [])
 entry_agrees {seat} {next} {more} {command} {place} {answer} kept also same made needed =
     let e : Entry = record { maker = seat.number; command = command; answer = answer } in
     let front : take place next.seen ≡ made.before =
     prefix-take made.before next.seen (e ∷ [], sym made.seen) place (omega (arith, made.place_is))
     ∙ take_whole made.before place made.place_is in
-    let open_is : open_count (take place next.seen) ≡ open_count made.before = ap (λ (xs : List Entry). open_count xs) front in
+    let open_is : open_count (take place next.seen) ≡ open_count made.before =
+    ap (λ (xs : List Entry). open_count xs) front in
     let last = last-place made in (
       record {
         after = entry_after same.longer.0 kept also same.number same.longer.1 made;
@@ -216,13 +224,15 @@ full_agrees {seat} {next} {more} {entries} same full =
       record {
         after = omega (arith, far, full.entries_are);
         within = omega (arith, full.entries_are);
-        open_is = full.open_is ∙ ap (λ (xs : List Entry). open_count xs) (sym (take_whole next.seen entries full.entries_are));
+        open_is = full.open_is ∙ ap (λ (xs : List Entry). open_count xs)
+            (sym (take_whole next.seen entries full.entries_are));
         full = full.full;
       },
       omega (arith, full.entries_are),
     )
 
-pub offer_agrees : {seat next : SeatState} {heard : ℕ} {plan : List Segment} {told : Told} {found : Offers} → IsSameSeat seat next
+pub offer_agrees : {seat next : SeatState} {heard : ℕ} {plan : List Segment} {told : Told} {found : Offers}
+    → IsSameSeat seat next
     → IsOffered next.steps next.seen heard plan told found
     → AgreeWith (terms_of seat) next.seen (length seat.seen)
     (Offered heard (record { seen = told.seen; first = told.first; plan = plan; offers = found }) ∷ [])
@@ -232,7 +242,8 @@ offer_agrees {seat} {next} {heard} {plan} {told} {found} same offered =
       record {
         after = omega (arith, far, offered.seen_is);
         within = omega (arith, offered.seen_is);
-        first_is = offered.first_is ∙ ap (λ (xs : List Entry). start_after (state_after xs) (min heard (2 ^ 62))) (sym whole);
+        first_is = offered.first_is ∙ ap (λ (xs : List Entry). start_after (state_after xs) (min heard (2 ^ 62)))
+            (sym whole);
         offer = subst (λ (xs : List Entry). IsOffer 0 (booked_after xs) (capacity_at seat.steps) plan told.first
             found) (sym whole)
             (subst (λ (steps : List CapacityStep). IsOffer 0 (booked_after next.seen) (capacity_at steps) plan

@@ -2,9 +2,9 @@
 use Rattle.std.proofs.Common.{◌≡◌, ℕ, List, refl, subst, sym}
 use Rattle.session.specs.Standings.{IsAtRest, IsSameBooking, open_of}
 use Rattle.station.specs.Seats.{SeatState}
+use Rattle.station.proofs.SameSeats.{seat_none, seat_on}
 use Rattle.conn.specs.Keeping.{IsHeld, IsQuiet, KeepsBusiness, business}
 use Rattle.conn.specs.declared.connections.Connection.{Connection}
-use Rattle.conn.proofs.Cutting.{seat_none, seat_on}
 use Rattle.conn.proofs.Going.{gone_on, gone_still, held_same}
 
 -- before any call
@@ -35,8 +35,10 @@ kept_moved seat connection input quiet = record {
 }
 
 -- more of a play became due
-pub kept_due : {a b : Connection} (seat : SeatState) → IsQuiet seat.mine a → IsAtRest b.session → b.booking ≡ a.booking →
-    IsSameBooking (open_of a.session) (open_of b.session) → b.session.receipts ≡ a.session.receipts → KeepsBusiness seat seat a b
+pub kept_due : {a b : Connection} (seat : SeatState) → IsQuiet seat.mine a → IsAtRest b.session →
+    b.booking ≡ a.booking →
+    IsSameBooking (open_of a.session) (open_of b.session) → b.session.receipts ≡ a.session.receipts →
+    KeepsBusiness seat seat a b
 kept_due {a} {b} seat quiet rest booking opens receipts = record {
   seat = seat_none seat;
   quiet = record {

@@ -26,19 +26,25 @@ use Rattle.conn.specs.Sights.{HasAnswered}
 -- the station's answers
 pub answered_entry : {old : Standing} {ask : Ask} {new : Standing} {seat next : SeatState} {more : ℕ}
     {command : Command} {place : ℕ} {answer : Answer}
-    → IsSeat seat → IsSeat next → IsSameSeat seat next → HasMade seat next more command place answer → more ≡ entries_needed command
+    → IsSeat seat → IsSeat next → IsSameSeat seat next → HasMade seat next more command place answer
+    → more ≡ entries_needed command
     → IsAskAnswered old ask
     (Entered (record { place = place; entry = record { maker = seat.number; command = command; answer = answer } })) new
     → HasAnswered old ask new seat next
-answered_entry {ask} {new} {seat} {next} {more} {command} {place} {answer} kept also same made needed answered = record {
-  outcome = Entered (record { place = place; entry = record { maker = seat.number; command = command; answer = answer } });
-  answered = answered;
-  noted = record { mine = made.mine; seat = same; agree = entry_agrees kept also same made needed };
-}
+answered_entry {ask} {new} {seat} {next} {more} {command} {place} {answer} kept also same made needed answered =
+    record {
+      outcome = Entered (record {
+        place = place;
+        entry = record { maker = seat.number; command = command; answer = answer };
+      });
+      answered = answered;
+      noted = record { mine = made.mine; seat = same; agree = entry_agrees kept also same made needed };
+    }
 
 pub answered_full : {old : Standing} {ask : Ask} {new : Standing} {seat next : SeatState} {more entries open_plays : ℕ}
     → IsSameSeat seat next
-    → IsFull seat next more entries open_plays → IsAskAnswered old ask (WasFull more entries open_plays) new → HasAnswered old ask new seat next
+    → IsFull seat next more entries open_plays → IsAskAnswered old ask (WasFull more entries open_plays) new
+    → HasAnswered old ask new seat next
 answered_full {ask} {new} {seat} {next} {more} {entries} {open_plays} same full answered = record {
   outcome = WasFull more entries open_plays;
   answered = answered;
@@ -48,7 +54,8 @@ answered_full {ask} {new} {seat} {next} {more} {entries} {open_plays} same full 
 pub answered_offer : {old : Standing} {ask : Ask} {new : Standing} {seat next : SeatState} {heard : ℕ}
     {plan : List Segment} {told : Told} {found : Offers}
     → IsSameSeat seat next → next.mine ≡ seat.mine → IsOffered next.steps next.seen heard plan told found
-    → IsAskAnswered old ask (Offered heard (record { seen = told.seen; first = told.first; plan = plan; offers = found })) new
+    → IsAskAnswered old ask (Offered heard
+    (record { seen = told.seen; first = told.first; plan = plan; offers = found })) new
     → HasAnswered old ask new seat next
 answered_offer {ask} {new} {seat} {next} {heard} {plan} {told} {found} same mine offered answered = record {
   outcome = Offered heard (record { seen = told.seen; first = told.first; plan = plan; offers = found });
@@ -58,7 +65,8 @@ answered_offer {ask} {new} {seat} {next} {heard} {plan} {told} {found} same mine
 
 pub halted_entry : {old : Standing} {keep : ℕ} {new : Standing} {seat next : SeatState} {number place : ℕ}
     → IsSeat seat → IsSeat next → IsSameSeat seat next
-    → HasMade seat next 0 (Halt number keep) place Halted → Halts old place new → HasAnswered old (AskHalt keep) new seat next
+    → HasMade seat next 0 (Halt number keep) place Halted → Halts old place new
+    → HasAnswered old (AskHalt keep) new seat next
 halted_entry {keep} {new} {seat} {next} {number} {place} kept also same made halts = record {
   outcome = Entered
       (record { place = place; entry = record { maker = seat.number; command = Halt number keep; answer = Halted } });

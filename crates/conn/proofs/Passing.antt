@@ -18,7 +18,11 @@ passed_going {slot} {a} {b} is told rest input seat =
       parts = slot_parts a.stage.session slot;
       halt = Unasked;
       input = input;
-      stepped = record { parts_are = refl; finished = subst (λ w. IsFinished w after Unasked b.stage.session) (sym none) is };
+      stepped = record {
+        parts_are = refl;
+        finished = subst (λ w. IsFinished w after Unasked b.stage.session)
+            (sym none) is;
+      };
       sent = slot_sent a.stage.session slot a.told b.told told;
       noted = subst (λ s. AreNoted a.seat s (Unasked ∷ [])) (sym seat) (noted_unasked a.seat);
     }

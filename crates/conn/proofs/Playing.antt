@@ -85,7 +85,8 @@ state_cases : (waits between : Bool) (pacings : SlotPacings) →
     else (if waits
     then (if between then with_pacer pacings.setup pacings.play pacings.both else with_pacer pacings.setup pacings.play
     pacings.front) else with_pacer pacings.setup pacings.play pacings.plain))
-    ≡ with_pacer pacings.setup pacings.play (if waits then (if between then pacings.both else pacings.front) else pacings.plain)
+    ≡ with_pacer pacings.setup pacings.play
+    (if waits then (if between then pacings.both else pacings.front) else pacings.plain)
 state_cases false between pacings = refl
 state_cases true false pacings = refl
 state_cases true true pacings = refl
@@ -262,22 +263,28 @@ answer_left AskReply (Offered at_slot note) is given = absurd given.answered
 answer_left (AskPlay plan) Unasked is given = absurd given.answered
 answer_left {old} {new} (AskPlay plan) (Entered placed) is given =
     play_left old placed placed.entry.answer new is given.answered.1
-answer_left {old} (AskPlay plan) (WasFull more entries open_plays) is given = subst (IsLeft old) (sym given.answered.0) (refl, refl)
+answer_left {old} (AskPlay plan) (WasFull more entries open_plays) is given =
+    subst (IsLeft old) (sym given.answered.0) (refl, refl)
 answer_left (AskPlay plan) (Offered at_slot note) is given = absurd given.answered
-answer_left {old} {new} (AskHalt keep) outcome is given = absurd (no_halt old keep outcome new given.answered given.free)
+answer_left {old} {new} (AskHalt keep) outcome is given =
+    absurd (no_halt old keep outcome new given.answered given.free)
 answer_left (AskLook slot) Unasked is given = absurd given.answered
-answer_left {old} {new} (AskLook slot) (Entered placed) is given = look_left old placed placed.entry.answer new given.answered.1
-answer_left {old} (AskLook slot) (WasFull more entries open_plays) is given = subst (IsLeft old) (sym given.answered.0) (refl, refl)
+answer_left {old} {new} (AskLook slot) (Entered placed) is given =
+    look_left old placed placed.entry.answer new given.answered.1
+answer_left {old} (AskLook slot) (WasFull more entries open_plays) is given =
+    subst (IsLeft old) (sym given.answered.0) (refl, refl)
 answer_left (AskLook slot) (Offered at_slot note) is given = absurd given.answered
 answer_left (AskOffer plan offers) Unasked is given = absurd given.answered
 answer_left (AskOffer plan offers) (Entered placed) is given = absurd given.answered
 answer_left (AskOffer plan offers) (WasFull more entries open_plays) is given = absurd given.answered
-answer_left {old} (AskOffer plan offers) (Offered at_slot note) is given = subst (IsLeft old) (sym given.answered.2) (refl, refl)
+answer_left {old} (AskOffer plan offers) (Offered at_slot note) is given =
+    subst (IsLeft old) (sym given.answered.2) (refl, refl)
 
 left_on : (a b c : Standing) → IsLeft a b → IsLeft b c → IsLeft a c
 left_on a b c first second = (second.0 ∙ first.0, second.1 ∙ first.1)
 
-hears_left : {setup : Setup} {play : Played} (heard : HeardMessage) → heard.old.state ≡ Playing setup play → AsksNoHalt heard.ask →
+hears_left : {setup : Setup} {play : Played} (heard : HeardMessage) → heard.old.state ≡ Playing setup play →
+    AsksNoHalt heard.ask →
     IsLeft heard.old heard.new
 hears_left {setup} {play} heard is free =
     let plays = hears_plays heard setup play is free in (plays.state, plays.heard)
@@ -311,7 +318,8 @@ reply_left false s setup play is = (refl, refl)
 pub taking_left : {setup : Setup} {play : Played} (old new : Stage) (taking : Taking) → Takes old taking new →
     HaveNoHalt (taking_outcomes taking) →
     old.session.state ≡ Playing setup play → IsLeft old.session new.session
-taking_left old new (Passed n) takes free is = subst (λ (s : Stage). IsLeft old.session s.session) (sym takes.2) (refl, refl)
+taking_left old new (Passed n) takes free is =
+    subst (λ (s : Stage). IsLeft old.session s.session) (sym takes.2) (refl, refl)
 taking_left {setup} {play} old new (Answered message outcome parts) takes free is =
     let heard : IsLeft old.session takes.answered = heard_left takes.heard free.0 is in
     subst (λ (s : Stage). IsLeft old.session s.session) (sym takes.new_is)
@@ -373,7 +381,8 @@ pub round_on : {old new : Stage} {round : Round} {setup : Setup} {play : Played}
 round_on {old} {new} {round} {setup} {play} {film} runs free is has =
     let opened = runs.opened in
     let on : HasSentOn setup play opened.session (film ++ film_bytes round.due) =
-    comes_on (record { due = round.due; halt = round.halt; comes = runs.comes }) free.0 (record { state = is; sent = has }) in
+    comes_on (record { due = round.due; halt = round.halt; comes = runs.comes }) free.0
+    (record { state = is; sent = has }) in
     on_left on (takes_left opened new round.takings runs.takes free.1 on.state)
 
 -- a play goes on by events, as long as it isn't halted
@@ -385,9 +394,12 @@ rounds_on {setup} {play} {film} old new [] runs free going =
     (subst (HasSentOn setup play old.session) (sym (append-nil film))
     (as_it_was old.session setup play film going.state going.sent))
 rounds_on {setup} {play} {film} old new (round ∷ rounds) runs free going =
-    let first = round_on runs.1.0 (unhalted_front (round_outcomes round) (rounds_outcomes rounds) free) going.state going.sent in
-    let rest = rounds_on {setup = setup} {play = first.now} {film = film ++ film_bytes round.due} runs.0 new rounds runs.1.2
-    (unhalted_rest (round_outcomes round) (rounds_outcomes rounds) free) (record { state = first.state; sent = first.sent }) in
+    let first = round_on runs.1.0 (unhalted_front (round_outcomes round)
+    (rounds_outcomes rounds) free) going.state going.sent in
+    let rest = rounds_on {setup = setup} {play = first.now} {film = film
+    ++ film_bytes round.due} runs.0 new rounds runs.1.2
+    (unhalted_rest (round_outcomes round) (rounds_outcomes rounds) free)
+    (record { state = first.state; sent = first.sent }) in
     subst (HasSentOn setup play new.session) (append_assoc film (film_bytes round.due) (rounds_film rounds))
     (goes_on first rest)
 

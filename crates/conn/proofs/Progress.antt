@@ -3,10 +3,11 @@ use Rattle.std.proofs.Common.{◌≡◌, ◌+◌, ◌≤◌, List, [], ◌∷◌
 use Rattle.std.proofs.Common.{ap, sym, subst, arith}
 use Rattle.std.specs.Prelude.{IfSome}
 use Rattle.std.proofs.lemmas.List.{length-append}
-use Rattle.vod_base.specs.Gates.{Content, NoMore, Failed, Returned, after_take, after_empty_take}
+use Rattle.vod_base.specs.Gates.{Content, LastTake, NoMore, Failed, Returned, after_take, after_empty_take}
 use Rattle.vod_base.specs.Gates.{after_return}
 use Rattle.vod_base.specs.Outside.{HasRisen}
 use Rattle.station.specs.Seats.{IsSameSeat, SeatState}
+use Rattle.station.proofs.SameSeats.{seat_none, seat_on}
 use Rattle.conn.specs.declared.reports.ConnReport.{ConnReport}
 use Rattle.conn.specs.declared.reports.PartReport.{PartReport}
 use Rattle.conn.specs.declared.reports.PartEnd.TheVariants.{AllTaken, GateFault, NoMemory}
@@ -16,7 +17,6 @@ use Rattle.conn.specs.Parts.{IsUntouched, Outlet}
 use Rattle.conn.specs.Words.{words_of}
 use Rattle.conn.proofs.Agreeing.{told_end, told_first, told_one}
 use Rattle.conn.proofs.Counting.{risen_on}
-use Rattle.conn.proofs.Cutting.{seat_none, seat_on}
 use Rattle.conn.proofs.Workers.{are_more, are_none, has_none, has_one, served_last, served_none}
 use Rattle.conn.proofs.Workers.{served_one, told_last}
 
@@ -68,7 +68,8 @@ one_served {duty} {old_seat} {mid_seat} {new_seat} {old} {mid} {new} {taken} {re
       each = are_more report front.each one.worker one.words items;
       served = subst (IsServed old.told new.told) size (served_one old.told (length reports) front.served
           (record { takes = given; returns = back }));
-      connections = told_one old_seat reports front.connections (record { takes = given; returns = back }) items one.one;
+      connections = told_one old_seat reports front.connections
+          (record { takes = given; returns = back }) items one.one;
       count = omega (arith, front.count, count);
     }
 
@@ -88,28 +89,43 @@ ends_early {new} front is = record {
   failed = λ other. absurd (let no : ⊥ = cc (is, other) in no);
 }
 
--- the last take gave none: there are no more
-pub ends_taken : {duty : Duty} {old_seat new_seat : SeatState} {old mid new : Outlet} {result : PartReport} →
-    HasServedSoFar duty old_seat new_seat old mid result.reports.items →
-    result.end ≡ AllTaken → new.told ≡ option_map (after_empty_take NoMore) mid.told → mid.faults ≤ new.faults
-    → HasServedPart duty old_seat new_seat old new result
-ends_taken {duty} {old_seat} {new_seat} {old} {mid} {new} {result} front is last count = record {
+-- the last take gave none
+took_none : {duty : Duty} {old_seat new_seat : SeatState} {old mid new : Outlet} {reports : List ConnReport}
+    (last : LastTake) → HasServedSoFar duty old_seat new_seat old mid reports →
+    new.told ≡ option_map (after_empty_take last) mid.told → mid.faults ≤ new.faults →
+    HasServedSoFar duty old_seat new_seat old new reports
+took_none {duty} {old_seat} {new_seat} {old} {mid} {reports} last front told count = record {
   seat = front.seat;
   entries = front.entries;
-  reports = front.each;
-  served = served_last old.told mid.told (length result.reports.items) NoMore front.served last;
+  each = front.each;
+  served = served_last old.told mid.told (length reports) last front.served told;
   connections = told_end (record {
     films = duty.films;
     settings = duty.settings;
     old = old_seat;
     next = new_seat;
-    reports = result.reports.items;
-  }) mid.told NoMore front.connections last;
+    reports = reports;
+  }) mid.told last front.connections told;
   count = omega (arith, front.count, count);
-  all = λ same. told_last mid.told new.told NoMore last;
-  fault = λ other. absurd (let no : ⊥ = cc (is, other) in no);
-  failed = λ other. absurd (let no : ⊥ = cc (is, other) in no);
 }
+
+-- there are no more
+pub ends_taken : {duty : Duty} {old_seat new_seat : SeatState} {old mid new : Outlet} {result : PartReport} →
+    HasServedSoFar duty old_seat new_seat old mid result.reports.items →
+    result.end ≡ AllTaken → new.told ≡ option_map (after_empty_take NoMore) mid.told → mid.faults ≤ new.faults
+    → HasServedPart duty old_seat new_seat old new result
+ends_taken {mid} {new} front is last count =
+    let so_far = took_none {new = new} NoMore front last count in record {
+      seat = so_far.seat;
+      entries = so_far.entries;
+      reports = so_far.each;
+      served = so_far.served;
+      connections = so_far.connections;
+      count = so_far.count;
+      all = λ same. told_last mid.told new.told NoMore last;
+      fault = λ other. absurd (let no : ⊥ = cc (is, other) in no);
+      failed = λ other. absurd (let no : ⊥ = cc (is, other) in no);
+    }
 
 -- or it failed
 pub ends_failed : {duty : Duty} {old_seat new_seat : SeatState} {old mid new : Outlet} {result : PartReport} →
@@ -117,20 +133,15 @@ pub ends_failed : {duty : Duty} {old_seat new_seat : SeatState} {old mid new : O
     result.end ≡ GateFault → new.told ≡ option_map (after_empty_take Failed) mid.told →
     mid.faults ≤ new.faults → HasRisen mid.faults new.faults →
     HasServedPart duty old_seat new_seat old new result
-ends_failed {duty} {old_seat} {new_seat} {old} {mid} {new} {result} front is last count risen = record {
-  seat = front.seat;
-  entries = front.entries;
-  reports = front.each;
-  served = served_last old.told mid.told (length result.reports.items) Failed front.served last;
-  connections = told_end (record {
-    films = duty.films;
-    settings = duty.settings;
-    old = old_seat;
-    next = new_seat;
-    reports = result.reports.items;
-  }) mid.told Failed front.connections last;
-  count = omega (arith, front.count, count);
-  all = λ other. absurd (let no : ⊥ = cc (is, other) in no);
-  fault = λ same. risen_on old.faults mid.faults new.faults front.count risen;
-  failed = λ same. told_last mid.told new.told Failed last;
-}
+ends_failed {old} {mid} {new} front is last count risen =
+    let so_far = took_none {new = new} Failed front last count in record {
+      seat = so_far.seat;
+      entries = so_far.entries;
+      reports = so_far.each;
+      served = so_far.served;
+      connections = so_far.connections;
+      count = so_far.count;
+      all = λ other. absurd (let no : ⊥ = cc (is, other) in no);
+      fault = λ same. risen_on old.faults mid.faults new.faults front.count risen;
+      failed = λ same. told_last mid.told new.told Failed last;
+    }

@@ -27,7 +27,7 @@ use Rattle.conn.specs.Films.{HasSent, HasSentOn}
 use Rattle.conn.specs.Plays.{ArePlaysKept, IsKeptIn, IsSentBy, client_of, heard_by}
 use Rattle.conn.specs.Plays.{play_pieces}
 use Rattle.conn.proofs.Between.{planned_between}
-use Rattle.conn.proofs.Hearing.{AreShown, HasPlay, IsStateOf, IsWell}
+use Rattle.conn.proofs.Hearing.{AreShown, HasPlay, IsStateOf, IsWell, ground_of}
 use Rattle.conn.proofs.Playing.{as_it_was, reply_heard}
 use Rattle.conn.proofs.Replying.{film_count}
 use Rattle.conn.proofs.SeatReplies.{refusals_told}
@@ -72,7 +72,7 @@ slot_heard old slot =
 -- what was sent of a play, by the play as it was and as it is now
 sent_by : {old : Standing} {setup : Setup} {play : Played} {film : List ℕ} {new : Standing} {heard : ℕ}
     {more : List ℕ} →
-    HasPlay old.films old.source old.settings old.counts old.heard film setup play →
+    HasPlay (ground_of old film) setup play →
     HasSentOn setup play new more → new.heard ≡ heard →
     (stored : Stored) × IsSentBy old stored setup play heard more
 sent_by {old} {setup} {play} {new} {heard} {more} its on same =
@@ -107,13 +107,15 @@ sent_by {old} {setup} {play} {new} {heard} {more} its on same =
 
 kept_event : {setup : Setup} {play : Played} {film : List ℕ} {old new : Stage} {event : Doing}
     (come : EventCome old event new) →
-    HasPlay old.session.films old.session.source old.session.settings old.session.counts old.session.heard film setup play →
+    HasPlay (ground_of old.session film) setup play →
     old.session.state ≡ Playing setup play →
-    (stored : Stored) × IsSentBy old.session stored setup play (heard_by old.session.heard event) (film ++ film_bytes come.due)
+    (stored : Stored) × IsSentBy old.session stored setup play (heard_by old.session.heard event)
+    (film ++ film_bytes come.due)
 kept_event {setup} {play} {film} {old} {event = HeardBytes bytes} come its is =
     subst (λ ps. (stored : Stored)
     × IsSentBy old.session stored setup play old.session.heard (film ++ film_bytes ps)) (sym come.comes.0)
-    (subst (λ bs. (stored : Stored) × IsSentBy old.session stored setup play old.session.heard bs) (sym (append-nil film))
+    (subst (λ bs. (stored : Stored) × IsSentBy old.session stored setup play old.session.heard bs)
+    (sym (append-nil film))
     (sent_by its (as_it_was old.session setup play film is its.sent) refl))
 kept_event {setup} {play} {film} {old} {event = HeardSlot slot} come its is =
     subst (λ ps. (stored : Stored)
@@ -131,7 +133,7 @@ kept_in {state = Init} come well is = tt
 kept_in {state = Ready setup paused} come well is = tt
 kept_in {state = Playing setup play} {film} {old} come well is =
     let s = old.session in
-    let was = subst (IsStateOf s.films s.source s.settings s.counts s.heard film) is well.state in
+    let was = subst (IsStateOf (ground_of s film)) is well.state in
     kept_event come was.1 is
 kept_in {state = Stopping setup stop} come well is = tt
 
@@ -170,6 +172,7 @@ keeps_promise {session} {old_seat} {new_seat} {report} well none is served =
       booked = record { legal = is.legal; within = never_overbooked new_seat is };
       keeps = record {
         plays = plays_kept session (course.rounds ++ ending_rounds course.ending) well;
-        refusals = refusals_told made parts (record { before = old_seat.mine; after = after; seat_is = is; mine_is = mine }) told;
+        refusals = refusals_told made parts
+            (record { before = old_seat.mine; after = after; seat_is = is; mine_is = mine }) told;
       };
     })

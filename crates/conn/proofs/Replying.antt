@@ -52,7 +52,8 @@ sent_place play heard film has =
 -- a pacing that stands at a boundary
 pub boundary_here : (p : Pacing) → IsPacing p → stands_at_boundary p ≡ true → IsBoundary p.pieces (p.before + p.sent)
 boundary_here p is stands =
-    let inside : p.before + p.sent ≤ length (framed_bytes p.pieces) = omega (arith, is.whole, is.most, is.due, is.sent) in
+    let inside : p.before + p.sent ≤ length (framed_bytes p.pieces) =
+    omega (arith, is.whole, is.most, is.due, is.sent) in
     let next = boundary-from p.pieces (p.before + p.sent) inside in
     let same : next_boundary p ≡ p.sent = eqb-true (next_boundary p) p.sent stands in
     subst (IsBoundary p.pieces) (omega (arith, same, next.after)) next.boundary
@@ -63,11 +64,13 @@ stopped_place : (slot : ℕ) (p : Pacing) → IsPacing p
     ≡ p.before + (after_step true slot p).sent
 stopped_place slot p is =
     let mid : ℕ = step_end true (at_slot slot p) in
-    let inside : p.before + p.sent ≤ length (framed_bytes p.pieces) = omega (arith, is.whole, is.most, is.due, is.sent) in
+    let inside : p.before + p.sent ≤ length (framed_bytes p.pieces) =
+    omega (arith, is.whole, is.most, is.due, is.sent) in
     let next = boundary-from p.pieces (p.before + p.sent) inside in
     let least : p.sent ≤ mid = omega (arith, next.after, is.sent) in
     let now = stopped_is slot p is in
-    let most : p.before + mid ≤ length (framed_bytes p.pieces) = omega (arith, now.whole, now.most, now.due, now.sent) in
+    let most : p.before + mid ≤ length (framed_bytes p.pieces) =
+    omega (arith, now.whole, now.most, now.due, now.sent) in
     omega (arith, least, between-length p.pieces (p.before + p.sent) (p.before + mid) (omega (arith, least)) most)
 
 stand-append : (pieces : List (List ℕ)) (place : ℕ) (xs ys : List Part) → StandBetween pieces place xs →
@@ -88,8 +91,10 @@ slot_stands {between} false place bytes text stands = tt
 slot_stands {between = false} true place bytes text stands = tt
 slot_stands {between = true} true place bytes text stands = (stands refl, tt)
 
-due_stand : {setup : Setup} {play : Played} {film : List ℕ} (session : Standing) (slot : ℕ) → session.state ≡ Playing setup play →
-    HasSent play session.heard film → StandBetween play.pacer.pieces (play.pacer.before + length film) (due_parts session slot)
+due_stand : {setup : Setup} {play : Played} {film : List ℕ} (session : Standing) (slot : ℕ) →
+    session.state ≡ Playing setup play →
+    HasSent play session.heard film → StandBetween play.pacer.pieces (play.pacer.before + length film)
+    (due_parts session slot)
 due_stand {setup} {play} {film} session slot is has =
     let p = play.pacer in
     let State' : State → Type 0 =
@@ -126,8 +131,10 @@ comes_stand {event = HeardEnd} come going = absurd come.comes
 comes_stand {event = Sent byte} come going = absurd come.comes
 
 -- a reply's part
-reply_stands : (session : Standing) (setup : Setup) (play : Played) (film : List ℕ) → session.state ≡ Playing setup play →
-    HasSent play session.heard film → StandBetween play.pacer.pieces (play.pacer.before + length film) (reply_parts session)
+reply_stands : (session : Standing) (setup : Setup) (play : Played) (film : List ℕ) →
+    session.state ≡ Playing setup play →
+    HasSent play session.heard film → StandBetween play.pacer.pieces (play.pacer.before + length film)
+    (reply_parts session)
 reply_stands session setup play film is has =
     none_stand (can_reply session) play.pacer.pieces (play.pacer.before + length film) (Text session.text ∷ [])
     (λ can. (
@@ -147,7 +154,8 @@ film_bytes-append (Film bytes ∷ xs) ys =
     ap (λ bs. bytes ++ bs) (film_bytes-append xs ys) ∙ sym (append_assoc bytes (film_bytes xs) (film_bytes ys))
 film_bytes-append (Text text ∷ xs) ys = film_bytes-append xs ys
 
-pub takings_film : (old new : Stage) (takings : List Taking) → TakesAll old takings new → film_bytes (takings_parts takings) ≡ []
+pub takings_film : (old new : Stage) (takings : List Taking) → TakesAll old takings new
+    → film_bytes (takings_parts takings) ≡ []
 takings_film old new [] takes = refl
 takings_film old new (Passed n ∷ takings) takes = takings_film takes.0 new takings takes.1.1
 takings_film old new (Answered message outcome parts ∷ takings) takes =
@@ -175,7 +183,8 @@ takes_stand {setup} {play} {film} old new (Answered message outcome parts ∷ ta
     ap film_bytes takes.1.0.parts_are ∙ no_film (can_reply takes.1.0.answered) takes.1.0.answered.text in
     let reply : StandBetween play.pacer.pieces place parts =
     subst (StandBetween play.pacer.pieces place) (sym takes.1.0.parts_are)
-    (reply_stands takes.1.0.answered setup play film (heard.0 ∙ is) (subst (λ h. HasSent play h film) (sym heard.1) has)) in
+    (reply_stands takes.1.0.answered setup play film (heard.0 ∙ is)
+    (subst (λ h. HasSent play h film) (sym heard.1) has)) in
     let rest : StandBetween play.pacer.pieces place (takings_parts takings) =
     takes_stand takes.0 new takings takes.1.1 free.1
     (record { state = left.0 ∙ is; sent = subst (λ h. HasSent play h film) (sym left.1) has }) in
@@ -200,7 +209,8 @@ round_stands {old} {new} {round} {play} {film} runs free is has =
     subst (λ ps. StandBetween ps (on.now.pacer.before + length (film ++ film_bytes round.due))
     (takings_parts round.takings)) on.pieces rest in
     stand-append play.pacer.pieces (play.pacer.before + length film) round.due (takings_parts round.takings)
-    (comes_stand (record { due = round.due; halt = round.halt; comes = runs.comes }) (record { state = is; sent = has }))
+    (comes_stand (record { due = round.due; halt = round.halt; comes = runs.comes })
+    (record { state = is; sent = has }))
     (subst (λ n. StandBetween play.pacer.pieces n (takings_parts round.takings))
     (omega (arith, on.before, length-append film (film_bytes round.due))) same)
 
@@ -215,7 +225,8 @@ rounds_stand {setup} {play} {film} old new (round ∷ rounds) runs free going =
     let more : List ℕ = film ++ film_bytes round.due in
     let rest : StandBetween on.now.pacer.pieces (on.now.pacer.before + length more) (rounds_parts rounds) =
     rounds_stand {setup = setup} {play = on.now} {film = more} runs.0 new rounds runs.1.2
-    (unhalted_rest (round_outcomes round) (rounds_outcomes rounds) free) (record { state = on.state; sent = on.sent }) in
+    (unhalted_rest (round_outcomes round) (rounds_outcomes rounds) free)
+    (record { state = on.state; sent = on.sent }) in
     let same : StandBetween play.pacer.pieces (on.now.pacer.before + length more) (rounds_parts rounds) =
     subst (λ ps. StandBetween ps (on.now.pacer.before + length more) (rounds_parts rounds)) on.pieces rest in
     let film_is : length (film_bytes (round_parts round)) ≡ length (film_bytes round.due) =
@@ -229,7 +240,8 @@ rounds_stand {setup} {play} {film} old new (round ∷ rounds) runs free going =
 
 -- from a play's beginning on
 pub replies_stand : (s : Stretch) → GoesOn s →
-    StandBetween s.play.pacer.pieces (s.play.pacer.before + length s.film) (takings_parts s.takings ++ rounds_parts s.rounds)
+    StandBetween s.play.pacer.pieces (s.play.pacer.before + length s.film)
+    (takings_parts s.takings ++ rounds_parts s.rounds)
 replies_stand s on =
     let first = unhalted_front (takings_outcomes s.takings) (rounds_outcomes s.rounds) on.unhalted in
     let after = unhalted_rest (takings_outcomes s.takings) (rounds_outcomes s.rounds) on.unhalted in

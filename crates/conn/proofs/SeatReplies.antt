@@ -55,7 +55,8 @@ overflow_stands : {command : Command} {slot booked asked : ℕ} (steps : List Ca
     IsAnswer steps before command (Overflow slot booked asked) →
     (heard : ℕ) ×
     ((plan : List Segment)
-    × ((command ≡ Play heard plan) × IsFirstOverflow 0 (booked_in before) (capacity_at steps) (start_after before heard) plan
+    × ((command ≡ Play heard plan) × IsFirstOverflow 0 (booked_in before) (capacity_at steps)
+    (start_after before heard) plan
     (record { slot = slot; booked = booked; asked = asked })))
 overflow_stands {command = Play heard plan} {slot} steps before is = (heard, (plan, (refl, is)))
 overflow_stands {command = Halt number keep} {slot} steps before is = absurd is
@@ -64,7 +65,8 @@ overflow_stands {command = Look at} {slot} steps before is = absurd is
 overflow_seen : (seat : SeatState) (text : List ℕ) → IsSeat seat → TellsOver seat.mine text → TellsOverflowOf seat text
 overflow_seen seat text is told =
     let entry : Entry = told.placed.entry in
-    let own : Contains (made_by seat.number seat.seen) told.placed = subst (λ ps. Contains ps told.placed) is.own told.made in
+    let own : Contains (made_by seat.number seat.seen) told.placed =
+    subst (λ ps. Contains ps told.placed) is.own told.made in
     let at = All-contains (IsAt 0 seat.number entry seat.seen) (made_by seat.number seat.seen) told.placed
     (all-at 0 seat.number entry seat.seen) own in
     let place : ℕ = at.at in

@@ -1,46 +1,39 @@
 -- Lemmas on the course of a connection, one doing after another.
 use Rattle.std.specs.Prelude.{⊤}
-use Rattle.std.proofs.Common.{◌≡◌, ℕ, ◌+◌, ◌<◌, ◌≤◌, ◌^◌, ◌&&◌, Bool, true, false, if◌then◌else◌, List}
-use Rattle.std.proofs.Common.{[], ◌∷◌, ◌++◌, length, take, drop, Option, Some, None, Ok, Err, refl}
-use Rattle.std.proofs.Common.{ap, sym, ◌∙◌, subst, inl, inr, arith}
-use Rattle.std.proofs.lemmas.List.{append-nil, append_assoc, map-append, length-append}
-use Rattle.std.proofs.lemmas.List.{length-take-le}
+use Rattle.std.proofs.Common.{◌≡◌, ℕ, ◌+◌, ◌<◌, ◌≤◌, ◌^◌, ◌&&◌, Bool, true, false, if◌then◌else◌, List, [], ◌∷◌, ◌++◌}
+use Rattle.std.proofs.Common.{length, take, drop, Option, Some, None, Ok, Err, refl, ap, sym, ◌∙◌, subst, inl, inr}
+use Rattle.std.proofs.Common.{arith}
+use Rattle.std.proofs.lemmas.List.{append-nil, append_assoc, map-append, length-append, length-take-le}
 use Rattle.interleave.specs.Elements.{IsFirst}
 use Rattle.interleave.specs.declared.elements.Step.TheVariants.{Message}
 use Rattle.interleave.specs.declared.elements.DemuxFault.{DemuxFault}
 use Rattle.interleave.specs.declared.elements.DemuxFault.TheVariants.{HeadTooLong as LongHead}
 use Rattle.interleave.specs.declared.elements.DemuxFault.TheVariants.{BodyTooLong as LongBody}
-use Rattle.vod_base.specs.Links.{Doing, IsFrontTold, Sent, HeardBytes, HeardSlot, sends}
-use Rattle.vod_base.specs.Links.{told_more}
+use Rattle.vod_base.specs.Links.{Doing, IsFrontTold, Sent, HeardBytes, HeardSlot, sends, told_more}
 use Rattle.vod_base.proofs.Telling.{told_more-append, told_more-nil}
 use Rattle.vod_base.specs.declared.links.Heard.{Heard}
 use Rattle.vod_base.specs.declared.links.Heard.TheVariants.{Bytes, Slot, End}
 use Rattle.station.specs.Seats.{SeatState}
+use Rattle.station.proofs.SameSeats.{seat_none, seat_on}
 use Rattle.conn.specs.declared.reports.ConnEnd.{ConnEnd}
-use Rattle.conn.specs.declared.reports.ConnEnd.TheVariants.{Ended, TornDown, LinkFault, TooMuchInput}
-use Rattle.conn.specs.declared.reports.ConnEnd.TheVariants.{HeadTooLong, BodyTooLong, EventsSpent}
-use Rattle.conn.specs.declared.reports.ConnEnd.TheVariants.{NoMemory}
-use Rattle.session.specs.Sendings.{IsTold, can_reply, due_bytes, is_between, is_sending, is_taken}
-use Rattle.session.specs.Sendings.{step_bytes, stepped_in}
+use Rattle.conn.specs.declared.reports.ConnEnd.TheVariants.{Ended, TornDown, LinkFault, TooMuchInput, HeadTooLong}
+use Rattle.conn.specs.declared.reports.ConnEnd.TheVariants.{BodyTooLong, EventsSpent, NoMemory}
+use Rattle.session.specs.Sendings.{IsTold, can_reply, due_bytes, is_between, is_sending, is_taken, step_bytes}
+use Rattle.session.specs.Sendings.{stepped_in}
 use Rattle.session.specs.Standings.{Standing}
 use Rattle.conn.specs.declared.connections.Connection.{Connection}
 use Rattle.conn.specs.Events.{HasTakenEvent, IsEndOf, IsTakenUp, IsWaiting}
 use Rattle.conn.specs.Journals.{AgreeWith, terms_of}
-use Rattle.conn.proofs.Cutting.{seat_none, seat_on}
 use Rattle.conn.proofs.Journals.{agree_then, terms_same}
-use Rattle.conn.specs.Turns.{Outcome, Unasked, Part, Film, Text, Stage}
-use Rattle.conn.specs.Turns.{Taking, Passed, Answered, IsNext}
-use Rattle.conn.specs.Turns.{IsPassed, Takes, TakesAll, after_reply, due_parts, entry_in}
-use Rattle.conn.specs.Turns.{parts_bytes, reply_parts, slot_parts, stage}
-use Rattle.conn.specs.Rounds.{Comes, Ends, Unheard, Overfull, AtElement, InSlot, InReply}
-use Rattle.conn.specs.Rounds.{IsIdle, IsStopped, IsUnheard, Round, Runs, RunsAll, ending_bytes}
-use Rattle.conn.specs.Rounds.{ending_doings, ending_events, ending_outcomes, entries_in}
-use Rattle.conn.specs.Rounds.{round_bytes}
-use Rattle.conn.specs.Rounds.{round_outcomes, rounds_doings, rounds_outcomes, taking_bytes}
-use Rattle.conn.specs.Rounds.{taking_outcomes, takings_bytes, takings_outcomes}
-use Rattle.conn.specs.Sights.{AreNoted, HasAsked, HasBroken, HasComeTo}
-use Rattle.conn.specs.Sights.{HasCourse, HasEnded, HasLost, HasPassed, HasRound, HasRun, HasTaken}
-use Rattle.conn.specs.Sights.{HasTakenUp, IsSent, Sight}
+use Rattle.conn.specs.Turns.{Outcome, Unasked, Part, Film, Text, Stage, Taking, Passed, Answered, IsNext, IsPassed}
+use Rattle.conn.specs.Turns.{Takes, TakesAll, after_reply, due_parts, entry_in, parts_bytes, reply_parts, slot_parts}
+use Rattle.conn.specs.Turns.{stage}
+use Rattle.conn.specs.Rounds.{Comes, Ends, Unheard, Overfull, AtElement, InSlot, InReply, IsIdle, IsStopped}
+use Rattle.conn.specs.Rounds.{IsUnheard, Round, Runs, RunsAll, ending_bytes, ending_doings, ending_events}
+use Rattle.conn.specs.Rounds.{ending_outcomes, entries_in, round_bytes, round_outcomes, rounds_doings}
+use Rattle.conn.specs.Rounds.{rounds_outcomes, taking_bytes, taking_outcomes, takings_bytes, takings_outcomes}
+use Rattle.conn.specs.Sights.{AreNoted, HasAsked, HasBroken, HasComeTo, HasCourse, HasEnded, HasLost, HasPassed}
+use Rattle.conn.specs.Sights.{HasRound, HasRun, HasTaken, HasTakenUp, IsSent, Sight}
 use Rattle.conn.proofs.Occasions.{RequestInFront}
 
 -- what the link tells
@@ -57,7 +50,8 @@ sent_on {c} a xs ys first second =
 pub entries_in-append : (xs ys : List Outcome) → entries_in (xs ++ ys) ≡ entries_in xs ++ entries_in ys
 entries_in-append [] ys = refl
 entries_in-append (x ∷ xs) ys =
-    ap (λ es. entry_in x ++ es) (entries_in-append xs ys) ∙ sym (append_assoc (entry_in x) (entries_in xs) (entries_in ys))
+    ap (λ es. entry_in x ++ es) (entries_in-append xs ys)
+    ∙ sym (append_assoc (entry_in x) (entries_in xs) (entries_in ys))
 
 pub noted_none : (seat : SeatState) → AreNoted seat seat []
 noted_none seat = record { mine = sym (append-nil seat.mine); seat = seat_none seat; agree = omega arith }
@@ -71,7 +65,8 @@ noted_on {a} {b} {c} {xs} {ys} first second = record {
       ∙ ap (λ es. a.mine ++ es) (sym (entries_in-append xs ys));
   seat = seat_on a b c first.seat second.seat;
   agree = agree_then
-      (record { terms = terms_of a; journal = b.seen; longer = c.seen; prefix = second.seat.longer }) (length a.seen) xs ys
+      (record { terms = terms_of a; journal = b.seen; longer = c.seen; prefix = second.seat.longer })
+      (length a.seen) xs ys
       first.agree (subst (λ terms. AgreeWith terms c.seen (length b.seen) ys) (terms_same a b first.seat) second.agree);
 }
 
@@ -94,7 +89,8 @@ takings_bytes-append (x ∷ xs) ys =
     ap (λ bs. taking_bytes x ++ bs) (takings_bytes-append xs ys)
     ∙ sym (append_assoc (taking_bytes x) (takings_bytes xs) (takings_bytes ys))
 
-takings_outcomes-append : (xs ys : List Taking) → takings_outcomes (xs ++ ys) ≡ takings_outcomes xs ++ takings_outcomes ys
+takings_outcomes-append : (xs ys : List Taking)
+    → takings_outcomes (xs ++ ys) ≡ takings_outcomes xs ++ takings_outcomes ys
 takings_outcomes-append [] ys = refl
 takings_outcomes-append (x ∷ xs) ys =
     ap (λ os. taking_outcomes x ++ os) (takings_outcomes-append xs ys)
@@ -103,7 +99,8 @@ takings_outcomes-append (x ∷ xs) ys =
 pub taken_none : (a : Sight) → HasTaken a a
 taken_none a = record { takings = []; takes = refl; sent = sent_none a.told; noted = noted_none a.seat }
 
-pub taken_one : (a b : Sight) (taking : Taking) → Takes a.stage taking b.stage → IsSent a.told (taking_bytes taking) b.told →
+pub taken_one : (a b : Sight) (taking : Taking) → Takes a.stage taking b.stage →
+    IsSent a.told (taking_bytes taking) b.told →
     AreNoted a.seat b.seat (taking_outcomes taking) → HasTaken a b
 taken_one a b taking takes sent noted = record {
   takings = taking ∷ [];
@@ -116,7 +113,8 @@ pub taken_on : (a b c : Sight) → HasTaken a b → HasTaken b c → HasTaken a 
 taken_on a b c first second = record {
   takings = first.takings ++ second.takings;
   takes = takes_on a.stage
-      (record { old = b.stage; new = c.stage; takings = second.takings; takes = second.takes }) first.takings first.takes;
+      (record { old = b.stage; new = c.stage; takings = second.takings; takes = second.takes }) first.takings
+      first.takes;
   sent = subst (λ bs. IsSent a.told bs c.told) (sym (takings_bytes-append first.takings second.takings))
       (sent_on a.told (takings_bytes first.takings) (takings_bytes second.takings) first.sent second.sent);
   noted = subst (λ os. AreNoted a.seat c.seat os) (sym (takings_outcomes-append first.takings second.takings))
@@ -314,7 +312,8 @@ heard_sent : {b c : Option (List Doing)} (a : Option (List Doing)) (event : Doin
 heard_sent {c} a event bytes heard sent =
     sent ∙ ap (λ t. told_more t (sends bytes)) heard ∙ told_more-append a (event ∷ []) (sends bytes)
 
-pub run_on : {count : ℕ} {event : Doing} {a b heard c : Sight} → HasRun count a b → heard.stage ≡ b.stage → heard.seat ≡ b.seat →
+pub run_on : {count : ℕ} {event : Doing} {a b heard c : Sight} → HasRun count a b → heard.stage ≡ b.stage →
+    heard.seat ≡ b.seat →
     heard.told ≡ told_more b.told (event ∷ []) → HasRound event heard c → HasRun (count + 1) a c
 run_on {a} {b} {heard} {c} run stage_is seat_is told_is next =
     let round = next.round in
@@ -338,7 +337,8 @@ run_on {a} {b} {heard} {c} run stage_is seat_is told_is next =
 -- and it was the last
 pub run_end : {count : ℕ} {event : Doing} {end : ConnEnd} {a b heard c : Sight} → HasRun count a b →
     heard.stage ≡ b.stage → heard.seat ≡ b.seat →
-    heard.told ≡ told_more b.told (event ∷ []) → count < 2 ^ 40 → HasEnded (event ∷ []) end count heard c → HasCourse end a c
+    heard.told ≡ told_more b.told (event ∷ []) → count < 2 ^ 40 → HasEnded (event ∷ []) end count heard c →
+    HasCourse end a c
 run_end {count} {event} {end} {a} {b} {c} run stage_is seat_is told_is more last =
     let ending = last.ending in
     let one : length (ending_events ending) ≡ 1 = ap (λ (es : List Doing). length es) last.event_is in record {
@@ -368,7 +368,8 @@ few_heard HeadTooLong count is = absurd is
 few_heard BodyTooLong count is = absurd is
 few_heard NoMemory count is = absurd is
 
-pub run_over : {count : ℕ} {end : ConnEnd} {a b c : Sight} → HasRun count a b → IsUnheard end count → c ≡ b → HasCourse end a c
+pub run_over : {count : ℕ} {end : ConnEnd} {a b c : Sight} → HasRun count a b → IsUnheard end count → c ≡ b
+    → HasCourse end a c
 run_over {count} {end} {a} {b} {c} run unheard is =
     subst (λ s. HasCourse end a s) (sym is) (record {
       rounds = run.rounds;
@@ -407,16 +408,20 @@ told_if {new} true parts old is told = told ∙ ap (λ bs. told_more old (sends 
 told_if {new} false parts old is told = told ∙ sym (told_more-nil old)
 
 pub slot_sent : (session : Standing) (slot : ℕ) (old new : Option (List Doing)) →
-    IsTold (is_taken session slot && is_sending session.state) old (due_bytes session.waits session.state session.text slot) new →
+    IsTold (is_taken session slot && is_sending session.state) old
+    (due_bytes session.waits session.state session.text slot) new →
     IsSent old (parts_bytes (slot_parts session slot)) new
 slot_sent session slot old new told =
     told_if (is_taken session slot && is_sending session.state) (due_parts session slot) old
     (due_is session.waits (is_between (stepped_in true slot session.state)) (step_bytes true slot session.state)
-    (step_bytes false slot session.state) (step_bytes false slot (stepped_in true slot session.state)) session.text) told
+    (step_bytes false slot session.state)
+    (step_bytes false slot (stepped_in true slot session.state)) session.text) told
 
-pub reply_sent : (session : Standing) (old new : Option (List Doing)) → IsTold (can_reply session) old session.text new →
+pub reply_sent : (session : Standing) (old new : Option (List Doing)) →
+    IsTold (can_reply session) old session.text new →
     IsSent old (parts_bytes (reply_parts session)) new
-reply_sent session old new told = told_if (can_reply session) (Text session.text ∷ []) old (append-nil session.text) told
+reply_sent session old new told = told_if (can_reply session) (Text session.text ∷ []) old
+    (append-nil session.text) told
 
 -- the element in front was passed over
 pub taken_passed : (a b : Sight) (n : ℕ) → IsPassed a.stage.input n → a.stage.session.torn ≡ false →

@@ -1,9 +1,12 @@
 -- When the turns of a connection are spent.
 use Rattle.std.proofs.Common.{◌≡◌, ℕ, ◌+◌, ◌^◌, ◌≤◌, length, refl, arith}
 use Rattle.conn.specs.declared.reports.ConnEnd.{ConnEnd}
-use Rattle.conn.specs.declared.reports.ConnEnd.TheVariants.{Ended, TornDown, LinkFault, TooMuchInput, HeadTooLong, BodyTooLong, EventsSpent, NoMemory}
+use Rattle.conn.specs.declared.reports.ConnEnd.TheVariants.{Ended, TornDown, LinkFault}
+use Rattle.conn.specs.declared.reports.ConnEnd.TheVariants.{TooMuchInput, HeadTooLong, BodyTooLong}
+use Rattle.conn.specs.declared.reports.ConnEnd.TheVariants.{EventsSpent, NoMemory}
 use Rattle.conn.specs.Endings.{events_heard}
-use Rattle.conn.specs.Rounds.{AtElement, Ending, Ends, InReply, InSlot, IsUnheard, Overfull, PeerEnded, Unheard, ending_events}
+use Rattle.conn.specs.Rounds.{AtElement, Ending, Ends, InReply, InSlot, IsUnheard, Overfull}
+use Rattle.conn.specs.Rounds.{PeerEnded, Unheard, ending_events}
 use Rattle.conn.specs.Sights.{HasCourse, Sight}
 use Rattle.conn.specs.Turns.{Stage}
 
@@ -16,7 +19,8 @@ spent_at old new count (AtElement round) ends = absurd ends.1
 spent_at old new count (InSlot slot front) ends = absurd (let no : ⊥ = cc (ends.0) in no)
 spent_at old new count (InReply round message outcome front) ends = absurd (let no : ⊥ = cc (ends.0) in no)
 
-pub events_spent : (old new : Sight) (course : HasCourse EventsSpent old new) → events_heard EventsSpent old new course ≡ 2 ^ 40
+pub events_spent : (old new : Sight) (course : HasCourse EventsSpent old new)
+    → events_heard EventsSpent old new course ≡ 2 ^ 40
 events_spent old new course = spent_at course.mid new.stage (length course.rounds) course.ending course.ends
 
 -- no event ends a connection after the last
@@ -44,5 +48,6 @@ pub all_heard : (end : ConnEnd) (old new : Sight) (course : HasCourse end old ne
 all_heard end old new course all =
     all_at course.mid new.stage course.ending course.ends course.few all
 
-pub few_heard : (end : ConnEnd) (old new : Sight) (course : HasCourse end old new) → events_heard end old new course ≤ 2 ^ 40
+pub few_heard : (end : ConnEnd) (old new : Sight) (course : HasCourse end old new)
+    → events_heard end old new course ≤ 2 ^ 40
 few_heard end old new course = course.few

@@ -48,8 +48,8 @@ use Rattle.conn.specs.Rounds.{Round, Runs, RunsAll}
 use Rattle.conn.specs.Films.{HasSent, HasSentOn, IsReady}
 use Rattle.conn.specs.Plays.{film_in, film_since, film_taken}
 use Rattle.conn.proofs.Beginning.{play_begins}
-use Rattle.conn.proofs.Hearing.{AreShown, HasPlay, IsAskedWell, IsHalting, IsSetUpIn, IsStateOf}
-use Rattle.conn.proofs.Hearing.{IsWell, hears_well}
+use Rattle.conn.proofs.Hearing.{AreShown, Ground, HasPlay, IsAskedWell, IsHalting, IsSetUpIn}
+use Rattle.conn.proofs.Hearing.{IsStateOf, IsWell, ground_of, ground_same, hears_well}
 use Rattle.conn.proofs.Playing.{as_it_was, later_slot, reply_state, slot_cases, taken_slot}
 use Rattle.conn.proofs.Replying.{no_film}
 use Rattle.conn.proofs.Occasions.{EventCome}
@@ -64,10 +64,11 @@ admitted_well {old} {start} {new} placed plan well answered =
     let playing = subst (λ (s : Standing). IsPlayIn s.state) answered.1 answered.2 in
     let ready : IsReady asked.setup old.state = subst (IsReady asked.setup) (sym asked.state_is) refl in
     let begun = play_begins old placed (answered.0, refl, playing) ready asked.awaited_is in
-    let counts : counts_of old.awaited old.counts ≡ asked.prepared.counts = ap (λ a. counts_of a old.counts) asked.awaited_is in
+    let counts : counts_of old.awaited old.counts ≡ asked.prepared.counts =
+    ap (λ a. counts_of a old.counts) asked.awaited_is in
     let run = begun.run in
-    let play : HasPlay old.films old.source old.settings (counts_of old.awaited old.counts) old.heard []
-    asked.setup begun.play = record {
+    let ground : Ground = record (ground_of old []) { counts = counts_of old.awaited old.counts } in
+    let play : HasPlay ground asked.setup begun.play = record {
       stored = asked.stored;
       at = asked.at;
       sending = subst (λ (r : Run). IsSending (stored_sizes asked.stored)
@@ -76,15 +77,16 @@ admitted_well {old} {start} {new} placed plan well answered =
           (playback_of asked.stored.film old.settings asked.setup) asked.prepared.run p)
           (sym begun.plan) asked.sending);
       pieces = begun.pieces ∙ ap run_pieces asked.frames
-          ∙ ap (λ (r : Run). run_pieces (sending_of asked.stored.film old.source asked.setup asked.prepared.counts r)) (sym run)
-          ∙ ap (λ (c : Counts). run_pieces (sending_of asked.stored.film old.source asked.setup c begun.play.run)) (sym counts);
+          ∙ ap (λ (r : Run). run_pieces (sending_of asked.stored.film old.source asked.setup asked.prepared.counts r))
+          (sym run)
+          ∙ ap (λ (c : Counts). run_pieces (sending_of asked.stored.film old.source asked.setup c begun.play.run))
+          (sym counts);
       sent = begun.sent;
     } in
     subst (λ s. IsWell s []) (sym answered.1) (record {
       films = well.0.films;
       settings = well.0.settings;
-      state = subst (IsStateOf old.films old.source old.settings (counts_of old.awaited old.counts) old.heard
-          []) (sym begun.state) (asked.values, play);
+      state = subst (IsStateOf ground) (sym begun.state) (asked.values, play);
     })
 
 play_answered : {old new : Standing} {film : List ℕ} (placed : Placed) (answer : Answer) (plan : List Segment) →
@@ -92,7 +94,8 @@ play_answered : {old new : Standing} {film : List ℕ} (placed : Placed) (answer
     → IsWell new (if is_admission answer then [] else film)
 play_answered {new} placed (Admitted start) plan well answered = admitted_well placed plan well answered
 play_answered {new} {film} placed (Overflow slot booked asked) plan well answered =
-    subst (λ s. IsWell s film) (sym answered) (record { films = well.0.films; settings = well.0.settings; state = well.0.state })
+    subst (λ s. IsWell s film) (sym answered)
+    (record { films = well.0.films; settings = well.0.settings; state = well.0.state })
 play_answered {new} placed Halted plan well answered = absurd answered
 play_answered {new} placed (Looked now at booked) plan well answered = absurd answered
 
@@ -102,37 +105,18 @@ look_answered {new} placed (Admitted start) well answered = absurd answered
 look_answered {new} placed (Overflow slot booked asked) well answered = absurd answered
 look_answered {new} placed Halted well answered = absurd answered
 look_answered {new} {film} placed (Looked now at booked) well answered =
-    subst (λ s. IsWell s film) (sym answered) (record { films = well.films; settings = well.settings; state = well.state })
-
--- what a session's state is told by: its films, source, settings and counts, the heard slot, and
--- the bytes that were sent of its film
-pub record Ground : Type 0 where
-  pub films : List Stored
-  pub source : Source
-  pub settings : Settings
-  pub counts : Counts
-  pub heard : ℕ
-  pub film : List ℕ
-
-abbrev ground_of : Standing → List ℕ → Ground
-ground_of s film = record {
-  films = s.films;
-  source = s.source;
-  settings = s.settings;
-  counts = s.counts;
-  heard = s.heard;
-  film = film;
-}
+    subst (λ s. IsWell s film) (sym answered)
+    (record { films = well.films; settings = well.settings; state = well.state })
 
 -- after a halt no play goes on
 next_values : {setup : Setup} (ground : Ground) (play : Played) (next : Next) → IsSetup (length ground.films) setup →
-    IsStateOf ground.films ground.source ground.settings ground.counts ground.heard ground.film (state_once_halted setup play next)
+    IsStateOf ground (state_once_halted setup play next)
 next_values ground play Done values = values
 next_values ground play (Paused run) values = values
 next_values ground play Torn values = values
 
 halted_values : (ground : Ground) (state : State) (awaited : Awaited) → IsSetUpIn (length ground.films) state →
-    IsStateOf ground.films ground.source ground.settings ground.counts ground.heard ground.film (halted_in state awaited)
+    IsStateOf ground (halted_in state awaited)
 halted_values ground Init awaited values = tt
 halted_values ground (Ready setup paused) awaited values = values
 halted_values ground (Playing setup play) awaited values =
@@ -153,7 +137,7 @@ halted_well {new} keep (WasFull more entries open_plays) well halted = absurd ha
 halted_well {new} keep (Offered at_slot note) well halted = absurd halted
 
 values_in : (ground : Ground) (state : State) →
-    IsStateOf ground.films ground.source ground.settings ground.counts ground.heard ground.film state →
+    IsStateOf ground state →
     IsSetUpIn (length ground.films) state
 values_in ground Init is = tt
 values_in ground (Ready setup paused) is = is
@@ -168,7 +152,8 @@ halting_of s film well = record {
 }
 
 -- the station's answers
-answered_well : {new : Standing} (old : Standing) (ask : Ask) (outcome : Outcome) (film : List ℕ) → IsAskedWell ask old film →
+answered_well : {new : Standing} (old : Standing) (ask : Ask) (outcome : Outcome) (film : List ℕ) →
+    IsAskedWell ask old film →
     IsAskAnswered old ask outcome new → IsWell new (film_since film outcome)
 answered_well {new} old AskReply Unasked film well answered = subst (λ s. IsWell s film) (sym answered) well
 answered_well {new} old AskReply (Entered placed) film well answered = absurd answered
@@ -186,29 +171,34 @@ answered_well {new} old (AskLook slot) Unasked film well answered = absurd answe
 answered_well {new} old (AskLook slot) (Entered placed) film well answered =
     look_answered placed placed.entry.answer well answered.1
 answered_well {new} old (AskLook slot) (WasFull more entries open_plays) film well answered =
-    subst (λ s. IsWell s film) (sym answered.0) (record { films = well.films; settings = well.settings; state = well.state })
+    subst (λ s. IsWell s film) (sym answered.0)
+    (record { films = well.films; settings = well.settings; state = well.state })
 answered_well {new} old (AskLook slot) (Offered at_slot note) film well answered = absurd answered
 answered_well {new} old (AskOffer plan offers) Unasked film well answered = absurd answered
 answered_well {new} old (AskOffer plan offers) (Entered placed) film well answered = absurd answered
 answered_well {new} old (AskOffer plan offers) (WasFull more entries open_plays) film well answered = absurd answered
 answered_well {new} old (AskOffer plan offers) (Offered at_slot note) film well answered =
-    subst (λ s. IsWell s film) (sym answered.2) (record { films = well.films; settings = well.settings; state = well.state })
+    subst (λ s. IsWell s film) (sym answered.2)
+    (record { films = well.films; settings = well.settings; state = well.state })
 
-pub heard_well : {old : Standing} {message : List ℕ} {outcome : Outcome} {new : Standing} {film : List ℕ} → IsWell old film →
+pub heard_well : {old : Standing} {message : List ℕ} {outcome : Outcome} {new : Standing} {film : List ℕ} →
+    IsWell old film →
     HasHeard old message outcome new → IsWell new (film_since film outcome)
 heard_well {message} {outcome} {new} {film} well heard =
-    answered_well heard.asking heard.ask outcome film (hears_well heard.asking message heard.ask well heard.hears) heard.answered
+    answered_well heard.asking heard.ask outcome film
+    (hears_well heard.asking message heard.ask well heard.hears) heard.answered
 
 -- a reply that was sent
 settled_well : (ground : Ground) (state : State) →
-    IsStateOf ground.films ground.source ground.settings ground.counts ground.heard ground.film state →
-    IsStateOf ground.films ground.source ground.settings ground.counts ground.heard ground.film (after_stop state)
+    IsStateOf ground state →
+    IsStateOf ground (after_stop state)
 settled_well ground Init is = is
 settled_well ground (Ready setup paused) is = is
 settled_well ground (Playing setup play) is = is
 settled_well ground (Stopping setup stop) is = is
 
-reply_well : (goes : Bool) (s : Standing) (film : List ℕ) → IsWell s film → IsWell (if goes then sent_reply s else s) film
+reply_well : (goes : Bool) (s : Standing) (film : List ℕ) → IsWell s film
+    → IsWell (if goes then sent_reply s else s) film
 reply_well false s film well = well
 reply_well true s film well = record {
   films = well.films;
@@ -223,13 +213,15 @@ taking_well old new (Passed n) film takes well = subst (λ (s : Stage). IsWell s
 taking_well old new (Answered message outcome parts) film takes well =
     let since : List ℕ = film_since film outcome in
     let heard : IsWell takes.answered since = heard_well well takes.heard in
-    let after : IsWell (after_reply takes.answered) since = reply_well (can_reply takes.answered) takes.answered since heard in
+    let after : IsWell (after_reply takes.answered) since =
+    reply_well (can_reply takes.answered) takes.answered since heard in
     let none : film_bytes parts ≡ [] =
     ap film_bytes takes.parts_are ∙ no_film (can_reply takes.answered) takes.answered.text in
     let same : since ≡ since ++ film_bytes parts = sym (append-nil since) ∙ ap (λ bs. since ++ bs) (sym none) in
     subst (IsWell new.session) same (subst (λ (s : Stage). IsWell s.session since) (sym takes.new_is) after)
 
-pub takes_well : (old new : Stage) (takings : List Taking) (film : List ℕ) → TakesAll old takings new → IsWell old.session film →
+pub takes_well : (old new : Stage) (takings : List Taking) (film : List ℕ) → TakesAll old takings new →
+    IsWell old.session film →
     IsWell new.session (film_taken film takings)
 takes_well old new [] film takes well = subst (λ (s : Stage). IsWell s.session film) (sym takes) well
 takes_well old new (Passed n ∷ takings) film takes well =
@@ -245,7 +237,8 @@ record IsSameSession (old new : Standing) : Type 0 where
   settings : new.settings ≡ old.settings
   counts : new.counts ≡ old.counts
 
-sent_ground : (goes : Bool) (old s : Standing) → IsSameSession old s → IsSameSession old (if goes then sent_reply s else s)
+sent_ground : (goes : Bool) (old s : Standing) → IsSameSession old s
+    → IsSameSession old (if goes then sent_reply s else s)
 sent_ground false old s is = is
 sent_ground true old s is = record { films = is.films; source = is.source; settings = is.settings; counts = is.counts }
 
@@ -279,7 +272,7 @@ IsOff films (Playing setup play) = ⊥
 IsOff films (Stopping setup stop) = IsSetup films setup
 
 off_state : (ground : Ground) (state : State) → IsOff (length ground.films) state →
-    IsStateOf ground.films ground.source ground.settings ground.counts ground.heard ground.film state
+    IsStateOf ground state
 off_state ground Init off = tt
 off_state ground (Ready setup paused) off = off
 off_state ground (Playing setup play) off = absurd off
@@ -290,13 +283,15 @@ off_well : {old new : Standing} {film more : List ℕ} → IsSameSession old new
 off_well {new} {more} same well off = record {
   films = subst AreShown (sym same.films) well.films;
   settings = subst AreSettings (sym same.settings) well.settings;
-  state = off_state (ground_of new more) new.state (subst (λ (f : List Stored). IsOff (length f) new.state) (sym same.films) off);
+  state = off_state (ground_of new more) new.state
+      (subst (λ (f : List Stored). IsOff (length f) new.state) (sym same.films) off);
 }
 
 -- the rest of a play that was halted
 rest_off : {films : ℕ} {setup : Setup} (waits between : Bool) (both one plain : Stop) → IsSetup films setup →
     IsOff films (if waits && between
-    then after_stop (if waits then (if between then Stopping setup both else Stopping setup one) else Stopping setup plain)
+    then after_stop
+    (if waits then (if between then Stopping setup both else Stopping setup one) else Stopping setup plain)
     else (if waits then (if between then Stopping setup both else Stopping setup one) else Stopping setup plain))
 rest_off false between both one plain values = values
 rest_off true false both one plain values = values
@@ -310,7 +305,8 @@ sent_off {films} {stop} old slot is values =
     let both : Stop = record stop { pacer = after_step false slot (after_step true slot p) } in
     let one : Stop = record stop { pacer = after_step true slot p } in
     let plain : Stop = record stop { pacer = after_step false slot p } in
-    subst (IsOff films) (sym (reply_state (old.waits && is_between (stepped_in true slot old.state)) (sent_due old slot)))
+    subst (IsOff films) (sym (reply_state (old.waits && is_between (stepped_in true slot old.state))
+    (sent_due old slot)))
     (subst (λ st. IsOff films
     (if old.waits
     && is_between (stepped_in true slot st) then after_stop (due_state old.waits st slot) else due_state
@@ -337,9 +333,10 @@ play_on : {old new : Standing} {setup : Setup} {play : Played} {film more : List
     IsWell old film → old.state ≡ Playing setup play →
     HasSentOn setup play new more → IsWell new more
 play_on {old} {new} {setup} {play} {film} {more} same well is on =
-    let was = subst (IsStateOf old.films old.source old.settings old.counts old.heard film) is well.state in
+    let was = subst (IsStateOf (ground_of old film)) is well.state in
     let stored = was.1.stored in
-    let its : HasPlay old.films old.source old.settings old.counts new.heard more setup on.now = record {
+    let passed : Standing = record old { heard = new.heard } in
+    let its : HasPlay (ground_of passed more) setup on.now = record {
       stored = stored;
       at = was.1.at;
       sending = subst (λ (r : Run). IsSending (stored_sizes stored) (playback_of stored.film old.settings setup)
@@ -352,12 +349,14 @@ play_on {old} {new} {setup} {play} {film} {more} same well is on =
     } in record {
       films = subst AreShown (sym same.films) well.films;
       settings = subst AreSettings (sym same.settings) well.settings;
-      state = subst (IsStateOf new.films new.source new.settings new.counts new.heard more) (sym on.state)
-          (subst (λ c. IsStateOf new.films new.source new.settings c new.heard more (Playing setup on.now)) (sym same.counts)
-          (subst (λ g. IsStateOf new.films new.source g old.counts new.heard more (Playing setup on.now)) (sym same.settings)
-          (subst (λ o. IsStateOf new.films o old.settings old.counts new.heard more (Playing setup on.now)) (sym same.source)
-          (subst (λ f. IsStateOf f old.source old.settings old.counts new.heard more (Playing setup on.now))
-          (sym same.films) (was.0, its)))));
+      state = subst (IsStateOf (ground_of new more)) (sym on.state)
+          (subst (λ g. IsStateOf g (Playing setup on.now)) (ground_same passed new more (record {
+            films = same.films;
+            settings = same.settings;
+            source = same.source;
+            counts = same.counts;
+            heard = refl;
+          })) (was.0, its));
     }
 
 slot_state : (state : State) (old : Standing) (slot : ℕ) (film : List ℕ) → old.state ≡ state → IsWell old film →
@@ -367,16 +366,16 @@ slot_state Init old slot film is well =
     (slot_off (length old.films) old slot (subst (IsOff (length old.films)) (sym is) tt)
     (λ sends. absurd (true≢false (sym sends ∙ ap is_sending is))))
 slot_state (Ready setup paused) old slot film is well =
-    let values = subst (IsStateOf old.films old.source old.settings old.counts old.heard film) is well.state in
+    let values = subst (IsStateOf (ground_of old film)) is well.state in
     off_well (slot_ground old slot) well
     (slot_off (length old.films) old slot (subst (IsOff (length old.films)) (sym is) values)
     (λ sends. absurd (true≢false (sym sends ∙ ap is_sending is))))
 slot_state (Playing setup play) old slot film is well =
-    let was = subst (IsStateOf old.films old.source old.settings old.counts old.heard film) is well.state in
+    let was = subst (IsStateOf (ground_of old film)) is well.state in
     play_on (slot_ground old slot) well is
     (slot_play old slot is was.1.sent)
 slot_state (Stopping setup stop) old slot film is well =
-    let values = subst (IsStateOf old.films old.source old.settings old.counts old.heard film) is well.state in
+    let values = subst (IsStateOf (ground_of old film)) is well.state in
     off_well (slot_ground old slot) well
     (slot_off (length old.films) old slot (subst (IsOff (length old.films)) (sym is) values)
     (λ sends. sent_off old slot is values))
@@ -414,7 +413,8 @@ round_well old new round film well runs =
     takes_well runs.opened new round.takings (film ++ film_bytes round.due) runs.takes
     (comes_well (record { due = round.due; halt = round.halt; comes = runs.comes }) well)
 
-pub rounds_well : (old new : Stage) (rounds : List Round) (film : List ℕ) → IsWell old.session film → RunsAll old rounds new →
+pub rounds_well : (old new : Stage) (rounds : List Round) (film : List ℕ) → IsWell old.session film →
+    RunsAll old rounds new →
     IsWell new.session (film_in film rounds)
 rounds_well old new [] film well runs = subst (λ (s : Stage). IsWell s.session film) (sym runs) well
 rounds_well old new (round ∷ rounds) film well runs =

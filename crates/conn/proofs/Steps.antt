@@ -1,6 +1,6 @@
 -- Lemmas that the proofs of several functions name together.
+use Rattle.station.proofs.SameSeats.{seat_none}
 use Rattle.conn.proofs.Counting.{counted_end, counted_fault, counted_on, counted_same}
-use Rattle.conn.proofs.Cutting.{seat_none}
 use Rattle.conn.proofs.Going.{gone_on, gone_still, held_none, held_same}
 use Rattle.conn.proofs.Keeping.{kept_none, kept_on}
 

@@ -78,7 +78,10 @@ abbrev pub AreTold : List Outcome → List Part → Type 0
 AreTold made parts = AreRepliesTold (entries_in made) made parts
 
 told_plain : (made : List Outcome) (text : List ℕ) → IsNoRefusal text → IsTold made text
-told_plain made text plain = record { overflow = λ is. absurd (plain.no_overflow is); full = λ is. absurd (plain.not_full is) }
+told_plain made text plain = record {
+  overflow = λ is. absurd (plain.no_overflow is);
+  full = λ is. absurd (plain.not_full is);
+}
 
 -- its entry is among others too
 pub over_among : (mine more : List Placed) (text : List ℕ) (its : TellsOver mine text) → Contains more its.placed
@@ -190,7 +193,8 @@ look_told made old placed (Looked now at booked) new answered =
     subst (IsTold (made ++ Entered placed ∷ [])) (sym (ap (λ (s : Standing). s.text) answered))
     (told_plain (made ++ Entered placed ∷ []) _ (ok_plain _ _ _))
 
-full_told : {new : Standing} (made : List Outcome) (old : Standing) (more entries open_plays : ℕ) → new ≡ after_full old entries open_plays →
+full_told : {new : Standing} (made : List Outcome) (old : Standing) (more entries open_plays : ℕ) →
+    new ≡ after_full old entries open_plays →
     IsTold (made ++ WasFull more entries open_plays ∷ []) new.text
 full_told {new} made old more entries open_plays is =
     subst (IsTold (made ++ WasFull more entries open_plays ∷ [])) (sym (ap (λ (s : Standing). s.text) is))
@@ -220,7 +224,8 @@ answered_told made AskReply (Offered at_slot note) given = absurd given.answered
 answered_told made (AskPlay plan) Unasked given = absurd given.answered
 answered_told {old} made (AskPlay plan) (Entered placed) given =
     play_told {old = old} made given.plain (record { answer_is = refl; answered = given.answered.1 })
-answered_told {old} made (AskPlay plan) (WasFull more entries open_plays) given = full_told made old more entries open_plays given.answered.0
+answered_told {old} made (AskPlay plan) (WasFull more entries open_plays) given =
+    full_told made old more entries open_plays given.answered.0
 answered_told made (AskPlay plan) (Offered at_slot note) given = absurd given.answered
 answered_told {old} {new} made (AskHalt keep) outcome given =
     subst (IsTold (made ++ outcome ∷ [])) (sym (halted_text old keep outcome new given.answered))
@@ -228,7 +233,8 @@ answered_told {old} {new} made (AskHalt keep) outcome given =
 answered_told made (AskLook slot) Unasked given = absurd given.answered
 answered_told {old} {new} made (AskLook slot) (Entered placed) given =
     look_told made old placed placed.entry.answer new given.answered.1
-answered_told {old} made (AskLook slot) (WasFull more entries open_plays) given = full_told made old more entries open_plays given.answered.0
+answered_told {old} made (AskLook slot) (WasFull more entries open_plays) given =
+    full_told made old more entries open_plays given.answered.0
 answered_told made (AskLook slot) (Offered at_slot note) given = absurd given.answered
 answered_told made (AskOffer plan offers) Unasked given = absurd given.answered
 answered_told made (AskOffer plan offers) (Entered placed) given = absurd given.answered
@@ -284,7 +290,8 @@ takings_tell made old new [] told takes =
     tells_same made (made ++ []) new.session [] (sym (append-nil made))
     (record { waiting = subst (λ (s : Stage). IsTold made s.session.text) (sym takes) told; sent = tt })
 takings_tell made old new (Passed n ∷ takings) told takes =
-    takings_tell made takes.0 new takings (subst (λ (s : Stage). IsTold made s.session.text) (sym takes.1.0.2) told) takes.1.1
+    takings_tell made takes.0 new takings
+    (subst (λ (s : Stage). IsTold made s.session.text) (sym takes.1.0.2) told) takes.1.1
 takings_tell made old new (Answered message outcome parts ∷ takings) told takes =
     let first = taking_tells made takes.1.0 in
     let rest = takings_tell (made ++ outcome ∷ []) takes.0 new takings first.waiting takes.1.1 in
@@ -301,7 +308,8 @@ takings_tell made old new (Answered message outcome parts ∷ takings) told take
 -- a slot leaves the reply, and sends it or not
 slot_text_cases : (taken sending : Bool) (standings : SlotStandings) →
     standings.sending.text ≡ standings.before.text → standings.still.text ≡ standings.before.text →
-    (if taken then (if sending then standings.sending else standings.still) else standings.before).text ≡ standings.before.text
+    (if taken then (if sending then standings.sending else standings.still) else standings.before).text
+    ≡ standings.before.text
 slot_text_cases false sending standings one other = refl
 slot_text_cases true false standings one other = other
 slot_text_cases true true standings one other = one
@@ -313,14 +321,16 @@ slot_text old slot =
     (reply_text_is (old.waits && is_between (stepped_in true slot old.state)) (sent_due old slot)) refl
 
 due_told : {made : List Outcome} {text : List ℕ} (sends waits between : Bool) (bytes : SlotBytes) → IsTold made text →
-    AreTold made (if sends then (if waits then Film bytes.before ∷ (if between then Text text ∷ Film bytes.rest ∷ [] else []) else
+    AreTold made (if sends then (if waits then Film bytes.before ∷
+    (if between then Text text ∷ Film bytes.rest ∷ [] else []) else
     Film bytes.plain ∷ []) else [])
 due_told {made} {text} false waits between bytes told = tt
 due_told {made} {text} true false between bytes told = tt
 due_told {made} {text} true true false bytes told = tt
 due_told {made} {text} true true true bytes told = (told, tt)
 
-slot_tells : (made : List Outcome) (old : Standing) (slot : ℕ) → IsTold made old.text → AreTold made (slot_parts old slot)
+slot_tells : (made : List Outcome) (old : Standing) (slot : ℕ) → IsTold made old.text
+    → AreTold made (slot_parts old slot)
 slot_tells made old slot told =
     due_told (is_taken old slot && is_sending old.state) old.waits (is_between (stepped_in true slot old.state))
     (record { before = _; rest = _; plain = _ }) told
@@ -355,7 +365,8 @@ comes_tells {made} old new HeardEnd halt told comes = absurd comes
 comes_tells {made} old new (Sent byte) halt told comes = absurd comes
 
 -- a round, and rounds
-round_tells : (made : List Outcome) (old new : Stage) (round : Round) → IsTold made old.session.text → Runs old round new →
+round_tells : (made : List Outcome) (old new : Stage) (round : Round) → IsTold made old.session.text →
+    Runs old round new →
     Tells (made ++ round_outcomes round) new.session (round_parts round)
 round_tells made old new round told runs =
     let first = comes_tells old runs.opened round.event round.halt told runs.comes in
@@ -388,7 +399,8 @@ rounds_tell made old new (round ∷ rounds) told runs =
     (round_parts round ++ rounds_parts rounds) all
     (record {
       waiting = rest.waiting;
-      sent = are_both ((made ++ round_outcomes round) ++ rounds_outcomes rounds) (round_parts round) (rounds_parts rounds)
+      sent = are_both ((made ++ round_outcomes round) ++ rounds_outcomes rounds) (round_parts round)
+          (rounds_parts rounds)
           (are_more (made ++ round_outcomes round) (rounds_outcomes rounds) (round_parts round) first.sent) rest.sent;
     })
 
@@ -431,7 +443,8 @@ unfolding digits
 nothing_told = record { overflow = λ is. absurd (no_digits 52 53 51 is); full = λ is. absurd (no_digits 53 48 51 is) }
 
 -- over a whole course
-pub course_tells : {ending : Ending} (old mid : Stage) (rounds : List Round) → old.session.text ≡ [] → RunsAll old rounds mid →
+pub course_tells : {ending : Ending} (old mid : Stage) (rounds : List Round) → old.session.text ≡ [] →
+    RunsAll old rounds mid →
     CourseEnd mid ending
     → AreTold (rounds_outcomes rounds ++ ending_outcomes ending) (rounds_parts (rounds ++ ending_rounds ending))
 course_tells {ending} old mid rounds none runs ended =

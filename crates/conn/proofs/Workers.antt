@@ -35,7 +35,8 @@ gone_whole {next} mine new rested gone = record {
   made = gone.made;
   mine_is = gone.mine_is;
   receipts_are =
-      ap entry_receipts rested.same ∙ gone.receipts_are ∙ ap (λ rs. entry_receipts rs ++ map receipt_for gone.made) rested.none;
+      ap entry_receipts rested.same ∙ gone.receipts_are
+      ∙ ap (λ rs. entry_receipts rs ++ map receipt_for gone.made) rested.none;
   open_is = ap (λ b. open_play_from (open_play_of b) gone.made) (sym rested.closed) ∙ gone.open_is
       ∙ ap open_play_of rested.open_none;
 }
@@ -64,7 +65,8 @@ served_one {taken} {new} {conn} None count served back = back.returns ∙ ap (op
     (back.takes ∙ ap (option_map after_take) served)
 served_one {taken} {new} {mid = None} (Some old) count served back = absurd served
 served_one {taken} {new} {mid = Some mid} {conn} (Some old) count served back =
-    subst (λ c. IsServed (Some old) c (count + 1)) (sym (back.returns ∙ ap (option_map (after_return conn)) back.takes)) (record {
+    subst (λ c. IsServed (Some old) c (count + 1))
+    (sym (back.returns ∙ ap (option_map (after_return conn)) back.takes)) (record {
       openings = served.openings;
       opening = served.opening;
       parts = served.parts;
@@ -112,14 +114,17 @@ has_none mine reports none = record {
   open_is = refl;
 }
 
-pub has_one : {mine mid new : List Placed} {reports more : List ConnReport} (report : ConnReport) → HasServed mine reports mid →
-    HasGone (at_rest mid []) (at_rest new report.receipts.items) → more ≡ reports ++ report ∷ [] → HasServed mine more new
+pub has_one : {mine mid new : List Placed} {reports more : List ConnReport} (report : ConnReport) →
+    HasServed mine reports mid →
+    HasGone (at_rest mid []) (at_rest new report.receipts.items) → more ≡ reports ++ report ∷ [] →
+    HasServed mine more new
 has_one {mine} {new} {reports} {more} report served gone is = record {
   made = served.made ++ gone.made;
   mine_is = gone.mine_is ∙ ap (λ xs. xs ++ gone.made) served.mine_is ∙ append_assoc mine served.made gone.made;
   receipts_are = ap entries_told is ∙ entries_told-append reports (report ∷ [])
       ∙ ap (λ rs. entries_told reports ++ rs) (append-nil (entry_receipts report.receipts.items) ∙ gone.receipts_are)
-      ∙ ap (λ rs. rs ++ map receipt_for gone.made) served.receipts_are ∙ sym (map-append receipt_for served.made gone.made);
+      ∙ ap (λ rs. rs ++ map receipt_for gone.made) served.receipts_are
+      ∙ sym (map-append receipt_for served.made gone.made);
   open_is = fold-append open_play_with Closed served.made gone.made
       ∙ ap (λ play. open_play_from play gone.made) served.open_is ∙ gone.open_is;
 }
@@ -134,7 +139,8 @@ at_end : {report : ConnReport} (P : ConnReport → ℕ → Type 0) (reports : Li
     P (get_or (reports ++ report ∷ []) k none) k
 at_end {report} P reports hold k none within =
     elim (cases_lt k (length reports)) [
-      | inl before ↦ subst (λ r. P r k) (sym (get_or_append_left reports (report ∷ []) none k before)) (hold.each k none before)
+      | inl before ↦ subst (λ r. P r k) (sym (get_or_append_left reports (report ∷ []) none k before))
+          (hold.each k none before)
       | inr after ↦
           let is : length reports ≡ k = omega (arith, after, within, length-append reports (report ∷ [])) in
           subst (λ n. P (get_or (reports ++ report ∷ []) n none) n) is

@@ -1,6 +1,6 @@
 //! A connection as it goes on: its input, its session, and the booking that is open for it.
 
-ghost use Rattle.std.specs.Prelude.{◌≡◌, ◌<◌, ◌≤◌, Ok, false, None, [], drop, take};
+ghost use Rattle.std.specs.Prelude.{◌≡◌, ◌≤◌, Ok, false, None, [], drop, take};
 ghost use Rattle.std.specs.Prelude.{length as list_length, IfOk, IsSome, OnOk, OnErr, Some};
 ghost use Rattle.vod_base.specs.Links.{IsWithin, doing_of};
 ghost use Rattle.interleave.specs.Elements.{IsFirst, IsMessageLength};

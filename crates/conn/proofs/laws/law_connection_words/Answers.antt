@@ -7,8 +7,10 @@ returns-clause-words c = λ seed worker connection place small few less.
 
 pub returns-clause-worker : goal.returns-clause-worker
 returns-clause-worker c = λ worker other connection next a b c d same.
-    worker_apart (record { worker_fits = a; connection_fits = c }) (record { worker_fits = b; connection_fits = d }) same
+    worker_apart (record { worker_fits = a; connection_fits = c })
+    (record { worker_fits = b; connection_fits = d }) same
 
 pub returns-clause-connection : goal.returns-clause-connection
 returns-clause-connection c = λ worker other connection next a b c d same.
-    connection_apart (record { worker_fits = a; connection_fits = c }) (record { worker_fits = b; connection_fits = d }) same
+    connection_apart (record { worker_fits = a; connection_fits = c })
+    (record { worker_fits = b; connection_fits = d }) same

@@ -51,7 +51,8 @@ events-preserved g c =
     let after : Sight = sight c.hear.new.self (g.K.Link.told c.hear.new.link) c.hear.new.seat in
     let told : g.K.Link.told c.next.new.self
     ≡ told_more (g.K.Link.told c.events.link) (doing_of c.in-Ok.heard c.next.new.into ∷ []) = c.in-Ok.ensures.heard in
-    let on = goes_on c.in-Ok.heard (length c.events.connection.input) c.hear.new.self c.in_default-hear.ensures.taken in (
+    let on =
+    goes_on c.in-Ok.heard (length c.events.connection.input) c.hear.new.self c.in_default-hear.ensures.taken in (
       kept_on inv.0 c.hear.ensures.kept,
       on.0,
       on.1,
@@ -83,7 +84,8 @@ returns-in-Some-clause-counted g c =
 
 pub returns-clause-counted : goal.returns-clause-counted
 returns-clause-counted g c =
-    counted_same (Some EventsSpent) (g.K.Link.faults c.args.link.now) (g.K.Link.faults c.events.link) c.events.invariant.4 refl
+    counted_same (Some EventsSpent) (g.K.Link.faults c.args.link.now)
+    (g.K.Link.faults c.events.link) c.events.invariant.4 refl
 
 pub returns-in-Some-clause-kept : goal.returns-in-Some-clause-kept
 returns-in-Some-clause-kept g c =

@@ -1,7 +1,7 @@
 use Rattle.std.proofs.Common.{refl, rules}
 use Rattle.session.specs.Hearings.{new_standing}
+use Rattle.station.proofs.SameSeats.{seat_none, seat_on}
 use Rattle.conn.specs.Keeping.{business}
-use Rattle.conn.proofs.Cutting.{seat_none, seat_on}
 use Rattle.conn.proofs.Going.{gone_on}
 use Rattle.conn.proofs.Promising.{keeps_promise, new_well}
 use Rattle.conn.proofs.Workers.{gone_whole}
@@ -28,7 +28,8 @@ returns-clause-headline g c =
 
 pub returns-clause-seat : goal.returns-clause-seat
 returns-clause-seat g c =
-    seat_on c.args.seat.now c.hear_all-end.new.seat c.close.new.seat c.hear_all-end.ensures.kept.seat c.close.ensures.kept.seat
+    seat_on c.args.seat.now c.hear_all-end.new.seat c.close.new.seat c.hear_all-end.ensures.kept.seat
+    c.close.ensures.kept.seat
 
 pub returns-in_default-clause-seat : goal.returns-in_default-clause-seat
 returns-in_default-clause-seat g c = seat_none c.args.seat.now

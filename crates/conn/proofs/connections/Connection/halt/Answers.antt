@@ -28,4 +28,5 @@ returns-clause-kept g c = record {
 pub returns-clause-answered : goal.returns-clause-answered
 returns-clause-answered g c =
     halted_entry
-    c.holds.ensures.kept c.halt-place.ensures.kept c.halt-place.ensures.same c.halt-place.ensures.made c.hear_halt.ensures.halts
+    c.holds.ensures.kept c.halt-place.ensures.kept c.halt-place.ensures.same c.halt-place.ensures.made
+    c.hear_halt.ensures.halts

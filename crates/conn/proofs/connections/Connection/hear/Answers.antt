@@ -24,10 +24,10 @@ returns-then-is_err-clause-comes g c =
     omega (arith, length-take-le c.in-Bytes.count c.args.bytes.now within, within, c.requires.few) in
     let here : Sight = sight c.args.self.now (g.K.Link.told c.args.link.now) c.args.seat.now in
     subst (λ (h : Heard). HasComeTo (Some TooMuchInput) (doing_of h c.args.bytes.now) here
-    (sight (record { session = c.args.self.now.session; input = c.put.new.self; booking = c.args.self.now.booking })
+    (sight (record c.args.self.now { input = c.put.new.self })
     (g.K.Link.told c.args.link.now) c.args.seat.now)) (sym c.in-Bytes.is)
     (overfull bytes here
-    (sight (record { session = c.args.self.now.session; input = c.put.new.self; booking = c.args.self.now.booking })
+    (sight (record c.args.self.now { input = c.put.new.self })
     (g.K.Link.told c.args.link.now) c.args.seat.now) many
     (waits_for_room c.args.self.now (length bytes) c.law_few_wait.ensures short many c.requires.waiting)
     (ap (λ (i : List ℕ). record {
@@ -51,7 +51,7 @@ returns-else-is_err-clause-comes g c =
     let input : c.put.new.self ≡ c.args.self.now.input ++ bytes = search rules in
     let here : Sight = sight c.args.self.now (g.K.Link.told c.args.link.now) c.args.seat.now in
     let mid : Sight =
-    sight (record { session = c.args.self.now.session; input = c.put.new.self; booking = c.args.self.now.booking })
+    sight (record c.args.self.now { input = c.put.new.self })
     (g.K.Link.told c.args.link.now) c.args.seat.now in
     let after : Sight = sight c.take_up.new.self (g.K.Link.told c.take_up.new.link) c.take_up.new.seat in
     subst (λ (h : Heard). HasComeTo c.take_up.result (doing_of h c.args.bytes.now) here after) (sym c.in-Bytes.is)
@@ -66,9 +66,11 @@ pub returns-else-is_err-2-clause-comes : goal.returns-else-is_err-2-clause-comes
 returns-else-is_err-2-clause-comes g c =
     let here : Sight = sight c.args.self.now (g.K.Link.told c.args.link.now) c.args.seat.now in
     let mid : Sight = sight c.step.new.self (g.K.Link.told c.step.new.link) c.step.new.seat in
-    let after : Sight = sight c.take_up-in-Slot.new.self (g.K.Link.told c.take_up-in-Slot.new.link) c.take_up-in-Slot.new.seat in
+    let after : Sight = sight c.take_up-in-Slot.new.self
+    (g.K.Link.told c.take_up-in-Slot.new.link) c.take_up-in-Slot.new.seat in
     let passed : HasPassed here mid c.in-Slot.slot = search rules in
-    subst (λ (h : Heard). HasComeTo c.take_up-in-Slot.result (doing_of h c.args.bytes.now) here after) (sym c.in-Slot.is)
+    subst (λ (h : Heard). HasComeTo c.take_up-in-Slot.result (doing_of h c.args.bytes.now) here after)
+    (sym c.in-Slot.is)
     (slot_up {a = here} {b = mid} c.take_up-in-Slot.result after passed c.take_up-in-Slot.ensures.up)
 
 pub returns-in-End-clause-kept : goal.returns-in-End-clause-kept
@@ -80,7 +82,7 @@ returns-then-is_err-clause-kept g c = kept_moved c.args.seat.now c.args.self.now
 pub returns-else-is_err-clause-kept : goal.returns-else-is_err-clause-kept
 returns-else-is_err-clause-kept g c =
     kept_after {a = c.args.self.now}
-    {mid = record { session = c.args.self.now.session; input = c.put.new.self; booking = c.args.self.now.booking }}
+    {mid = record c.args.self.now { input = c.put.new.self }}
     refl refl c.take_up.ensures.kept
 
 pub returns-then-is_err-2-clause-kept : goal.returns-then-is_err-2-clause-kept
@@ -91,18 +93,21 @@ returns-else-is_err-2-clause-kept g c = kept_on c.step.ensures.kept c.take_up-in
 
 pub returns-then-is_err-2-clause-cut : goal.returns-then-is_err-2-clause-cut
 returns-then-is_err-2-clause-cut g c =
-    subst (λ (h : Heard). CutsOn (with_heard c.args.self.now.input h c.args.bytes.now) c.step.new.self.input) (sym c.in-Slot.is)
+    subst (λ (h : Heard). CutsOn (with_heard c.args.self.now.input h c.args.bytes.now) c.step.new.self.input)
+    (sym c.in-Slot.is)
     (cuts_same c.args.self.now.input c.step.new.self.input c.step.ensures.input)
 
 pub returns-else-is_err-2-clause-cut : goal.returns-else-is_err-2-clause-cut
 returns-else-is_err-2-clause-cut g c =
     subst (λ (h : Heard). CutsOn (with_heard c.args.self.now.input h c.args.bytes.now)
     c.take_up-in-Slot.new.self.input) (sym c.in-Slot.is)
-    (subst (λ (i : List ℕ). CutsOn i c.take_up-in-Slot.new.self.input) c.step.ensures.input c.take_up-in-Slot.ensures.cut)
+    (subst (λ (i : List ℕ). CutsOn i c.take_up-in-Slot.new.self.input)
+    c.step.ensures.input c.take_up-in-Slot.ensures.cut)
 
 pub returns-then-is_err-2-clause-taken : goal.returns-then-is_err-2-clause-taken
 returns-then-is_err-2-clause-taken g c =
-    subst (λ (h : Heard). HasTakenEvent h (length c.args.self.now.input) (Some LinkFault) c.step.new.self) (sym c.in-Slot.is) tt
+    subst (λ (h : Heard). HasTakenEvent h (length c.args.self.now.input) (Some LinkFault) c.step.new.self)
+    (sym c.in-Slot.is) tt
 
 pub returns-else-is_err-2-clause-taken : goal.returns-else-is_err-2-clause-taken
 returns-else-is_err-2-clause-taken g c =

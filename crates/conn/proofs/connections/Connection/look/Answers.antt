@@ -17,13 +17,15 @@ returns-in-Err-clause-kept g c = record {
   quiet = search rules;
   gone =
       gone_full
-      c.in-Err.full.entries c.in-Err.full.open_plays c.in-Err.ensures.full.mine refl c.hear_full.ensures.handed.receipts;
+      c.in-Err.full.entries c.in-Err.full.open_plays c.in-Err.ensures.full.mine refl
+      c.hear_full.ensures.handed.receipts;
 }
 
 pub returns-in-Ok-clause-answered : goal.returns-in-Ok-clause-answered
 returns-in-Ok-clause-answered g c =
     answered_entry
-    c.holds.ensures.kept c.look.ensures.kept c.look.ensures.same c.in-Ok.ensures.made refl (refl, c.hear_look.ensures.exact)
+    c.holds.ensures.kept c.look.ensures.kept c.look.ensures.same c.in-Ok.ensures.made refl
+    (refl, c.hear_look.ensures.exact)
 
 pub returns-in-Err-clause-answered : goal.returns-in-Err-clause-answered
 returns-in-Err-clause-answered g c =

@@ -24,12 +24,12 @@ returns-in_err-slot-clause-broken g c =
 
 pub returns-in_err-slot-clause-kept : goal.returns-in_err-slot-clause-kept
 returns-in_err-slot-clause-kept g c =
-    kept_due {b = record { session = c.slot.new.self; input = c.args.self.now.input; booking = c.args.self.now.booking }}
+    kept_due {b = record c.args.self.now { session = c.slot.new.self }}
     c.args.seat.now c.requires.quiet c.in_err-slot.ensures.lost refl c.slot.ensures.open c.slot.ensures.receipts
 
 pub returns-in-Going-clause-kept : goal.returns-in-Going-clause-kept
 returns-in-Going-clause-kept g c =
-    kept_due {b = record { session = c.slot.new.self; input = c.args.self.now.input; booking = c.args.self.now.booking }}
+    kept_due {b = record c.args.self.now { session = c.slot.new.self }}
     c.args.seat.now c.requires.quiet
     (subst (λ s. Brings s c.slot.new.self) c.in-Going.is c.in_ok-slot.ensures.brings) refl
     c.slot.ensures.open c.slot.ensures.receipts
@@ -37,17 +37,13 @@ returns-in-Going-clause-kept g c =
 pub returns-in-Finished-clause-kept : goal.returns-in-Finished-clause-kept
 returns-in-Finished-clause-kept g c =
     kept_after {a = c.args.self.now}
-    {mid = record { session = c.slot.new.self; input = c.args.self.now.input; booking = c.args.self.now.booking }}
+    {mid = record c.args.self.now { session = c.slot.new.self }}
     refl c.slot.ensures.receipts c.halt.ensures.kept
 
 pub returns-in-Going-clause-passed : goal.returns-in-Going-clause-passed
 returns-in-Going-clause-passed g c =
     passed_going {a = sight c.args.self.now (g.K.Link.told c.args.link.now) c.args.seat.now}
-    {b = sight (record {
-      session = c.slot.new.self;
-      input = c.args.self.now.input;
-      booking = c.args.self.now.booking;
-    }) (g.K.Link.told c.slot.new.link) c.args.seat.now}
+    {b = sight (record c.args.self.now { session = c.slot.new.self }) (g.K.Link.told c.slot.new.link) c.args.seat.now}
     c.in_ok-slot.ensures.exact c.in_ok-slot.ensures.told
     (subst (λ s. Brings s c.slot.new.self) c.in-Going.is c.in_ok-slot.ensures.brings) refl refl
 

@@ -27,8 +27,11 @@ returns-in-Ok-Message-clause-cut g c =
     subst (λ (i : List ℕ). CutsOn i c.take_whole.new.self.input) c.look.ensures.waiting c.take_whole.ensures.cut
 
 pub returns-in-Ok-More-clause-taken : goal.returns-in-Ok-More-clause-taken
-returns-in-Ok-More-clause-taken g c =
-    (search rules, c.requires.lost, inl (first_is c.in-Ok-More.ensures.first c.look.ensures.waiting c.in-Ok-More.field-0-is))
+returns-in-Ok-More-clause-taken g c = (
+  search rules,
+  c.requires.lost,
+  inl (first_is c.in-Ok-More.ensures.first c.look.ensures.waiting c.in-Ok-More.field-0-is),
+)
 
 pub returns-in-Ok-Message-clause-taken : goal.returns-in-Ok-Message-clause-taken
 returns-in-Ok-Message-clause-taken g c =
@@ -51,7 +54,7 @@ returns-in-Ok-More-clause-takes g c = (
 pub returns-in-Ok-Skip-clause-takes : goal.returns-in-Ok-Skip-clause-takes
 returns-in-Ok-Skip-clause-takes g c =
     taken_passed (sight c.args.self.now (g.K.Link.told c.args.link.now) c.args.seat.now)
-    (sight (record { session = c.args.self.now.session; input = c.drop_front.new.self; booking = c.args.self.now.booking })
+    (sight (record c.args.self.now { input = c.drop_front.new.self })
     (g.K.Link.told c.args.link.now) c.args.seat.now) c.in-Ok-Skip.count
     (inl (first_is c.in-Ok-Skip.ensures.first refl c.in-Ok-Skip.field-0-is)) (search rules)
     (ap (λ (i : List ℕ). record {
@@ -63,11 +66,7 @@ returns-in-Ok-Skip-clause-takes g c =
 pub returns-in-Ok-Block-clause-takes : goal.returns-in-Ok-Block-clause-takes
 returns-in-Ok-Block-clause-takes g c =
     taken_passed (sight c.args.self.now (g.K.Link.told c.args.link.now) c.args.seat.now)
-    (sight (record {
-      session = c.args.self.now.session;
-      input = c.drop_front-in-Ok-Block.new.self;
-      booking = c.args.self.now.booking;
-    })
+    (sight (record c.args.self.now { input = c.drop_front-in-Ok-Block.new.self })
     (g.K.Link.told c.args.link.now) c.args.seat.now) c.in-Ok-Block.count
     (inr (c.in-Ok-Block.field-0-0, first_is c.in-Ok-Block.ensures.first refl c.in-Ok-Block.field-0-is)) (search rules)
     (ap (λ (i : List ℕ). record {
@@ -79,7 +78,7 @@ returns-in-Ok-Block-clause-takes g c =
 pub returns-in-Ok-Message-clause-takes : goal.returns-in-Ok-Message-clause-takes
 returns-in-Ok-Message-clause-takes g c =
     subst (λ (i : List ℕ). TakesNext c.take_whole.result
-    (sight (record { session = c.args.self.now.session; input = i; booking = c.args.self.now.booking })
+    (sight (record c.args.self.now { input = i })
     (g.K.Link.told c.args.link.now) c.args.seat.now)
     (sight c.take_whole.new.self (g.K.Link.told c.take_whole.new.link) c.take_whole.new.seat))
     c.look.ensures.waiting c.take_whole.ensures.takes
@@ -92,7 +91,8 @@ returns-in-Ok-Message-clause-kept g c = record {
 }
 
 pub take_whole-requires-clause-first : goal.take_whole-requires-clause-first
-take_whole-requires-clause-first g c = first_is c.in-Ok-Message.ensures.first c.look.ensures.waiting c.in-Ok-Message.field-0-is
+take_whole-requires-clause-first g c =
+    first_is c.in-Ok-Message.ensures.first c.look.ensures.waiting c.in-Ok-Message.field-0-is
 
 pub returns-in-Err-clause-takes : goal.returns-in-Err-clause-takes
 returns-in-Err-clause-takes g c =
@@ -132,8 +132,9 @@ returns-in-Ok-More-clause-cut g c = cuts_same c.args.self.now.input c.look.new.s
 pub returns-in-Err-clause-taken : goal.returns-in-Err-clause-taken
 returns-in-Err-clause-taken g c =
     fault_ends c.in-Err.fault c.end_of.result
-    (record { session = c.args.self.now.session; input = c.look.new.self; booking = c.args.self.now.booking })
-    c.end_of.ensures (subst (λ (i : List ℕ). IsFirst i (Err c.in-Err.fault)) (sym c.look.ensures.waiting) c.in-Err.ensures.first)
+    (record c.args.self.now { input = c.look.new.self })
+    c.end_of.ensures (subst (λ (i : List ℕ). IsFirst i (Err c.in-Err.fault))
+    (sym c.look.ensures.waiting) c.in-Err.ensures.first)
 
 pub returns-in-Ok-Skip-clause-taken : goal.returns-in-Ok-Skip-clause-taken
 returns-in-Ok-Skip-clause-taken g c =

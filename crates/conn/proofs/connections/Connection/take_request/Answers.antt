@@ -15,31 +15,31 @@ hear-ask-requires-clause-whole g c =
 pub returns-in-Play-clause-kept : goal.returns-in-Play-clause-kept
 returns-in-Play-clause-kept g c =
     kept_after {a = c.args.self.now}
-    {mid = record { session = c.hear-ask.new.self; input = c.drop_front.new.self; booking = c.args.self.now.booking }}
+    {mid = record c.args.self.now { session = c.hear-ask.new.self; input = c.drop_front.new.self }}
     refl c.hear-ask.ensures.same.receipts c.play.ensures.kept
 
 pub returns-in-Halt-clause-kept : goal.returns-in-Halt-clause-kept
 returns-in-Halt-clause-kept g c =
     kept_after {a = c.args.self.now}
-    {mid = record { session = c.hear-ask.new.self; input = c.drop_front.new.self; booking = c.args.self.now.booking }}
+    {mid = record c.args.self.now { session = c.hear-ask.new.self; input = c.drop_front.new.self }}
     refl c.hear-ask.ensures.same.receipts c.halt.ensures.kept
 
 pub returns-in-Look-clause-kept : goal.returns-in-Look-clause-kept
 returns-in-Look-clause-kept g c =
     kept_after {a = c.args.self.now}
-    {mid = record { session = c.hear-ask.new.self; input = c.drop_front.new.self; booking = c.args.self.now.booking }}
+    {mid = record c.args.self.now { session = c.hear-ask.new.self; input = c.drop_front.new.self }}
     refl c.hear-ask.ensures.same.receipts c.look.ensures.kept
 
 pub returns-in-Offer-clause-kept : goal.returns-in-Offer-clause-kept
 returns-in-Offer-clause-kept g c =
     kept_after {a = c.args.self.now}
-    {mid = record { session = c.hear-ask.new.self; input = c.drop_front.new.self; booking = c.args.self.now.booking }}
+    {mid = record c.args.self.now { session = c.hear-ask.new.self; input = c.drop_front.new.self }}
     refl c.hear-ask.ensures.same.receipts c.offer.ensures.kept
 
 pub returns-in-Reply-clause-kept : goal.returns-in-Reply-clause-kept
 returns-in-Reply-clause-kept g c =
     kept_then {a = c.args.self.now} {mid = c.args.self.now}
-    {b = record { session = c.hear-ask.new.self; input = c.drop_front.new.self; booking = c.args.self.now.booking }}
+    {b = record c.args.self.now { session = c.hear-ask.new.self; input = c.drop_front.new.self }}
     (kept_none c.args.seat.now c.args.self.now c.requires.quiet) c.in-Reply.ensures.asks.0 refl
     c.hear-ask.ensures.same.booking c.hear-ask.ensures.same.receipts
 
@@ -49,7 +49,8 @@ returns-in-Play-clause-heard g c =
 
 pub play-requires-clause-held : goal.play-requires-clause-held
 play-requires-clause-held g c =
-    subst (IsHeld c.args.seat.now.mine c.args.self.now.booking) (sym c.hear-ask.ensures.same.booking) c.requires.quiet.held
+    subst (IsHeld c.args.seat.now.mine c.args.self.now.booking)
+    (sym c.hear-ask.ensures.same.booking) c.requires.quiet.held
 
 pub returns-in-Halt-clause-heard : goal.returns-in-Halt-clause-heard
 returns-in-Halt-clause-heard g c =
@@ -57,7 +58,8 @@ returns-in-Halt-clause-heard g c =
 
 pub halt-requires-clause-held : goal.halt-requires-clause-held
 halt-requires-clause-held g c =
-    subst (IsHeld c.args.seat.now.mine c.args.self.now.booking) (sym c.hear-ask.ensures.same.booking) c.requires.quiet.held
+    subst (IsHeld c.args.seat.now.mine c.args.self.now.booking)
+    (sym c.hear-ask.ensures.same.booking) c.requires.quiet.held
 
 pub returns-in-Look-clause-heard : goal.returns-in-Look-clause-heard
 returns-in-Look-clause-heard g c =
@@ -65,7 +67,8 @@ returns-in-Look-clause-heard g c =
 
 pub look-requires-clause-held : goal.look-requires-clause-held
 look-requires-clause-held g c =
-    subst (IsHeld c.args.seat.now.mine c.args.self.now.booking) (sym c.hear-ask.ensures.same.booking) c.requires.quiet.held
+    subst (IsHeld c.args.seat.now.mine c.args.self.now.booking)
+    (sym c.hear-ask.ensures.same.booking) c.requires.quiet.held
 
 pub returns-in-Offer-clause-heard : goal.returns-in-Offer-clause-heard
 returns-in-Offer-clause-heard g c =
@@ -73,7 +76,8 @@ returns-in-Offer-clause-heard g c =
 
 pub offer-requires-clause-held : goal.offer-requires-clause-held
 offer-requires-clause-held g c =
-    subst (IsHeld c.args.seat.now.mine c.args.self.now.booking) (sym c.hear-ask.ensures.same.booking) c.requires.quiet.held
+    subst (IsHeld c.args.seat.now.mine c.args.self.now.booking)
+    (sym c.hear-ask.ensures.same.booking) c.requires.quiet.held
 
 pub returns-in-Reply-clause-heard : goal.returns-in-Reply-clause-heard
 returns-in-Reply-clause-heard g c =

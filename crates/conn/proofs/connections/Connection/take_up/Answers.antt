@@ -14,7 +14,8 @@ elements-preserved g c =
       cuts_on c.args.self.now.input c.elements.self.input c.take_next.new.self.input inv.2 c.take_next.ensures.cut,
       taken_on (sight c.args.self.now (g.K.Link.told c.args.link.now) c.args.seat.now)
           (sight c.elements.self (g.K.Link.told c.elements.link) c.elements.seat)
-          (sight c.take_next.new.self (g.K.Link.told c.take_next.new.link) c.take_next.new.seat) inv.3 c.in-Gone.ensures.takes,
+          (sight c.take_next.new.self
+          (g.K.Link.told c.take_next.new.link) c.take_next.new.seat) inv.3 c.in-Gone.ensures.takes,
       omega (arith, inv.4, c.take_next.ensures.counted.count),
     )
 
@@ -54,8 +55,10 @@ returns-in-End-clause-counted g c =
 
 pub returns-in-End-clause-cut : goal.returns-in-End-clause-cut
 returns-in-End-clause-cut g c =
-    cuts_on c.args.self.now.input c.elements.self.input c.take_next.new.self.input c.elements.invariant.2 c.take_next.ensures.cut
+    cuts_on c.args.self.now.input c.elements.self.input c.take_next.new.self.input c.elements.invariant.2
+    c.take_next.ensures.cut
 
 pub returns-in-Waits-clause-cut : goal.returns-in-Waits-clause-cut
 returns-in-Waits-clause-cut g c =
-    cuts_on c.args.self.now.input c.elements.self.input c.take_next.new.self.input c.elements.invariant.2 c.take_next.ensures.cut
+    cuts_on c.args.self.now.input c.elements.self.input c.take_next.new.self.input c.elements.invariant.2
+    c.take_next.ensures.cut

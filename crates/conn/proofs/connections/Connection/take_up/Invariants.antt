@@ -9,7 +9,8 @@ invariant-elements g l =
     KeepsBusiness l.initial.seat l.seat l.initial.self l.self
     × (l.self.session.lost ≡ false)
     × CutsOn l.initial.self.input l.self.input
-    × HasTaken (sight l.initial.self (g.K.Link.told l.initial.link) l.initial.seat) (sight l.self (g.K.Link.told l.link) l.seat)
+    × HasTaken (sight l.initial.self (g.K.Link.told l.initial.link) l.initial.seat)
+    (sight l.self (g.K.Link.told l.link) l.seat)
     × (g.K.Link.faults l.initial.link ≤ g.K.Link.faults l.link)
 
 abbrev pub decreases-elements : goal.decreases-elements

@@ -29,18 +29,16 @@ pub returns-in-Ok-clause-taken : goal.returns-in-Ok-clause-taken
 returns-in-Ok-clause-taken g c = (
   c.in-Ok.ensures.kept ∙ c.take_request.ensures.lost ∙ c.requires.lost,
   fewer c.args.self.now.input c.take_request.new.self.input c.args.length
-      (some_request c.args.self.now.input c.args.length c.requires.first.1) c.requires.first.2 c.take_request.ensures.input,
+      (some_request c.args.self.now.input c.args.length c.requires.first.1) c.requires.first.2
+      c.take_request.ensures.input,
 )
 
 pub returns-in-Ok-clause-takes : goal.returns-in-Ok-clause-takes
 returns-in-Ok-clause-takes g c =
     taken_reply {a = sight c.args.self.now (g.K.Link.told c.args.link.now) c.args.seat.now}
-    {b = sight (record {
-      session = c.reply.new.self;
-      input = c.take_request.new.self.input;
-      booking = c.take_request.new.self.booking;
-    })
-    (g.K.Link.told c.reply.new.link) c.take_request.new.seat} {asked = c.take_request.new.self.session} {n = c.args.length}
+    {b = sight (record c.take_request.new.self { session = c.reply.new.self })
+    (g.K.Link.told c.reply.new.link) c.take_request.new.seat}
+    {asked = c.take_request.new.self.session} {n = c.args.length}
     c.requires.first (search rules) c.requires.torn c.take_request.ensures.heard
     (stage_is c.in-Ok.ensures.exact c.take_request.ensures.input) c.in-Ok.ensures.told
 
@@ -49,11 +47,7 @@ returns-in-Err-clause-takes g c =
     inl (
       refl,
       lost_reply {a = sight c.args.self.now (g.K.Link.told c.args.link.now) c.args.seat.now}
-          {b = sight (record {
-            session = c.reply.new.self;
-            input = c.take_request.new.self.input;
-            booking = c.take_request.new.self.booking;
-          })
+          {b = sight (record c.take_request.new.self { session = c.reply.new.self })
           (g.K.Link.told c.reply.new.link) c.take_request.new.seat} {asked = c.take_request.new.self.session}
           {n = c.args.length} (record {
             first = c.requires.first;
@@ -69,21 +63,13 @@ returns-then-waits-clause-kept g c = kept_none c.args.seat.now c.args.self.now c
 pub returns-in-Ok-clause-kept : goal.returns-in-Ok-clause-kept
 returns-in-Ok-clause-kept g c =
     kept_then {a = c.args.self.now} {mid = c.take_request.new.self}
-    {b = record {
-      session = c.reply.new.self;
-      input = c.take_request.new.self.input;
-      booking = c.take_request.new.self.booking;
-    }}
+    {b = record c.take_request.new.self { session = c.reply.new.self }}
     c.take_request.ensures.kept c.reply.ensures.rest refl c.reply.ensures.open c.reply.ensures.receipts
 
 pub returns-in-Err-clause-kept : goal.returns-in-Err-clause-kept
 returns-in-Err-clause-kept g c =
     kept_then {a = c.args.self.now} {mid = c.take_request.new.self}
-    {b = record {
-      session = c.reply.new.self;
-      input = c.take_request.new.self.input;
-      booking = c.take_request.new.self.booking;
-    }}
+    {b = record c.take_request.new.self { session = c.reply.new.self }}
     c.take_request.ensures.kept c.reply.ensures.rest refl c.reply.ensures.open c.reply.ensures.receipts
 
 pub returns-then-waits-clause-cut : goal.returns-then-waits-clause-cut
