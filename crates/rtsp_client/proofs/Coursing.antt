@@ -15,7 +15,7 @@ use Rattle.rtsp_client.specs.declared.wishes.WatchEnd.TheVariants.{Fault, LinkFa
 use Rattle.rtsp_client.specs.declared.wishes.WatchFault.TheVariants.{EndedEarly, TurnsSpent}
 use Rattle.rtsp_client.specs.Requests.{setup_text}
 use Rattle.rtsp_client.specs.Moments.{History, Slot}
-use Rattle.rtsp_client.specs.Answers.{after, cut_bytes, moments_in, payload_of, payloads_of, requests_after}
+use Rattle.rtsp_client.specs.Answers.{history_after, cut_bytes, moments_in, payload_of, payloads_of, requests_after}
 use Rattle.rtsp_client.specs.Courses.{Ends, HasWatched, Round, Runs, RunsAll, Stage, moments_of_rounds, rounds_doings, stage}
 use Rattle.rtsp_client.specs.Keeps.{Keeps, KeepsState}
 use Rattle.rtsp_client.specs.States.{after_slot, new_state}
@@ -38,17 +38,17 @@ round-bytes {h} {new} {s} taken idle = record {
   sight_is = taken.passed.sight_is;
 }
 
-timed-from : (o : Option Source) → IfSome o (λ (s : Source). 0 < s.picture_units) → (s : Source) → o ≡ Some s
-    → 0 < s.picture_units
+timed-from : (o : Option Source) → IfSome o (λ (s : Source). 0 < s.picture_time) → (s : Source) → o ≡ Some s
+    → 0 < s.picture_time
 timed-from o timed s is =
-    let P : Option Source → Type 0 = λ x. IfSome x (λ (s : Source). 0 < s.picture_units) in
-    let Q : IfSome (Some s) (λ (s : Source). 0 < s.picture_units) = subst P is timed in Q
+    let P : Option Source → Type 0 = λ x. IfSome x (λ (s : Source). 0 < s.picture_time) in
+    let Q : IfSome (Some s) (λ (s : Source). 0 < s.picture_time) = subst P is timed in Q
 
 -- a client that waits, with so many bytes cut
 pub record IsWaiting (wish : Wish) (h : History) (c : Client) (cut : ℕ) : Type 0 where
   pub keeps : Keeps wish h c
   pub slot_lasts : 0 < wish.slot_units
-  pub picture_lasts : IfSome c.watching.source (λ (source : Source). 0 < source.picture_units)
+  pub picture_lasts : IfSome c.watching.source (λ (source : Source). 0 < source.picture_time)
   pub cut_is : cut ≡ cut_bytes c.input
   pub idle : IsFirst c.input (Ok More)
 
@@ -108,26 +108,26 @@ runs-on {mid} {new} {round} old (first ∷ rounds) all runs idle =
     (all.0, (all.1.0, all.1.1, runs-on {mid = mid} {new = new} {round = round} all.0 rounds all.1.2 runs idle))
 
 pub history-later : (old mid : Stage) (rounds : List Round) → RunsAll old rounds mid
-    → mid.history ≡ after old.history (moments_of_rounds rounds)
+    → mid.history ≡ history_after old.history (moments_of_rounds rounds)
 history-later old mid [] all = ap (λ (s : Stage). s.history) all
 history-later old mid (round ∷ rounds) all =
     history-later all.0 mid rounds all.1.2
-    ∙ (ap (λ h. after h (moments_of_rounds rounds)) all.1.0.history_is
+    ∙ (ap (λ h. history_after h (moments_of_rounds rounds)) all.1.0.history_is
     ∙ sym (after-on old.history round.moments (moments_of_rounds rounds)))
 
 doings-on : (wish : Wish) (h : History) (rounds : List Round) (round : Round)
     → rounds_doings wish h (rounds ++ round ∷ [])
     ≡ rounds_doings wish h rounds
-    ++ (round.event ∷ sends (requests_after wish (after h (moments_of_rounds rounds)) round.moments))
+    ++ (round.event ∷ sends (requests_after wish (history_after h (moments_of_rounds rounds)) round.moments))
 doings-on wish h [] round = append-nil (round.event ∷ sends (requests_after wish h round.moments))
 doings-on wish h (first ∷ rounds) round =
     let front = first.event ∷ sends (requests_after wish h first.moments) in
-    ap (λ d. front ++ d) (doings-on wish (after h first.moments) rounds round)
+    ap (λ d. front ++ d) (doings-on wish (history_after h first.moments) rounds round)
     ∙ (ap (λ g. front
-    ++ (rounds_doings wish (after h first.moments) rounds ++ (round.event ∷ sends (requests_after wish g round.moments))))
+    ++ (rounds_doings wish (history_after h first.moments) rounds ++ (round.event ∷ sends (requests_after wish g round.moments))))
     (sym (after-on h first.moments (moments_of_rounds rounds)))
-    ∙ sym (append_assoc front (rounds_doings wish (after h first.moments) rounds)
-    (round.event ∷ sends (requests_after wish (after h (moments_of_rounds (first ∷ rounds))) round.moments))))
+    ∙ sym (append_assoc front (rounds_doings wish (history_after h first.moments) rounds)
+    (round.event ∷ sends (requests_after wish (history_after h (moments_of_rounds (first ∷ rounds))) round.moments))))
 
 moments-of-on : (rounds : List Round) (round : Round)
     → moments_of_rounds (rounds ++ round ∷ []) ≡ moments_of_rounds rounds ++ round.moments
@@ -161,7 +161,7 @@ pub run-on : {wish : Wish} {count : ℕ} {event : Doing} {c new : Client} {s t u
 run-on {wish} {event} {c} {new} {s} run heard next =
     let round = next run.history run.keeps in
     let r : Round = record { event = event; moments = round.moments } in
-    let h : run.history ≡ after [] (moments_of_rounds run.rounds) =
+    let h : run.history ≡ history_after [] (moments_of_rounds run.rounds) =
     history-later (stage [] []) (stage run.history c.input) run.rounds run.runs in
     let told : told_more (told_more (told_more s.told (rounds_doings wish [] run.rounds)) (event ∷ []))
     (sends (requests_after wish run.history round.moments))
@@ -179,7 +179,7 @@ run-on {wish} {event} {c} {new} {s} run heard next =
     record {
       rounds = run.rounds ++ r ∷ [];
       count_is = length-append run.rounds (r ∷ []) ∙ ap (λ n. n + 1) run.count_is;
-      history = after run.history round.moments;
+      history = history_after run.history round.moments;
       runs = runs-on (stage [] []) run.rounds run.runs round.runs round.idle;
       keeps = round.keeps;
       sight_is = round.sight_is

@@ -182,7 +182,7 @@ source-after {h} {b} {head} {ms} {next} None is at end after =
           ∙ (ap (λ (x : Head). x.ssrc) at ∙ sym (ap (λ f. (head_at (drop 4 f)).ssrc) first));
       sequence_is = ap (λ (x : Source). x.sequence) its ∙ ap (λ (x : Head). x.sequence) at;
       marker_is = ap (λ (x : Source). x.marker) its ∙ ap (λ (x : Head). x.marker) at;
-      time_is = ap (λ (x : Source). x.picture_units) its ∙ sym (ap time_in first);
+      time_is = ap (λ (x : Source). x.picture_time) its ∙ sym (ap time_in first);
       units_are = ap (λ (x : Source). x.units) its ∙ (ap (λ n. units_until n (time_in b)) end
           ∙ sym (cond-false (frames h + 1 == 0) 0
           (units_until (end_ms h) (time_in (cond (frames h == 0) b (first_frame h))))
@@ -198,7 +198,7 @@ source-after {h} {b} {head} {next} (Some source) is at end after =
       ssrc_is = ap (λ (x : Source). x.ssrc) its ∙ (is.ssrc_is ∙ sym (ap (λ f. (head_at (drop 4 f)).ssrc) first));
       sequence_is = ap (λ (x : Source). x.sequence) its ∙ ap (λ (x : Head). x.sequence) at;
       marker_is = ap (λ (x : Source). x.marker) its ∙ ap (λ (x : Head). x.marker) at;
-      time_is = ap (λ (x : Source). x.picture_units) its ∙ (is.time_is ∙ sym (ap time_in first));
+      time_is = ap (λ (x : Source). x.picture_time) its ∙ (is.time_is ∙ sym (ap time_in first));
       units_are = ap (λ (x : Source). x.units) its ∙ (is.units_are
           ∙ (cond-false (frames h == 0) 0 (units_until (end_ms h) (time_in (first_frame h))) some
           ∙ sym (cond-false (frames h + 1 == 0) 0

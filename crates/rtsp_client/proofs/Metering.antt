@@ -19,9 +19,9 @@ use Rattle.rtsp_client.specs.Keeps.{AreSumsOf, IsPlayOf, IsSourceOf, KeepsState}
 use Rattle.rtsp_client.proofs.Keeping.{complete-is}
 
 -- a slot and a picture last
-pub record Durations (slot_units picture_units : ℕ) : Type 0 where
+pub record Durations (slot_units picture_time : ℕ) : Type 0 where
   pub slot_lasts : 0 < slot_units
-  pub picture_lasts : 0 < picture_units
+  pub picture_lasts : 0 < picture_time
 
 -- a unit is used before a slot exactly where its number is below that count
 pub used-early : {s p : ℕ} (d j k : ℕ) → Durations s p → k < div_ceil ((j - d) * s) p → k * p / s + d < j
@@ -111,7 +111,7 @@ less-none n = omega arith
 -- a slot lasts, and so do the pictures of a source, where there is one
 pub record HasDurations (wish : Wish) (source : Option Source) : Type 0 where
   pub slot_lasts : 0 < wish.slot_units
-  pub picture_lasts : (src : Source) → source ≡ Some src → 0 < src.picture_units
+  pub picture_lasts : (src : Source) → source ≡ Some src → 0 < src.picture_time
 
 played-in : {source : Option Source} {ends : List ℕ} (wish : Wish) (h : History) (j : ℕ)
     → HasDurations wish source → IsSourceOf source h
@@ -119,7 +119,7 @@ played-in : {source : Option Source} {ends : List ℕ} (wish : Wish) (h : Histor
     → played_of wish source ends j ≡ played_before wish h j
 played-in {source = None} wish h j lasts is are = sym (ap (used_before wish (time h) j 0) (no-units h is))
 played-in {source = Some source} {ends} wish h j lasts is are =
-    let p = source.picture_units in
+    let p = source.picture_time in
     let t : time h ≡ p =
     cond-false (frames h == 0) 0 (time_in (first_frame h))
     (ne_eqb (frames h) 0 (λ none. absurd (omega (arith, is.some, none)))) ∙ sym is.time_is in

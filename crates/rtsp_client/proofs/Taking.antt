@@ -15,7 +15,7 @@ use Rattle.rtsp_client.specs.declared.wishes.WatchEnd.{WatchEnd}
 use Rattle.rtsp_client.specs.declared.wishes.WatchEnd.TheVariants.{Fault}
 use Rattle.rtsp_client.specs.declared.wishes.WatchFault.TheVariants.{Framing}
 use Rattle.rtsp_client.specs.Moments.{History, Moment, Frame, Reply}
-use Rattle.rtsp_client.specs.Answers.{GoOn, after, block_moments, moments_in, moments_of, payload_of, payloads_of, request_after, requests_after}
+use Rattle.rtsp_client.specs.Answers.{GoOn, history_after, block_moments, moments_in, moments_of, payload_of, payloads_of, request_after, requests_after}
 use Rattle.rtsp_client.specs.Courses.{Stops, stage}
 use Rattle.rtsp_client.specs.Keeps.{Keeps, KeepsState}
 use Rattle.rtsp_client.specs.Takings.{HasEndedAt, HasPassed, HasStopped, HasTaken, Sight, sight_more}
@@ -23,20 +23,20 @@ use Rattle.rtsp_client.proofs.Sighting.{sight-none, sight-on}
 
 -- ---- lists of moments
 
-pub after-on : (h : History) (a b : List Moment) → after h (a ++ b) ≡ after (after h a) b
+pub after-on : (h : History) (a b : List Moment) → history_after h (a ++ b) ≡ history_after (history_after h a) b
 after-on h [] b = refl
 after-on h (m ∷ a) b = after-on (m ∷ h) a b
 
-good-on : (h : History) (a b : List Moment) → GoOn h a → GoOn (after h a) b → GoOn h (a ++ b)
+good-on : (h : History) (a b : List Moment) → GoOn h a → GoOn (history_after h a) b → GoOn h (a ++ b)
 good-on h [] b first second = second
 good-on h (m ∷ a) b first second = (first.0, good-on (m ∷ h) a b first.1 second)
 
 requests-on : (wish : Wish) (h : History) (a b : List Moment)
-    → requests_after wish h (a ++ b) ≡ requests_after wish h a ++ requests_after wish (after h a) b
+    → requests_after wish h (a ++ b) ≡ requests_after wish h a ++ requests_after wish (history_after h a) b
 requests-on wish h [] b = refl
 requests-on wish h (m ∷ a) b =
     ap (λ t. request_after wish h m ++ t) (requests-on wish (m ∷ h) a b)
-    ∙ sym (append_assoc (request_after wish h m) (requests_after wish (m ∷ h) a) (requests_after wish (after (m ∷ h) a) b))
+    ∙ sym (append_assoc (request_after wish h m) (requests_after wish (m ∷ h) a) (requests_after wish (history_after (m ∷ h) a) b))
 
 -- bytes were cut, and then their rest
 record CutsInTurn (bytes mid end : List ℕ) (p q : List (List ℕ)) : Type 0 where
@@ -106,13 +106,13 @@ passed-none {s} k same = record {
 }
 
 passed-on : {wish : Wish} {h : History} {a b : List Moment} {mid new : Client} {s t u : Sight} → HasPassed wish h a mid s t
-    → HasPassed wish (after h a) b new t u → HasPassed wish h (a ++ b) new s u
+    → HasPassed wish (history_after h a) b new t u → HasPassed wish h (a ++ b) new s u
 passed-on {wish} {h} {a} {b} {new} {s} first second = record {
   good = good-on h a b first.good second.good;
   keeps = subst (λ x. Keeps wish x new) (sym (after-on h a b)) second.keeps;
   sight_is = second.sight_is
-      ∙ (ap (λ x. sight_more x (requests_after wish (after h a) b) (payloads_of b)) first.sight_is
-      ∙ (sight-on s (requests_after wish h a) (requests_after wish (after h a) b) (payloads_of a) (payloads_of b)
+      ∙ (ap (λ x. sight_more x (requests_after wish (history_after h a) b) (payloads_of b)) first.sight_is
+      ∙ (sight-on s (requests_after wish h a) (requests_after wish (history_after h a) b) (payloads_of a) (payloads_of b)
       ∙ (ap (λ x. sight_more s x (payloads_of a ++ payloads_of b)) (sym (requests-on wish h a b))
       ∙ ap (λ x. sight_more s (requests_after wish h (a ++ b)) x) (sym (flat_map-append payload_of a b)))));
 }
@@ -185,7 +185,7 @@ taken-none k same input_same = record {
 pub taken-on : {wish : Wish} {h : History} {rest : List ℕ} {mid new : Client} {s t u : Sight} → HasTaken wish h rest mid s t
     → ((g : History) → Keeps wish g mid → HasTaken wish g mid.input new t u) → HasTaken wish h rest new s u
 taken-on {wish} {h} {rest} {mid} {new} {s} {u} first next =
-    let second = next (after h (moments_in first.elements)) first.passed.keeps in
+    let second = next (history_after h (moments_in first.elements)) first.passed.keeps in
     let cuts : CutsInTurn rest mid.input new.input first.elements second.elements = record { first = first.cut; next = second.cut } in
     record {
       elements = first.elements ++ second.elements;
@@ -243,7 +243,7 @@ pub stopped-on : {wish : Wish} {h : History} {rest : List ℕ} {mid : Client} {e
     → HasTaken wish h rest mid s t
     → ((g : History) → Keeps wish g mid → HasStopped wish g mid.input end t u) → HasStopped wish h rest end s u
 stopped-on {wish} {h} {rest} {mid} {end} {s} first next =
-    let g = after h (moments_in first.elements) in
+    let g = history_after h (moments_in first.elements) in
     let second = next g first.passed.keeps in
     let st = second.stops in
     let a = moments_in first.elements in
@@ -258,8 +258,8 @@ stopped-on {wish} {h} {rest} {mid} {end} {s} first next =
     ap (λ x. payloads_of a ++ x) st.out_is
     ∙ (sym (append_assoc (payloads_of a) (payloads_of b) st.more_out)
     ∙ ap (λ x. x ++ st.more_out) (sym (flat_map-append payload_of a b) ∙ ap payloads_of (sym (flat_map-append moments_of first.elements st.elements)))) in
-    let there : after g b ≡ after h (moments_in (first.elements ++ st.elements)) =
-    sym (after-on h a b) ∙ ap (after h) (sym (flat_map-append moments_of first.elements st.elements)) in
+    let there : history_after g b ≡ history_after h (moments_in (first.elements ++ st.elements)) =
+    sym (after-on h a b) ∙ ap (history_after h) (sym (flat_map-append moments_of first.elements st.elements)) in
     let cuts : CutsInTurn rest mid.input st.mid first.elements st.elements = record { first = first.cut; next = st.cut } in
     record {
       sent = requests_after wish h a ++ second.sent;

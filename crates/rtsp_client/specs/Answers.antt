@@ -79,9 +79,9 @@ payload_of (Slot slot cut) = []
 
 -- the history after moments, the watching going on at each; the requests that they allow; what is
 -- handed on of them
-abbrev pub after : History → List Moment → History
-after h [] = h
-after h (moment ∷ moments) = after (moment ∷ h) moments
+abbrev pub history_after : History → List Moment → History
+history_after h [] = h
+history_after h (moment ∷ moments) = history_after (moment ∷ h) moments
 
 abbrev pub GoOn : History → List Moment → Type 0
 GoOn h [] = ⊤

@@ -14,7 +14,7 @@ use Rattle.rtsp_client.specs.declared.wishes.WatchFault.TheVariants.{EndedEarly,
 use Rattle.rtsp_client.specs.declared.wishes.WatchFault.TheVariants.{TurnsSpent}
 use Rattle.rtsp_client.specs.Moments.{History, Moment, Slot, sizes}
 use Rattle.rtsp_client.specs.Requests.{setup_text}
-use Rattle.rtsp_client.specs.Answers.{Gives, GoOn, GoesOn, after, cut_bytes, moments_in, moments_of}
+use Rattle.rtsp_client.specs.Answers.{Gives, GoOn, GoesOn, history_after, cut_bytes, moments_in, moments_of}
 use Rattle.rtsp_client.specs.Answers.{payload_of, payloads_of, request_after, requests_after}
 
 -- where a watching stands: what was heard, and the bytes that wait
@@ -43,7 +43,7 @@ pub record Round : Type 0 where
 pub record Runs (old : Stage) (round : Round) (new : Stage) : Type 0 where
   pub brings : Brings round.event old.rest round.moments new.rest
   pub good : GoOn old.history round.moments
-  pub history_is : new.history ≡ after old.history round.moments
+  pub history_is : new.history ≡ history_after old.history round.moments
 
 -- events, one after another; before the next one is asked for, all that was whole was taken up
 abbrev pub RunsAll : Stage → List Round → Stage → Type 0
@@ -56,7 +56,7 @@ abbrev pub rounds_doings : Wish → History → List Round → List Doing
 rounds_doings wish h [] = []
 rounds_doings wish h (round ∷ rounds) =
     (round.event ∷ sends (requests_after wish h round.moments))
-    ++ rounds_doings wish (after h round.moments) rounds
+    ++ rounds_doings wish (history_after h round.moments) rounds
 
 -- the moments of events, in order
 abbrev pub moments_of_rounds : List Round → List Moment
@@ -99,7 +99,7 @@ pub record StopsAt (wish : Wish) (old : Stage) (end : WatchEnd) (sent out : List
   pub good : GoOn old.history (moments_in elements)
   pub more_sent : List ℕ
   pub more_out : List ℕ
-  pub stops : Stops wish (stage (after old.history (moments_in elements)) mid) end more_sent more_out
+  pub stops : Stops wish (stage (history_after old.history (moments_in elements)) mid) end more_sent more_out
   pub sent_is : sent ≡ requests_after wish old.history (moments_in elements) ++ more_sent
   pub out_is : out ≡ payloads_of (moments_in elements) ++ more_out
 

@@ -34,7 +34,7 @@ pub record IsSource (source : Source) (h : History) : Type 0 where
   pub ssrc_is : source.ssrc ≡ (head_at (drop 4 (first_frame h))).ssrc
   pub sequence_is : source.sequence ≡ (head_at (drop 4 (latest_frame h))).sequence
   pub marker_is : source.marker ≡ is_last (latest_frame h)
-  pub time_is : source.picture_units ≡ time_in (first_frame h)
+  pub time_is : source.picture_time ≡ time_in (first_frame h)
   pub units_are : source.units ≡ units h
 
 abbrev pub IsSourceOf : Option Source → History → Type 0

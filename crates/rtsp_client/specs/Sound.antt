@@ -13,8 +13,8 @@ CameAfter (Some play) slot = (play.slot_before ≤ slot) × (play.end_ms < 2 ^ 1
 
 -- a film's times and units, of which so many are whole
 pub record IsSoundSource (source : Source) (whole : ℕ) : Type 0 where
-  pub some_time : 0 < source.picture_units
-  pub most_time : source.picture_units ≤ 15015
+  pub some_time : 0 < source.picture_time
+  pub most_time : source.picture_time ≤ 15015
   pub most_units : source.units ≤ 4194304
   pub among : whole ≤ source.units
 

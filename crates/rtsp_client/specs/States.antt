@@ -64,7 +64,7 @@ first_source head payload end_ms =
       ssrc = head.ssrc;
       sequence = head.sequence;
       marker = head.marker;
-      picture_units = time;
+      picture_time = time;
       units = units;
     })
     else None
@@ -130,7 +130,7 @@ after_report s length = report_in s.play s length
 -- the time of a picture; 0 before the first frame
 abbrev pub time_of : Option Source → ℕ
 time_of None = 0
-time_of (Some source) = source.picture_units
+time_of (Some source) = source.picture_time
 
 -- the bytes of the whole units that are used before a slot of the play
 abbrev pub used_bytes : List ℕ → ℕ → ℕ
@@ -139,7 +139,7 @@ used_bytes ends count = if count == 0 then 0 else slice_index ends (count - 1)
 abbrev pub played_of : Wish → Option Source → List ℕ → ℕ → ℕ
 played_of wish None ends slot = 0
 played_of wish (Some source) ends slot =
-    used_bytes ends (min (div_ceil ((slot - wish.startup) * wish.slot_units) source.picture_units)
+    used_bytes ends (min (div_ceil ((slot - wish.startup) * wish.slot_units) source.picture_time)
     (length ends))
 
 -- a unit is used in this slot of the play, or before it, that isn't whole

@@ -12,7 +12,7 @@ use Rattle.rtsp_client.specs.declared.wishes.WatchEnd.{WatchEnd}
 use Rattle.rtsp_client.specs.declared.wishes.WatchEnd.TheVariants.{LinkFault, NoMemory}
 use Rattle.rtsp_client.specs.Requests.{setup_text}
 use Rattle.rtsp_client.specs.Moments.{History, Moment, Reply}
-use Rattle.rtsp_client.specs.Answers.{Gives, GoOn, GoesOn, after, moments_in, payloads_of}
+use Rattle.rtsp_client.specs.Answers.{Gives, GoOn, GoesOn, history_after, moments_in, payloads_of}
 use Rattle.rtsp_client.specs.Answers.{requests_after}
 use Rattle.rtsp_client.specs.Courses.{Ends, Fails, Round, Runs, StopsAt, moments_of_rounds}
 use Rattle.rtsp_client.specs.Courses.{rounds_doings, stage, RunsAll}
@@ -37,7 +37,7 @@ sight_more old sent out = record {
 pub record HasPassed (wish : Wish) (h : History) (moments : List Moment) (new : Client)
     (old_sight new_sight : Sight) : Type 0 where
   pub good : GoOn h moments
-  pub keeps : Keeps wish (after h moments) new
+  pub keeps : Keeps wish (history_after h moments) new
   pub sight_is : new_sight ≡
       sight_more old_sight (requests_after wish h moments) (payloads_of moments)
 
@@ -110,8 +110,8 @@ pub record HasRound (wish : Wish) (h : History) (rest : List ℕ) (event : Doing
   pub runs : Runs (stage h rest) (record {
     event = event;
     moments = moments;
-  }) (stage (after h moments) new.input)
-  pub keeps : Keeps wish (after h moments) new
+  }) (stage (history_after h moments) new.input)
+  pub keeps : Keeps wish (history_after h moments) new
   pub idle : IsFirst new.input (Ok More)
   pub sight_is : new_sight ≡
       sight_more old_sight (requests_after wish h moments) (payloads_of moments)

@@ -24,7 +24,7 @@ pub(crate) struct Source {
     /// Whether the latest frame ends a picture.
     pub(crate) marker: bool,
     /// The time of a picture in 1/360,000 second.
-    pub(crate) picture_units: u32,
+    pub(crate) picture_time: u32,
     /// The pictures that are to come.
     pub(crate) units: u64,
 }
@@ -51,7 +51,7 @@ impl Source {
             ssrc: head.ssrc,
             sequence: head.sequence,
             marker: head.marker,
-            picture_units,
+            picture_time: picture_units,
             units: units as u64,
         })
     }
@@ -59,7 +59,7 @@ impl Source {
     /// What the frames say with one more, where that is the next one.
     pub(crate) fn next(&self, head: &Head) -> Option<Source>
         ensures source { result ≡ next_source self.now head.now }
-        ensures same { IfSome result (λ source. (source.picture_units ≡ self.now.picture_units)
+        ensures same { IfSome result (λ source. (source.picture_time ≡ self.now.picture_time)
             × (source.units ≡ self.now.units)) }
     {
         if head.ssrc != self.ssrc || head.sequence != self.sequence.wrapping_add(1) {
@@ -86,10 +86,10 @@ fn begins_film(payload: &[u8]) -> bool
 
 /// The pictures of a film that ends so many milliseconds after its beginning: the least number that
 /// lasts as long.
-fn units_until(end_ms: u128, picture_units: u32) -> u128
-    requires some { 0 < picture_units }
+fn units_until(end_ms: u128, picture_time: u32) -> u128
+    requires some { 0 < picture_time }
     requires short { end_ms < 2 ^ 100 }
-    ensures { result ≡ units_until end_ms picture_units }
+    ensures { result ≡ units_until end_ms picture_time }
 {
-    (end_ms * 360).div_ceil(u128::from(picture_units))
+    (end_ms * 360).div_ceil(u128::from(picture_time))
 }

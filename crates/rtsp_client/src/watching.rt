@@ -198,7 +198,7 @@ impl Watching {
             return 0;
         };
         let passed = u128::from(slot.saturating_sub(wish.startup)) * u128::from(wish.slot_units);
-        let used = passed.div_ceil(u128::from(source.picture_units));
+        let used = passed.div_ceil(u128::from(source.picture_time));
         let count = used.min(self.ends.len() as u128) as usize;
         if count == 0 { 0 } else { self.ends[count - 1] }
     }
@@ -209,11 +209,11 @@ impl Watching {
         requires startup { wish.now.startup ≤ 10000 }
         ensures { result ≡ is_lacking wish.now self.now slot }
     {
-        let picture_units = match &self.source {
-            Some(source) => source.picture_units,
+        let picture_time = match &self.source {
+            Some(source) => source.picture_time,
             None => 0,
         };
-        let used = self.watched.units * u64::from(picture_units) / u64::from(wish.slot_units);
+        let used = self.watched.units * u64::from(picture_time) / u64::from(wish.slot_units);
         !self.is_complete() && used + wish.startup <= slot
     }
 
@@ -253,7 +253,7 @@ impl Watching {
         requires startup { wish.now.startup ≤ 10000 }
         requires few { self.old.received + cut < 2 ^ 63 }
         ensures state { self.new ≡ after_slot wish.now self.old slot cut }
-        ensures timed { IfSome self.old.source (λ source. 0 < source.picture_units) }
+        ensures timed { IfSome self.old.source (λ source. 0 < source.picture_time) }
     {
         if slot <= self.last_slot {
             return;

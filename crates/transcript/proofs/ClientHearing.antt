@@ -10,7 +10,7 @@ use Rattle.interleave.proofs.Streams.{CutsInTurn, cuts_join}
 use Rattle.rtsp_client.specs.declared.wishes.Wish.{Wish}
 use Rattle.rtsp_client.specs.declared.wishes.Watched.{Watched}
 use Rattle.rtsp_client.specs.declared.wishes.WatchEnd.TheVariants.{Done}
-use Rattle.rtsp_client.specs.Answers.{GoOn, Gives, after, cut_bytes, moments_in, moments_of, payloads_of}
+use Rattle.rtsp_client.specs.Answers.{GoOn, Gives, history_after, cut_bytes, moments_in, moments_of, payloads_of}
 use Rattle.rtsp_client.specs.Courses.{Brings, IsNext, Round, Runs, RunsAll, Stage, stage}
 use Rattle.rtsp_client.specs.Films.{is_complete}
 use Rattle.rtsp_client.specs.Meters.{first_slot, watched_in}
@@ -41,7 +41,7 @@ heard-none = record { elements = []; cut = refl; sum = refl; gone = tt }
 -- with further elements
 pub heard-more : {bytes : List ℕ} {old : Stage} {rest : List ℕ} (more : List ℕ) (elements : List (List ℕ))
     (heard : Heard bytes old) → AreCut (old.rest ++ more) elements rest
-    → GoOn old.history (moments_in elements) → Heard (bytes ++ more) (stage (after old.history (moments_in elements)) rest)
+    → GoOn old.history (moments_in elements) → Heard (bytes ++ more) (stage (history_after old.history (moments_in elements)) rest)
 heard-more {bytes} {old} {rest} more elements heard cut good = record {
   elements = heard.elements ++ elements;
   cut = let cuts : CutsInTurn bytes more heard.elements elements old.rest rest =
@@ -58,18 +58,18 @@ same-stage new h rest history same = ap (λ x. stage x rest) (sym history) ∙ a
 
 heard-event : {bytes : List ℕ} {old new : Stage} (event : Doing) (moments : List Moment) → Heard bytes old
     → Brings event old.rest moments new.rest
-    → GoOn old.history moments → new.history ≡ after old.history moments → Heard (bytes ++ bytes_in event) new
+    → GoOn old.history moments → new.history ≡ history_after old.history moments → Heard (bytes ++ bytes_in event) new
 heard-event {bytes} {old} {new} (HeardBytes more) moments heard brings good history =
     let G : List Moment → Type 0 = λ ms. GoOn old.history ms in
-    let is : stage (after old.history (moments_in brings.0)) new.rest ≡ new =
-    same-stage new (after old.history (moments_in brings.0)) new.rest (history ∙ ap (after old.history) brings.1.1) refl in
+    let is : stage (history_after old.history (moments_in brings.0)) new.rest ≡ new =
+    same-stage new (history_after old.history (moments_in brings.0)) new.rest (history ∙ ap (history_after old.history) brings.1.1) refl in
     subst (Heard (bytes ++ more)) is (heard-more more brings.0 heard brings.1.0 (subst G brings.1.1 good))
 heard-event {bytes} {old} {new} (HeardSlot slot) moments heard brings good history =
     let cut = cut_bytes old.rest in
     let G : List Moment → Type 0 = λ ms. GoOn old.history ms in
     let good2 : GoOn old.history (Slot slot cut ∷ []) = subst G brings.0 good in
     let is : stage (Slot slot cut ∷ old.history) old.rest ≡ new =
-    same-stage new (Slot slot cut ∷ old.history) old.rest (history ∙ ap (after old.history) brings.0) brings.1 in
+    same-stage new (Slot slot cut ∷ old.history) old.rest (history ∙ ap (history_after old.history) brings.0) brings.1 in
     let mid : Heard bytes (stage (Slot slot cut ∷ old.history) old.rest) =
     record { elements = heard.elements; cut = heard.cut; sum = heard.sum; gone = (tt, heard.gone) } in
     let B : List ℕ → Type 0 = λ b. Heard b new in
@@ -92,7 +92,7 @@ heard-all bytes old new (round ∷ rounds) heard all =
 
 -- ---- what later moments leave
 
-pub replies-later : (h : History) (ms : List Moment) → replies h ≤ replies (after h ms)
+pub replies-later : (h : History) (ms : List Moment) → replies h ≤ replies (history_after h ms)
 replies-later h ms = omega (arith, replies-grow (sum_of h) ms, ap (λ (s : Sum). s.replies) (sum-after h ms))
 
 -- the play's first slot stays, once its reply was heard
@@ -107,7 +107,7 @@ slot-once h (Frame b) playing = (refl, playing)
 slot-once h (Report b) playing = (refl, playing)
 slot-once h (Slot t cut) playing = (refl, playing)
 
-pub slot-stays : (h : History) (ms : List Moment) → 1 < replies h → first_slot (after h ms) ≡ first_slot h
+pub slot-stays : (h : History) (ms : List Moment) → 1 < replies h → first_slot (history_after h ms) ≡ first_slot h
 slot-stays h [] playing = refl
 slot-stays h (m ∷ ms) playing = let one = slot-once h m playing in slot-stays (m ∷ h) ms one.1 ∙ one.0
 
@@ -126,7 +126,7 @@ pub record IsDone (wish : Wish) (watched : Watched) (bytes out : List ℕ) : Typ
   pub watched_is : watched ≡ watched_in wish at.history
   pub moments : List Moment
   pub out_is : out ≡ payloads_of moments
-  pub history_is : at.history ≡ after [] moments
+  pub history_is : at.history ≡ history_after [] moments
 
 complete-then : (n : ℕ) (complete : Bool) → n ≡ 2 → (nat_lt n 2 || complete) ≡ true → complete ≡ true
 complete-then n complete two awaited =
@@ -136,7 +136,7 @@ complete-then n complete two awaited =
 pub at-done : {wish : Wish} {watched : Watched} {bytes out : List ℕ} {at : Stage} {moment : Moment}
     (moments : List Moment)
     → Heard bytes at → IsNext at.rest moment → Gives wish at.history moment (Done watched)
-    → at.history ≡ after [] moments → out ≡ payloads_of moments
+    → at.history ≡ history_after [] moments → out ≡ payloads_of moments
     → ((done : IsDone wish watched bytes out) × (done.at ≡ at))
 at-done {out} {at} {moment = Reply message} moments heard next (inl bad) history is = absurd (let no : ⊥ = cc in no)
 at-done {out} {at} {moment = Reply message} moments heard next (inr (inl refused)) history is = absurd (let no : ⊥ = cc in no)

@@ -14,7 +14,7 @@ use Rattle.rtp_pack.specs.Packets.{DoCover, unit_packets}
 use Rattle.rtp_pack.proofs.UnitLemmas.{packets-cover}
 use Rattle.film_frames.specs.Pieces.{pieces_of, unit_pieces}
 use Rattle.film_frames.specs.Runs.{FramedRun, blocks_from, payload}
-use Rattle.rtsp_client.specs.Answers.{GoOn, GoesOn, after, moments_in}
+use Rattle.rtsp_client.specs.Answers.{GoOn, GoesOn, history_after, moments_in}
 use Rattle.rtsp_client.specs.Films.{begins_film, is_complete, is_first_good, is_next_good, time_in, units_until}
 use Rattle.rtsp_client.specs.Moments.{History, Moment, Frame, Reply, Report, Slot, end_ms, first_frame, frames, is_playing}
 use Rattle.transcript.proofs.Blocks.{frame_block, frame_blocks, frame-moment, frames-one, frames_after, octets_after, report_block, report_if, report-moment}
@@ -27,7 +27,7 @@ abbrev pub HasGoneOn : History → Type 0
 HasGoneOn [] = Unit {0}
 HasGoneOn (m ∷ h) = GoesOn h m × HasGoneOn h
 
-pub gone-on : (h : History) (ms : List Moment) → HasGoneOn h → GoOn h ms → HasGoneOn (after h ms)
+pub gone-on : (h : History) (ms : List Moment) → HasGoneOn h → GoOn h ms → HasGoneOn (history_after h ms)
 gone-on h [] gone good = gone
 gone-on h (m ∷ ms) gone good = gone-on (m ∷ h) ms (good.0, gone) good.1
 

@@ -15,7 +15,7 @@ use Rattle.mpeg_scan.specs.Rates.{picture_time}
 use Rattle.rtp_pack.specs.declared.reports.Identity.{Identity}
 use Rattle.film_frames.specs.Tracks.{framed_bytes}
 use Rattle.rtsp_client.specs.declared.wishes.Wish.{Wish}
-use Rattle.rtsp_client.specs.Answers.{after, cut_bytes, moments_in, moments_of}
+use Rattle.rtsp_client.specs.Answers.{history_after, cut_bytes, moments_in, moments_of}
 use Rattle.rtsp_client.specs.Courses.{Brings, Round, Runs, RunsAll, Stage, moments_of_rounds}
 use Rattle.rtsp_client.specs.Films.{units_until}
 use Rattle.rtsp_client.specs.Meters.{first_slot, is_read, place_in}
@@ -67,7 +67,7 @@ record WishedFilm : Type 0 where
   time : ℕ
 
 always-more : (film : WishedFilm) (h : History) (ms : List Moment) → HasNoSlot ms →
-    IsBetweenAlways film.wish film.sizes film.time h → IsBetweenAlways film.wish film.sizes film.time (after h ms)
+    IsBetweenAlways film.wish film.sizes film.time h → IsBetweenAlways film.wish film.sizes film.time (history_after h ms)
 always-more film h [] none met = met
 always-more film h (Reply m ∷ ms) none met = always-more film (Reply m ∷ h) ms none met
 always-more film h (Frame b ∷ ms) none met = always-more film (Frame b ∷ h) ms none met
@@ -75,7 +75,7 @@ always-more film h (Report b ∷ ms) none met = always-more film (Report b ∷ h
 always-more film h (Slot t cut ∷ ms) none met = absurd none
 
 pub always-elements : (wish : Wish) (all : List ℕ) (time : ℕ) (h : History) (ps : List (List ℕ)) → IsBetweenAlways wish all time h
-    → IsBetweenAlways wish all time (after h (moments_in ps))
+    → IsBetweenAlways wish all time (history_after h (moments_in ps))
 always-elements wish all time h ps met =
     always-more (record { wish = wish; sizes = all; time = time }) h (moments_in ps) (no-slot-in ps) met
 
@@ -166,14 +166,14 @@ always-round {event = HeardBytes more} {wish} {film} {old} {new} {round} round_h
     let B : Doing → Type 0 = λ e. Brings e old.rest round.moments new.rest in
     let brings = subst B round_heard.event_is round_heard.runs.brings in
     let A : History → Type 0 = λ h. IsBetweenAlways wish (film_sizes film) (picture_time film.rate) h in
-    subst A (sym (round_heard.runs.history_is ∙ ap (after old.history) brings.1.1))
+    subst A (sym (round_heard.runs.history_is ∙ ap (history_after old.history) brings.1.1))
     (always-elements wish (film_sizes film) (picture_time film.rate) old.history brings.0 met)
 always-round {event = HeardSlot slot} {wish} {film} {begin} {old} {new} {round} round_heard counted front two fed met =
     let B : Doing → Type 0 = λ e. Brings e old.rest round.moments new.rest in
     let brings = subst B round_heard.event_is round_heard.runs.brings in
     let A : History → Type 0 = λ h. IsBetweenAlways wish (film_sizes film) (picture_time film.rate) h in
     let history : new.history ≡ Slot slot (cut_bytes old.rest) ∷ old.history =
-    round_heard.runs.history_is ∙ ap (after old.history) brings.0 in
+    round_heard.runs.history_is ∙ ap (history_after old.history) brings.0 in
     let same : replies new.history ≡ replies old.history = ap replies history in
     let begins_here : 1 < replies old.history → first_slot old.history ≡ begin = λ playing.
     sym (ap first_slot history) ∙ two.begins (omega (arith, playing, same)) in

@@ -16,7 +16,7 @@ use Rattle.conn.specs.declared.reports.ConnEnd.{ConnEnd}
 use Rattle.conn.specs.declared.reports.ConnEnd.TheVariants.{Ended, TornDown, LinkFault, TooMuchInput, HeadTooLong, BodyTooLong, EventsSpent, NoMemory}
 use Rattle.transcript.specs.Courses.{first_stage}
 use Rattle.transcript.specs.Cuttings.{Beginning, Cutting, Hearing, IsDone, TakesUp, hearings_in, takings_hearings}
-use Rattle.transcript.specs.Requests.{AreTaken, AwaitsReply, bytes_in, is_other, message_of, requests_in, rounds_input}
+use Rattle.transcript.specs.Requests.{AreTaken, AwaitsReply, bytes_in, is_no_request, message_of, requests_in, rounds_input}
 use Rattle.transcript.proofs.Paths.{GoesAll, IsOver, AnEnd, ABlock, Over, Element, Taken, over_element, path_of, elements_hearings}
 
 append_by : (other : Bool) (x : List ℕ) (all xs ys : List (List ℕ)) → all ≡ xs ++ ys
@@ -27,15 +27,15 @@ append_by false x all xs ys same = ap (λ rs. x ∷ rs) same
 requests-append : (xs ys : List (List ℕ)) → requests_in (xs ++ ys) ≡ requests_in xs ++ requests_in ys
 requests-append [] ys = refl
 requests-append (x ∷ xs) ys =
-    append_by (is_other x) x (requests_in (xs ++ ys)) (requests_in xs) (requests_in ys) (requests-append xs ys)
+    append_by (is_no_request x) x (requests_in (xs ++ ys)) (requests_in xs) (requests_in ys) (requests-append xs ys)
 
 -- a request begins with another byte than CR, LF and `$`
-starts_request : (input : List ℕ) (n : ℕ) → StartsMessage input → 0 < n → is_other (take n input) ≡ false
+starts_request : (input : List ℕ) (n : ℕ) → StartsMessage input → 0 < n → is_no_request (take n input) ≡ false
 starts_request input n starts some =
     let same : get_or (take n input) 0 0 ≡ get_or input 0 0 = get_or-take n input 0 0 some in
     ap (λ b. is_line_end b || (b == 36)) same ∙ ap (λ b. b || (get_or input 0 0 == 36)) starts.1 ∙ starts.2
 
-over_other : (input : List ℕ) (n : ℕ) → IsOver input n → is_other (take n input) ≡ true
+over_other : (input : List ℕ) (n : ℕ) → IsOver input n → is_no_request (take n input) ≡ true
 over_other input n (AnEnd one some end) =
     let same : get_or (take n input) 0 0 ≡ get_or input 0 0 = get_or-take n input 0 0 (omega (arith, one)) in
     ap (λ b. is_line_end b || (b == 36)) same ∙ ap (λ b. b || (get_or input 0 0 == 36)) end

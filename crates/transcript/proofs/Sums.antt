@@ -10,7 +10,7 @@ use Rattle.rtsp_client.specs.Replies.{play_range}
 use Rattle.rtsp_client.specs.Moments.{History, Moment, Frame, Reply, Report, Slot, end_ms}
 use Rattle.rtsp_client.specs.Moments.{first_frame, frames, is_inside, is_last, payloads}
 use Rattle.rtsp_client.specs.Moments.{bytes_pending, bytes_received, replies, sizes}
-use Rattle.rtsp_client.specs.Answers.{after, moments_in, moments_of, payloads_of}
+use Rattle.rtsp_client.specs.Answers.{history_after, moments_in, moments_of, payloads_of}
 
 pub record Sum : Type 0 where
   pub replies : ℕ
@@ -67,7 +67,7 @@ pub steps-on : (s : Sum) (a b : List Moment) → steps s (a ++ b) ≡ steps (ste
 steps-on s [] b = refl
 steps-on s (m ∷ a) b = steps-on (step m s) a b
 
-pub sum-after : (h : History) (ms : List Moment) → sum_of (after h ms) ≡ steps (sum_of h) ms
+pub sum-after : (h : History) (ms : List Moment) → sum_of (history_after h ms) ≡ steps (sum_of h) ms
 sum-after h [] = refl
 sum-after h (Reply m ∷ ms) = sum-after (Reply m ∷ h) ms
 sum-after h (Frame b ∷ ms) = sum-after (Frame b ∷ h) ms

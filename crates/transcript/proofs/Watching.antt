@@ -14,7 +14,7 @@ use Rattle.film_frames.specs.Tracks.{framed_bytes}
 use Rattle.rtsp_client.specs.declared.wishes.Wish.{Wish}
 use Rattle.rtsp_client.specs.declared.wishes.Watched.{Watched}
 use Rattle.rtsp_client.specs.declared.wishes.WatchEnd.TheVariants.{Done}
-use Rattle.rtsp_client.specs.Answers.{Gives, after, moments_in, payload_of, payloads_of, requests_after}
+use Rattle.rtsp_client.specs.Answers.{Gives, history_after, moments_in, payload_of, payloads_of, requests_after}
 use Rattle.rtsp_client.specs.Courses.{Ends, HasCourse, IsNext, Round, RunsAll, Stage, Stops, StopsAt, moments_of_rounds, rounds_doings, stage}
 use Rattle.rtsp_client.specs.Meters.{first_slot}
 use Rattle.rtsp_client.specs.Moments.{History, Moment, payloads, replies}
@@ -66,7 +66,7 @@ end-of {out} mid (inr (inr (bytes, (sent, (stops, doings_are, few))))) = (bytes,
 pub record HasWatchedAll (wish : Wish) (watched : Watched) (rounds : List Round) (mid : Stage) (bytes out : List ℕ) : Type 0 where
   pub done : IsDone wish watched (rounds_heard rounds ++ bytes) out
   pub elements : List (List ℕ)
-  pub history : done.at.history ≡ after mid.history (moments_in elements)
+  pub history : done.at.history ≡ history_after mid.history (moments_in elements)
 
 all-watched : {wish : Wish} {watched : Watched} {rounds : List Round} {mid : Stage}
     {last sent bytes out : List ℕ} → RunsAll (stage [] []) rounds mid
@@ -75,11 +75,11 @@ all-watched : {wish : Wish} {watched : Watched} {rounds : List Round} {mid : Sta
     → HasWatchedAll wish watched rounds mid bytes out
 all-watched {wish} {watched} {rounds} {mid} {last} {bytes} {out} runs stops out_is =
     let moments = moments_of_rounds rounds in
-    let at = stage (after mid.history (moments_in stops.elements)) stops.mid in
+    let at = stage (history_after mid.history (moments_in stops.elements)) stops.mid in
     let heard : Heard (rounds_heard rounds) mid = heard-all [] (stage [] []) mid rounds heard-none runs in
     let h : Heard (rounds_heard rounds ++ bytes) at = heard-more bytes stops.elements heard stops.cut stops.good in
-    let told : at.history ≡ after [] (moments ++ moments_in stops.elements) =
-    ap (λ x. after x (moments_in stops.elements)) (history-later (stage [] []) mid rounds runs)
+    let told : at.history ≡ history_after [] (moments ++ moments_in stops.elements) =
+    ap (λ x. history_after x (moments_in stops.elements)) (history-later (stage [] []) mid rounds runs)
     ∙ sym (after-on [] moments (moments_in stops.elements)) in
     let given = stop-of wish watched at stops.more_sent stops.more_out stops.stops in
     let all_out : out ≡ payloads_of (moments ++ moments_in stops.elements) =
@@ -164,12 +164,12 @@ heard-rounds : (wish : Wish) (h : History) (rounds : List Round) → heard_bytes
 heard-rounds wish h [] = refl
 heard-rounds wish h (round ∷ rounds) =
     let sent = sends (requests_after wish h round.moments) in
-    let rest = rounds_doings wish (after h round.moments) rounds in
+    let rest = rounds_doings wish (history_after h round.moments) rounds in
     heard-one round.event (sent ++ rest)
     ∙ ap (λ l. bytes_in round.event ++ l)
     (heard-append sent rest
     ∙ (ap (λ l. l ++ heard_bytes rest) (heard-sends (requests_after wish h round.moments))
-    ∙ heard-rounds wish (after h round.moments) rounds))
+    ∙ heard-rounds wish (history_after h round.moments) rounds))
 
 -- what it told before a round, and after it
 pub record IsSplit (wish : Wish) (h : History) (before : List Round) (round : Round) (told : List Doing) : Type 0 where
@@ -180,16 +180,16 @@ split-at : (wish : Wish) (h : History) (before later : List Round) (round : Roun
     → IsSplit wish h before round (rounds_doings wish h (before ++ round ∷ later))
 split-at wish h [] later round =
     record {
-      later = sends (requests_after wish h round.moments) ++ rounds_doings wish (after h round.moments) later;
+      later = sends (requests_after wish h round.moments) ++ rounds_doings wish (history_after h round.moments) later;
       told_is = refl;
     }
 split-at wish h (first ∷ before) later round =
-    let rest = split-at wish (after h first.moments) before later round in
+    let rest = split-at wish (history_after h first.moments) before later round in
     let front = first.event ∷ sends (requests_after wish h first.moments) in
     record {
       later = rest.later;
       told_is = ap (λ l. front ++ l) rest.told_is
-          ∙ sym (append_assoc front (rounds_doings wish (after h first.moments) before) (round.event ∷ rest.later));
+          ∙ sym (append_assoc front (rounds_doings wish (history_after h first.moments) before) (round.event ∷ rest.later));
     }
 
 -- the course of a watching that is done, by what its link told

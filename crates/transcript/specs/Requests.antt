@@ -22,12 +22,12 @@ rounds_input [] = []
 rounds_input (round ∷ rounds) = bytes_in round.event ++ rounds_input rounds
 
 -- the requests among elements: those that begin with another byte than CR, LF and `$`
-abbrev pub is_other : List ℕ → Bool
-is_other element = is_line_end (slice_index element 0) || (slice_index element 0 == 36)
+abbrev pub is_no_request : List ℕ → Bool
+is_no_request element = is_line_end (slice_index element 0) || (slice_index element 0 == 36)
 
 abbrev pub requests_in : List (List ℕ) → List (List ℕ)
 requests_in [] = []
-requests_in (element ∷ elements) = if is_other element
+requests_in (element ∷ elements) = if is_no_request element
     then requests_in elements else element ∷ requests_in elements
 
 abbrev pub message_of : Hearing → List ℕ
