@@ -14,8 +14,9 @@ use Rattle.rtsp_client.specs.declared.wishes.WatchFault.TheVariants.{EndedEarly,
 use Rattle.rtsp_client.specs.declared.wishes.WatchFault.TheVariants.{TurnsSpent}
 use Rattle.rtsp_client.specs.Moments.{History, Moment, Slot, sizes}
 use Rattle.rtsp_client.specs.Requests.{setup_text}
-use Rattle.rtsp_client.specs.Answers.{Gives, GoOn, GoesOn, history_after, cut_bytes, moments_in, moments_of}
-use Rattle.rtsp_client.specs.Answers.{payload_of, payloads_of, request_after, requests_after}
+use Rattle.rtsp_client.specs.Answers.{Gives, GoOn, GoesOn, cut_bytes, history_after, moments_in}
+use Rattle.rtsp_client.specs.Answers.{moments_of, payload_of, payloads_of, request_after}
+use Rattle.rtsp_client.specs.Answers.{requests_after}
 
 -- where a watching stands: what was heard, and the bytes that wait
 pub record Stage : Type 0 where
@@ -29,7 +30,8 @@ stage history rest = record { history = history; rest = rest }
 -- these bytes waiting
 abbrev pub Brings : Doing → List ℕ → List Moment → List ℕ → Type 0
 Brings (HeardBytes bytes) old moments new =
-    (elements : List (List ℕ)) × (AreCut (old ++ bytes) elements new × (moments ≡ moments_in elements))
+    (elements : List (List ℕ))
+    × (AreCut (old ++ bytes) elements new × (moments ≡ moments_in elements))
 Brings (HeardSlot slot) old moments new = (moments ≡ Slot slot (cut_bytes old) ∷ []) × (new ≡ old)
 Brings HeardEnd old moments new = ⊥
 Brings (Sent byte) old moments new = ⊥
@@ -99,7 +101,8 @@ pub record StopsAt (wish : Wish) (old : Stage) (end : WatchEnd) (sent out : List
   pub good : GoOn old.history (moments_in elements)
   pub more_sent : List ℕ
   pub more_out : List ℕ
-  pub stops : Stops wish (stage (history_after old.history (moments_in elements)) mid) end more_sent more_out
+  pub stops : Stops wish (stage (history_after old.history (moments_in elements)) mid) end more_sent
+      more_out
   pub sent_is : sent ≡ requests_after wish old.history (moments_in elements) ++ more_sent
   pub out_is : out ≡ payloads_of (moments_in elements) ++ more_out
 

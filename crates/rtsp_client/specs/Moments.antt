@@ -1,5 +1,5 @@
--- What a client hears after its first request, element by element and slot by slot. A history is a list
--- of moments, the latest first.
+-- What a client hears after its first request, element by element and slot by slot. A history is a
+-- list of moments, the latest first.
 use Rattle.std.specs.Prelude.{ℕ, ◌+◌, ◌==◌, ◌&&◌, Bool, false}
 use Rattle.std.specs.Prelude.{not, max, nat_lt, if◌then◌else◌, List, [], ◌∷◌, ◌++◌, length}
 use Rattle.std.specs.Prelude.{drop, unwrap_or}

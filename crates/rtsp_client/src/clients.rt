@@ -15,7 +15,8 @@ ghost use Rattle.rtsp_client.specs.Standing.{GoesOnFrom, IsAwaited, IsGoing, byt
 ghost use Rattle.rtsp_client.specs.States.{has_all, new_state};
 ghost use Rattle.rtsp_client.specs.Takings.{EndsAtMoment, EndsAtReply, HasEnded, HasEndedAt};
 ghost use Rattle.rtsp_client.specs.Takings.{HasPassed, HasRound, IsUnsent, PassesMoments};
-ghost use Rattle.rtsp_client.specs.Takings.{PassesReply, Sight, StopsAtElements, TakesElements, sight};
+ghost use Rattle.rtsp_client.specs.Takings.{PassesReply, Sight, StopsAtElements};
+ghost use Rattle.rtsp_client.specs.Takings.{TakesElements, sight};
 ghost use Rattle.rtsp_client.specs.Wishes.{IsWish};
 
 use crate::frames::HEADS;

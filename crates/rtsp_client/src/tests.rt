@@ -51,7 +51,8 @@ const SET_UP: Tell = Text(
 
 /// The reply to PLAY: the film lasts 80 ms, and the play starts in the next slot.
 const PLAYED: Tell = Text(
-    "RTSP/1.0 200 OK\r\nCSeq: 2\r\nSession: 0123456789abcdef\r\nRange: npt=0.000-0.080\r\nx-Start: 1\r\n\r\n",
+    "RTSP/1.0 200 OK\r\nCSeq: 2\r\nSession: 0123456789abcdef\r\nRange: npt=0.000-0.080\r\n\
+    x-Start: 1\r\n\r\n",
 );
 
 /// The reply to TEARDOWN.

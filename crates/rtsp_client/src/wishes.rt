@@ -92,9 +92,9 @@ impl From<WatchFault> for WatchEnd {
 
 impl From<LinkFault> for WatchEnd {
     ghost use Rattle.std.specs.Prelude.{◌≡◌};
-    ghost use Rattle.rtsp_client.specs.declared.wishes.WatchEnd.TheVariants.{LinkFault as EndLinkFault};
+    ghost use Rattle.rtsp_client.specs.declared.wishes.WatchEnd.TheVariants.{LinkFault as LinkEnd};
 
-    ghost from_gives = { λ _ end. end ≡ EndLinkFault };
+    ghost from_gives = { λ _ end. end ≡ LinkEnd };
 
     fn from(_fault: LinkFault) -> WatchEnd {
         WatchEnd::LinkFault
@@ -103,9 +103,9 @@ impl From<LinkFault> for WatchEnd {
 
 impl From<SinkFault> for WatchEnd {
     ghost use Rattle.std.specs.Prelude.{◌≡◌};
-    ghost use Rattle.rtsp_client.specs.declared.wishes.WatchEnd.TheVariants.{SinkFault as EndSinkFault};
+    ghost use Rattle.rtsp_client.specs.declared.wishes.WatchEnd.TheVariants.{SinkFault as SinkEnd};
 
-    ghost from_gives = { λ _ end. end ≡ EndSinkFault };
+    ghost from_gives = { λ _ end. end ≡ SinkEnd };
 
     fn from(_fault: SinkFault) -> WatchEnd {
         WatchEnd::SinkFault
@@ -114,9 +114,9 @@ impl From<SinkFault> for WatchEnd {
 
 impl From<NoMemory> for WatchEnd {
     ghost use Rattle.std.specs.Prelude.{◌≡◌};
-    ghost use Rattle.rtsp_client.specs.declared.wishes.WatchEnd.TheVariants.{NoMemory as EndNoMemory};
+    ghost use Rattle.rtsp_client.specs.declared.wishes.WatchEnd.TheVariants.{NoMemory as MemoryEnd};
 
-    ghost from_gives = { λ _ end. end ≡ EndNoMemory };
+    ghost from_gives = { λ _ end. end ≡ MemoryEnd };
 
     fn from(_fault: NoMemory) -> WatchEnd {
         WatchEnd::NoMemory

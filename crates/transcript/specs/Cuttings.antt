@@ -12,8 +12,8 @@ use Rattle.conn.specs.Turns.{Unasked, WasFull}
 use Rattle.conn.specs.declared.reports.ConnEnd.{ConnEnd}
 use Rattle.transcript.specs.Courses.{first_stage, rounds_bytes}
 
--- nothing more can be taken up: no whole element waits, a request waits for a reply that isn't sent,
--- or the connection has ended
+-- nothing more can be taken up: no whole element waits, a request waits for a reply that isn't
+-- sent, or the connection has ended
 abbrev pub IsDone : Stage → Type 0
 IsDone stage = IsIdle stage ⊎ ((end : ConnEnd) × IsStopped end stage)
 

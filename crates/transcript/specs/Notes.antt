@@ -15,8 +15,8 @@ use Rattle.session.specs.declared.states.State.TheVariants.{Ready}
 use Rattle.session.specs.PlayLaws.{slots_missed}
 use Rattle.session.specs.Sendings.{is_sending, is_taken, after_slot, start_in}
 use Rattle.session.specs.Standings.{Standing}
-use Rattle.conn.specs.Rounds.{Ending, Unheard, PeerEnded, Overfull, AtElement, InSlot, InReply, Ends}
-use Rattle.conn.specs.Rounds.{Round, Runs, RunsAll}
+use Rattle.conn.specs.Rounds.{Ending, Unheard, PeerEnded, Overfull, AtElement, InSlot, InReply}
+use Rattle.conn.specs.Rounds.{Ends, Round, Runs, RunsAll}
 use Rattle.conn.specs.Turns.{Outcome, Unasked, Entered, WasFull, Offered, Stage, Taking, Passed}
 use Rattle.conn.specs.Turns.{Answered, TakesAll}
 use Rattle.transcript.specs.Agreement.{Doings, HasDone}

@@ -39,8 +39,8 @@ pub record AwaitsReply (stage : Stage) : Type 0 where
   pub first : IsFirst stage.input (Ok (Message length))
   pub waits : stage.session.waits ≡ true
 
--- The input is cut into elements and a rest, and the requests among them were taken up, all in order.
--- So were all whole ones, unless an earlier reply waits or the 200 of a TEARDOWN was sent.
+-- The input is cut into elements and a rest, and the requests among them were taken up, all in
+-- order. So were all whole ones, unless an earlier reply waits or the 200 of a TEARDOWN was sent.
 pub record AreTaken (beginning : Beginning) (cutting : Cutting beginning) : Type 0 where
   pub elements : List (List ℕ)
   pub cut : AreCut (rounds_input cutting.rounds) elements cutting.last.input

@@ -60,7 +60,8 @@ fn compare(rt: &impl Abort, alloc: Global, row: Row, source: Source) -> Result<(
 /// buffer that is too small, and a full journal.
 const DAYS: [Row; 2] = [
     Row {
-        script: "play 0 trace T 7 0\r\nplay 1 trace T 7 0\r\nslot 1\r\nplay 1 trace T 7 0\r\n\r\nslot 3",
+        script: "play 0 trace T 7 0\r\nplay 1 trace T 7 0\r\nslot 1\r\n\
+                 play 1 trace T 7 0\r\n\r\nslot 3",
         capacity: &[(0, 5), (3, 3)],
         limit: 65536,
         text: "0 seat=0 play slot=0 slots=3 bytes=7 admitted start=1\n\
@@ -71,7 +72,8 @@ const DAYS: [Row; 2] = [
                calendar from=1\nat 1 booked=2\nat 2 booked=2\nat 3 booked=3\nend\n",
     },
     Row {
-        script: "pause 0\nresume 0\nplay 0 trace T 4 0\nplay 0 trace T 7 0\nplay 0 trace T 4 0\nlook 1",
+        script: "pause 0\nresume 0\nplay 0 trace T 4 0\nplay 0 trace T 7 0\n\
+                 play 0 trace T 4 0\nlook 1",
         capacity: &[(0, 5)],
         limit: 2,
         text: "refused state\nrefused state\nrefused BufferTooSmall 2 5 5\n\
