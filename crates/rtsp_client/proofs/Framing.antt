@@ -110,19 +110,29 @@ keeps-taken {wish} {h} {b} taken = record {
       (keeps-frame taken.keeps.state taken.next_is taken.long);
 }
 
--- the frame in front is the film's next one, and was counted
+-- the first bytes of the input, which is `w`, were read as the film's next frame; `found` is what the
+-- frames say with it
+pub record ReadFrame (wish : Wish) (h : History) (c : Client) (n : ℕ) (w : List ℕ)
+    (found : Option Source) (next : Source) : Type 0 where
+  pub keeps : Keeps wish h c
+  pub same : w ≡ c.input
+  pub within : n ≤ length c.input
+  pub found_is : found ≡ source_with c.watching (take n w)
+  pub next_is : found ≡ Some next
+  pub long : 20 ≤ length (take n w)
+
+-- and the frame was counted
 pub taken-frame : {wish : Wish} {h : History} {w : List ℕ} {found : Option Source} {next : Source} {state : State}
-    (c : Client) (n : ℕ) → Keeps wish h c → w ≡ c.input → n ≤ length c.input
-    → found ≡ source_with c.watching (take n w) → found ≡ Some next → 20 ≤ length (take n w)
+    (c : Client) (n : ℕ) → ReadFrame wish h c n w found next
     → state ≡ after_frame c.watching next n
     → TakenFrame wish h c (record c { watching = state }) (take n c.input) next
-taken-frame {next} c n keeps same within found is long state = record {
-  keeps = keeps;
-  next_is = source-here c n same found is;
-  long = subst (λ (i : List ℕ). 20 ≤ length (take n i)) same long;
+taken-frame {next} c n read state = record {
+  keeps = read.keeps;
+  next_is = source-here c n read.same read.found_is read.next_is;
+  long = subst (λ (i : List ℕ). 20 ≤ length (take n i)) read.same read.long;
   replies = refl;
   session = refl;
-  watching = state ∙ ap (after_frame c.watching next) (sym (length-take-le n c.input within));
+  watching = state ∙ ap (after_frame c.watching next) (sym (length-take-le n c.input read.within));
 }
 
 -- it goes on, and no request is sent

@@ -122,6 +122,11 @@ moved : {wish : Wish} {h : History} {moments : List Moment} {c new : Client} {s 
     → IsSameClient c new → HasPassed wish h moments new s t
 moved p same = record { good = p.good; keeps = keeps-moved p.keeps same; sight_is = p.sight_is }
 
+-- the same input, named otherwise
+pub taken-same : {wish : Wish} {h : History} {w rest : List ℕ} {new : Client} {s t : Sight} → w ≡ rest
+    → HasTaken wish h w new s t → HasTaken wish h rest new s t
+taken-same {wish} {h} {new} {s} {t} same taken = subst (λ (i : List ℕ). HasTaken wish h i new s t) same taken
+
 -- the element in front, of so many bytes, was taken up and dropped
 taken-element : {wish : Wish} {h : History} {rest : List ℕ} {n : ℕ} {moments : List Moment} {c new : Client}
     {s t : Sight}

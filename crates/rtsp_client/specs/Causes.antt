@@ -1,5 +1,5 @@
 -- Which fault of the outside an end blames.
-use Rattle.std.specs.Prelude.{◌≡◌, ℕ}
+use Rattle.std.specs.Prelude.{◌≡◌, ℕ, IfErr, Result}
 use Rattle.vod_base.specs.Outside.{HasRisen}
 use Rattle.rtsp_client.specs.declared.wishes.WatchEnd.{WatchEnd}
 use Rattle.rtsp_client.specs.declared.wishes.WatchEnd.TheVariants.{LinkFault, SinkFault}
@@ -8,3 +8,9 @@ use Rattle.rtsp_client.specs.declared.wishes.WatchEnd.TheVariants.{LinkFault, Si
 pub record HasCause (end : WatchEnd) (old_link new_link old_out new_out : ℕ) : Type 0 where
   pub link : end ≡ LinkFault → HasRisen old_link new_link
   pub out : end ≡ SinkFault → HasRisen old_out new_out
+
+-- what a call blames that answers an end: the counts of faults of the link and of the output, before
+-- it and after it
+abbrev pub EndsWithCause : {A : Type 0} → Result A WatchEnd → ℕ → ℕ → ℕ → ℕ → Type 0
+EndsWithCause result old_link new_link old_out new_out =
+    IfErr result (λ end. HasCause end old_link new_link old_out new_out)

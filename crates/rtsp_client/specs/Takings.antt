@@ -11,9 +11,9 @@ use Rattle.rtsp_client.specs.declared.wishes.Wish.{Wish}
 use Rattle.rtsp_client.specs.declared.wishes.WatchEnd.{WatchEnd}
 use Rattle.rtsp_client.specs.declared.wishes.WatchEnd.TheVariants.{LinkFault, NoMemory}
 use Rattle.rtsp_client.specs.Requests.{setup_text}
-use Rattle.rtsp_client.specs.Moments.{History, Moment, Reply}
-use Rattle.rtsp_client.specs.Answers.{Gives, GoOn, GoesOn, history_after, moments_in, payloads_of}
-use Rattle.rtsp_client.specs.Answers.{requests_after}
+use Rattle.rtsp_client.specs.Moments.{Frame, History, Moment, Reply}
+use Rattle.rtsp_client.specs.Answers.{Gives, GoOn, GoesOn, block_moments, history_after}
+use Rattle.rtsp_client.specs.Answers.{moments_in, payloads_of, requests_after}
 use Rattle.rtsp_client.specs.Courses.{Ends, Fails, Round, Runs, StopsAt, moments_of_rounds}
 use Rattle.rtsp_client.specs.Courses.{rounds_doings, stage, RunsAll}
 use Rattle.rtsp_client.specs.Keeps.{Keeps}
@@ -65,43 +65,56 @@ pub record HasStopped (wish : Wish) (h : History) (rest : List ℕ) (end : Watch
   pub stops : StopsAt wish (stage h rest) end sent out
   pub sight_is : new_sight ≡ sight_more old_sight sent out
 
+-- a client, with what its link and its output tell
+pub record Stand : Type 0 where
+  pub client : Client
+  pub sight : Sight
+
+abbrev pub stand : Client → Option (List Doing) → Option (List ℕ) → Stand
+stand client told out = record { client = client; sight = sight told out }
+
 -- what a call answers that takes up moments: whatever was heard before, they were taken up where it
 -- went well; and where it didn't, the moment gave the answer, or the outside failed
-abbrev pub PassesMoments : {A : Type 0} → Wish → List Moment → Client → Client →
-    Result A WatchEnd → Sight → Sight → Type 0
-PassesMoments wish moments old new result old_sight new_sight = (h : History) →
-    Keeps wish h old → OnOk result (HasPassed wish h moments new old_sight new_sight)
+abbrev pub PassesMoments : {A : Type 0} → Wish → List Moment → Result A WatchEnd → Stand → Stand →
+    Type 0
+PassesMoments wish moments result old new = (h : History) → Keeps wish h old.client →
+    OnOk result (HasPassed wish h moments new.client old.sight new.sight)
 
-abbrev pub EndsAtMoment : {A : Type 0} → Wish → Moment → Client → Result A WatchEnd →
-    Sight → Sight → Type 0
-EndsAtMoment wish moment old result old_sight new_sight = (h : History) → Keeps wish h old →
-    IfErr result (λ end. HasEndedAt wish h moment end old_sight new_sight)
+abbrev pub EndsAtMoment : {A : Type 0} → Wish → Moment → Result A WatchEnd → Stand → Stand → Type 0
+EndsAtMoment wish moment result old new = (h : History) → Keeps wish h old.client →
+    IfErr result (λ end. HasEndedAt wish h moment end old.sight new.sight)
 
--- the same of the reply of this length in front of the input; nothing is handed on
-abbrev pub PassesReply : {A : Type 0} → Wish → ℕ → Client → Client → Result A WatchEnd →
-    Option (List Doing) → Option (List Doing) → Type 0
-PassesReply wish length old new result old_told new_told =
-    (h : History) (out : Option (List ℕ)) → Keeps wish h old →
-    OnOk result (HasPassed wish h (Reply (take length old.input) ∷ []) new (sight old_told out)
-    (sight new_told out))
+-- the same of the block of this channel and length in front of the input: a frame alone can end the
+-- watching
+abbrev pub PassesBlock : {A : Type 0} → Wish → ℕ → ℕ → Result A WatchEnd → Stand → Stand → Type 0
+PassesBlock wish channel length result old new =
+    PassesMoments wish (block_moments channel (take length old.client.input)) result old new
 
-abbrev pub EndsAtReply : {A : Type 0} → Wish → ℕ → Client → Result A WatchEnd →
-    Option (List Doing) → Option (List Doing) → Type 0
-EndsAtReply wish length old result old_told new_told =
-    (h : History) (out : Option (List ℕ)) → Keeps wish h old →
-    IfErr result (λ end. HasEndedAt wish h (Reply (take length old.input)) end
-    (sight old_told out) (sight new_told out))
+abbrev pub EndsAtBlock : {A : Type 0} → Wish → ℕ → ℕ → Result A WatchEnd → Stand → Stand → Type 0
+EndsAtBlock wish channel length result old new = (h : History) → Keeps wish h old.client →
+    IfErr result (λ end. (channel ≡ 0)
+    × HasEndedAt wish h (Frame (take length old.client.input)) end old.sight new.sight)
+
+-- the same of the reply of this length in front of the input; nothing is handed on, whatever the
+-- output tells
+abbrev pub PassesReply : {A : Type 0} → Wish → ℕ → Result A WatchEnd →
+    (Option (List ℕ) → Stand) → (Option (List ℕ) → Stand) → Type 0
+PassesReply wish length result old new = (out : Option (List ℕ)) →
+    PassesMoments wish (Reply (take length (old out).client.input) ∷ []) result (old out) (new out)
+
+abbrev pub EndsAtReply : {A : Type 0} → Wish → ℕ → Result A WatchEnd →
+    (Option (List ℕ) → Stand) → (Option (List ℕ) → Stand) → Type 0
+EndsAtReply wish length result old new = (out : Option (List ℕ)) →
+    EndsAtMoment wish (Reply (take length (old out).client.input)) result (old out) (new out)
 
 -- the same of elements in front of the input
-abbrev pub TakesElements : {A : Type 0} → Wish → Client → Client → Result A WatchEnd →
-    Sight → Sight → Type 0
-TakesElements wish old new result old_sight new_sight = (h : History) → Keeps wish h old →
-    OnOk result (HasTaken wish h old.input new old_sight new_sight)
+abbrev pub TakesElements : {A : Type 0} → Wish → Result A WatchEnd → Stand → Stand → Type 0
+TakesElements wish result old new = (h : History) → Keeps wish h old.client →
+    OnOk result (HasTaken wish h old.client.input new.client old.sight new.sight)
 
-abbrev pub StopsAtElements : {A : Type 0} → Wish → Client → Result A WatchEnd → Sight → Sight →
-    Type 0
-StopsAtElements wish old result old_sight new_sight = (h : History) → Keeps wish h old →
-    IfErr result (λ end. HasStopped wish h old.input end old_sight new_sight)
+abbrev pub StopsAtElements : {A : Type 0} → Wish → Result A WatchEnd → Stand → Stand → Type 0
+StopsAtElements wish result old new = (h : History) → Keeps wish h old.client →
+    IfErr result (λ end. HasStopped wish h old.client.input end old.sight new.sight)
 
 -- an event was taken up, of which the link told before
 pub record HasRound (wish : Wish) (h : History) (rest : List ℕ) (event : Doing) (new : Client)
@@ -124,6 +137,15 @@ pub record HasEnded (wish : Wish) (h : History) (rest : List ℕ) (event : Doing
   pub ends : (count : ℕ) → count < 1099511627776 →
       Ends wish (stage h rest) count end (event ∷ sends sent) out
   pub sight_is : new_sight ≡ sight_more old_sight sent out
+
+-- the same of an event
+abbrev pub TakesEvent : {A : Type 0} → Wish → Doing → Result A WatchEnd → Stand → Stand → Type 0
+TakesEvent wish event result old new = (h : History) → Keeps wish h old.client →
+    OnOk result (HasRound wish h old.client.input event new.client old.sight new.sight)
+
+abbrev pub EndsAtEvent : {A : Type 0} → Wish → Doing → Result A WatchEnd → Stand → Stand → Type 0
+EndsAtEvent wish event result old new = (h : History) → Keeps wish h old.client →
+    IfErr result (λ end. HasEnded wish h old.client.input event end old.sight new.sight)
 
 -- so many events were taken up from the beginning on, and the watching goes on
 pub record HasRun (wish : Wish) (count : ℕ) (client : Client) (old_sight new_sight : Sight)

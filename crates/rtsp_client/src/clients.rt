@@ -3,20 +3,18 @@
 ghost use Rattle.std.specs.Prelude.{◌≡◌, ◌+◌, ◌^◌, ◌<◌, ◌≤◌, ◌||◌, ◌∷◌, ℕ, false, true, Ok, List};
 ghost use Rattle.std.specs.Prelude.{[], Option, nat_lt, take, length as list_length, IfOk, IfErr};
 ghost use Rattle.std.specs.Prelude.{IfSome, OnOk, OnErr, MatchOption};
-ghost use Rattle.vod_base.specs.Links.{IsWithin, doing_of, sends, told_more};
+ghost use Rattle.vod_base.specs.Links.{Doing, IsWithin, doing_of, sends, told_more};
 ghost use Rattle.interleave.specs.Elements.{IsFirst, IsMessageLength};
 ghost use Rattle.interleave.specs.declared.elements.Step.TheVariants.{Block, More, Message};
-ghost use Rattle.rtsp_client.specs.Answers.{block_moments, cut_bytes};
-ghost use Rattle.rtsp_client.specs.Causes.{HasCause};
-ghost use Rattle.rtsp_client.specs.Keeps.{Keeps};
-ghost use Rattle.rtsp_client.specs.Moments.{History, Frame, Reply};
+ghost use Rattle.rtsp_client.specs.Answers.{cut_bytes};
+ghost use Rattle.rtsp_client.specs.Causes.{EndsWithCause};
+ghost use Rattle.rtsp_client.specs.Moments.{Frame};
 ghost use Rattle.rtsp_client.specs.Requests.{setup_text};
 ghost use Rattle.rtsp_client.specs.Standing.{GoesOnFrom, IsAwaited, IsGoing, bytes_in};
 ghost use Rattle.rtsp_client.specs.States.{has_all, new_state};
-ghost use Rattle.rtsp_client.specs.Takings.{EndsAtMoment, EndsAtReply, HasEnded, HasEndedAt};
-ghost use Rattle.rtsp_client.specs.Takings.{HasPassed, HasRound, IsUnsent, PassesMoments};
-ghost use Rattle.rtsp_client.specs.Takings.{PassesReply, Sight, StopsAtElements};
-ghost use Rattle.rtsp_client.specs.Takings.{TakesElements, sight};
+ghost use Rattle.rtsp_client.specs.Takings.{EndsAtBlock, EndsAtEvent, EndsAtMoment, EndsAtReply};
+ghost use Rattle.rtsp_client.specs.Takings.{IsUnsent, PassesBlock, PassesMoments, PassesReply};
+ghost use Rattle.rtsp_client.specs.Takings.{StopsAtElements, TakesElements, TakesEvent, stand};
 ghost use Rattle.rtsp_client.specs.Wishes.{IsWish};
 
 use crate::frames::HEADS;
@@ -60,8 +58,7 @@ impl Client {
     /// Sends SETUP.
     pub(crate) fn start<K: Link>(&self, wish: &Wish, link: &mut K) -> Result<(), WatchEnd>
         ensures count { K.faults link.old ≤ K.faults link.new }
-        ensures cause { IfErr result (λ end.
-            HasCause end (K.faults link.old) (K.faults link.new) 0 0) }
+        ensures cause { EndsWithCause result (K.faults link.old) (K.faults link.new) 0 0 }
         ensures sent { OnOk result (K.told link.new ≡
             told_more (K.told link.old) (sends (setup_text wish.now))) }
         ensures front { IfErr result (λ end.
@@ -97,19 +94,14 @@ impl Client {
         ensures waits { OnOk result (list_length self.new.input ≤ 81920) }
         ensures count { K.faults link.old ≤ K.faults link.new }
         ensures count_out { O.faults out.old ≤ O.faults out.new }
-        ensures cause { IfErr result (λ end.
-            HasCause end (K.faults link.old) (K.faults link.new) (O.faults out.old)
-            (O.faults out.new)) }
-        ensures on { (h : History) → Keeps wish.now h self.old →
-            let before = sight (K.told link.old) (O.written out.old) in
-            let after = sight (K.told link.new) (O.written out.new) in
-            OnOk result
-            (HasRound wish.now h self.old.input (doing_of heard bytes.now) self.new before after) }
-        ensures ended { (h : History) → Keeps wish.now h self.old →
-            let before = sight (K.told link.old) (O.written out.old) in
-            let after = sight (K.told link.new) (O.written out.new) in
-            IfErr result (λ end.
-            HasEnded wish.now h self.old.input (doing_of heard bytes.now) end before after) }
+        ensures cause { EndsWithCause result (K.faults link.old) (K.faults link.new)
+            (O.faults out.old) (O.faults out.new) }
+        ensures on { TakesEvent wish.now (doing_of heard bytes.now) result
+            (stand self.old (K.told link.old) (O.written out.old))
+            (stand self.new (K.told link.new) (O.written out.new)) }
+        ensures ended { EndsAtEvent wish.now (doing_of heard bytes.now) result
+            (stand self.old (K.told link.old) (O.written out.old))
+            (stand self.new (K.told link.new) (O.written out.new)) }
     {
         match heard {
             Heard::End => {
@@ -140,16 +132,15 @@ impl Client {
         ensures waits { OnOk result (list_length self.new.input ≤ 81920) }
         ensures count { K.faults link.old ≤ K.faults link.new }
         ensures count_out { O.faults out.old ≤ O.faults out.new }
-        ensures cause { IfErr result (λ end.
-            HasCause end (K.faults link.old) (K.faults link.new) (O.faults out.old)
-            (O.faults out.new)) }
+        ensures cause { EndsWithCause result (K.faults link.old) (K.faults link.new)
+            (O.faults out.old) (O.faults out.new) }
         ensures idle { OnOk result (IsFirst self.new.input (Ok More)) }
-        ensures taken { TakesElements wish.now self.old self.new result
-            (sight (K.told link.old) (O.written out.old))
-            (sight (K.told link.new) (O.written out.new)) }
-        ensures stopped { StopsAtElements wish.now self.old result
-            (sight (K.told link.old) (O.written out.old))
-            (sight (K.told link.new) (O.written out.new)) }
+        ensures taken { TakesElements wish.now result
+            (stand self.old (K.told link.old) (O.written out.old))
+            (stand self.new (K.told link.new) (O.written out.new)) }
+        ensures stopped { StopsAtElements wish.now result
+            (stand self.old (K.told link.old) (O.written out.old))
+            (stand self.new (K.told link.new) (O.written out.new)) }
     {
         'elements: loop {
             let more = self.take_next(wish, link, out)?;
@@ -173,16 +164,15 @@ impl Client {
         ensures waits { IfOk result (λ more. more ≡ false → list_length self.new.input ≤ 81920) }
         ensures count { K.faults link.old ≤ K.faults link.new }
         ensures count_out { O.faults out.old ≤ O.faults out.new }
-        ensures cause { IfErr result (λ end.
-            HasCause end (K.faults link.old) (K.faults link.new) (O.faults out.old)
-            (O.faults out.new)) }
+        ensures cause { EndsWithCause result (K.faults link.old) (K.faults link.new)
+            (O.faults out.old) (O.faults out.new) }
         ensures idle { IfOk result (λ more. more ≡ false → IsFirst self.new.input (Ok More)) }
-        ensures taken { TakesElements wish.now self.old self.new result
-            (sight (K.told link.old) (O.written out.old))
-            (sight (K.told link.new) (O.written out.new)) }
-        ensures stopped { StopsAtElements wish.now self.old result
-            (sight (K.told link.old) (O.written out.old))
-            (sight (K.told link.new) (O.written out.new)) }
+        ensures taken { TakesElements wish.now result
+            (stand self.old (K.told link.old) (O.written out.old))
+            (stand self.new (K.told link.new) (O.written out.new)) }
+        ensures stopped { StopsAtElements wish.now result
+            (stand self.old (K.told link.old) (O.written out.old))
+            (stand self.new (K.told link.new) (O.written out.new)) }
     {
         match self.input.look() {
             Err(_) => Err(WatchEnd::Fault(WatchFault::Framing)),
@@ -221,18 +211,14 @@ impl Client {
             + length) }
         ensures count { K.faults link.old ≤ K.faults link.new }
         ensures count_out { O.faults out.old ≤ O.faults out.new }
-        ensures cause { IfErr result (λ end.
-            HasCause end (K.faults link.old) (K.faults link.new) (O.faults out.old)
-            (O.faults out.new)) }
-        ensures passed { let moments = block_moments channel (take length self.old.input) in
-            PassesMoments wish.now moments self.old self.new result
-            (sight (K.told link.old) (O.written out.old))
-            (sight (K.told link.new) (O.written out.new)) }
-        ensures ended { (h : History) → Keeps wish.now h self.old →
-            let before = sight (K.told link.old) (O.written out.old) in
-            let after = sight (K.told link.new) (O.written out.new) in
-            let element = Frame (take length self.old.input) in
-            IfErr result (λ end. (channel ≡ 0) × HasEndedAt wish.now h element end before after) }
+        ensures cause { EndsWithCause result (K.faults link.old) (K.faults link.new)
+            (O.faults out.old) (O.faults out.new) }
+        ensures passed { PassesBlock wish.now channel length result
+            (stand self.old (K.told link.old) (O.written out.old))
+            (stand self.new (K.told link.new) (O.written out.new)) }
+        ensures ended { EndsAtBlock wish.now channel length result
+            (stand self.old (K.told link.old) (O.written out.old))
+            (stand self.new (K.told link.new) (O.written out.new)) }
     {
         match channel {
             0 => self.take_frame(wish, length, link, out),
@@ -262,15 +248,14 @@ impl Client {
             + length) }
         ensures count { K.faults link.old ≤ K.faults link.new }
         ensures count_out { O.faults out.old ≤ O.faults out.new }
-        ensures cause { IfErr result (λ end.
-            HasCause end (K.faults link.old) (K.faults link.new) (O.faults out.old)
-            (O.faults out.new)) }
-        ensures passed { PassesMoments wish.now (Frame (take length self.old.input) ∷ []) self.old
-            self.new result (sight (K.told link.old) (O.written out.old))
-            (sight (K.told link.new) (O.written out.new)) }
-        ensures ended { EndsAtMoment wish.now (Frame (take length self.old.input)) self.old result
-            (sight (K.told link.old) (O.written out.old))
-            (sight (K.told link.new) (O.written out.new)) }
+        ensures cause { EndsWithCause result (K.faults link.old) (K.faults link.new)
+            (O.faults out.old) (O.faults out.new) }
+        ensures passed { PassesMoments wish.now (Frame (take length self.old.input) ∷ []) result
+            (stand self.old (K.told link.old) (O.written out.old))
+            (stand self.new (K.told link.new) (O.written out.new)) }
+        ensures ended { EndsAtMoment wish.now (Frame (take length self.old.input)) result
+            (stand self.old (K.told link.old) (O.written out.old))
+            (stand self.new (K.told link.new) (O.written out.new)) }
     {
         let block = &self.input.waiting_bytes()[..length];
         let Some(source) = self.watching.source_with(block) else {
@@ -321,12 +306,11 @@ impl Client {
         ensures replies { OnOk result (self.new.replies ≤ 2) }
         ensures few { self.new.watching.received ≡ self.old.watching.received }
         ensures count { K.faults link.old ≤ K.faults link.new }
-        ensures cause { IfErr result (λ end.
-            HasCause end (K.faults link.old) (K.faults link.new) 0 0) }
-        ensures passed { PassesReply wish.now length self.old self.new result (K.told link.old)
-            (K.told link.new) }
-        ensures ended { EndsAtReply wish.now length self.old result (K.told link.old)
-            (K.told link.new) }
+        ensures cause { EndsWithCause result (K.faults link.old) (K.faults link.new) 0 0 }
+        ensures passed { PassesReply wish.now length result
+            (stand self.old (K.told link.old)) (stand self.new (K.told link.new)) }
+        ensures ended { EndsAtReply wish.now length result
+            (stand self.old (K.told link.old)) (stand self.new (K.told link.new)) }
     {
         let Some(code) = self.awaited_code(&self.input.waiting_bytes()[..length]) else {
             let number = self.replies + 1;
@@ -352,12 +336,11 @@ impl Client {
         ensures replies { OnOk result (self.new.replies ≤ 2) }
         ensures few { self.new.watching.received ≡ self.old.watching.received }
         ensures count { K.faults link.old ≤ K.faults link.new }
-        ensures cause { IfErr result (λ end.
-            HasCause end (K.faults link.old) (K.faults link.new) 0 0) }
-        ensures passed { PassesReply wish.now length self.old self.new result (K.told link.old)
-            (K.told link.new) }
-        ensures ended { EndsAtReply wish.now length self.old result (K.told link.old)
-            (K.told link.new) }
+        ensures cause { EndsWithCause result (K.faults link.old) (K.faults link.new) 0 0 }
+        ensures passed { PassesReply wish.now length result
+            (stand self.old (K.told link.old)) (stand self.new (K.told link.new)) }
+        ensures ended { EndsAtReply wish.now length result
+            (stand self.old (K.told link.old)) (stand self.new (K.told link.new)) }
     {
         if self.replies == 0 {
             return self.take_setup(wish, length, link);
@@ -382,12 +365,11 @@ impl Client {
         ensures replies { OnOk result (self.new.replies ≡ 1) }
         ensures few { self.new.watching.received ≡ self.old.watching.received }
         ensures count { K.faults link.old ≤ K.faults link.new }
-        ensures cause { IfErr result (λ end.
-            HasCause end (K.faults link.old) (K.faults link.new) 0 0) }
-        ensures passed { PassesReply wish.now length self.old self.new result (K.told link.old)
-            (K.told link.new) }
-        ensures ended { EndsAtReply wish.now length self.old result (K.told link.old)
-            (K.told link.new) }
+        ensures cause { EndsWithCause result (K.faults link.old) (K.faults link.new) 0 0 }
+        ensures passed { PassesReply wish.now length result
+            (stand self.old (K.told link.old)) (stand self.new (K.told link.new)) }
+        ensures ended { EndsAtReply wish.now length result
+            (stand self.old (K.told link.old)) (stand self.new (K.told link.new)) }
     {
         let message = &self.input.waiting_bytes()[..length];
         let session = session_in(message).ok_or(WatchFault::BadReply(1))?;
@@ -407,11 +389,11 @@ impl Client {
         ensures input { self.new.input ≡ self.old.input }
         ensures replies { OnOk result (self.new.replies ≡ 2) }
         ensures few { self.new.watching.received ≡ self.old.watching.received }
-        ensures cause { IfErr result (λ end. HasCause end 0 0 0 0) }
-        ensures passed { (h : History) (s : Sight) → Keeps wish.now h self.old → OnOk result
-            (HasPassed wish.now h (Reply (take length self.old.input) ∷ []) self.new s s) }
-        ensures ended { (h : History) (s : Sight) → Keeps wish.now h self.old → IfErr result
-            (λ end. HasEndedAt wish.now h (Reply (take length self.old.input)) end s s) }
+        ensures cause { EndsWithCause result 0 0 0 0 }
+        ensures passed { (told : Option (List Doing)) → PassesReply wish.now length result
+            (stand self.old told) (stand self.new told) }
+        ensures ended { (told : Option (List Doing)) → EndsAtReply wish.now length result
+            (stand self.old told) (stand self.new told) }
     {
         let message = &self.input.waiting_bytes()[..length];
         let end_ms = play_range(message).ok_or(WatchFault::BadReply(2))?;

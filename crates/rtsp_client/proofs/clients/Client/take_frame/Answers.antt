@@ -39,8 +39,14 @@ pub returns-then-not-is_complete-clause-passed : goal.returns-then-not-is_comple
 returns-then-not-is_complete-clause-passed g c = λ h k.
     let open_ : has_all c.add_frame.new.self ≡ false = search rules in
     frame-done (g.K.Link.told c.args.link.now)
-    (taken-frame c.args.self.now c.args.length k c.waiting_bytes.ensures c.requires.within c.source_with.ensures.source c.in-Some.is
-    c.in-Some.ensures.long c.in_ok-add_frame.ensures)
+    (taken-frame c.args.self.now c.args.length (record {
+      keeps = k;
+      same = c.waiting_bytes.ensures;
+      within = c.requires.within;
+      found_is = c.source_with.ensures.source;
+      next_is = c.in-Some.is;
+      long = c.in-Some.ensures.long;
+    }) c.in_ok-add_frame.ensures)
     open_
     (c.in_ok-write_all.ensures.whole
     ∙ ap (told_more (g.O.Sink.written c.args.out.now)) (payload-here c.args.self.now c.args.length c.waiting_bytes.ensures))
@@ -64,8 +70,14 @@ returns-in_err-send-clause-ended g c =
     let text : c.as_slice-2.result.now ≡ teardown_text c.args.wish.now c.args.self.now.session.items = search rules in
     last-cut {told = g.K.Link.told c.args.link.now} {new_told = g.K.Link.told c.send.new.self}
     {out = g.O.Sink.written c.args.out.now} {new_out = g.O.Sink.written c.write_all.new.self}
-    (taken-frame c.args.self.now c.args.length k c.waiting_bytes.ensures c.requires.within c.source_with.ensures.source c.in-Some.is
-    c.in-Some.ensures.long c.in_ok-add_frame.ensures)
+    (taken-frame c.args.self.now c.args.length (record {
+      keeps = k;
+      same = c.waiting_bytes.ensures;
+      within = c.requires.within;
+      found_is = c.source_with.ensures.source;
+      next_is = c.in-Some.is;
+      long = c.in-Some.ensures.long;
+    }) c.in_ok-add_frame.ensures)
     all refl
     (c.in_ok-write_all.ensures.whole
     ∙ ap (told_more (g.O.Sink.written c.args.out.now)) (payload-here c.args.self.now c.args.length c.waiting_bytes.ensures))
@@ -76,8 +88,14 @@ returns-clause-passed g c = λ h k.
     let all : has_all c.add_frame.new.self ≡ true = search rules in
     let text : c.as_slice-2.result.now ≡ teardown_text c.args.wish.now c.args.self.now.session.items = search rules in
     last-done (g.K.Link.told c.args.link.now)
-    (taken-frame c.args.self.now c.args.length k c.waiting_bytes.ensures c.requires.within c.source_with.ensures.source c.in-Some.is
-    c.in-Some.ensures.long c.in_ok-add_frame.ensures)
+    (taken-frame c.args.self.now c.args.length (record {
+      keeps = k;
+      same = c.waiting_bytes.ensures;
+      within = c.requires.within;
+      found_is = c.source_with.ensures.source;
+      next_is = c.in-Some.is;
+      long = c.in-Some.ensures.long;
+    }) c.in_ok-add_frame.ensures)
     all
     (c.in_ok-write_all.ensures.whole
     ∙ ap (told_more (g.O.Sink.written c.args.out.now)) (payload-here c.args.self.now c.args.length c.waiting_bytes.ensures))

@@ -1,23 +1,22 @@
 use Rattle.std.proofs.Common.{ap, arith}
 use Rattle.rtsp_client.specs.declared.wishes.Watched.{Watched}
 use Rattle.rtsp_client.specs.declared.wishes.WatchEnd.TheVariants.{Done}
-use Rattle.rtsp_client.specs.Takings.{sight}
 use Rattle.rtsp_client.proofs.Replying.{watch-done}
 use Rattle.rtsp_client.proofs.clients.Client.take_good.Goals as goal
 
 pub returns-then-self-eq0-clause-passed : goal.returns-then-self-eq0-clause-passed
-returns-then-self-eq0-clause-passed g c = λ h out k. c.take_setup.ensures.passed h out k
+returns-then-self-eq0-clause-passed g c = λ out h k. c.take_setup.ensures.passed out h k
 
 pub returns-then-self-eq0-clause-ended : goal.returns-then-self-eq0-clause-ended
-returns-then-self-eq0-clause-ended g c = λ h out k. c.take_setup.ensures.ended h out k
+returns-then-self-eq0-clause-ended g c = λ out h k. c.take_setup.ensures.ended out h k
 
 pub returns-then-self-eq1-clause-passed : goal.returns-then-self-eq1-clause-passed
-returns-then-self-eq1-clause-passed g c = λ h out k. c.take_play.ensures.passed h (sight (g.K.Link.told c.args.link.now) out) k
+returns-then-self-eq1-clause-passed g c = λ out h k. c.take_play.ensures.passed (g.K.Link.told c.args.link.now) out h k
 
 pub returns-then-self-eq1-clause-ended : goal.returns-then-self-eq1-clause-ended
-returns-then-self-eq1-clause-ended g c = λ h out k. c.take_play.ensures.ended h (sight (g.K.Link.told c.args.link.now) out) k
+returns-then-self-eq1-clause-ended g c = λ out h k. c.take_play.ensures.ended (g.K.Link.told c.args.link.now) out h k
 
 pub returns-clause-ended : goal.returns-clause-ended
-returns-clause-ended g c = λ h out k.
+returns-clause-ended g c = λ out h k.
     watch-done
     k (omega arith) c.requires.good (ap (λ (w : Watched). Done w) c.tally.ensures)

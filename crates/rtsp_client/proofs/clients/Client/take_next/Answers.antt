@@ -1,11 +1,10 @@
 use Rattle.std.proofs.Common.{ℕ, ◌<◌, ◌≤◌, List, Ok, drop, refl, ap, subst, sym, ◌∙◌, arith}
 use Rattle.std.proofs.lemmas.Result.{err_from_is_err_and}
-use Rattle.rtsp_client.specs.Takings.{HasTaken, sight}
 use Rattle.interleave.specs.Elements.{IsFirst}
 use Rattle.interleave.specs.declared.elements.Step.TheVariants.{Block, Message, Skip}
 use Rattle.rtsp_text.proofs.Whole.{fewer, first_is, some_request}
 use Rattle.rtsp_client.proofs.Cutting.{goes-on}
-use Rattle.rtsp_client.proofs.Taking.{keeps-moved, stopped-block, stopped-framing, stopped-reply, taken-block, taken-ends, taken-none, taken-reply}
+use Rattle.rtsp_client.proofs.Taking.{keeps-moved, stopped-block, stopped-framing, stopped-reply, taken-block, taken-ends, taken-none, taken-reply, taken-same}
 use Rattle.rtsp_client.proofs.clients.Client.take_next.Goals as goal
 
 pub returns-in-Err-clause-stopped : goal.returns-in-Err-clause-stopped
@@ -42,16 +41,7 @@ returns-in_err-take_block-in-Ok-Block-clause-stopped g c =
 
 pub returns-in_ok-take_block-in-Ok-Block-clause-taken : goal.returns-in_ok-take_block-in-Ok-Block-clause-taken
 returns-in_ok-take_block-in-Ok-Block-clause-taken g c = λ h k.
-    subst (λ (i : List ℕ). HasTaken c.args.wish.now h i
-    (record {
-      alloc = c.take_block.new.self.alloc;
-      input = c.drop_front-in-Ok-Block.new.self;
-      replies = c.take_block.new.self.replies;
-      session = c.take_block.new.self.session;
-      watching = c.take_block.new.self.watching;
-    })
-    (sight (g.K.Link.told c.args.link.now) (g.O.Sink.written c.args.out.now))
-    (sight (g.K.Link.told c.take_block.new.link) (g.O.Sink.written c.take_block.new.out))) c.look.ensures.waiting
+    taken-same c.look.ensures.waiting
     (taken-block
     (first_is c.in-Ok-Block.ensures.first c.look.ensures.waiting c.in-Ok-Block.field-0-is)
     (c.in_ok-take_block-in-Ok-Block.ensures.passed h (keeps-moved k (record { replies = refl; session = refl; watching = refl })))
@@ -67,24 +57,15 @@ returns-in_err-take_reply-in-Ok-Message-clause-stopped g c =
     rw (← c.look.ensures.waiting)
     (stopped-reply
     (first_is c.in-Ok-Message.ensures.first c.look.ensures.waiting c.in-Ok-Message.field-0-is)
-    (c.in_err-take_reply-in-Ok-Message.ensures.ended h (g.O.Sink.written c.args.out.now)
+    (c.in_err-take_reply-in-Ok-Message.ensures.ended (g.O.Sink.written c.args.out.now) h
     (keeps-moved k (record { replies = refl; session = refl; watching = refl })))))
 
 pub returns-in_ok-take_reply-in-Ok-Message-clause-taken : goal.returns-in_ok-take_reply-in-Ok-Message-clause-taken
 returns-in_ok-take_reply-in-Ok-Message-clause-taken g c = λ h k.
-    subst (λ (i : List ℕ). HasTaken c.args.wish.now h i
-    (record {
-      alloc = c.take_reply.new.self.alloc;
-      input = c.drop_front-in-Ok-Message.new.self;
-      replies = c.take_reply.new.self.replies;
-      session = c.take_reply.new.self.session;
-      watching = c.take_reply.new.self.watching;
-    })
-    (sight (g.K.Link.told c.args.link.now) (g.O.Sink.written c.args.out.now))
-    (sight (g.K.Link.told c.take_reply.new.link) (g.O.Sink.written c.args.out.now))) c.look.ensures.waiting
+    taken-same c.look.ensures.waiting
     (taken-reply
     (first_is c.in-Ok-Message.ensures.first c.look.ensures.waiting c.in-Ok-Message.field-0-is)
-    (c.in_ok-take_reply-in-Ok-Message.ensures.passed h (g.O.Sink.written c.args.out.now)
+    (c.in_ok-take_reply-in-Ok-Message.ensures.passed (g.O.Sink.written c.args.out.now) h
     (keeps-moved k (record { replies = refl; session = refl; watching = refl })))
     (record { replies = refl; session = refl; watching = refl })
     (c.drop_front-in-Ok-Message.ensures ∙ ap (drop c.in-Ok-Message.length) c.take_reply.ensures.input))

@@ -14,7 +14,7 @@ returns-in_err-end_ms-clause-ended c =
     let p = err_from_is_err_and c.from_residual.result c.from_residual.ensures.1 in
     let lacks = ok-or-err (BadReply 2) c.ok_or.ensures.value c.ok_or.ensures.ok_part (c.in_err-end_ms.was {u = tt}) in
     rw (p.1, p.2)
-    (λ h s k.
+    (λ told out h k.
     let range : play_range (take c.args.length c.args.self.now.input) ≡ None =
     ap (λ i. play_range (take c.args.length i)) (sym c.waiting_bytes.ensures) ∙ (sym c.play_range.ensures.range ∙ lacks.0) in
     play-lacks k c.requires.second
@@ -26,7 +26,7 @@ returns-in_err-start-clause-ended c =
     let p = err_from_is_err_and c.from_residual-in_err-start.result c.from_residual-in_err-start.ensures.1 in
     let lacks = ok-or-err (BadReply 2) c.ok_or-2.ensures.value c.ok_or-2.ensures.ok_part (c.in_err-start.was {u = tt}) in
     rw (p.1, p.2)
-    (λ h s k.
+    (λ told out h k.
     let range : play_range (take c.args.length c.args.self.now.input) ≡ Some c.in_ok-end_ms.end_ms =
     ap (λ i. play_range (take c.args.length i)) (sym c.waiting_bytes.ensures)
     ∙ (sym c.play_range.ensures.range ∙ (c.ok_or.ensures.ok_part ∙ ap result_ok (c.in_ok-end_ms.was {u = tt}))) in
@@ -38,7 +38,7 @@ returns-in_err-start-clause-ended c =
     (ap (λ (f : WatchFault). Fault f) lacks.1))
 
 pub returns-clause-passed : goal.returns-clause-passed
-returns-clause-passed c = λ h s k.
+returns-clause-passed c = λ told out h k.
     let range : play_range (take c.args.length c.args.self.now.input) ≡ Some c.in_ok-end_ms.end_ms =
     ap (λ i. play_range (take c.args.length i)) (sym c.waiting_bytes.ensures)
     ∙ (sym c.play_range.ensures.range ∙ (c.ok_or.ensures.ok_part ∙ ap result_ok (c.in_ok-end_ms.was {u = tt}))) in

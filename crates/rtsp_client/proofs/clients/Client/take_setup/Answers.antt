@@ -16,7 +16,7 @@ returns-in_err-session-clause-ended g c =
     let p = err_from_is_err_and c.from_residual.result c.from_residual.ensures.1 in
     let lacks = ok-or-err (BadReply 1) c.ok_or.ensures.value c.ok_or.ensures.ok_part (c.in_err-session.was {u = tt}) in
     rw (p.1, p.2)
-    (λ h out k.
+    (λ out h k.
     let here : session_in (take c.args.length c.waiting_bytes.result.now) ≡ None =
     sym c.session_in.ensures ∙ ap (option_map (λ s. s.now)) lacks.0 in
     setup-lacks
@@ -28,7 +28,7 @@ pub returns-in_err-request-clause-ended : goal.returns-in_err-request-clause-end
 returns-in_err-request-clause-ended g c =
     let p = err_from_is_err_and c.from_residual-in_err-request.result c.from_residual-in_err-request.ensures.1 in
     rw (p.1, p.2)
-    (λ h out k.
+    (λ out h k.
     setup-starved (record {
       keeps = k;
       first = c.requires.first;
@@ -40,7 +40,7 @@ pub returns-in_err-kept-clause-ended : goal.returns-in_err-kept-clause-ended
 returns-in_err-kept-clause-ended g c =
     let p = err_from_is_err_and c.from_residual-in_err-kept.result c.from_residual-in_err-kept.ensures.1 in
     rw (p.1, p.2)
-    (λ h out k.
+    (λ out h k.
     setup-starved (record {
       keeps = k;
       first = c.requires.first;
@@ -52,7 +52,7 @@ pub returns-in_err-send-clause-ended : goal.returns-in_err-send-clause-ended
 returns-in_err-send-clause-ended g c =
     let p = err_from_is_err_and c.from_residual-in_err-send.result c.from_residual-in_err-send.ensures.1 in
     rw (p.1, p.2)
-    (λ h out k.
+    (λ out h k.
     let text : c.as_slice.result.now ≡ play_text c.args.wish.now c.in_ok-session.session.now =
     c.as_slice.ensures.value ∙ c.in_ok-request.ensures in
     let front : IsFrontTold (g.K.Link.told c.args.link.now) (g.K.Link.told c.send.new.self)
@@ -67,7 +67,7 @@ returns-in_err-send-clause-ended g c =
     (subst (IsFrontTold (g.K.Link.told c.args.link.now) (g.K.Link.told c.send.new.self)) text front))
 
 pub returns-clause-passed : goal.returns-clause-passed
-returns-clause-passed g c = λ h out k.
+returns-clause-passed g c = λ out h k.
     let text : c.as_slice.result.now ≡ play_text c.args.wish.now c.in_ok-session.session.now =
     c.as_slice.ensures.value ∙ c.in_ok-request.ensures in
     let sent : g.K.Link.told c.send.new.self
