@@ -1,11 +1,11 @@
-use Rattle.rtsp_client.proofs.Asking.{play_asked, setup_asked, teardown_asked}
+use Rattle.rtsp_client.proofs.Asking.{play-asked, setup-asked, teardown-asked}
 use Rattle.rtsp_client.proofs.laws.law_requests_read.Goals as goal
 
 pub returns-clause-setup : goal.returns-clause-setup
-returns-clause-setup c = setup_asked
+returns-clause-setup c = setup-asked
 
 pub returns-clause-play : goal.returns-clause-play
-returns-clause-play c = play_asked
+returns-clause-play c = play-asked
 
 pub returns-clause-teardown : goal.returns-clause-teardown
-returns-clause-teardown c = teardown_asked
+returns-clause-teardown c = teardown-asked
