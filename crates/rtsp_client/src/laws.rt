@@ -14,36 +14,28 @@ ghost use Rattle.rtsp_client.specs.Requests.{play_text, setup_text, teardown_tex
 ghost use Rattle.rtsp_client.specs.Wishes.{IsWish};
 ghost use Rattle.rtsp_client.specs.declared.wishes.Wish.{Wish};
 
-use crate::wishes::Wish;
 use film_frames::law_film_comes_back;
 
 /// Where at each reading the bytes that came lie between the two curves of a film's units, the
 /// meter stays between empty and the buffer: no picture lacks when it is used, and what waits fits.
-pub fn law_meter_within(wish: &Wish)
-    requires { IsWish wish.now }
-    ensures { (sizes : List ℕ) (picture_time : ℕ) (h : History) → 0 < picture_time →
-        0 < length sizes →
-        IsBetweenAlways wish.now sizes picture_time h →
-        (count_over wish.now h ≡ 0) × (count_under wish.now h ≡ 0)
-        × (most_waiting wish.now h ≤ wish.now.buffer) }
-{
-    let _read = wish.port;
-}
+pub fn law_meter_within()
+    ensures { (wish : Wish) (sizes : List ℕ) (picture_time : ℕ) (h : History) → IsWish wish →
+        0 < picture_time → 0 < length sizes → IsBetweenAlways wish sizes picture_time h →
+        (count_over wish h ≡ 0) × (count_under wish h ≡ 0)
+        × (most_waiting wish h ≤ wish.buffer) }
+{}
 
 /// The meter tells when the bytes that came leave the space between the two curves: where a film's
 /// first units were heard and no reading was over or under, what came lay between the curves at
 /// each reading; and the most that waited is above the buffer exactly where a reading was over.
-pub fn law_meter_tells(wish: &Wish)
-    requires { IsWish wish.now }
-    ensures between { (sizes : List ℕ) (picture_time : ℕ) (h : History) → 0 < picture_time →
-        IsHeardAlways wish.now sizes picture_time h →
-        count_over wish.now h ≡ 0 → count_under wish.now h ≡ 0 →
-        IsBetweenAlways wish.now sizes picture_time h }
-    ensures most { (h : History) →
-        (most_waiting wish.now h ≤ wish.now.buffer) ↔ (count_over wish.now h ≡ 0) }
-{
-    let _read = wish.port;
-}
+pub fn law_meter_tells()
+    ensures between { (wish : Wish) (sizes : List ℕ) (picture_time : ℕ) (h : History) →
+        IsWish wish → 0 < picture_time → IsHeardAlways wish sizes picture_time h →
+        count_over wish h ≡ 0 → count_under wish h ≡ 0 →
+        IsBetweenAlways wish sizes picture_time h }
+    ensures most { (wish : Wish) (h : History) →
+        (most_waiting wish h ≤ wish.buffer) ↔ (count_over wish h ≡ 0) }
+{}
 
 /// Where the frames that came are those of a run of a film's units, what is handed on are the
 /// film's bytes from where the run's first unit begins to where its last one ends.
