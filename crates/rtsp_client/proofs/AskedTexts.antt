@@ -6,31 +6,31 @@ use Rattle.rtsp_text.specs.Spelled.{request_front, request_text}
 use Rattle.rtsp_client.specs.Requests.{film_url, setup_text, play_text, teardown_text}
 use Rattle.rtsp_client.specs.Asked.{setup_parts, play_parts, teardown_parts}
 use Rattle.rtsp_client.specs.declared.wishes.Wish.{Wish}
-use Rattle.rtsp_client.proofs.Texts.{put_in_row}
+use Rattle.rtsp_client.proofs.Texts.{put-in-row}
 
 -- fields in a row, and the line's end after them
 abbrev spelled : List Field → List ℕ
 spelled [] = codes "\r\n"
 spelled (field ∷ fields) = field.name ++ (codes ": " ++ (field.value ++ (codes "\r\n" ++ spelled fields)))
 
-fields_spelled : (fields : List Field) → flat_map field_line fields ++ codes "\r\n" ≡ spelled fields
-fields_spelled [] = refl
-fields_spelled (field ∷ fields) =
+fields-spelled : (fields : List Field) → flat_map field_line fields ++ codes "\r\n" ≡ spelled fields
+fields-spelled [] = refl
+fields-spelled (field ∷ fields) =
     append_assoc (field_line field) (flat_map field_line fields) (codes "\r\n")
-    ∙ ap (λ (l : List ℕ). field_line field ++ l) (fields_spelled fields)
-    ∙ put_in_row field.name (codes ": " ∷ field.value ∷ codes "\r\n" ∷ spelled fields ∷ [])
+    ∙ ap (λ (l : List ℕ). field_line field ++ l) (fields-spelled fields)
+    ∙ put-in-row field.name (codes ": " ∷ field.value ∷ codes "\r\n" ∷ spelled fields ∷ [])
 
 -- a request without a body, as one part after another
-request_spelled : (method url : List ℕ) (fields : List Field) →
+request-spelled : (method url : List ℕ) (fields : List Field) →
     request_text (record { method = method; url = url; fields = fields; body = [] })
     ≡ method ++ (codes " " ++ (url ++ (codes " RTSP/1.0" ++ (codes "\r\n" ++ spelled fields))))
 unfolding request_front
-request_spelled method url fields =
+request-spelled method url fields =
     let line : List ℕ = method ++ codes " " ++ url ++ codes " RTSP/1.0" in
     append-nil (line ++ codes "\r\n" ++ flat_map field_line fields ++ codes "\r\n")
     ∙ append_assoc (line ++ codes "\r\n") (flat_map field_line fields) (codes "\r\n")
-    ∙ ap (λ (l : List ℕ). line ++ codes "\r\n" ++ l) (fields_spelled fields)
-    ∙ put_in_row method (codes " " ∷ url ∷ codes " RTSP/1.0" ∷ codes "\r\n" ∷ spelled fields ∷ [])
+    ∙ ap (λ (l : List ℕ). line ++ codes "\r\n" ++ l) (fields-spelled fields)
+    ∙ put-in-row method (codes " " ∷ url ∷ codes " RTSP/1.0" ∷ codes "\r\n" ∷ spelled fields ∷ [])
 
 -- the parts of each text, after its first one
 abbrev pub setup_rest : Wish → List (List ℕ)
@@ -46,18 +46,19 @@ play_rest wish session =
 abbrev pub teardown_rest : Wish → List ℕ → List (List ℕ)
 teardown_rest wish session = film_url wish ∷ codes " RTSP/1.0\r\nCSeq: 3\r\nSession: " ∷ session ∷ codes "\r\n\r\n" ∷ []
 
-pub setup_is : (wish : Wish) → setup_text wish ≡ request_text (setup_parts wish)
-setup_is wish =
-    put_in_row (codes "SETUP ") (setup_rest wish)
-    ∙ sym (request_spelled (codes "SETUP") (film_url wish ++ codes "/video") (setup_parts wish).fields
+pub setup-is : (wish : Wish) → setup_text wish ≡ request_text (setup_parts wish)
+setup-is wish =
+    put-in-row (codes "SETUP ") (setup_rest wish)
+    ∙ sym (request-spelled (codes "SETUP") (film_url wish ++ codes "/video") (setup_parts wish).fields
     ∙ ap (λ l. codes "SETUP " ++ l) (append_assoc (film_url wish) (codes "/video") _))
 
-pub play_is : (wish : Wish) (session : List ℕ) → play_text wish session ≡ request_text (play_parts wish session)
-play_is wish session =
-    put_in_row (codes "PLAY ") (play_rest wish session)
-    ∙ sym (request_spelled (codes "PLAY") (film_url wish) (play_parts wish session).fields)
+pub play-is : (wish : Wish) (session : List ℕ) → play_text wish session ≡ request_text (play_parts wish session)
+play-is wish session =
+    put-in-row (codes "PLAY ") (play_rest wish session)
+    ∙ sym (request-spelled (codes "PLAY") (film_url wish) (play_parts wish session).fields)
 
-pub teardown_is : (wish : Wish) (session : List ℕ) → teardown_text wish session ≡ request_text (teardown_parts wish session)
-teardown_is wish session =
-    put_in_row (codes "TEARDOWN ") (teardown_rest wish session)
-    ∙ sym (request_spelled (codes "TEARDOWN") (film_url wish) (teardown_parts wish session).fields)
+pub teardown-is : (wish : Wish) (session : List ℕ)
+    → teardown_text wish session ≡ request_text (teardown_parts wish session)
+teardown-is wish session =
+    put-in-row (codes "TEARDOWN ") (teardown_rest wish session)
+    ∙ sym (request-spelled (codes "TEARDOWN") (film_url wish) (teardown_parts wish session).fields)

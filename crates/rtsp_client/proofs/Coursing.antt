@@ -1,5 +1,6 @@
 -- Events, one after another, up to the answer.
-use Rattle.std.proofs.Common.{◌≡◌, ℕ, ◌+◌, ◌<◌, List, [], ◌∷◌, ◌++◌, take, Option, Some, Ok, IfSome, refl, sym, ap, subst, ◌∙◌, append_assoc, inl, inr}
+use Rattle.std.proofs.Common.{◌≡◌, ℕ, ◌+◌, ◌<◌, List, [], ◌∷◌, ◌++◌, take, Option, Some, Ok, IfSome}
+use Rattle.std.proofs.Common.{refl, sym, ap, subst, ◌∙◌, append_assoc, inl, inr}
 use Rattle.std.proofs.lemmas.List.{append-nil, length-append}
 use Rattle.std.proofs.lemmas.List.Concat.{flat_map-append}
 use Rattle.vod_base.specs.Links.{Doing, HeardBytes, HeardEnd, HeardSlot, sends, told_more}
@@ -16,10 +17,12 @@ use Rattle.rtsp_client.specs.declared.wishes.WatchFault.TheVariants.{EndedEarly,
 use Rattle.rtsp_client.specs.Requests.{setup_text}
 use Rattle.rtsp_client.specs.Moments.{History, Slot}
 use Rattle.rtsp_client.specs.Answers.{history_after, cut_bytes, moments_in, payload_of, payloads_of, requests_after}
-use Rattle.rtsp_client.specs.Courses.{Ends, HasWatched, Round, Runs, RunsAll, Stage, moments_of_rounds, rounds_doings, stage}
+use Rattle.rtsp_client.specs.Courses.{Ends, HasWatched, Round, Runs, RunsAll, Stage}
+use Rattle.rtsp_client.specs.Courses.{moments_of_rounds, rounds_doings, stage}
 use Rattle.rtsp_client.specs.Keeps.{Keeps, KeepsState}
 use Rattle.rtsp_client.specs.States.{after_slot, new_state}
-use Rattle.rtsp_client.specs.Takings.{HasEnded, HasRound, HasRun, HasStopped, HasTaken, IsUnsent, Sight, sight, sight_more}
+use Rattle.rtsp_client.specs.Takings.{HasEnded, HasRound, HasRun, HasStopped, HasTaken, IsUnsent}
+use Rattle.rtsp_client.specs.Takings.{Sight, sight, sight_more}
 use Rattle.rtsp_client.proofs.Keeping.{keeps-new}
 use Rattle.rtsp_client.proofs.Metering.{keeps-slot}
 use Rattle.rtsp_client.proofs.Sighting.{sight-none}
@@ -92,7 +95,8 @@ pub ended-peer : {wish : Wish} {h : History} {c : Client} {end : WatchEnd} {s : 
 ended-peer {h} {c} {end} {s} k is = record {
   sent = [];
   out = [];
-  ends = λ count few. inr (inl (is ∙ ap (λ (w : Watched). Fault (EndedEarly w.units)) k.state.watched_is, few, refl, refl));
+  ends = λ count few. inr (inl
+      (is ∙ ap (λ (w : Watched). Fault (EndedEarly w.units)) k.state.watched_is, few, refl, refl));
   sight_is = sight-none s;
 }
 
@@ -124,7 +128,8 @@ doings-on wish h (first ∷ rounds) round =
     let front = first.event ∷ sends (requests_after wish h first.moments) in
     ap (λ d. front ++ d) (doings-on wish (history_after h first.moments) rounds round)
     ∙ (ap (λ g. front
-    ++ (rounds_doings wish (history_after h first.moments) rounds ++ (round.event ∷ sends (requests_after wish g round.moments))))
+    ++ (rounds_doings wish (history_after h first.moments) rounds
+    ++ (round.event ∷ sends (requests_after wish g round.moments))))
     (sym (after-on h first.moments (moments_of_rounds rounds)))
     ∙ sym (append_assoc front (rounds_doings wish (history_after h first.moments) rounds)
     (round.event ∷ sends (requests_after wish (history_after h (moments_of_rounds (first ∷ rounds))) round.moments))))
@@ -156,7 +161,8 @@ run-none {wish} {s} none empty new_ input = record {
 -- one more event
 pub run-on : {wish : Wish} {count : ℕ} {event : Doing} {c new : Client} {s t u v : Sight}
     (run : HasRun wish count c s t)
-    → u ≡ sight (told_more t.told (event ∷ [])) t.out → ((h : History) → Keeps wish h c → HasRound wish h c.input event new u v)
+    → u ≡ sight (told_more t.told (event ∷ [])) t.out
+    → ((h : History) → Keeps wish h c → HasRound wish h c.input event new u v)
     → HasRun wish (count + 1) new s v
 run-on {wish} {event} {c} {new} {s} run heard next =
     let round = next run.history run.keeps in
@@ -168,14 +174,17 @@ run-on {wish} {event} {c} {new} {s} run heard next =
     ≡ told_more s.told (rounds_doings wish [] (run.rounds ++ r ∷ [])) =
     told_more-append (told_more s.told (rounds_doings wish [] run.rounds)) (event ∷ [])
     (sends (requests_after wish run.history round.moments))
-    ∙ (told_more-append s.told (rounds_doings wish [] run.rounds) (event ∷ sends (requests_after wish run.history round.moments))
-    ∙ ap (told_more s.told) (ap (λ g. rounds_doings wish [] run.rounds ++ (event ∷ sends (requests_after wish g round.moments))) h
+    ∙ (told_more-append s.told (rounds_doings wish [] run.rounds)
+    (event ∷ sends (requests_after wish run.history round.moments))
+    ∙ ap (told_more s.told) (ap
+    (λ g. rounds_doings wish [] run.rounds ++ (event ∷ sends (requests_after wish g round.moments))) h
     ∙ sym (doings-on wish [] run.rounds r))) in
     let out : told_more (told_more s.out (payloads_of (moments_of_rounds run.rounds))) (payloads_of round.moments)
     ≡ told_more s.out (payloads_of (moments_of_rounds (run.rounds ++ r ∷ []))) =
     told_more-append s.out (payloads_of (moments_of_rounds run.rounds)) (payloads_of round.moments)
     ∙ ap (told_more s.out)
-    (sym (flat_map-append payload_of (moments_of_rounds run.rounds) round.moments) ∙ ap payloads_of (sym (moments-of-on run.rounds r))) in
+    (sym (flat_map-append payload_of (moments_of_rounds run.rounds) round.moments)
+    ∙ ap payloads_of (sym (moments-of-on run.rounds r))) in
     record {
       rounds = run.rounds ++ r ∷ [];
       count_is = length-append run.rounds (r ∷ []) ∙ ap (λ n. n + 1) run.count_is;
@@ -194,8 +203,10 @@ run-on {wish} {event} {c} {new} {s} run heard next =
 course-of : {wish : Wish} {count : ℕ} {c : Client} {end : WatchEnd} {told0 : Option (List Doing)}
     {out0 : Option (List ℕ)} {s t : Sight} {doings : List Doing} {out : List ℕ} {new_told : Option (List Doing)}
     {new_out : Option (List ℕ)} (run : HasRun wish count c s t)
-    → s ≡ sight (told_more told0 (sends (setup_text wish))) out0 → Ends wish (stage run.history c.input) count end doings out
-    → new_told ≡ told_more t.told doings → new_out ≡ told_more t.out out → HasWatched wish end told0 new_told out0 new_out
+    → s ≡ sight (told_more told0 (sends (setup_text wish))) out0
+    → Ends wish (stage run.history c.input) count end doings out
+    → new_told ≡ told_more t.told doings → new_out ≡ told_more t.out out
+    → HasWatched wish end told0 new_told out0 new_out
 course-of {wish} {c} {end} {told0} {out0} {s} {doings} {out} run begun ends told_is out_is =
     let d = rounds_doings wish [] run.rounds in
     inl (record {
@@ -220,13 +231,15 @@ course-of {wish} {c} {end} {told0} {out0} {s} {doings} {out} run begun ends told
 pub watched-end : {wish : Wish} {count : ℕ} {event : Doing} {c : Client} {end : WatchEnd}
     {told0 : Option (List Doing)} {out0 : Option (List ℕ)} {s t u v : Sight} (run : HasRun wish count c s t)
     → s ≡ sight (told_more told0 (sends (setup_text wish))) out0 → count < 1099511627776
-    → u ≡ sight (told_more t.told (event ∷ [])) t.out → ((h : History) → Keeps wish h c → HasEnded wish h c.input event end u v)
+    → u ≡ sight (told_more t.told (event ∷ [])) t.out
+    → ((h : History) → Keeps wish h c → HasEnded wish h c.input event end u v)
     → HasWatched wish end told0 v.told out0 v.out
 watched-end {count} {event} {c} {end} {s} {t} run begun few heard next =
     let ended = next run.history run.keeps in
     course-of run begun (ended.ends count few)
     (ap (λ (x : Sight). x.told) ended.sight_is
-    ∙ (ap (λ (x : Sight). told_more x.told (sends ended.sent)) heard ∙ told_more-append t.told (event ∷ []) (sends ended.sent)))
+    ∙ (ap (λ (x : Sight). told_more x.told (sends ended.sent)) heard
+    ∙ told_more-append t.told (event ∷ []) (sends ended.sent)))
     (ap (λ (x : Sight). x.out) ended.sight_is ∙ ap (λ (x : Sight). told_more x.out ended.out) heard)
 
 -- no further event was heard
@@ -235,7 +248,8 @@ pub watched-lost : {wish : Wish} {count : ℕ} {c : Client} {end : WatchEnd} {to
     → s ≡ sight (told_more told0 (sends (setup_text wish))) out0
     → count < 1099511627776 → end ≡ LinkFault → new_told ≡ t.told → HasWatched wish end told0 new_told out0 t.out
 watched-lost {c} {end} {s} {t} run begun few is same =
-    course-of run begun (inl (inl (is, few), refl, refl)) (same ∙ sym (told_more-nil t.told)) (sym (told_more-nil t.out))
+    course-of run begun (inl (inl (is, few), refl, refl)) (same ∙ sym (told_more-nil t.told))
+    (sym (told_more-nil t.out))
 
 pub watched-spent : {wish : Wish} {count : ℕ} {c : Client} {told0 : Option (List Doing)} {out0 : Option (List ℕ)}
     {s t : Sight} (run : HasRun wish count c s t) → s ≡ sight (told_more told0 (sends (setup_text wish))) out0

@@ -1,5 +1,6 @@
 -- What a frame, a report and a slot come to.
-use Rattle.std.proofs.Common.{◌≡◌, ℕ, ◌≤◌, ◌-◌, ◌==◌, true, false, List, [], ◌∷◌, length, take, drop, Option, Some, None, is_some, refl, sym, ap, subst, ◌∙◌, inr}
+use Rattle.std.proofs.Common.{◌≡◌, ℕ, ◌≤◌, ◌-◌, ◌==◌, true, false, List, [], ◌∷◌, length, take}
+use Rattle.std.proofs.Common.{drop, Option, Some, None, is_some, refl, sym, ap, subst, ◌∙◌, inr}
 use Rattle.std.proofs.lemmas.Bool.{cond-true, cond-false, ne_eqb}
 use Rattle.std.proofs.lemmas.List.{length-take-le}
 use Rattle.vod_base.specs.Links.{Doing, IsFrontTold, sends, told_more}
@@ -26,7 +27,8 @@ use Rattle.rtsp_client.proofs.Sighting.{all-front, no-front, sight-both, sight-h
 
 -- it isn't the next frame
 pub bad-frame : {wish : Wish} {h : History} {c : Client} {b : List ℕ} {end : WatchEnd} {s : Sight} → Keeps wish h c
-    → source_with c.watching b ≡ None → end ≡ Fault (BadFrame c.watching.watched.frames) → HasEndedAt wish h (Frame b) end s s
+    → source_with c.watching b ≡ None → end ≡ Fault (BadFrame c.watching.watched.frames)
+    → HasEndedAt wish h (Frame b) end s s
 bad-frame {wish} {h} {c} {b} {end} {s} k none is =
     gives wish h (Frame b) end s (
       good-is wish h c.watching b k.state ∙ ap is_some none,
@@ -137,17 +139,20 @@ taken-frame {next} c n read state = record {
 
 -- it goes on, and no request is sent
 pub frame-done : {wish : Wish} {h : History} {c mid : Client} {b : List ℕ} {next : Source}
-    {out new_out : Option (List ℕ)} (told : Option (List Doing)) → TakenFrame wish h c mid b next → has_all mid.watching ≡ false
+    {out new_out : Option (List ℕ)} (told : Option (List Doing)) → TakenFrame wish h c mid b next
+    → has_all mid.watching ≡ false
     → new_out ≡ told_more out (drop 20 b) → HasPassed wish h (Frame b ∷ []) mid (sight told out) (sight told new_out)
 frame-done {wish} {h} {mid} {b} {out} {new_out} told taken open_ handed =
     let keeps = keeps-taken taken in
-    let unmet : is_complete (Frame b ∷ h) ≡ false = sym (complete-is wish (Frame b ∷ h) mid.watching keeps.state) ∙ open_ in
+    let unmet : is_complete (Frame b ∷ h) ≡ false =
+    sym (complete-is wish (Frame b ∷ h) mid.watching keeps.state) ∙ open_ in
     passed-one (frame-taken taken) keeps
     (sight-handed told out new_out (drop 20 b) handed
     ∙ ap (λ a. sight_more (sight told out) a (drop 20 b))
     (sym (cond-false (is_complete (Frame b ∷ h)) (teardown_text wish (session h)) [] unmet)))
 
-request-last : {wish : Wish} {h : History} {c mid : Client} {b : List ℕ} {next : Source} → TakenFrame wish h c mid b next
+request-last : {wish : Wish} {h : History} {c mid : Client} {b : List ℕ} {next : Source}
+    → TakenFrame wish h c mid b next
     → has_all mid.watching ≡ true
     → request_after wish h (Frame b) ≡ teardown_text wish c.session.items
 request-last {wish} {h} {mid} {b} taken all =
@@ -156,8 +161,10 @@ request-last {wish} {h} {mid} {b} taken all =
     ∙ ap (teardown_text wish) (sym taken.keeps.session_is)
 
 -- all units are whole, and TEARDOWN was sent
-pub last-done : {wish : Wish} {h : History} {c mid : Client} {b : List ℕ} {next : Source} {new_told : Option (List Doing)}
-    {out new_out : Option (List ℕ)} (told : Option (List Doing)) → TakenFrame wish h c mid b next → has_all mid.watching ≡ true
+pub last-done : {wish : Wish} {h : History} {c mid : Client} {b : List ℕ} {next : Source}
+    {new_told : Option (List Doing)}
+    {out new_out : Option (List ℕ)} (told : Option (List Doing)) → TakenFrame wish h c mid b next
+    → has_all mid.watching ≡ true
     → new_out ≡ told_more out (drop 20 b) → new_told ≡ told_more told (sends (teardown_text wish c.session.items))
     → HasPassed wish h (Frame b ∷ []) mid (sight told out) (sight new_told new_out)
 last-done {wish} {h} {b} {new_told} {out} told taken all handed sent =
@@ -183,12 +190,14 @@ last-cut {wish} {h} {c} {b} {told} {new_told} {out} {new_out} taken all is hande
         subst (λ e. Fails wish h (Frame b) e (take front.0 text) (drop 20 b)) (sym is)
             (subst F (sym (request-last taken all)) (front.0, (front.1.0, refl)), refl),
       );
-      sight_is = sight-both {new = new_told} {new_out = new_out} told out (take front.0 text) (drop 20 b) front.1.1 handed;
+      sight_is =
+          sight-both {new = new_told} {new_out = new_out} told out (take front.0 text) (drop 20 b) front.1.1 handed;
     }
 
 -- ---- a report
 
-pub report-done : {wish : Wish} {h : History} {c new : Client} {b : List ℕ} {s : Sight} → Keeps wish h c → new.replies ≡ c.replies
+pub report-done : {wish : Wish} {h : History} {c new : Client} {b : List ℕ} {s : Sight} → Keeps wish h c
+    → new.replies ≡ c.replies
     → new.session.items ≡ c.session.items → new.watching ≡ after_report c.watching (length b)
     → HasPassed wish h (Report b ∷ []) new s s
 report-done {wish} {h} {c} {new} {b} {s} k replies_same session_same state =
@@ -203,4 +212,5 @@ report-done {wish} {h} {c} {new} {b} {s} k replies_same session_same state =
 -- a block on another channel is no moment
 pub other-moments : (channel : ℕ) (b : List ℕ) → (channel ≡ 0 → ⊥) → (channel ≡ 1 → ⊥) → block_moments channel b ≡ []
 other-moments channel b not_frame not_report =
-    cond-false (channel == 0) _ _ (ne_eqb channel 0 not_frame) ∙ cond-false (channel == 1) _ _ (ne_eqb channel 1 not_report)
+    cond-false (channel == 0) _ _ (ne_eqb channel 0 not_frame)
+    ∙ cond-false (channel == 1) _ _ (ne_eqb channel 1 not_report)

@@ -1,5 +1,8 @@
 -- What a client keeps, one moment after another.
-use Rattle.std.proofs.Common.{◌≡◌, ℕ, ◌+◌, ◌-◌, ◌%◌, ◌^◌, ◌<◌, ◌≤◌, ◌==◌, ◌&&◌, Bool, true, false, not, nat_lt, nat_le, cond, List, [], ◌∷◌, ◌++◌, length, drop, sum, get_or, Option, Some, None, Result, Ok, Err, is_some, is_ok, unwrap_or, refl, sym, ap, subst, ◌∙◌, arith, inl, inr}
+use Rattle.std.proofs.Common.{◌≡◌, ℕ, ◌+◌, ◌-◌, ◌%◌, ◌^◌, ◌<◌, ◌≤◌, ◌==◌, ◌&&◌, Bool, true, false}
+use Rattle.std.proofs.Common.{not, nat_lt, nat_le, cond, List, [], ◌∷◌, ◌++◌, length, drop, sum}
+use Rattle.std.proofs.Common.{get_or, Option, Some, None, Result, Ok, Err, is_some, is_ok}
+use Rattle.std.proofs.Common.{unwrap_or, refl, sym, ap, subst, ◌∙◌, arith, inl, inr}
 use Rattle.std.proofs.lemmas.Bool.{cases_lt, cond-true, cond-false, eq-eqb, ne_eqb, lt-ltb, le-ltb, true≢false}
 use Rattle.std.proofs.lemmas.List.{length-append, length-drop, take-append-le, take_all}
 use Rattle.std.proofs.lemmas.List.Sums.{sum_by-append}
@@ -13,10 +16,16 @@ use Rattle.rtsp_client.specs.declared.plays.Play.{Play}
 use Rattle.rtsp_client.specs.declared.wishes.Wish.{Wish}
 use Rattle.rtsp_client.specs.declared.wishes.Watched.{Watched}
 use Rattle.rtsp_client.specs.Replies.{play_range, play_start}
-use Rattle.rtsp_client.specs.Moments.{History, Frame, Reply, Report, end_ms, first_frame, frames, is_inside, is_last, is_playing, last_slot, payloads, bytes_pending, bytes_received, replies, reports, sizes, slot_before, start}
-use Rattle.rtsp_client.specs.Films.{begins_film, is_complete, is_first_good, is_good_frame, is_next_good, time_in, units, units_until}
+use Rattle.rtsp_client.specs.Moments.{History, Frame, Reply, Report, end_ms, first_frame, frames}
+use Rattle.rtsp_client.specs.Moments.{is_inside, is_last, is_playing, last_slot, payloads}
+use Rattle.rtsp_client.specs.Moments.{bytes_pending, bytes_received, replies, reports, sizes}
+use Rattle.rtsp_client.specs.Moments.{slot_before, start}
+use Rattle.rtsp_client.specs.Films.{begins_film, is_complete, is_first_good, is_good_frame}
+use Rattle.rtsp_client.specs.Films.{is_next_good, time_in, units, units_until}
 use Rattle.rtsp_client.specs.Meters.{watched_in}
-use Rattle.rtsp_client.specs.States.{State, after_frame, after_play, after_report, has_all, is_all, is_between, new_state, report_in, source_after, source_played, source_read, source_with}
+use Rattle.rtsp_client.specs.States.{State, after_frame, after_play, after_report, has_all, is_all}
+use Rattle.rtsp_client.specs.States.{is_between, new_state, report_in, source_after, source_played}
+use Rattle.rtsp_client.specs.States.{source_read, source_with}
 use Rattle.rtsp_client.specs.Keeps.{AreSumsOf, IsPlayOf, IsSource, IsSourceOf, KeepsState}
 
 -- ---- nothing was heard
@@ -39,11 +48,13 @@ keeps-new wish = record {
 no-play : (h : History) → replies h ≤ 1 → is_playing h ≡ false
 no-play h few = le-ltb 1 (replies h) few
 
-play-first : (play : Option Play) (h : History) (m : List ℕ) → IsPlayOf play h → replies h ≡ 0 → IsPlayOf play (Reply m ∷ h)
+play-first : (play : Option Play) (h : History) (m : List ℕ) → IsPlayOf play h → replies h ≡ 0
+    → IsPlayOf play (Reply m ∷ h)
 play-first None h m is none = le-ltb 1 (replies h + 1) (omega (arith, none))
 play-first (Some play) h m is none = absurd (true≢false (sym is.playing ∙ no-play h (omega (arith, none))))
 
-source-first : (source : Option Source) (h : History) (m : List ℕ) → IsSourceOf source h → (0 < frames h → is_playing h ≡ true)
+source-first : (source : Option Source) (h : History) (m : List ℕ) → IsSourceOf source h
+    → (0 < frames h → is_playing h ≡ true)
     → replies h ≤ 1 → IsSourceOf source (Reply m ∷ h)
 source-first None h m is begun few = is
 source-first (Some source) h m is begun few = absurd (true≢false (sym (begun is.some) ∙ no-play h few))
@@ -65,7 +76,8 @@ keeps-first wish h s m k none = record {
 second-is : {A : Type 0} (h : History) (x y : A) → replies h ≡ 1 → cond (replies h == 1) x y ≡ x
 second-is h x y one = cond-true (replies h == 1) x y (eq-eqb (replies h) 1 one)
 
-pub keeps-play : {wish : Wish} {h : History} {s : State} {m : List ℕ} {begin ms : ℕ} → KeepsState wish h s → replies h ≡ 1
+pub keeps-play : {wish : Wish} {h : History} {s : State} {m : List ℕ} {begin ms : ℕ} → KeepsState wish h s
+    → replies h ≡ 1
     → play_start m ≡ Some begin → play_range m ≡ Some ms → KeepsState wish (Reply m ∷ h) (after_play s begin ms)
 keeps-play {h} {s} {m} k one starts ends = record {
   last_slot_is = k.last_slot_is;
@@ -111,7 +123,8 @@ goes-on : {head : Head} {ms : ℕ} (source : Option Source) (h : History) (b : L
 goes-on {head} {ms} None h b is at end =
     cond-true (frames h == 0) (is_first_good h b) (is_next_good h b) (eq-eqb (frames h) 0 is)
     ∙ sym (some-cond
-    (begins_film (drop 20 b) && (nat_le 1 (units_until ms (time_in b)) && nat_le (units_until ms (time_in b)) 4194304)) _
+    (begins_film (drop 20 b) &&
+    (nat_le 1 (units_until ms (time_in b)) && nat_le (units_until ms (time_in b)) 4194304)) _
     ∙ ap (λ n. begins_film (drop 20 b)
     && (nat_le 1 (units_until n (time_in b)) && nat_le (units_until n (time_in b)) 4194304)) end)
 goes-on {head} (Some source) h b is at end =
@@ -119,11 +132,13 @@ goes-on {head} (Some source) h b is at end =
     (ne_eqb (frames h) 0 (λ none. absurd (omega (arith, is.some, none))))
     ∙ sym (some-cond ((head.ssrc == source.ssrc) && (head.sequence == (source.sequence + 1) % 2 ^ 16)) _
     ∙ (ap (λ (x : Head). (x.ssrc == source.ssrc) && (x.sequence == (source.sequence + 1) % 2 ^ 16)) at
-    ∙ (ap (λ n. ((head_at (drop 4 b)).ssrc == n) && ((head_at (drop 4 b)).sequence == (source.sequence + 1) % 2 ^ 16)) is.ssrc_is
+    ∙ (ap (λ n. ((head_at (drop 4 b)).ssrc == n) &&
+    ((head_at (drop 4 b)).sequence == (source.sequence + 1) % 2 ^ 16)) is.ssrc_is
     ∙ ap (λ n. ((head_at (drop 4 b)).ssrc == (head_at (drop 4 (first_frame h))).ssrc)
     && ((head_at (drop 4 b)).sequence == (n + 1) % 2 ^ 16)) is.sequence_is)))
 
-reads-on : {read : Result Head HeadFault} {ms : ℕ} (source : Option Source) (h : History) (b : List ℕ) → IsSourceOf source h
+reads-on : {read : Result Head HeadFault} {ms : ℕ} (source : Option Source) (h : History) (b : List ℕ)
+    → IsSourceOf source h
     → head_of (drop 4 b) ≡ read → ms ≡ end_ms h
     → (is_ok read && cond (frames h == 0) (is_first_good h b) (is_next_good h b))
     ≡ is_some (source_read source read (drop 20 b) ms)
@@ -144,7 +159,8 @@ some-unless : (all : Bool) (o : Option Source) → is_some (cond all None o) ≡
 some-unless true o = refl
 some-unless false o = refl
 
-good-in : {wish : Wish} {h : History} {s : State} (play : Option Play) (b : List ℕ) → IsPlayOf play h → KeepsState wish h s
+good-in : {wish : Wish} {h : History} {s : State} (play : Option Play) (b : List ℕ) → IsPlayOf play h
+    → KeepsState wish h s
     → is_good_frame h b ≡ is_some (source_played play s b)
 good-in {h} None b is k = ap (λ c. c && (not (is_complete h) &&
     (is_ok (head_of (drop 4 b)) && cond (frames h == 0) (is_first_good h b) (is_next_good h b)))) is
@@ -153,7 +169,8 @@ good-in {wish} {h} {s} (Some play) b is k =
     ap (λ c. c &&
     (not (is_complete h)
     && (is_ok (head_of (drop 4 b)) && cond (frames h == 0) (is_first_good h b) (is_next_good h b)))) is.playing
-    ∙ (ap (λ c. not c && (is_ok (head_of (drop 4 b)) && cond (frames h == 0) (is_first_good h b) (is_next_good h b))) (sym all)
+    ∙ (ap (λ c. not c && (is_ok (head_of (drop 4 b)) && cond (frames h == 0) (is_first_good h b)
+    (is_next_good h b))) (sym all)
     ∙ (ap (λ c. not (has_all s) && c) (reads-on s.source h b k.source_is refl is.end_is)
     ∙ sym (some-unless (has_all s) (source_read s.source (head_of (drop 4 b)) (drop 20 b) play.end_ms))))
 
@@ -167,7 +184,8 @@ picked : {A : Type 0} (c : Bool) (x y : A) → cond c (Some x) None ≡ Some y �
 picked true x y is = cc
 picked false x y is = cc
 
-source-after : {h : History} {b : List ℕ} {head : Head} {ms : ℕ} {next : Source} (source : Option Source) → IsSourceOf source h
+source-after : {h : History} {b : List ℕ} {head : Head} {ms : ℕ} {next : Source} (source : Option Source)
+    → IsSourceOf source h
     → head ≡ head_at (drop 4 b) → ms ≡ end_ms h → source_after source head (drop 20 b) ms ≡ Some next
     → IsSource next (Frame b ∷ h)
 source-after {h} {b} {head} {ms} {next} None is at end after =
@@ -192,7 +210,8 @@ source-after {h} {b} {head} {ms} {next} None is at end after =
 source-after {h} {b} {head} {next} (Some source) is at end after =
     let its = picked ((head.ssrc == source.ssrc) && (head.sequence == (source.sequence + 1) % 2 ^ 16)) _ next after in
     let some : (frames h == 0) ≡ false = ne_eqb (frames h) 0 (λ none. absurd (omega (arith, is.some, none))) in
-    let first : cond (frames h == 0) b (first_frame h) ≡ first_frame h = cond-false (frames h == 0) b (first_frame h) some in
+    let first : cond (frames h == 0) b (first_frame h) ≡ first_frame h =
+    cond-false (frames h == 0) b (first_frame h) some in
     record {
       some = omega arith;
       ssrc_is = ap (λ (x : Source). x.ssrc) its ∙ (is.ssrc_is ∙ sym (ap (λ f. (head_at (drop 4 f)).ssrc) first));
@@ -209,7 +228,8 @@ source-after {h} {b} {head} {next} (Some source) is at end after =
 
 source-read : {h : History} {b : List ℕ} {read : Result Head HeadFault} {ms : ℕ} {next : Source}
     (source : Option Source) → IsSourceOf source h
-    → head_of (drop 4 b) ≡ read → ms ≡ end_ms h → source_read source read (drop 20 b) ms ≡ Some next → IsSource next (Frame b ∷ h)
+    → head_of (drop 4 b) ≡ read → ms ≡ end_ms h → source_read source read (drop 20 b) ms ≡ Some next
+    → IsSource next (Frame b ∷ h)
 source-read {h} {read = Err fault} {next} source is at end after = cc
 source-read {h} {b} {read = Ok head} {next} source is at end after =
     source-after source is (head-read (drop 4 b) head at) end after
@@ -229,7 +249,8 @@ source-played {h} {next} (Some play) s is source after = (
 
 play-frame : (play : Option Play) (h : History) (b : List ℕ) → IsPlayOf play h → IsPlayOf play (Frame b ∷ h)
 play-frame None h b is = is
-play-frame (Some play) h b is = record { playing = is.playing; start_is = is.start_is; slot_is = is.slot_is; end_is = is.end_is }
+play-frame (Some play) h b is =
+    record { playing = is.playing; start_is = is.start_is; slot_is = is.slot_is; end_is = is.end_is }
 
 pub sum-one : (sizes : List ℕ) (size : ℕ) → sum (sizes ++ size ∷ []) ≡ sum sizes + size
 sum-one sizes size = omega (arith, sum_by-append (λ (x : ℕ). x) sizes (size ∷ []))
@@ -247,10 +268,12 @@ ends-more ends sizes end size are is =
       count = omega (arith, are.count, long, length-append sizes (size ∷ []));
       each = λ k few. elim (cases_lt k (length ends)) [
         | inl less ↦ get_or-append ends (end ∷ []) 0 k less
-            ∙ (are.each k less ∙ sym (ap sum (take-append-le (k + 1) sizes (size ∷ []) (omega (arith, less, are.count)))))
+            ∙ (are.each k less ∙ sym (ap sum
+            (take-append-le (k + 1) sizes (size ∷ []) (omega (arith, less, are.count)))))
         | inr more ↦
             let last : k ≡ length ends = omega (arith, more, few, long) in
-            let whole : length (sizes ++ size ∷ []) ≤ k + 1 = omega (arith, last, are.count, length-append sizes (size ∷ [])) in
+            let whole : length (sizes ++ size ∷ []) ≤ k + 1 =
+            omega (arith, last, are.count, length-append sizes (size ∷ [])) in
             ap (λ i. get_or (ends ++ end ∷ []) i 0) last ∙ (get_or-append_seam ends end [] 0
             ∙ (is ∙ (sym (sum-one sizes size) ∙ sym (ap sum (take_all (k + 1) (sizes ++ size ∷ []) whole)))))
       ];
@@ -260,7 +283,8 @@ frame-ends : {m l : Bool} {ends sizes : List ℕ} {taken : ℕ} (bytes_pending n
     → taken ≡ sum sizes + bytes_pending
     → AreSumsOf (cond m (ends ++ (taken + n) ∷ []) ends) (cond l (sizes ++ (bytes_pending + n) ∷ []) sizes)
 frame-ends {m} {l = true} {ends} {sizes} {taken} bytes_pending n same are is =
-    let E : Bool → Type 0 = λ b. AreSumsOf (cond b (ends ++ (taken + n) ∷ []) ends) (sizes ++ (bytes_pending + n) ∷ []) in
+    let E : Bool → Type 0 =
+    λ b. AreSumsOf (cond b (ends ++ (taken + n) ∷ []) ends) (sizes ++ (bytes_pending + n) ∷ []) in
     subst E (sym same) (ends-more ends sizes (taken + n) (bytes_pending + n) are (omega (arith, is)))
 frame-ends {m} {l = false} {ends} {sizes} {taken} bytes_pending n same are is =
     let E : Bool → Type 0 = λ b. AreSumsOf (cond b (ends ++ (taken + n) ∷ []) ends) sizes in
@@ -304,9 +328,11 @@ keeps-frame {wish} {h} {s} {b} {next} k with_it long =
 
 play-report : (play : Option Play) (h : History) (b : List ℕ) → IsPlayOf play h → IsPlayOf play (Report b ∷ h)
 play-report None h b is = is
-play-report (Some play) h b is = record { playing = is.playing; start_is = is.start_is; slot_is = is.slot_is; end_is = is.end_is }
+play-report (Some play) h b is =
+    record { playing = is.playing; start_is = is.start_is; slot_is = is.slot_is; end_is = is.end_is }
 
-source-report : (source : Option Source) (h : History) (b : List ℕ) → IsSourceOf source h → IsSourceOf source (Report b ∷ h)
+source-report : (source : Option Source) (h : History) (b : List ℕ) → IsSourceOf source h
+    → IsSourceOf source (Report b ∷ h)
 source-report None h b is = is
 source-report (Some source) h b is = record {
   some = is.some;
@@ -321,14 +347,16 @@ not-twice : (m i : Bool) → i ≡ not m → not i ≡ m
 not-twice true i is = ap not is
 not-twice false i is = ap not is
 
-between-taken : {m : Bool} {taken : ℕ} (i : Bool) (sizes bytes_pending n : ℕ) → not i ≡ m → taken ≡ sizes + bytes_pending
+between-taken : {m : Bool} {taken : ℕ} (i : Bool) (sizes bytes_pending n : ℕ) → not i ≡ m
+    → taken ≡ sizes + bytes_pending
     → cond m (taken + n) taken ≡ sizes + cond (true && not i) (bytes_pending + n) bytes_pending
 between-taken {m = true} {taken} i sizes bytes_pending n is same =
     omega (arith, same, ap (λ b. cond b (bytes_pending + n) bytes_pending) is)
 between-taken {m = false} {taken} i sizes bytes_pending n is same =
     omega (arith, same, ap (λ b. cond b (bytes_pending + n) bytes_pending) is)
 
-report-state : {play : Option Play} {wish : Wish} {h : History} {s : State} {b : List ℕ} → KeepsState wish h s → IsPlayOf play h
+report-state : {play : Option Play} {wish : Wish} {h : History} {s : State} {b : List ℕ} → KeepsState wish h s
+    → IsPlayOf play h
     → s.play ≡ play → KeepsState wish (Report b ∷ h) (report_in play s (length b))
 report-state {play = None} {wish} {h} {s} {b} k is same = record {
   last_slot_is = k.last_slot_is;
@@ -340,7 +368,8 @@ report-state {play = None} {wish} {h} {s} {b} k is same = record {
   received_is = k.received_is ∙ sym (ap (λ c. cond c (bytes_received h + length b) (bytes_received h)) is);
   taken_is = k.taken_is
       ∙ sym (ap (λ c. sum (sizes h) + cond (c && not (is_inside h)) (bytes_pending h + length b) (bytes_pending h)) is);
-  watched_is = k.watched_is ∙ sym (ap (λ c. record (watched_in wish h) { reports = cond c (reports h + 1) (reports h) }) is);
+  watched_is = k.watched_is
+      ∙ sym (ap (λ c. record (watched_in wish h) { reports = cond c (reports h + 1) (reports h) }) is);
 }
 report-state {play = Some play} {wish} {h} {s} {b} k is same = record {
   last_slot_is = k.last_slot_is;
@@ -350,10 +379,12 @@ report-state {play = Some play} {wish} {h} {s} {b} k is same = record {
   inside = k.inside;
   ends_are = k.ends_are;
   received_is =
-      ap (λ n. n + length b) k.received_is ∙ sym (ap (λ c. cond c (bytes_received h + length b) (bytes_received h)) is.playing);
+      ap (λ n. n + length b) k.received_is
+      ∙ sym (ap (λ c. cond c (bytes_received h + length b) (bytes_received h)) is.playing);
   taken_is = between-taken (is_inside h) (sum (sizes h)) (bytes_pending h) (length b)
       (not-twice (is_between s.source) (is_inside h) k.inside) k.taken_is
-      ∙ sym (ap (λ c. sum (sizes h) + cond (c && not (is_inside h)) (bytes_pending h + length b) (bytes_pending h)) is.playing);
+      ∙ sym (ap (λ c. sum (sizes h) + cond (c && not (is_inside h)) (bytes_pending h + length b) (bytes_pending h))
+      is.playing);
   watched_is = ap (λ (w : Watched). record w { reports = w.reports + 1 }) k.watched_is
       ∙ sym (ap (λ c. record (watched_in wish h) { reports = cond c (reports h + 1) (reports h) }) is.playing);
 }

@@ -1,6 +1,10 @@
 -- What the meter reads of what a client keeps.
-use Rattle.std.proofs.Common.{◌≡◌, ℕ, suc, ◌+◌, ◌-◌, ◌*◌, ◌/◌, ◌<◌, ◌≤◌, ◌==◌, ◌&&◌, Bool, true, false, not, nat_lt, nat_le, cond, List, [], ◌∷◌, length, take, sum, get_or, max, min, Option, Some, None, refl, sym, ap, subst, ◌∙◌, arith, inl, inr}
-use Rattle.std.proofs.lemmas.Bool.{cases_lt, cases_eq, cond-true, cond-false, cond_both, eq-eqb, ne_eqb, lt-ltb, le-ltb, le-leb, lt-leb}
+use Rattle.std.proofs.Common.{◌≡◌, ℕ, suc, ◌+◌, ◌-◌, ◌*◌, ◌/◌, ◌<◌, ◌≤◌, ◌==◌, ◌&&◌, Bool, true}
+use Rattle.std.proofs.Common.{false, not, nat_lt, nat_le, cond, List, [], ◌∷◌, length, take, sum}
+use Rattle.std.proofs.Common.{get_or, max, min, Option, Some, None, refl, sym, ap, subst, ◌∙◌}
+use Rattle.std.proofs.Common.{arith, inl, inr}
+use Rattle.std.proofs.lemmas.Bool.{cases_lt, cases_eq, cond-true, cond-false, cond_both, eq-eqb}
+use Rattle.std.proofs.lemmas.Bool.{ne_eqb, lt-ltb, le-ltb, le-leb, lt-leb}
 use Rattle.std.proofs.lemmas.List.{take_all}
 use Rattle.std.proofs.lemmas.List.Sums.{sum_by-cons}
 use Rattle.std.proofs.lemmas.Nat.{le-div, div_below}
@@ -11,10 +15,14 @@ use Rattle.rtsp_client.specs.declared.frames.Source.{Source}
 use Rattle.rtsp_client.specs.declared.plays.Play.{Play}
 use Rattle.rtsp_client.specs.declared.wishes.Wish.{Wish}
 use Rattle.rtsp_client.specs.declared.wishes.Watched.{Watched}
-use Rattle.rtsp_client.specs.Moments.{History, Frame, Reply, Report, Slot, first_frame, frames, is_playing, last_slot, bytes_received, replies, sizes, slot_before, start}
+use Rattle.rtsp_client.specs.Moments.{History, Frame, Reply, Report, Slot, first_frame, frames}
+use Rattle.rtsp_client.specs.Moments.{is_playing, last_slot, bytes_received, replies, sizes}
+use Rattle.rtsp_client.specs.Moments.{slot_before, start}
 use Rattle.rtsp_client.specs.Films.{is_complete, time_in}
-use Rattle.rtsp_client.specs.Meters.{is_read, lacks_picture, place_in, played_before, time, use_slot, used_before, bytes_waiting, watched_in}
-use Rattle.rtsp_client.specs.States.{State, after_reading, after_slot, is_lacking, place_of, played_of, reading_at, time_of, used_bytes}
+use Rattle.rtsp_client.specs.Meters.{is_read, lacks_picture, place_in, played_before, time}
+use Rattle.rtsp_client.specs.Meters.{use_slot, used_before, bytes_waiting, watched_in}
+use Rattle.rtsp_client.specs.States.{State, after_reading, after_slot, is_lacking, place_of}
+use Rattle.rtsp_client.specs.States.{played_of, reading_at, time_of, used_bytes}
 use Rattle.rtsp_client.specs.Keeps.{AreSumsOf, IsPlayOf, IsSourceOf, KeepsState}
 use Rattle.rtsp_client.proofs.Keeping.{complete-is}
 
@@ -57,7 +65,13 @@ used-sum {p} wish j unit (size ∷ sizes) lasts =
           let one : c - unit ≡ suc (c - (unit + 1)) = omega (arith, few) in
           let used = cond-true (nat_lt (use_slot wish p unit) j) size 0
           (lt-ltb (use_slot wish p unit) j (used-early wish.startup j unit lasts few)) in
-          omega (arith, used, rest, ap (λ n. sum (take n (size ∷ sizes))) one, sum-cons size (take (c - (unit + 1)) sizes))
+          omega (
+            arith,
+            used,
+            rest,
+            ap (λ n. sum (take n (size ∷ sizes))) one,
+            sum-cons size (take (c - (unit + 1)) sizes),
+          )
       | inr many ↦
           let none : c - unit ≡ 0 = omega (arith, many) in
           let after : c - (unit + 1) ≡ 0 = omega (arith, many) in
@@ -136,9 +150,11 @@ time-in h (Some source) is =
     (cond-false (frames h == 0) 0 (time_in (first_frame h))
     (ne_eqb (frames h) 0 (λ none. absurd (omega (arith, is.some, none)))))
 
-lacks-in : (wish : Wish) (h : History) (s : State) (j : ℕ) → KeepsState wish h s → is_lacking wish s j ≡ lacks_picture wish h j
+lacks-in : (wish : Wish) (h : History) (s : State) (j : ℕ) → KeepsState wish h s
+    → is_lacking wish s j ≡ lacks_picture wish h j
 lacks-in wish h s j k =
-    ap (λ c. not c && nat_le (s.watched.units * time_of s.source / wish.slot_units + wish.startup) j) (complete-is wish h s k)
+    ap (λ c. not c && nat_le (s.watched.units * time_of s.source / wish.slot_units + wish.startup) j)
+    (complete-is wish h s k)
     ∙ (ap (λ n. not (is_complete h) && nat_le (n * time_of s.source / wish.slot_units + wish.startup) j)
     (ap (λ (w : Watched). w.units) k.watched_is)
     ∙ ap (λ n. not (is_complete h) && nat_le (length (sizes h) * n / wish.slot_units + wish.startup) j)
@@ -149,7 +165,8 @@ lacks-in wish h s j k =
 slot-late : (h : History) → slot_before h ≤ last_slot h
 slot-late [] = omega arith
 slot-late (Reply m ∷ h) =
-    cond_both (replies h == 1) (last_slot h) (slot_before h) (λ n. n ≤ last_slot h) (λ e. omega arith) (λ e. slot-late h)
+    cond_both (replies h == 1) (last_slot h) (slot_before h) (λ n. n ≤ last_slot h) (λ e. omega arith)
+    (λ e. slot-late h)
 slot-late (Frame b ∷ h) = slot-late h
 slot-late (Report b ∷ h) = slot-late h
 slot-late (Slot t cut ∷ h) = omega (arith, slot-late h)
@@ -159,7 +176,8 @@ play-slot None h t cut is = is
 play-slot (Some play) h t cut is =
     record { playing = is.playing; start_is = is.start_is; slot_is = is.slot_is; end_is = is.end_is }
 
-source-slot : (source : Option Source) (h : History) (t cut : ℕ) → IsSourceOf source h → IsSourceOf source (Slot t cut ∷ h)
+source-slot : (source : Option Source) (h : History) (t cut : ℕ) → IsSourceOf source h
+    → IsSourceOf source (Slot t cut ∷ h)
 source-slot None h t cut is = is
 source-slot (Some source) h t cut is = record {
   some = is.some;
@@ -171,18 +189,21 @@ source-slot (Some source) h t cut is = record {
 }
 
 -- a slot at which the meter isn't read
-unread : (wish : Wish) (h : History) (t cut : ℕ) → is_read h t ≡ false → watched_in wish h ≡ watched_in wish (Slot t cut ∷ h)
+unread : (wish : Wish) (h : History) (t cut : ℕ) → is_read h t ≡ false
+    → watched_in wish h ≡ watched_in wish (Slot t cut ∷ h)
 unread wish h t cut missed =
     let step : Bool → Watched = λ (r : Bool). record (watched_in wish h) {
       most = cond r (max (watched_in wish h).most (bytes_waiting wish h t cut)) (watched_in wish h).most;
-      over = cond (r && nat_lt wish.buffer (bytes_waiting wish h t cut)) ((watched_in wish h).over + 1) (watched_in wish h).over;
+      over = cond (r && nat_lt wish.buffer (bytes_waiting wish h t cut)) ((watched_in wish h).over + 1)
+          (watched_in wish h).over;
       under = cond (r && lacks_picture wish h (place_in h t)) ((watched_in wish h).under + 1) (watched_in wish h).under;
     } in
     sym (ap step missed)
 
 slot-with : {wish : Wish} {h : History} {s : State} {t cut last : ℕ} {w : Watched} → KeepsState wish h s
     → last ≡ max t (last_slot h)
-    → w ≡ watched_in wish (Slot t cut ∷ h) → KeepsState wish (Slot t cut ∷ h) (record s { last_slot = last; watched = w })
+    → w ≡ watched_in wish (Slot t cut ∷ h)
+    → KeepsState wish (Slot t cut ∷ h) (record s { last_slot = last; watched = w })
 slot-with {h} {s} {t} {cut} {last} {w} k greatest is = record {
   last_slot_is = greatest;
   play_is = play-slot s.play h t cut k.play_is;
@@ -210,10 +231,12 @@ read-at {wish} {h} {s} t cut k lasts reads =
     } in
     let whole : Bool → Watched = λ (r : Bool). record (watched_in wish h) {
       most = cond r (max (watched_in wish h).most (bytes_waiting wish h t cut)) (watched_in wish h).most;
-      over = cond (r && nat_lt wish.buffer (bytes_waiting wish h t cut)) ((watched_in wish h).over + 1) (watched_in wish h).over;
+      over = cond (r && nat_lt wish.buffer (bytes_waiting wish h t cut)) ((watched_in wish h).over + 1)
+          (watched_in wish h).over;
       under = cond (r && lacks_picture wish h j) ((watched_in wish h).under + 1) (watched_in wish h).under;
     } in
-    ap (λ (w : Watched). step w ((s.received + cut) - played_of wish s.source s.ends j) (is_lacking wish s j)) k.watched_is
+    ap (λ (w : Watched). step w ((s.received + cut) - played_of wish s.source s.ends j) (is_lacking wish s j))
+    k.watched_is
     ∙ (ap (λ n. step (watched_in wish h) n (is_lacking wish s j)) amount
     ∙ (ap (λ b. step (watched_in wish h) (bytes_waiting wish h t cut) b) (lacks-in wish h s j k)
     ∙ sym (ap whole reads)))
@@ -233,7 +256,8 @@ keeps-later : {wish : Wish} {h : History} {s : State} {t cut : ℕ} (play : Opti
     → KeepsState wish (Slot t cut ∷ h) (reading_at wish (record s { last_slot = t }) (place_of play t) cut)
 keeps-later {wish} {h} {s} {t} {cut} None k lasts later is =
     slot-with k (omega (arith, later))
-    (k.watched_is ∙ unread wish h t cut (ap (λ b. b && (nat_le (start h + slot_before h) t && nat_lt (last_slot h) t)) is))
+    (k.watched_is ∙ unread wish h t cut
+    (ap (λ b. b && (nat_le (start h + slot_before h) t && nat_lt (last_slot h) t)) is))
 keeps-later {wish} {h} {s} {t} {cut} (Some play) k lasts later is =
     let late = slot-late h in
     let P : Option ℕ → Type 0 =
@@ -259,7 +283,8 @@ keeps-later {wish} {h} {s} {t} {cut} (Some play) k lasts later is =
           ∙ (ap (λ b. b && nat_lt (last_slot h) t) le ∙ lt-ltb (last_slot h) t later) in
           let place : j ≡ place_in h t = omega (arith, due, is.start_is, is.slot_is) in
           subst P (sym
-          (cond-true (nat_le play.start (t - play.slot_before)) (Some j) None (le-leb play.start (t - play.slot_before) due)))
+          (cond-true (nat_le play.start (t - play.slot_before)) (Some j) None
+          (le-leb play.start (t - play.slot_before) due)))
           (subst P (ap (λ n. Some n) (sym place))
           (slot-with k (omega (arith, later)) (read-at t cut k lasts reads)))
     ]
@@ -270,11 +295,13 @@ keeps-slot {wish} {h} {s} {t} {cut} k lasts =
     let P : State → Type 0 = λ x. KeepsState wish (Slot t cut ∷ h) x in
     elim (cases_lt (last_slot h) t) [
       | inl later ↦
-          subst P (sym (cond-false (nat_le t s.last_slot) s (reading_at wish (record s { last_slot = t }) (place_of s.play t) cut)
+          subst P (sym (cond-false (nat_le t s.last_slot) s
+          (reading_at wish (record s { last_slot = t }) (place_of s.play t) cut)
           (lt-leb t s.last_slot (omega (arith, later, k.last_slot_is)))))
           (keeps-later s.play k lasts later k.play_is)
       | inr old ↦
-          subst P (sym (cond-true (nat_le t s.last_slot) s (reading_at wish (record s { last_slot = t }) (place_of s.play t) cut)
+          subst P (sym (cond-true (nat_le t s.last_slot) s
+          (reading_at wish (record s { last_slot = t }) (place_of s.play t) cut)
           (le-leb t s.last_slot (omega (arith, old, k.last_slot_is)))))
           (slot-with k (omega (arith, old, k.last_slot_is))
           (k.watched_is

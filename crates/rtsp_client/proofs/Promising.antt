@@ -1,5 +1,7 @@
 -- A meter between empty and the buffer.
-use Rattle.std.proofs.Common.{◌≡◌, ℕ, zero, suc, ◌+◌, ◌-◌, ◌*◌, ◌/◌, ◌<◌, ◌≤◌, ◌==◌, ◌&&◌, Bool, true, false, not, nat_lt, nat_le, cond, List, [], ◌∷◌, length, take, sum, max, refl, sym, ap, subst, ◌∙◌, arith, inl, inr}
+use Rattle.std.proofs.Common.{◌≡◌, ℕ, zero, suc, ◌+◌, ◌-◌, ◌*◌, ◌/◌, ◌<◌, ◌≤◌, ◌==◌, ◌&&◌, Bool}
+use Rattle.std.proofs.Common.{true, false, not, nat_lt, nat_le, cond, List, [], ◌∷◌, length, take}
+use Rattle.std.proofs.Common.{sum, max, refl, sym, ap, subst, ◌∙◌, arith, inl, inr}
 use Rattle.std.proofs.lemmas.Bool.{cases_lt, eq-eqb, lt-ltb, le-ltb, lt-leb}
 use Rattle.std.proofs.lemmas.List.{take_all, take-take}
 use Rattle.std.proofs.lemmas.List.Sums.{sum_by-take-le}
@@ -8,7 +10,9 @@ use Rattle.std.specs.Int.{div_ceil}
 use Rattle.rtsp_client.specs.declared.wishes.Wish.{Wish}
 use Rattle.rtsp_client.specs.Moments.{History, Frame, Reply, Report, Slot, frames, bytes_received, sizes}
 use Rattle.rtsp_client.specs.Films.{is_complete, units}
-use Rattle.rtsp_client.specs.Meters.{is_read, lacks_picture, most_waiting, count_over, place_in, played_before, time, count_under, use_slot, used_before, bytes_waiting}
+use Rattle.rtsp_client.specs.Meters.{is_read, lacks_picture, most_waiting, count_over, place_in}
+use Rattle.rtsp_client.specs.Meters.{played_before, time, count_under, use_slot, used_before}
+use Rattle.rtsp_client.specs.Meters.{bytes_waiting}
 use Rattle.rtsp_client.specs.Promises.{IsBetween, IsBetweenAlways, IsHeardOf}
 use Rattle.rtsp_client.proofs.Metering.{Durations, no-units, used-early, used-late, used-sum}
 
@@ -16,7 +20,8 @@ sum-front : (xs : List ℕ) (a b : ℕ) → a ≤ b → sum (take a xs) ≤ sum 
 sum-front xs a b few = omega (arith, sum_by-take-le (λ (x : ℕ). x) (take b xs) a, ap sum (take-take a b xs few))
 
 -- the next unit isn't used yet
-not-yet : {wish : Wish} {all : List ℕ} {p j came : ℕ} (n : ℕ) → Durations wish.slot_units p → IsBetween wish all p j came
+not-yet : {wish : Wish} {all : List ℕ} {p j came : ℕ} (n : ℕ) → Durations wish.slot_units p
+    → IsBetween wish all p j came
     → came < sum (take (n + 1) all) → j < use_slot wish p n
 not-yet {wish} {all} {p} {j} n lasts between next =
     elim (cases_lt j (use_slot wish p n)) [
@@ -42,7 +47,8 @@ same-used {p} wish all j n lasts early =
         | inl more ↦ absurd (omega (arith, early fewer, used-early wish.startup j n lasts more))
         | inr less ↦ omega (arith, less)
       ] in
-          used-sum wish j 0 (take n all) lasts ∙ (ap sum (take-take (c - 0) n all few) ∙ sym (used-sum wish j 0 all lasts))
+          used-sum wish j 0 (take n all) lasts
+          ∙ (ap sum (take-take (c - 0) n all few) ∙ sym (used-sum wish j 0 all lasts))
       | inr whole ↦ ap (used_before wish p j 0) (take_all n all whole)
     ]
 
@@ -57,7 +63,8 @@ used-time wish h p j is =
           ap (used_before wish (time h) j 0) empty ∙ sym (ap (used_before wish p j 0) empty)
     ]
 
-played-is : {wish : Wish} {all : List ℕ} {p : ℕ} {h : History} {j cut : ℕ} → Durations wish.slot_units p → IsHeardOf all p h cut
+played-is : {wish : Wish} {all : List ℕ} {p : ℕ} {h : History} {j cut : ℕ} → Durations wish.slot_units p
+    → IsHeardOf all p h cut
     → IsBetween wish all p j (bytes_received h + cut) → played_before wish h j ≡ used_before wish p j 0 all
 played-is {wish} {all} {p} {h} {j} {cut} lasts heard between =
     let n = length (sizes h) in
@@ -100,7 +107,8 @@ enough {wish} {all} {p} {h} {j} {cut} lasts units_some heard between =
             | inr none ↦
                 let empty : n ≡ 0 = ap length (no-units h (omega (arith, none))) in
                 let here : j < use_slot wish p 0 = subst (λ k. j < use_slot wish p k) empty early in
-                let there : j < use_slot wish (time h) 0 = omega (arith, here, use-first wish p, use-first wish (time h)) in
+                let there : j < use_slot wish (time h) 0 =
+                omega (arith, here, use-first wish p, use-first wish (time h)) in
                 subst (λ k. j < use_slot wish (time h) k) (sym empty) there
           ] in
           ap (λ b. not (is_complete h) && b) (lt-leb (use_slot wish (time h) n) j late) ∙ and-none (not (is_complete h))
@@ -108,7 +116,8 @@ enough {wish} {all} {p} {h} {j} {cut} lasts units_some heard between =
         | inl yes_ ↦ yes_
         | inr none ↦ absurd (omega (arith, whole, units_some, ap length (no-units h (omega (arith, none)))))
       ] in
-          let all_whole : (n == units h) ≡ true = eq-eqb n (units h) (omega (arith, whole, heard.among, heard.units_are begun)) in
+          let all_whole : (n == units h) ≡ true =
+          eq-eqb n (units h) (omega (arith, whole, heard.among, heard.units_are begun)) in
           let complete : is_complete h ≡ true =
           ap (λ b. b && (n == units h)) (lt-ltb 0 (frames h) begun) ∙ all_whole in
           ap (λ b. not b && nat_le (use_slot wish (time h) n) j) complete
@@ -146,9 +155,11 @@ read-quiet {r = true} {wish} {all} {p} {h} {slot} {cut} lasts units_some quiet i
     enough lasts units_some now.0 now.1 in
     record {
       over_none = ap
-          (λ r. cond (r && nat_lt wish.buffer (bytes_waiting wish h slot cut)) (count_over wish h + 1) (count_over wish h)) is
+          (λ r. cond (r && nat_lt wish.buffer (bytes_waiting wish h slot cut)) (count_over wish h + 1)
+          (count_over wish h)) is
           ∙ (ap (λ b. cond (true && b) (count_over wish h + 1) (count_over wish h)) not_over ∙ quiet.over_none);
-      under_none = ap (λ r. cond (r && lacks_picture wish h (place_in h slot)) (count_under wish h + 1) (count_under wish h)) is
+      under_none =
+          ap (λ r. cond (r && lacks_picture wish h (place_in h slot)) (count_under wish h + 1) (count_under wish h)) is
           ∙ (ap (λ b. cond (true && b) (count_under wish h + 1) (count_under wish h)) not_under ∙ quiet.under_none);
       most_fits = omega (
         arith,

@@ -1,5 +1,7 @@
 -- What a reply comes to.
-use Rattle.std.proofs.Common.{◌≡◌, ◌≢◌, ℕ, ◌+◌, ◌==◌, ◌&&◌, ◌||◌, true, false, nat_lt, List, [], ◌∷◌, ◌++◌, take, Option, Some, None, Result, Ok, is_some, unwrap_or, refl, sym, ap, subst, ◌∙◌, arith, inl, inr}
+use Rattle.std.proofs.Common.{◌≡◌, ◌≢◌, ℕ, ◌+◌, ◌==◌, ◌&&◌, ◌||◌, true, false, nat_lt, List, []}
+use Rattle.std.proofs.Common.{◌∷◌, ◌++◌, take, Option, Some, None, Result, Ok, is_some, unwrap_or}
+use Rattle.std.proofs.Common.{refl, sym, ap, subst, ◌∙◌, arith, inl, inr}
 use Rattle.std.specs.Prelude.{MatchOption, option_map}
 use Rattle.std.specs.Result.{result_ok}
 use Rattle.std.proofs.lemmas.Bool.{cond-true, cond-false, eq-eqb, ne_eqb}
@@ -23,7 +25,8 @@ use Rattle.rtsp_client.specs.Takings.{HasEndedAt, HasPassed, Sight, sight, sight
 use Rattle.rtsp_client.proofs.Keeping.{complete-is, keeps-first, keeps-play}
 use Rattle.rtsp_client.proofs.Sighting.{no-front, sight-none, sight-sent}
 
-awaited-is : (wish : Wish) (h : History) (c : Client) → Keeps wish h c → (nat_lt c.replies 2 || has_all c.watching) ≡ is_awaited h
+awaited-is : (wish : Wish) (h : History) (c : Client) → Keeps wish h c
+    → (nat_lt c.replies 2 || has_all c.watching) ≡ is_awaited h
 awaited-is wish h c k =
     ap (λ n. nat_lt n 2 || has_all c.watching) k.replies_are
     ∙ ap (λ b. nat_lt (replies h) 2 || b) (complete-is wish h c.watching k.state)
@@ -55,7 +58,8 @@ bad-reply {wish} {h} {c} {m} {end} {s} k none is =
     (inl (inl (λ code o. none code (awaited-from k o)), is ∙ ap (λ n. Fault (BadReply (n + 1))) k.replies_are))
 
 -- another code than 200
-pub refused-reply : {wish : Wish} {h : History} {c : Client} {m : List ℕ} {code : ℕ} {end : WatchEnd} {s : Sight} → Keeps wish h c
+pub refused-reply : {wish : Wish} {h : History} {c : Client} {m : List ℕ} {code : ℕ} {end : WatchEnd} {s : Sight}
+    → Keeps wish h c
     → IsAwaited c m code → code ≢ 200 → end ≡ Fault (Refused code) → HasEndedAt wish h (Reply m) end s s
 refused-reply {wish} {h} {c} {m} {code} {end} {s} k is other end_is =
     gives wish h (Reply m) end s (inr (inl (code, ((orderly k is, other), end_is))))
@@ -63,7 +67,8 @@ refused-reply {wish} {h} {c} {m} {code} {end} {s} k is other end_is =
 fields-first : (h : History) (m : List ℕ) → replies h ≡ 0 → has_fields h m ≡ is_some (session_in m)
 fields-first h m none = cond-true (replies h == 0) _ _ (eq-eqb (replies h) 0 none)
 
-fields-second : (h : History) (m : List ℕ) → replies h ≡ 1 → has_fields h m ≡ (is_some (play_range m) && is_some (play_start m))
+fields-second : (h : History) (m : List ℕ) → replies h ≡ 1
+    → has_fields h m ≡ (is_some (play_range m) && is_some (play_start m))
 fields-second h m one =
     cond-false (replies h == 0) _ _ (ne_eqb (replies h) 0 (λ none. absurd (omega (arith, none, one))))
     ∙ cond-true (replies h == 1) _ _ (eq-eqb (replies h) 1 one)
@@ -81,7 +86,11 @@ pub setup-lacks : {wish : Wish} {h : History} {c : Client} {m : List ℕ} {end :
 setup-lacks {wish} {h} {c} {m} {end} {s} k first is none end_is =
     let zero_ : replies h ≡ 0 = sym k.replies_are ∙ first in
     gives wish h (Reply m) end s
-    (inl (inr (orderly k is, fields-first h m zero_ ∙ ap is_some none), end_is ∙ ap (λ n. Fault (BadReply (n + 1))) (sym zero_)))
+    (inl (
+      inr (orderly k is, fields-first h m zero_ ∙ ap is_some none),
+      end_is
+          ∙ ap (λ n. Fault (BadReply (n + 1))) (sym zero_),
+    ))
 
 -- the reply that is awaited first, with the id of a session
 -- the session that was read of the message in front
@@ -139,7 +148,8 @@ setup-cut {wish} {h} {m} {id} {told} {new} out reply end_is front =
 -- one moment was taken up
 pub passed-one : {wish : Wish} {h : History} {m : Moment} {new : Client} {old_sight new_sight : Sight}
     → GoesOn h m → Keeps wish (m ∷ h) new
-    → new_sight ≡ sight_more old_sight (request_after wish h m) (payload_of m) → HasPassed wish h (m ∷ []) new old_sight new_sight
+    → new_sight ≡ sight_more old_sight (request_after wish h m) (payload_of m)
+    → HasPassed wish h (m ∷ []) new old_sight new_sight
 passed-one {wish} {h} {m} {new} {old_sight} good keeps is = record {
   good = (good, tt);
   keeps = keeps;
@@ -166,8 +176,10 @@ setup-done {wish} {h} {new} {m} {id} {new_told} told out reply later sent =
       replies_are = later.replies ∙ ap (λ n. n + 1) (sym zero_);
       session_is =
           later.session
-          ∙ sym (cond-true (replies h == 0) _ _ (eq-eqb (replies h) 0 zero_) ∙ ap (λ o. unwrap_or o []) reply.session_is);
-      state = keeps-first wish h new.watching m (subst (λ w. KeepsState wish h w) (sym later.watching) reply.keeps.state) zero_;
+          ∙ sym (cond-true (replies h == 0) _ _ (eq-eqb (replies h) 0 zero_)
+          ∙ ap (λ o. unwrap_or o []) reply.session_is);
+      state = keeps-first wish h new.watching m
+          (subst (λ w. KeepsState wish h w) (sym later.watching) reply.keeps.state) zero_;
     })
     (sight-sent told new_told out (request_after wish h (Reply m))
     (subst P (sym (setup-request wish h m id zero_ reply.session_is)) sent))
@@ -209,11 +221,15 @@ play-done {wish} {h} {m} {s} reply two same state =
     )
     (record {
       replies_are = two ∙ ap (λ n. n + 1) (sym one);
-      session_is = same ∙ (k.session_is ∙ sym (cond-false (replies h == 0) (unwrap_or (session_in m) []) (session h) later));
-      state = subst (λ w. KeepsState wish (Reply m ∷ h) w) (sym state) (keeps-play k.state one reply.start_is reply.range_is);
+      session_is =
+          same ∙ (k.session_is ∙ sym (cond-false (replies h == 0) (unwrap_or (session_in m) []) (session h) later));
+      state =
+          subst (λ w. KeepsState wish (Reply m ∷ h) w) (sym state)
+          (keeps-play k.state one reply.start_is reply.range_is);
     })
     (sight-none s
-    ∙ ap (λ a. sight_more s a []) (sym (cond-false (replies h == 0) (play_text wish (unwrap_or (session_in m) [])) [] later)))
+    ∙ ap (λ a. sight_more s a [])
+    (sym (cond-false (replies h == 0) (play_text wish (unwrap_or (session_in m) [])) [] later)))
 
 -- ---- the reply to TEARDOWN
 

@@ -11,7 +11,8 @@ sends-on a b = map-append Sent a b
 
 pub sight-none : (s : Sight) → s ≡ sight_more s [] []
 sight-none s =
-    ap (λ t. sight t s.out) (sym (told_more-nil s.told)) ∙ ap (λ o. sight (told_more s.told []) o) (sym (told_more-nil s.out))
+    ap (λ t. sight t s.out) (sym (told_more-nil s.told))
+    ∙ ap (λ o. sight (told_more s.told []) o) (sym (told_more-nil s.out))
 
 pub sight-on : (s : Sight) (a b x y : List ℕ) → sight_more (sight_more s a x) b y ≡ sight_more s (a ++ b) (x ++ y)
 sight-on s a b x y =
@@ -22,12 +23,14 @@ sight-on s a b x y =
 -- bytes were sent alone
 pub sight-sent : (told new : Option (List Doing)) (out : Option (List ℕ)) (a : List ℕ) → new ≡ told_more told (sends a)
     → sight new out ≡ sight_more (sight told out) a []
-sight-sent told new out a is = ap (λ t. sight t out) is ∙ ap (λ o. sight (told_more told (sends a)) o) (sym (told_more-nil out))
+sight-sent told new out a is = ap (λ t. sight t out) is
+    ∙ ap (λ o. sight (told_more told (sends a)) o) (sym (told_more-nil out))
 
 -- bytes were handed on alone
 pub sight-handed : (told : Option (List Doing)) (out new : Option (List ℕ)) (x : List ℕ) → new ≡ told_more out x
     → sight told new ≡ sight_more (sight told out) [] x
-sight-handed told out new x is = ap (λ o. sight told o) is ∙ ap (λ t. sight t (told_more out x)) (sym (told_more-nil told))
+sight-handed told out new x is = ap (λ o. sight told o) is
+    ∙ ap (λ t. sight t (told_more out x)) (sym (told_more-nil told))
 
 -- both
 pub sight-both : {new : Option (List Doing)} {new_out : Option (List ℕ)} (told : Option (List Doing))

@@ -1,5 +1,7 @@
 -- What the frames say with one more block.
-use Rattle.std.proofs.Common.{◌≡◌, ℕ, ◌≤◌, Bool, true, false, if◌then◌else◌, List, length, take, drop, ◌-◌, Option, Some, None, Result, Ok, Err, refl, sym, ap, ◌∙◌, arith}
+use Rattle.std.proofs.Common.{◌≡◌, ℕ, ◌≤◌, Bool, true, false, if◌then◌else◌, List, length, take}
+use Rattle.std.proofs.Common.{drop, ◌-◌, Option, Some, None, Result, Ok, Err, refl, sym, ap, ◌∙◌}
+use Rattle.std.proofs.Common.{arith}
 use Rattle.std.proofs.lemmas.List.{length-drop, take_all}
 use Rattle.std.proofs.lemmas.Bool.Decides.{nat_tests}
 use Rattle.std.specs.Prelude.{IfSome, nat_lt}
@@ -22,24 +24,32 @@ at-least n not = grind (arith, nat_tests)
 
 pub head-long : {head : Head} (block : List ℕ) → head_of (drop 4 block) ≡ Ok head → 20 ≤ length block
 head-long block is =
-    omega (arith, length-drop 4 block, at-least (length (drop 4 block)) (not-short (nat_lt (length (drop 4 block)) 16) _ is))
+    omega (
+      arith,
+      length-drop 4 block,
+      at-least (length (drop 4 block)) (not-short (nat_lt (length (drop 4 block)) 16) _ is),
+    )
 
 -- no reply to PLAY was heard
 pub source-unplayed : (s : State) (block : List ℕ) → s.play ≡ None → None ≡ source_with s block
 source-unplayed s block is = sym (ap (λ play. source_played play s block) is)
 
 -- all pictures are whole, or some are to come
-pub source-all : {play : Play} (s : State) (block : List ℕ) → s.play ≡ Some play → has_all s ≡ true → None ≡ source_with s block
+pub source-all : {play : Play} (s : State) (block : List ℕ) → s.play ≡ Some play → has_all s ≡ true
+    → None ≡ source_with s block
 source-all {play} s block is all = sym (ap (λ p. source_played p s block) is
-    ∙ ap (λ (b : Bool). if b then None else source_read s.source (head_of (drop 4 block)) (drop 20 block) play.end_ms) all)
+    ∙ ap (λ (b : Bool). if b then None else source_read s.source (head_of (drop 4 block)) (drop 20 block)
+    play.end_ms) all)
 
 pub source-read : {play : Play} {found : Option Source} {head : Result Head HeadFault} (s : State)
     (block : List ℕ) → s.play ≡ Some play → has_all s ≡ false →
-    head_of (drop 4 block) ≡ head → found ≡ source_read s.source head (drop 20 block) play.end_ms → found ≡ source_with s block
+    head_of (drop 4 block) ≡ head → found ≡ source_read s.source head (drop 20 block) play.end_ms
+    → found ≡ source_with s block
 source-read {play} s block is some read found =
     found ∙ ap (λ h. source_read s.source h (drop 20 block) play.end_ms) (sym read)
     ∙ sym (ap (λ p. source_played p s block) is
-    ∙ ap (λ (b : Bool). if b then None else source_read s.source (head_of (drop 4 block)) (drop 20 block) play.end_ms) some)
+    ∙ ap (λ (b : Bool). if b then None else source_read s.source (head_of (drop 4 block)) (drop 20 block)
+    play.end_ms) some)
 
 -- the rest of a block
 pub rest-whole : (n : ℕ) (block : List ℕ) → take (length block - n) (drop n block) ≡ drop n block

@@ -1,5 +1,7 @@
 -- Elements and events, one after another.
-use Rattle.std.proofs.Common.{◌≡◌, ℕ, suc, ◌<◌, ◌≤◌, ◌==◌, true, false, cond, List, [], ◌∷◌, ◌++◌, length, take, drop, map, get_or, Ok, Err, refl, sym, ap, subst, ◌∙◌, append_assoc, arith, inl, inr}
+use Rattle.std.proofs.Common.{◌≡◌, ℕ, suc, ◌<◌, ◌≤◌, ◌==◌, true, false, cond, List, [], ◌∷◌, ◌++◌}
+use Rattle.std.proofs.Common.{length, take, drop, map, get_or, Ok, Err, refl, sym, ap, subst, ◌∙◌}
+use Rattle.std.proofs.Common.{append_assoc, arith, inl, inr}
 use Rattle.std.proofs.lemmas.Bool.{cond-true, cond-false}
 use Rattle.std.proofs.lemmas.List.{append-nil, get_or-take, length-take-le}
 use Rattle.std.proofs.lemmas.List.Concat.{flat_map-append}
@@ -15,7 +17,8 @@ use Rattle.rtsp_client.specs.declared.wishes.WatchEnd.{WatchEnd}
 use Rattle.rtsp_client.specs.declared.wishes.WatchEnd.TheVariants.{Fault}
 use Rattle.rtsp_client.specs.declared.wishes.WatchFault.TheVariants.{Framing}
 use Rattle.rtsp_client.specs.Moments.{History, Moment, Frame, Reply}
-use Rattle.rtsp_client.specs.Answers.{GoOn, history_after, block_moments, moments_in, moments_of, payload_of, payloads_of, request_after, requests_after}
+use Rattle.rtsp_client.specs.Answers.{GoOn, history_after, block_moments, moments_in, moments_of}
+use Rattle.rtsp_client.specs.Answers.{payload_of, payloads_of, request_after, requests_after}
 use Rattle.rtsp_client.specs.Courses.{Stops, stage}
 use Rattle.rtsp_client.specs.Keeps.{Keeps, KeepsState}
 use Rattle.rtsp_client.specs.Takings.{HasEndedAt, HasPassed, HasStopped, HasTaken, Sight, sight_more}
@@ -36,7 +39,8 @@ requests-on : (wish : Wish) (h : History) (a b : List Moment)
 requests-on wish h [] b = refl
 requests-on wish h (m ∷ a) b =
     ap (λ t. request_after wish h m ++ t) (requests-on wish (m ∷ h) a b)
-    ∙ sym (append_assoc (request_after wish h m) (requests_after wish (m ∷ h) a) (requests_after wish (history_after (m ∷ h) a) b))
+    ∙ sym (append_assoc (request_after wish h m) (requests_after wish (m ∷ h) a)
+    (requests_after wish (history_after (m ∷ h) a) b))
 
 -- bytes were cut, and then their rest
 record CutsInTurn (bytes mid end : List ℕ) (p q : List (List ℕ)) : Type 0 where
@@ -105,20 +109,23 @@ passed-none {s} k same = record {
   sight_is = sight-none s;
 }
 
-passed-on : {wish : Wish} {h : History} {a b : List Moment} {mid new : Client} {s t u : Sight} → HasPassed wish h a mid s t
+passed-on : {wish : Wish} {h : History} {a b : List Moment} {mid new : Client} {s t u : Sight}
+    → HasPassed wish h a mid s t
     → HasPassed wish (history_after h a) b new t u → HasPassed wish h (a ++ b) new s u
 passed-on {wish} {h} {a} {b} {new} {s} first second = record {
   good = good-on h a b first.good second.good;
   keeps = subst (λ x. Keeps wish x new) (sym (after-on h a b)) second.keeps;
   sight_is = second.sight_is
       ∙ (ap (λ x. sight_more x (requests_after wish (history_after h a) b) (payloads_of b)) first.sight_is
-      ∙ (sight-on s (requests_after wish h a) (requests_after wish (history_after h a) b) (payloads_of a) (payloads_of b)
+      ∙ (sight-on s (requests_after wish h a) (requests_after wish (history_after h a) b) (payloads_of a)
+      (payloads_of b)
       ∙ (ap (λ x. sight_more s x (payloads_of a ++ payloads_of b)) (sym (requests-on wish h a b))
       ∙ ap (λ x. sight_more s (requests_after wish h (a ++ b)) x) (sym (flat_map-append payload_of a b)))));
 }
 
 -- the client with another input
-moved : {wish : Wish} {h : History} {moments : List Moment} {c new : Client} {s t : Sight} → HasPassed wish h moments c s t
+moved : {wish : Wish} {h : History} {moments : List Moment} {c new : Client} {s t : Sight}
+    → HasPassed wish h moments c s t
     → IsSameClient c new → HasPassed wish h moments new s t
 moved p same = record { good = p.good; keeps = keeps-moved p.keeps same; sight_is = p.sight_is }
 
@@ -187,15 +194,18 @@ taken-none k same input_same = record {
   passed = passed-none k same;
 }
 
-pub taken-on : {wish : Wish} {h : History} {rest : List ℕ} {mid new : Client} {s t u : Sight} → HasTaken wish h rest mid s t
+pub taken-on : {wish : Wish} {h : History} {rest : List ℕ} {mid new : Client} {s t u : Sight}
+    → HasTaken wish h rest mid s t
     → ((g : History) → Keeps wish g mid → HasTaken wish g mid.input new t u) → HasTaken wish h rest new s u
 taken-on {wish} {h} {rest} {mid} {new} {s} {u} first next =
     let second = next (history_after h (moments_in first.elements)) first.passed.keeps in
-    let cuts : CutsInTurn rest mid.input new.input first.elements second.elements = record { first = first.cut; next = second.cut } in
+    let cuts : CutsInTurn rest mid.input new.input first.elements second.elements =
+    record { first = first.cut; next = second.cut } in
     record {
       elements = first.elements ++ second.elements;
       cut = cut-on cuts;
-      passed = subst (λ ms. HasPassed wish h ms new s u) (sym (flat_map-append moments_of first.elements second.elements))
+      passed =
+          subst (λ ms. HasPassed wish h ms new s u) (sym (flat_map-append moments_of first.elements second.elements))
           (passed-on first.passed second.passed);
     }
 
@@ -236,7 +246,8 @@ pub stopped-block : {wish : Wish} {h : History} {rest : List ℕ} {channel n : �
     → HasStopped wish h rest end s t
 stopped-block {h} {rest} {n} {end} {s} first ended =
     stops-at (WholeBlock first.0 first.1 first.3 first.4)
-    (block-of rest n (omega (arith, first.3)) first.0.1 ∙ ap (λ k. block_moments k (take n rest)) (sym first.2 ∙ ended.0)) ended.1
+    (block-of rest n (omega (arith, first.3)) first.0.1
+    ∙ ap (λ k. block_moments k (take n rest)) (sym first.2 ∙ ended.0)) ended.1
 
 pub stopped-reply : {wish : Wish} {h : History} {rest : List ℕ} {n : ℕ} {end : WatchEnd} {s t : Sight}
     → IsFirst rest (Ok (Message n)) → HasEndedAt wish h (Reply (take n rest)) end s t → HasStopped wish h rest end s t
@@ -258,14 +269,17 @@ stopped-on {wish} {h} {rest} {mid} {end} {s} first next =
     ap (λ x. requests_after wish h a ++ x) st.sent_is
     ∙ (sym (append_assoc (requests_after wish h a) (requests_after wish g b) st.more_sent)
     ∙ ap (λ x. x ++ st.more_sent)
-    (sym (requests-on wish h a b) ∙ ap (requests_after wish h) (sym (flat_map-append moments_of first.elements st.elements)))) in
+    (sym (requests-on wish h a b)
+    ∙ ap (requests_after wish h) (sym (flat_map-append moments_of first.elements st.elements)))) in
     let out_on : payloads_of a ++ second.out ≡ payloads_of (moments_in (first.elements ++ st.elements)) ++ st.more_out =
     ap (λ x. payloads_of a ++ x) st.out_is
     ∙ (sym (append_assoc (payloads_of a) (payloads_of b) st.more_out)
-    ∙ ap (λ x. x ++ st.more_out) (sym (flat_map-append payload_of a b) ∙ ap payloads_of (sym (flat_map-append moments_of first.elements st.elements)))) in
+    ∙ ap (λ x. x ++ st.more_out) (sym (flat_map-append payload_of a b)
+    ∙ ap payloads_of (sym (flat_map-append moments_of first.elements st.elements)))) in
     let there : history_after g b ≡ history_after h (moments_in (first.elements ++ st.elements)) =
     sym (after-on h a b) ∙ ap (history_after h) (sym (flat_map-append moments_of first.elements st.elements)) in
-    let cuts : CutsInTurn rest mid.input st.mid first.elements st.elements = record { first = first.cut; next = st.cut } in
+    let cuts : CutsInTurn rest mid.input st.mid first.elements st.elements =
+    record { first = first.cut; next = st.cut } in
     record {
       sent = requests_after wish h a ++ second.sent;
       out = payloads_of a ++ second.out;
@@ -273,7 +287,8 @@ stopped-on {wish} {h} {rest} {mid} {end} {s} first next =
         elements = first.elements ++ st.elements;
         mid = st.mid;
         cut = cut-on cuts;
-        good = subst (GoOn h) (sym (flat_map-append moments_of first.elements st.elements)) (good-on h a b first.passed.good st.good);
+        good = subst (GoOn h) (sym (flat_map-append moments_of first.elements st.elements))
+            (good-on h a b first.passed.good st.good);
         more_sent = st.more_sent;
         more_out = st.more_out;
         stops = subst (λ x. Stops wish (stage x st.mid) end st.more_sent st.more_out) there st.stops;

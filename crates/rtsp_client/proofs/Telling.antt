@@ -1,13 +1,18 @@
 -- A meter that was never over and never under: what came lay between the curves at each reading.
-use Rattle.std.proofs.Common.{◌≡◌, ℕ, ◌+◌, ◌-◌, ◌*◌, ◌<◌, ◌≤◌, ◌==◌, ◌&&◌, ◌↔◌, Bool, true, false, not, nat_lt, nat_le, cond, List, [], ◌∷◌, ◌++◌, length, take, sum, max, refl, sym, ap, subst, ◌∙◌, arith, inl, inr}
+use Rattle.std.proofs.Common.{◌≡◌, ℕ, ◌+◌, ◌-◌, ◌*◌, ◌<◌, ◌≤◌, ◌==◌, ◌&&◌, ◌↔◌, Bool, true, false}
+use Rattle.std.proofs.Common.{not, nat_lt, nat_le, cond, List, [], ◌∷◌, ◌++◌, length, take, sum}
+use Rattle.std.proofs.Common.{max, refl, sym, ap, subst, ◌∙◌, arith, inl, inr}
 use Rattle.std.proofs.lemmas.Bool.{cases_Bool, cases_lt, and_parts, eqb-true, le-ltb}
 use Rattle.std.proofs.lemmas.Bool.Decides.{nat_tests}
 use Rattle.std.proofs.lemmas.List.Sums.{sum_by-take-le}
 use Rattle.std.specs.Int.{div_ceil}
 use Rattle.rtsp_client.specs.declared.wishes.Wish.{Wish}
-use Rattle.rtsp_client.specs.Moments.{History, Frame, Reply, Report, Slot, bytes_pending, bytes_received, frames, is_inside, is_last, is_playing, sizes}
+use Rattle.rtsp_client.specs.Moments.{History, Frame, Reply, Report, Slot, bytes_pending}
+use Rattle.rtsp_client.specs.Moments.{bytes_received, frames, is_inside, is_last, is_playing, sizes}
 use Rattle.rtsp_client.specs.Films.{is_complete, units}
-use Rattle.rtsp_client.specs.Meters.{bytes_waiting, count_over, count_under, is_read, lacks_picture, most_waiting, place_in, played_before, time, use_slot, used_before}
+use Rattle.rtsp_client.specs.Meters.{bytes_waiting, count_over, count_under, is_read, lacks_picture}
+use Rattle.rtsp_client.specs.Meters.{most_waiting, place_in, played_before, time, use_slot}
+use Rattle.rtsp_client.specs.Meters.{used_before}
 use Rattle.rtsp_client.specs.Promises.{IsBetween, IsBetweenAlways, IsHeardAlways, IsHeardOf}
 use Rattle.rtsp_client.proofs.Keeping.{sum-one}
 use Rattle.rtsp_client.proofs.Metering.{Durations, no-units, used-sum}
@@ -26,7 +31,8 @@ record Amounts : Type 0 where
   came : ℕ
 
 report-received : (playing outside : Bool) (bytes : Amounts) (n : ℕ) → bytes.whole + bytes.pending ≤ bytes.came
-    → bytes.whole + cond (playing && outside) (bytes.pending + n) bytes.pending ≤ cond playing (bytes.came + n) bytes.came
+    → bytes.whole + cond (playing && outside) (bytes.pending + n) bytes.pending
+    ≤ cond playing (bytes.came + n) bytes.came
 report-received true true bytes n is = omega (arith, is)
 report-received true false bytes n is = omega (arith, is)
 report-received false outside bytes n is = is
@@ -43,7 +49,8 @@ whole-received (Report b ∷ h) =
 whole-received (Slot slot cut ∷ h) = whole-received h
 
 -- what is used is among all
-used-most : {p : ℕ} (wish : Wish) (j : ℕ) (xs : List ℕ) → Durations wish.slot_units p → used_before wish p j 0 xs ≤ sum xs
+used-most : {p : ℕ} (wish : Wish) (j : ℕ) (xs : List ℕ) → Durations wish.slot_units p
+    → used_before wish p j 0 xs ≤ sum xs
 used-most {p} wish j xs lasts =
     let c = div_ceil ((j - wish.startup) * wish.slot_units) p in
     omega (arith, used-sum wish j 0 xs lasts, sum_by-take-le (λ (x : ℕ). x) xs (c - 0))
@@ -107,7 +114,8 @@ pub record HasNoCounts (wish : Wish) (h : History) : Type 0 where
   pub over : count_over wish h ≡ 0
   pub under : count_under wish h ≡ 0
 
-pub between-always : {p : ℕ} (wish : Wish) (all : List ℕ) (h : History) → Durations wish.slot_units p → IsHeardAlways wish all p h
+pub between-always : {p : ℕ} (wish : Wish) (all : List ℕ) (h : History) → Durations wish.slot_units p
+    → IsHeardAlways wish all p h
     → HasNoCounts wish h
     → IsBetweenAlways wish all p h
 between-always wish all [] lasts heard none = tt
@@ -118,7 +126,8 @@ between-always wish all (Frame b ∷ h) lasts heard none =
 between-always wish all (Report b ∷ h) lasts heard none =
     between-always wish all h lasts heard (record { over = none.over; under = none.under })
 between-always wish all (Slot slot cut ∷ h) lasts heard none =
-    let o = no-count (is_read h slot && nat_lt wish.buffer (bytes_waiting wish h slot cut)) (count_over wish h) none.over in
+    let o =
+    no-count (is_read h slot && nat_lt wish.buffer (bytes_waiting wish h slot cut)) (count_over wish h) none.over in
     let u = no-count (is_read h slot && lacks_picture wish h (place_in h slot)) (count_under wish h) none.under in (
       between-always wish all h lasts heard.0 (record { over = o.1; under = u.1 }),
       λ read. (
@@ -134,7 +143,8 @@ most_waiting-step : (read : Bool) (before waiting over buffer : ℕ) → ((befor
     → (cond read (max before waiting) before ≤ buffer) ↔ (cond (read && nat_lt buffer waiting) (over + 1) over ≡ 0)
 most_waiting-step false before waiting over buffer same = same
 most_waiting-step true before waiting over buffer same = (
-  (λ fits. ap (λ b. cond b (over + 1) over) (le-ltb buffer waiting (omega (arith, fits))) ∙ same.0 (omega (arith, fits))),
+  (λ fits. ap (λ b. cond b (over + 1) over) (le-ltb buffer waiting (omega (arith, fits)))
+      ∙ same.0 (omega (arith, fits))),
   (λ none.
       let parts = no-count (nat_lt buffer waiting) over none in
       let small : nat_lt buffer waiting ≡ false = parts.0 in

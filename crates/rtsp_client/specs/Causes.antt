@@ -9,8 +9,7 @@ pub record HasCause (end : WatchEnd) (old_link new_link old_out new_out : ℕ) :
   pub link : end ≡ LinkFault → HasRisen old_link new_link
   pub out : end ≡ SinkFault → HasRisen old_out new_out
 
--- what a call blames that answers an end: the counts of faults of the link and of the output, before
--- it and after it
+-- what a call blames that answers an end, by the counts of faults before it and after it
 abbrev pub EndsWithCause : {A : Type 0} → Result A WatchEnd → ℕ → ℕ → ℕ → ℕ → Type 0
 EndsWithCause result old_link new_link old_out new_out =
     IfErr result (λ end. HasCause end old_link new_link old_out new_out)

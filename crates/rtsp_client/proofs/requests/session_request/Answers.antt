@@ -1,6 +1,6 @@
 use Rattle.std.proofs.Common.{◌≡◌, ◌++◌, rules}
 use Rattle.rtsp_client.specs.Requests.{film_url}
-use Rattle.rtsp_client.proofs.Texts.{then_put}
+use Rattle.rtsp_client.proofs.Texts.{then-put}
 use Rattle.rtsp_client.proofs.requests.session_request.Goals as goal
 
 pub returns : goal.returns
@@ -10,5 +10,5 @@ returns c =
     let e3 : c.put-2.new.text.items ≡ c.put_url.new.text.items ++ c.args.fields.now = c.in_ok-put-2.ensures in
     let e4 : c.put-3.new.text.items ≡ c.put-2.new.text.items ++ c.args.session.now = c.in_ok-put-3.ensures in
     let e5 : c.put-4.new.text.items ≡ c.put-3.new.text.items ++ c.args.end.now = c.in_ok-put-4.ensures in
-    then_put c.args.end.now
-    (then_put c.args.session.now (then_put c.args.fields.now (then_put (film_url c.args.wish.now) e1 e2) e3) e4) e5
+    then-put c.args.end.now
+    (then-put c.args.session.now (then-put c.args.fields.now (then-put (film_url c.args.wish.now) e1 e2) e3) e4) e5

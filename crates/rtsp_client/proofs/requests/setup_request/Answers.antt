@@ -1,18 +1,18 @@
 use Rattle.std.proofs.Common.{◌≡◌, rules}
 use Rattle.std.specs.Prelude.{codes, decimal}
 use Rattle.rtsp_client.specs.Requests.{film_url}
-use Rattle.rtsp_client.proofs.Texts.{then_field, then_put}
+use Rattle.rtsp_client.proofs.Texts.{then-field, then-put}
 use Rattle.rtsp_client.proofs.requests.setup_request.Goals as goal
 
 pub returns : goal.returns
 returns c =
     let e1 : c.put.new.text.items ≡ codes "SETUP " = search rules in
-    let url = then_put (film_url c.args.wish.now) e1 c.in_ok-put_url.ensures in
-    let version = then_put (codes "/video RTSP/1.0\r\nCSeq: 1\r\n") url c.in_ok-put-2.ensures in
+    let url = then-put (film_url c.args.wish.now) e1 c.in_ok-put_url.ensures in
+    let version = then-put (codes "/video RTSP/1.0\r\nCSeq: 1\r\n") url c.in_ok-put-2.ensures in
     let transport =
-    then_put (codes "Transport: RTP/AVP/TCP;unicast;interleaved=0-1\r\n") version c.in_ok-put-3.ensures in
+    then-put (codes "Transport: RTP/AVP/TCP;unicast;interleaved=0-1\r\n") version c.in_ok-put-3.ensures in
     let buffer =
-    then_field (codes "x-Buffer: ") (decimal c.args.wish.now.buffer) transport c.in_ok-put_field.ensures in
+    then-field (codes "x-Buffer: ") (decimal c.args.wish.now.buffer) transport c.in_ok-put_field.ensures in
     let startup =
-    then_field (codes "\r\nx-Startup: ") (decimal c.args.wish.now.startup) buffer c.in_ok-put_field-2.ensures in
-    then_put (codes "\r\n\r\n") startup c.in_ok-put-4.ensures
+    then-field (codes "\r\nx-Startup: ") (decimal c.args.wish.now.startup) buffer c.in_ok-put_field-2.ensures in
+    then-put (codes "\r\n\r\n") startup c.in_ok-put-4.ensures

@@ -71,10 +71,12 @@ returns-in-Ok-clause-ended g c = λ h k.
     (sight (g.K.Link.told c.args.link.now) (g.O.Sink.written c.args.out.now))
     (sight (g.K.Link.told c.take_up.new.link) (g.O.Sink.written c.take_up.new.out)))) (sym c.in-Bytes.is)
     (if-err c.take_up.result
-    (λ (end : WatchEnd). HasStopped c.args.wish.now h (c.args.self.now.input ++ take c.in-Bytes.count c.args.bytes.now) end
+    (λ (end : WatchEnd). HasStopped c.args.wish.now h
+    (c.args.self.now.input ++ take c.in-Bytes.count c.args.bytes.now) end
     (sight (g.K.Link.told c.args.link.now) (g.O.Sink.written c.args.out.now))
     (sight (g.K.Link.told c.take_up.new.link) (g.O.Sink.written c.take_up.new.out)))
-    (λ (end : WatchEnd). HasEnded c.args.wish.now h c.args.self.now.input (doing_of (Bytes c.in-Bytes.count) c.args.bytes.now) end
+    (λ (end : WatchEnd). HasEnded c.args.wish.now h c.args.self.now.input
+    (doing_of (Bytes c.in-Bytes.count) c.args.bytes.now) end
     (sight (g.K.Link.told c.args.link.now) (g.O.Sink.written c.args.out.now))
     (sight (g.K.Link.told c.take_up.new.link) (g.O.Sink.written c.take_up.new.out)))
     (subst (λ (i : List ℕ). IfErr c.take_up.result (λ end. HasStopped c.args.wish.now h i end

@@ -6,15 +6,18 @@ use Rattle.rtsp_client.proofs.clients.Client.start.Goals as goal
 
 pub returns-in_err-send-clause-front : goal.returns-in_err-send-clause-front
 returns-in_err-send-clause-front g c =
-    let text : c.as_slice.result.now ≡ setup_text c.args.wish.now = c.as_slice.ensures.value ∙ c.in_ok-request.ensures in
+    let text : c.as_slice.result.now ≡ setup_text c.args.wish.now = c.as_slice.ensures.value
+    ∙ c.in_ok-request.ensures in
     let p = err_from_is_err_and c.from_residual-in_err-send.result c.from_residual-in_err-send.ensures.1 in
     rw (p.1, p.2)
     (inr (
       refl,
-      subst (IsFrontTold (g.K.Link.told c.args.link.now) (g.K.Link.told c.send.new.self)) text c.in_err-send.ensures.front,
+      subst (IsFrontTold (g.K.Link.told c.args.link.now) (g.K.Link.told c.send.new.self))
+          text c.in_err-send.ensures.front,
     ))
 
 pub returns-clause-sent : goal.returns-clause-sent
 returns-clause-sent g c =
-    let text : c.as_slice.result.now ≡ setup_text c.args.wish.now = c.as_slice.ensures.value ∙ c.in_ok-request.ensures in
+    let text : c.as_slice.result.now ≡ setup_text c.args.wish.now = c.as_slice.ensures.value
+    ∙ c.in_ok-request.ensures in
     c.in_ok-send.ensures.whole ∙ ap (λ x. told_more (g.K.Link.told c.args.link.now) (sends x)) text

@@ -19,7 +19,8 @@ returns-in-0-clause-passed g c =
     (λ h k. c.take_frame.ensures.passed h k)
 
 pub returns-in-0-clause-ended : goal.returns-in-0-clause-ended
-returns-in-0-clause-ended g c = λ h k. if-err c.take_frame.result _ _ (c.take_frame.ensures.ended h k) (λ e p. (c.in-0.is, p))
+returns-in-0-clause-ended g c =
+    λ h k. if-err c.take_frame.result _ _ (c.take_frame.ensures.ended h k) (λ e p. (c.in-0.is, p))
 
 pub returns-in-1-clause-passed : goal.returns-in-1-clause-passed
 returns-in-1-clause-passed g c = λ h k.

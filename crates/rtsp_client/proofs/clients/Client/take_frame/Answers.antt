@@ -81,7 +81,8 @@ returns-in_err-send-clause-ended g c =
     all refl
     (c.in_ok-write_all.ensures.whole
     ∙ ap (told_more (g.O.Sink.written c.args.out.now)) (payload-here c.args.self.now c.args.length c.waiting_bytes.ensures))
-    (subst (IsFrontTold (g.K.Link.told c.args.link.now) (g.K.Link.told c.send.new.self)) text c.in_err-send.ensures.front))
+    (subst (IsFrontTold (g.K.Link.told c.args.link.now) (g.K.Link.told c.send.new.self))
+    text c.in_err-send.ensures.front))
 
 pub returns-clause-passed : goal.returns-clause-passed
 returns-clause-passed g c = λ h k.

@@ -1,10 +1,11 @@
-use Rattle.std.proofs.Common.{ℕ, ◌<◌, ◌≤◌, List, Ok, drop, refl, ap, subst, sym, ◌∙◌, arith}
+use Rattle.std.proofs.Common.{◌<◌, ◌≤◌, Ok, drop, refl, ap, subst, sym, ◌∙◌, arith}
 use Rattle.std.proofs.lemmas.Result.{err_from_is_err_and}
 use Rattle.interleave.specs.Elements.{IsFirst}
 use Rattle.interleave.specs.declared.elements.Step.TheVariants.{Block, Message, Skip}
 use Rattle.rtsp_text.proofs.Whole.{fewer, first_is, some_request}
 use Rattle.rtsp_client.proofs.Cutting.{goes-on}
-use Rattle.rtsp_client.proofs.Taking.{keeps-moved, stopped-block, stopped-framing, stopped-reply, taken-block, taken-ends, taken-none, taken-reply, taken-same}
+use Rattle.rtsp_client.proofs.Taking.{keeps-moved, stopped-block, stopped-framing, stopped-reply}
+use Rattle.rtsp_client.proofs.Taking.{taken-block, taken-ends, taken-none, taken-reply, taken-same}
 use Rattle.rtsp_client.proofs.clients.Client.take_next.Goals as goal
 
 pub returns-in-Err-clause-stopped : goal.returns-in-Err-clause-stopped
@@ -44,7 +45,8 @@ returns-in_ok-take_block-in-Ok-Block-clause-taken g c = λ h k.
     taken-same c.look.ensures.waiting
     (taken-block
     (first_is c.in-Ok-Block.ensures.first c.look.ensures.waiting c.in-Ok-Block.field-0-is)
-    (c.in_ok-take_block-in-Ok-Block.ensures.passed h (keeps-moved k (record { replies = refl; session = refl; watching = refl })))
+    (c.in_ok-take_block-in-Ok-Block.ensures.passed h
+    (keeps-moved k (record { replies = refl; session = refl; watching = refl })))
     (record { replies = refl; session = refl; watching = refl })
     (c.drop_front-in-Ok-Block.ensures ∙ ap (drop c.in-Ok-Block.length) c.take_block.ensures.input))
 
@@ -106,7 +108,8 @@ returns-in_ok-take_block-in-Ok-Block-clause-going g c =
     }}
     c.in-Ok-Block.length (subst (λ r. r ≤ 2) (sym c.take_block.ensures.replies) c.requires.going.replies)
     c.in_ok-take_block-in-Ok-Block.ensures.few first.4
-    (c.drop_front-in-Ok-Block.ensures ∙ ap (drop c.in-Ok-Block.length) (c.take_block.ensures.input ∙ c.look.ensures.waiting))
+    (c.drop_front-in-Ok-Block.ensures
+    ∙ ap (drop c.in-Ok-Block.length) (c.take_block.ensures.input ∙ c.look.ensures.waiting))
 
 pub returns-in_ok-take_block-in-Ok-Block-clause-shorter : goal.returns-in_ok-take_block-in-Ok-Block-clause-shorter
 returns-in_ok-take_block-in-Ok-Block-clause-shorter g c =
@@ -114,7 +117,8 @@ returns-in_ok-take_block-in-Ok-Block-clause-shorter g c =
     first_is c.in-Ok-Block.ensures.first refl c.in-Ok-Block.field-0-is in
     λ _. fewer c.args.self.now.input c.drop_front-in-Ok-Block.new.self c.in-Ok-Block.length
     (subst (λ n. 0 < n) (sym first.3) (omega arith)) first.4
-    (c.drop_front-in-Ok-Block.ensures ∙ ap (drop c.in-Ok-Block.length) (c.take_block.ensures.input ∙ c.look.ensures.waiting))
+    (c.drop_front-in-Ok-Block.ensures
+    ∙ ap (drop c.in-Ok-Block.length) (c.take_block.ensures.input ∙ c.look.ensures.waiting))
 
 pub returns-in_ok-take_reply-in-Ok-Message-clause-going : goal.returns-in_ok-take_reply-in-Ok-Message-clause-going
 returns-in_ok-take_reply-in-Ok-Message-clause-going g c =
@@ -128,8 +132,10 @@ returns-in_ok-take_reply-in-Ok-Message-clause-going g c =
       session = c.take_reply.new.self.session;
       watching = c.take_reply.new.self.watching;
     }}
-    c.in-Ok-Message.length c.in_ok-take_reply-in-Ok-Message.ensures.replies (omega (arith, c.take_reply.ensures.few)) first.2
-    (c.drop_front-in-Ok-Message.ensures ∙ ap (drop c.in-Ok-Message.length) (c.take_reply.ensures.input ∙ c.look.ensures.waiting))
+    c.in-Ok-Message.length c.in_ok-take_reply-in-Ok-Message.ensures.replies
+    (omega (arith, c.take_reply.ensures.few)) first.2
+    (c.drop_front-in-Ok-Message.ensures
+    ∙ ap (drop c.in-Ok-Message.length) (c.take_reply.ensures.input ∙ c.look.ensures.waiting))
 
 pub returns-in_ok-take_reply-in-Ok-Message-clause-shorter : goal.returns-in_ok-take_reply-in-Ok-Message-clause-shorter
 returns-in_ok-take_reply-in-Ok-Message-clause-shorter g c =
@@ -137,7 +143,9 @@ returns-in_ok-take_reply-in-Ok-Message-clause-shorter g c =
     first_is c.in-Ok-Message.ensures.first refl c.in-Ok-Message.field-0-is in
     λ _. fewer c.args.self.now.input c.drop_front-in-Ok-Message.new.self c.in-Ok-Message.length
     (some_request c.args.self.now.input c.in-Ok-Message.length first.1) first.2
-    (c.drop_front-in-Ok-Message.ensures ∙ ap (drop c.in-Ok-Message.length) (c.take_reply.ensures.input ∙ c.look.ensures.waiting))
+    (c.drop_front-in-Ok-Message.ensures
+    ∙ ap (drop c.in-Ok-Message.length) (c.take_reply.ensures.input ∙ c.look.ensures.waiting))
 
 pub take_reply-requires-clause-message : goal.take_reply-requires-clause-message
-take_reply-requires-clause-message g c = first_is c.in-Ok-Message.ensures.first c.look.ensures.waiting c.in-Ok-Message.field-0-is
+take_reply-requires-clause-message g c =
+    first_is c.in-Ok-Message.ensures.first c.look.ensures.waiting c.in-Ok-Message.field-0-is

@@ -1,12 +1,12 @@
 use Rattle.std.proofs.Common.{ℕ, List, take, refl, subst}
 use Rattle.rtsp_client.specs.Standing.{IsAwaited}
-use Rattle.rtsp_client.proofs.Cutting.{whole_request}
+use Rattle.rtsp_client.proofs.Cutting.{whole-request}
 use Rattle.rtsp_client.proofs.Replying.{bad-reply, refused-reply}
 use Rattle.rtsp_client.proofs.clients.Client.take_reply.Goals as goal
 
 pub awaited_code-requires-clause-whole : goal.awaited_code-requires-clause-whole
 awaited_code-requires-clause-whole g c =
-    whole_request c.args.self.now.input c.waiting_bytes.result.now c.args.length c.requires.message c.waiting_bytes.ensures
+    whole-request c.args.self.now.input c.waiting_bytes.result.now c.args.length c.requires.message c.waiting_bytes.ensures
 
 pub returns-in_default-clause-ended : goal.returns-in_default-clause-ended
 returns-in_default-clause-ended g c = λ out h k.
@@ -19,7 +19,8 @@ pub returns-then-code-ne200-clause-ended : goal.returns-then-code-ne200-clause-e
 returns-then-code-ne200-clause-ended g c = λ out h k.
     refused-reply
     k
-    (subst (λ (i : List ℕ). IsAwaited c.args.self.now (take c.args.length i) c.in-Some.code) c.waiting_bytes.ensures c.in-Some.ensures)
+    (subst (λ (i : List ℕ). IsAwaited c.args.self.now (take c.args.length i) c.in-Some.code)
+    c.waiting_bytes.ensures c.in-Some.ensures)
     c.if-code-ne200.true refl
 
 pub returns-clause-passed : goal.returns-clause-passed

@@ -33,7 +33,8 @@ returns-in_err-request-clause-ended g c =
       keeps = k;
       first = c.requires.first;
       awaited = c.requires.good;
-      session_is = session-read (λ s. s.now) c.args.length c.waiting_bytes.ensures c.session_in.ensures c.ok_or.ensures.ok_part (c.in_ok-session.was {u = tt});
+      session_is = session-read (λ s. s.now)
+          c.args.length c.waiting_bytes.ensures c.session_in.ensures c.ok_or.ensures.ok_part (c.in_ok-session.was {u = tt});
     }) refl)
 
 pub returns-in_err-kept-clause-ended : goal.returns-in_err-kept-clause-ended
@@ -45,7 +46,8 @@ returns-in_err-kept-clause-ended g c =
       keeps = k;
       first = c.requires.first;
       awaited = c.requires.good;
-      session_is = session-read (λ s. s.now) c.args.length c.waiting_bytes.ensures c.session_in.ensures c.ok_or.ensures.ok_part (c.in_ok-session.was {u = tt});
+      session_is = session-read (λ s. s.now)
+          c.args.length c.waiting_bytes.ensures c.session_in.ensures c.ok_or.ensures.ok_part (c.in_ok-session.was {u = tt});
     }) refl)
 
 pub returns-in_err-send-clause-ended : goal.returns-in_err-send-clause-ended
@@ -62,7 +64,8 @@ returns-in_err-send-clause-ended g c =
       keeps = k;
       first = c.requires.first;
       awaited = c.requires.good;
-      session_is = session-read (λ s. s.now) c.args.length c.waiting_bytes.ensures c.session_in.ensures c.ok_or.ensures.ok_part (c.in_ok-session.was {u = tt});
+      session_is = session-read (λ s. s.now)
+          c.args.length c.waiting_bytes.ensures c.session_in.ensures c.ok_or.ensures.ok_part (c.in_ok-session.was {u = tt});
     }) refl
     (subst (IsFrontTold (g.K.Link.told c.args.link.now) (g.K.Link.told c.send.new.self)) text front))
 
@@ -78,7 +81,8 @@ returns-clause-passed g c = λ out h k.
       keeps = k;
       first = c.requires.first;
       awaited = c.requires.good;
-      session_is = session-read (λ s. s.now) c.args.length c.waiting_bytes.ensures c.session_in.ensures c.ok_or.ensures.ok_part (c.in_ok-session.was {u = tt});
+      session_is = session-read (λ s. s.now)
+          c.args.length c.waiting_bytes.ensures c.session_in.ensures c.ok_or.ensures.ok_part (c.in_ok-session.was {u = tt});
     })
     (record { replies = refl; session = search rules; watching = refl })
     (sent ∙ ap (λ x. told_more (g.K.Link.told c.args.link.now) (sends x)) text)

@@ -25,9 +25,11 @@ returns-clause-source c =
     (sym c.is_complete.ensures ∙ c.if-is_complete.false)
     (ap head_of (sym (rest-whole 4 c.args.block.now)) ∙ (sym c.read_head.ensures ∙ c.in-Ok.is))
     (c.source_after.ensures.source
-    ∙ ap (λ rest. source_after c.args.self.now.source c.in-Ok.head rest c.in-Some.play.end_ms) (rest-whole 20 c.args.block.now))
+    ∙ ap (λ rest. source_after c.args.self.now.source c.in-Ok.head rest c.in-Some.play.end_ms)
+    (rest-whole 20 c.args.block.now))
 
 pub returns-clause-long : goal.returns-clause-long
 returns-clause-long c =
     long-so c.source_after.result c.args.block.now
-    (head-long c.args.block.now (ap head_of (sym (rest-whole 4 c.args.block.now)) ∙ (sym c.read_head.ensures ∙ c.in-Ok.is)))
+    (head-long c.args.block.now
+    (ap head_of (sym (rest-whole 4 c.args.block.now)) ∙ (sym c.read_head.ensures ∙ c.in-Ok.is)))
