@@ -7,7 +7,7 @@ use Rattle.std.proofs.lemmas.List.Elements.{All-append, All-cons, All-nil}
 use Rattle.std.proofs.lemmas.List.Sums.{sum_by-append}
 use Rattle.std.specs.List.{list_all}
 use Rattle.vod_base.specs.Numbers.{number_of}
-use Rattle.inputs.specs.Traces.{is_white_space, Token, begins_token, joined_tokens, tokens_from, WriteSizes, IsBadTrace, AddsSize}
+use Rattle.inputs.specs.Traces.{is_white_space, Token, begins_token, joined_tokens, tokens_from, WriteSizes, IsBadTraceText, AddsSize}
 
 -- blanks in front are passed over
 pub tokens-blanks : (at : ℕ) (blanks rest : List ℕ) → list_all is_white_space blanks ≡ true
@@ -158,7 +158,7 @@ more_read {text} {at} {to} {sizes} {size} from read counted next fits adds = rec
 pub bad_read : {text : List ℕ} {at from : ℕ} {sizes : List ℕ} {total count : ℕ} (to : ℕ) →
     HasRead text at sizes total → count ≡ length sizes →
     tokens_from at (drop at text) ≡ (record { from = from; bytes = slice_range text from to }) ∷ tokens_from to (drop to text) →
-    ((size : ℕ) → AddsSize (slice_range text from to) count total size → ⊥) → IsBadTrace text from
+    ((size : ℕ) → AddsSize (slice_range text from to) count total size → ⊥) → IsBadTraceText text from
 bad_read {text} {at} {from} {sizes} to read counted next none = record {
   good = read.done;
   bad = record { from = from; bytes = slice_range text from to };

@@ -2,7 +2,7 @@
 use Rattle.std.proofs.Common.{◌≡◌, ℕ, ◌+◌, ◌-◌, ◌<◌, ◌≤◌, true, not, List, [], ◌∷◌, ◌++◌, length, length-drop, take, drop, slice_range, sym, ap, ◌∙◌, arith, subst}
 use Rattle.std.proofs.lemmas.List.{drop-drop}
 use Rattle.std.proofs.lemmas.List.Sums.{prefix_len-le-length}
-use Rattle.inputs.specs.Traces.{is_white_space, begins_token, tokens_from, IsBadTrace, AddsSize}
+use Rattle.inputs.specs.Traces.{is_white_space, begins_token, tokens_from, IsBadTraceText, AddsSize}
 use Rattle.inputs.specs.Words.{word_length, first_word}
 use Rattle.inputs.proofs.Tokens.{HasRead, more_read, bad_read}
 use Rattle.inputs.proofs.Words.{word_token}
@@ -53,7 +53,7 @@ next_read {text} {rest} {at} {from} {len} {sizes} {total} {count} {size} read co
 -- a word with which the tokens so far write no sizes
 pub next_bad : {text rest : List ℕ} {at from : ℕ} {sizes : List ℕ} {total count : ℕ} →
     HasRead text at sizes total → count ≡ length sizes → TokenBegins text at from rest →
-    ((size : ℕ) → AddsSize (first_word rest) count total size → ⊥) → IsBadTrace text from
+    ((size : ℕ) → AddsSize (first_word rest) count total size → ⊥) → IsBadTraceText text from
 next_bad {text} {rest} {at} {from} {total} {count} read counted token none =
     let bytes : first_word rest ≡ slice_range text from (from + word_length (drop from text)) =
     ap first_word token.are ∙ word_slice text from in

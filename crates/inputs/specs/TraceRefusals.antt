@@ -1,6 +1,6 @@
 -- Why a text gives no trace.
 use Rattle.std.specs.Prelude.{ℕ, List}
-use Rattle.inputs.specs.Traces.{IsBadTrace as IsBadTraceText}
+use Rattle.inputs.specs.Traces.{IsBadTraceText}
 use Rattle.inputs.specs.declared.traces.TraceRefused.{TraceRefused}
 use Rattle.inputs.specs.declared.traces.TraceRefused.TheVariants.{BadTrace, NoMemory}
 

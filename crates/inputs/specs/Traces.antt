@@ -45,7 +45,7 @@ abbrev pub IsTraceText : List ℕ → List ℕ → Type 0
 IsTraceText text sizes = WriteSizes (tokens_from 0 text) sizes
 
 -- no trace: the first token with which the tokens so far write no sizes begins at `place`
-pub record IsBadTrace (text : List ℕ) (place : ℕ) : Type 0 where
+pub record IsBadTraceText (text : List ℕ) (place : ℕ) : Type 0 where
   pub good : List Token
   pub bad : Token
   pub rest : List Token

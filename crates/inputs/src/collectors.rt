@@ -45,8 +45,7 @@ pub fn scan_film<'a, L: Library>(
     library: &mut L,
     name: &'a str,
 ) -> Result<ScannedFilm, Trouble<'a>>
-    ensures library { IsReadOnly (L.files library.old) (L.files library.new) (L.faults library.old)
-        (L.faults library.new) }
+    ensures library { IsReadOnly L.files L.faults library.old library.new }
     ensures film { (held : List File) → L.files library.old ≡ Some held
         → IfOk result (λ film.
         HoldsFilm held name.entry.now film.bytes film.rate film.units.items) }
@@ -75,8 +74,7 @@ pub fn size_film<'a, L: Library>(
     library: &mut L,
     name: &'a str,
 ) -> Result<SizedFilm, Trouble<'a>>
-    ensures library { IsReadOnly (L.files library.old) (L.files library.new) (L.faults library.old)
-        (L.faults library.new) }
+    ensures library { IsReadOnly L.files L.faults library.old library.new }
     ensures film { (held : List File) → L.files library.old ≡ Some held
         → IfOk result (λ film. HoldsSizes held name.entry.now film.rate film.sizes.items) }
     ensures limits { IfOk result (λ film. AreSizesWithin film.rate film.sizes.items) }

@@ -23,8 +23,7 @@ pub fn read_input<'a, L: Library>(
     library: &mut L,
     name: &'a str,
 ) -> Result<Vec<u8>, Trouble<'a>>
-    ensures library { IsReadOnly (L.files library.old) (L.files library.new) (L.faults library.old)
-        (L.faults library.new) }
+    ensures library { IsReadOnly L.files L.faults library.old library.new }
     ensures found { (held : List File) → L.files library.old ≡ Some held
         → IfOk result (λ text. file_named held name.entry.now ≡ Some text.items) }
     ensures trouble { IfErr result (IsReadTrouble (IsNamed name.entry.now) IsMissing
@@ -35,16 +34,15 @@ pub fn read_input<'a, L: Library>(
 }
 
 /// That many zero bytes.
-pub(crate) fn zeros(alloc: Global, len: usize) -> Result<Vec<u8>, AllocError>
-    ensures { IfOk result (λ zeros. vec_len zeros ≡ len) }
+pub(crate) fn zeros(alloc: Global, count: usize) -> Result<Vec<u8>, AllocError>
+    ensures { IfOk result (λ zeros. vec_len zeros ≡ count) }
 {
-    vec![in alloc; 0u8; len]
+    vec![in alloc; 0u8; count]
 }
 
 /// The size of a file that is there.
 pub(crate) fn find_file<'a, L: Library>(library: &mut L, name: &'a str) -> Result<u64, Trouble<'a>>
-    ensures library { IsReadOnly (L.files library.old) (L.files library.new) (L.faults library.old)
-        (L.faults library.new) }
+    ensures library { IsReadOnly L.files L.faults library.old library.new }
     ensures found { (held : List File) → L.files library.old ≡ Some held
         → IfOk result (λ size. Some size ≡ option_map length (file_named held name.entry.now)) }
     ensures trouble { IfErr result (IsReadTrouble (IsNamed name.entry.now) IsMissing
@@ -67,8 +65,7 @@ pub(crate) fn read_at<'a, L: Library>(
 ) -> Result<usize, Trouble<'a>>
     requires some { 0 < length chunk.old }
     requires before { at < size }
-    ensures library { IsReadOnly (L.files library.old) (L.files library.new) (L.faults library.old)
-        (L.faults library.new) }
+    ensures library { IsReadOnly L.files L.faults library.old library.new }
     ensures within { IfOk result (λ count. count ≤ length chunk.new) }
     ensures fits { IfOk result (λ count. at + count ≤ size) }
     ensures told { (held : List File) (bytes : List ℕ) → L.files library.old ≡ Some held
@@ -94,8 +91,7 @@ pub(crate) fn read_bytes<'a, L: Library>(
     name: &'a str,
     size: u64,
 ) -> Result<Vec<u8>, Trouble<'a>>
-    ensures library { IsReadOnly (L.files library.old) (L.files library.new) (L.faults library.old)
-        (L.faults library.new) }
+    ensures library { IsReadOnly L.files L.faults library.old library.new }
     ensures read { (held : List File) → L.files library.old ≡ Some held
         → Some size ≡ option_map length (file_named held name.entry.now)
         → IfOk result (λ bytes. file_named held name.entry.now ≡ Some bytes.items) }
@@ -103,7 +99,7 @@ pub(crate) fn read_bytes<'a, L: Library>(
     ensures trouble { IfErr result (IsReadTrouble (IsNamed name.entry.now) IsNever
         (L.files library.old) (L.faults library.old) (L.faults library.new)) }
 {
-    let mut bytes = Vec::new(alloc);
+    let mut bytes = Vec::with_capacity(alloc, size as usize)?;
     let mut chunk = zeros(alloc, CHUNK)?;
     while (bytes.len() as u64) < size {
         let count = read_chunk(library, name, size, &mut chunk, &mut bytes)?;
@@ -124,8 +120,7 @@ fn read_chunk<'a, L: Library>(
 ) -> Result<usize, Trouble<'a>>
     requires some { 0 < length chunk.old }
     requires before { vec_len bytes.old < size }
-    ensures library { IsReadOnly (L.files library.old) (L.files library.new) (L.faults library.old)
-        (L.faults library.new) }
+    ensures library { IsReadOnly L.files L.faults library.old library.new }
     ensures longer { vec_len bytes.old ≤ vec_len bytes.new }
     ensures within { vec_len bytes.new ≤ size }
     ensures grows { IfOk result (λ count. vec_len bytes.new ≡ vec_len bytes.old + count) }

@@ -39,8 +39,7 @@ pub fn load_film<'a, L: Library>(
     library: &mut L,
     name: &'a str,
 ) -> Result<Stored, Trouble<'a>>
-    ensures library { IsReadOnly (L.files library.old) (L.files library.new) (L.faults library.old)
-        (L.faults library.new) }
+    ensures library { IsReadOnly L.files L.faults library.old library.new }
     ensures name { IfOk result (λ stored. string_bytes stored.name ≡ name.entry.now) }
     ensures film { (held : List File) → L.files library.old ≡ Some held
         → IfOk result (λ stored. HoldsVideo held name.entry.now stored.film.bytes.items) }
@@ -62,8 +61,7 @@ pub fn load_script_film<'a, L: Library>(
     library: &mut L,
     name: &'a str,
 ) -> Result<Stored, Trouble<'a>>
-    ensures library { IsReadOnly (L.files library.old) (L.files library.new) (L.faults library.old)
-        (L.faults library.new) }
+    ensures library { IsReadOnly L.files L.faults library.old library.new }
     ensures name { IfOk result (λ stored. string_bytes stored.name ≡ name.entry.now) }
     ensures film { (held : List File) → L.files library.old ≡ Some held
         → IfOk result (λ stored. HoldsVideo held name.entry.now stored.film.bytes.items) }
@@ -159,8 +157,7 @@ fn load_within<'a, L: Library>(
     over: Fault,
 ) -> Result<Stored, Trouble<'a>>
     requires { most ≤ 2 ^ 40 }
-    ensures library { IsReadOnly (L.files library.old) (L.files library.new) (L.faults library.old)
-        (L.faults library.new) }
+    ensures library { IsReadOnly L.files L.faults library.old library.new }
     ensures name { IfOk result (λ stored. string_bytes stored.name ≡ name.entry.now) }
     ensures film { (held : List File) → L.files library.old ≡ Some held
         → IfOk result (λ stored. HoldsVideo held name.entry.now stored.film.bytes.items) }

@@ -39,8 +39,7 @@ pub(crate) fn find_pack<'a, L: Library>(
 ) -> Result<Option<u64>, Trouble<'a>>
     requires some { 0 < length chunk.old }
     requires short { size ≤ 2 ^ 40 }
-    ensures library { IsReadOnly (L.files library.old) (L.files library.new) (L.faults library.old)
-        (L.faults library.new) }
+    ensures library { IsReadOnly L.files L.faults library.old library.new }
     ensures opened { (held : List File) → L.files library.old ≡ Some held
         → Some size ≡ option_map length (file_named held name.entry.now)
         → IfOk result (IsOpened held name.entry.now size) }

@@ -55,8 +55,7 @@ pub(crate) fn hear_film<'a, L: Library, F: Found>(
     found: &mut F,
 ) -> Result<Ending, Trouble<'a>>
     requires fresh { F.heard found.old [] }
-    ensures library { IsReadOnly (L.files library.old) (L.files library.new) (L.faults library.old)
-        (L.faults library.new) }
+    ensures library { IsReadOnly L.files L.faults library.old library.new }
     ensures film { IfOk result (λ ending.
         HasHeard (F.heard found.new) (L.files library.old) name.entry.now ending.bytes
         ending.rate) }
@@ -93,8 +92,7 @@ fn feed_chunk<'a, L: Library, F: Found>(
     requires scanned { HasScanned (F.heard found.old)
         (L.files library.old) name.now size at scanner.old }
     requires ready { IsReady (F.ready_at found.old) scanner.old }
-    ensures library { IsReadOnly (L.files library.old) (L.files library.new) (L.faults library.old)
-        (L.faults library.new) }
+    ensures library { IsReadOnly L.files L.faults library.old library.new }
     ensures within { IfOk result (λ count. at + count ≤ size) }
     ensures ready { IsReady (F.ready_at found.new) scanner.new }
     ensures scanned { IfOk result (λ count.
@@ -128,8 +126,7 @@ fn feed_film<'a, L: Library, F: Found>(
     requires scanned { HasScanned (F.heard found.old)
         (L.files library.old) name.now size 0 scanner.old }
     requires ready { IsReady (F.ready_at found.old) scanner.old }
-    ensures library { IsReadOnly (L.files library.old) (L.files library.new) (L.faults library.old)
-        (L.faults library.new) }
+    ensures library { IsReadOnly L.files L.faults library.old library.new }
     ensures ready { IsReady (F.ready_at found.new) scanner.new }
     ensures scanned { OnOk result
         (HasScannedAll (F.heard found.new) (L.files library.old) name.entry.now size scanner.new) }
@@ -159,8 +156,7 @@ fn scan_plain<'a, L: Library, F: Found>(
     requires short { size ≤ 2 ^ 40 }
     requires opened { WasOpened (L.files library.old) name.now size None }
     requires fresh { F.heard found.old [] }
-    ensures library { IsReadOnly (L.files library.old) (L.files library.new) (L.faults library.old)
-        (L.faults library.new) }
+    ensures library { IsReadOnly L.files L.faults library.old library.new }
     ensures film { IfOk result (λ ending.
         HasHeard (F.heard found.new) (L.files library.old) name.entry.now ending.bytes
         ending.rate) }

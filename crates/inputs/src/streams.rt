@@ -91,8 +91,7 @@ pub(crate) fn scan_stream<'a, L: Library, F: Found>(
     requires opened { WasOpened (L.files library.old) name.now size (Some from) }
     requires within { from ≤ size }
     requires fresh { F.heard found.old [] }
-    ensures library { IsReadOnly (L.files library.old) (L.files library.new) (L.faults library.old)
-        (L.faults library.new) }
+    ensures library { IsReadOnly L.files L.faults library.old library.new }
     ensures film { IfOk result (λ ending.
         HasHeard (F.heard found.new) (L.files library.old) name.entry.now ending.bytes
         ending.rate) }
@@ -201,8 +200,7 @@ fn feed_stream_chunk<'a, L: Library, F: Found>(
         (L.files library.old) file.name.now file.size file.from at unwrapper.old scanner.old }
     requires few { bytes_fed scanner.old ≤ unwrapper.old.fed }
     requires ready { IsReady (F.ready_at found.old) scanner.old }
-    ensures library { IsReadOnly (L.files library.old) (L.files library.new) (L.faults library.old)
-        (L.faults library.new) }
+    ensures library { IsReadOnly L.files L.faults library.old library.new }
     ensures within { IfOk result (λ count. at + count ≤ file.entry.size) }
     ensures few { OnOk result (bytes_fed scanner.new ≤ unwrapper.new.fed) }
     ensures ready { IsReady (F.ready_at found.new) scanner.new }
@@ -243,8 +241,7 @@ fn feed_stream<'a, L: Library, F: Found>(
         scanner.old }
     requires few { bytes_fed scanner.old ≤ unwrapper.old.fed }
     requires ready { IsReady (F.ready_at found.old) scanner.old }
-    ensures library { IsReadOnly (L.files library.old) (L.files library.new) (L.faults library.old)
-        (L.faults library.new) }
+    ensures library { IsReadOnly L.files L.faults library.old library.new }
     ensures ready { IsReady (F.ready_at found.new) scanner.new }
     ensures streamed { OnOk result
         (HasStreamedAll (F.heard found.new)

@@ -94,7 +94,7 @@ fn is_white_space(byte: u8) -> bool
 
 /// How many bytes of white space stand in front.
 #[inline(always)]
-fn white_space_len(rest: &[u8]) -> usize
+fn white_space_length(rest: &[u8]) -> usize
     ensures within { result ≤ length rest.now }
     ensures white_space { list_all is_white_space (take result rest.now) ≡ true }
     ensures next { result < length rest.now → begins_token (drop result rest.now) ≡ true }
@@ -115,12 +115,12 @@ fn next_place(text: &[u8], at: usize) -> Option<usize>
         (λ from. (at ≤ from) × (from < length text.now) × (begins_token (drop from text.now) ≡ true)
         × (tokens_from at (drop at text.now) ≡ tokens_from from (drop from text.now))) }
 {
-    let from = at + white_space_len(&text[at..]);
+    let from = at + white_space_length(&text[at..]);
     if from < text.len() { Some(from) } else { None }
 }
 
-#[tactic(auto, using(crate::proofs::SmallNumbers::digit_steps))]
 /// The digits in front, as far as they write a number up to [`MAX_SIZE`] or the first above it.
+#[tactic(auto, using(crate::proofs::SmallNumbers::digit_steps))]
 #[inline(always)]
 fn digits_in_front(rest: &[u8]) -> Number
     ensures within { result.len ≤ length rest.now }

@@ -21,7 +21,7 @@ use Rattle.plan_cert.specs.Text.{cert_text}
 use Rattle.cert_check.specs.Fault.{IsTaut}
 use Rattle.inputs.specs.Scans.{HoldsSizes, IsFilmRefused}
 use Rattle.inputs.specs.Sizes.{sizes_of}
-use Rattle.inputs.specs.Traces.{Token, tokens_from, WriteSizes, IsTraceText, IsBadTrace as IsBadTraceText}
+use Rattle.inputs.specs.Traces.{Token, tokens_from, WriteSizes, IsTraceText, IsBadTraceText}
 use Rattle.inputs.proofs.ReadLemmas.{one_file}
 use Rattle.inputs.proofs.VideoLemmas.{held_not_refused, held_once}
 use Rattle.command_words.specs.Words.{Source, trace_source, film_source, Viewer}

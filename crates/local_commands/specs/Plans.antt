@@ -16,7 +16,7 @@ use Rattle.cert_check.specs.declared.CertFault.{CertFault}
 use Rattle.mpeg_scan.specs.Rates.{picture_time}
 use Rattle.inputs.specs.Files.{IsMissing}
 use Rattle.inputs.specs.Scans.{HoldsSizes, IsFilmRefused}
-use Rattle.inputs.specs.Traces.{IsTraceText, IsBadTrace as IsBadTraceText}
+use Rattle.inputs.specs.Traces.{IsTraceText, IsBadTraceText}
 use Rattle.command_words.specs.Words.{Source, trace_source, film_source, Viewer}
 use Rattle.troubles.specs.declared.faults.Fault.{Fault}
 use Rattle.troubles.specs.declared.faults.Fault.TheVariants.{BadTrace, Curves, BadCert}

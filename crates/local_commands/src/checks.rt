@@ -31,8 +31,7 @@ pub fn check_viewer<'a, L: Library>(
     cert: &'a str,
 ) -> Result<Done, Trouble<'a>>
     requires { IsViewerInRange viewer }
-    ensures library { IsReadOnly (L.files library.old) (L.files library.new) (L.faults library.old)
-        (L.faults library.new) }
+    ensures library { IsReadOnly L.files L.faults library.old library.new }
     ensures done { IfOk result (λ done.
         IsDone (L.files library.old) (check_of (viewer_of viewer.entry) cert.entry.now)
         done.status done.text.items done.plan) }

@@ -29,8 +29,7 @@ pub(crate) fn viewer_curves<'a, L: Library>(
     viewer: Viewer<'a>,
 ) -> Result<Curves, Trouble<'a>>
     requires { IsViewerInRange viewer }
-    ensures library { IsReadOnly (L.files library.old) (L.files library.new) (L.faults library.old)
-        (L.faults library.new) }
+    ensures library { IsReadOnly L.files L.faults library.old library.new }
     ensures sound { IfOk result (λ curves. IsSound curves.from curves.low.items curves.up.items) }
     ensures curves { (held : List File) → L.files library.old ≡ Some held →
         IfOk result (HasCurves held (viewer_of viewer.entry)) }
@@ -75,8 +74,7 @@ fn trace_pictures<'a, L: Library>(
     library: &mut L,
     name: &'a str,
 ) -> Result<Pictures, Trouble<'a>>
-    ensures library { IsReadOnly (L.files library.old) (L.files library.new) (L.faults library.old)
-        (L.faults library.new) }
+    ensures library { IsReadOnly L.files L.faults library.old library.new }
     ensures limits { IfOk result (λ pictures. MayHaveCurves (pictures_of pictures)) }
     ensures pictures { (held : List File) → L.files library.old ≡ Some held
         → IfOk result (λ pictures. AreOfTrace held name.entry.now (pictures_of pictures)) }
@@ -99,8 +97,7 @@ fn film_pictures<'a, L: Library>(
     slot: u32,
 ) -> Result<Pictures, Trouble<'a>>
     requires { MayBeSlot slot }
-    ensures library { IsReadOnly (L.files library.old) (L.files library.new) (L.faults library.old)
-        (L.faults library.new) }
+    ensures library { IsReadOnly L.files L.faults library.old library.new }
     ensures limits { IfOk result (λ pictures. MayHaveCurves (pictures_of pictures)) }
     ensures pictures { (held : List File) → L.files library.old ≡ Some held
         → IfOk result (λ pictures. AreOfFilm held name.entry.now slot (pictures_of pictures)) }
@@ -122,8 +119,7 @@ fn source_pictures<'a, L: Library>(
     source: Source<'a>,
 ) -> Result<Pictures, Trouble<'a>>
     requires { IsSourceInRange source }
-    ensures library { IsReadOnly (L.files library.old) (L.files library.new) (L.faults library.old)
-        (L.faults library.new) }
+    ensures library { IsReadOnly L.files L.faults library.old library.new }
     ensures limits { IfOk result (λ pictures. MayHaveCurves (pictures_of pictures)) }
     ensures pictures { (held : List File) → L.files library.old ≡ Some held
         → IfOk result (λ pictures.

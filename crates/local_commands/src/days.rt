@@ -39,8 +39,7 @@ pub fn load_script<'a, L: Library>(
     library: &mut L,
     name: &'a str,
 ) -> Result<Script, Trouble<'a>>
-    ensures library { IsReadOnly (L.files library.old) (L.files library.new) (L.faults library.old)
-        (L.faults library.new) }
+    ensures library { IsReadOnly L.files L.faults library.old library.new }
     ensures lines { IfOk result (λ script.
         AreLines (length script.named.items) script.lines.items) }
     ensures clients { IfOk result (λ script. AreClients script.lines.items) }
@@ -71,8 +70,7 @@ pub fn load_sources<'a, L: Library>(
     library: &mut L,
     named: &'a [Named],
 ) -> Result<Vec<Source>, Trouble<'a>>
-    ensures library { IsReadOnly (L.files library.old) (L.files library.new)
-        (L.faults library.old) (L.faults library.new) }
+    ensures library { IsReadOnly L.files L.faults library.old library.new }
     ensures count { IfOk result (λ sources. length sources.items ≡ length named.entry.now) }
     ensures sources { IfOk result (λ sources. AreSources sources.items) }
     ensures held { (held : List File) → L.files library.old ≡ Some held →
@@ -143,8 +141,7 @@ fn load_source<'a, L: Library>(
     library: &mut L,
     named: &'a Named,
 ) -> Result<Source, Trouble<'a>>
-    ensures library { IsReadOnly (L.files library.old) (L.files library.new)
-        (L.faults library.old) (L.faults library.new) }
+    ensures library { IsReadOnly L.files L.faults library.old library.new }
     ensures source { IfOk result IsSource }
     ensures held { (held : List File) → L.files library.old ≡ Some held →
         IfOk result (IsHeldAs held named.entry.now) }

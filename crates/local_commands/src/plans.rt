@@ -28,8 +28,7 @@ pub fn plan_viewer<'a, L: Library>(
     viewer: Viewer<'a>,
 ) -> Result<Done, Trouble<'a>>
     requires { IsViewerInRange viewer }
-    ensures library { IsReadOnly (L.files library.old) (L.files library.new) (L.faults library.old)
-        (L.faults library.new) }
+    ensures library { IsReadOnly L.files L.faults library.old library.new }
     ensures done { IfOk result (λ done.
         IsDone (L.files library.old) (plan_of (viewer_of viewer.entry))
         done.status done.text.items done.plan) }

@@ -25,8 +25,7 @@ pub fn list_units<'a, L: Library>(
     library: &mut L,
     film: &'a str,
 ) -> Result<Done, Trouble<'a>>
-    ensures library { IsReadOnly (L.files library.old) (L.files library.new) (L.faults library.old)
-        (L.faults library.new) }
+    ensures library { IsReadOnly L.files L.faults library.old library.new }
     ensures done { IfOk result (λ done.
         IsDone (L.files library.old) (scan_of film.entry.now)
         done.status done.text.items done.plan) }

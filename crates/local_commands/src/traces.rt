@@ -18,8 +18,7 @@ pub(crate) fn load_trace<'a, L: Library>(
     library: &mut L,
     name: &'a str,
 ) -> Result<Vec<u64>, Trouble<'a>>
-    ensures library { IsReadOnly (L.files library.old) (L.files library.new)
-        (L.faults library.old) (L.faults library.new) }
+    ensures library { IsReadOnly L.files L.faults library.old library.new }
     ensures limits { IfOk result (λ sizes. AreUnitSizes sizes.items) }
     ensures held { (held : List File) → L.files library.old ≡ Some held →
         IfOk result (λ sizes. HoldsTrace held name.entry.now sizes.items) }

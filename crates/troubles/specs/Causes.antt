@@ -5,10 +5,14 @@ use Rattle.troubles.specs.declared.faults.Fault.{Fault}
 use Rattle.troubles.specs.declared.faults.Trouble.{Trouble}
 use Rattle.troubles.specs.declared.faults.Trouble.TheVariants.{Refused, StoreFault, NoMemory}
 
--- a library that was read: it holds what it held, and its count of faults didn't fall
-pub record IsReadOnly (told told' : Option (List File)) (faults faults' : ℕ) : Type 0 where
+-- what a library tells is as it was, and its count of faults didn't fall
+pub record IsStoreKept (told told' : Option (List File)) (faults faults' : ℕ) : Type 0 where
   pub kept : told' ≡ told
   pub count : faults ≤ faults'
+
+-- a library was only read, by what it tells and counts
+abbrev pub IsReadOnly : {L : Type 0} → (L → Option (List File)) → (L → ℕ) → L → L → Type 0
+IsReadOnly files faults old new = IsStoreKept (files old) (files new) (faults old) (faults new)
 
 -- a refusal names an input that is read, and goes with `Refuses` where the library tells what it
 -- holds; a fault of the library names an input that is read, and was counted; want of memory says

@@ -10,7 +10,8 @@ number_text n = codes " " ++ decimal n
 abbrev pub with_label : List ℕ → ℕ → List ℕ
 with_label label number = codes " " ++ label ++ codes "=" ++ decimal number
 
--- the text was written after what was told; after a fault, which was counted, a front of it
+-- the text was written after what was told, and `whole` tells whether all of it was; after a
+-- fault, which was counted, a front of it was
 pub record IsSaid (faults faults' : ℕ) (told told' : Option (List ℕ)) (text : List ℕ) (whole : Bool)
     : Type 0 where
   pub count : faults ≤ faults'

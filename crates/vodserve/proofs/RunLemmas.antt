@@ -6,7 +6,7 @@ use Rattle.command_words.specs.declared.orders.Made.{Made}
 use Rattle.command_words.specs.declared.orders.Order.{Order as OrderRead}
 use Rattle.command_words.specs.Words.{Order, help, make_of, version}
 use Rattle.plan_cert.specs.declared.Segment.{Segment}
-use Rattle.troubles.specs.Causes.{IsReadOnly, IsReadTrouble}
+use Rattle.troubles.specs.Causes.{IsStoreKept, IsReadTrouble}
 use Rattle.troubles.specs.declared.faults.Trouble.{Trouble}
 use Rattle.troubles.specs.declared.faults.Trouble.TheVariants.{Usage, Refused, StoreFault, SinkFault, NoMemory, GateFault, LinkFault}
 use Rattle.vod_base.specs.Outside.{File}
@@ -72,7 +72,7 @@ printed {before} {after} {order} {ended} result gate nothing ok err is =
 -- what the words ask for was done
 pub ran_as : {before after : World} {seed : List ℕ} {asked : Option Order} {ended : Ended} {read order : OrderRead} →
     Some (order_of read) ≡ asked → read ≡ order →
-    IsReadOnly before.store.told after.store.told before.store.faults after.store.faults →
+    IsStoreKept before.store.told after.store.told before.store.faults after.store.faults →
     before.out.faults ≤ after.out.faults → before.gate.faults ≤ after.gate.faults →
     Does before after seed (order_of order) ended → Ran before after seed asked ended
 ran_as {order = order} is same library output gate does = record {

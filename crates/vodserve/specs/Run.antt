@@ -30,7 +30,7 @@ use Rattle.command_words.specs.declared.orders.FairRun.{FairRun}
 use Rattle.troubles.specs.Said.{IsSaid}
 use Rattle.troubles.specs.Lines.{trouble_text}
 use Rattle.troubles.specs.Statuses.{status_of}
-use Rattle.troubles.specs.Causes.{IsReadOnly, IsReadTrouble}
+use Rattle.troubles.specs.Causes.{IsStoreKept, IsReadTrouble}
 use Rattle.troubles.specs.declared.faults.Trouble.{Trouble}
 use Rattle.troubles.specs.declared.faults.Trouble.TheVariants.{Usage, Refused, StoreFault}
 use Rattle.troubles.specs.declared.faults.Trouble.TheVariants.{SinkFault, NoMemory, GateFault}
@@ -329,7 +329,7 @@ Does before after seed (serve_of serving) ended = Serves before after seed servi
 -- the library is as it was, and what the words ask for was done, if they mean something
 pub record Ran (before after : World) (seed : List ℕ) (asked : Option Order) (ended : Ended)
     : Type 0 where
-  pub library : IsReadOnly before.store.told after.store.told before.store.faults after.store.faults
+  pub library : IsStoreKept before.store.told after.store.told before.store.faults after.store.faults
   pub output : before.out.faults ≤ after.out.faults
   pub gate : before.gate.faults ≤ after.gate.faults
   pub does : ((order : Order) × ((asked ≡ Some order) × Does before after seed order ended))

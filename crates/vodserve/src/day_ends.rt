@@ -23,8 +23,7 @@ pub(crate) fn day<L: Library, O: Sink, E: Sink>(
     run: &ScriptRun<'_>,
 ) -> Ended
     requires { IsScriptRunInRange run.now }
-    ensures library { IsReadOnly (L.files library.old) (L.files library.new) (L.faults library.old)
-        (L.faults library.new) }
+    ensures library { IsReadOnly L.files L.faults library.old library.new }
     ensures count { O.faults out.old ≤ O.faults out.new }
     ensures runs { RunsDay
         (sight_of L.faults L.files library.old) (sight_of L.faults L.files library.new)

@@ -1,4 +1,4 @@
-//! The commands of the program, behind one call.
+//! The commands of the program, in one call.
 
 ghost use Rattle.std.specs.Prelude.{◌≡◌, ◌≤◌, ◌⊎◌, None, Bool, length, ℕ, List, Option, Result};
 ghost use Rattle.std.specs.Prelude.{IfOk, IfErr};
@@ -183,8 +183,7 @@ fn serve<R: Threads + Wait + Sync, L: Library, O: Sink, E: Sink, G: Gate + Send 
 where
     G::Conn: Send,
     requires { IsServingInRange serving.now }
-    ensures library { IsReadOnly (L.files library.old) (L.files library.new)
-        (L.faults library.old) (L.faults library.new) }
+    ensures library { IsReadOnly L.files L.faults library.old library.new }
     ensures output { O.faults out.old ≤ O.faults out.new }
     ensures gate { G.faults gate.old ≤ G.faults gate.new }
     ensures serves { Serves

@@ -61,8 +61,7 @@ pub(crate) fn prepare<'a, L: Library, G: Gate>(
     serving: &Serving<'a>,
 ) -> Result<Prepared, Trouble<'a>>
     requires { IsServingInRange serving.now }
-    ensures library { IsReadOnly (L.files library.old) (L.files library.new)
-        (L.faults library.old) (L.faults library.new) }
+    ensures library { IsReadOnly L.files L.faults library.old library.new }
     ensures count { G.faults gate.old ≤ G.faults gate.new }
     ensures films { IfOk result (λ prepared. AreFilms prepared.films.items) }
     ensures loaded { IfOk result (λ prepared. AreLoaded (L.files library.old)
@@ -176,8 +175,7 @@ fn add_film<'a, L: Library>(
     films: &mut Vec<Stored>,
     word: &'a str,
 ) -> Result<(), Trouble<'a>>
-    ensures library { IsReadOnly (L.files library.old) (L.files library.new)
-        (L.faults library.old) (L.faults library.new) }
+    ensures library { IsReadOnly L.files L.faults library.old library.new }
     ensures added { OnOk result (names_of films.new.items
         ≡ names_of films.old.items
         ++ option_to_list (setting_value (codes "film") word.entry.now)) }
@@ -201,8 +199,7 @@ fn load_films<'a, L: Library>(
     words: &'a [String],
 ) -> Result<Vec<Stored>, Trouble<'a>>
     requires { are_films (values_of (codes "film") (texts words.now)) ≡ true }
-    ensures library { IsReadOnly (L.files library.old) (L.files library.new)
-        (L.faults library.old) (L.faults library.new) }
+    ensures library { IsReadOnly L.files L.faults library.old library.new }
     ensures films { IfOk result (λ films. AreFilms films.items) }
     ensures loaded { IfOk result (λ films. AreLoaded (L.files library.old)
         (values_of (codes "film") (texts words.entry.now)) films.items) }
@@ -219,7 +216,11 @@ fn load_films<'a, L: Library>(
 }
 
 /// A station of that capacity, and its first seat.
-fn make_station(alloc: Global, steps: &[CapacityStep], limit: u64) -> Result<(Station, Seat), NoMemory>
+fn make_station(
+    alloc: Global,
+    steps: &[CapacityStep],
+    limit: u64,
+) -> Result<(Station, Seat), NoMemory>
     requires profile { IsProfile steps.now }
     requires some { 2 ≤ limit }
     requires few { limit ≤ 1048576 }

@@ -1,22 +1,25 @@
-use Rattle.std.proofs.Common.{◌∙◌, arith, refl}
+use Rattle.std.proofs.Common.{◌∙◌, ap, arith, length, refl}
 use Rattle.inputs.specs.Files.{IsNever}
 use Rattle.inputs.proofs.ScanLemmas.{handed_on, trouble_on}
 use Rattle.inputs.proofs.ReadLemmas.{first_front, whole_front}
 use Rattle.inputs.proofs.LibraryLemmas.{then_read}
 use Rattle.inputs.proofs.files.read_bytes.Goals as goal
 
+pub returns-in_err-bytes-clause-trouble : goal.returns-in_err-bytes-clause-trouble
+returns-in_err-bytes-clause-trouble g c = handed_on _ c.from_residual.result c.from_residual.ensures.1 tt
+
 pub returns-in_err-chunk-clause-trouble : goal.returns-in_err-chunk-clause-trouble
-returns-in_err-chunk-clause-trouble g c = handed_on _ c.from_residual.result c.from_residual.ensures.1 tt
+returns-in_err-chunk-clause-trouble g c = handed_on _ c.from_residual-in_err-chunk.result c.from_residual-in_err-chunk.ensures.1 tt
 
 pub loop-library-init : goal.loop-library-init
 loop-library-init g c = (
   record {
     kept = refl;
     count = omega arith;
-    told = λ held told found. rw c.new-bytes.ensures.items (first_front held c.args.name.now c.args.size found);
+    told = λ held told found. rw c.in_ok-bytes.ensures.items (first_front held c.args.name.now c.args.size found);
   },
   omega (arith, c.in_ok-chunk.ensures {u = tt}),
-  omega (arith, c.new-bytes.ensures.len),
+  omega (arith, ap length c.in_ok-bytes.ensures.items),
 )
 
 pub loop-library-preserved : goal.loop-library-preserved

@@ -11,16 +11,16 @@ returns-then-from-text c =
     let front : List ℕ = take (length text - c.args.at) (drop c.args.at text) in (
       omega arith,
       omega (arith, c.if-from-text.true),
-      begins_after text c.args.at c.white_space_len.result (slice_from text c.args.at)
-          c.white_space_len.ensures.next (omega (arith, c.if-from-text.true)),
-      blanks_step text c.args.at c.white_space_len.result (slice_from text c.args.at)
-          c.white_space_len.ensures.within c.white_space_len.ensures.white_space,
+      begins_after text c.args.at c.white_space_length.result (slice_from text c.args.at)
+          c.white_space_length.ensures.next (omega (arith, c.if-from-text.true)),
+      blanks_step text c.args.at c.white_space_length.result (slice_from text c.args.at)
+          c.white_space_length.ensures.within c.white_space_length.ensures.white_space,
     )
 
 pub returns-else-from-text : goal.returns-else-from-text
 returns-else-from-text c =
     let text = c.args.text.now in
-    blanks_step text c.args.at c.white_space_len.result
-    (slice_from text c.args.at) c.white_space_len.ensures.within c.white_space_len.ensures.white_space
-    ∙ ap (tokens_from (c.args.at + c.white_space_len.result))
-    (drop_all (c.args.at + c.white_space_len.result) text (omega (arith, c.if-from-text.false)))
+    blanks_step text c.args.at c.white_space_length.result
+    (slice_from text c.args.at) c.white_space_length.ensures.within c.white_space_length.ensures.white_space
+    ∙ ap (tokens_from (c.args.at + c.white_space_length.result))
+    (drop_all (c.args.at + c.white_space_length.result) text (omega (arith, c.if-from-text.false)))

@@ -2,13 +2,13 @@ use Rattle.std.proofs.Common.{◌≡◌, ◌++◌, drop}
 use Rattle.std.specs.Prelude.{All, codes}
 use Rattle.session.specs.Ranges.{names_of}
 use Rattle.command_words.specs.Settings.{texts, values_of}
-use Rattle.troubles.specs.Causes.{IsReadOnly}
+use Rattle.troubles.specs.Causes.{IsStoreKept}
 use Rattle.vodserve.specs.Worked.{IsHeld}
 use Rattle.vodserve.proofs.serving.load_films.Given as goal
 
 abbrev pub invariant-loop-word : goal.invariant-loop-word
 invariant-loop-word g l = record {
-  library : IsReadOnly (g.L.Library.files l.fn.library) (g.L.Library.files l.library)
+  library : IsStoreKept (g.L.Library.files l.fn.library) (g.L.Library.files l.library)
       (g.L.Library.faults l.fn.library) (g.L.Library.faults l.library);
   held : All (IsHeld (g.L.Library.files l.fn.library)) l.films.items;
   names : values_of (codes "film") (texts l.words)

@@ -1,6 +1,6 @@
 //! Films and system streams through `run`.
 
-use crate::scenes::passes;
+use crate::tests::scenes::passes;
 use std::test::Fail;
 
 /// What a scan of `a.mpg` prints.
@@ -133,8 +133,8 @@ bytes 17.mpg 000001ba2100010001800003 000001e00034ffffffffffffffffffffffffffffff
 #[test]
 fn scans_and_plans_films(rt: HostRuntime) -> Result<(), Fail> {
     let mut script = String::new(rt.alloc());
-    for piece in FILMS {
-        script.push_str(piece)?;
+    for part in FILMS {
+        script.push_str(part)?;
     }
     passes(&rt, rt.alloc(), script.as_str())
 }
