@@ -1,5 +1,7 @@
 -- What words mean may be asked.
-use Rattle.std.proofs.Common.{◌≡◌, ℕ, ◌+◌, ◌-◌, ◌^◌, ◌≤◌, ◌&&◌, ◌==◌, All, List, [], ◌∷◌, ◌++◌, length, subst, arith, Option, Some, None, Bool, true, false, refl, codes, if◌then◌else◌, nat_le, nat_lt, length-append}
+use Rattle.std.proofs.Common.{◌≡◌, ℕ, ◌+◌, ◌-◌, ◌^◌, ◌≤◌, ◌&&◌, ◌==◌, All, List, [], ◌∷◌, ◌++◌}
+use Rattle.std.proofs.Common.{length, subst, arith, Option, Some, None, Bool, true, false, refl}
+use Rattle.std.proofs.Common.{codes, if◌then◌else◌, nat_le, nat_lt, length-append}
 use Rattle.std.specs.Int.{IsInRange}
 use Rattle.std.specs.List.{fold, list_all, position_or_len, slice_split}
 use Rattle.std.specs.Option.{option_and_then}
@@ -14,19 +16,35 @@ use Rattle.vod_base.specs.Numbers.{number_of}
 use Rattle.slot_calendar.specs.declared.profiles.CapacityStep.{CapacityStep}
 use Rattle.vod_base.specs.Limits.{in_range}
 use Rattle.command_words.specs.Settings.{number_or, one_name, one_number, values_of}
-use Rattle.command_words.specs.Capacities.{IsFront, capacity_of, flat_steps, may_follow, one_capacity, part_more, stands_after, step_more, step_of, steps_of}
-use Rattle.command_words.specs.Keys.{film_given, cert_given, script_given, buffer_given, startup_given, slot_given, capacity_given, journal_given, port_given, workers_given, connections_given, seed_given, pictures_given, plays_given, one_kind, one_bind}
+use Rattle.command_words.specs.Capacities.{IsFront, capacity_of, flat_steps, may_follow}
+use Rattle.command_words.specs.Capacities.{one_capacity, part_more, stands_after, step_more}
+use Rattle.command_words.specs.Capacities.{step_of, steps_of}
+use Rattle.command_words.specs.Keys.{film_given, cert_given, script_given, buffer_given}
+use Rattle.command_words.specs.Keys.{startup_given, slot_given, capacity_given, journal_given}
+use Rattle.command_words.specs.Keys.{port_given, workers_given, connections_given, seed_given}
+use Rattle.command_words.specs.Keys.{pictures_given, plays_given, one_kind, one_bind}
 use Rattle.command_words.specs.Commands.{command_named, is_word_of}
 use Rattle.command_words.specs.declared.commands.Command.{Command}
 use Rattle.command_words.specs.declared.commands.Command.TheVariants.{Plan, Check, Scan, Make, Day, Fair, Serve, Watch}
-use Rattle.command_words.specs.Words.{Source, trace_source, film_source, Viewer, Serving, ScriptRun, Watching, Order, help, version, plan_of, check_of, scan_of, make_of, day_of, fair_of, serve_of, watch_of, are_films, command_order, lone_order, source_of, source_given, viewer_given, script_run_given, fair_run_given, listening_given, pace_given, serving_given, watching_given, order_given, meaning}
-use Rattle.command_words.specs.Spelling.{IsCapacity, MayBeBuffer, MayBeStartup, MayBePort, MayBeSlot, MayBeJournal, MayBeSource, MayBeViewer, MayBePace, MayListen, MayServe, MayRun, MayDraw, MayWatch, MayBeAsked}
+use Rattle.command_words.specs.Words.{Source, trace_source, film_source, Viewer, Serving, ScriptRun}
+use Rattle.command_words.specs.Words.{Watching, Order, help, version, plan_of, check_of, scan_of}
+use Rattle.command_words.specs.Words.{make_of, day_of, fair_of, serve_of, watch_of, are_films}
+use Rattle.command_words.specs.Words.{command_order, lone_order, source_of, source_given}
+use Rattle.command_words.specs.Words.{viewer_given, script_run_given, fair_run_given}
+use Rattle.command_words.specs.Words.{listening_given, pace_given, serving_given, watching_given}
+use Rattle.command_words.specs.Words.{order_given, meaning}
+use Rattle.command_words.specs.Spelling.{IsCapacity, MayBeBuffer, MayBeStartup, MayBePort}
+use Rattle.command_words.specs.Spelling.{MayBeSlot, MayBeJournal, MayBeFilms, MayBeSource}
+use Rattle.command_words.specs.Spelling.{MayBeViewer, MayBePace, MayListen, MayServe, MayRun}
+use Rattle.command_words.specs.Spelling.{MayDraw, MayWatch, MayBeAsked}
 use Rattle.command_words.specs.declared.orders.Listening.{Listening}
 use Rattle.command_words.specs.declared.orders.Pace.{Pace}
 use Rattle.command_words.specs.declared.orders.FairRun.{FairRun}
 use Rattle.command_words.proofs.CapacityLemmas.{front_more, profile_of}
 use Rattle.command_words.proofs.FilmLemmas.{films_asked}
-use Rattle.command_words.proofs.FormLemmas.{last_step_found, step_found, test_passes}
+use Rattle.command_words.proofs.GroupLemmas.{last_step_found, step_found, test_passes, viewer_keys, pace_keys}
+use Rattle.command_words.proofs.GroupLemmas.{listening_keys, script_run_keys, fair_run_keys, serving_keys}
+use Rattle.command_words.proofs.GroupLemmas.{watching_keys, check_keys, make_keys}
 
 -- ---- one value
 between_found : (least most n : ℕ) (o : Option ℕ) → in_range least most o ≡ Some n → IsInRange least most n
@@ -36,7 +54,8 @@ between_found least most n (Some m) e =
     let parts = and_parts (nat_le least m) (nat_le m most) found.0 in
     subst (IsInRange least most) (same_Some m n found.1) (leb-true least m parts.0, leb-true m most parts.1)
 
-one_between : (least most n : ℕ) (values : List (List ℕ)) → one_number least most values ≡ Some n → IsInRange least most n
+one_between : (least most n : ℕ) (values : List (List ℕ)) → one_number least most values ≡ Some n
+    → IsInRange least most n
 one_between least most n [] e = absurd (none-some _ e)
 one_between least most n (value ∷ []) e = between_found least most n (number_of value) e
 one_between least most n (value ∷ other ∷ others) e = absurd (none-some _ e)
@@ -70,11 +89,13 @@ none_read = record {
   early = All-nil (λ (step : CapacityStep). step.from ≤ 2 ^ 62);
 }
 
-one_read : (steps : List CapacityStep) (step : CapacityStep) → AreRead steps → may_follow steps step ≡ true → AreRead (steps ++ step ∷ [])
+one_read : (steps : List CapacityStep) (step : CapacityStep) → AreRead steps → may_follow steps step ≡ true
+    → AreRead (steps ++ step ∷ [])
 one_read steps step read may =
     let all = and_parts (nat_lt (length steps) 64)
     (stands_after steps step.from && (nat_le step.from (2 ^ 62) && nat_le step.bytes (2 ^ 42))) may in
-    let rest = and_parts (stands_after steps step.from) (nat_le step.from (2 ^ 62) && nat_le step.bytes (2 ^ 42)) all.1 in
+    let rest =
+    and_parts (stands_after steps step.from) (nat_le step.from (2 ^ 62) && nat_le step.bytes (2 ^ 42)) all.1 in
     let small = and_parts (nat_le step.from (2 ^ 62)) (nat_le step.bytes (2 ^ 42)) rest.1 in
     record {
       front = front_more steps step read.front may;
@@ -106,7 +127,8 @@ parts_read : (front : List CapacityStep) (parts : List (List ℕ)) (steps : List
     fold part_more (Some front) parts ≡ Some steps →
     AreRead steps × (length front + length parts ≤ length steps)
 parts_read front [] steps read e =
-    subst (λ (ss : List CapacityStep). AreRead ss × (length front + 0 ≤ length ss)) (same_Some front steps e) (read, omega arith)
+    subst (λ (ss : List CapacityStep). AreRead ss × (length front + 0 ≤ length ss)) (same_Some front steps e)
+    (read, omega arith)
 parts_read front (part ∷ parts) steps read e =
     let next = part_found front (step_of part) parts steps e in
     let rest = parts_read (front ++ next.0 ∷ []) parts steps (one_read front next.0 read next.1) next.2 in
@@ -143,7 +165,8 @@ source_asked : (traces films slots : List (List ℕ)) (source : Source)
     → source_of traces films slots ≡ Some source → MayBeSource source
 source_asked [] films slots source e =
     let film = step_found _ (one_name films) source e in
-    let slot = last_step_found (λ (slot : ℕ). film_source film.0 slot) (number_or 14400 360 360000 slots) source film.2 in
+    let slot =
+    last_step_found (λ (slot : ℕ). film_source film.0 slot) (number_or 14400 360 360000 slots) source film.2 in
     subst MayBeSource slot.2 (name_found film.0 films film.1, or_between slots (omega arith, omega arith) slot.1)
 source_asked (trace ∷ traces) [] [] source e =
     let name = last_step_found trace_source (one_name (trace ∷ traces)) source e in
@@ -168,106 +191,88 @@ port_asked words port e = or_between (values_of (codes "port") words) (omega ari
 
 viewer_asked : (words : List (List ℕ)) (viewer : Viewer) → viewer_given words ≡ Some viewer → MayBeViewer viewer
 viewer_asked words viewer e =
-    let source = step_found _ (source_given words) viewer e in
-    let buffer = step_found _ (buffer_given words) viewer source.2 in
-    let startup = last_step_found _ (startup_given words) viewer buffer.2 in
-    subst MayBeViewer startup.2 (record {
+    let read = viewer_keys words viewer e in
+    record {
       source = source_asked (values_of (codes "trace") words) (values_of (codes "film") words)
-          (values_of (codes "slot") words) source.0 source.1;
-      buffer = buffer_asked words buffer.0 buffer.1;
-      startup = startup_asked words startup.0 startup.1;
-    })
+          (values_of (codes "slot") words) viewer.source read.source;
+      buffer = buffer_asked words viewer.buffer read.buffer;
+      startup = startup_asked words viewer.startup read.startup;
+    }
 
 pace_asked : (words : List (List ℕ)) (pace : Pace) → pace_given words ≡ Some pace → MayBePace pace
 pace_asked words pace e =
-    let buffer = step_found _ (buffer_given words) pace e in
-    let startup = step_found _ (startup_given words) pace buffer.2 in
-    let slot = last_step_found _ (slot_given words) pace startup.2 in
-    subst MayBePace slot.2 (record {
-      buffer = buffer_asked words buffer.0 buffer.1;
-      startup = startup_asked words startup.0 startup.1;
-      slot = slot_asked words slot.0 slot.1;
-    })
+    let read = pace_keys words pace e in
+    record {
+      buffer = buffer_asked words pace.buffer read.buffer;
+      startup = startup_asked words pace.startup read.startup;
+      slot = slot_asked words pace.slot read.slot;
+    }
 
-listening_asked : (words : List (List ℕ)) (listening : Listening) → listening_given words ≡ Some listening → MayListen listening
+listening_asked : (words : List (List ℕ)) (listening : Listening) → listening_given words ≡ Some listening
+    → MayListen listening
 listening_asked words listening e =
-    let port = step_found _ (port_given words) listening e in
-    let bind = step_found _ (one_bind (values_of (codes "bind") words)) listening port.2 in
-    let workers = step_found _ (workers_given words) listening bind.2 in
-    let connections = last_step_found _ (connections_given words) listening workers.2 in
-    let most = (or_between (values_of (codes "connections") words) (omega arith, omega arith) connections.1).1 in
-    subst MayListen connections.2 (record {
-      port = port_asked words port.0 port.1;
-      workers = or_between (values_of (codes "workers") words) (omega arith, omega arith) workers.1;
+    let read = listening_keys words listening e in
+    let most = (or_between (values_of (codes "connections") words) (omega arith, omega arith) read.connections).1 in
+    record {
+      port = port_asked words listening.port read.port;
+      workers = or_between (values_of (codes "workers") words) (omega arith, omega arith) read.workers;
       connections = omega (arith, most);
-    })
+    }
 
 run_asked : (words : List (List ℕ)) (run : ScriptRun) → script_run_given words ≡ Some run → MayRun run
 run_asked words run e =
-    let script = step_found _ (script_given words) run e in
-    let capacity = step_found _ (capacity_given words) run script.2 in
-    let journal = step_found _ (journal_given words) run capacity.2 in
-    let slot = last_step_found _ (slot_given words) run journal.2 in
-    subst MayRun slot.2 (record {
-      script = name_found script.0 (values_of (codes "script") words) script.1;
-      capacity = capacity_asked capacity.0 (values_of (codes "capacity") words) capacity.1;
-      journal = journal_asked words journal.0 journal.1;
-      slot = slot_asked words slot.0 slot.1;
-    })
+    let read = script_run_keys words run e in
+    record {
+      script = name_found run.script (values_of (codes "script") words) read.script;
+      capacity = capacity_asked run.capacity (values_of (codes "capacity") words) read.capacity;
+      journal = journal_asked words run.journal read.journal;
+      slot = slot_asked words run.slot read.slot;
+    }
 
 draw_asked : (words : List (List ℕ)) (run : FairRun) → fair_run_given words ≡ Some run → MayDraw run
 draw_asked words run e =
-    let seed = step_found _ (seed_given words) run e in
-    let plays = step_found _ (plays_given words) run seed.2 in
-    let capacity = last_step_found _ (capacity_given words) run plays.2 in
-    let most = (one_between 0 (2 ^ 64 - 1) seed.0 (values_of (codes "seed") words) seed.1).1 in
-    subst MayDraw capacity.2 (record {
+    let read = fair_run_keys words run e in
+    let most = (one_between 0 (2 ^ 64 - 1) run.seed (values_of (codes "seed") words) read.seed).1 in
+    record {
       seed = omega (arith, most);
-      plays = one_between 1 100000 plays.0 (values_of (codes "plays") words) plays.1;
-      capacity = capacity_asked capacity.0 (values_of (codes "capacity") words) capacity.1;
-    })
+      plays = one_between 1 100000 run.plays (values_of (codes "plays") words) read.plays;
+      capacity = capacity_asked run.capacity (values_of (codes "capacity") words) read.capacity;
+    }
 
 serving_asked : (words : List (List ℕ)) (serving : Serving) → serving_given words ≡ Some serving → MayServe serving
 serving_asked words serving e =
-    let films = test_passes (are_films (values_of (codes "film") words)) _ serving e in
-    let capacity = step_found _ (capacity_given words) serving films.1 in
-    let journal = step_found _ (journal_given words) serving capacity.2 in
-    let listening = step_found _ (listening_given words) serving journal.2 in
-    let pace = last_step_found _ (pace_given words) serving listening.2 in
-    subst MayServe pace.2 (record {
-      films = films_asked (values_of (codes "film") words) films.0;
-      capacity = capacity_asked capacity.0 (values_of (codes "capacity") words) capacity.1;
-      journal = journal_asked words journal.0 journal.1;
-      listening = listening_asked words listening.0 listening.1;
-      pace = pace_asked words pace.0 pace.1;
-    })
+    let read = serving_keys words serving e in
+    record {
+      films = subst MayBeFilms read.films_are (films_asked (values_of (codes "film") words) read.films_pass);
+      capacity = capacity_asked serving.capacity (values_of (codes "capacity") words) read.capacity;
+      journal = journal_asked words serving.journal read.journal;
+      listening = listening_asked words serving.listening read.listening;
+      pace = pace_asked words serving.pace read.pace;
+    }
 
-watching_asked : (words : List (List ℕ)) (watching : Watching) → watching_given words ≡ Some watching → MayWatch watching
+watching_asked : (words : List (List ℕ)) (watching : Watching) → watching_given words ≡ Some watching
+    → MayWatch watching
 watching_asked words watching e =
-    let film = step_found _ (film_given words) watching e in
-    let port = step_found _ (port_given words) watching film.2 in
-    let pace = last_step_found _ (pace_given words) watching port.2 in
-    subst MayWatch pace.2 (record {
-      film = name_found film.0 (values_of (codes "film") words) film.1;
-      port = port_asked words port.0 port.1;
-      pace = pace_asked words pace.0 pace.1;
-    })
+    let read = watching_keys words watching e in
+    record {
+      film = name_found watching.film (values_of (codes "film") words) read.film;
+      port = port_asked words watching.port read.port;
+      pace = pace_asked words watching.pace read.pace;
+    }
 
 -- ---- a command
 check_asked : (words : List (List ℕ)) (order : Order) → order_given Check words ≡ Some order → MayBeAsked order
 check_asked words order e =
-    let viewer = step_found _ (viewer_given words) order e in
-    let cert = last_step_found (check_of viewer.0) (cert_given words) order viewer.2 in
-    subst MayBeAsked cert.2 (viewer_asked words viewer.0 viewer.1, name_found cert.0 (values_of (codes "cert") words) cert.1)
+    let read = check_keys words order e in
+    subst MayBeAsked read.order_is
+    (viewer_asked words read.viewer read.viewer_is, name_found read.cert (values_of (codes "cert") words) read.cert_is)
 
 make_asked : (words : List (List ℕ)) (order : Order) → order_given Make words ≡ Some order → MayBeAsked order
 make_asked words order e =
-    let kind = step_found _ (one_kind (values_of (codes "kind") words)) order e in
-    let seed = step_found _ (seed_given words) order kind.2 in
-    let pictures = last_step_found (λ (pictures : ℕ). make_of kind.0 seed.0 pictures) (pictures_given words) order seed.2 in
-    let most = (one_between 0 (2 ^ 64 - 1) seed.0 (values_of (codes "seed") words) seed.1).1 in
-    subst MayBeAsked pictures.2
-    (omega (arith, most), one_between 1 100000 pictures.0 (values_of (codes "pictures") words) pictures.1)
+    let read = make_keys words order e in
+    let most = (one_between 0 (2 ^ 64 - 1) read.seed (values_of (codes "seed") words) read.seed_is).1 in
+    subst MayBeAsked read.order_is
+    (omega (arith, most), one_between 1 100000 read.pictures (values_of (codes "pictures") words) read.pictures_are)
 
 given_asked : (command : Command) (words : List (List ℕ)) (order : Order)
     → order_given command words ≡ Some order → MayBeAsked order

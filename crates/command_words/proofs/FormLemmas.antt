@@ -1,11 +1,13 @@
 -- Words with a meaning have the form of their command.
-use Rattle.std.proofs.Common.{◌≡◌, ℕ, ◌+◌, ◌^◌, ◌-◌, ◌<◌, ◌≤◌, ◌&&◌, ◌==◌, All, List, [], ◌∷◌, ◌++◌, length, sym, ap, ◌∙◌, arith, Option, Some, None, Bool, true, false, refl, codes, if◌then◌else◌, nat_lt, get_or, inl, inr}
+use Rattle.std.proofs.Common.{◌≡◌, ℕ, ◌+◌, ◌^◌, ◌-◌, ◌<◌, ◌≤◌, ◌&&◌, ◌==◌, All, List, [], ◌∷◌, ◌++◌}
+use Rattle.std.proofs.Common.{length, sym, ap, ◌∙◌, arith, Option, Some, None, Bool, true, false}
+use Rattle.std.proofs.Common.{refl, codes, if◌then◌else◌, nat_lt, get_or, inl, inr}
 use Rattle.std.specs.List.{after_first, before_first, list_all, position_or_len}
 use Rattle.std.specs.Option.{is_some, option_and_then}
 use Rattle.std.specs.Prelude.{option_map}
 use Rattle.std.specs.Str.{bytes_eq}
 use Rattle.std.proofs.lemmas.Bool.{and_parts, cases_Bool, cond-false, cond-true, eqb-true, ltb-true}
-use Rattle.std.proofs.lemmas.List.Elements.{All-cons, All-nil}
+use Rattle.std.proofs.lemmas.List.Elements.{All-cons, All-from_recursion, All-nil}
 use Rattle.std.proofs.lemmas.List.Folds.{Any-from_list_any}
 use Rattle.std.proofs.lemmas.List.Sums.{passes_at_first, split_at_first}
 use Rattle.std.proofs.lemmas.Slice.Eq.{bytes_eq-Decides}
@@ -13,34 +15,30 @@ use Rattle.std.proofs.lemmas.Option.{none-some, same_Some}
 use Rattle.slot_calendar.specs.declared.profiles.CapacityStep.{CapacityStep}
 use Rattle.command_words.specs.Settings.{number_or, one_name, one_number, setting_value, values_of}
 use Rattle.command_words.specs.Capacities.{one_capacity}
-use Rattle.command_words.specs.Keys.{film_given, cert_given, script_given, buffer_given, startup_given, slot_given, capacity_given, journal_given, port_given, workers_given, connections_given, seed_given, pictures_given, plays_given, one_kind, one_bind}
+use Rattle.command_words.specs.Keys.{film_given, cert_given, script_given, buffer_given}
+use Rattle.command_words.specs.Keys.{startup_given, slot_given, capacity_given, journal_given}
+use Rattle.command_words.specs.Keys.{port_given, workers_given, connections_given, seed_given}
+use Rattle.command_words.specs.Keys.{pictures_given, plays_given, one_kind, one_bind}
 use Rattle.command_words.specs.Commands.{command_named, is_word_of, keys_of}
 use Rattle.command_words.specs.declared.commands.Command.{Command}
 use Rattle.command_words.specs.declared.commands.Command.TheVariants.{Plan, Check, Scan, Make, Day, Fair, Serve, Watch}
-use Rattle.command_words.specs.Forms.{HasFilms, HasSource, HaveForm, HaveMeaning, IsOneSource, IsSettingOf, most_times, needed_keys, times}
+use Rattle.command_words.specs.Forms.{HasFilms, HasSource, HaveForm, HaveMeaning, IsOneSource}
+use Rattle.command_words.specs.Forms.{IsSettingOf, most_times, needed_keys, times}
 use Rattle.command_words.specs.Spelling.{AreApart, word_of}
-use Rattle.command_words.specs.Words.{Source, Viewer, Order, help, version, plan_of, check_of, scan_of, day_of, fair_of, serve_of, watch_of, are_films, command_order, lone_order, source_of, source_given, viewer_given, script_run_given, fair_run_given, listening_given, pace_given, serving_given, watching_given, order_given, meaning}
+use Rattle.command_words.specs.Words.{Source, Viewer, Order, help, version, plan_of, check_of}
+use Rattle.command_words.specs.Words.{scan_of, day_of, fair_of, serve_of, watch_of, are_films}
+use Rattle.command_words.specs.Words.{command_order, lone_order, source_of, source_given}
+use Rattle.command_words.specs.Words.{viewer_given, script_run_given, fair_run_given}
+use Rattle.command_words.specs.Words.{listening_given, pace_given, serving_given, watching_given}
+use Rattle.command_words.specs.Words.{order_given, meaning}
 use Rattle.command_words.specs.declared.orders.Made.{Made}
 use Rattle.command_words.specs.declared.orders.Listening.{Listening}
 use Rattle.command_words.specs.declared.orders.Pace.{Pace}
 use Rattle.command_words.proofs.FilmLemmas.{films_asked}
+use Rattle.command_words.proofs.GroupLemmas.{last_step_found, step_found, test_passes, viewer_keys, pace_keys}
+use Rattle.command_words.proofs.GroupLemmas.{listening_keys, script_run_keys, fair_run_keys, serving_keys}
+use Rattle.command_words.proofs.GroupLemmas.{watching_keys, check_keys, make_keys}
 use Rattle.command_words.proofs.MeaningLemmas.{meaning_of}
-
--- what a step of a reading found, and the rest of it
-pub step_found : {A B : Type 0} (f : A → Option B) (o : Option A) (b : B) → option_and_then f o ≡ Some b
-    → (a : A) × (o ≡ Some a) × (f a ≡ Some b)
-step_found f None b e = absurd (none-some _ e)
-step_found f (Some a) b e = (a, refl, e)
-
-pub last_step_found : {A B : Type 0} (f : A → B) (o : Option A) (b : B) → option_map f o ≡ Some b
-    → (a : A) × (o ≡ Some a) × (f a ≡ b)
-last_step_found f None b e = absurd (none-some _ e)
-last_step_found f (Some a) b e = (a, refl, same_Some _ _ e)
-
--- a value that a test lets through
-pub test_passes : {A : Type 0} (t : Bool) (o : Option A) (a : A) → (if t then o else None) ≡ Some a → (t ≡ true) × (o ≡ Some a)
-test_passes true o a e = (refl, e)
-test_passes false o a e = absurd (none-some _ e)
 
 -- ---- how often a key is given that was read
 one_of_number : (least most n : ℕ) (values : List (List ℕ)) → one_number least most values ≡ Some n → length values ≡ 1
@@ -91,12 +89,10 @@ pub record HasPace (words : List (List ℕ)) : Type 0 where
 
 pace_form : (words : List (List ℕ)) (pace : Pace) → pace_given words ≡ Some pace → HasPace words
 pace_form words pace e =
-    let buffer = step_found _ (buffer_given words) pace e in
-    let startup = step_found _ (startup_given words) pace buffer.2 in
-    let slot = last_step_found _ (slot_given words) pace startup.2 in
+    let read = pace_keys words pace e in
     record {
-      client = client_form words buffer.0 startup.0 buffer.1 startup.1;
-      slot = few_of_number 14400 360 360000 slot.0 (values_of (codes "slot") words) slot.1;
+      client = client_form words pace.buffer pace.startup read.buffer read.startup;
+      slot = few_of_number 14400 360 360000 pace.slot (values_of (codes "slot") words) read.slot;
     }
 
 pub record HasListening (words : List (List ℕ)) : Type 0 where
@@ -105,17 +101,16 @@ pub record HasListening (words : List (List ℕ)) : Type 0 where
   pub workers : times (codes "workers") words ≤ 1
   pub connections : times (codes "connections") words ≤ 1
 
-listening_form : (words : List (List ℕ)) (listening : Listening) → listening_given words ≡ Some listening → HasListening words
+listening_form : (words : List (List ℕ)) (listening : Listening) → listening_given words ≡ Some listening
+    → HasListening words
 listening_form words listening e =
-    let port = step_found _ (port_given words) listening e in
-    let bind = step_found _ (one_bind (values_of (codes "bind") words)) listening port.2 in
-    let workers = step_found _ (workers_given words) listening bind.2 in
-    let connections = last_step_found _ (connections_given words) listening workers.2 in
+    let read = listening_keys words listening e in
     record {
-      port = few_of_number 8554 1 65535 port.0 (values_of (codes "port") words) port.1;
-      bind = few_of_bind bind.0 (values_of (codes "bind") words) bind.1;
-      workers = few_of_number 32 1 256 workers.0 (values_of (codes "workers") words) workers.1;
-      connections = few_of_number 0 0 (2 ^ 64 - 1) connections.0 (values_of (codes "connections") words) connections.1;
+      port = few_of_number 8554 1 65535 listening.port (values_of (codes "port") words) read.port;
+      bind = few_of_bind listening.all (values_of (codes "bind") words) read.bind;
+      workers = few_of_number 32 1 256 listening.workers (values_of (codes "workers") words) read.workers;
+      connections = few_of_number 0 0 (2 ^ 64 - 1) listening.connections (values_of (codes "connections") words)
+          read.connections;
     }
 
 -- a source of these values: one name, and at most one slot, of a film
@@ -145,18 +140,17 @@ source_form (trace ∷ traces) [] (slot ∷ slots) source e = absurd (none-some 
 source_form (trace ∷ traces) (film ∷ films) slots source e = absurd (none-some _ e)
 
 pub record HasViewer (words : List (List ℕ)) : Type 0 where
-  pub source : HasOneSource (values_of (codes "trace") words) (values_of (codes "film") words) (values_of (codes "slot") words)
+  pub source : HasOneSource (values_of (codes "trace") words) (values_of (codes "film") words)
+      (values_of (codes "slot") words)
   pub client : HasClient words
 
 viewer_form : (words : List (List ℕ)) (viewer : Viewer) → viewer_given words ≡ Some viewer → HasViewer words
 viewer_form words viewer e =
-    let source = step_found _ (source_given words) viewer e in
-    let buffer = step_found _ (buffer_given words) viewer source.2 in
-    let startup = last_step_found _ (startup_given words) viewer buffer.2 in
+    let read = viewer_keys words viewer e in
     record {
       source = source_form (values_of (codes "trace") words) (values_of (codes "film") words)
-          (values_of (codes "slot") words) source.0 source.1;
-      client = client_form words buffer.0 startup.0 buffer.1 startup.1;
+          (values_of (codes "slot") words) viewer.source read.source;
+      client = client_form words viewer.buffer viewer.startup read.buffer read.startup;
     }
 
 -- ---- lists of keys
@@ -187,167 +181,119 @@ scan_form words order e =
     let film = last_step_found scan_of (film_given words) order e in
     let one = one_of_name film.0 (values_of (codes "film") words) film.1 in
     record {
-      few = All-cons (IsFew Scan words) (codes "film") [] (omega (arith, one)) (All-nil (IsFew Scan words));
-      needed = All-cons (IsGivenBy words) (codes "film") [] (omega (arith, one)) (All-nil (IsGivenBy words));
+      few = All-from_recursion (IsFew Scan words) (keys_of Scan) (omega (arith, one), tt);
+      needed = All-from_recursion (IsGivenBy words) (needed_keys Scan) (omega (arith, one), tt);
       source = tt;
     }
 
 plan_form : (words : List (List ℕ)) (order : Order) → order_given Plan words ≡ Some order → HaveKeys Plan words
 plan_form words order e =
-    let found_viewer = last_step_found plan_of (viewer_given words) order e in
-    let viewer = viewer_form words found_viewer.0 found_viewer.1 in
-    let P = IsFew Plan words in
+    let read = last_step_found plan_of (viewer_given words) order e in
+    let viewer = viewer_form words read.0 read.1 in
+    let client = viewer.client in
+    let trace : IsFew Plan words (codes "trace") = omega (arith, viewer.source.one) in
+    let film : IsFew Plan words (codes "film") = omega (arith, viewer.source.one) in
     record {
-      few = All-cons P (codes "trace") (codes "film" ∷ codes "buffer" ∷ codes "startup" ∷ codes "slot" ∷ [])
-          (omega (arith, viewer.source.one))
-          (All-cons P (codes "film") (codes "buffer" ∷ codes "startup" ∷ codes "slot" ∷ []) (omega (arith, viewer.source.one))
-          (All-cons P (codes "buffer") (codes "startup" ∷ codes "slot" ∷ []) viewer.client.buffer
-          (All-cons P (codes "startup") (codes "slot" ∷ []) viewer.client.startup
-          (All-cons P (codes "slot") [] viewer.source.few (All-nil P)))));
+      few = All-from_recursion (IsFew Plan words) (keys_of Plan)
+          (trace, (film, (client.buffer, (client.startup, (viewer.source.few, tt)))));
       needed = All-nil (IsGivenBy words);
       source = one_source words viewer;
     }
 
 check_form : (words : List (List ℕ)) (order : Order) → order_given Check words ≡ Some order → HaveKeys Check words
 check_form words order e =
-    let found_viewer =
-    step_found (λ (viewer : Viewer). option_map (λ (cert : List ℕ). check_of viewer cert)
-    (cert_given words)) (viewer_given words) order e in
-    let viewer = viewer_form words found_viewer.0 found_viewer.1 in
-    let cert = last_step_found (λ (cert : List ℕ). check_of found_viewer.0 cert) (cert_given words) order found_viewer.2 in
-    let one = one_of_name cert.0 (values_of (codes "cert") words) cert.1 in
-    let P = IsFew Check words in
+    let read = check_keys words order e in
+    let viewer = viewer_form words read.viewer read.viewer_is in
+    let one = one_of_name read.cert (values_of (codes "cert") words) read.cert_is in
+    let client = viewer.client in
+    let trace : IsFew Check words (codes "trace") = omega (arith, viewer.source.one) in
+    let film : IsFew Check words (codes "film") = omega (arith, viewer.source.one) in
+    let cert : IsFew Check words (codes "cert") = omega (arith, one) in
     record {
-      few = All-cons P (codes "trace")
-          (codes "film" ∷ codes "cert" ∷ codes "buffer" ∷ codes "startup" ∷ codes "slot" ∷ []) (omega (arith, viewer.source.one))
-          (All-cons P (codes "film") (codes "cert" ∷ codes "buffer" ∷ codes "startup" ∷ codes "slot" ∷ [])
-          (omega (arith, viewer.source.one))
-          (All-cons P (codes "cert") (codes "buffer" ∷ codes "startup" ∷ codes "slot" ∷ []) (omega (arith, one))
-          (All-cons P (codes "buffer") (codes "startup" ∷ codes "slot" ∷ []) viewer.client.buffer
-          (All-cons P (codes "startup") (codes "slot" ∷ []) viewer.client.startup
-          (All-cons P (codes "slot") [] viewer.source.few (All-nil P))))));
-      needed = All-cons (IsGivenBy words) (codes "cert") [] (omega (arith, one)) (All-nil (IsGivenBy words));
+      few = All-from_recursion (IsFew Check words) (keys_of Check)
+          (trace, (film, (cert, (client.buffer, (client.startup, (viewer.source.few, tt))))));
+      needed = All-from_recursion (IsGivenBy words) (needed_keys Check) (omega (arith, one), tt);
       source = one_source words viewer;
     }
 
 make_form : (words : List (List ℕ)) (order : Order) → order_given Make words ≡ Some order → HaveKeys Make words
 make_form words order e =
-    let kind = step_found _ (one_kind (values_of (codes "kind") words)) order e in
-    let seed = step_found _ (seed_given words) order kind.2 in
-    let pictures = last_step_found _ (pictures_given words) order seed.2 in
-    let one_kind_given = one_of_kind kind.0 (values_of (codes "kind") words) kind.1 in
-    let one_seed = one_of_number 0 (2 ^ 64 - 1) seed.0 (values_of (codes "seed") words) seed.1 in
-    let one_count = one_of_number 1 100000 pictures.0 (values_of (codes "pictures") words) pictures.1 in
-    let P = IsFew Make words in
-    let Q = IsGivenBy words in
+    let read = make_keys words order e in
+    let kind = one_of_kind read.kind (values_of (codes "kind") words) read.kind_is in
+    let seed = one_of_number 0 (2 ^ 64 - 1) read.seed (values_of (codes "seed") words) read.seed_is in
+    let pictures = one_of_number 1 100000 read.pictures (values_of (codes "pictures") words) read.pictures_are in
     record {
-      few = All-cons P (codes "kind") (codes "seed" ∷ codes "pictures" ∷ []) (omega (arith, one_kind_given))
-          (All-cons P (codes "seed") (codes "pictures" ∷ []) (omega (arith, one_seed))
-          (All-cons P (codes "pictures") [] (omega (arith, one_count)) (All-nil P)));
-      needed = All-cons Q (codes "kind") (codes "seed" ∷ codes "pictures" ∷ []) (omega (arith, one_kind_given))
-          (All-cons Q (codes "seed") (codes "pictures" ∷ []) (omega (arith, one_seed))
-          (All-cons Q (codes "pictures") [] (omega (arith, one_count)) (All-nil Q)));
+      few = All-from_recursion (IsFew Make words) (keys_of Make)
+          (omega (arith, kind), (omega (arith, seed), (omega (arith, pictures), tt)));
+      needed = All-from_recursion (IsGivenBy words) (needed_keys Make)
+          (omega (arith, kind), (omega (arith, seed), (omega (arith, pictures), tt)));
       source = tt;
     }
 
 day_form : (words : List (List ℕ)) (order : Order) → order_given Day words ≡ Some order → HaveKeys Day words
 day_form words order e =
     let run = last_step_found day_of (script_run_given words) order e in
-    let script = step_found _ (script_given words) run.0 run.1 in
-    let capacity = step_found _ (capacity_given words) run.0 script.2 in
-    let journal = step_found _ (journal_given words) run.0 capacity.2 in
-    let slot = last_step_found _ (slot_given words) run.0 journal.2 in
-    let one = one_of_name script.0 (values_of (codes "script") words) script.1 in
-    let P = IsFew Day words in
+    let read = script_run_keys words run.0 run.1 in
+    let one = one_of_name run.0.script (values_of (codes "script") words) read.script in
+    let capacity = few_of_capacity run.0.capacity (values_of (codes "capacity") words) read.capacity in
+    let journal = few_of_number 65536 2 1048576 run.0.journal (values_of (codes "journal") words) read.journal in
+    let slot = few_of_number 14400 360 360000 run.0.slot (values_of (codes "slot") words) read.slot in
     record {
-      few = All-cons P (codes "script") (codes "capacity" ∷ codes "journal" ∷ codes "slot" ∷ []) (omega (arith, one))
-          (All-cons P (codes "capacity") (codes "journal" ∷ codes "slot" ∷ [])
-          (few_of_capacity capacity.0 (values_of (codes "capacity") words) capacity.1)
-          (All-cons P (codes "journal") (codes "slot" ∷ [])
-          (few_of_number 65536 2 1048576 journal.0 (values_of (codes "journal") words) journal.1)
-          (All-cons P (codes "slot") []
-          (few_of_number 14400 360 360000 slot.0 (values_of (codes "slot") words) slot.1) (All-nil P))));
-      needed = All-cons (IsGivenBy words) (codes "script") [] (omega (arith, one)) (All-nil (IsGivenBy words));
+      few = All-from_recursion (IsFew Day words) (keys_of Day)
+          (omega (arith, one), (capacity, (journal, (slot, tt))));
+      needed = All-from_recursion (IsGivenBy words) (needed_keys Day) (omega (arith, one), tt);
       source = tt;
     }
 
 fair_form : (words : List (List ℕ)) (order : Order) → order_given Fair words ≡ Some order → HaveKeys Fair words
 fair_form words order e =
     let run = last_step_found fair_of (fair_run_given words) order e in
-    let seed = step_found _ (seed_given words) run.0 run.1 in
-    let plays = step_found _ (plays_given words) run.0 seed.2 in
-    let capacity = last_step_found _ (capacity_given words) run.0 plays.2 in
-    let one_seed = one_of_number 0 (2 ^ 64 - 1) seed.0 (values_of (codes "seed") words) seed.1 in
-    let one_count = one_of_number 1 100000 plays.0 (values_of (codes "plays") words) plays.1 in
-    let P = IsFew Fair words in
-    let Q = IsGivenBy words in
+    let read = fair_run_keys words run.0 run.1 in
+    let seed = one_of_number 0 (2 ^ 64 - 1) run.0.seed (values_of (codes "seed") words) read.seed in
+    let plays = one_of_number 1 100000 run.0.plays (values_of (codes "plays") words) read.plays in
+    let capacity = few_of_capacity run.0.capacity (values_of (codes "capacity") words) read.capacity in
     record {
-      few = All-cons P (codes "seed") (codes "plays" ∷ codes "capacity" ∷ []) (omega (arith, one_seed))
-          (All-cons P (codes "plays") (codes "capacity" ∷ []) (omega (arith, one_count))
-          (All-cons P (codes "capacity") []
-          (few_of_capacity capacity.0 (values_of (codes "capacity") words) capacity.1) (All-nil P)));
-      needed = All-cons Q (codes "seed") (codes "plays" ∷ []) (omega (arith, one_seed))
-          (All-cons Q (codes "plays") [] (omega (arith, one_count)) (All-nil Q));
+      few = All-from_recursion (IsFew Fair words) (keys_of Fair)
+          (omega (arith, seed), (omega (arith, plays), (capacity, tt)));
+      needed = All-from_recursion (IsGivenBy words) (needed_keys Fair)
+          (omega (arith, seed), (omega (arith, plays), tt));
       source = tt;
     }
 
 watch_form : (words : List (List ℕ)) (order : Order) → order_given Watch words ≡ Some order → HaveKeys Watch words
 watch_form words order e =
     let watching = last_step_found watch_of (watching_given words) order e in
-    let film = step_found _ (film_given words) watching.0 watching.1 in
-    let port = step_found _ (port_given words) watching.0 film.2 in
-    let found_pace = last_step_found _ (pace_given words) watching.0 port.2 in
-    let pace = pace_form words found_pace.0 found_pace.1 in
-    let one = one_of_name film.0 (values_of (codes "film") words) film.1 in
-    let P = IsFew Watch words in
+    let read = watching_keys words watching.0 watching.1 in
+    let pace = pace_form words watching.0.pace read.pace in
+    let one = one_of_name watching.0.film (values_of (codes "film") words) read.film in
+    let port = few_of_number 8554 1 65535 watching.0.port (values_of (codes "port") words) read.port in
     record {
-      few = All-cons P (codes "film") (codes "port" ∷ codes "buffer" ∷ codes "startup" ∷ codes "slot" ∷ []) (omega (arith, one))
-          (All-cons P (codes "port") (codes "buffer" ∷ codes "startup" ∷ codes "slot" ∷ [])
-          (few_of_number 8554 1 65535 port.0 (values_of (codes "port") words) port.1)
-          (All-cons P (codes "buffer") (codes "startup" ∷ codes "slot" ∷ []) pace.client.buffer
-          (All-cons P (codes "startup") (codes "slot" ∷ []) pace.client.startup
-          (All-cons P (codes "slot") [] pace.slot (All-nil P)))));
-      needed = All-cons (IsGivenBy words) (codes "film") [] (omega (arith, one)) (All-nil (IsGivenBy words));
+      few = All-from_recursion (IsFew Watch words) (keys_of Watch)
+          (omega (arith, one), (port, (pace.client.buffer, (pace.client.startup, (pace.slot, tt)))));
+      needed = All-from_recursion (IsGivenBy words) (needed_keys Watch) (omega (arith, one), tt);
       source = tt;
     }
 
 serve_form : (words : List (List ℕ)) (order : Order) → order_given Serve words ≡ Some order → HaveKeys Serve words
 serve_form words order e =
     let serving = last_step_found serve_of (serving_given words) order e in
-    let films = values_of (codes "film") words in
-    let films_pass = test_passes (are_films films) _ serving.0 serving.1 in
-    let named = films_asked films films_pass.0 in
-    let capacity = step_found _ (capacity_given words) serving.0 films_pass.1 in
-    let journal = step_found _ (journal_given words) serving.0 capacity.2 in
-    let found_listening = step_found _ (listening_given words) serving.0 journal.2 in
-    let found_pace = last_step_found _ (pace_given words) serving.0 found_listening.2 in
-    let listening = listening_form words found_listening.0 found_listening.1 in
-    let pace = pace_form words found_pace.0 found_pace.1 in
-    let P = IsFew Serve words in
+    let read = serving_keys words serving.0 serving.1 in
+    let named = films_asked (values_of (codes "film") words) read.films_pass in
+    let listening = listening_form words serving.0.listening read.listening in
+    let pace = pace_form words serving.0.pace read.pace in
+    let port = listening.port in
+    let bind = listening.bind in
+    let capacity = few_of_capacity serving.0.capacity (values_of (codes "capacity") words) read.capacity in
+    let journal = few_of_number 65536 2 1048576 serving.0.journal (values_of (codes "journal") words) read.journal in
+    let buffer = pace.client.buffer in
+    let startup = pace.client.startup in
+    let slot = pace.slot in
+    let workers = listening.workers in
+    let connections = listening.connections in
     record {
-      few = All-cons P (codes "film")
-          (codes "port" ∷ codes "bind" ∷ codes "capacity" ∷ codes "buffer" ∷ codes "startup" ∷ codes "slot"
-          ∷ codes "journal" ∷ codes "workers" ∷ codes "connections" ∷ [])
-          named.few
-          (All-cons P (codes "port")
-          (codes "bind" ∷ codes "capacity" ∷ codes "buffer" ∷ codes "startup" ∷ codes "slot"
-          ∷ codes "journal" ∷ codes "workers" ∷ codes "connections" ∷ []) listening.port
-          (All-cons P (codes "bind")
-          (codes "capacity" ∷ codes "buffer" ∷ codes "startup" ∷ codes "slot" ∷ codes "journal"
-          ∷ codes "workers" ∷ codes "connections" ∷ []) listening.bind
-          (All-cons P (codes "capacity")
-          (codes "buffer" ∷ codes "startup" ∷ codes "slot" ∷ codes "journal" ∷ codes "workers" ∷ codes "connections" ∷ [])
-          (few_of_capacity capacity.0 (values_of (codes "capacity") words) capacity.1)
-          (All-cons P (codes "buffer")
-          (codes "startup" ∷ codes "slot" ∷ codes "journal" ∷ codes "workers" ∷ codes "connections" ∷ []) pace.client.buffer
-          (All-cons P (codes "startup")
-          (codes "slot" ∷ codes "journal" ∷ codes "workers" ∷ codes "connections" ∷ []) pace.client.startup
-          (All-cons P (codes "slot") (codes "journal" ∷ codes "workers" ∷ codes "connections" ∷ []) pace.slot
-          (All-cons P (codes "journal") (codes "workers" ∷ codes "connections" ∷ [])
-          (few_of_number 65536 2 1048576 journal.0 (values_of (codes "journal") words) journal.1)
-          (All-cons P (codes "workers") (codes "connections" ∷ []) listening.workers
-          (All-cons P (codes "connections") [] listening.connections (All-nil P))))))))));
-      needed = All-cons (IsGivenBy words) (codes "film") [] named.some (All-nil (IsGivenBy words));
+      few = All-from_recursion (IsFew Serve words) (keys_of Serve)
+          (named.few, (port, (bind, (capacity, (buffer, (startup, (slot, (journal, (workers, (connections, tt))))))))));
+      needed = All-from_recursion (IsGivenBy words) (needed_keys Serve) (named.some, tt);
       source = tt;
     }
 
@@ -366,8 +312,8 @@ films_apart : (words : List (List ℕ)) (order : Order) → order_given Serve wo
     → AreApart (values_of (codes "film") words)
 films_apart words order e =
     let serving = last_step_found serve_of (serving_given words) order e in
-    let films = values_of (codes "film") words in
-    (films_asked films (test_passes (are_films films) _ serving.0 serving.1).0).apart
+    let read = serving_keys words serving.0 serving.1 in
+    (films_asked (values_of (codes "film") words) read.films_pass).apart
 
 films_form : (command : Command) (words : List (List ℕ)) (order : Order)
     → order_given command words ≡ Some order → HasFilms command words
@@ -449,17 +395,21 @@ meaning_form (first ∷ words) order e =
       | inl is ↦ (
           let name = (bytes_eq-Decides first (codes "--help")).0 is in
           let none = alone help words order
-          (sym (cond-true helps (lone_order help words) (if tells then lone_order version words else command) is) ∙ e) in
+          (sym (cond-true helps (lone_order help words) (if tells then lone_order version words else command) is)
+          ∙ e) in
           inl (ap (λ (w : List ℕ). w ∷ words) name ∙ ap (λ (ws : List (List ℕ)). codes "--help" ∷ ws) none)
           )
       | inr not_help ↦ (
           let more : (if tells then lone_order version words else command) ≡ Some order =
-          sym (cond-false helps (lone_order help words) (if tells then lone_order version words else command) not_help) ∙ e in
+          sym (cond-false helps (lone_order help words) (if tells then lone_order version words else command) not_help)
+          ∙ e in
           elim (cases_Bool (bytes_eq first (codes "--version"))) [
             | inl is ↦ (
                 let name = (bytes_eq-Decides first (codes "--version")).0 is in
-                let none = alone version words order (sym (cond-true tells (lone_order version words) command is) ∙ more) in
-                inr (inl (ap (λ (w : List ℕ). w ∷ words) name ∙ ap (λ (ws : List (List ℕ)). codes "--version" ∷ ws) none))
+                let none =
+                alone version words order (sym (cond-true tells (lone_order version words) command is) ∙ more) in
+                inr (inl (ap (λ (w : List ℕ). w ∷ words) name
+                ∙ ap (λ (ws : List (List ℕ)). codes "--version" ∷ ws) none))
                 )
             | inr not_version ↦ (
                 let named = step_found (command_order words) (command_named first) order

@@ -7,5 +7,6 @@ mod ReadBack
 mod MeaningLemmas
 mod OrderLemmas
 mod DefaultLemmas
+mod GroupLemmas
 mod FormLemmas
 mod AskedLemmas
