@@ -1,5 +1,7 @@
 -- Steps, each of which may follow the ones before it.
-use Rattle.std.proofs.Common.{◌≡◌, ◌+◌, ◌-◌, ◌^◌, ◌<◌, ◌≤◌, ℕ, Bool, true, false, if◌then◌else◌, ◌&&◌, ◌==◌, nat_lt, nat_le, List, [], ◌∷◌, ◌++◌, length, Option, Some, None, inl, inr, arith, refl, sym, ap, ◌∙◌, length-append}
+use Rattle.std.proofs.Common.{◌≡◌, ◌+◌, ◌-◌, ◌^◌, ◌<◌, ◌≤◌, ℕ, Bool, true, false, if◌then◌else◌}
+use Rattle.std.proofs.Common.{◌&&◌, ◌==◌, nat_lt, nat_le, List, [], ◌∷◌, ◌++◌, length, Option, Some}
+use Rattle.std.proofs.Common.{None, inl, inr, arith, refl, sym, ap, ◌∙◌, length-append}
 use Rattle.std.specs.List.{before_first, after_first, position_or_len, slice_split, fold}
 use Rattle.std.proofs.lemmas.Bool.{and_parts, cases_lt, ltb-true, leb-true, eqb-true, eq-eqb, ne_eqb}
 use Rattle.std.proofs.lemmas.List.Elements.{All-from_get_or}
@@ -31,7 +33,8 @@ follows : (steps : List CapacityStep) (step : CapacityStep) → may_follow steps
 follows steps step e =
     let all = and_parts (nat_lt (length steps) 64)
     (stands_after steps step.from && (nat_le step.from (2 ^ 62) && nat_le step.bytes (2 ^ 42))) e in
-    let rest = and_parts (stands_after steps step.from) (nat_le step.from (2 ^ 62) && nat_le step.bytes (2 ^ 42)) all.1 in
+    let rest =
+    and_parts (stands_after steps step.from) (nat_le step.from (2 ^ 62) && nat_le step.bytes (2 ^ 42)) all.1 in
     let small = and_parts (nat_le step.from (2 ^ 62)) (nat_le step.bytes (2 ^ 42)) rest.1 in
     record {
       short = ltb-true (length steps) 64 all.0;
@@ -41,7 +44,8 @@ follows steps step e =
     }
 
 -- a step before the last one, and the last one
-old_step : (steps : List CapacityStep) (step : CapacityStep) (i : ℕ) → i < length steps → step_at (steps ++ step ∷ []) i ≡ step_at steps i
+old_step : (steps : List CapacityStep) (step : CapacityStep) (i : ℕ) → i < length steps
+    → step_at (steps ++ step ∷ []) i ≡ step_at steps i
 old_step steps step i inside = get_or-append steps (step ∷ []) no_step i inside
 
 new_step : (steps : List CapacityStep) (step : CapacityStep) (i : ℕ) → i ≡ length steps → step_at (steps ++ step ∷ []) i ≡ step
@@ -51,7 +55,8 @@ first_more : (steps : List CapacityStep) (step : CapacityStep) → IsFront steps
     → (step_at (steps ++ step ∷ []) 0).from ≡ 0
 first_more steps step front more = elim (cases_lt 0 (length steps)) [
   | inl some ↦ ap (λ (s : CapacityStep). s.from) (old_step steps step 0 some) ∙ front.first some
-  | inr none ↦ ap (λ (s : CapacityStep). s.from) (new_step steps step 0 (omega (arith, none))) ∙ more.first (omega (arith, none))
+  | inr none ↦ ap (λ (s : CapacityStep). s.from) (new_step steps step 0 (omega (arith, none)))
+      ∙ more.first (omega (arith, none))
 ]
 
 ascend_more : (steps : List CapacityStep) (step : CapacityStep) → IsFront steps → MayFollow steps step → (i : ℕ) →
@@ -110,7 +115,8 @@ some_more steps None e = absurd (cc)
 some_more {more} steps (Some step) e = by (may_follow steps step) e
   where
     by : (b : Bool) → (if b then Some (steps ++ step ∷ []) else None) ≡ Some more → 1 ≤ length more
-    by true put = let same : steps ++ step ∷ [] ≡ more = cc in omega (arith, ap length same, length-append steps (step ∷ []))
+    by true put = let same : steps ++ step ∷ [] ≡ more = cc in
+        omega (arith, ap length same, length-append steps (step ∷ []))
     by false put = absurd (cc)
 
 -- some steps that are a front are a profile
@@ -129,7 +135,8 @@ none_more [] = refl
 none_more (part ∷ parts) = none_more parts
 
 -- a part before a comma: what is read of it decides, with the rest
-pub part_first : {part rest : List ℕ} (steps : List CapacityStep) (text : List ℕ) → position_or_len (λ b. b == 44) text < length text →
+pub part_first : {part rest : List ℕ} (steps : List CapacityStep) (text : List ℕ)
+    → position_or_len (λ b. b == 44) text < length text →
     part ≡ before_first (λ b. b == 44) text → rest ≡ after_first (λ b. b == 44) text →
     fold part_more (Some steps) (slice_split (λ b. b == 44) text)
     ≡ fold part_more (step_more steps (step_of part)) (slice_split (λ b. b == 44) rest)
@@ -144,11 +151,14 @@ pub part_last : (steps : List CapacityStep) (text : List ℕ) → position_or_le
     fold part_more (Some steps) (slice_split (λ b. b == 44) text) ≡ step_more steps (step_of text)
 part_last steps text none =
     ap (fold part_more (Some steps)) (slice_split_none (λ b. b == 44) text
-    (All-from_get_or (λ b. (b == 44) ≡ false) text 0 (λ i inside. fails_before_first (λ b. b == 44) text i 0 (rw none inside))))
+    (All-from_get_or (λ b. (b == 44) ≡ false) text 0
+    (λ i inside. fails_before_first (λ b. b == 44) text i 0 (rw none inside))))
 
 -- a part that writes no step which may stand there
-pub part_bad : {part rest : List ℕ} (steps : List CapacityStep) (text : List ℕ) → position_or_len (λ b. b == 44) text < length text →
-    part ≡ before_first (λ b. b == 44) text → rest ≡ after_first (λ b. b == 44) text → step_more steps (step_of part) ≡ None →
+pub part_bad : {part rest : List ℕ} (steps : List CapacityStep) (text : List ℕ)
+    → position_or_len (λ b. b == 44) text < length text →
+    part ≡ before_first (λ b. b == 44) text → rest ≡ after_first (λ b. b == 44) text
+    → step_more steps (step_of part) ≡ None →
     fold part_more (Some steps) (slice_split (λ b. b == 44) text) ≡ None
 part_bad {rest} steps text inside before after bad =
     part_first steps text inside before after

@@ -1,5 +1,7 @@
 -- A word that gives a default means the same as no word.
-use Rattle.std.proofs.Common.{◌≡◌, ℕ, ◌^◌, ◌-◌, ◌&&◌, ◌||◌, not, ◌⊎◌, All, List, [], ◌∷◌, ◌++◌, sym, ap, ◌∙◌, Option, Some, None, Bool, true, false, refl, codes, if◌then◌else◌, inl, inr}
+use Rattle.std.proofs.Common.{◌≡◌, ℕ, ◌^◌, ◌-◌, ◌&&◌, ◌||◌, not, ◌⊎◌, All, List, [], ◌∷◌, ◌++◌, sym}
+use Rattle.std.proofs.Common.{ap, ◌∙◌, Option, Some, None, Bool, true, false, refl, codes}
+use Rattle.std.proofs.Common.{if◌then◌else◌, inl, inr}
 use Rattle.std.specs.List.{Contains, list_all, list_any}
 use Rattle.std.specs.Option.{option_to_list}
 use Rattle.std.specs.Str.{bytes_eq}
@@ -90,7 +92,8 @@ added_same {key} {value} read default same added = elim added [
 ]
 
 -- a source: of a trace no slot is asked
-source_same : {traces films traces' films' slots slots' : List (List ℕ)} (default : Setting) → traces ≡ traces' → films ≡ films' →
+source_same : {traces films traces' films' slots slots' : List (List ℕ)} (default : Setting) → traces ≡ traces'
+    → films ≡ films' →
     IsAdded (codes "slot") (codes "14400") default slots slots' → (default.key ≡ codes "slot" → traces ≡ []) →
     source_of traces films slots ≡ source_of traces' films' slots'
 source_same {traces} {films} {traces'} {slots} {slots'} default trace film slot of_film =
@@ -125,7 +128,8 @@ give_same command words default left =
     record {
       films = other (codes "film") refl;
       source = source_same default
-          (other (codes "trace") refl) (other (codes "film") refl) (own (codes "slot") (codes "14400") refl) left.of_film;
+          (other (codes "trace") refl) (other (codes "film") refl)
+          (own (codes "slot") (codes "14400") refl) left.of_film;
       cert = other (codes "cert") refl;
       script = other (codes "script") refl;
       kind = other (codes "kind") refl;

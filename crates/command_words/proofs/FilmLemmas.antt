@@ -1,5 +1,6 @@
 -- The names of a server's films.
-use Rattle.std.proofs.Common.{◌≡◌, ◌≢◌, ℕ, ◌&&◌, not, List, [], ◌∷◌, length, sym, ap, ◌∙◌, arith, true, false, refl, nat_le, get_or, inl, inr, zero, suc}
+use Rattle.std.proofs.Common.{◌≡◌, ◌≢◌, ℕ, ◌&&◌, not, List, [], ◌∷◌, length, sym, ap, ◌∙◌, arith}
+use Rattle.std.proofs.Common.{true, false, refl, nat_le, get_or, inl, inr, zero, suc}
 use Rattle.std.specs.List.{list_all, list_any}
 use Rattle.std.specs.Str.{bytes_eq}
 use Rattle.std.proofs.lemmas.Bool.{and_from, and_parts, cases_Bool, le-leb, leb-true}
@@ -35,7 +36,8 @@ distinct [] apart = refl
 distinct (name ∷ names) apart =
     let others = All-from_get_or (λ other. bytes_eq name other ≡ false) names []
     (λ i inside. differ name (get_or names i []) (apart 0 (suc i) (omega arith) (omega (arith, inside)))) in
-    and_from (not (list_any (bytes_eq name) names)) (are_distinct names) (ap not (list_any_none (bytes_eq name) names others))
+    and_from (not (list_any (bytes_eq name) names)) (are_distinct names)
+    (ap not (list_any_none (bytes_eq name) names others))
     (distinct names (λ i j order inside. apart (suc i) (suc j) (omega (arith, order)) (omega (arith, inside))))
 
 pub films_asked : (films : List (List ℕ)) → are_films films ≡ true → MayBeFilms films

@@ -1,16 +1,21 @@
 -- What words mean comes of the values that they give to each key.
-use Rattle.std.proofs.Common.{◌≡◌, ℕ, List, ◌∷◌, sym, ap, ◌∙◌, Option, Some, None, Bool, false, refl, codes, if◌then◌else◌, inl, inr}
+use Rattle.std.proofs.Common.{◌≡◌, ℕ, List, ◌∷◌, sym, ap, ◌∙◌, Option, Some, None, Bool, false}
+use Rattle.std.proofs.Common.{refl, codes, if◌then◌else◌, inl, inr}
 use Rattle.std.specs.List.{list_all}
 use Rattle.std.specs.Option.{option_and_then}
 use Rattle.std.specs.Str.{bytes_eq}
 use Rattle.std.proofs.lemmas.Bool.{cases_Bool}
 use Rattle.std.proofs.lemmas.Slice.Eq.{bytes_eq-Decides}
 use Rattle.command_words.specs.Settings.{values_of}
-use Rattle.command_words.specs.Keys.{buffer_given, startup_given, slot_given, capacity_given, journal_given, port_given, workers_given, connections_given, one_bind}
+use Rattle.command_words.specs.Keys.{buffer_given, startup_given, slot_given, capacity_given}
+use Rattle.command_words.specs.Keys.{journal_given, port_given, workers_given, connections_given}
+use Rattle.command_words.specs.Keys.{one_bind}
 use Rattle.command_words.specs.Commands.{command_named, is_word_of}
 use Rattle.command_words.specs.declared.commands.Command.{Command}
 use Rattle.command_words.specs.declared.commands.Command.TheVariants.{Plan, Check, Scan, Make, Day, Fair, Serve, Watch}
-use Rattle.command_words.specs.Words.{Order, lone_order, help, version, order_given, command_order, meaning, source_given, viewer_given, listening_given, pace_given}
+use Rattle.command_words.specs.Words.{Order, lone_order, help, version, order_given, command_order}
+use Rattle.command_words.specs.Words.{meaning, source_given, viewer_given, listening_given}
+use Rattle.command_words.specs.Words.{pace_given}
 
 -- the meaning of a command's words
 pub meaning_of : (name : List ℕ) (command : Command) (words : List (List ℕ)) → command_named name ≡ Some command →
@@ -74,11 +79,13 @@ order_same Serve words words' same =
 order_same Watch words words' same = rw same.films (rw same.port (rw (pace_same words words' same) refl))
 
 -- words that are of the same command, and give the same, mean the same
-pub meaning_same : {command : Command} {words words' : List (List ℕ)} (name : List ℕ) → command_named name ≡ Some command →
+pub meaning_same : {command : Command} {words words' : List (List ℕ)} (name : List ℕ)
+    → command_named name ≡ Some command →
     list_all (is_word_of command) words ≡ list_all (is_word_of command) words' → GiveSame words words' →
     meaning (name ∷ words) ≡ meaning (name ∷ words')
 meaning_same {command} {words} {words'} name named all same =
     meaning_of name command words named
     ∙ ap (λ (b : Bool). if b then order_given command words else None) all
-    ∙ ap (λ (o : Option Order). if list_all (is_word_of command) words' then o else None) (order_same command words words' same)
+    ∙ ap (λ (o : Option Order). if list_all (is_word_of command) words' then o else None)
+    (order_same command words words' same)
     ∙ sym (meaning_of name command words' named)

@@ -1,5 +1,6 @@
 -- The order of words is free.
-use Rattle.std.proofs.Common.{◌≡◌, ℕ, ◌^◌, ◌-◌, ◌&&◌, ◌⊎◌, List, ◌∷◌, ◌++◌, sym, ap, ◌∙◌, Some, None, Bool, true, false, refl, codes, inl, inr}
+use Rattle.std.proofs.Common.{◌≡◌, ℕ, ◌^◌, ◌-◌, ◌&&◌, ◌⊎◌, List, ◌∷◌, ◌++◌, sym, ap, ◌∙◌, Some}
+use Rattle.std.proofs.Common.{None, Bool, true, false, refl, codes, inl, inr}
 use Rattle.std.specs.List.{list_all}
 use Rattle.std.proofs.lemmas.List.Folds.{list_all-append}
 use Rattle.command_words.specs.Settings.{number_or, setting_value, values_of}
@@ -43,7 +44,8 @@ give_same words words' same = record {
 }
 
 -- two words of different keys give the same in the other order
-swapped : (key word other : List ℕ) (rest : List (List ℕ)) → (setting_value key word ≡ None) ⊎ (setting_value key other ≡ None) →
+swapped : (key word other : List ℕ) (rest : List (List ℕ))
+    → (setting_value key word ≡ None) ⊎ (setting_value key other ≡ None) →
     values_of key (word ∷ other ∷ rest) ≡ values_of key (other ∷ word ∷ rest)
 swapped key word other rest one = elim one [
   | inl none ↦ rw none refl
@@ -86,4 +88,5 @@ pub order_free : {command : Command} (name : List ℕ) (two : Neighbours) → co
     HaveOtherKeys two.word two.other →
     meaning (name ∷ in_order two) ≡ meaning (name ∷ exchanged two)
 order_free {command} name two named apart =
-    meaning_same name named (all_free (is_word_of command) two) (give_same (in_order two) (exchanged two) (values_free two apart))
+    meaning_same name named (all_free (is_word_of command) two)
+    (give_same (in_order two) (exchanged two) (values_free two apart))

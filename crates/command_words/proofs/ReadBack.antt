@@ -1,5 +1,6 @@
 -- The words of an order mean that order.
-use Rattle.std.proofs.Common.{◌≡◌, ℕ, ◌<◌, ◌^◌, List, [], ◌∷◌, map, ap, ◌∙◌, arith, Option, Some, None, Bool, true, false, refl, codes, decimal, if◌then◌else◌}
+use Rattle.std.proofs.Common.{◌≡◌, ℕ, ◌<◌, ◌^◌, List, [], ◌∷◌, map, ap, ◌∙◌, arith, Option, Some}
+use Rattle.std.proofs.Common.{None, Bool, true, false, refl, codes, decimal, if◌then◌else◌}
 use Rattle.std.specs.Option.{option_and_then}
 use Rattle.std.specs.Prelude.{option_map}
 use Rattle.std.specs.Str.{bytes_eq}
@@ -7,19 +8,35 @@ use Rattle.std.proofs.lemmas.List.{append-nil}
 use Rattle.vod_base.specs.Names.{is_good_name}
 use Rattle.slot_calendar.specs.declared.profiles.CapacityStep.{CapacityStep}
 use Rattle.command_words.specs.Settings.{values_of, one_name, number_or}
-use Rattle.command_words.specs.Keys.{film_given, cert_given, script_given, buffer_given, startup_given, slot_given, capacity_given, journal_given, port_given, workers_given, connections_given, seed_given, pictures_given, plays_given, one_kind, one_bind}
+use Rattle.command_words.specs.Keys.{film_given, cert_given, script_given, buffer_given}
+use Rattle.command_words.specs.Keys.{startup_given, slot_given, capacity_given, journal_given}
+use Rattle.command_words.specs.Keys.{port_given, workers_given, connections_given, seed_given}
+use Rattle.command_words.specs.Keys.{pictures_given, plays_given, one_kind, one_bind}
 use Rattle.command_words.specs.Commands.{keys_of}
 use Rattle.command_words.specs.declared.commands.Command.{Command}
 use Rattle.command_words.specs.declared.commands.Command.TheVariants.{Plan, Check, Scan, Make, Day, Fair, Serve, Watch}
-use Rattle.command_words.specs.Words.{Source, trace_source, film_source, Viewer, Serving, ScriptRun, Watching, Order, help, version, plan_of, check_of, scan_of, make_of, day_of, fair_of, serve_of, watch_of, source_of, source_given, viewer_given, check_given, make_given, script_run_given, fair_run_given, listening_given, pace_given, serving_given, watching_given, order_given, command_order, meaning}
-use Rattle.command_words.specs.Spelling.{Setting, word_of, settings_of, words_of, film_setting, server_settings, viewer_settings, made_name, bind_text, steps_text, IsCapacity, MayBeBuffer, MayBeStartup, MayBePort, MayBePictures, MayBeSlot, MayBeJournal, MayBeSource, MayBeViewer, MayBePace, MayListen, MayServe, MayRun, MayDraw, MayWatch, MayBeAsked}
+use Rattle.command_words.specs.Words.{Source, trace_source, film_source, Viewer, Serving, ScriptRun}
+use Rattle.command_words.specs.Words.{Watching, Order, help, version, plan_of, check_of, scan_of}
+use Rattle.command_words.specs.Words.{make_of, day_of, fair_of, serve_of, watch_of, source_of}
+use Rattle.command_words.specs.Words.{source_given, viewer_given, check_given, make_given}
+use Rattle.command_words.specs.Words.{script_run_given, fair_run_given, listening_given, pace_given}
+use Rattle.command_words.specs.Words.{serving_given, watching_given, order_given, command_order}
+use Rattle.command_words.specs.Words.{meaning}
+use Rattle.command_words.specs.Spelling.{Setting, word_of, settings_of, words_of, film_setting}
+use Rattle.command_words.specs.Spelling.{server_settings, viewer_settings, made_name, bind_text}
+use Rattle.command_words.specs.Spelling.{steps_text, IsCapacity, MayBeBuffer, MayBeStartup}
+use Rattle.command_words.specs.Spelling.{MayBePort, MayBePictures, MayBeSlot, MayBeJournal}
+use Rattle.command_words.specs.Spelling.{MayBeSource, MayBeViewer, MayBePace, MayListen, MayServe}
+use Rattle.command_words.specs.Spelling.{MayRun, MayDraw, MayWatch, MayBeAsked}
 use Rattle.command_words.specs.declared.orders.Made.{Made}
 use Rattle.command_words.specs.declared.orders.Made.TheVariants.{Film, Trace, System}
 use Rattle.command_words.specs.declared.orders.Listening.{Listening}
 use Rattle.command_words.specs.declared.orders.Pace.{Pace}
 use Rattle.command_words.specs.declared.orders.FairRun.{FairRun}
 use Rattle.command_words.proofs.FilmLemmas.{films_back}
-use Rattle.command_words.proofs.SettingLemmas.{picked, are_plain, are_among, values_read, words_read, films_plain, films_among, picked_films, picked_past}
+use Rattle.command_words.proofs.SettingLemmas.{picked, are_plain, are_among, values_read}
+use Rattle.command_words.proofs.SettingLemmas.{words_read, films_plain, films_among, picked_films}
+use Rattle.command_words.proofs.SettingLemmas.{picked_past}
 use Rattle.command_words.proofs.SpellingLemmas.{key_or, key_one, name_back, capacity_back}
 
 -- settings that are read, with what each key is given
@@ -27,7 +44,8 @@ abbrev given : List Setting → List (List ℕ)
 given settings = map word_of settings
 
 -- a value after another that was found
-then_is : {A B : Type 0} (f : A → Option B) (o : Option A) (a : A) (b : Option B) → o ≡ Some a → f a ≡ b → option_and_then f o ≡ b
+then_is : {A B : Type 0} (f : A → Option B) (o : Option A) (a : A) (b : Option B) → o ≡ Some a → f a ≡ b
+    → option_and_then f o ≡ b
 then_is f o a b found rest = ap (option_and_then f) found ∙ rest
 
 -- the numbers that settings give to a client
@@ -71,7 +89,8 @@ port_read settings port plain p within =
     key_or 8554 (values_read (codes "port") settings plain ∙ p) within (omega (arith, within.1))
 
 -- a source, by what its keys are given
-trace_read : {name : List ℕ} (settings : List Setting) → are_plain settings ≡ true → picked (codes "trace") settings ≡ name ∷ [] →
+trace_read : {name : List ℕ} (settings : List Setting) → are_plain settings ≡ true
+    → picked (codes "trace") settings ≡ name ∷ [] →
     picked (codes "film") settings ≡ [] → picked (codes "slot") settings ≡ [] → is_good_name name ≡ true
     → source_given (given settings) ≡ Some (trace_source name)
 trace_read {name} settings plain t f s good =
@@ -88,7 +107,8 @@ record PicksFilm (settings : List Setting) (name : List ℕ) (slot : ℕ) : Type
   film : picked (codes "film") settings ≡ name ∷ []
   slot_is : picked (codes "slot") settings ≡ decimal slot ∷ []
 
-film_read : {name : List ℕ} {slot : ℕ} (settings : List Setting) → are_plain settings ≡ true → PicksFilm settings name slot →
+film_read : {name : List ℕ} {slot : ℕ} (settings : List Setting) → are_plain settings ≡ true
+    → PicksFilm settings name slot →
     is_good_name name ≡ true → MayBeSlot slot →
     source_given (given settings) ≡ Some (film_source name slot)
 film_read {name} {slot} settings plain picks good within =
@@ -98,7 +118,8 @@ film_read {name} {slot} settings plain picks good within =
     ∙ then_is (λ (n : List ℕ). option_map (λ (k : ℕ). film_source n k)
     (number_or 14400 360 360000 (values_of (codes "slot") (given settings))))
     (one_name (values_of (codes "film") (given settings))) name (Some (film_source name slot))
-    (name_back name (values_of (codes "film") (given settings)) (values_read (codes "film") settings plain ∙ picks.film) good)
+    (name_back name (values_of (codes "film") (given settings))
+    (values_read (codes "film") settings plain ∙ picks.film) good)
     (ap (option_map (λ (k : ℕ). film_source name k)) (slot_read settings slot plain picks.slot_is within))
 
 viewer_is : (words : List (List ℕ)) (source : Source) (buffer startup : ℕ) → source_given words ≡ Some source →
@@ -117,7 +138,8 @@ viewer_read viewer may = by viewer.source viewer.buffer viewer.startup may.sourc
         viewer_is (given settings) (trace_source name) buffer startup
         (trace_read settings refl refl refl refl good) (pace_read settings refl refl refl some few)
     by (film_source name slot) buffer startup good some few =
-        let settings = viewer_settings (record { source = film_source name slot; buffer = buffer; startup = startup }) in
+        let settings =
+        viewer_settings (record { source = film_source name slot; buffer = buffer; startup = startup }) in
         viewer_is (given settings) (film_source name slot) buffer startup
         (film_read settings refl (record { trace = refl; film = refl; slot_is = refl }) good.0 good.1)
         (pace_read settings refl refl refl some few)
@@ -195,7 +217,8 @@ whole_pace : {pace : Pace} (settings : List Setting) → are_plain settings ≡ 
     picked (codes "slot") settings ≡ decimal pace.slot ∷ [] → MayBePace pace →
     pace_given (given settings) ≡ Some pace
 whole_pace {pace} settings plain b s k may =
-    let gives : GivesPace (given settings) pace.buffer pace.startup = pace_read settings plain b s may.buffer may.startup in
+    let gives : GivesPace (given settings) pace.buffer pace.startup =
+    pace_read settings plain b s may.buffer may.startup in
     let slot = slot_read settings pace.slot plain k may.slot in
     rw gives.buffer (rw gives.startup (rw slot refl))
 
@@ -204,7 +227,8 @@ watching_read : (watching : Watching) → MayWatch watching
 watching_read watching may =
     let settings = settings_of (watch_of watching) in
     let film : film_given (given settings) ≡ Some watching.film =
-    name_back watching.film (values_of (codes "film") (given settings)) (values_read (codes "film") settings refl) may.film in
+    name_back watching.film (values_of (codes "film") (given settings))
+    (values_read (codes "film") settings refl) may.film in
     let port = port_read settings watching.port refl refl may.port in
     let pace = whole_pace settings refl refl refl refl may.pace in
     rw film (rw port (rw pace refl))
@@ -225,7 +249,8 @@ listening_read {listening} settings plain picks may =
     let bind : one_bind (values_of (codes "bind") (given settings)) ≡ Some listening.all =
     ap one_bind (values_read (codes "bind") settings plain ∙ picks.bind) ∙ bind_back listening.all in
     let workers : workers_given (given settings) ≡ Some listening.workers =
-    key_or 32 (values_read (codes "workers") settings plain ∙ picks.workers) may.workers (omega (arith, may.workers.1)) in
+    key_or 32 (values_read (codes "workers") settings plain ∙ picks.workers) may.workers
+    (omega (arith, may.workers.1)) in
     let connections : connections_given (given settings) ≡ Some listening.connections =
     key_or 0 (values_read (codes "connections") settings plain ∙ picks.connections)
     (omega arith, omega (arith, may.connections)) may.connections in
@@ -235,7 +260,8 @@ listening_read {listening} settings plain picks may =
     bind_back true = refl
     bind_back false = refl
 
-serving_read : (serving : Serving) → MayServe serving → serving_given (given (settings_of (serve_of serving))) ≡ Some serving
+serving_read : (serving : Serving) → MayServe serving
+    → serving_given (given (settings_of (serve_of serving))) ≡ Some serving
 serving_read serving may =
     let settings = settings_of (serve_of serving) in
     let others = server_settings serving in
@@ -269,7 +295,8 @@ viewer_among : (viewer : Viewer) → are_among (keys_of Plan) (viewer_settings v
 viewer_among viewer = by viewer.source viewer.buffer viewer.startup
   where
     by : (source : Source) (buffer startup : ℕ)
-        → are_among (keys_of Plan) (viewer_settings (record { source = source; buffer = buffer; startup = startup })) ≡ true
+        → are_among (keys_of Plan) (viewer_settings (record { source = source; buffer = buffer; startup = startup }))
+        ≡ true
     by (trace_source name) buffer startup = refl
     by (film_source name slot) buffer startup = refl
 

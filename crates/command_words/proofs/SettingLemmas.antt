@@ -1,5 +1,7 @@
 -- What written settings give to each key.
-use Rattle.std.proofs.Common.{◌≡◌, ℕ, suc, ◌+◌, ◌&&◌, ◌||◌, not, List, [], ◌∷◌, ◌++◌, length, map, take, drop, ap, ◌∙◌, arith, Option, Some, None, Bool, true, false, refl, codes, nat_lt, ◌==◌, if◌then◌else◌, lt-ltb, length-append}
+use Rattle.std.proofs.Common.{◌≡◌, ℕ, suc, ◌+◌, ◌&&◌, ◌||◌, not, List, [], ◌∷◌, ◌++◌, length, map}
+use Rattle.std.proofs.Common.{take, drop, ap, ◌∙◌, arith, Option, Some, None, Bool, true, false}
+use Rattle.std.proofs.Common.{refl, codes, nat_lt, ◌==◌, if◌then◌else◌, lt-ltb, length-append}
 use Rattle.std.specs.List.{list_all, list_any, position_or_len, before_first, after_first}
 use Rattle.std.specs.Option.{option_to_list, is_some}
 use Rattle.std.specs.Str.{bytes_eq}
@@ -63,7 +65,8 @@ setting_read asked key value plain =
 -- the values of a key among settings
 abbrev pub picked : List ℕ → List Setting → List (List ℕ)
 picked asked [] = []
-picked asked (s ∷ settings) = option_to_list (if bytes_eq s.key asked then Some s.value else None) ++ picked asked settings
+picked asked (s ∷ settings) =
+    option_to_list (if bytes_eq s.key asked then Some s.value else None) ++ picked asked settings
 
 -- settings whose keys have no `=`
 abbrev pub are_plain : List Setting → Bool
@@ -92,12 +95,14 @@ pub one_read : (keys : List (List ℕ)) (key value : List ℕ) → has_no 61 key
     gives_one keys (key ++ (codes "=" ++ value)) ≡ list_any (λ k. bytes_eq key k) keys
 one_read [] key value plain = refl
 one_read (k ∷ keys) key value plain =
-    ap (λ (o : Option (List ℕ)). is_some o || gives_one keys (key ++ (codes "=" ++ value))) (setting_read k key value plain)
+    ap (λ (o : Option (List ℕ)). is_some o || gives_one keys (key ++ (codes "=" ++ value)))
+    (setting_read k key value plain)
     ∙ ap (λ (b : Bool). b || gives_one keys (key ++ (codes "=" ++ value))) (some_is (bytes_eq key k) value)
     ∙ ap (λ (b : Bool). bytes_eq key k || b) (one_read keys key value plain)
 
 -- written settings are words of a command that takes their keys
-pub words_read : (keys : List (List ℕ)) (settings : List Setting) → are_plain settings ≡ true → are_among keys settings ≡ true →
+pub words_read : (keys : List (List ℕ)) (settings : List Setting) → are_plain settings ≡ true
+    → are_among keys settings ≡ true →
     list_all (gives_one keys) (map word_of settings) ≡ true
 words_read keys [] plain among = refl
 words_read keys (s ∷ settings) plain among =
@@ -123,7 +128,8 @@ pub picked_films : (films : List (List ℕ)) (settings : List Setting) →
 picked_films [] settings = refl
 picked_films (film ∷ films) settings = ap (λ fs. film ∷ fs) (picked_films films settings)
 
-pub picked_past : (asked : List ℕ) (films : List (List ℕ)) (settings : List Setting) → bytes_eq (codes "film") asked ≡ false →
+pub picked_past : (asked : List ℕ) (films : List (List ℕ)) (settings : List Setting)
+    → bytes_eq (codes "film") asked ≡ false →
     picked asked (map film_setting films ++ settings) ≡ picked asked settings
 picked_past asked [] settings other = refl
 picked_past asked (film ∷ films) settings other = rw other (picked_past asked films settings other)

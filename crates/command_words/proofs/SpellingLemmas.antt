@@ -1,5 +1,8 @@
 -- The values of written orders are read back.
-use Rattle.std.proofs.Common.{◌≡◌, ℕ, ◌+◌, ◌-◌, ◌<◌, ◌≤◌, ◌^◌, ◌&&◌, not, List, [], ◌∷◌, ◌++◌, All, length, sym, ap, subst, ◌∙◌, arith, Option, Some, None, Bool, true, false, refl, codes, decimal, nat_lt, nat_le, ◌==◌, if◌then◌else◌, inl, inr, length-append, true≢false}
+use Rattle.std.proofs.Common.{◌≡◌, ℕ, ◌+◌, ◌-◌, ◌<◌, ◌≤◌, ◌^◌, ◌&&◌, not, List, [], ◌∷◌, ◌++◌, All}
+use Rattle.std.proofs.Common.{length, sym, ap, subst, ◌∙◌, arith, Option, Some, None, Bool, true}
+use Rattle.std.proofs.Common.{false, refl, codes, decimal, nat_lt, nat_le, ◌==◌, if◌then◌else◌, inl}
+use Rattle.std.proofs.Common.{inr, length-append, true≢false}
 use Rattle.std.specs.Int.{IsInRange}
 use Rattle.std.specs.List.{list_all, position_or_len, before_first, after_first, slice_split, fold}
 use Rattle.std.specs.Option.{option_and_then, option_map}
@@ -19,12 +22,14 @@ use Rattle.slot_calendar.specs.declared.profiles.CapacityStep.{CapacityStep}
 use Rattle.slot_calendar.specs.Profiles.{no_step, step_at}
 use Rattle.vod_base.specs.Limits.{in_range}
 use Rattle.command_words.specs.Settings.{one_name, one_number, number_or}
-use Rattle.command_words.specs.Capacities.{step_of, stands_after, may_follow, step_more, part_more, steps_of, one_capacity}
+use Rattle.command_words.specs.Capacities.{step_of, stands_after, may_follow, step_more, part_more}
+use Rattle.command_words.specs.Capacities.{steps_of, one_capacity}
 use Rattle.command_words.specs.Spelling.{IsCapacity, step_text, steps_text}
 use Rattle.command_words.proofs.SettingLemmas.{has_no, inside_of, before_of, after_of}
 
 -- a number in its range
-pub number_back : (least most n : ℕ) → IsInRange least most n → n < 2 ^ 64 → in_range least most (number_of (decimal n)) ≡ Some n
+pub number_back : (least most n : ℕ) → IsInRange least most n → n < 2 ^ 64
+    → in_range least most (number_of (decimal n)) ≡ Some n
 number_back least most n within small =
     ap (in_range least most) (decimal_read n small)
     ∙ ap (λ (b : Bool). if b && nat_le n most then Some n else None) (le-leb least n within.0)
@@ -36,7 +41,8 @@ pub key_or : {least most n : ℕ} {values : List (List ℕ)} (default : ℕ) →
 key_or {least} {most} {n} default given within small =
     ap (number_or default least most) given ∙ number_back least most n within small
 
-pub key_one : {least most n : ℕ} {values : List (List ℕ)} → values ≡ decimal n ∷ [] → IsInRange least most n → n < 2 ^ 64 →
+pub key_one : {least most n : ℕ} {values : List (List ℕ)} → values ≡ decimal n ∷ [] → IsInRange least most n
+    → n < 2 ^ 64 →
     one_number least most values ≡ Some n
 key_one {least} {most} {n} given within small = ap (one_number least most) given ∙ number_back least most n within small
 
@@ -59,7 +65,8 @@ decimal_has_no : (c n : ℕ) → is_ascii_digit c ≡ false → n < 2 ^ 64 → h
 decimal_has_no c n other small = no_digit c (decimal n) other (digits_decimal decimal_numerals n small)
 
 -- a text without a byte, followed by another such
-none_joined : (c : ℕ) (front rest : List ℕ) → has_no c front ≡ true → has_no c rest ≡ true → has_no c (front ++ rest) ≡ true
+none_joined : (c : ℕ) (front rest : List ℕ) → has_no c front ≡ true → has_no c rest ≡ true
+    → has_no c (front ++ rest) ≡ true
 none_joined c [] rest h k = k
 none_joined c (b ∷ front) rest h k =
     let parts = and_parts (not (b == c)) (has_no c front) h in
@@ -164,7 +171,8 @@ step_taken front step rest capacity short =
     ∙ ap (λ (b : Bool). if b then Some (front ++ step ∷ []) else None) (step_may front step rest capacity)
 
 -- the numbers of a capacity's step are short
-short_step : (front : List CapacityStep) (step : CapacityStep) (rest : List CapacityStep) → IsCapacity (front ++ step ∷ rest) → IsShort step
+short_step : (front : List CapacityStep) (step : CapacityStep) (rest : List CapacityStep) → IsCapacity (front ++ step ∷ rest)
+    → IsShort step
 short_step front step rest capacity =
     let long = length-append front (step ∷ rest) in
     let here : step_at (front ++ step ∷ rest) (length front) ≡ step = get_or-append_seam front step rest no_step in
@@ -175,7 +183,8 @@ short_step front step rest capacity =
     record { from = omega (arith, late); bytes = omega (arith, small) }
 
 -- one step more in front
-moved : (front : List CapacityStep) (step : CapacityStep) (rest : List CapacityStep) → (front ++ step ∷ []) ++ rest ≡ front ++ step ∷ rest
+moved : (front : List CapacityStep) (step : CapacityStep) (rest : List CapacityStep)
+    → (front ++ step ∷ []) ++ rest ≡ front ++ step ∷ rest
 moved front step rest = append_assoc front (step ∷ []) rest
 
 -- written steps are read back, after those in front of them

@@ -1,5 +1,7 @@
 -- The values that words give to a key, from the front on.
-use Rattle.std.proofs.Common.{◌≡◌, ℕ, ◌+◌, ◌<◌, ◌≤◌, List, [], ◌∷◌, ◌++◌, length, take, drop, get_or, sym, ap, ◌∙◌, arith, String, Global, string_bytes, length-append, Option, Some, None, Bool, true, false, ◌&&◌, Bor, refl}
+use Rattle.std.proofs.Common.{◌≡◌, ℕ, ◌+◌, ◌<◌, ◌≤◌, List, [], ◌∷◌, ◌++◌, length, take, drop}
+use Rattle.std.proofs.Common.{get_or, sym, ap, ◌∙◌, arith, String, Global, string_bytes}
+use Rattle.std.proofs.Common.{length-append, Option, Some, None, Bool, true, false, ◌&&◌, Bor, refl}
 use Rattle.std.specs.Option.{option_to_list, option_copied, is_some}
 use Rattle.std.proofs.lemmas.List.{take_more, map-append, append-nil, take-append-drop, length-map}
 use Rattle.std.proofs.lemmas.Grind.{flat_map-append}
@@ -11,7 +13,8 @@ use Rattle.command_words.specs.Settings.{texts, setting_value, values_of}
 -- what words in front and the words after them give
 pub values_of-append : (key : List ℕ) (front back : List (List ℕ))
     → values_of key (front ++ back) ≡ values_of key front ++ values_of key back
-values_of-append key front back = flat_map-append (λ (word : List ℕ). option_to_list (setting_value key word)) front back
+values_of-append key front back =
+    flat_map-append (λ (word : List ℕ). option_to_list (setting_value key word)) front back
 
 -- the word at a place
 pub record IsWordAt (words : List (String Global)) (i : ℕ) (word : String Global) : Type 0 where
@@ -35,11 +38,16 @@ values_of_more key words i word at =
 pub values_of_front : (key : List ℕ) (words : List (String Global)) (i : ℕ)
     → length (values_of key (texts (take i words))) ≤ length (values_of key (texts words))
 values_of_front key words i =
-    let whole : values_of key (texts words) ≡ values_of key (texts (take i words)) ++ values_of key (texts (drop i words)) =
+    let whole : values_of key (texts words)
+    ≡ values_of key (texts (take i words)) ++ values_of key (texts (drop i words)) =
     ap (λ (ws : List (String Global)). values_of key (texts ws)) (sym (take-append-drop i words))
     ∙ ap (values_of key) (map-append string_bytes (take i words) (drop i words))
     ∙ values_of-append key (texts (take i words)) (texts (drop i words)) in
-    omega (arith, ap length whole, length-append (values_of key (texts (take i words))) (values_of key (texts (drop i words))))
+    omega (
+      arith,
+      ap length whole,
+      length-append (values_of key (texts (take i words))) (values_of key (texts (drop i words))),
+    )
 
 none_found : (o : Option (Bor (List ℕ))) → is_some o ≡ false → option_copied o ≡ None
 none_found None h = refl
@@ -82,12 +90,14 @@ values_of_none {key} {words} {i} {word} given none is =
 -- a second word that gives a value
 pub values_of_again : {key : List ℕ} {words : List (String Global)} {i : ℕ} {word : String Global}
     {found answer : Option (Bor (List ℕ))} {value : Bor (List ℕ)} →
-    IsSearch key words i word found answer → is_some found ≡ true → answer ≡ Some value → 2 ≤ length (values_of key (texts words))
+    IsSearch key words i word found answer → is_some found ≡ true → answer ≡ Some value
+    → 2 ≤ length (values_of key (texts words))
 values_of_again {key} {words} {i} {word} {found} {answer} given some is =
     let grown : length (values_of key (texts (take (i + 1) words)))
     ≡ length (values_of key (texts (take i words)) ++ option_to_list (option_copied answer)) =
     ap length (values_of_more key words i word given.at)
-    ∙ ap (λ (o : Option (List ℕ)). length (values_of key (texts (take i words)) ++ option_to_list o)) (sym given.says) in
+    ∙ ap (λ (o : Option (List ℕ)). length (values_of key (texts (take i words)) ++ option_to_list o))
+    (sym given.says) in
     let last : length (option_to_list (option_copied answer)) ≡ 1 =
     ap (λ (o : Option (Bor (List ℕ))). length (option_to_list (option_copied o))) is in
     let first : length (values_of key (texts (take i words))) ≡ 1 = ap length given.before ∙ some_found found some in
@@ -101,8 +111,10 @@ values_of_again {key} {words} {i} {word} {found} {answer} given some is =
     )
 
 -- a word more that passes
-pub all_more : {words : List (String Global)} {i : ℕ} {word : String Global} (p : List ℕ → Bool) → IsWordAt words i word →
-    list_all p (texts (take i words)) ≡ true → p (string_bytes word) ≡ true → list_all p (texts (take (i + 1) words)) ≡ true
+pub all_more : {words : List (String Global)} {i : ℕ} {word : String Global} (p : List ℕ → Bool)
+    → IsWordAt words i word →
+    list_all p (texts (take i words)) ≡ true → p (string_bytes word) ≡ true
+    → list_all p (texts (take (i + 1) words)) ≡ true
 all_more {words} {i} {word} p at before passes =
     ap (λ (ws : List (String Global)). list_all p (texts ws)) (take_more words i word at.inside)
     ∙ ap (list_all p) (map-append string_bytes (take i words) (get_or words i word ∷ []))
@@ -112,7 +124,8 @@ all_more {words} {i} {word} p at before passes =
     ∙ ap (λ (b : Bool). b && true) passes
 
 -- a word that fails
-pub all_fails : {words : List (String Global)} {i : ℕ} {word : String Global} (p : List ℕ → Bool) → IsWordAt words i word →
+pub all_fails : {words : List (String Global)} {i : ℕ} {word : String Global} (p : List ℕ → Bool)
+    → IsWordAt words i word →
     p (string_bytes word) ≡ false → list_all p (texts words) ≡ false
 all_fails {words} {i} {word} p at fails =
     list_all_at p (texts words) i (string_bytes word) (rw length-map at.inside)

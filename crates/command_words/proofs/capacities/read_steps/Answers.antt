@@ -13,7 +13,8 @@ returns-then-not-put_part-clause-steps c =
     c.split_once.ensures.cases (lit< tt)) in
     sym (
     c.loop-part.invariant.2
-    ∙ part_bad c.loop-part.steps c.loop-part.rest.now first.0 first.1 first.2 (c.put_part.ensures.refused c.if-not-put_part.true)
+    ∙ part_bad c.loop-part.steps c.loop-part.rest.now first.0 first.1 first.2
+    (c.put_part.ensures.refused c.if-not-put_part.true)
     )
 
 pub loop-part-init : goal.loop-part-init

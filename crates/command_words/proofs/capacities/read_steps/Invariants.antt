@@ -7,7 +7,8 @@ use Rattle.command_words.proofs.capacities.read_steps.Given as goal
 
 abbrev pub invariant-loop-part : goal.invariant-loop-part
 invariant-loop-part l =
-    shadow (Utf8 l.rest) × IsFront l.steps × (steps_of l.text ≡ fold part_more (Some l.steps) (slice_split (λ b. b == 44) l.rest))
+    shadow (Utf8 l.rest) × IsFront l.steps
+    × (steps_of l.text ≡ fold part_more (Some l.steps) (slice_split (λ b. b == 44) l.rest))
 
 abbrev pub decreases-loop-part : goal.decreases-loop-part
 decreases-loop-part l = length l.rest

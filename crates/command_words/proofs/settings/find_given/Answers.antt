@@ -23,6 +23,7 @@ loop-word-preserved c =
       says = c.setting.ensures ∙ ap (setting_value c.args.key.now) c.as_str.ensures.value;
     } in
     elim c.match-setting.branch [
-      | in-Some+else-is_some w ↦ values_of_first given (sym (w.if-is_some.ensures {u = tt})) (w.found-is ∙ sym w.in-Some.is)
+      | in-Some+else-is_some w ↦
+          values_of_first given (sym (w.if-is_some.ensures {u = tt})) (w.found-is ∙ sym w.in-Some.is)
       | in_default w ↦ values_of_none given w.in_default.is w.found-is
     ]
