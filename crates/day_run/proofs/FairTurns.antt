@@ -1,5 +1,6 @@
 -- Turns of a large day, one after the other.
-use Rattle.std.proofs.Common.{◌≡◌, ◌<◌, ◌+◌, ◌-◌, ◌^◌, ◌%◌, ℕ, max, Bool, cond, List, [], ◌∷◌, ◌++◌, length, map, get_or, arith, Result, Ok, Err, IfOk, refl}
+use Rattle.std.proofs.Common.{◌≡◌, ◌<◌, ◌+◌, ◌-◌, ◌^◌, ◌%◌, ℕ, max, Bool, cond, List, [], ◌∷◌, ◌++◌}
+use Rattle.std.proofs.Common.{length, map, get_or, arith, Result, Ok, Err, IfOk, refl}
 use Rattle.std.proofs.Common.{sym, ap, subst, ◌∙◌}
 use Rattle.std.specs.Prelude.{OnOk, count_by, sum_by}
 use Rattle.std.specs.List.{fold, range_with_len}
@@ -17,7 +18,8 @@ use Rattle.day_run.specs.declared.clients.Client.{Client}
 use Rattle.day_run.specs.Clients.{state_of}
 use Rattle.day_run.specs.Balanced.{IsReady}
 use Rattle.day_run.specs.Days.{Link, Moment, last_journal, IsPlayLine, first_moment, rest_at, state_at}
-use Rattle.day_run.specs.FairDays.{AreTurns, IsDone, IsTurn, Turn, after_traces, after_turn, at_later, counts_of, fair_link, IsFair, is_full_line, is_refused}
+use Rattle.day_run.specs.FairDays.{AreTurns, IsDone, IsTurn, Turn, after_traces, after_turn}
+use Rattle.day_run.specs.FairDays.{at_later, counts_of, fair_link, IsFair, is_full_line, is_refused}
 use Rattle.day_run.specs.FairDays.{made_of, turn_booked, turn_peak, turn_sent, words_for}
 use Rattle.day_run.specs.Fairs.{HasCome, HasTurned, after_turns, with_slot, with_turn}
 use Rattle.day_run.specs.Prints.{fair_text}
@@ -43,27 +45,48 @@ done-ready {c} {state = Pausing stop rest} step words own is ready = ready-kept 
 done-ready {c} {state = Paused rest} step words own is ready =
     resume-ready step (record { client = own.client; at = refl }) is ready
 
-plain-counts : {c : Counts} {last s b p : ℕ} → c.last ≡ last → s ≡ 0 → b ≡ 0 → p ≡ 0
-    → c ≡ record { turns = c.turns; full = c.full; last = last; sent = c.sent + s; booked = c.booked + b; peak = max c.peak p }
-plain-counts {c} {last} {s} {b} {p} l none-sent none-booked none-peak =
-    let sent : c.sent ≡ c.sent + s = omega (arith, none-sent) in
-    let booked : c.booked ≡ c.booked + b = omega (arith, none-booked) in
-    let peak : c.peak ≡ max c.peak p = omega (arith, none-peak) in
-    ap (λ n. record { turns = c.turns; full = c.full; last = n; sent = c.sent; booked = c.booked; peak = c.peak }) l
-    ∙ ap (λ n. record { turns = c.turns; full = c.full; last = last; sent = n; booked = c.booked; peak = c.peak }) sent
-    ∙ ap (λ n. record { turns = c.turns; full = c.full; last = last; sent = c.sent + s; booked = n; peak = c.peak }) booked
-    ∙ ap (λ n. record { turns = c.turns; full = c.full; last = last; sent = c.sent + s; booked = c.booked + b; peak = n }) peak
+-- counts that have the same numbers
+record HaveSameNumbers (one other : Counts) : Type 0 where
+  turns : one.turns ≡ other.turns
+  full : one.full ≡ other.full
+  last : one.last ≡ other.last
+  sent : one.sent ≡ other.sent
+  booked : one.booked ≡ other.booked
+  peak : one.peak ≡ other.peak
 
-pub same-counts : (counts : Counts) (moment : Moment) → counts.last ≡ moment.heard → counts ≡ with_slot counts moment moment.heard
+abbrev counts-as : ℕ → ℕ → ℕ → ℕ → ℕ → ℕ → Counts
+counts-as turns full last sent booked peak =
+    record { turns = turns; full = full; last = last; sent = sent; booked = booked; peak = peak }
+
+counts-same : (a b : Counts) → HaveSameNumbers a b → a ≡ b
+counts-same a b same =
+    ap (λ n. counts-as n a.full a.last a.sent a.booked a.peak) same.turns
+    ∙ ap (λ n. counts-as b.turns n a.last a.sent a.booked a.peak) same.full
+    ∙ ap (λ n. counts-as b.turns b.full n a.sent a.booked a.peak) same.last
+    ∙ ap (λ n. counts-as b.turns b.full b.last n a.booked a.peak) same.sent
+    ∙ ap (λ n. counts-as b.turns b.full b.last b.sent n a.peak) same.booked
+    ∙ ap (λ n. counts-as b.turns b.full b.last b.sent b.booked n) same.peak
+
+pub same-counts : (counts : Counts) (moment : Moment) → counts.last ≡ moment.heard
+    → counts ≡ with_slot counts moment moment.heard
 same-counts counts moment last =
     let f = booked_in (state_after moment.entries) in
     let none : moment.heard - moment.heard ≡ 0 = omega arith in
-    plain-counts last
-    (sum-none moment.heard moment.states) (ap (λ n. sum_by f (range_with_len (moment.heard + 1) n)) none)
-    (ap (λ n. fold max 0 (map f (range_with_len (moment.heard + 1) n))) none)
+    let sent = sum-none moment.heard moment.states in
+    let booked = ap (λ n. sum_by f (range_with_len (moment.heard + 1) n)) none in
+    let peak = ap (λ n. fold max 0 (map f (range_with_len (moment.heard + 1) n))) none in
+    counts-same counts (with_slot counts moment moment.heard) (record {
+      turns = refl;
+      full = refl;
+      last = last;
+      sent = omega (arith, sent);
+      booked = omega (arith, booked);
+      peak = omega (arith, peak);
+    })
 
 -- the steps of a turn, one after the other
-pub record TurnSteps (link here : Link) (w w1 w2 w3 : ℕ → ℕ) (later client : ℕ) (c c1 c2 : Counts) (full : Bool) (turn : Turn)
+pub record TurnSteps (link here : Link) (w w1 w2 w3 : ℕ → ℕ) (later client : ℕ) (c c1 c2 : Counts) (full : Bool)
+    (turn : Turn)
     : Type 0 where
   pub same : here ≡ link
   pub one : w1 ≡ words_after 1 w
@@ -89,16 +112,20 @@ pub record TurnSteps (link here : Link) (w w1 w2 w3 : ℕ → ℕ) (later client
 pub turn-of : {link here : Link} {w w1 w2 w3 : ℕ → ℕ} {later client : ℕ} {c c1 c2 : Counts} {full : Bool} (turn : Turn)
     → TurnSteps link here w w1 w2 w3 later client c c1 c2 full turn → HasTurned link w w3 c c2 turn.old turn.new
 turn-of {here} {w} {w2} {later} {client} {c} {full} turn steps =
-    let who-is : client ≡ w 1 % 256 = who ∙ ap (λ (f : ℕ → ℕ). f 0 % 256) one ∙ ap (λ k. k % 256) (words_after-at 1 w 0) in
+    let who-is : client ≡ w 1 % 256 = who ∙ ap (λ (f : ℕ → ℕ). f 0 % 256) one
+    ∙ ap (λ k. k % 256) (words_after-at 1 w 0) in
     let second : w2 ≡ words_after 2 w = two ∙ ap (words_after 1) one ∙ words_after-twice 1 1 w in
     let D : ℕ → Type 0 = λ k. IsDone here w2 k (state_at turn.mid k) turn.mid turn.new turn.text in
-    let W : (ℕ → ℕ) → Type 0 = λ f. IsDone here f (w 1 % 256) (state_at turn.mid (w 1 % 256)) turn.mid turn.new turn.text in
-    let L : Link → Type 0 = λ x. IsDone x (words_after 2 w) (w 1 % 256) (state_at turn.mid (w 1 % 256)) turn.mid turn.new turn.text in
+    let W : (ℕ → ℕ) → Type 0 =
+    λ f. IsDone here f (w 1 % 256) (state_at turn.mid (w 1 % 256)) turn.mid turn.new turn.text in
+    let L : Link → Type 0 =
+    λ x. IsDone x (words_after 2 w) (w 1 % 256) (state_at turn.mid (w 1 % 256)) turn.mid turn.new turn.text in
     record {
       turn = turn;
       old_is = refl;
       new_is = refl;
-      turn_is = record { slot = slot ∙ ap (at_later turn.old) l; done = subst L same (subst W second (subst D who-is done)) };
+      turn_is =
+          record { slot = slot ∙ ap (at_later turn.old) l; done = subst L same (subst W second (subst D who-is done)) };
       left_is =
           left ∙ ap (λ k. words_after (words_for (state_at turn.mid k)) w2) who-is
           ∙ ap (words_after (words_for (state_at turn.mid (w 1 % 256)))) second
@@ -123,8 +150,14 @@ turns-more : {link : Link} {turn : Turn} {mid : Moment} (words : ℕ → ℕ) (t
     → AreTurns link words turns old mid → turn.old ≡ mid
     → IsTurn link (after_turns words turns) turn → AreTurns link words (turns ++ turn ∷ []) old turn.new
 turns-more words [] old run at is = (at ∙ run, (is, refl))
-turns-more {link} {turn} {mid} words (t ∷ turns) old run at is =
-    (run.0, (run.1.0, turns-more {link = link} {turn = turn} {mid = mid} (after_turn words t) turns t.new run.1.1 at is))
+turns-more {link} {turn} {mid} words (t ∷ turns) old run at is = (
+  run.0,
+  (
+    run.1.0,
+    turns-more {link = link} {turn = turn} {mid = mid}
+        (after_turn words t) turns t.new run.1.1 at is,
+  ),
+)
 
 after-more : (words : ℕ → ℕ) (turns : List Turn) (turn : Turn)
     → after_turns words (turns ++ turn ∷ []) ≡ after_turn (after_turns words turns) turn
@@ -134,49 +167,19 @@ after-more words (t ∷ turns) turn = after-more (after_turn words t) turns turn
 counts-more : (turns : List Turn) (turn : Turn) (old new : Moment) → turn.mid.heard ≡ new.heard
     → with_turn (counts_of turns old) turn ≡ counts_of (turns ++ turn ∷ []) new
 counts-more turns turn old new heard =
-    let all = turns ++ turn ∷ [] in
-    let n : length turns + 1 ≡ length all = sym (length-append turns (turn ∷ [])) in
-    let full = sym (sum_by_push (λ t. cond (is_refused t) 1 0) turns turn) in
-    let peak = sym
-    (ap (fold max 0) (map-append turn_peak turns (turn ∷ [])) ∙ peak-push (map turn_peak turns) (turn_peak turn)) in
-    let c = with_turn (counts_of turns old) turn in
-    ap (λ k. record { turns = k; full = c.full; last = c.last; sent = c.sent; booked = c.booked; peak = c.peak }) n
-    ∙ ap (λ k. record { turns = length all; full = k; last = c.last; sent = c.sent; booked = c.booked; peak = c.peak }) full
-    ∙ ap (λ k. record {
-      turns = length all;
-      full = count_by is_refused all;
-      last = k;
-      sent = c.sent;
-      booked = c.booked;
-      peak = c.peak;
-    }) heard
-    ∙ ap (λ k. record {
-      turns = length all;
-      full = count_by is_refused all;
-      last = new.heard;
-      sent = k;
-      booked = c.booked;
-      peak = c.peak;
-    }) (sym (sum_by_push turn_sent turns turn))
-    ∙ ap (λ k. record {
-      turns = length all;
-      full = count_by is_refused all;
-      last = new.heard;
-      sent = sum_by turn_sent all;
-      booked = k;
-      peak = c.peak;
-    }) (sym (sum_by_push turn_booked turns turn))
-    ∙ ap (λ k. record {
-      turns = length all;
-      full = count_by is_refused all;
-      last = new.heard;
-      sent = sum_by turn_sent all;
-      booked = sum_by turn_booked all;
-      peak = k;
-    }) peak
+    counts-same (with_turn (counts_of turns old) turn) (counts_of (turns ++ turn ∷ []) new) (record {
+      turns = sym (length-append turns (turn ∷ []));
+      full = sym (sum_by_push (λ t. cond (is_refused t) 1 0) turns turn);
+      last = heard;
+      sent = sym (sum_by_push turn_sent turns turn);
+      booked = sym (sum_by_push turn_booked turns turn);
+      peak = sym (ap (fold max 0) (map-append turn_peak turns (turn ∷ []))
+          ∙ peak-push (map turn_peak turns) (turn_peak turn));
+    })
 
 pub come-none : (link : Link) (words : ℕ → ℕ) (counts : Counts) (moment : Moment) → moment ≡ first_moment
-    → counts ≡ record { turns = 0; full = 0; last = 0; sent = 0; booked = 0; peak = 0 } → HasCome link words words 0 counts moment
+    → counts ≡ record { turns = 0; full = 0; last = 0; sent = 0; booked = 0; peak = 0 }
+    → HasCome link words words 0 counts moment
 come-none link words counts moment is c =
     record { turns = []; count = refl; run = is; left_is = refl; counts_are = c ∙ ap (counts_of []) (sym is) }
 
@@ -195,9 +198,11 @@ come-next {link} {here} {words} {left} {next} {more} {old} {new} same come turne
       turns = all;
       count = length-append come.turns (turn ∷ []) ∙ ap (λ k. k + 1) come.count;
       run = subst M turned.new_is (turns-more words come.turns first_moment come.run turned.old_is is);
-      left_is = turned.left_is ∙ ap (λ (w : ℕ → ℕ). after_turn w turn) come.left_is ∙ sym (after-more words come.turns turn);
+      left_is = turned.left_is ∙ ap (λ (w : ℕ → ℕ). after_turn w turn) come.left_is
+          ∙ sym (after-more words come.turns turn);
       counts_are =
-          turned.counts_are ∙ ap (λ (c : Counts). with_turn c turn) come.counts_are ∙ counts-more come.turns turn old new heard;
+          turned.counts_are ∙ ap (λ (c : Counts). with_turn c turn) come.counts_are
+          ∙ counts-more come.turns turn old new heard;
     }
 
 -- a day of turns
@@ -224,10 +229,13 @@ pub second-word : (w w1 : ℕ → ℕ) → w1 ≡ words_after 1 w → w1 0 ≡ w
 second-word w w1 one = ap (λ (f : ℕ → ℕ). f 0) one ∙ words_after-at 1 w 0
 
 pub third-word : (w w1 w2 : ℕ → ℕ) → w1 ≡ words_after 1 w → w2 ≡ words_after 1 w1 → w2 0 ≡ w 2
-third-word w w1 w2 one two = ap (λ (f : ℕ → ℕ). f 0) (two ∙ ap (words_after 1) one ∙ words_after-twice 1 1 w) ∙ words_after-at 2 w 0
+third-word w w1 w2 one two = ap (λ (f : ℕ → ℕ). f 0) (two ∙ ap (words_after 1) one ∙ words_after-twice 1 1 w)
+    ∙ words_after-at 2 w 0
 
-pub three-left : {w1 w2 w3 : ℕ → ℕ} (w : ℕ → ℕ) → w1 ≡ words_after 1 w → w2 ≡ words_after 1 w1 → w3 ≡ words_after 1 w2 → w3 ≡ words_after 3 w
-three-left w one two three = three ∙ ap (words_after 1) (two ∙ ap (words_after 1) one ∙ words_after-twice 1 1 w) ∙ words_after-twice 1 2 w
+pub three-left : {w1 w2 w3 : ℕ → ℕ} (w : ℕ → ℕ) → w1 ≡ words_after 1 w → w2 ≡ words_after 1 w1 → w3 ≡ words_after 1 w2
+    → w3 ≡ words_after 3 w
+three-left w one two three = three ∙ ap (words_after 1) (two ∙ ap (words_after 1) one ∙ words_after-twice 1 1 w)
+    ∙ words_after-twice 1 2 w
 
 pub ok-of : {A E : Type 0} (r : Result A E) (X : Type 0) → X → OnOk r X
 ok-of (Ok a) X x = x
@@ -246,7 +254,8 @@ pub line-drawn : {s b d source buffer delay : ℕ} (r : Result Told NoMemory) (a
     → IfOk r (λ told. IsPlayLine asks.link asks.client (rest_at asks.link source buffer delay) state asks.old
     asks.new (told_text asks.entries told))
 line-drawn {s} {b} {d} {source} {buffer} {delay} r asks state draws is =
-    let P : Rest → Type 0 = λ rest. IfOk r (λ told. IsPlayLine link client rest state old new (told_text entries told)) in
+    let P : Rest → Type 0 =
+    λ rest. IfOk r (λ told. IsPlayLine link client rest state old new (told_text entries told)) in
     let e : rest_at link s b d ≡ rest_at link source buffer delay =
     ap (λ k. rest_at link k b d) es ∙ ap (λ k. rest_at link source k d) eb ∙ ap (rest_at link source buffer) ed in
     subst P e is
@@ -258,23 +267,29 @@ line-drawn {s} {b} {d} {source} {buffer} {delay} r asks state draws is =
 none-left : (w : ℕ → ℕ) (n : ℕ) → n ≡ 0 → w ≡ words_after n w
 none-left w n none = sym (ap (λ k. words_after k w) none ∙ words_after-zero w)
 
+-- one of a day's clients, at its place among them
+pub record StandsAt (clients : List Client) (c : ℕ) (client : Client) : Type 0 where
+  pub count : length clients ≡ 256
+  pub small : c < 2 ^ 8
+  pub at : client ≡ get_or clients c client
+
+state-there : {clients : List Client} {c : ℕ} {client : Client} → StandsAt clients c client
+    → get_or (map state_of clients) c Idle ≡ state_of client
+state-there {clients} {c} {client} stands =
+    state-at clients c client (omega (arith, stands.count, stands.small)) ∙ sym (ap state_of stands.at)
+
 -- a client for whom no word is drawn
-pub no-words : {w : ℕ → ℕ} {client : Client} (clients : List Client) (c : ℕ) → length clients ≡ 256 → c < 2 ^ 8
-    → client ≡ get_or clients c client
+pub no-words : {w : ℕ → ℕ} {clients : List Client} {c : ℕ} {client : Client} → StandsAt clients c client
     → words_for (state_of client) ≡ 0 → w ≡ words_after (words_for (get_or (map state_of clients) c Idle)) w
-no-words {w} {client} clients c count small at none =
-    let inside : c < length clients = omega (arith, count, small) in
-    none-left w _ (ap words_for (state-at clients c client inside ∙ sym (ap state_of at)) ∙ none)
+no-words {w} stands none = none-left w _ (ap words_for (state-there stands) ∙ none)
 
 -- what the drawn client does, by what it is
-pub done-as : {client : Client} (step : LineStep) (w : ℕ → ℕ) (clients : List Client) (c : ℕ) (is : Client)
-    → length clients ≡ 256 → c < 2 ^ 8 → client ≡ get_or clients c client → client ≡ is
-    → IsDone step.link w c (state_of is) step.old step.new step.text
+pub done-as : {clients : List Client} {c : ℕ} {client is : Client} (step : LineStep) (w : ℕ → ℕ)
+    → StandsAt clients c client → client ≡ is → IsDone step.link w c (state_of is) step.old step.new step.text
     → IsDone step.link w c (get_or (map state_of clients) c Idle) step.old step.new step.text
-done-as {client} step w clients c is count small at same own =
-    let inside : c < length clients = omega (arith, count, small) in
+done-as {c} step w stands same own =
     let S : ClientState → Type 0 = λ s. IsDone step.link w c s step.old step.new step.text in
-    subst S (ap state_of (sym same ∙ at) ∙ sym (state-at clients c client inside)) own
+    subst S (sym (state-there stands ∙ ap state_of same)) own
 
 pub ready-morning : (m : Moment) → m ≡ first_moment → IsReady m
 ready-morning m is = ready-kept first_moment m is morning-ready

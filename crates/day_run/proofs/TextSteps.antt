@@ -1,7 +1,10 @@
 -- Texts that are appended one after the other.
 use Rattle.std.proofs.Common.{◌≡◌, ℕ, List, ◌++◌, Result, Ok, Err, OnOk}
+use Rattle.std.proofs.lemmas.List.{append_assoc}
 use Rattle.vod_base.specs.declared.outside.NoMemory.{NoMemory}
 use Rattle.report.proofs.AppendLemmas.{both}
+
+pub ruleset joins = (append_assoc)
 
 -- what was appended first
 pub record TextBefore (mid : List ℕ) : Type 0 where

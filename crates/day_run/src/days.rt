@@ -121,53 +121,6 @@ fn run_slot(runner: &mut Runner<'_>, slot: u64, text: &mut Vec<u8>) -> Result<()
     print_entries(&runner.book, from, text)
 }
 
-/// Runs a `pause` line.
-fn run_pause(runner: &mut Runner<'_>, client: u8, text: &mut Vec<u8>) -> Result<(), NoMemory>
-    requires { IsRunner runner.old }
-    ensures runner { OnOk result (IsRunner runner.new) }
-    ensures kept { OnOk result (IsKept runner.old runner.new) }
-    ensures heard { OnOk result (runner.new.heard ≡ runner.old.heard) }
-    ensures line { OnOk result (IsPrinted text.old.items text.new.items
-        (IsLine (link_on runner.old) (Line.Pause client) (moment_of runner.old)
-        (moment_of runner.new))) }
-{
-    let told = runner.pause(client);
-    print_told(&runner.book, told, text)
-}
-
-/// Runs a `resume` line.
-fn run_resume(
-    alloc: Global,
-    runner: &mut Runner<'_>,
-    client: u8,
-    text: &mut Vec<u8>,
-) -> Result<(), NoMemory>
-    requires { IsRunner runner.old }
-    ensures runner { OnOk result (IsRunner runner.new) }
-    ensures kept { OnOk result (IsKept runner.old runner.new) }
-    ensures heard { OnOk result (runner.new.heard ≡ runner.old.heard) }
-    ensures line { OnOk result (IsPrinted text.old.items text.new.items
-        (IsLine (link_on runner.old) (Line.Resume client) (moment_of runner.old)
-        (moment_of runner.new))) }
-{
-    let told = runner.resume(alloc, client)?;
-    print_told(&runner.book, told, text)
-}
-
-/// Runs a `look` line.
-fn run_look(runner: &mut Runner<'_>, slot: u64, text: &mut Vec<u8>) -> Result<(), NoMemory>
-    requires { IsRunner runner.old }
-    ensures runner { OnOk result (IsRunner runner.new) }
-    ensures kept { OnOk result (IsKept runner.old runner.new) }
-    ensures heard { OnOk result (runner.new.heard ≡ runner.old.heard) }
-    ensures line { OnOk result (IsPrinted text.old.items text.new.items
-        (IsLine (link_on runner.old) (Line.Look slot) (moment_of runner.old)
-        (moment_of runner.new))) }
-{
-    let told = runner.look(slot);
-    print_told(&runner.book, told, text)
-}
-
 /// Runs a line.
 fn run_line(
     alloc: Global,
@@ -193,9 +146,18 @@ fn run_line(
             let told = runner.play(alloc, client, source, buffer, delay)?;
             print_told(&runner.book, told, text)
         }
-        Line::Pause(client) => run_pause(runner, client, text),
-        Line::Resume(client) => run_resume(alloc, runner, client, text),
-        Line::Look(slot) => run_look(runner, slot, text),
+        Line::Pause(client) => {
+            let told = runner.pause(client);
+            print_told(&runner.book, told, text)
+        }
+        Line::Resume(client) => {
+            let told = runner.resume(alloc, client)?;
+            print_told(&runner.book, told, text)
+        }
+        Line::Look(slot) => {
+            let told = runner.look(slot);
+            print_told(&runner.book, told, text)
+        }
         Line::Slot(slot) => run_slot(runner, slot, text),
         Line::Offer {
             client: _,

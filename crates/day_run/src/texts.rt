@@ -145,7 +145,7 @@ fn push_start(out: &mut Vec<u8>, start: Option<u64>) -> Result<(), NoMemory>
 }
 
 /// Appends what was made in a fair.
-#[tactic(auto, using(std::proofs::lemmas::List::append_assoc), unfolding(crate::specs::Prints::made_words))]
+#[tactic(auto, using(crate::proofs::TextSteps::joins), unfolding(crate::specs::Prints::made_words))]
 fn push_made(out: &mut Vec<u8>, made: &Made) -> Result<(), NoMemory>
     ensures { OnOk result (out.new.items ≡ out.old.items ++ made_words made.now) }
 {
@@ -155,7 +155,7 @@ fn push_made(out: &mut Vec<u8>, made: &Made) -> Result<(), NoMemory>
 }
 
 /// Appends what a fair's slots brought.
-#[tactic(auto, using(std::proofs::lemmas::List::append_assoc), unfolding(crate::specs::Prints::sum_words))]
+#[tactic(auto, using(crate::proofs::TextSteps::joins), unfolding(crate::specs::Prints::sum_words))]
 fn push_sums(out: &mut Vec<u8>, counts: &Counts) -> Result<(), NoMemory>
     ensures { OnOk result (out.new.items ≡ out.old.items ++ sum_words counts.now) }
 {
@@ -165,7 +165,7 @@ fn push_sums(out: &mut Vec<u8>, counts: &Counts) -> Result<(), NoMemory>
 }
 
 /// Appends the turns of a fair and what was made in them.
-#[tactic(auto, using(std::proofs::lemmas::List::append_assoc), unfolding(crate::specs::Prints::turn_words))]
+#[tactic(auto, using(crate::proofs::TextSteps::joins), unfolding(crate::specs::Prints::turn_words))]
 fn push_turns(out: &mut Vec<u8>, counts: &Counts, made: &Made) -> Result<(), NoMemory>
     ensures { OnOk result (out.new.items ≡ out.old.items ++ turn_words counts.now made.now) }
 {
@@ -174,7 +174,7 @@ fn push_turns(out: &mut Vec<u8>, counts: &Counts, made: &Made) -> Result<(), NoM
 }
 
 /// Appends how often the journal was full, the last slot, and what the slots brought.
-#[tactic(auto, using(std::proofs::lemmas::List::append_assoc), unfolding(crate::specs::Prints::slot_words))]
+#[tactic(auto, using(crate::proofs::TextSteps::joins), unfolding(crate::specs::Prints::slot_words))]
 fn push_slots(out: &mut Vec<u8>, counts: &Counts) -> Result<(), NoMemory>
     ensures { OnOk result (out.new.items ≡ out.old.items ++ slot_words counts.now) }
 {
