@@ -118,9 +118,9 @@ pub record IsPlaceOf (old new : Reading) (name : Name) (place : ℕ) : Type 0 wh
   pub new_is : new ≡ record old { names = with_name old.names name }
 
 -- a line was taken in, or may not stand there
-abbrev pub IsTaken : Bool → Reading → Option Reading → Type 0
-IsTaken true new read = read ≡ Some new
-IsTaken false new read = read ≡ None
+abbrev pub IsLineTaken : Bool → Reading → Option Reading → Type 0
+IsLineTaken true new read = read ≡ Some new
+IsLineTaken false new read = read ≡ None
 
 -- its lines are those of a script with its names and 256 clients, and the slot is that of their
 -- last `slot` line
@@ -151,6 +151,6 @@ pub record IsBadLine (text : List ℕ) (line : ℕ) : Type 0 where
       ⊎ (line_read reading (slice_index_or (lines_of_script text) (line - 1) []) ≡ None)
 
 -- why a text isn't read
-abbrev pub IsRefused : List ℕ → ScriptRefused → Type 0
-IsRefused text (BadScript line) = IsBadLine text line
-IsRefused text NoMemory = Unit {0}
+abbrev pub IsTextRefused : List ℕ → ScriptRefused → Type 0
+IsTextRefused text (BadScript line) = IsBadLine text line
+IsTextRefused text NoMemory = Unit {0}

@@ -8,7 +8,8 @@ ghost use Rattle.day_run.specs.DayLaws.{AreClients, IsClient};
 ghost use Rattle.day_run.specs.Lines.{texts_at};
 ghost use Rattle.day_run.specs.Sayings.{IsInRange};
 ghost use Rattle.day_run.specs.Scripts.{AreLines, StandsAfter, latest_slot, slot_after};
-ghost use Rattle.day_run.specs.Readings.{IsDraft, IsPlaceOf, IsRefused, IsScript, IsTaken};
+ghost use Rattle.day_run.specs.Readings.{IsDraft, IsLineTaken, IsPlaceOf, IsScript};
+ghost use Rattle.day_run.specs.Readings.{IsTextRefused};
 ghost use Rattle.day_run.specs.Readings.{line_read, name_as, named_in, names_of, nothing_read};
 ghost use Rattle.day_run.specs.Readings.{reading_of, source_in, with_line, with_name, with_saying};
 
@@ -32,7 +33,7 @@ const MAX_LINES: u64 = 1_000_000;
 /// [`ScriptRefused::BadScript`] exactly where a line may not stand there, with the first such line.
 pub fn read_script(alloc: Global, text: &[u8]) -> Result<Script, ScriptRefused>
     ensures script { IfOk result (IsScript text.now) }
-    ensures refused { IfErr result (IsRefused text.now) }
+    ensures refused { IfErr result (IsTextRefused text.now) }
     ensures lines { IfOk result (λ script.
         AreLines (length script.named.items) script.lines.items) }
     ensures clients { IfOk result (λ script. AreClients script.lines.items) }
@@ -165,7 +166,7 @@ impl Draft {
     fn add_saying(&mut self, words: &[&[u8]], saying: Saying) -> Result<bool, NoMemory>
         requires draft { IsDraft self.old }
         requires range { IsInRange saying }
-        ensures taken { IfOk result (λ stands. IsTaken stands (reading_of self.new)
+        ensures taken { IfOk result (λ stands. IsLineTaken stands (reading_of self.new)
             (with_saying (reading_of self.old) (texts_at words.now) saying)) }
         ensures draft { IfOk result (λ stands. stands ≡ true → IsDraft self.new) }
     {
@@ -181,7 +182,7 @@ impl Draft {
     /// Takes in a line's text, and tells whether it may stand there.
     fn read<'a>(&mut self, line: &'a [u8], words: &mut Vec<&'a [u8]>) -> Result<bool, NoMemory>
         requires { IsDraft self.old }
-        ensures taken { IfOk result (λ stands. IsTaken stands (reading_of self.new)
+        ensures taken { IfOk result (λ stands. IsLineTaken stands (reading_of self.new)
             (line_read (reading_of self.old) line.now)) }
         ensures draft { IfOk result (λ stands. stands ≡ true → IsDraft self.new) }
     {
