@@ -1,5 +1,6 @@
 -- What the lines of a script leave of the balance between what is sent and what is booked.
-use Rattle.std.proofs.Common.{◌≡◌, ◌<◌, ◌≤◌, ℕ, zero, suc, true, false, Bool, cond, ◌==◌, List, [], ◌∷◌, ◌++◌, length, map, get_or, replicate, arith, refl, sym}
+use Rattle.std.proofs.Common.{◌≡◌, ◌<◌, ◌≤◌, ℕ, zero, suc, true, false, Bool, cond, ◌==◌, List, []}
+use Rattle.std.proofs.Common.{◌∷◌, ◌++◌, length, map, get_or, replicate, arith, refl, sym}
 use Rattle.std.proofs.Common.{ap, subst, ◌∙◌, inl, inr}
 use Rattle.std.specs.Prelude.{sum_by}
 use Rattle.std.proofs.lemmas.List.{get_or-replicate, length-map, length-set, length-replicate}
@@ -14,14 +15,17 @@ use Rattle.admission.specs.Machine.{Held, State}
 use Rattle.admission.proofs.Runs.{state-push}
 use Rattle.day_run.specs.declared.scripts.Line.{Line}
 use Rattle.day_run.specs.declared.scripts.Line.TheVariants as lines
-use Rattle.day_run.specs.Days.{AreRun, IsAsked, IsHaltedPlay, IsLine, IsLookLine, IsOfferLine, IsPauseLine, IsPlayLine, IsResumeLine, Link, Moment, at_slot}
+use Rattle.day_run.specs.Days.{AreRun, IsAsked, IsHaltedPlay, IsLine, IsLookLine, IsOfferLine}
+use Rattle.day_run.specs.Days.{IsPauseLine, IsPlayLine, IsResumeLine, Link, Moment, at_slot}
 use Rattle.day_run.specs.Days.{booked_up_to, entry_by, first_moment, rest_at, state_at, sent_up_to, with_play}
 use Rattle.day_run.specs.Scripts.{slot_after}
-use Rattle.day_run.specs.ClientStates.{Idle, Playing, Pausing, Paused, Play, Rest, ClientState, after_play, after_sending, sent_by}
+use Rattle.day_run.specs.ClientStates.{Idle, Playing, Pausing, Paused, Play, Rest, ClientState}
+use Rattle.day_run.specs.ClientStates.{after_play, after_sending, sent_by}
 use Rattle.day_run.specs.Balanced.{AreHeldOf, IsBalanced, IsReady, share_of}
 use Rattle.day_run.proofs.Balances.{IsShut, balanced-halt, balanced-play, balanced-same, balanced-sent}
 use Rattle.day_run.proofs.BalancedSlots.{balanced-slot, pausing-share}
-use Rattle.day_run.proofs.Takings.{AskedPlay, ClientOf, LineStep, LinesTaken, StandingLine, StandingLines, first-standing, rest-standing, standing_of}
+use Rattle.day_run.proofs.Takings.{AskedPlay, ClientOf, LineStep, LinesTaken, StandingLine}
+use Rattle.day_run.proofs.Takings.{StandingLines, first-standing, rest-standing, standing_of}
 
 pub ready-kept : (old new : Moment) → new ≡ old → IsReady old → IsReady new
 ready-kept old new kept ready =
@@ -57,15 +61,18 @@ answered {old} {new} (Admitted start) ask client free is ready =
 answered {old} {new} (Overflow over booked asked) ask client free is ready =
     let e = entry_by ask.c (commands.Play old.heard ask.plan) (Overflow over booked asked) in
     ready-made old e is ready.count
-    (balanced-same old.entries old.states old.heard e (ap (λ (s : State). s.held) (state-push old.entries e)) ready.balanced)
+    (balanced-same old.entries old.states old.heard e
+    (ap (λ (s : State). s.held) (state-push old.entries e)) ready.balanced)
 answered {old} {new} Halted ask client free is ready =
     let e = entry_by ask.c (commands.Play old.heard ask.plan) Halted in
     ready-made old e is ready.count
-    (balanced-same old.entries old.states old.heard e (ap (λ (s : State). s.held) (state-push old.entries e)) ready.balanced)
+    (balanced-same old.entries old.states old.heard e
+    (ap (λ (s : State). s.held) (state-push old.entries e)) ready.balanced)
 answered {old} {new} (Looked now at booked) ask client free is ready =
     let e = entry_by ask.c (commands.Play old.heard ask.plan) (Looked now at booked) in
     ready-made old e is ready.count
-    (balanced-same old.entries old.states old.heard e (ap (λ (s : State). s.held) (state-push old.entries e)) ready.balanced)
+    (balanced-same old.entries old.states old.heard e
+    (ap (λ (s : State). s.held) (state-push old.entries e)) ready.balanced)
 
 asked : {link : Link} {c : ℕ} {rest : Rest} {old new : Moment} {text : List ℕ} → c < 256
     → ((t : ℕ) → share_of t (get_or old.states c Idle) ≡ 0)
@@ -73,7 +80,8 @@ asked : {link : Link} {c : ℕ} {rest : Rest} {old new : Moment} {text : List �
 asked {c} {old} {new} {text} client free (inl faulty) ready = ready-kept old new faulty.told.kept ready
 asked {c} {rest} {old} {new} {text} client free (inr planned) ready = elim planned.done [
   | inl full ↦ ready-kept old new full.told.kept ready
-  | inr made ↦ answered made.answer (record { c = c; rest = rest; plan = planned.plan }) client free made.noted.new_is ready
+  | inr made ↦
+      answered made.answer (record { c = c; rest = rest; plan = planned.plan }) client free made.noted.new_is ready
 ]
 
 pub play-ready : {c : ℕ} {state : ClientState} (step : LineStep) (rest : Rest) → ClientOf step.old c state
@@ -102,7 +110,8 @@ paused {c} {play} {old} {new} {text} client at is ready =
     let stop = cut_play play.start play.plan is.keep in
     let rest = record play.rest { run = is.pause.left } in
     let S : ClientState → Type 0 = λ s. IsShut s in
-    let shut : IsShut is.state = subst S (sym is.pause.state_is) (shut-pause (sent_by stop old.heard == stop.keep) stop rest) in
+    let shut : IsShut is.state =
+    subst S (sym is.pause.state_is) (shut-pause (sent_by stop old.heard == stop.keep) stop rest) in
     ready-made old e is.noted.new_is (length-set old.states c is.state ∙ ready.count)
     (balanced-halt c is.keep is.state
     (record { inside = omega (arith, client, ready.count); at = at; balanced = ready.balanced }) shut
@@ -124,7 +133,8 @@ looked : (answer : Answer) (slot : ℕ) (old new : Moment)
 looked answer slot old new is ready =
     let e = entry_by 0 (commands.Look slot) answer in
     ready-made old e is ready.count
-    (balanced-same old.entries old.states old.heard e (ap (λ (s : State). s.held) (state-push old.entries e)) ready.balanced)
+    (balanced-same old.entries old.states old.heard e
+    (ap (λ (s : State). s.held) (state-push old.entries e)) ready.balanced)
 
 look-ready : {link : Link} {slot : ℕ} {old new : Moment} {text : List ℕ} → IsLookLine link slot old new text
     → IsReady old → IsReady new
@@ -149,8 +159,10 @@ pub line-ready : {n : ℕ} (step : LineStep) (line : Line) → StandingLine step
     → IsLine step.link line step.old step.new step.text → IsReady step.old → IsReady step.new
 line-ready step (lines.Play c source buffer delay) standing is ready =
     play-ready step (rest_at step.link source buffer delay) (record { client = standing.client; at = refl }) is ready
-line-ready step (lines.Pause c) standing is ready = pause-ready step (record { client = standing.client; at = refl }) is ready
-line-ready step (lines.Resume c) standing is ready = resume-ready step (record { client = standing.client; at = refl }) is ready
+line-ready step (lines.Pause c) standing is ready =
+    pause-ready step (record { client = standing.client; at = refl }) is ready
+line-ready step (lines.Resume c) standing is ready =
+    resume-ready step (record { client = standing.client; at = refl }) is ready
 line-ready step (lines.Look slot) standing is ready = look-ready is ready
 line-ready step (lines.Slot slot) standing is ready =
     slot-ready step.old step.new slot (omega (arith, standing.stands.0)) is.0 ready

@@ -1,6 +1,7 @@
 -- The clients book what the machine has booked once a slot has come, and at the end of a day; and what
 -- is booked in past slots stays.
-use Rattle.std.proofs.Common.{◌≡◌, ◌<◌, ◌≤◌, ◌+◌, ◌-◌, ◌==◌, ℕ, zero, suc, true, false, Bool, cond, nat_le, List, [], ◌∷◌, ◌++◌, length, map, take, set, get_or}
+use Rattle.std.proofs.Common.{◌≡◌, ◌<◌, ◌≤◌, ◌+◌, ◌-◌, ◌==◌, ℕ, zero, suc, true, false, Bool, cond}
+use Rattle.std.proofs.Common.{nat_le, List, [], ◌∷◌, ◌++◌, length, map, take, set, get_or}
 use Rattle.std.proofs.Common.{sum, Some, arith, refl, sym, ap, subst, ◌∙◌}
 use Rattle.slot_calendar.proofs.Sending.{sent-rises}
 use Rattle.std.specs.Prelude.{sum_by}
@@ -16,7 +17,9 @@ use Rattle.admission.specs.Machine.{Held, admitted_play, booked_in, held_as}
 use Rattle.day_run.specs.Balanced.{AreHeldOf, IsBalanced, IsHeld, share_of}
 use Rattle.day_run.specs.Days.{Moment, at_slot, done_halt, halt_by, halt_entries, last_journal, open_halt}
 use Rattle.day_run.specs.Clients.{after_open}
-use Rattle.day_run.specs.ClientStates.{Idle, Playing, Pausing, Paused, Play, Rest, ClientState, after_play, after_sending, booking_of, is_done, pausing_state}
+use Rattle.day_run.specs.ClientStates.{Idle, Playing, Pausing, Paused, Play, Rest, ClientState}
+use Rattle.day_run.specs.ClientStates.{after_play, after_sending, booking_of, is_done}
+use Rattle.day_run.specs.ClientStates.{pausing_state}
 use Rattle.day_run.specs.ClientStates.{sent_by}
 use Rattle.day_run.proofs.LineSteps.{halt_entries-sent}
 use Rattle.day_run.proofs.Sweeps.{IsSwept, entries-more, swept-all, swept-none, swept-set}
@@ -83,7 +86,8 @@ done-shares : (t slot : ℕ) (play : Play) → slot < t → is_done slot play �
 done-shares t slot play later done =
     let all : (sent_by (booking_of play) slot == total_bytes play.plan) ≡ true =
     (and_parts (nat_le play.start slot) (sent_by (booking_of play) slot == total_bytes play.plan) done).1 in
-    sym (share-done t slot (booking_of play) later (eqb-true (sent_by (booking_of play) slot) (total_bytes play.plan) all))
+    sym (share-done t slot (booking_of play) later
+    (eqb-true (sent_by (booking_of play) slot) (total_bytes play.plan) all))
 
 left-alone : {slot : ℕ} {entries : List Entry} {states : List ClientState} {state : ClientState} (c : ℕ)
     → get_or states c Idle ≡ state → IsBalanced entries states slot
@@ -124,7 +128,8 @@ pub stays-halt : {slot : ℕ} (entries : List Entry) (c keep : ℕ) (play : Play
 stays-halt entries c keep play held kept t past =
     omega (
       arith,
-      booked-halted entries c (record { number = play.number; start = play.start; plan = play.plan; held = held }) keep t,
+      booked-halted entries c
+          (record { number = play.number; start = play.start; plan = play.plan; held = held }) keep t,
       past-share t past kept,
     )
 
@@ -185,7 +190,8 @@ open-state {slot} c entries states (Paused rest) own = kept-step c own.at own.ba
 
 abbrev IsStepOf : ℕ → (ℕ → ClientState → List Entry) → (ClientState → ClientState) → Type 0
 IsStepOf slot halt after =
-    (c : ℕ) (entries : List Entry) (states : List ClientState) (state : ClientState) → BalancedClient slot c entries states state
+    (c : ℕ) (entries : List Entry) (states : List ClientState) (state : ClientState)
+    → BalancedClient slot c entries states state
     → IsStep slot entries (entries ++ halt c state) (set states c (after state))
 
 record Ending (slot n : ℕ) (halt : ℕ → ClientState → List Entry) (after : ClientState → ClientState)
@@ -239,8 +245,10 @@ balanced-slot old slot le balanced =
     let sent = map (after_sending slot) old.states in
     let n = length sent in
     let e = ending {slot = slot} {halt = done_halt slot} {after = after_play slot} {begun = old.entries}
-    {old = sent} {n = n} step-state (omega arith) (balanced-sending old.entries old.states old.heard slot le balanced) in
-    let states : e.states ≡ map (after_play slot) sent = swept-all (after_play slot) n sent e.states (omega arith) e.swept in
+    {old = sent} {n = n} step-state (omega arith)
+    (balanced-sending old.entries old.states old.heard slot le balanced) in
+    let states : e.states ≡ map (after_play slot) sent =
+    swept-all (after_play slot) n sent e.states (omega arith) e.swept in
     let entries : e.entries ≡ old.entries ++ halt_entries (done_halt slot) 0 old.states =
     e.entries_are ∙ ap (λ l. old.entries ++ halt_entries (done_halt slot) 0 l) (take_all n sent (omega arith))
     ∙ ap (λ es. old.entries ++ es) (halt_entries-sent slot 0 old.states) in
@@ -254,7 +262,8 @@ slot-stays old slot t le past balanced =
     let sent = map (after_sending slot) old.states in
     let n = length sent in
     let e = ending {slot = slot} {halt = done_halt slot} {after = after_play slot} {begun = old.entries}
-    {old = sent} {n = n} step-state (omega arith) (balanced-sending old.entries old.states old.heard slot le balanced) in
+    {old = sent} {n = n} step-state (omega arith)
+    (balanced-sending old.entries old.states old.heard slot le balanced) in
     let entries : e.entries ≡ old.entries ++ halt_entries (done_halt slot) 0 old.states =
     e.entries_are ∙ ap (λ l. old.entries ++ halt_entries (done_halt slot) 0 l) (take_all n sent (omega arith))
     ∙ ap (λ es. old.entries ++ es) (halt_entries-sent slot 0 old.states) in

@@ -1,11 +1,13 @@
 -- What is sent in a day's slots is what is booked there.
-use Rattle.std.proofs.Common.{◌≡◌, ◌<◌, ◌≤◌, ◌+◌, ◌-◌, ◌==◌, ℕ, zero, suc, List, [], ◌∷◌, ◌++◌, All, length, map, set, get_or, Some, arith, refl, sym, ap}
+use Rattle.std.proofs.Common.{◌≡◌, ◌<◌, ◌≤◌, ◌+◌, ◌-◌, ◌==◌, ℕ, zero, suc, List, [], ◌∷◌, ◌++◌, All}
+use Rattle.std.proofs.Common.{length, map, set, get_or, Some, arith, refl, sym, ap}
 use Rattle.std.proofs.Common.{subst, ◌∙◌, inl, inr}
 use Rattle.slot_calendar.proofs.Sending.{sent-rises}
 use Rattle.std.specs.Prelude.{sum_by}
 use Rattle.std.specs.List.{range_with_len}
 use Rattle.std.proofs.lemmas.Bool.{cases_Bool, cases_eq, cond-true, cond-false}
-use Rattle.std.proofs.lemmas.List.{get_or-set_other, get_or-set_same, get_or_append_left, get_or-append_right, length-append, length-set, map-append}
+use Rattle.std.proofs.lemmas.List.{get_or-set_other, get_or-set_same, get_or_append_left}
+use Rattle.std.proofs.lemmas.List.{get_or-append_right, length-append, length-set, map-append}
 use Rattle.std.proofs.lemmas.List.Elements.{All-cons, All-head, All-push, All-tail, All-weaker}
 use Rattle.std.proofs.lemmas.List.Sums.{sum_by-append, sum_by-cons, sum_by-set, sum_by_push}
 use Rattle.plan_cert.specs.declared.Segment.{Segment}
@@ -20,7 +22,8 @@ use Rattle.admission.proofs.Halts.{plays-split, split}
 use Rattle.admission.proofs.Runs.{state-push}
 use Rattle.day_run.specs.Balanced.{AreHeldOf, IsBalanced, IsHeld, share_of}
 use Rattle.day_run.specs.Days.{entry_by, halt_by}
-use Rattle.day_run.specs.ClientStates.{Idle, Playing, Pausing, Paused, Play, ClientState, booking_of, growth, sent_between, sent_by}
+use Rattle.day_run.specs.ClientStates.{Idle, Playing, Pausing, Paused, Play, ClientState}
+use Rattle.day_run.specs.ClientStates.{booking_of, growth, sent_between, sent_by}
 use Rattle.day_run.proofs.SlotSums.{sum-slots}
 
 -- ---- plays slot by slot
@@ -94,9 +97,11 @@ sent-booked booked heard (suc n) states each =
     ≡ sum_by booked (range_with_len (heard + 1) n) + booked (heard + n + 1) =
     sum-slots booked (heard + 1) n ∙ ap (λ k. sum_by booked (range_with_len (heard + 1) n) + booked k) g in
     let here : booked (heard + n + 1) ≡ sum_by (share_of (heard + n + 1)) states = each (heard + n + 1) (omega arith) in
-    let whole : sum_by (sent_between heard (heard + n + 1)) states ≡ sum_by booked (range_with_len (heard + 1) (n + 1)) =
+    let whole : sum_by (sent_between heard (heard + n + 1)) states
+    ≡ sum_by booked (range_with_len (heard + 1) (n + 1)) =
     omega (arith, s, b, here, sent-booked booked heard n states each) in
-    ap (λ k. sum_by (sent_between heard k) states) e ∙ whole ∙ sym (ap (λ k. sum_by booked (range_with_len (heard + 1) k)) f)
+    ap (λ k. sum_by (sent_between heard k) states) e ∙ whole
+    ∙ sym (ap (λ k. sum_by booked (range_with_len (heard + 1) k)) f)
 
 pub balanced-sent : (entries : List Entry) (states : List ClientState) (heard slot : ℕ) → heard ≤ slot
     → IsBalanced entries states heard
@@ -126,7 +131,8 @@ maker-more : (entries : List Entry) (e : Entry) (c : ℕ) (play : Play) → IsHe
     ≡ Some (admitted_play play.number play.start play.plan) → IsHeld (entries ++ e ∷ []) c play
 maker-more entries e c play its held = record {
   inside = omega (arith, its.inside, length-append entries (e ∷ []));
-  maker = λ none. ap (λ (x : Entry). x.maker) (get_or_append_left entries (e ∷ []) none play.number its.inside) ∙ its.maker none;
+  maker = λ none. ap (λ (x : Entry). x.maker) (get_or_append_left entries (e ∷ []) none play.number its.inside)
+      ∙ its.maker none;
   held = held;
 }
 
@@ -157,8 +163,10 @@ booked-halted entries c play keep t =
     let F : List Held → ℕ = λ hs. sum_by (share_at t) (map (λ (x : Held). x.play) hs) in
     let s : F (state_after (entries ++ halt_by c number keep)).held ≡ F (with_halted number keep held) =
     ap (λ (x : State). F x.held) (state-push entries (entry_by c (commands.Halt number keep) Halted)) in
-    let new : F (with_halted number keep held) ≡ F parts.before + (share_at t (cut_play start plan keep) + F parts.after) =
-    ap F (parts.becomes keep) ∙ sum-split t parts.before parts.after (halted_play keep (admitted_play number start plan)) in
+    let new : F (with_halted number keep held)
+    ≡ F parts.before + (share_at t (cut_play start plan keep) + F parts.after) =
+    ap F (parts.becomes keep)
+    ∙ sum-split t parts.before parts.after (halted_play keep (admitted_play number start plan)) in
     let old : F held ≡ F parts.before + (share_at t (whole_play start plan) + F parts.after) =
     ap F parts.was ∙ sum-split t parts.before parts.after (admitted_play number start plan) in
     omega (arith, s, new, old)
@@ -197,26 +205,31 @@ fresh-halted number keep n (x ∷ held) all =
     let A : List Held → Type 0 = λ l. All P l in
     elim (cases_Bool (x.number == number)) [
       | inl found ↦
-          subst A (sym (cond-true (x.number == number) (halted_play keep x ∷ held) (x ∷ with_halted number keep held) found))
+          subst A (sym (cond-true (x.number == number) (halted_play keep x ∷ held)
+          (x ∷ with_halted number keep held) found))
           (All-cons P (halted_play keep x) held (All-head P x held all) (All-tail P x held all))
       | inr other ↦
-          subst A (sym (cond-false (x.number == number) (halted_play keep x ∷ held) (x ∷ with_halted number keep held) other))
+          subst A (sym (cond-false (x.number == number) (halted_play keep x ∷ held)
+          (x ∷ with_halted number keep held) other))
           (All-cons P x (with_halted number keep held) (All-head P x held all)
           (fresh-halted number keep n held (All-tail P x held all)))
     ]
 
-fresh-more : (n m : ℕ) (held : List Held) → n ≤ m → All (λ (h : Held). h.number < n) held → All (λ (h : Held). h.number < m) held
+fresh-more : (n m : ℕ) (held : List Held) → n ≤ m → All (λ (h : Held). h.number < n) held
+    → All (λ (h : Held). h.number < m) held
 fresh-more n m held le all =
     All-weaker (λ (h : Held). h.number < n) (λ (h : Held). h.number < m) (λ h less. omega (arith, less, le)) held all
 
 -- a client among balanced ones
-pub record BalancedClient (heard c : ℕ) (entries : List Entry) (states : List ClientState) (state : ClientState) : Type 0 where
+pub record BalancedClient (heard c : ℕ) (entries : List Entry) (states : List ClientState)
+    (state : ClientState) : Type 0 where
   pub inside : c < length states
   pub at : get_or states c Idle ≡ state
   pub balanced : IsBalanced entries states heard
 
 -- a client's play was halted, and the client books what is kept of it
-pub balanced-halt : {entries : List Entry} {states : List ClientState} {heard : ℕ} {play : Play} (c keep : ℕ) (next : ClientState)
+pub balanced-halt : {entries : List Entry} {states : List ClientState} {heard : ℕ} {play : Play} (c keep : ℕ)
+    (next : ClientState)
     → BalancedClient heard c entries states (Playing play) → IsShut next
     → ((t : ℕ) → heard < t → share_of t next ≡ share_at t (cut_play play.start play.plan keep))
     → IsBalanced (entries ++ halt_by c play.number keep) (set states c next) heard
@@ -229,11 +242,13 @@ balanced-halt {entries} {states} {play} c keep next own shut shares =
           let b = booked-halted entries c
           (record { number = play.number; start = play.start; plan = play.plan; held = its.held }) keep t in
           let s = sum_by-set (share_of t) states c next Idle inside in
-          let was : share_of t (get_or states c Idle) ≡ share_at t (whole_play play.start play.plan) = ap (share_of t) at in
+          let was : share_of t (get_or states c Idle) ≡ share_at t (whole_play play.start play.plan) =
+          ap (share_of t) at in
           omega (arith, b, s, was, shares t later, balanced.each t later);
       held = λ d within. elim (cases_eq d c) [
         | inl same ↦
-            let B : ℕ → Type 0 = λ n. AreHeldOf (entries ++ halt_by c play.number keep) n (get_or (set states c next) n Idle) in
+            let B : ℕ → Type 0 =
+            λ n. AreHeldOf (entries ++ halt_by c play.number keep) n (get_or (set states c next) n Idle) in
             let C : ClientState → Type 0 = λ x. AreHeldOf (entries ++ halt_by c play.number keep) c x in
             subst B (sym same)
             (subst C (sym (get_or-set_same states c next Idle inside))
@@ -246,7 +261,8 @@ balanced-halt {entries} {states} {play} c keep next own shut shares =
             (balanced.held d (omega (arith, within, length-set states c next))))
       ];
       fresh =
-          let A : State → Type 0 = λ s. All (λ (h : Held). h.number < length (entries ++ halt_by c play.number keep)) s.held in
+          let A : State → Type 0 =
+          λ s. All (λ (h : Held). h.number < length (entries ++ halt_by c play.number keep)) s.held in
           subst A (sym (state-push entries e))
           (fresh-more (length entries) (length (entries ++ halt_by c play.number keep))
           (with_halted play.number keep (state_after entries).held)
@@ -261,7 +277,8 @@ same-held : (entries : List Entry) (e : Entry) (c : ℕ) (state : ClientState)
     → (state_after (entries ++ e ∷ [])).held ≡ (state_after entries).held
     → AreHeldOf entries c state → AreHeldOf (entries ++ e ∷ []) c state
 same-held entries e c Idle same its = tt
-same-held entries e c (Playing play) same its = maker-more entries e c play its (ap (held_as play.number) same ∙ its.held)
+same-held entries e c (Playing play) same its =
+    maker-more entries e c play its (ap (held_as play.number) same ∙ its.held)
 same-held entries e c (Pausing stop rest) same its = tt
 same-held entries e c (Paused rest) same its = tt
 
@@ -322,7 +339,8 @@ balanced-play {entries} {states} {c} played inside free balanced =
           ∙ ap (λ k. get_or (e ∷ []) k none) z) ∙ maker;
       held =
           let A : ℕ → Type 0 = λ k. All (λ (h : Held). h.number < k) held in
-          ap (held_as play.number) is ∙ found-new play.number play.start play.plan held (subst A (sym number) balanced.fresh);
+          ap (held_as play.number) is
+          ∙ found-new play.number play.start play.plan held (subst A (sym number) balanced.fresh);
     } in
     record {
       each = λ t later.

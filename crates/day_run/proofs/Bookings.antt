@@ -1,5 +1,6 @@
 -- The plays that a book has open for the clients of a day, after one more entry.
-use Rattle.std.proofs.Common.{◌≡◌, ◌<◌, ◌≤◌, ℕ, true, List, [], ◌∷◌, ◌++◌, length, get_or, set, Option, Some, IsSomeAnd, arith, sym, ap, subst, ◌∙◌, inl, inr}
+use Rattle.std.proofs.Common.{◌≡◌, ◌<◌, ◌≤◌, ℕ, true, List, [], ◌∷◌, ◌++◌, length, get_or, set}
+use Rattle.std.proofs.Common.{Option, Some, IsSomeAnd, arith, sym, ap, subst, ◌∙◌, inl, inr}
 use Rattle.std.proofs.lemmas.Bool.{cases_eq}
 use Rattle.std.proofs.lemmas.List.{length-append, get_or_append_left, length-set, get_or-set_same, get_or-set_other}
 use Rattle.plan_cert.specs.Slots.{total_bytes}
@@ -16,18 +17,22 @@ use Rattle.day_run.specs.declared.clients.Client.TheVariants.{Idle, Playing, Pau
 use Rattle.day_run.specs.Clients.{AreBooked, AreGoing, AreUndone, IsBooked, IsGoing, IsOpenOf, IsQuiet, IsUndone}
 
 -- an entry that doesn't halt a play leaves it open
-pub open-push : {xs : List Entry} {c number bytes : ℕ} (e : Entry) → IsOpenOf xs c number bytes → (Halts number e.command → ⊥)
+pub open-push : {xs : List Entry} {c number bytes : ℕ} (e : Entry) → IsOpenOf xs c number bytes
+    → (Halts number e.command → ⊥)
     → IsOpenOf (xs ++ e ∷ []) c number bytes
 open-push {xs} {c} {number} {bytes} e its apart =
     let h = halting (state_after xs) number bytes its.can in
     let still : held_as number (next_of (state_after xs) (length xs) e).held ≡ Some h.held =
     found-next (length xs) e.command e.answer (record { is = h.is; unhalted = apart }) in
-    let P : Option Held → Type 0 = λ o. IsSomeAnd o (λ (h : Held). (h.is_open ≡ true) × (bytes ≤ total_bytes h.play.segments)) in
+    let P : Option Held → Type 0 =
+    λ o. IsSomeAnd o (λ (h : Held). (h.is_open ≡ true) × (bytes ≤ total_bytes h.play.segments)) in
     let C : State → Type 0 = λ s. CanHalt s number bytes in
-    let can : CanHalt (next_of (state_after xs) (length xs) e) number bytes = subst P (sym still) (h.is_open, h.small) in
+    let can : CanHalt (next_of (state_after xs) (length xs) e) number bytes =
+    subst P (sym still) (h.is_open, h.small) in
     record {
       inside = omega (arith, length-append xs (e ∷ []), its.inside);
-      maker = λ none. ap (λ (x : Entry). x.maker) (get_or_append_left xs (e ∷ []) none number its.inside) ∙ its.maker none;
+      maker = λ none. ap (λ (x : Entry). x.maker) (get_or_append_left xs (e ∷ []) none number its.inside)
+          ∙ its.maker none;
       can = subst C (sym (state-push xs e)) can;
     }
 

@@ -20,7 +20,8 @@ words-front (x ∷ front) after none =
 
 pub words-cut : (text front after : List ℕ) → IsSplitAtFirst 32 text front after
     → slice_split is_space text ≡ front ∷ slice_split is_space after
-words-cut text front after cut = ap (slice_split is_space) cut.parts ∙ words-front front after (none_is 32 front cut.first)
+words-cut text front after cut = ap (slice_split is_space) cut.parts
+    ∙ words-front front after (none_is 32 front cut.first)
 
 pub words-none : (text : List ℕ) → All (λ b. b ≢ 32) text → slice_split is_space text ≡ text ∷ []
 words-none [] none = refl
@@ -41,7 +42,8 @@ script-cut text front after cut = ap lines_of_script cut.parts ∙ script-line f
 pub script-last : (c : ℕ) (text : List ℕ) → All (λ b. b ≢ 10) (c ∷ text) → lines_of_script (c ∷ text) ≡ (c ∷ text) ∷ []
 script-last c text none = ap (λ ls. map without_return ls.whole ++ last_line ls.rest) (lines-none (c ∷ text) none)
 
-pub script-rest : (text : List ℕ) → text ≢ [] → All (λ b. b ≢ 10) text → lines_of_script text ≡ text ∷ lines_of_script []
+pub script-rest : (text : List ℕ) → text ≢ [] → All (λ b. b ≢ 10) text
+    → lines_of_script text ≡ text ∷ lines_of_script []
 script-rest [] some none = absurd (some refl)
 script-rest (c ∷ text) some none = script-last c text none
 

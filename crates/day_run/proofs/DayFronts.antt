@@ -1,5 +1,6 @@
 -- The moments of a day, after each of its lines.
-use Rattle.std.proofs.Common.{◌≡◌, ◌≤◌, ◌+◌, ◌-◌, ℕ, zero, suc, List, [], ◌∷◌, ◌++◌, length, take, get_or, refl, sym, ap, subst, ◌∙◌, arith, inl, inr}
+use Rattle.std.proofs.Common.{◌≡◌, ◌≤◌, ◌+◌, ◌-◌, ℕ, zero, suc, List, [], ◌∷◌, ◌++◌, length, take}
+use Rattle.std.proofs.Common.{get_or, refl, sym, ap, subst, ◌∙◌, arith, inl, inr}
 use Rattle.std.specs.Prelude.{sum_by}
 use Rattle.std.specs.List.{range_with_len}
 use Rattle.std.proofs.lemmas.List.{append-nil, append_assoc, get_or-take, length-take, take-take, take_at}
@@ -15,7 +16,8 @@ use Rattle.day_run.specs.declared.scripts.Line.{Line}
 use Rattle.day_run.specs.declared.scripts.Line.TheVariants.{Play, Pause, Resume, Look, Slot, Offer}
 use Rattle.day_run.specs.ClientStates.{ClientState, Idle, Playing, Pausing, Paused, Rest}
 use Rattle.day_run.specs.DayLaws.{AreClients, IsClient, KeepsAfter}
-use Rattle.day_run.specs.Days.{AreRun, IsAsked, IsDay, IsLine, IsLookLine, IsNoted, IsOfferLine, IsPauseLine, IsPlayLine, IsResumeLine, IsTold, Link, Moment}
+use Rattle.day_run.specs.Days.{AreRun, IsAsked, IsDay, IsLine, IsLookLine, IsNoted, IsOfferLine}
+use Rattle.day_run.specs.Days.{IsPauseLine, IsPlayLine, IsResumeLine, IsTold, Link, Moment}
 use Rattle.day_run.specs.Days.{halts_at, last_halts, rest_at, sent_up_to, state_at}
 use Rattle.day_run.specs.Scripts.{AreLines, StandsAfter, latest_slot}
 use Rattle.day_run.proofs.BalancedLines.{day-sent}
@@ -71,7 +73,8 @@ pause-grows link c text (Playing play) is = noted-grows is.noted
 pause-grows link c text (Pausing stop rest) is = told-grows is
 pause-grows link c text (Paused rest) is = told-grows is
 
-look-grows : {link : Link} {slot : ℕ} {old new : Moment} {text : List ℕ} → IsLookLine link slot old new text → Grows old new
+look-grows : {link : Link} {slot : ℕ} {old new : Moment} {text : List ℕ} → IsLookLine link slot old new text
+    → Grows old new
 look-grows (inl full) = told-grows full.told
 look-grows (inr answered) = noted-grows answered.noted
 
@@ -80,16 +83,19 @@ offer-grows : {link : Link} {rest : Rest} {wait : ℕ} {old new : Moment} {text 
 offer-grows (inl faulty) = told-grows faulty.told
 offer-grows (inr offered) = told-grows offered.told
 
-line-grows : (link : Link) (text : List ℕ) {old new : Moment} (line : Line) → IsLine link line old new text → Grows old new
+line-grows : (link : Link) (text : List ℕ) {old new : Moment} (line : Line) → IsLine link line old new text
+    → Grows old new
 line-grows link text {old} (Play client source buffer delay) is =
     play-grows link client (rest_at link source buffer delay) text (state_at old client) is
 line-grows link text {old} (Pause client) is = pause-grows link client text (state_at old client) is
 line-grows link text {old} (Resume client) is = resume-grows link client text (state_at old client) is
 line-grows link text (Look slot) is = look-grows is
-line-grows link text {old} (Slot slot) is = record { more = halts_at old slot; is = ap (λ (m : Moment). m.entries) is.0 }
+line-grows link text {old} (Slot slot) is =
+    record { more = halts_at old slot; is = ap (λ (m : Moment). m.entries) is.0 }
 line-grows link text (Offer client source buffer delay wait) is = offer-grows is
 
-run-grows : (link : Link) (ls : List Line) (ts : List (List ℕ)) {old new : Moment} → AreRun link ls ts old new → Grows old new
+run-grows : (link : Link) (ls : List Line) (ts : List (List ℕ)) {old new : Moment} → AreRun link ls ts old new
+    → Grows old new
 run-grows link [] [] run = grows-same run
 run-grows link [] (t ∷ ts) run = absurd run
 run-grows link (l ∷ ls) [] run = absurd run
@@ -105,7 +111,8 @@ record FrontOf (link : Link) (ls : List Line) (count : ℕ) (old new : Moment) :
 
 run-front : (link : Link) (ls : List Line) (ts : List (List ℕ)) (count : ℕ) {old new : Moment}
     → AreRun link ls ts old new → FrontOf link ls count old new
-run-front link ls ts zero {old} run = record { texts = []; moment = old; front = refl; grows = run-grows link ls ts run }
+run-front link ls ts zero {old} run =
+    record { texts = []; moment = old; front = refl; grows = run-grows link ls ts run }
 run-front link [] [] (suc count) {old} run = record { texts = []; moment = old; front = refl; grows = grows-same run }
 run-front link [] (t ∷ ts) (suc count) run = absurd run
 run-front link (l ∷ ls) [] (suc count) run = absurd run
@@ -128,7 +135,8 @@ lines-take {n} {ls} count are = record {
       let F : List Line → Type 0 = λ front. StandsAfter (latest_slot front) n (get_or (take count ls) i none) in
       let L : Line → Type 0 = λ line. StandsAfter (latest_slot (take i ls)) n line in
       subst F (sym (take-take i count ls (omega (arith, few, below))))
-      (subst L (sym (get_or-take count ls i none (omega (arith, few, below)))) (are.each i none (omega (arith, few, below))));
+      (subst L (sym (get_or-take count ls i none (omega (arith, few, below))))
+      (are.each i none (omega (arith, few, below))));
 }
 
 -- what a legal history begins with is legal
@@ -147,7 +155,8 @@ day-within {link} taken slot legal later =
     let S : ℕ → Type 0 = λ sent. sent ≤ sum_by (capacity_at link.steps) slots in
     let within = (sound-after link.steps taken.moment.entries legal).within in
     subst S (sym (day-sent taken slot later))
-    (sum_by-le-sum_by (booked_in (state_after taken.moment.entries)) (capacity_at link.steps) slots (λ t. within.each t))
+    (sum_by-le-sum_by (booked_in (state_after taken.moment.entries)) (capacity_at link.steps) slots
+    (λ t. within.each t))
 
 pub day-keeps : {link : Link} {n : ℕ} {lines : List Line} {text : List ℕ} {journal : List Entry} (count : ℕ)
     → AreClients lines → AreLines n lines

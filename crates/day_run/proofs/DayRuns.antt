@@ -32,7 +32,8 @@ run-more last (l ∷ lines) (t ∷ texts) old run =
 flat-push : (texts : List (List ℕ)) (text : List ℕ)
     → flat_map (λ (t : List ℕ). t) (texts ++ text ∷ []) ≡ flat_map (λ (t : List ℕ). t) texts ++ text
 flat-push texts text =
-    flat_map-append (λ (t : List ℕ). t) texts (text ∷ []) ∙ ap (λ l. flat_map (λ (t : List ℕ). t) texts ++ l) (append-nil text)
+    flat_map-append (λ (t : List ℕ). t) texts (text ∷ [])
+    ∙ ap (λ l. flat_map (λ (t : List ℕ). t) texts ++ l) (append-nil text)
 
 pub run-push : {link : Link} {lines : List Line} {before after : List ℕ} {old new : Moment} (line : Line)
     → HasRun link lines before old

@@ -1,5 +1,6 @@
 -- A day after one more entry of its journal.
-use Rattle.std.proofs.Common.{◌≡◌, ◌<◌, ◌≤◌, ℕ, max, List, [], ◌∷◌, ◌++◌, length, get_or, set, ◌-◌, true, Option, IsSomeAnd, arith, refl, sym, ap, subst, ◌∙◌}
+use Rattle.std.proofs.Common.{◌≡◌, ◌<◌, ◌≤◌, ℕ, max, List, [], ◌∷◌, ◌++◌, length, get_or, set, ◌-◌}
+use Rattle.std.proofs.Common.{true, Option, IsSomeAnd, arith, refl, sym, ap, subst, ◌∙◌}
 use Rattle.std.proofs.lemmas.List.{length-set, length-append, get_or-append_right}
 use Rattle.plan_cert.specs.declared.Segment.{Segment}
 use Rattle.plan_cert.specs.Slots.{total_bytes}
@@ -16,7 +17,8 @@ use Rattle.day_run.specs.declared.clients.Client.{Client}
 use Rattle.day_run.specs.declared.clients.Client.TheVariants as clients
 use Rattle.day_run.specs.declared.clients.Halt.{Halt as ClientHalt}
 use Rattle.day_run.specs.declared.clients.Play.{Play as ClientPlay}
-use Rattle.day_run.specs.Clients.{AreUndone, IsBooked, IsGoing, IsHaltOf, IsOpenOf, IsPlaying, IsQuiet, IsTimed, IsUndone}
+use Rattle.day_run.specs.Clients.{AreUndone, IsBooked, IsGoing, IsHaltOf, IsOpenOf, IsPlaying}
+use Rattle.day_run.specs.Clients.{IsQuiet, IsTimed, IsUndone}
 use Rattle.day_run.specs.Runners.{IsSoundDay}
 use Rattle.day_run.proofs.Sweeps.{timed-set}
 use Rattle.day_run.proofs.Bookings.{booked-halt, booked-more, booked-set, going-set, undone-set}
@@ -46,7 +48,8 @@ halted-now xs e number keep is =
 pub played-now : (xs : List Entry) (e : Entry) (slot : ℕ) (segments : List Segment) → e.command ≡ Play slot segments
     → (state_after (xs ++ e ∷ [])).now ≤ max (state_after xs).now slot
 played-now xs e slot segments is =
-    let n : (state_after (xs ++ e ∷ [])).now ≡ (next_state (state_after xs) (length xs) (Play slot segments) e.answer).now =
+    let n : (state_after (xs ++ e ∷ [])).now
+    ≡ (next_state (state_after xs) (length xs) (Play slot segments) e.answer).now =
     ap (λ (s : State). s.now) (state-push xs e)
     ∙ ap (λ (x : Command). (next_state (state_after xs) (length xs) x e.answer).now) is in
     omega (arith, n, now-play (state_after xs) (length xs) slot segments e.answer)
@@ -57,14 +60,17 @@ looked-now xs e slot is =
     ap (λ (s : State). s.now) (state-push xs e)
     ∙ ap (λ (x : Command). (next_state (state_after xs) (length xs) x e.answer).now) is
 
-can-fewer : (state : State) (number bytes keep : ℕ) → keep ≤ bytes → CanHalt state number bytes → CanHalt state number keep
+can-fewer : (state : State) (number bytes keep : ℕ) → keep ≤ bytes → CanHalt state number bytes
+    → CanHalt state number keep
 can-fewer state number bytes keep le can =
     let h = halting state number bytes can in
-    let P : Option Held → Type 0 = λ o. IsSomeAnd o (λ (x : Held). (x.is_open ≡ true) × (keep ≤ total_bytes x.play.segments)) in
+    let P : Option Held → Type 0 =
+    λ o. IsSomeAnd o (λ (x : Held). (x.is_open ≡ true) × (keep ≤ total_bytes x.play.segments)) in
     subst P (sym h.is) (h.is_open, omega (arith, le, h.small))
 
 -- a play that may be halted with so many bytes may be with fewer
-fewer : {xs : List Entry} {c number bytes keep : ℕ} → keep ≤ bytes → IsOpenOf xs c number bytes → IsOpenOf xs c number keep
+fewer : {xs : List Entry} {c number bytes keep : ℕ} → keep ≤ bytes → IsOpenOf xs c number bytes
+    → IsOpenOf xs c number keep
 fewer {xs} {c} {number} {bytes} {keep} le its =
     record { inside = its.inside; maker = its.maker; can = can-fewer (state_after xs) number bytes keep le its.can }
 
@@ -119,7 +125,8 @@ day-halted {slot_units} {heard} {xs} {ys} {cs} {c} {number} {keep} {e} client da
 -- an entry was made that halts no play
 pub day-noted : {slot_units heard : ℕ} {xs ys : List Entry} {cs : List Client} (e : Entry)
     → IsSoundDay slot_units heard xs cs → ys ≡ xs ++ e ∷ []
-    → ((number : ℕ) → Halts number e.command → ⊥) → (state_after (xs ++ e ∷ [])).now ≤ heard → IsSoundDay slot_units heard ys cs
+    → ((number : ℕ) → Halts number e.command → ⊥) → (state_after (xs ++ e ∷ [])).now ≤ heard
+    → IsSoundDay slot_units heard ys cs
 day-noted {slot_units} {heard} {xs} {cs} e day y none now =
     let Y : List Entry → Type 0 = λ l. IsSoundDay slot_units heard l cs in
     subst Y (sym y) (record {
@@ -152,7 +159,8 @@ pub record BegunClient (heard : ℕ) (play : ClientPlay) : Type 0 where
   pub timed : IsTimed heard (clients.Playing play)
 
 -- a client's play was admitted
-pub day-played : {slot_units heard : ℕ} {xs ys : List Entry} {cs ds : List Client} {c slot : ℕ} {segments : List Segment}
+pub day-played : {slot_units heard : ℕ} {xs ys : List Entry} {cs ds : List Client} {c slot : ℕ}
+    {segments : List Segment}
     {play : ClientPlay} (e : Entry) → IsSoundDay slot_units heard xs cs
     → PlayEntered heard xs ys cs ds c slot segments play e → c < length cs
     → BegunClient heard play → IsSoundDay slot_units heard ys ds
@@ -160,7 +168,8 @@ day-played {slot_units} {heard} {xs} {ys} {cs} {c} {slot} {segments} {play} e da
     let D : List Client → Type 0 = λ l. IsSoundDay slot_units heard ys l in
     let Y : List Entry → Type 0 = λ l. IsSoundDay slot_units heard l (set cs c (clients.Playing play)) in
     let U : ℕ → Type 0 = λ n. AreUndone n (set cs c (clients.Playing play)) in
-    let none : (n : ℕ) → Halts n e.command → ⊥ = λ n halts. let H : Command → Type 0 = λ x. Halts n x in subst H is halts in
+    let none : (n : ℕ) → Halts n e.command → ⊥ = λ n halts.
+    let H : Command → Type 0 = λ x. Halts n x in subst H is halts in
     let at : (none : Entry) → get_or (xs ++ e ∷ []) play.number none ≡ e = λ none.
     get_or-append_right xs (e ∷ []) play.number play.number none (sym number) (omega arith)
     ∙ ap (λ k. get_or (e ∷ []) k none) (let z : play.number - play.number ≡ 0 = omega arith in z) in
@@ -178,7 +187,8 @@ day-played {slot_units} {heard} {xs} {ys} {cs} {c} {slot} {segments} {play} e da
       going = going-set cs c (clients.Playing play) next.playing day.going;
       undone = subst U (sym (length-set cs c (clients.Playing play)))
           (undone-set c (clients.Playing play) inside next.undone day.undone);
-      booked = booked-set (clients.Playing play) (λ d other. record { apart = λ n halts _. none n halts }) its day.booked;
+      booked = booked-set (clients.Playing play)
+          (λ d other. record { apart = λ n halts _. none n halts }) its day.booked;
       timed = timed-set heard cs c (clients.Playing play) next.timed day.timed;
     }))
   where

@@ -1,5 +1,6 @@
 -- Drawn traces.
-use Rattle.std.proofs.Common.{◌≡◌, ◌≤◌, ◌+◌, ◌-◌, ◌*◌, ℕ, List, [], ◌∷◌, ◌++◌, length, map, sum, get_or, arith, sym, ap, subst, ◌∙◌, inl, inr}
+use Rattle.std.proofs.Common.{◌≡◌, ◌≤◌, ◌+◌, ◌-◌, ◌*◌, ℕ, List, [], ◌∷◌, ◌++◌, length, map, sum}
+use Rattle.std.proofs.Common.{get_or, arith, sym, ap, subst, ◌∙◌, inl, inr}
 use Rattle.std.specs.Global.{Vec}
 use Rattle.std.specs.List.{range_with_len}
 use Rattle.std.proofs.lemmas.Bool.{cases_lt}
@@ -39,6 +40,7 @@ traces-push traces after trace e own are =
             let at : length traces ≡ i = omega (arith, past, inside, length-append traces (trace ∷ [])) in
             let z : i - i ≡ 0 = omega arith in
             subst T (sym
-            (get_or-append_right traces (trace ∷ []) i i none at (omega arith) ∙ ap (λ k. get_or (trace ∷ []) k none) z)) own
+            (get_or-append_right traces (trace ∷ []) i i none at (omega arith)
+            ∙ ap (λ k. get_or (trace ∷ []) k none) z)) own
       ];
     })

@@ -12,9 +12,11 @@ use Rattle.day_run.specs.ClientStates.{Idle, Paused, Pausing, Playing, ClientSta
 
 -- nothing, or a line
 abbrev HasDone : Link → Moment → Moment → List ℕ → Type 0
-HasDone link old new text = IsTold [] old new text ⊎ ((line : Line) × (IsDrawnLine line × IsLine link line old new text))
+HasDone link old new text =
+    IsTold [] old new text ⊎ ((line : Line) × (IsDrawnLine line × IsLine link line old new text))
 
-drawn-done : {link : Link} {client : ℕ} {old new : Moment} {text : List ℕ} (words : ℕ → ℕ) (state : ClientState) → client < 256
+drawn-done : {link : Link} {client : ℕ} {old new : Moment} {text : List ℕ} (words : ℕ → ℕ) (state : ClientState)
+    → client < 256
     → IsDone link words client state old new text → HasDone link old new text
 drawn-done {client} {new} {text} words Idle small is =
     let source = mod_below (words 0) 16 (omega arith) in

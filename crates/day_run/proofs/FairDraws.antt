@@ -29,7 +29,8 @@ sizes-next {left} {more} {words} {k} traces trace m drawn before =
     ∙ sym (map-range_with_len_more (λ i. trace_drawn (after_traces i words)) 0 k k at)
 
 after-more : (words : ℕ → ℕ) (k : ℕ)
-    → after_traces (k + 1) words ≡ words_after (picture_count (after_traces k words)) (words_after 1 (after_traces k words))
+    → after_traces (k + 1) words
+    ≡ words_after (picture_count (after_traces k words)) (words_after 1 (after_traces k words))
 unfolding after_traces
 after-more words k = ap (λ n. after_traces n words) (add-one k)
 

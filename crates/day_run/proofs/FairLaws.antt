@@ -1,5 +1,6 @@
 -- What holds of every large day.
-use Rattle.std.proofs.Common.{◌≡◌, ◌≤◌, ◌+◌, ◌-◌, ◌*◌, ◌%◌, ◌==◌, ℕ, max, Bool, true, false, cond, List, [], ◌∷◌, ◌++◌, length, map, take, arith, refl, sym, ap}
+use Rattle.std.proofs.Common.{◌≡◌, ◌≤◌, ◌+◌, ◌-◌, ◌*◌, ◌%◌, ◌==◌, ℕ, max, Bool, true, false, cond}
+use Rattle.std.proofs.Common.{List, [], ◌∷◌, ◌++◌, length, map, take, arith, refl, sym, ap}
 use Rattle.std.proofs.Common.{subst, ◌∙◌, inl, inr}
 use Rattle.std.specs.Prelude.{sum_by}
 use Rattle.std.specs.List.{fold, range_with_len}
@@ -14,8 +15,10 @@ use Rattle.admission.specs.Machine.{booked_in}
 use Rattle.admission.proofs.Runs.{legal-take}
 use Rattle.admission.proofs.Within.{sound-after}
 use Rattle.day_run.specs.Balanced.{IsReady}
-use Rattle.day_run.specs.Days.{IsAsked, IsPauseLine, IsPlayLine, IsResumeLine, Link, Moment, at_slot, halts_at, last_halts, last_journal, rest_at, state_at}
-use Rattle.day_run.specs.FairDays.{AreTurns, IsDone, IsTurn, Turn, after_turn, at_later, client_of, most_up_to, turn_booked, turn_peak, turn_sent}
+use Rattle.day_run.specs.Days.{IsAsked, IsPauseLine, IsPlayLine, IsResumeLine, Link, Moment}
+use Rattle.day_run.specs.Days.{at_slot, halts_at, last_halts, last_journal, rest_at, state_at}
+use Rattle.day_run.specs.FairDays.{AreTurns, IsDone, IsTurn, Turn, after_turn, at_later, client_of}
+use Rattle.day_run.specs.FairDays.{most_up_to, turn_booked, turn_peak, turn_sent}
 use Rattle.day_run.specs.ClientStates.{Rest, ClientState, Idle, Playing, Pausing, Paused}
 use Rattle.day_run.proofs.BalancedLines.{pause-heard, play-heard, ready-sent, resume-heard, slot-ready}
 use Rattle.day_run.proofs.FairTurns.{done-ready}
@@ -36,7 +39,8 @@ later-heard old later = heard-if (later == 0)
     heard-if true = omega arith
     heard-if false = omega arith
 
-pub turn-ready : (link : Link) (words : ℕ → ℕ) (turn : Turn) → IsTurn link words turn → IsReady turn.old → IsReady turn.new
+pub turn-ready : (link : Link) (words : ℕ → ℕ) (turn : Turn) → IsTurn link words turn → IsReady turn.old
+    → IsReady turn.new
 turn-ready link words turn is ready =
     let R : Moment → Type 0 = λ m. IsReady m in
     let mid : IsReady turn.mid = subst R (sym is.slot) (later-ready turn.old (words 0 % 4) ready) in
@@ -70,7 +74,8 @@ pub record HasGrown (old new : List Entry) : Type 0 where
   pub new_is : new ≡ old ++ made
 
 kept-grown : (old new : Moment) → new ≡ old → HasGrown old.entries new.entries
-kept-grown old new kept = record { made = []; new_is = ap (λ (m : Moment). m.entries) kept ∙ sym (append-nil old.entries) }
+kept-grown old new kept =
+    record { made = []; new_is = ap (λ (m : Moment). m.entries) kept ∙ sym (append-nil old.entries) }
 
 grown-on : (a b c : List Entry) → HasGrown a b → HasGrown b c → HasGrown a c
 grown-on a b c one two =
@@ -111,7 +116,8 @@ pause-grown step c (Paused rest) is = kept-grown step.old step.new is.kept
 done-grown : (step : LineStep) (words : ℕ → ℕ) (c : ℕ) (state : ClientState)
     → IsDone step.link words c state step.old step.new step.text → HasGrown step.old.entries step.new.entries
 done-grown step words c Idle is =
-    play-grown step c (rest_at step.link (words 0 % 16) (16384 + words 1 % 16384) (words 2 % 26)) (state_at step.old c) is
+    play-grown step c (rest_at step.link (words 0 % 16) (16384 + words 1 % 16384) (words 2 % 26))
+    (state_at step.old c) is
 done-grown step words c (Playing play) is = pause-grown step c (state_at step.old c) is
 done-grown step words c (Pausing stop rest) is = kept-grown step.old step.new is.kept
 done-grown step words c (Paused rest) is = resume-grown step c (state_at step.old c) is
@@ -123,10 +129,12 @@ later-grown old later = grown-if (later == 0)
     grown-if true = kept-grown old old refl
     grown-if false = record { made = halts_at old (old.heard + later); new_is = refl }
 
-turn-grown : (link : Link) (words : ℕ → ℕ) (turn : Turn) → IsTurn link words turn → HasGrown turn.old.entries turn.new.entries
+turn-grown : (link : Link) (words : ℕ → ℕ) (turn : Turn) → IsTurn link words turn
+    → HasGrown turn.old.entries turn.new.entries
 turn-grown link words turn is =
     let G : Moment → Type 0 = λ m. HasGrown turn.old.entries m.entries in
-    grown-on turn.old.entries turn.mid.entries turn.new.entries (subst G (sym is.slot) (later-grown turn.old (words 0 % 4)))
+    grown-on turn.old.entries turn.mid.entries turn.new.entries
+    (subst G (sym is.slot) (later-grown turn.old (words 0 % 4)))
     (done-grown (record { link = link; old = turn.mid; new = turn.new; text = turn.text }) (words_after 2 words)
     (client_of words) _ is.done)
 
@@ -139,7 +147,8 @@ turns-grown link words (turn ∷ turns) old new run =
     (turns-grown link (after_turn words turn) turns turn.new new run.1.1))
 
 -- ---- no slot has more than the capacity
-most-of : (f : ℕ → ℕ) (most top : ℕ) (ts : List ℕ) → top ≤ most → ((t : ℕ) → f t ≤ most) → fold max top (map f ts) ≤ most
+most-of : (f : ℕ → ℕ) (most top : ℕ) (ts : List ℕ) → top ≤ most → ((t : ℕ) → f t ≤ most)
+    → fold max top (map f ts) ≤ most
 most-of f most top [] small each = small
 most-of f most top (t ∷ ts) small each = most-of f most (max top (f t)) ts (omega (arith, small, each t)) each
 
@@ -176,30 +185,35 @@ pub record TurnRun (turns : List Turn) : Type 0 where
   pub new : Moment
   pub run : AreTurns link words turns old new
 
-pub turns-within : {steps : List CapacityStep} {journal : List Entry} {most : ℕ} (turns : List Turn) (come : TurnRun turns) (top : ℕ)
+pub turns-within : {steps : List CapacityStep} {journal : List Entry} {most : ℕ} (turns : List Turn) (come : TurnRun turns)
+    (top : ℕ)
     → GrownJournal steps journal come.new most → top ≤ most → fold max top (map turn_peak turns) ≤ most
 turns-within [] come top given small = small
 turns-within {journal} {most} (turn ∷ turns) come top given small =
     let is = run.1.0 in
-    let later : TurnRun turns = record { link = link; words = after_turn words turn; old = turn.new; new = new; run = run.1.1 } in
+    let later : TurnRun turns =
+    record { link = link; words = after_turn words turn; old = turn.new; new = new; run = run.1.1 } in
     let rest = turns-grown link (after_turn words turn) turns turn.new new run.1.1 in
     let from-old =
     grown-on turn.old.entries turn.new.entries journal (turn-grown link words turn is)
     (grown-on turn.new.entries new.entries journal rest given.grown) in
     let here : turn_peak turn ≤ most =
-    moment-within {m = turn.old} turn.mid.heard (record { legal = given.legal; grown = from-old; capacity = given.capacity }) in
+    moment-within {m = turn.old} turn.mid.heard
+    (record { legal = given.legal; grown = from-old; capacity = given.capacity }) in
     turns-within turns later (max top (turn_peak turn)) given (omega (arith, small, here))
   where
     open come use {link, words, new, run}
 
-pub evening-grown : (evening : Moment) (journal : List Entry) → journal ≡ last_journal evening → HasGrown evening.entries journal
+pub evening-grown : (evening : Moment) (journal : List Entry) → journal ≡ last_journal evening
+    → HasGrown evening.entries journal
 evening-grown evening journal is = record { made = last_halts evening; new_is = is }
 
 -- ---- a turn brings at most three slots
 pub done-heard : (step : LineStep) (words : ℕ → ℕ) (c : ℕ) (state : ClientState)
     → IsDone step.link words c state step.old step.new step.text → step.new.heard ≡ step.old.heard
 done-heard step words c Idle is =
-    play-heard step c (rest_at step.link (words 0 % 16) (16384 + words 1 % 16384) (words 2 % 26)) (state_at step.old c) is
+    play-heard step c (rest_at step.link (words 0 % 16) (16384 + words 1 % 16384) (words 2 % 26))
+    (state_at step.old c) is
 done-heard step words c (Playing play) is = pause-heard step c (state_at step.old c) is
 done-heard step words c (Pausing stop rest) is = ap (λ (m : Moment). m.heard) is.kept
 done-heard step words c (Paused rest) is = resume-heard step c (state_at step.old c) is
@@ -233,4 +247,5 @@ turns-ready {new} link words [] run ready =
     subst R (sym run) ready
 turns-ready {new} link words (turn ∷ turns) run ready =
     let R : Moment → Type 0 = λ m. IsReady m in
-    turns-ready link (after_turn words turn) turns run.1.1 (turn-ready link words turn run.1.0 (subst R (sym run.0) ready))
+    turns-ready link (after_turn words turn) turns run.1.1
+    (turn-ready link words turn run.1.0 (subst R (sym run.0) ready))

@@ -1,5 +1,6 @@
 -- Which of the texts that clients are told say that the journal is full.
-use Rattle.std.proofs.Common.{◌≡◌, ◌<◌, ◌+◌, ◌^◌, ℕ, false, ◌&&◌, ◌==◌, List, [], ◌∷◌, ◌++◌, take, length, arith, refl, ap, ◌∙◌, inl, inr, append_assoc}
+use Rattle.std.proofs.Common.{◌≡◌, ◌<◌, ◌+◌, ◌^◌, ℕ, false, ◌&&◌, ◌==◌, List, [], ◌∷◌, ◌++◌, take}
+use Rattle.std.proofs.Common.{length, arith, refl, ap, ◌∙◌, inl, inr, append_assoc}
 use Rattle.std.specs.Prelude.{codes, decimal}
 use Rattle.std.specs.Str.{bytes_eq}
 use Rattle.std.proofs.lemmas.Bool.{cases_Bool, eqb-true}
@@ -41,6 +42,7 @@ entry-other place entry rest small =
     ∙ append_assoc number seat (command ++ (answer ++ (end ++ rest))) in
     ap is_full_line parts ∙ digits-other number (seat ++ (command ++ (answer ++ (end ++ rest)))) numeral.0 numeral.1
 
-pub entries-other : (place : ℕ) (entries : List Entry) → place < 2 ^ 64 → is_full_line (journal_text place entries) ≡ false
+pub entries-other : (place : ℕ) (entries : List Entry) → place < 2 ^ 64
+    → is_full_line (journal_text place entries) ≡ false
 entries-other place [] small = refl
 entries-other place (e ∷ es) small = entry-other place e (journal_text (place + 1) es) small

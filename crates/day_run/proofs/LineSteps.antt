@@ -1,5 +1,6 @@
 -- What the lines of a script make of a day.
-use Rattle.std.proofs.Common.{◌≡◌, ◌<◌, ◌+◌, ℕ, false, List, [], ◌∷◌, ◌++◌, length, map, drop, set, replicate, Result, Ok, Err, IfOk, arith, refl, sym, ap}
+use Rattle.std.proofs.Common.{◌≡◌, ◌<◌, ◌+◌, ℕ, false, List, [], ◌∷◌, ◌++◌, length, map, drop, set}
+use Rattle.std.proofs.Common.{replicate, Result, Ok, Err, IfOk, arith, refl, sym, ap}
 use Rattle.std.proofs.Common.{subst, ◌∙◌}
 use Rattle.std.proofs.lemmas.List.{append-nil, drop_at, ext_get_or, get_or-replicate, length-map}
 use Rattle.plan_cert.specs.declared.Segment.{Segment}
@@ -23,7 +24,8 @@ use Rattle.day_run.specs.declared.runners.Told.TheVariants as tolds
 use Rattle.vod_base.specs.declared.outside.NoMemory.{NoMemory}
 use Rattle.day_run.specs.Clients.{AreIdle, IsPauseOf, IsQuiet, IsTimed, play_of, rest_of, state_of}
 use Rattle.report.specs.JournalTexts.{journal_text}
-use Rattle.day_run.specs.Days.{IsAsked, IsFull, IsNoted, IsPauseLine, IsPlayLine, IsTold, Link, Moment, done_halt, entry_by, halt_entries, with_play}
+use Rattle.day_run.specs.Days.{IsAsked, IsFull, IsNoted, IsPauseLine, IsPlayLine, IsTold, Link}
+use Rattle.day_run.specs.Days.{Moment, done_halt, entry_by, halt_entries, with_play}
 use Rattle.day_run.specs.Prints.{full_text, state_text}
 use Rattle.day_run.specs.Runners.{told_text}
 use Rattle.day_run.specs.ClientStates.{Idle, Playing, Pausing, Paused, Rest, ClientState, after_sending, is_busy}
@@ -41,7 +43,8 @@ told-entry place xs ys e at y =
     ap (λ n. journal_text n (drop n ys)) at ∙ ap (journal_text (length xs)) (more-entries xs ys (e ∷ []) y)
     ∙ append-nil (entry_line (length xs) e)
 
-pub told-full : {link : Link} {places : ℕ} {old new : Moment} (full : Full) → link.limit < places_taken old.entries + places
+pub told-full : {link : Link} {places : ℕ} {old new : Moment} (full : Full)
+    → link.limit < places_taken old.entries + places
     → full.entries ≡ length old.entries → full.open_plays ≡ open_count old.entries → new ≡ old
     → IsFull link places old new (full_text full)
 told-full {old} {new} full above entries opened kept = record {
@@ -85,7 +88,8 @@ pub record HaltEntry (c number keep : ℕ) (e : Entry) : Type 0 where
 -- the entry of a halt was made
 pub noted-halt : {link : Link} {old new : Moment} {place c number keep : ℕ} {e : Entry} {states : List ClientState}
     → IsAnswered link.steps (state_after old.entries) e → EntryMade old new place e states → HaltEntry c number keep e
-    → IsNoted link (entry_by c (commands.Halt number keep) Halted) states old new (told_text new.entries (tolds.Entry place))
+    → IsNoted link (entry_by c (commands.Halt number keep) Halted) states old new
+    (told_text new.entries (tolds.Entry place))
 noted-halt {link} {old} {new} {place} {c} {number} {keep} {e} {states} answered made entry =
     let same : e ≡ entry_by c (commands.Halt number keep) Halted =
     ap (λ n. record { maker = n; command = e.command; answer = e.answer }) maker
@@ -97,15 +101,18 @@ noted-halt {link} {old} {new} {place} {c} {number} {keep} {e} {states} answered 
     open entry use {maker, answer, command}
 
 -- the entry of a play was made
-pub noted-play : {link : Link} {old new : Moment} {place c slot maker : ℕ} {states : List ClientState} (plan : List Segment)
+pub noted-play : {link : Link} {old new : Moment} {place c slot maker : ℕ} {states : List ClientState}
+    (plan : List Segment)
     (answer : Answer) → slot ≡ old.heard → maker ≡ c
     → IsAnswered link.steps (state_after old.entries) (entry_by maker (commands.Play slot plan) answer)
     → EntryMade old new place (entry_by maker (commands.Play slot plan) answer) states
-    → IsNoted link (entry_by c (commands.Play old.heard plan) answer) states old new (told_text new.entries (tolds.Entry place))
+    → IsNoted link (entry_by c (commands.Play old.heard plan) answer) states old new
+    (told_text new.entries (tolds.Entry place))
 noted-play {link} {old} {new} {place} {c} {slot} {maker} {states} plan answer late own answered made =
     let N : Entry → Type 0 = λ x. IsNoted link x states old new (told_text new.entries (tolds.Entry place)) in
     let same : entry_by maker (commands.Play slot plan) answer ≡ entry_by c (commands.Play old.heard plan) answer =
-    ap (λ n. entry_by n (commands.Play slot plan) answer) own ∙ ap (λ n. entry_by c (commands.Play n plan) answer) late in
+    ap (λ n. entry_by n (commands.Play slot plan) answer) own
+    ∙ ap (λ n. entry_by c (commands.Play n plan) answer) late in
     subst N same (noted answered made)
 
 -- a play that was begun: its number, what was to be sent, its plan, and its first slot
@@ -121,7 +128,12 @@ pub play-is : {number : ℕ} {rest : ClientRest} {plan : List Segment} {start : 
     → PlayBegun number rest plan start play
     → play_of play ≡ record { number = number; rest = rest_of rest; plan = plan; start = start }
 play-is {number} {rest} {plan} {start} play begun =
-    ap (λ x. record { number = x; rest = rest_of play.rest; plan = play.plan; start = play.pacer.start }) begun.number_is
+    ap (λ x. record {
+      number = x;
+      rest = rest_of play.rest;
+      plan = play.plan;
+      start = play.pacer.start;
+    }) begun.number_is
     ∙ ap (λ x. record { number = number; rest = rest_of x; plan = play.plan; start = play.pacer.start }) begun.rest_is
     ∙ ap (λ x. record { number = number; rest = rest_of rest; plan = x; start = play.pacer.start }) begun.plan_is
     ∙ ap (λ x. record { number = number; rest = rest_of rest; plan = plan; start = x }) begun.start_is
@@ -144,7 +156,8 @@ states-same c rest plan number Halted not = refl
 states-same c rest plan number (Looked now at booked) not = refl
 
 -- a play was admitted after the slot that was heard
-pub record PlayAdmitted (slot start heard : ℕ) (answer : Answer) (steps : List CapacityStep) (state : State) (plan : List Segment)
+pub record PlayAdmitted (slot start heard : ℕ) (answer : Answer) (steps : List CapacityStep) (state : State)
+    (plan : List Segment)
     : Type 0 where
   pub is : answer ≡ Admitted start
   pub answered : IsAnswer steps state (commands.Play slot plan) answer
@@ -152,7 +165,8 @@ pub record PlayAdmitted (slot start heard : ℕ) (answer : Answer) (steps : List
 
 -- a play that was admitted hasn't come to its first slot
 pub begun-timed : {slot start heard : ℕ} {answer : Answer} {steps : List CapacityStep} {state : State} {plan : List Segment}
-    (play : ClientPlay) → PlayAdmitted slot start heard answer steps state plan → play.pacer.start ≡ start → play.pacer.passed ≡ 0
+    (play : ClientPlay) → PlayAdmitted slot start heard answer steps state plan → play.pacer.start ≡ start
+    → play.pacer.passed ≡ 0
     → IsTimed heard (clients.Playing play)
 begun-timed {slot} {start} {steps} {state} {plan} play admitted at begun =
     let A : Answer → Type 0 = λ a. IsAnswer steps state (commands.Play slot plan) a in
@@ -162,7 +176,8 @@ begun-timed {slot} {start} {steps} {state} {plan} play admitted at begun =
 -- a client pauses
 pub pause-line : {link : Link} {c : ℕ} {halt : Halt} {old new : Moment} {text : List ℕ} (client next : Client)
     → IsPauseOf old.heard halt client next
-    → IsNoted link (entry_by c (commands.Halt halt.number halt.keep) Halted) (set old.states c (state_of next)) old new text
+    → IsNoted link (entry_by c (commands.Halt halt.number halt.keep) Halted)
+    (set old.states c (state_of next)) old new text
     → IsPauseLine link c (state_of client) old new text
 pause-line {c} {halt} {new} {text} clients.Idle next is n = absurd is
 pause-line {link} {c} {halt} {old} {new} {text} (clients.Playing play) next is n =

@@ -1,5 +1,6 @@
 -- A script has one day.
-use Rattle.std.proofs.Common.{◌≡◌, ◌<◌, ◌+◌, ℕ, max, List, [], ◌∷◌, ◌++◌, length, set, arith, refl, sym, ap, subst, ◌∙◌, inl, inr}
+use Rattle.std.proofs.Common.{◌≡◌, ◌<◌, ◌+◌, ℕ, max, List, [], ◌∷◌, ◌++◌, length, set, arith, refl}
+use Rattle.std.proofs.Common.{sym, ap, subst, ◌∙◌, inl, inr}
 use Rattle.wire_curve.proofs.Exact.{HasFault-unique}
 use Rattle.std.specs.Prelude.{flat_map, ◌⊎◌}
 use Rattle.plan_cert.specs.declared.Segment.{Segment}
@@ -24,18 +25,22 @@ use Rattle.admission.proofs.Once.{answer-once}
 use Rattle.day_run.specs.declared.scripts.Line.{Line}
 use Rattle.day_run.specs.declared.scripts.Line.TheVariants as lines
 use Rattle.day_run.specs.DayLaws.{AreClients, IsLink, IsSoundRest, IsSoundClient}
-use Rattle.day_run.specs.Days.{AreRun, IsAnsweredPlay, IsAsked, IsDay, IsFaulty, IsFull, IsHaltedPlay, IsLine, IsLookLine, IsNoted, IsOfferLine, IsPauseLine}
-use Rattle.day_run.specs.Days.{IsPlayLine, IsResumeLine, IsTold, Link, Moment, entry_by, last_journal, last_lines, state_at, with_play}
+use Rattle.day_run.specs.Days.{AreRun, IsAnsweredPlay, IsAsked, IsDay, IsFaulty, IsFull}
+use Rattle.day_run.specs.Days.{IsHaltedPlay, IsLine, IsLookLine, IsNoted, IsOfferLine, IsPauseLine}
+use Rattle.day_run.specs.Days.{IsPlayLine, IsResumeLine, IsTold, Link, Moment, entry_by}
+use Rattle.day_run.specs.Days.{last_journal, last_lines, state_at, with_play}
 use Rattle.day_run.specs.Prints.{fault_text, offer_text}
 use Rattle.report.specs.EntryLines.{entry_line}
 use Rattle.day_run.specs.Scripts.{AreLines}
-use Rattle.day_run.specs.ClientStates.{Idle, Playing, Pausing, Paused, Play, Rest, ClientState, pausing_state, slot_sent}
+use Rattle.day_run.specs.ClientStates.{Idle, Playing, Pausing, Paused, Play, Rest, ClientState}
+use Rattle.day_run.specs.ClientStates.{pausing_state, slot_sent}
 use Rattle.day_run.proofs.BalancedLines.{heard-after, morning-ready}
 use Rattle.day_run.proofs.SoundClients.{IsSound, idle-sound, line-sound, whole-sound}
 use Rattle.day_run.proofs.Takings.{LineStep, StandingLine, StandingLines, first-standing, rest-standing}
 
 -- ---- one fault, one plan
-fault-apart : (sizes : List ℕ) (timing : Timing) (fault : CurveFault) → HasFault sizes timing fault → IsAccepted sizes timing → ⊥
+fault-apart : (sizes : List ℕ) (timing : Timing) (fault : CurveFault) → HasFault sizes timing fault
+    → IsAccepted sizes timing → ⊥
 fault-apart sizes timing NoPictures has accepted = omega (arith, has, accepted.some_picture)
 fault-apart sizes timing (TooManySlots n) has accepted = omega (arith, has.1, has.2, accepted.few_slots)
 fault-apart sizes timing (BufferTooSmall slot used least) has accepted =
@@ -88,13 +93,16 @@ one-asked : {link : Link} {c : ℕ} {rest : Rest} {old new new' : Moment} {text 
     → IsAsked link c rest old new text → IsAsked link c rest old new' text' → IsOne new new' text text'
 one-asked {c} {new} {text} own (inl a) (inl b) = one-fault a b
 one-asked {c} {rest} {new} {text} own (inl a) (inr b) =
-    absurd (fault-apart (rest_sizes rest.sizes rest.run) (timing_of rest.playback rest.run) a.fault a.fault_is b.plan_is.accepted)
+    absurd (fault-apart (rest_sizes rest.sizes rest.run)
+    (timing_of rest.playback rest.run) a.fault a.fault_is b.plan_is.accepted)
 one-asked {c} {rest} {new} {text} own (inr a) (inl b) =
-    absurd (fault-apart (rest_sizes rest.sizes rest.run) (timing_of rest.playback rest.run) b.fault b.fault_is a.plan_is.accepted)
+    absurd (fault-apart (rest_sizes rest.sizes rest.run)
+    (timing_of rest.playback rest.run) b.fault b.fault_is a.plan_is.accepted)
 one-asked {link} {c} {rest} {old} {new} {text} own (inr a) (inr b) =
     let can = (own b.plan_is.accepted.some_picture).can in
     let same : a.plan ≡ b.plan =
-    sending-one rest.sizes rest.playback rest.run b.plan (record { can_play = can; plan_is = b.plan_is }) a.plan a.plan_is in
+    sending-one rest.sizes rest.playback rest.run b.plan
+    (record { can_play = can; plan_is = b.plan_is }) a.plan a.plan_is in
     let D : List Segment → Type 0 = λ p. IsFull link 2 old new text ⊎ IsAnsweredPlay link c rest p old new text in
     one-planned (subst D same a.done) b.done
 
@@ -129,7 +137,8 @@ one-halted {c} {play} {old} {new} {text} a b =
     let y = b.pause.boundary in
     let keep : a.keep ≡ b.keep = omega (arith, x.least _ y.boundary y.after, y.least _ x.boundary x.after) in
     let L : ℕ → Type 0 =
-    λ k. IsLeft play.rest.sizes play.rest.playback play.rest.run play.plan (slot_sent play.start old.heard) k a.pause.left in
+    λ k. IsLeft play.rest.sizes play.rest.playback play.rest.run play.plan
+    (slot_sent play.start old.heard) k a.pause.left in
     let left : a.pause.left ≡ b.pause.left =
     left-one b.pause.left_is (subst L keep a.pause.left_is) in
     let state : a.state ≡ b.state =
@@ -137,7 +146,8 @@ one-halted {c} {play} {old} {new} {text} a b =
     ∙ ap (λ k. pausing_state old.heard (cut_play play.start play.plan k) (record play.rest { run = a.pause.left })) keep
     ∙ ap (λ r. pausing_state old.heard (cut_play play.start play.plan b.keep) (record play.rest { run = r }))
     left ∙ sym b.pause.state_is in
-    one-noted (ap (λ k. entry_by c (commands.Halt play.number k) Halted) keep) (ap (set old.states c) state) a.noted b.noted
+    one-noted (ap (λ k. entry_by c (commands.Halt play.number k) Halted) keep)
+    (ap (set old.states c) state) a.noted b.noted
 
 one-pause : {new new' : Moment} {text text' : List ℕ} (link : Link) (c : ℕ) (state : ClientState) (old : Moment)
     → IsPauseLine link c state old new text
@@ -158,7 +168,8 @@ one-look {link} {slot} {old} {new} {text} (inr a) (inr b) =
     a.answer b.answer a.noted.answered b.noted.answered in
     one-noted (ap (entry_by 0 (commands.Look slot)) same) refl a.noted b.noted
 
-one-found : (one other : Offers) → one.wait ≡ other.wait → one.start ≡ other.start → one.tried ≡ other.tried → one ≡ other
+one-found : (one other : Offers) → one.wait ≡ other.wait → one.start ≡ other.start → one.tried ≡ other.tried
+    → one ≡ other
 one-found one other w s t =
     ap (λ n. record { wait = n; start = one.start; tried = one.tried }) w
     ∙ ap (λ n. record { wait = other.wait; start = n; tried = one.tried }) s
@@ -169,13 +180,16 @@ one-offer : {link : Link} {rest : Rest} {wait : ℕ} {old new new' : Moment} {te
     → IsOfferLine link rest wait old new text → IsOfferLine link rest wait old new' text' → IsOne new new' text text'
 one-offer {new} {text} own (inl a) (inl b) = one-fault a b
 one-offer {rest} {new} {text} own (inl a) (inr b) =
-    absurd (fault-apart (rest_sizes rest.sizes rest.run) (timing_of rest.playback rest.run) a.fault a.fault_is b.plan_is.accepted)
+    absurd (fault-apart (rest_sizes rest.sizes rest.run)
+    (timing_of rest.playback rest.run) a.fault a.fault_is b.plan_is.accepted)
 one-offer {rest} {new} {text} own (inr a) (inl b) =
-    absurd (fault-apart (rest_sizes rest.sizes rest.run) (timing_of rest.playback rest.run) b.fault b.fault_is a.plan_is.accepted)
+    absurd (fault-apart (rest_sizes rest.sizes rest.run)
+    (timing_of rest.playback rest.run) b.fault b.fault_is a.plan_is.accepted)
 one-offer {link} {rest} {old} {new} {text} own (inr a) (inr b) =
     let can = (own b.plan_is.accepted.some_picture).can in
     let same : a.plan ≡ b.plan =
-    sending-one rest.sizes rest.playback rest.run b.plan (record { can_play = can; plan_is = b.plan_is }) a.plan a.plan_is in
+    sending-one rest.sizes rest.playback rest.run b.plan
+    (record { can_play = can; plan_is = b.plan_is }) a.plan a.plan_is in
     let booked = booked_in (state_after old.entries) in
     let first = max (state_after old.entries).now old.heard + 1 in
     let O : List Segment → Type 0 = λ p. IsOffer 0 booked (capacity_at link.steps) p first a.found in
@@ -192,11 +206,13 @@ one-line : {link : Link} {old new new' : Moment} {text text' : List ℕ} (line :
     → IsLine link line old new' text' → IsOne new new' text text'
 one-line {link} {old} {new} {text} (lines.Play c source buffer delay) link-is standing sound a b =
     one-play (record { link = link; c = c; old = old }) (state_at old c) (whole-sound link-is standing.stands) a b
-one-line {link} {old} {new} {text} (lines.Pause c) link-is standing sound a b = one-pause link c (state_at old c) old a b
+one-line {link} {old} {new} {text} (lines.Pause c) link-is standing sound a b =
+    one-pause link c (state_at old c) old a b
 one-line {link} {old} {new} {text} (lines.Resume c) link-is standing sound a b =
     one-resume (record { link = link; c = c; old = old }) (state_at old c) (sound.each c standing.client) a b
 one-line {new} {text} (lines.Look slot) link-is standing sound a b = one-look a b
-one-line {new} {text} (lines.Slot slot) link-is standing sound a b = record { new_is = a.0 ∙ sym b.0; text_is = a.1 ∙ sym b.1 }
+one-line {new} {text} (lines.Slot slot) link-is standing sound a b =
+    record { new_is = a.0 ∙ sym b.0; text_is = a.1 ∙ sym b.1 }
 one-line {new} {text} (lines.Offer c source buffer delay wait) link-is standing sound a b =
     one-offer (whole-sound link-is standing.stands.0) a b
 
@@ -206,7 +222,8 @@ pub record IsOneRun (new new' : Moment) (texts texts' : List (List ℕ)) : Type 
   pub texts_are : texts ≡ texts'
 
 one-run : {link : Link} {texts texts' : List (List ℕ)} {old new new' : Moment} (ls : List Line) → IsLink link
-    → StandingLines old.heard (length link.reels) ls → IsSound old → AreRun link ls texts old new → AreRun link ls texts' old new'
+    → StandingLines old.heard (length link.reels) ls → IsSound old → AreRun link ls texts old new
+    → AreRun link ls texts' old new'
     → IsOneRun new new' texts texts'
 one-run {texts = []} {texts' = []} {new} [] link-is standing sound a b = record { new_is = a ∙ sym b; texts_are = refl }
 one-run {texts = t ∷ ts} {new} [] link-is standing sound a b = absurd a

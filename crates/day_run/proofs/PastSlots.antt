@@ -1,5 +1,6 @@
 -- What is booked in the slots that were heard stays.
-use Rattle.std.proofs.Common.{◌≡◌, ◌<◌, ◌≤◌, ◌+◌, ◌-◌, ◌%◌, ◌==◌, ℕ, zero, suc, max, true, false, Bool, cond, List, [], ◌∷◌, ◌++◌, length, map, get_or, arith}
+use Rattle.std.proofs.Common.{◌≡◌, ◌<◌, ◌≤◌, ◌+◌, ◌-◌, ◌%◌, ◌==◌, ℕ, zero, suc, max, true, false}
+use Rattle.std.proofs.Common.{Bool, cond, List, [], ◌∷◌, ◌++◌, length, map, get_or, arith}
 use Rattle.std.proofs.Common.{refl, sym, ap, subst, ◌∙◌, inl, inr}
 use Rattle.std.specs.Prelude.{sum_by}
 use Rattle.std.specs.List.{fold, range_with_len}
@@ -17,11 +18,14 @@ use Rattle.day_run.specs.declared.scripts.Line.{Line}
 use Rattle.day_run.specs.declared.scripts.Line.TheVariants as lines
 use Rattle.day_run.specs.Balanced.{IsReady, share_of}
 use Rattle.day_run.specs.Clients.{after_open}
-use Rattle.day_run.specs.Days.{IsAsked, IsHaltedPlay, IsLine, IsLookLine, IsOfferLine, IsPauseLine, IsPlayLine, IsResumeLine, Link, Moment, at_slot, entry_by}
+use Rattle.day_run.specs.Days.{IsAsked, IsHaltedPlay, IsLine, IsLookLine, IsOfferLine, IsPauseLine}
+use Rattle.day_run.specs.Days.{IsPlayLine, IsResumeLine, Link, Moment, at_slot, entry_by}
 use Rattle.day_run.specs.Days.{last_journal, first_moment, rest_at, state_at, with_play}
-use Rattle.day_run.specs.FairDays.{AreTurns, IsDone, IsTurn, Turn, after_turn, at_later, client_of, turn_booked, turn_peak}
+use Rattle.day_run.specs.FairDays.{AreTurns, IsDone, IsTurn, Turn, after_turn, at_later, client_of}
+use Rattle.day_run.specs.FairDays.{turn_booked, turn_peak}
 use Rattle.day_run.specs.ClientStates.{Idle, Playing, Pausing, Paused, Play, Rest, ClientState, booking_of, sent_by}
-use Rattle.day_run.proofs.BalancedSlots.{BegunPlay, its-held, last-later, last-stays, play-stays, slot-stays, stays-halt}
+use Rattle.day_run.proofs.BalancedSlots.{BegunPlay, its-held, last-later, last-stays, play-stays}
+use Rattle.day_run.proofs.BalancedSlots.{slot-stays, stays-halt}
 use Rattle.day_run.proofs.BalancedLines.{morning-ready, taken-ready}
 use Rattle.day_run.proofs.Takings.{AskedPlay, ClientOf, LineStep, LinesTaken, NextTaken, StandingLine}
 use Rattle.day_run.proofs.FairLaws.{done-heard, later-heard, turn-ready, later-ready}
@@ -111,7 +115,8 @@ pause-past {c} {state = Playing play} step own ready is = halted-past own.client
 pause-past {c} {state = Pausing stop rest} step own ready is = kept-past step.old step.new is.kept
 pause-past {c} {state = Paused rest} step own ready is = kept-past step.old step.new is.kept
 
-look-past : (link : Link) (slot : ℕ) (old new : Moment) (text : List ℕ) → IsLookLine link slot old new text → Past old new
+look-past : (link : Link) (slot : ℕ) (old new : Moment) (text : List ℕ) → IsLookLine link slot old new text
+    → Past old new
 look-past link slot old new text (inl full) = kept-past old new full.told.kept
 look-past link slot old new text (inr made) =
     let e = entry_by 0 (commands.Look slot) made.answer in
@@ -119,7 +124,8 @@ look-past link slot old new text (inr made) =
   where
     look-held : (answer : Answer) (slot : ℕ) (entries : List Entry)
         → (state_after (entries ++ entry_by 0 (commands.Look slot) answer ∷ [])).held ≡ (state_after entries).held
-    look-held answer slot entries = ap (λ (s : State). s.held) (state-push entries (entry_by 0 (commands.Look slot) answer))
+    look-held answer slot entries =
+        ap (λ (s : State). s.held) (state-push entries (entry_by 0 (commands.Look slot) answer))
 
 offer-past : {link : Link} {rest : Rest} {wait : ℕ} {old new : Moment} {text : List ℕ}
     → IsOfferLine link rest wait old new text → Past old new
@@ -130,16 +136,19 @@ line-past : {n : ℕ} (step : LineStep) (line : Line) → StandingLine step.old.
     → IsLine step.link line step.old step.new step.text → Past step.old step.new
 line-past step (lines.Play c source buffer delay) standing ready is =
     play-past step c (rest_at step.link source buffer delay) (state_at step.old c) is
-line-past step (lines.Pause c) standing ready is = pause-past step (record { client = standing.client; at = refl }) ready is
+line-past step (lines.Pause c) standing ready is =
+    pause-past step (record { client = standing.client; at = refl }) ready is
 line-past step (lines.Resume c) standing ready is = resume-past step c (state_at step.old c) is
 line-past step (lines.Look slot) standing ready is = look-past step.link _ step.old step.new step.text is
 line-past step (lines.Slot slot) standing ready is = λ t past.
     ap (λ (m : Moment). booked_after m.entries t) is.0
-    ∙ slot-stays step.old slot t (omega (arith, standing.stands.0)) (omega (arith, past, standing.stands.0)) ready.balanced
+    ∙ slot-stays step.old slot t (omega (arith, standing.stands.0))
+    (omega (arith, past, standing.stands.0)) ready.balanced
 line-past step (lines.Offer c source buffer delay wait) standing ready is =
     offer-past is
 
-pub day-past : {link : Link} {n : ℕ} (taken : LinesTaken link n) (next : NextTaken link n taken) (t : ℕ) → t ≤ taken.moment.heard
+pub day-past : {link : Link} {n : ℕ} (taken : LinesTaken link n) (next : NextTaken link n taken) (t : ℕ)
+    → t ≤ taken.moment.heard
     → booked_after next.new.entries t ≡ booked_after taken.moment.entries t
 day-past {link} taken next t past =
     let step : LineStep = record { link = link; old = taken.moment; new = next.new; text = next.text } in
@@ -153,7 +162,8 @@ end-past taken t past = last-stays taken.moment t past (taken-ready taken).balan
 done-past : {c : ℕ} {state : ClientState} (step : LineStep) (words : ℕ → ℕ) → ClientOf step.old c state
     → IsReady step.old → IsDone step.link words c state step.old step.new step.text → Past step.old step.new
 done-past {c} {state = Idle} step words own ready is =
-    play-past step c (rest_at step.link (words 0 % 16) (16384 + words 1 % 16384) (words 2 % 26)) (state_at step.old c) is
+    play-past step c (rest_at step.link (words 0 % 16) (16384 + words 1 % 16384) (words 2 % 26))
+    (state_at step.old c) is
 done-past {c} {state = Playing play} step words own ready is =
     pause-past step (record { client = own.client; at = refl }) ready is
 done-past {c} {state = Pausing stop rest} step words own ready is = kept-past step.old step.new is.kept
@@ -169,7 +179,8 @@ later-past old later t ready = past-if (later == 0)
     past-if true past = refl
     past-if false past = slot-stays old (old.heard + later) t (omega arith) past ready.balanced
 
-turn-past : {link : Link} {words : ℕ → ℕ} {turn : Turn} (t : ℕ) → IsTurn link words turn → IsReady turn.old → t ≤ turn.mid.heard
+turn-past : {link : Link} {words : ℕ → ℕ} {turn : Turn} (t : ℕ) → IsTurn link words turn → IsReady turn.old
+    → t ≤ turn.mid.heard
     → booked_after turn.new.entries t ≡ booked_after turn.old.entries t
 turn-past {link} {words} {turn} t is ready past =
     let R : Moment → Type 0 = λ m. IsReady m in
@@ -200,7 +211,8 @@ peak-same f g a (suc n) same =
     let more = peak-same f g a n (λ t before. same t (omega (arith, before))) in
     let both : fold max 0 (map f (range_with_len a (n + 1))) ≡ fold max 0 (map g (range_with_len a (n + 1))) =
     omega (arith, peak-slots f a n (a + n) refl, peak-slots g a n (a + n) refl, here, more) in
-    ap (λ k. fold max 0 (map f (range_with_len a k))) e ∙ both ∙ sym (ap (λ k. fold max 0 (map g (range_with_len a k))) e)
+    ap (λ k. fold max 0 (map f (range_with_len a k))) e ∙ both
+    ∙ sym (ap (λ k. fold max 0 (map g (range_with_len a k))) e)
 
 sum-join : (f : ℕ → ℕ) (a m n : ℕ)
     → sum_by f (range_with_len a (m + n)) ≡ sum_by f (range_with_len a m) + sum_by f (range_with_len (a + m) n)
@@ -278,7 +290,8 @@ turns-past {turns = turn ∷ turns} {old} {booked} link words new run ready same
     let M : Moment → Type 0 = λ m. turn.old.heard ≤ m.heard in
     let later : turn.old.heard ≤ turn.mid.heard = subst M (sym is.slot) (later-heard turn.old (words 0 % 4)) in
     let here : (t : ℕ) → t ≤ turn.mid.heard → booked t ≡ booked_after turn.old.entries t =
-    λ t past. rest.1 t (omega (arith, past, mid)) ∙ turn-past {link = link} {words = words} {turn = turn} t is begun past in
+    λ t past. rest.1 t (omega (arith, past, mid))
+    ∙ turn-past {link = link} {words = words} {turn = turn} t is begun past in
     let m = turn.mid.heard - turn.old.heard in
     let n = new.heard - turn.new.heard in
     let order = rest.0.order in
@@ -322,7 +335,8 @@ fair-past {evening} link words run is ready =
     (λ t past. ap (λ es. booked_after es t) is ∙ last-stays evening t past ready.balanced)).0
 
 -- ---- looks and offers
-pub look-leaves : (link : Link) (slot : ℕ) (old new : Moment) (text : List ℕ) → IsLine link (lines.Look slot) old new text
+pub look-leaves : (link : Link) (slot : ℕ) (old new : Moment) (text : List ℕ)
+    → IsLine link (lines.Look slot) old new text
     → (new.states ≡ old.states) × (new.heard ≡ old.heard) × (state_after new.entries ≡ state_after old.entries)
 look-leaves link slot old new text (inl full) = (
   ap (λ (m : Moment). m.states) full.told.kept,

@@ -1,5 +1,6 @@
 -- What a pause keeps of a play.
-use Rattle.std.proofs.Common.{◌≡◌, ◌<◌, ◌≤◌, ◌+◌, ◌-◌, ◌&&◌, ◌==◌, ℕ, min, false, T, List, Option, None, Some, arith, sym, ap, subst, ◌∙◌, inl, inr}
+use Rattle.std.proofs.Common.{◌≡◌, ◌<◌, ◌≤◌, ◌+◌, ◌-◌, ◌&&◌, ◌==◌, ℕ, min, false, T, List, Option}
+use Rattle.std.proofs.Common.{None, Some, arith, sym, ap, subst, ◌∙◌, inl, inr}
 use Rattle.std.proofs.lemmas.Bool.{cases_lt, lt-ltb}
 use Rattle.std.proofs.Math.Dec.{eqb_refl}
 use Rattle.plan_cert.specs.declared.Segment.{Segment}
@@ -52,7 +53,13 @@ halts {play} (Some last) playing undone passed boundary most =
     let inside : last < total_slots play.plan = elim (cases_lt last (total_slots play.plan)) [
       | inl within ↦ within
       | inr past ↦
-          absurd (omega (arith, sum_through-past play.plan last plan (omega (arith, past)), through, below, playing.whole))
+          absurd (omega (
+            arith,
+            sum_through-past play.plan last plan (omega (arith, past)),
+            through,
+            below,
+            playing.whole,
+          ))
     ] in
     (inside, omega (arith, through, boundary.after), omega (arith, most, playing.whole))
 

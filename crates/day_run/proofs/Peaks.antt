@@ -1,5 +1,6 @@
 -- The most that is booked in one of some slots.
-use Rattle.std.proofs.Common.{◌≡◌, ◌≤◌, ◌+◌, ◌-◌, ℕ, zero, suc, max, List, [], ◌∷◌, ◌++◌, map, arith, refl, sym, ap, ◌∙◌}
+use Rattle.std.proofs.Common.{◌≡◌, ◌≤◌, ◌+◌, ◌-◌, ℕ, zero, suc, max, List, [], ◌∷◌, ◌++◌, map}
+use Rattle.std.proofs.Common.{arith, refl, sym, ap, ◌∙◌}
 use Rattle.std.specs.List.{fold, range_with_len}
 use Rattle.std.specs.Ordering.{nat_cmp, ord_max}
 use Rattle.std.proofs.lemmas.List.FromFn.{map-range_with_len_more}
@@ -10,7 +11,8 @@ peak-push xs x = fold-append max 0 xs (x ∷ [])
 
 pub peak-slots : (f : ℕ → ℕ) (a n j : ℕ) → a + n ≡ j
     → fold max 0 (map f (range_with_len a (n + 1))) ≡ max (fold max 0 (map f (range_with_len a n))) (f j)
-peak-slots f a n j at = ap (fold max 0) (map-range_with_len_more f a n j at) ∙ peak-push (map f (range_with_len a n)) (f j)
+peak-slots f a n j at = ap (fold max 0) (map-range_with_len_more f a n j at)
+    ∙ peak-push (map f (range_with_len a n)) (f j)
 
 -- the greater of two numbers, as `max` of the code tells it
 pub max_by_order : (a b : ℕ) → ord_max nat_cmp a b ≡ max a b
@@ -37,7 +39,8 @@ peak-more f a m (suc d) none =
     let e : m + suc d ≡ m + d + 1 = omega arith in
     let z : f (a + (m + d)) ≡ 0 = none (a + (m + d)) (omega arith) in
     let s : fold max 0 (map f (range_with_len a (m + d + 1)))
-    ≡ max (fold max 0 (map f (range_with_len a (m + d)))) (f (a + (m + d))) = peak-slots f a (m + d) (a + (m + d)) refl in
+    ≡ max (fold max 0 (map f (range_with_len a (m + d)))) (f (a + (m + d))) =
+    peak-slots f a (m + d) (a + (m + d)) refl in
     let k : fold max 0 (map f (range_with_len a (m + d + 1))) ≡ fold max 0 (map f (range_with_len a m)) =
     omega (arith, s, z, peak-more f a m d none) in
     ap (λ n. fold max 0 (map f (range_with_len a n))) e ∙ k

@@ -1,5 +1,6 @@
 -- Films and traces that can be played.
-use Rattle.std.proofs.Common.{◌≡◌, ◌≤◌, ◌+◌, ◌^◌, ◌∷◌, [], ℕ, zero, suc, List, length, sum, take, get_or, Result, Ok, Err, arith, sym, subst, lit≤}
+use Rattle.std.proofs.Common.{◌≡◌, ◌≤◌, ◌+◌, ◌^◌, ◌∷◌, [], ℕ, zero, suc, List, length, sum, take}
+use Rattle.std.proofs.Common.{get_or, Result, Ok, Err, arith, sym, subst, lit≤}
 use Rattle.std.specs.Prelude.{All, OnOk}
 use Rattle.std.specs.Global.{Vec}
 use Rattle.std.proofs.lemmas.List.{length-map, take_more}
@@ -37,7 +38,8 @@ time-fits (suc (suc (suc (suc (suc (suc (suc (suc zero)))))))) low high = record
 time-fits (suc (suc (suc (suc (suc (suc (suc (suc (suc rate))))))))) low high = absurd (omega (arith, high))
 
 -- a film, of a code from 1 to 8, whose units keep to what a trace does
-pub film-playable : {source : Source} (stored : Stored) → source ≡ Film stored → 1 ≤ stored.film.rate → stored.film.rate ≤ 8
+pub film-playable : {source : Source} (stored : Stored) → source ≡ Film stored → 1 ≤ stored.film.rate
+    → stored.film.rate ≤ 8
     → length stored.film.units.items ≤ 4194304 → sum (stored_sizes stored) ≤ 2 ^ 42 → IsPlayable source
 film-playable stored is low high few small =
     let time = time-fits stored.film.rate low high in
@@ -51,7 +53,8 @@ film-playable stored is low high few small =
 trace-fits : {source : Source} (sizes : Vec ℕ) → source ≡ Trace sizes → IsSource source → IsPlayable source
 trace-fits sizes is trace =
     let kept : AreUnitSizes sizes.items = subst IsSource is trace in
-    subst IsPlayable (sym is) (λ units some fit. record { sizes = kept; some_picture_units = some; picture_units_fit = fit })
+    subst IsPlayable (sym is)
+    (λ units some fit. record { sizes = kept; some_picture_units = some; picture_units_fit = fit })
 
 -- a trace whose reel was made
 pub trace-playable : {source : Source} {sizes : Vec ℕ} (r : Result Reel NoMemory) → source ≡ Trace sizes
@@ -60,7 +63,8 @@ trace-playable {sizes} (Ok reel) is trace = trace-fits sizes is trace
 trace-playable (Err e) is trace = tt
 
 -- a link of films and traces that can be played
-pub link-playable : {steps : List CapacityStep} {limit slot_units : ℕ} (sources : List Source) → 1 ≤ slot_units → slot_units ≤ 360000
+pub link-playable : {steps : List CapacityStep} {limit slot_units : ℕ} (sources : List Source) → 1 ≤ slot_units
+    → slot_units ≤ 360000
     → All IsPlayable sources → IsLink (link_of steps limit slot_units sources)
 link-playable {slot_units} sources some fit all = record {
   some_slot_units = some;

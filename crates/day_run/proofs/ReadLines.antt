@@ -1,5 +1,6 @@
 -- A script that is read line by line.
-use Rattle.std.proofs.Common.{◌≡◌, ◌<◌, ◌≤◌, ◌+◌, ◌-◌, ◌⊎◌, ℕ, true, false, ◌&&◌, ◌==◌, not, nat_lt, nat_le, List, [], ◌∷◌, ◌++◌, length, take, drop, get_or}
+use Rattle.std.proofs.Common.{◌≡◌, ◌<◌, ◌≤◌, ◌+◌, ◌-◌, ◌⊎◌, ℕ, true, false, ◌&&◌, ◌==◌, not, nat_lt}
+use Rattle.std.proofs.Common.{nat_le, List, [], ◌∷◌, ◌++◌, length, take, drop, get_or}
 use Rattle.std.proofs.Common.{Option, Some, None, arith, refl, sym, ap, ◌∙◌, add-zero, inl, inr, lit<}
 use Rattle.std.proofs.lemmas.Bool.{and_parts, cases_lt}
 use Rattle.std.proofs.lemmas.Bool.Decides.{nat_tests}
@@ -22,7 +23,8 @@ name-small name i good inside = elim (cases_lt (get_or name i 0) 128) [
   | inr high ↦
       let bytes = and_parts (nat_lt 0 (length name) && nat_le (length name) 64 && not (get_or name 0 0 == 46))
       (list_all is_name_byte name) good in
-      let wrong : true ≡ false = sym bytes.1 ∙ list_all_at is_name_byte name i 0 inside (high-byte (get_or name i 0) high) in
+      let wrong : true ≡ false = sym bytes.1
+      ∙ list_all_at is_name_byte name i 0 inside (high-byte (get_or name i 0) high) in
       absurd (cc wrong)
 ]
 
@@ -46,7 +48,8 @@ next-line lines k line rest h =
     let count : length (drop k lines) ≡ length rest + 1 = ap length h ∙ omega arith in
     let inside : k + 1 ≤ length lines = omega (arith, count, length-drop k lines) in
     let at : get_or (drop k lines) 0 [] ≡ get_or lines (k + 0) [] = get_or-drop k lines 0 [] in
-    let here : get_or lines k [] ≡ line = ap (λ n. get_or lines n []) (sym (add-zero k)) ∙ sym at ∙ ap (λ ls. get_or ls 0 []) h in
+    let here : get_or lines k [] ≡ line = ap (λ n. get_or lines n []) (sym (add-zero k)) ∙ sym at
+    ∙ ap (λ ls. get_or ls 0 []) h in
     let within : k < length lines = omega arith in
     record {
       inside = inside;
@@ -95,6 +98,7 @@ bad-next {text} {line} {k} {r} at few h here =
       before = ap (λ n. lines_read nothing_read (take n (lines_of_script text))) e ∙ h;
       here = elim here [
         | inl many ↦ inl many
-        | inr none ↦ inr (ap (λ n. line_read r (get_or (lines_of_script text) n [])) e ∙ ap (line_read r) at.here ∙ none)
+        | inr none ↦
+            inr (ap (λ n. line_read r (get_or (lines_of_script text) n [])) e ∙ ap (line_read r) at.here ∙ none)
       ];
     }

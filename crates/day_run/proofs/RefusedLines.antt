@@ -1,5 +1,6 @@
 -- A line that is spelled and may not stand there is refused, and so is one whose verb is unknown.
-use Rattle.std.proofs.Common.{◌≡◌, ◌<◌, ◌-◌, ◌+◌, ◌^◌, ◌&&◌, ◌||◌, ℕ, Bool, true, false, nat_lt, List, [], ◌∷◌, ◌++◌, codes}
+use Rattle.std.proofs.Common.{◌≡◌, ◌<◌, ◌-◌, ◌+◌, ◌^◌, ◌&&◌, ◌||◌, ℕ, Bool, true, false, nat_lt}
+use Rattle.std.proofs.Common.{List, [], ◌∷◌, ◌++◌, codes}
 use Rattle.std.proofs.Common.{decimal, length, map, take, get_or, Some, None, arith, refl, ap, ◌∙◌, inl, inr}
 use Rattle.std.specs.Prelude.{◌⊎◌}
 use Rattle.std.specs.List.{list_all}
@@ -15,11 +16,13 @@ use Rattle.day_run.specs.Readings.{IsBadLine, Name, Reading, line_read, lines_re
 use Rattle.day_run.specs.Readings.{with_saying, with_words}
 use Rattle.day_run.specs.Sayings.{asked_in, pair_in, saying_in}
 use Rattle.day_run.specs.Scripts.{latest_slot}
-use Rattle.day_run.specs.Spelling.{AreWritten, IsAskedInWords, IsAsking, IsInWords, MayStand, is_verb, is_word, kind_text}
+use Rattle.day_run.specs.Spelling.{AreWritten, IsAskedInWords, IsAsking, IsInWords, MayStand}
+use Rattle.day_run.specs.Spelling.{is_verb, is_word, kind_text}
 use Rattle.day_run.specs.Spelling.{line_text, name_at, names_used, script_text, words_text, words_of}
 use Rattle.day_run.proofs.SpelledLines.{spaced-line}
 use Rattle.day_run.proofs.SpelledWords.{film-back, read-or, words-plain}
-use Rattle.day_run.proofs.SpelledScripts.{ReadSoFar, asked-of, line-words, read_so_far, text-read, texts-lines, texts-read}
+use Rattle.day_run.proofs.SpelledScripts.{ReadSoFar, asked-of, line-words, read_so_far, text-read}
+use Rattle.day_run.proofs.SpelledScripts.{texts-lines, texts-read}
 
 -- ---- a line that may not stand there
 abbrev IsAskedOr : Name → ℕ → ℕ → ℕ → Type 0
@@ -28,7 +31,8 @@ IsAskedOr name client buffer delay =
     × (asked_in (decimal client) (kind_text name.film) (decimal buffer) (decimal delay)
     ≡ Some (asked-of name client buffer delay))
 
-asked-or : (name : Name) (client buffer delay : ℕ) → IsAskedInWords name client buffer delay → IsAskedOr name client buffer delay
+asked-or : (name : Name) (client buffer delay : ℕ) → IsAskedInWords name client buffer delay
+    → IsAskedOr name client buffer delay
     ⊎ ((IsAsking name client buffer delay → ⊥)
     × (asked_in (decimal client) (kind_text name.film) (decimal buffer) (decimal delay) ≡ None))
 asked-or name client buffer delay own = elim (read-or 0 255 client own.client_small) [
@@ -47,13 +51,14 @@ asked-or name client buffer delay own = elim (read-or 0 255 client own.client_sm
 
 pair-bad : (r : Reading) (names : List Name) (line : Line) → IsInWords names line
     → (MayStand r.slot names line → ⊥) → with_words r (words_of names line) ≡ None
-pair-bad r names (Play client source buffer delay) own not = elim (asked-or (name_at names source) client buffer delay own) [
-  | inr bad ↦ rw bad.1 refl
-  | inl asked ↦ elim (cases_Bool (is_good_name (name_at names source).name)) [
-    | inl good ↦ absurd (not (asked.0 good))
-    | inr ill ↦ rw asked.1 (rw ill refl)
-  ]
-]
+pair-bad r names (Play client source buffer delay) own not =
+    elim (asked-or (name_at names source) client buffer delay own) [
+      | inr bad ↦ rw bad.1 refl
+      | inl asked ↦ elim (cases_Bool (is_good_name (name_at names source).name)) [
+        | inl good ↦ absurd (not (asked.0 good))
+        | inr ill ↦ rw asked.1 (rw ill refl)
+      ]
+    ]
 pair-bad r names (Pause client) own not = elim (read-or 0 255 client own) [
   | inl fits ↦ absurd (not fits.1)
   | inr out ↦ rw out.1 refl
@@ -67,7 +72,8 @@ pair-bad r names (Look slot) own not = elim (read-or 0 (2 ^ 62) slot own) [
   | inr out ↦ rw out.1 refl
 ]
 pair-bad r names (Slot slot) own not = elim (read-or 1 (2 ^ 62) slot own) [
-  | inl fits ↦ rw fits.2 (rw (false_from_ne_true (nat_lt r.slot slot) (λ later. not (ltb-true r.slot slot later, fits.1))) refl)
+  | inl fits ↦
+      rw fits.2 (rw (false_from_ne_true (nat_lt r.slot slot) (λ later. not (ltb-true r.slot slot later, fits.1))) refl)
   | inr out ↦ rw out.1 refl
 ]
 pair-bad r names (Offer client source buffer delay wait) own not =
@@ -146,7 +152,8 @@ first-bad {names} {lines} {line} rest written cut none =
     texts-lines names lines (line ++ 10 ∷ rest) 0 0 written.standing ∙ ap (λ ls. texts ++ ls) cut in
     let count : length texts ≡ length lines = length-map lines (line_text names) in
     let e : length lines + 1 - 1 ≡ length lines = omega arith in
-    let nothing : ReadSoFar = record { names = names; lines = []; k = 0; slot = 0; apart = written.apart; most = omega arith } in
+    let nothing : ReadSoFar =
+    record { names = names; lines = []; k = 0; slot = 0; apart = written.apart; most = omega arith } in
     let read = texts-read nothing lines written.standing in
     record {
       reading = read_so_far names lines (names_used lines) (latest_slot lines);
@@ -157,7 +164,8 @@ first-bad {names} {lines} {line} rest written cut none =
           ∙ ap (λ ls. lines_read nothing_read (take (length lines) ls)) all
           ∙ ap (lines_read nothing_read) (take_at texts (line ∷ lines_of_script rest) (length lines) count) ∙ read;
       here = inr (ap
-          (λ n. line_read (read_so_far names lines (names_used lines) (latest_slot lines)) (get_or (lines_of_script text) n [])) e
+          (λ n. line_read (read_so_far names lines (names_used lines) (latest_slot lines))
+          (get_or (lines_of_script text) n [])) e
           ∙ ap (λ ls. line_read (read_so_far names lines (names_used lines) (latest_slot lines))
           (get_or ls (length lines) [])) all
           ∙ ap (line_read (read_so_far names lines (names_used lines) (latest_slot lines)))
@@ -172,7 +180,8 @@ pub record WrittenScript : Type 0 where
 
 pub range-bad : (script : WrittenScript) (line : Line) (rest : List ℕ) → IsInWords script.names line
     → (MayStand (latest_slot script.lines) script.names line → ⊥)
-    → IsBadLine (script_text script.names script.lines ++ (line_text script.names line ++ 10 ∷ rest)) (length script.lines + 1)
+    → IsBadLine (script_text script.names script.lines ++ (line_text script.names line ++ 10 ∷ rest))
+    (length script.lines + 1)
 range-bad script line rest own not =
     first-bad rest written (spaced-line (words_of names line) rest (words-plain names line own))
     (line-bad (read_so_far names lines (names_used lines) (latest_slot lines)) names line own not)
@@ -193,6 +202,7 @@ pub verb-bad : (script : WrittenScript) (spoken : UnknownVerb) (rest : List ℕ)
 verb-bad script spoken rest =
     let r = read_so_far script.names script.lines (names_used script.lines) (latest_slot script.lines) in
     first-bad rest script.written (spaced-line (verb ∷ words) rest plain)
-    (text-read r verb words some plain ∙ ap (option_and_then (with_saying r (verb ∷ words))) (verb-unknown verb words unknown))
+    (text-read r verb words some plain
+    ∙ ap (option_and_then (with_saying r (verb ∷ words))) (verb-unknown verb words unknown))
   where
     open spoken use {verb, words, plain, some, unknown}

@@ -1,5 +1,6 @@
 -- How the lines of a script end, and that empty ones say nothing.
-use Rattle.std.proofs.Common.{◌≡◌, ◌≢◌, ◌-◌, ◌==◌, ℕ, List, [], ◌∷◌, ◌++◌, All, length, take, get_or, slice_index, Option, Some, None, arith, refl, sym, ap}
+use Rattle.std.proofs.Common.{◌≡◌, ◌≢◌, ◌-◌, ◌==◌, ℕ, List, [], ◌∷◌, ◌++◌, All, length, take}
+use Rattle.std.proofs.Common.{get_or, slice_index, Option, Some, None, arith, refl, sym, ap}
 use Rattle.std.proofs.Common.{◌∙◌, ne_eqb}
 use Rattle.std.specs.Option.{option_and_then}
 use Rattle.std.proofs.lemmas.Bool.{cond-false, cond-true, eq-eqb}
@@ -40,7 +41,8 @@ line-returned line rest none =
 pub line-last : (line : List ℕ) → All (λ b. b ≢ 10) line → line ≢ [] → lines_of_script line ≡ line ∷ []
 line-last line none some = script-rest line some none
 
-then-same : (o : Option Reading) (lines others : List (List ℕ)) → ((r : Reading) → lines_read r lines ≡ lines_read r others)
+then-same : (o : Option Reading) (lines others : List (List ℕ))
+    → ((r : Reading) → lines_read r lines ≡ lines_read r others)
     → option_and_then (λ n. lines_read n lines) o ≡ option_and_then (λ n. lines_read n others) o
 then-same None lines others same = refl
 then-same (Some r) lines others same = same r

@@ -29,7 +29,8 @@ booked-fits more slots = omega arith
 pub sum-slots : (f : ℕ → ℕ) (a n : ℕ) → sum_by f (range_with_len a (n + 1)) ≡ sum_by f (range_with_len a n) + f (a + n)
 sum-slots f a n =
     sym (sum-map f (range_with_len a (n + 1))) ∙ ap sum (map-range_with_len_more f a n (a + n) refl)
-    ∙ sum_by_push (λ x. x) (map f (range_with_len a n)) (f (a + n)) ∙ ap (λ k. k + f (a + n)) (sum-map f (range_with_len a n))
+    ∙ sum_by_push (λ x. x) (map f (range_with_len a n)) (f (a + n))
+    ∙ ap (λ k. k + f (a + n)) (sum-map f (range_with_len a n))
 
 -- slots in which nothing is booked add nothing
 sum-more-slots : (f : ℕ → ℕ) (a m d : ℕ) → ((t : ℕ) → a + m ≤ t → f t ≡ 0)

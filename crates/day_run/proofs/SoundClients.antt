@@ -1,9 +1,11 @@
 -- What holds of the clients after each line.
-use Rattle.std.proofs.Common.{◌≡◌, ◌<◌, ◌≤◌, ◌+◌, ◌-◌, ◌==◌, ◌&&◌, ℕ, true, false, Bool, cond, nat_le, nat_lt, List, [], ◌∷◌, All, length, map, take, drop, set}
+use Rattle.std.proofs.Common.{◌≡◌, ◌<◌, ◌≤◌, ◌+◌, ◌-◌, ◌==◌, ◌&&◌, ℕ, true, false, Bool, cond}
+use Rattle.std.proofs.Common.{nat_le, nat_lt, List, [], ◌∷◌, All, length, map, take, drop, set}
 use Rattle.std.proofs.Common.{get_or, sum, replicate, Option, Some, None, arith, refl, sym, ap, subst, ◌∙◌, inl, inr}
 use Rattle.std.specs.Prelude.{IsSomeAnd, IsTrue}
 use Rattle.std.proofs.lemmas.Bool.{cases_eq, cases_lt, eqb-false, le-leb, ltb-false, ltb-true}
-use Rattle.std.proofs.lemmas.List.{get_or-map, get_or-replicate, get_or-set_other, get_or-set_same, length-map, length-take, take_all}
+use Rattle.std.proofs.lemmas.List.{get_or-map, get_or-replicate, get_or-set_other, get_or-set_same}
+use Rattle.std.proofs.lemmas.List.{length-map, length-take, take_all}
 use Rattle.std.proofs.lemmas.List.Elements.{All-from_get_or}
 use Rattle.plan_cert.specs.declared.Segment.{Segment}
 use Rattle.plan_cert.specs.Slots.{plan_slots, sum_through, total_bytes, total_slots}
@@ -27,13 +29,16 @@ use Rattle.day_run.specs.declared.scripts.Line.{Line}
 use Rattle.day_run.specs.declared.scripts.Line.TheVariants as lines
 use Rattle.day_run.specs.Balanced.{AreHeldOf, IsHeld, IsReady}
 use Rattle.day_run.specs.DayLaws.{IsLink, IsSoundPlay, IsSoundRest, IsSoundClient}
-use Rattle.day_run.specs.Days.{AreRun, IsAsked, IsHaltedPlay, IsLine, IsLookLine, IsOfferLine, IsPauseLine, IsPlayLine, IsResumeLine, Link, Moment, at_slot}
+use Rattle.day_run.specs.Days.{AreRun, IsAsked, IsHaltedPlay, IsLine, IsLookLine, IsOfferLine}
+use Rattle.day_run.specs.Days.{IsPauseLine, IsPlayLine, IsResumeLine, Link, Moment, at_slot}
 use Rattle.day_run.specs.Days.{entry_by, first_moment, rest_at, state_at, with_play}
 use Rattle.day_run.specs.Scripts.{IsWish}
-use Rattle.day_run.specs.ClientStates.{Idle, Playing, Pausing, Paused, IsPause, Play, Rest, ClientState, after_play, after_sending, booking_of, is_done}
+use Rattle.day_run.specs.ClientStates.{Idle, Playing, Pausing, Paused, IsPause, Play, Rest}
+use Rattle.day_run.specs.ClientStates.{ClientState, after_play, after_sending, booking_of, is_done}
 use Rattle.day_run.specs.ClientStates.{no_reel, sent_by, slot_sent}
 use Rattle.day_run.proofs.BalancedLines.{heard-after, line-ready, morning-ready}
-use Rattle.day_run.proofs.Takings.{ClientOf, LineStep, LinesTaken, StandingLine, StandingLines, first-standing, rest-standing, standing_of}
+use Rattle.day_run.proofs.Takings.{ClientOf, LineStep, LinesTaken, StandingLine, StandingLines}
+use Rattle.day_run.proofs.Takings.{first-standing, rest-standing, standing_of}
 
 -- ---- what holds of the clients
 pub record IsSound (m : Moment) : Type 0 where
@@ -49,13 +54,15 @@ record SoundState (heard c : ℕ) (state : ClientState) : Type 0 where
   sound : IsSoundClient heard state
 
 -- the states but one stay
-set-sound : {heard c : ℕ} {state : ClientState} (states : List ClientState) → length states ≡ 256 → SoundState heard c state
+set-sound : {heard c : ℕ} {state : ClientState} (states : List ClientState) → length states ≡ 256
+    → SoundState heard c state
     → AreStates heard states → AreStates heard (set states c state)
 set-sound {heard} {c} {state} states count own each d inside = elim (cases_eq d c) [
   | inl same ↦
       let N : ℕ → Type 0 = λ n. IsSoundClient heard (get_or (set states c state) n Idle) in
       let S : ClientState → Type 0 = λ s. IsSoundClient heard s in
-      subst N (sym same) (subst S (sym (get_or-set_same states c state Idle (omega (arith, own.client, count)))) own.sound)
+      subst N (sym same) (subst S
+      (sym (get_or-set_same states c state Idle (omega (arith, own.client, count)))) own.sound)
   | inr other ↦
       let S : ClientState → Type 0 = λ s. IsSoundClient heard s in
       subst S (sym (get_or-set_other states c d state Idle other)) (each d inside)
@@ -140,7 +147,8 @@ some-left play heard undone begun =
       | inr reached ↦ absurd (apart (omega (arith, reached, sent)))
     ]
 
-sent-through : (play : Play) (heard : ℕ) → play.start ≤ heard → sum_through play.plan (heard - play.start) < total_bytes play.plan
+sent-through : (play : Play) (heard : ℕ) → play.start ≤ heard
+    → sum_through play.plan (heard - play.start) < total_bytes play.plan
     → sent_by (booking_of play) heard ≡ sum_through play.plan (heard - play.start)
 sent-through play heard begun below =
     let e : heard + 1 - play.start ≡ heard - play.start + 1 = omega (arith, begun) in
@@ -179,7 +187,8 @@ pub kept-most : (entries : List Entry) (play : Play) (keep : ℕ)
     → held_as play.number (state_after entries).held ≡ Some (admitted_play play.number play.start play.plan)
     → CanHalt (state_after entries) play.number keep → keep ≤ total_bytes play.plan
 kept-most entries play keep held can =
-    let P : Option Held → Type 0 = λ o. IsSomeAnd o (λ (h : Held). IsTrue h.is_open × (keep ≤ total_bytes h.play.segments)) in
+    let P : Option Held → Type 0 =
+    λ o. IsSomeAnd o (λ (h : Held). IsTrue h.is_open × (keep ≤ total_bytes h.play.segments)) in
     (subst P held can).1
 
 left-sound : {play : Play} {heard keep : ℕ} {state : ClientState} → IsSoundPlay heard play
@@ -209,13 +218,15 @@ halted-states {c} {play} {old} {new} {text} client at sound is =
     let P : ClientState → Type 0 = λ s. IsSoundClient old.heard s in
     let own : IsSoundPlay old.heard play = subst P at (sound.each c client) in
     let H : ClientState → Type 0 = λ s. AreHeldOf old.entries c s in
-    let its : IsHeld old.entries c play = subst H at (sound.ready.balanced.held c (omega (arith, client, sound.ready.count))) in
+    let its : IsHeld old.entries c play =
+    subst H at (sound.ready.balanced.held c (omega (arith, client, sound.ready.count))) in
     let most = kept-most old.entries play is.keep its.held is.noted.answered in
     let rest = left-sound own is.pause most in
     let state : IsSoundClient old.heard is.state =
     subst P (sym is.pause.state_is) (pausing-sound old.heard old.heard _ _ _ rest) in
     let M : Moment → Type 0 = λ m. AreStates m.heard m.states in
-    subst M (sym is.noted.new_is) (set-sound old.states sound.ready.count (record { client = client; sound = state }) sound.each)
+    subst M (sym is.noted.new_is)
+    (set-sound old.states sound.ready.count (record { client = client; sound = state }) sound.each)
 
 -- ---- a slot comes
 done-if : (slot : ℕ) (play : Play) (b : Bool) → is_done slot play ≡ b → IsSoundRest play.rest

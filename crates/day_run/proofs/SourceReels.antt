@@ -31,8 +31,10 @@ pub contents-next : {after : List Reel} (u : ℕ) (next : NextReel after) (sourc
     → map (reel_content u) next.reels ≡ map (source_content u) (take place.index sources)
     → map (reel_content u) after ≡ map (source_content u) (take (place.index + 1) sources)
 contents-next u next sources place own before =
-    ap (map (reel_content u)) a ∙ map-append (reel_content u) reels (reel ∷ []) ∙ ap (λ ts. ts ++ reel_content u reel ∷ []) before
-    ∙ ap (λ t. map (source_content u) (take i sources) ++ t ∷ []) own ∙ sym (map_more (source_content u) sources i none inside)
+    ap (map (reel_content u)) a ∙ map-append (reel_content u) reels (reel ∷ [])
+    ∙ ap (λ ts. ts ++ reel_content u reel ∷ []) before
+    ∙ ap (λ t. map (source_content u) (take i sources) ++ t ∷ []) own
+    ∙ sym (map_more (source_content u) sources i none inside)
   where
     open next use {reels, reel, after_are as a}
     open place use {index as i, none, inside}

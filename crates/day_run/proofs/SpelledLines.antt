@@ -1,5 +1,6 @@
 -- The text of lines and words, cut again at its lines' ends and spaces.
-use Rattle.std.proofs.Common.{◌≡◌, ◌≢◌, ◌<◌, ◌≤◌, ◌-◌, ◌^◌, ◌==◌, ℕ, suc, Bool, true, false, nat_le, List, [], ◌∷◌, ◌++◌, All, decimal, length, get_or}
+use Rattle.std.proofs.Common.{◌≡◌, ◌≢◌, ◌<◌, ◌≤◌, ◌-◌, ◌^◌, ◌==◌, ℕ, suc, Bool, true, false, nat_le}
+use Rattle.std.proofs.Common.{List, [], ◌∷◌, ◌++◌, All, decimal, length, get_or}
 use Rattle.std.proofs.Common.{slice_index, arith, refl, ap, ◌∙◌, ne_eqb, inl, inr}
 use Rattle.std.specs.List.{list_all, slice_split}
 use Rattle.std.specs.Char.{is_ascii_digit}
@@ -88,5 +89,6 @@ pub spaced-line : (words : List (List ℕ)) (rest : List ℕ) → list_all is_wo
 spaced-line words rest plain =
     let line = words_text words in
     let high = spaced-bytes words plain in
-    script-line line rest (All-weaker (λ b. 32 ≤ b) (λ b. b ≢ 10) (λ b h same. absurd (omega (arith, h, same))) line high)
+    script-line line rest
+    (All-weaker (λ b. 32 ≤ b) (λ b. b ≢ 10) (λ b h same. absurd (omega (arith, h, same))) line high)
     ∙ ap (λ l. l ∷ lines_of_script rest) (no-return line high)

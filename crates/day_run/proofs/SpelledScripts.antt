@@ -1,13 +1,16 @@
 -- Lines that are spelled are read back, and the script that they make.
-use Rattle.std.proofs.Common.{◌≡◌, ◌≢◌, ◌<◌, ◌≤◌, ◌+◌, ◌^◌, ◌==◌, ℕ, max, Bool, true, false, nat_lt, List, [], ◌∷◌, ◌++◌, codes}
+use Rattle.std.proofs.Common.{◌≡◌, ◌≢◌, ◌<◌, ◌≤◌, ◌+◌, ◌^◌, ◌==◌, ℕ, max, Bool, true, false, nat_lt}
+use Rattle.std.proofs.Common.{List, [], ◌∷◌, ◌++◌, codes}
 use Rattle.std.proofs.Common.{decimal, length, map, take, get_or, Some, None, arith, refl, sym, ap, ◌∙◌, inl, inr}
 use Rattle.std.specs.List.{fold, list_all, slice_split}
 use Rattle.std.specs.Option.{option_and_then}
 use Rattle.std.specs.Bool.{beq}
 use Rattle.std.specs.Str.{bytes_eq}
-use Rattle.std.proofs.lemmas.Bool.{and_from, and_parts, cases_lt, cond-false, cond-true, false_from_ne_true, lt-ltb, ltb-true}
+use Rattle.std.proofs.lemmas.Bool.{and_from, and_parts, cases_lt, cond-false, cond-true}
+use Rattle.std.proofs.lemmas.Bool.{false_from_ne_true, lt-ltb, ltb-true}
 use Rattle.std.proofs.lemmas.Bool.{ne_eqb}
-use Rattle.std.proofs.lemmas.List.{append_assoc, append-nil, get_or-take, get_or_past, length-map, length-take-le, take_all}
+use Rattle.std.proofs.lemmas.List.{append_assoc, append-nil, get_or-take, get_or_past, length-map}
+use Rattle.std.proofs.lemmas.List.{length-take-le, take_all}
 use Rattle.std.proofs.lemmas.List.{take_more}
 use Rattle.std.proofs.lemmas.List.Sums.{position_or_len_is}
 use Rattle.std.proofs.lemmas.Slice.Eq.{bytes_eq-Decides}
@@ -17,11 +20,13 @@ use Rattle.day_run.specs.declared.scripts.Line.TheVariants.{Play, Pause, Resume,
 use Rattle.day_run.specs.declared.sayings.Asked.{Asked}
 use Rattle.day_run.specs.Lines.{is_space, lines_of_script}
 use Rattle.day_run.specs.declared.scripts.Script.{Script}
-use Rattle.day_run.specs.Readings.{IsScript, Name, Reading, is_name, line_read, lines_read, names_of, nothing_read, name_as, source_in, with_name}
+use Rattle.day_run.specs.Readings.{IsScript, Name, Reading, is_name, line_read, lines_read}
+use Rattle.day_run.specs.Readings.{names_of, nothing_read, name_as, source_in, with_name}
 use Rattle.day_run.specs.Readings.{with_named, with_words}
 use Rattle.day_run.specs.Sayings.{asked_in}
 use Rattle.day_run.specs.Scripts.{latest_slot, slot_after}
-use Rattle.day_run.specs.Spelling.{AreStanding, AreWritten, IsAsking, IsInWords, IsNextName, MayStand, asked_words, is_word, kind_text}
+use Rattle.day_run.specs.Spelling.{AreStanding, AreWritten, IsAsking, IsInWords, IsNextName}
+use Rattle.day_run.specs.Spelling.{MayStand, asked_words, is_word, kind_text}
 use Rattle.day_run.specs.Spelling.{line_text, name_at, names_after, names_used, script_text, words_text, words_of}
 use Rattle.day_run.proofs.SpelledLines.{spaced-line, spaced-split}
 use Rattle.day_run.proofs.SpelledWords.{film-back, in-words, number-back, words-plain}
@@ -41,7 +46,8 @@ abbrev pub asked-of : Name → ℕ → ℕ → ℕ → Asked
 asked-of name client buffer delay = record { client = client; film = name.film; buffer = buffer; delay = delay }
 
 asked-back : (name : Name) (client buffer delay : ℕ) → IsAsking name client buffer delay
-    → asked_in (decimal client) (kind_text name.film) (decimal buffer) (decimal delay) ≡ Some (asked-of name client buffer delay)
+    → asked_in (decimal client) (kind_text name.film) (decimal buffer) (decimal delay)
+    ≡ Some (asked-of name client buffer delay)
 asked-back name client buffer delay may =
     let c = number-back 0 255 client (omega (arith, may.client_fits)) (omega arith) may.client_fits in
     let b = number-back 1 (2 ^ 42) buffer (omega (arith, may.buffer_fits)) may.some_buffer may.buffer_fits in
@@ -84,7 +90,8 @@ no-name names source good = elim (cases_lt source (length names)) [
       absurd (let no : ⊥ = cc none in no)
 ]
 
-source-at : {source : ℕ} (names : List Name) (k : ℕ) → AreApart names → source ≤ k → k ≤ length names → source < length names
+source-at : {source : ℕ} (names : List Name) (k : ℕ) → AreApart names → source ≤ k → k ≤ length names
+    → source < length names
     → source_in (take k names) (name_at names source) ≡ source
 source-at {source} names k apart next most inside =
     let none = name_as false [] in
@@ -92,7 +99,8 @@ source-at {source} names k apart next most inside =
     let count : length (take k names) ≡ k = length-take-le k names most in
     position_or_len_is (is_name name) (take k names) source none (omega (arith, count, next))
     (λ j before.
-    let at : get_or (take k names) j none ≡ name_at names j = get_or-take k names j none (omega (arith, before, next)) in
+    let at : get_or (take k names) j none ≡ name_at names j =
+    get_or-take k names j none (omega (arith, before, next)) in
     ap (is_name name) at
     ∙ false_from_ne_true (is_name name (name_at names j))
     (λ same. absurd (apart j source before inside (sym (name-is name (name_at names j) same)))))
@@ -107,14 +115,16 @@ names-at {source} names k next most inside at =
     elim (cases_lt source k) [
       | inl known ↦
           let same : max k (source + 1) ≡ k = omega (arith, known) in
-          cond-true (nat_lt (source_in (take k names) name) (length (take k names))) (take k names) (take k names ++ name ∷ [])
+          cond-true (nat_lt (source_in (take k names) name) (length (take k names))) (take k names)
+          (take k names ++ name ∷ [])
           (lt-ltb (source_in (take k names) name) (length (take k names)) (omega (arith, at, count, known)))
           ∙ ap (λ n. take n names) (sym same)
       | inr new ↦
           let here : source ≡ k = omega (arith, next, new) in
           let more : k + 1 ≡ max k (source + 1) = omega (arith, here) in
           let within : k < length names = omega (arith, here, inside) in
-          cond-false (nat_lt (source_in (take k names) name) (length (take k names))) (take k names) (take k names ++ name ∷ [])
+          cond-false (nat_lt (source_in (take k names) name) (length (take k names))) (take k names)
+          (take k names ++ name ∷ [])
           (false_from_ne_true (nat_lt (source_in (take k names) name) (length (take k names)))
           (λ less. absurd
           (omega (arith, ltb-true (source_in (take k names) name) (length (take k names)) less, at, count, here))))
@@ -169,16 +179,19 @@ line-words r names (Play client source buffer delay) own =
     text-read r (codes "play") (asked_words (name_at names source) client buffer delay [])
     (line-some names (Play client source buffer delay)) (words-plain names (Play client source buffer delay) own)
 line-words r names (Pause client) own =
-    text-read r (codes "pause") (decimal client ∷ []) (line-some names (Pause client)) (words-plain names (Pause client) own)
+    text-read r (codes "pause") (decimal client ∷ []) (line-some names (Pause client))
+    (words-plain names (Pause client) own)
 line-words r names (Resume client) own =
-    text-read r (codes "resume") (decimal client ∷ []) (line-some names (Resume client)) (words-plain names (Resume client) own)
+    text-read r (codes "resume") (decimal client ∷ []) (line-some names (Resume client))
+    (words-plain names (Resume client) own)
 line-words r names (Look slot) own =
     text-read r (codes "look") (decimal slot ∷ []) (line-some names (Look slot)) (words-plain names (Look slot) own)
 line-words r names (Slot slot) own =
     text-read r (codes "slot") (decimal slot ∷ []) (line-some names (Slot slot)) (words-plain names (Slot slot) own)
 line-words r names (Offer client source buffer delay wait) own =
     text-read r (codes "offer") (asked_words (name_at names source) client buffer delay (decimal wait ∷ []))
-    (line-some names (Offer client source buffer delay wait)) (words-plain names (Offer client source buffer delay wait) own)
+    (line-some names (Offer client source buffer delay wait))
+    (words-plain names (Offer client source buffer delay wait) own)
 
 line-back : (read : ReadSoFar) (line : Line) → IsNextName read.k line → MayStand read.slot read.names line
     → with_words (reading_of read) (words_of read.names line)
@@ -191,25 +204,30 @@ line-back read (Pause client) next may = rw (number-back 0 255 client (omega (ar
 line-back read (Resume client) next may = rw (number-back 0 255 client (omega (arith, may)) (omega arith) may) refl
 line-back read (Look slot) next may = rw (number-back 0 (2 ^ 62) slot (omega (arith, may)) (omega arith) may) refl
 line-back read (Slot slot) next may =
-    rw (number-back 1 (2 ^ 62) slot (omega (arith, may.1)) (omega (arith, may.0)) may.1) (rw (lt-ltb read.slot slot may.0) refl)
+    rw (number-back 1 (2 ^ 62) slot (omega (arith, may.1)) (omega (arith, may.0)) may.1)
+    (rw (lt-ltb read.slot slot may.0) refl)
 line-back read (Offer client source buffer delay wait) next may =
     let name = name_at read.names source in
-    rw (asked-back name client buffer delay may.0) (rw (number-back 0 255 wait (omega (arith, may.1)) (omega arith) may.1)
+    rw (asked-back name client buffer delay may.0)
+    (rw (number-back 0 255 wait (omega (arith, may.1)) (omega arith) may.1)
     (named-read read source (λ s. Offer client s buffer delay wait) next may.0.good))
 
 -- ---- lines
 count-after : (names : List Name) (k heard : ℕ) (line : Line) → MayStand heard names line → k ≤ length names
     → names_after k line ≤ length names
-count-after names k heard (Play client source buffer delay) may most = omega (arith, most, no-name names source may.good)
+count-after names k heard (Play client source buffer delay) may most =
+    omega (arith, most, no-name names source may.good)
 count-after names k heard (Pause client) may most = most
 count-after names k heard (Resume client) may most = most
 count-after names k heard (Look slot) may most = most
 count-after names k heard (Slot slot) may most = most
-count-after names k heard (Offer client source buffer delay wait) may most = omega (arith, most, no-name names source may.0.good)
+count-after names k heard (Offer client source buffer delay wait) may most =
+    omega (arith, most, no-name names source may.0.good)
 
 pub texts-read : (read : ReadSoFar) (lines : List Line) → AreStanding read.names read.k read.slot lines
     → lines_read (reading_of read) (map (line_text read.names) lines)
-    ≡ Some (read_so_far read.names (read.lines ++ lines) (fold names_after read.k lines) (fold slot_after read.slot lines))
+    ≡ Some (read_so_far read.names (read.lines ++ lines) (fold names_after read.k lines)
+    (fold slot_after read.slot lines))
 texts-read read [] standing = ap (λ ls. Some (read_so_far read.names ls read.k read.slot)) (sym (append-nil read.lines))
 texts-read read (line ∷ rest) standing =
     let here = line-words (reading_of read) names line (in-words slot names line standing.1)
@@ -231,14 +249,16 @@ texts-read read (line ∷ rest) standing =
     open read use {names, lines, k, slot, apart, most}
 
 -- the lines of a script's text, and of what stands after it
-pub texts-lines : (names : List Name) (lines : List Line) (rest : List ℕ) (k heard : ℕ) → AreStanding names k heard lines
+pub texts-lines : (names : List Name) (lines : List Line) (rest : List ℕ) (k heard : ℕ)
+    → AreStanding names k heard lines
     → lines_of_script (script_text names lines ++ rest) ≡ map (line_text names) lines ++ lines_of_script rest
 texts-lines names [] rest k heard standing = refl
 texts-lines names (line ∷ lines) rest k heard standing =
     ap lines_of_script (append_assoc (line_text names line) (10 ∷ script_text names lines) rest)
     ∙ spaced-line (words_of names line) (script_text names lines ++ rest)
     (words-plain names line (in-words heard names line standing.1))
-    ∙ ap (λ ls. line_text names line ∷ ls) (texts-lines names lines rest (names_after k line) (slot_after heard line) standing.2)
+    ∙ ap (λ ls. line_text names line ∷ ls)
+    (texts-lines names lines rest (names_after k line) (slot_after heard line) standing.2)
 
 pub script-back : (script : Script) → AreWritten (names_of script.named.items) script.lines.items
     → names_used script.lines.items ≡ length (names_of script.named.items)
@@ -250,7 +270,8 @@ script-back script written used =
     let all : lines_of_script (script_text names lines) ≡ map (line_text names) lines =
     ap lines_of_script (sym (append-nil (script_text names lines)))
     ∙ texts-lines names lines [] 0 0 written.standing ∙ append-nil (map (line_text names) lines) in
-    let nothing : ReadSoFar = record { names = names; lines = []; k = 0; slot = 0; apart = written.apart; most = omega arith } in
+    let nothing : ReadSoFar =
+    record { names = names; lines = []; k = 0; slot = 0; apart = written.apart; most = omega arith } in
     let read = texts-read nothing lines written.standing in
     record {
       few = omega (arith, ap length all, length-map lines (line_text names), written.few);

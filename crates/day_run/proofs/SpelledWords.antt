@@ -3,7 +3,8 @@ use Rattle.std.proofs.Common.{◌≡◌, ◌<◌, ◌≤◌, ◌^◌, ◌&&◌, 
 use Rattle.std.proofs.Common.{decimal, Some, None, arith, refl, ap, ◌∙◌, inl, inr}
 use Rattle.std.specs.Prelude.{◌⊎◌}
 use Rattle.std.specs.List.{list_all}
-use Rattle.std.proofs.lemmas.Bool.{and_from, and_parts, cases_lt, cond-false, cond-true, false_from_ne_true, le-leb, leb-true}
+use Rattle.std.proofs.lemmas.Bool.{and_from, and_parts, cases_lt, cond-false, cond-true}
+use Rattle.std.proofs.lemmas.Bool.{false_from_ne_true, le-leb, leb-true}
 use Rattle.vod_base.proofs.Written.{decimal_read}
 use Rattle.day_run.specs.declared.scripts.Line.{Line}
 use Rattle.day_run.specs.declared.scripts.Line.TheVariants.{Play, Pause, Resume, Look, Slot, Offer}
@@ -23,7 +24,8 @@ number-back least most n small low high =
 number-out : (least most n : ℕ) → n < 2 ^ 64 → (least ≤ n → n ≤ most → ⊥) → number_in least most (decimal n) ≡ None
 number-out least most n small out =
     ap (in_range least most) (decimal_read n small)
-    ∙ cond-false (nat_le least n && nat_le n most) (Some n) None (false_from_ne_true (nat_le least n && nat_le n most) (λ both.
+    ∙ cond-false (nat_le least n && nat_le n most) (Some n) None
+    (false_from_ne_true (nat_le least n && nat_le n most) (λ both.
     let parts = and_parts (nat_le least n) (nat_le n most) both in
     out (leb-true least n parts.0) (leb-true n most parts.1)))
 
@@ -43,7 +45,11 @@ read-or least most n small = elim (cases_lt n least) [
         let out : least ≤ n → n ≤ most → ⊥ = λ l high. omega (arith, above, high) in
         inr (out, number-out least most n small out)
     | inr high ↦
-        inl (omega (arith, low), omega (arith, high), number-back least most n small (omega (arith, low)) (omega (arith, high)))
+        inl (
+          omega (arith, low),
+          omega (arith, high),
+          number-back least most n small (omega (arith, low)) (omega (arith, high)),
+        )
   ]
 ]
 
@@ -87,13 +93,16 @@ asked-plain {name} {client} {buffer} {delay} words asked rest =
     (both-words (decimal buffer) (decimal delay ∷ words) (decimal-word buffer asked.buffer_small)
     (both-words (decimal delay) words (decimal-word delay asked.delay_small) rest))))
 
-pub words-plain : (names : List Name) (line : Line) → IsInWords names line → list_all is_word (words_of names line) ≡ true
+pub words-plain : (names : List Name) (line : Line) → IsInWords names line
+    → list_all is_word (words_of names line) ≡ true
 words-plain names (Play client source buffer delay) own =
     both-words (codes "play") (asked_words (name_at names source) client buffer delay []) refl (asked-plain [] own refl)
 words-plain names (Pause client) own =
-    both-words (codes "pause") (decimal client ∷ []) refl (both-words (decimal client) [] (decimal-word client own) refl)
+    both-words (codes "pause") (decimal client ∷ []) refl
+    (both-words (decimal client) [] (decimal-word client own) refl)
 words-plain names (Resume client) own =
-    both-words (codes "resume") (decimal client ∷ []) refl (both-words (decimal client) [] (decimal-word client own) refl)
+    both-words (codes "resume") (decimal client ∷ []) refl
+    (both-words (decimal client) [] (decimal-word client own) refl)
 words-plain names (Look slot) own =
     both-words (codes "look") (decimal slot ∷ []) refl (both-words (decimal slot) [] (decimal-word slot own) refl)
 words-plain names (Slot slot) own =

@@ -1,9 +1,12 @@
 -- Clients that are passed over one after the other.
-use Rattle.std.proofs.Common.{◌≡◌, ◌<◌, ◌≤◌, ◌+◌, ℕ, List, [], ◌∷◌, ◌++◌, length, map, take, drop, set, get_or, Option, Some, None, arith, refl, sym, ap, subst}
+use Rattle.std.proofs.Common.{◌≡◌, ◌<◌, ◌≤◌, ◌+◌, ℕ, List, [], ◌∷◌, ◌++◌, length, map, take, drop}
+use Rattle.std.proofs.Common.{set, get_or, Option, Some, None, arith, refl, sym, ap, subst}
 use Rattle.std.proofs.Common.{◌∙◌, inl, inr}
 use Rattle.std.specs.Prelude.{sum_by}
 use Rattle.std.proofs.lemmas.Bool.{cases_eq}
-use Rattle.std.proofs.lemmas.List.{append_assoc, append-nil, ext_get_or, get_or-map, get_or-set_other, get_or-set_same, length-map, length-set, length-take}
+use Rattle.std.proofs.lemmas.List.{append_assoc, append-nil, ext_get_or, get_or-map}
+use Rattle.std.proofs.lemmas.List.{get_or-set_other, get_or-set_same, length-map, length-set}
+use Rattle.std.proofs.lemmas.List.{length-take}
 use Rattle.std.proofs.lemmas.List.{map-set, set-get_or, take_all, take_at, take_more}
 use Rattle.std.proofs.lemmas.List.Sums.{sum_by_push}
 use Rattle.admission.specs.declared.entries.Entry.{Entry}
@@ -11,7 +14,8 @@ use Rattle.day_run.specs.declared.clients.Client.{Client}
 use Rattle.day_run.specs.declared.clients.Client.TheVariants as clients
 use Rattle.day_run.specs.declared.clients.Halt.{Halt}
 use Rattle.std.specs.Prelude.{OnSome, IfNone}
-use Rattle.day_run.specs.Clients.{AreSteps, AreTimed, AreUndone, IsStep, IsTimed, IsUndone, halts_of, state_after_halt, state_of}
+use Rattle.day_run.specs.Clients.{AreSteps, AreTimed, AreUndone, IsStep, IsTimed, IsUndone}
+use Rattle.day_run.specs.Clients.{halts_of, state_after_halt, state_of}
 use Rattle.day_run.specs.Days.{Moment, at_slot, done_halt, halt_entries}
 use Rattle.day_run.specs.ClientStates.{ClientState, Idle, after_play, after_sending, sent_between}
 
@@ -22,7 +26,8 @@ pub record IsSwept (f : ClientState → ClientState) (upto : ℕ) (old new : Lis
   pub later : (c : ℕ) → upto ≤ c → get_or new c Idle ≡ get_or old c Idle
 
 pub swept-none : (f : ClientState → ClientState) (old : List ClientState) → IsSwept f 0 old old
-swept-none f old = record { count = refl; past = λ c before inside. absurd (omega (arith, before)); later = λ c from. refl }
+swept-none f old =
+    record { count = refl; past = λ c before inside. absurd (omega (arith, before)); later = λ c from. refl }
 
 pub swept-set : {f : ClientState → ClientState} {i : ℕ} {old new : List ClientState} {state : ClientState}
     → i < length old → state ≡ f (get_or old i Idle) → IsSwept f i old new
@@ -72,7 +77,8 @@ states-set cs c client = map-set state_of cs c client
 -- sums and halts of one client more
 pub sum-more : (g : ClientState → ℕ) (states : List ClientState) (i : ℕ) → i < length states
     → sum_by g (take (i + 1) states) ≡ sum_by g (take i states) + g (get_or states i Idle)
-sum-more g states i inside = ap (sum_by g) (take_more states i Idle inside) ∙ sum_by_push g (take i states) (get_or states i Idle)
+sum-more g states i inside = ap (sum_by g) (take_more states i Idle inside)
+    ∙ sum_by_push g (take i states) (get_or states i Idle)
 
 pub halt_entries-append : (f : ℕ → ClientState → List Entry) (k : ℕ) (xs ys : List ClientState)
     → halt_entries f k (xs ++ ys) ≡ halt_entries f k xs ++ halt_entries f (k + length xs) ys
@@ -89,23 +95,27 @@ pub halt_entries-more : (f : ℕ → ClientState → List Entry) (states : List 
     → halt_entries f 0 (take (i + 1) states) ≡ halt_entries f 0 (take i states) ++ f i (get_or states i Idle)
 halt_entries-more f states i inside =
     let n : 0 + length (take i states) ≡ i = omega (arith, length-take i states, inside) in
-    ap (halt_entries f 0) (take_more states i Idle inside) ∙ halt_entries-append f 0 (take i states) (get_or states i Idle ∷ [])
+    ap (halt_entries f 0) (take_more states i Idle inside)
+    ∙ halt_entries-append f 0 (take i states) (get_or states i Idle ∷ [])
     ∙ ap (λ k. halt_entries f 0 (take i states) ++ (f k (get_or states i Idle) ++ [])) n
     ∙ ap (λ es. halt_entries f 0 (take i states) ++ es) (append-nil (f i (get_or states i Idle)))
 
 -- the halts before a place, and those there
-pub record NextHalts (i : ℕ) (before after more : List Entry) (f : ℕ → ClientState → List Entry) (states : List ClientState)
+pub record NextHalts (i : ℕ) (before after more : List Entry) (f : ℕ → ClientState → List Entry)
+    (states : List ClientState)
     (begun : List Entry) : Type 0 where
   pub before_is : before ≡ begun ++ halt_entries f 0 (take i states)
   pub after_is : after ≡ before ++ more
   pub here : f i (get_or states i Idle) ≡ more
 
 -- the entries of one halt more
-pub entries-more : {i : ℕ} {before after more : List Entry} (f : ℕ → ClientState → List Entry) (states : List ClientState)
+pub entries-more : {i : ℕ} {before after more : List Entry} (f : ℕ → ClientState → List Entry)
+    (states : List ClientState)
     (begun : List Entry) → i < length states → NextHalts i before after more f states begun
     → after ≡ begun ++ halt_entries f 0 (take (i + 1) states)
 entries-more {i} {before} {more} f states begun inside halts =
-    halts.after_is ∙ ap (λ es. before ++ es) (sym halts.here) ∙ ap (λ es. es ++ f i (get_or states i Idle)) halts.before_is
+    halts.after_is ∙ ap (λ es. before ++ es) (sym halts.here)
+    ∙ ap (λ es. es ++ f i (get_or states i Idle)) halts.before_is
     ∙ append_assoc begun (halt_entries f 0 (take i states)) (f i (get_or states i Idle))
     ∙ ap (λ es. begun ++ es) (sym (halt_entries-more f states i inside))
 
@@ -133,7 +143,8 @@ pub record AreTimedTo (upto slot heard : ℕ) (clients : List Client) : Type 0 w
   pub later : (c : ℕ) (none : Client) → upto ≤ c → c < length clients → IsTimed heard (get_or clients c none)
 
 pub timed-all : (n slot heard : ℕ) (cs : List Client) → length cs ≤ n → AreTimedTo n slot heard cs → AreTimed slot cs
-timed-all n slot heard cs most to = record { each = λ c none inside. to.past c none (omega (arith, inside, most)) inside }
+timed-all n slot heard cs most to =
+    record { each = λ c none inside. to.past c none (omega (arith, inside, most)) inside }
 
 pub timed-next : {i slot heard : ℕ} {cs : List Client} (client : Client) → i < length cs → IsTimed slot client
     → AreTimedTo i slot heard cs
@@ -174,7 +185,8 @@ pub swept-inside : (f : ClientState → ClientState) (i : ℕ) (old cs : List Cl
 swept-inside f i old cs inside swept = omega (arith, inside, swept.count, length-map cs state_of)
 
 pub steps-next : {i heard slot : ℕ} {old cs : List Client} {new : Client} {sent n : ℕ} (none : Client) → i < length cs
-    → (IsTimed heard (get_or cs i none) → IsStep heard slot (get_or cs i none) new n) → AreStepsTo i heard slot old cs sent
+    → (IsTimed heard (get_or cs i none) → IsStep heard slot (get_or cs i none) new n)
+    → AreStepsTo i heard slot old cs sent
     → AreStepsTo (i + 1) heard slot old (set cs i new) (sent + n)
 steps-next {i} {heard} {slot} {old} {cs} {new} {n} none inside stepped to =
     let step = stepped (to.timed.later i none (omega arith) inside) in
@@ -192,7 +204,8 @@ steps-next {i} {heard} {slot} {old} {cs} {new} {n} none inside stepped to =
           (swept-set within (step.state ∙ ap (after_sending slot) (sym at)) to.swept);
     }
 
-pub steps-all : {n heard slot : ℕ} {old new : List Client} {sent : ℕ} → length new ≤ n → AreStepsTo n heard slot old new sent
+pub steps-all : {n heard slot : ℕ} {old new : List Client} {sent : ℕ} → length new ≤ n
+    → AreStepsTo n heard slot old new sent
     → AreSteps heard slot old new sent
 steps-all {n} {heard} {slot} {old} {new} most to =
     let few : length (map state_of old) ≤ n = omega (arith, most, to.swept.count, length-map new state_of) in
@@ -210,7 +223,8 @@ pub record AreEndedTo (f : ℕ → ClientState → List Entry) (g : ClientState 
   pub swept : IsSwept g upto (map state_of old) (map state_of new)
 
 -- a halt is what a sweep asks for, and it is noted
-pub record SweptHalt (f : ℕ → ClientState → List Entry) (g : ClientState → ClientState) (slot i : ℕ) (xs ys : List Entry)
+pub record SweptHalt (f : ℕ → ClientState → List Entry) (g : ClientState → ClientState) (slot i : ℕ)
+    (xs ys : List Entry)
     (cs : List Client) (none : Client) (halt : Option Halt) : Type 0 where
   pub has : IsTimed slot (get_or cs i none) → f i (state_of (get_or cs i none)) ≡ halts_of i halt
   pub goes : IsTimed slot (get_or cs i none)
@@ -222,7 +236,8 @@ pub record HaltOutcome (i : ℕ) (cs ds : List Client) (halt : Option Halt) : Ty
   pub some : OnSome halt (ds ≡ set cs i clients.Idle)
   pub left : IfNone halt (ds ≡ cs)
 
-pub ended-next : {f : ℕ → ClientState → List Entry} {g : ClientState → ClientState} {slot i : ℕ} {begun xs ys : List Entry}
+pub ended-next : {f : ℕ → ClientState → List Entry} {g : ClientState
+    → ClientState} {slot i : ℕ} {begun xs ys : List Entry}
     {old cs ds : List Client} (none : Client) (halt : Option Halt) → i < length cs
     → SweptHalt f g slot i xs ys cs none halt → HaltOutcome i cs ds halt
     → AreEndedTo f g slot i begun xs old cs → AreEndedTo f g slot (i + 1) begun ys old ds
@@ -258,7 +273,8 @@ ended-next {f} {g} {slot} {i} {begun} {ys} {old} {cs} none (Some halt) inside ha
           (swept-set within (sym (ap g at ∙ halts.goes timed)) to.swept);
     })
 
-pub ended-states : {f : ℕ → ClientState → List Entry} {g : ClientState → ClientState} {slot n : ℕ} {begun entries : List Entry}
+pub ended-states : {f : ℕ → ClientState → List Entry} {g : ClientState
+    → ClientState} {slot n : ℕ} {begun entries : List Entry}
     {old new : List Client} → length new ≤ n
     → AreEndedTo f g slot n begun entries old new → map state_of new ≡ map g (map state_of old)
 ended-states {g} {slot} {n} {begun} {old} {new} most to =
@@ -292,7 +308,8 @@ undone-next {i} {cs} none (Some halt) inside own ended undone =
             let B : ℕ → Type 0 = λ n. IsUndone (get_or (set cs i clients.Idle) n any) in
             subst B (sym same) (subst U (sym (get_or-set_same cs i clients.Idle any inside)) tt)
         | inr other ↦
-            subst U (sym (get_or-set_other cs i c clients.Idle any other)) (undone.each c any (omega (arith, before, other)))
+            subst U (sym (get_or-set_other cs i c clients.Idle any other))
+            (undone.each c any (omega (arith, before, other)))
       ];
     })
 

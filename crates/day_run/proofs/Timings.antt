@@ -1,5 +1,6 @@
 -- What a client's pacer has sent, in the words of a day.
-use Rattle.std.proofs.Common.{◌≡◌, ◌<◌, ◌≤◌, ◌+◌, ◌-◌, ◌==◌, ℕ, min, nat_lt, nat_le, true, false, Bool, cond, List, [], Option, Some, None, arith, refl, sym}
+use Rattle.std.proofs.Common.{◌≡◌, ◌<◌, ◌≤◌, ◌+◌, ◌-◌, ◌==◌, ℕ, min, nat_lt, nat_le, true, false}
+use Rattle.std.proofs.Common.{Bool, cond, List, [], Option, Some, None, arith, refl, sym}
 use Rattle.std.proofs.Common.{ap, subst, ◌∙◌, inl, inr}
 use Rattle.std.proofs.lemmas.Bool.{cases_lt, cond-true, cond-false, lt-ltb}
 use Rattle.pacer.specs.Pacings.{IsPacing, Pacing, first_slots, slots_through}
@@ -11,7 +12,8 @@ use Rattle.day_run.specs.declared.clients.Play.{Play}
 use Rattle.day_run.specs.Clients.{IsPlaying, play_of, rest_of}
 use Rattle.day_run.specs.Days.{done_halt}
 use Rattle.day_run.specs.Reels.{reel_pieces, reel_sizes}
-use Rattle.day_run.specs.ClientStates.{Idle, Playing, Pausing, Paused, IsPause, Rest, ClientState, after_sending, booking_of, pausing_state, sent_by, slot_sent}
+use Rattle.day_run.specs.ClientStates.{Idle, Playing, Pausing, Paused, IsPause, Rest, ClientState}
+use Rattle.day_run.specs.ClientStates.{after_sending, booking_of, pausing_state, sent_by, slot_sent}
 
 -- what a pacer sends, as a booking
 abbrev pub paced : Pacing → Booked
@@ -90,14 +92,16 @@ pub pause-of : {play : Play} {heard keep : ℕ} {last : Option ℕ} {left : Run}
     → state ≡ pausing_state heard (cut_play play.pacer.start play.plan keep) (record (rest_of play.rest) { run = left })
     → IsPause (play_of play) heard keep state
 pause-of {play} {heard} {keep} {last} {left} playing timed through boundary is state-is =
-    let B : List (List ℕ) → Type 0 = λ ps. IsBoundaryAfter ps (play.pacer.before + play.pacer.sent) (play.pacer.before + keep) in
+    let B : List (List ℕ) → Type 0 =
+    λ ps. IsBoundaryAfter ps (play.pacer.before + play.pacer.sent) (play.pacer.before + keep) in
     let C : ℕ → Type 0 = λ n. IsBoundaryAfter (reel_pieces play.rest.reel.now) (n + play.pacer.sent) (n + keep) in
     let D : ℕ → Type 0 =
     λ n. IsBoundaryAfter (reel_pieces play.rest.reel.now) (play.rest.run.sent + n) (play.rest.run.sent + keep) in
     let L : Option ℕ → Type 0 =
     λ o. IsLeft (reel_sizes play.rest.reel.now) play.rest.playback play.rest.run play.plan o keep left in
     record {
-      boundary = subst D (sent-at play heard playing timed) (subst C playing.before_is (subst B playing.pieces_are boundary));
+      boundary =
+          subst D (sent-at play heard playing timed) (subst C playing.before_is (subst B playing.pieces_are boundary));
       left = left;
       left_is = subst L (last-slot last play.pacer.start heard play.pacer.passed through timed) is;
       state_is = state-is;

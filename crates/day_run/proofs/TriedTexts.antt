@@ -9,7 +9,8 @@ use Rattle.day_run.proofs.Takings.{Place}
 tried-more : (xs : List Tried) (i : ℕ) (d : Tried) → i < length xs
     → flat_map tried_text (take (i + 1) xs) ≡ flat_map tried_text (take i xs) ++ tried_text (get_or xs i d)
 tried-more xs i d within =
-    ap (λ l. flat_map tried_text l) (take_more xs i d within) ∙ flat_map-append tried_text (take i xs) (get_or xs i d ∷ [])
+    ap (λ l. flat_map tried_text l) (take_more xs i d within)
+    ∙ flat_map-append tried_text (take i xs) (get_or xs i d ∷ [])
     ∙ ap (λ l. flat_map tried_text (take i xs) ++ l) (append-nil (tried_text (get_or xs i d)))
 
 pub tried-step : {mid new : List ℕ} (xs : List Tried) (place : Place xs) (out : List ℕ)

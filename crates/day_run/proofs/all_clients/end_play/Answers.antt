@@ -17,7 +17,8 @@ returns-in-Some-clause-sound c =
     let cs = c.args.clients.now in
     let halt = c.in-Some.halt in
     let sound = c.requires.sound in
-    let e : Entry = record { maker = c.args.client; command = Halt halt.number halt.keep; answer = c.halt-noted.result.answer } in
+    let e : Entry =
+    record { maker = c.args.client; command = Halt halt.number halt.keep; answer = c.halt-noted.result.answer } in
     let y : c.halt-noted.new.self.entries ≡ xs ++ e ∷ [] =
     ap (λ (j : Journal). j.entries) c.halt-noted.ensures.noted.journal_is in
     let H : Option ClientHalt → Type 0 =
@@ -35,7 +36,8 @@ pub returns-in-Some-clause-kept : goal.returns-in-Some-clause-kept
 returns-in-Some-clause-kept c =
     let xs = c.args.book.now.entries in
     let halt = c.in-Some.halt in
-    let e : Entry = record { maker = c.args.client; command = Halt halt.number halt.keep; answer = c.halt-noted.result.answer } in
+    let e : Entry =
+    record { maker = c.args.client; command = Halt halt.number halt.keep; answer = c.halt-noted.result.answer } in
     let is = c.halt-noted.ensures.noted.journal_is in
     let y : c.halt-noted.new.self.entries ≡ xs ++ e ∷ [] = ap (λ (j : Journal). j.entries) is in
     record {

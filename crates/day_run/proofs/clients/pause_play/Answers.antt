@@ -27,7 +27,8 @@ returns-clause-going c =
       run_is = c.run_after-run.ensures.run;
       fits = c.run_after-run.ensures.fits;
     } in
-    let halted = c.ask_halt-keep.ensures.state ∙ ap (λ n. record play.pacer { keep = n }) (sym c.ask_halt-keep.ensures.value) in
+    let halted = c.ask_halt-keep.ensures.state
+    ∙ ap (λ n. record play.pacer { keep = n }) (sym c.ask_halt-keep.ensures.value) in
     left-stopping c.requires.playing (left-rest c.requires.playing left) halted c.ask_halt-keep.ensures.pacing
 
 pub returns-clause-timed : goal.returns-clause-timed

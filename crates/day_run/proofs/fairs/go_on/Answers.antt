@@ -29,4 +29,5 @@ returns-then-later-gt0-clause-fitting c =
     }
 
 pub returns-else-later-gt0-clause-counts : goal.returns-else-later-gt0-clause-counts
-returns-else-later-gt0-clause-counts c = same-counts c.args.counts.now (moment_of c.args.runner.now) c.requires.fitting.last_is
+returns-else-later-gt0-clause-counts c =
+    same-counts c.args.counts.now (moment_of c.args.runner.now) c.requires.fitting.last_is

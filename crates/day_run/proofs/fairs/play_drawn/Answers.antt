@@ -19,7 +19,8 @@ returns-clause-line c =
     }) (state_at (moment_of c.args.runner.now) c.args.client) (record {
       sources_are = c.draw-source.ensures.value;
       buffers_are =
-          ap (λ n. 16384 + n) (c.from-buffer.ensures ∙ c.draw.ensures.value ∙ ap (λ n. n % 16384) (second-word w _ one));
+          ap (λ n. 16384 + n) (c.from-buffer.ensures ∙ c.draw.ensures.value
+          ∙ ap (λ n. n % 16384) (second-word w _ one));
       delays_are = c.from-delay.ensures ∙ c.draw-2.ensures.value ∙ ap (λ n. n % 26) (third-word w _ _ one two);
     }) c.play.ensures.line
 

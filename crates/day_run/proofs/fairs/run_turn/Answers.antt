@@ -15,7 +15,8 @@ returns-clause-ready c =
       old = moment_of mid;
       new = moment_of c.turn_client.new.runner;
       text = said_text c.turn_client.new.runner.book.entries c.in_ok-told.told;
-    }) (words_left c.draw-client.new.self) (record { client = client; at = refl }) c.in_ok-told.ensures.done c.go_on.ensures.ready
+    }) (words_left c.draw-client.new.self)
+    (record { client = client; at = refl }) c.in_ok-told.ensures.done c.go_on.ensures.ready
 
 pub returns-clause-turned : goal.returns-clause-turned
 returns-clause-turned c =

@@ -4,4 +4,11 @@ use Rattle.day_run.proofs.laws.law_clients.Goals as goal
 pub returns : goal.returns
 returns c = λ link lines texts moment client link-is clients are run inside.
     day-sound {link = link}
-    (record { lines = lines; texts = texts; moment = moment; clients = clients; are = are; run = run }) client link-is inside
+    (record {
+      lines = lines;
+      texts = texts;
+      moment = moment;
+      clients = clients;
+      are = are;
+      run = run;
+    }) client link-is inside

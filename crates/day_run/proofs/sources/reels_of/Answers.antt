@@ -19,7 +19,8 @@ loop-source-preserved c =
     record {
       count = omega (arith, inv.count, ap length e, length-append c.loop-source.reels.items (reel ∷ []));
       contents = λ u. contents-next u (record { reels = c.loop-source.reels.items; reel = reel; after_are = e })
-          c.args.sources.now here (c.in_ok-reel_of.ensures.content u ∙ ap (source_content u) c.source-item.is) (inv.contents u);
+          c.args.sources.now here (c.in_ok-reel_of.ensures.content u ∙ ap (source_content u) c.source-item.is)
+          (inv.contents u);
       playable = playable-next c.args.sources.now here
           (subst IsPlayable c.source-item.is c.in_ok-reel_of.ensures.playable) inv.playable;
     }
@@ -31,4 +32,5 @@ returns-clause-contents c = λ u.
 
 pub returns-clause-playable : goal.returns-clause-playable
 returns-clause-playable c =
-    subst (All IsPlayable) (take_all c.loop-source.source-index c.args.sources.now (omega arith)) c.loop-source.invariant.playable
+    subst (All IsPlayable)
+    (take_all c.loop-source.source-index c.args.sources.now (omega arith)) c.loop-source.invariant.playable

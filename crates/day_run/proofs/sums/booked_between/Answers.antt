@@ -42,7 +42,8 @@ loop-slot-preserved c =
     ) in
     let state = state_after c.args.book.now.entries in
     let begun : c.args.from + 1 ≤ c.loop-slot.slot = omega arith in
-    let known : calendar.first ≤ c.loop-slot.slot = omega (arith, c.calendar-calendar.ensures.now, c.requires.from_now) in
+    let known : calendar.first ≤ c.loop-slot.slot =
+    omega (arith, c.calendar-calendar.ensures.now, c.requires.from_now) in
     record {
       few = booked-more c.loop-slot.booked c.booked_bytes-here.result c.loop-slot.slot c.args.from (record {
         begun = begun;
@@ -68,7 +69,8 @@ returns c =
     let to = c.args.to in
     let known : calendar.first ≤ from = omega (arith, c.calendar-calendar.ensures.now, c.requires.from_now) in
     let le : slot - (from + 1) ≤ to - from = omega (arith, c.loop-slot.invariant.late) in
-    let whole : (sum_by f (range_with_len (from + 1) (slot - (from + 1))) ≡ sum_by f (range_with_len (from + 1) (to - from)))
+    let whole : (sum_by f (range_with_len (from + 1) (slot - (from + 1)))
+    ≡ sum_by f (range_with_len (from + 1) (to - from)))
     × (fold max 0 (map f (range_with_len (from + 1) (slot - (from + 1))))
     ≡ fold max 0 (map f (range_with_len (from + 1) (to - from)))) =
     elim (cases_lt (calendar.first + 1048576) to) [
@@ -80,8 +82,10 @@ returns c =
             peak-past f (from + 1) (slot - (from + 1)) (to - from) le none,
           )
       | inr long ↦
-          let e : slot - (from + 1) ≡ to - from = omega (arith, long, c.loop-slot.invariant.late) in
-          (ap (λ n. sum_by f (range_with_len (from + 1) n)) e, ap (λ n. fold max 0 (map f (range_with_len (from + 1) n))) e)
+          let e : slot - (from + 1) ≡ to - from = omega (arith, long, c.loop-slot.invariant.late) in (
+            ap (λ n. sum_by f (range_with_len (from + 1) n)) e,
+            ap (λ n. fold max 0 (map f (range_with_len (from + 1) n))) e,
+          )
     ] in
     record {
       booked = c.loop-slot.invariant.sum ∙ whole.0;

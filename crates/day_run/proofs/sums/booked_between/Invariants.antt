@@ -9,7 +9,9 @@ abbrev pub invariant-loop-slot : goal.invariant-loop-slot
 invariant-loop-slot l = record {
   few : l.booked ≤ (l.slot - (l.from + 1)) * 2 ^ 42;
   late : l.slot ≤ max (l.from + 1) l.slot-end;
-  sum : l.booked ≡ sum_by (booked_in (state_after l.fn.book.entries)) (range_with_len (l.from + 1) (l.slot - (l.from + 1)));
+  sum : l.booked
+      ≡ sum_by (booked_in (state_after l.fn.book.entries)) (range_with_len (l.from + 1) (l.slot - (l.from + 1)));
   peak : l.peak
-      ≡ fold max 0 (map (booked_in (state_after l.fn.book.entries)) (range_with_len (l.from + 1) (l.slot - (l.from + 1))));
+      ≡ fold max 0 (map (booked_in (state_after l.fn.book.entries))
+      (range_with_len (l.from + 1) (l.slot - (l.from + 1))));
 }

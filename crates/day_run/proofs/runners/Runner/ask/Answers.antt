@@ -26,7 +26,8 @@ returns-in-Err c = record {
   asked = inl (record {
     fault = c.in-Err.fault;
     fault_is = subst (λ (r : Result Plan CurveFault). IfErr r (HasFault
-        (rest_sizes (reel_sizes c.args.rest.reel.now) c.args.rest.run) (timing_of c.args.rest.playback c.args.rest.run)))
+        (rest_sizes (reel_sizes c.args.rest.reel.now) c.args.rest.run)
+        (timing_of c.args.rest.playback c.args.rest.run)))
         c.in-Err.is ((c.in_ok-plan.ensures {u = tt}).fault);
     told = record { kept = refl; text_is = refl };
   });

@@ -14,7 +14,8 @@ returns-in-Ok-clause-runner c =
     let e : Entry = record { maker = 0; command = Look (min c.args.slot (2 ^ 62)); answer = c.in-Ok.noted.answer } in
     let now = looked-now old.book.entries e (min c.args.slot (2 ^ 62)) refl in
     day-noted e c.requires.runner
-    (ap (λ (j : Journal). j.entries) noted.journal_is) (λ number halts. halts) (omega (arith, now, c.requires.runner.now_heard))
+    (ap (λ (j : Journal). j.entries) noted.journal_is) (λ number halts. halts)
+    (omega (arith, now, c.requires.runner.now_heard))
 
 pub returns-in-Ok-clause-line : goal.returns-in-Ok-clause-line
 returns-in-Ok-clause-line c =

@@ -31,7 +31,11 @@ returns-in_ok-offers-in-Ok c =
     let S : List CapacityStep → Type 0 = λ s. (t : ℕ) → booked_in state t ≤ capacity_at s t in
     let late : calendar.first < c.max.result + 1 = omega arith in
     let its : StandsWithin (capacity_at calendar.steps) calendar (plays_of state) =
-    record { stands = c.calendar-calendar.ensures.stands; within = subst S (sym c.calendar-calendar.ensures.steps) within } in
+    record {
+      stands = c.calendar-calendar.ensures.stands;
+      within =
+          subst S (sym c.calendar-calendar.ensures.steps) within;
+    } in
     let offer = offer_everywhere its late c.find.ensures.offer in
     let O : List CapacityStep → Type 0 = λ s. IsOffer 0 (booked_in state) (capacity_at s) plan (c.max.result + 1) found in
     let first : c.max.result + 1 ≡ max state.now r.heard + 1 = omega (arith, c.calendar-calendar.ensures.now) in

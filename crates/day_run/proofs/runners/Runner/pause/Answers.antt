@@ -29,7 +29,8 @@ returns-in-Some-clause-runner c =
     let T : Client → Type 0 = λ x. IsTimed old.heard x in
     let timed = subst T (sym c.index_mut.ensures.value) (day.timed.each c.args.client client inside) in
     let its = open-halt client going booked c.in-Some.ensures.some in
-    let e : Entry = record { maker = c.from.result; command = Halt halt.number halt.keep; answer = c.halt-noted.result.answer } in
+    let e : Entry =
+    record { maker = c.from.result; command = Halt halt.number halt.keep; answer = c.halt-noted.result.answer } in
     day-halted {e = e} c.pause.new.self day (record {
       entries_are = ap (λ (j : Journal). j.entries) c.halt-noted.ensures.noted.journal_is;
       clients_are = refl;
@@ -58,7 +59,8 @@ returns-in-Some-clause-line c =
     let T : Client → Type 0 = λ x. IsTimed old.heard x in
     let timed = subst T (sym c.index_mut.ensures.value) (day.timed.each c.args.client client inside) in
     let made = c.halt-noted.ensures.noted in
-    let e : Entry = record { maker = c.from.result; command = Halt halt.number halt.keep; answer = c.halt-noted.result.answer } in
+    let e : Entry =
+    record { maker = c.from.result; command = Halt halt.number halt.keep; answer = c.halt-noted.result.answer } in
     let text = told_text c.halt-noted.new.self.entries (tolds.Entry c.halt-noted.result.place) in
     let at : state_of client ≡ get_or (map state_of old.clients.items) c.args.client Idle =
     ap state_of c.index_mut.ensures.value ∙ sym (state-at old.clients.items c.args.client client inside) in

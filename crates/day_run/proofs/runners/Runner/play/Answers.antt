@@ -12,7 +12,8 @@ pub returns-in-Some-clause-line : goal.returns-in-Some-clause-line
 returns-in-Some-clause-line c =
     let old = c.args.self.now in
     let client = c.index.result.now in
-    let inside : c.args.client < length old.clients.items = omega (arith, c.requires.runner.count, c.ranges.client.fits) in
+    let inside : c.args.client < length old.clients.items =
+    omega (arith, c.requires.runner.count, c.ranges.client.fits) in
     let one : rest_of c.in-Some.rest ≡ rest_at (link_on old) c.args.source c.args.buffer c.args.delay =
     c.in-Some.ensures.whole
     ∙ ap (λ (t : ReelContent). whole_rest old.slot_units t c.args.buffer c.args.delay)
