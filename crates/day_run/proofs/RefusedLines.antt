@@ -20,7 +20,7 @@ use Rattle.day_run.specs.Spelling.{AreWritten, IsAskedInWords, IsAsking, IsInWor
 use Rattle.day_run.specs.Spelling.{is_verb, is_word, kind_text}
 use Rattle.day_run.specs.Spelling.{line_text, name_at, names_used, script_text, words_text, words_of}
 use Rattle.day_run.proofs.SpelledLines.{spaced-line}
-use Rattle.day_run.proofs.SpelledWords.{film-back, read-or, words-plain}
+use Rattle.day_run.proofs.SpelledWords.{kind-back, read-or, words-plain}
 use Rattle.day_run.proofs.SpelledScripts.{ReadSoFar, asked-of, line-words, read_so_far, text-read}
 use Rattle.day_run.proofs.SpelledScripts.{texts-lines, texts-read}
 
@@ -28,22 +28,22 @@ use Rattle.day_run.proofs.SpelledScripts.{texts-lines, texts-read}
 abbrev IsAskedOr : Name → ℕ → ℕ → ℕ → Type 0
 IsAskedOr name client buffer delay =
     ((good : is_good_name name.name ≡ true) → IsAsking name client buffer delay)
-    × (asked_in (decimal client) (kind_text name.film) (decimal buffer) (decimal delay)
+    × (asked_in (decimal client) (kind_text name.kind) (decimal buffer) (decimal delay)
     ≡ Some (asked-of name client buffer delay))
 
 asked-or : (name : Name) (client buffer delay : ℕ) → IsAskedInWords name client buffer delay
     → IsAskedOr name client buffer delay
     ⊎ ((IsAsking name client buffer delay → ⊥)
-    × (asked_in (decimal client) (kind_text name.film) (decimal buffer) (decimal delay) ≡ None))
+    × (asked_in (decimal client) (kind_text name.kind) (decimal buffer) (decimal delay) ≡ None))
 asked-or name client buffer delay own = elim (read-or 0 255 client own.client_small) [
   | inr c ↦ inr (λ may. c.0 (omega arith) may.client_fits, rw c.1 refl)
   | inl c ↦ elim (read-or 1 (2 ^ 42) buffer own.buffer_small) [
-    | inr b ↦ inr (λ may. b.0 may.some_buffer may.buffer_fits, rw c.2 (rw (film-back name.film) (rw b.1 refl)))
+    | inr b ↦ inr (λ may. b.0 may.some_buffer may.buffer_fits, rw c.2 (rw (kind-back name.kind) (rw b.1 refl)))
     | inl b ↦ elim (read-or 0 10000 delay own.delay_small) [
-      | inr d ↦ inr (λ may. d.0 (omega arith) may.delay_fits, rw c.2 (rw (film-back name.film) (rw b.2 (rw d.1 refl))))
+      | inr d ↦ inr (λ may. d.0 (omega arith) may.delay_fits, rw c.2 (rw (kind-back name.kind) (rw b.2 (rw d.1 refl))))
       | inl d ↦ inl (
         λ good. record { client_fits = c.1; some_buffer = b.0; buffer_fits = b.1; delay_fits = d.1; good = good },
-        rw c.2 (rw (film-back name.film) (rw b.2 (rw d.2 refl))),
+        rw c.2 (rw (kind-back name.kind) (rw b.2 (rw d.2 refl))),
       )
     ]
   ]

@@ -13,6 +13,8 @@ use Rattle.vod_base.specs.Names.{is_good_name}
 use Rattle.vod_base.proofs.Digits.{decimal_numerals}
 use Rattle.vod_base.proofs.Written.{good_is_plain}
 use Rattle.day_run.specs.Lines.{is_space, lines_of_script, without_return}
+use Rattle.day_run.specs.declared.scripts.SourceKind.{SourceKind}
+use Rattle.day_run.specs.declared.scripts.SourceKind.TheVariants.{Film, Trace}
 use Rattle.day_run.specs.Spelling.{is_word, kind_text, words_text}
 use Rattle.day_run.proofs.Cuts.{script-line}
 
@@ -44,9 +46,9 @@ word-from (b ∷ word) high =
 pub name-word : (name : List ℕ) → is_good_name name ≡ true → is_word name ≡ true
 name-word name good = word-from name (λ k inside. ((good_is_plain name good).printable k inside).0)
 
-pub kind-word : (film : Bool) → is_word (kind_text film) ≡ true
-kind-word true = refl
-kind-word false = refl
+pub kind-word : (kind : SourceKind) → is_word (kind_text kind) ≡ true
+kind-word Film = refl
+kind-word Trace = refl
 
 -- words with a space between two have no other byte below
 spaced-bytes : (words : List (List ℕ)) → list_all is_word words ≡ true → All (λ b. 32 ≤ b) (words_text words)

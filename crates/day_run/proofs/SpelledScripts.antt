@@ -1,10 +1,9 @@
 -- Lines that are spelled are read back, and the script that they make.
-use Rattle.std.proofs.Common.{◌≡◌, ◌≢◌, ◌<◌, ◌≤◌, ◌+◌, ◌^◌, ◌==◌, ℕ, max, Bool, true, false, nat_lt}
-use Rattle.std.proofs.Common.{List, [], ◌∷◌, ◌++◌, codes}
+use Rattle.std.proofs.Common.{◌≡◌, ◌≢◌, ◌<◌, ◌≤◌, ◌+◌, ◌^◌, ◌==◌, ℕ, max, true, false, nat_lt, List}
+use Rattle.std.proofs.Common.{[], ◌∷◌, ◌++◌, codes}
 use Rattle.std.proofs.Common.{decimal, length, map, take, get_or, Some, None, arith, refl, sym, ap, ◌∙◌, inl, inr}
 use Rattle.std.specs.List.{fold, list_all, slice_split}
 use Rattle.std.specs.Option.{option_and_then}
-use Rattle.std.specs.Bool.{beq}
 use Rattle.std.specs.Str.{bytes_eq}
 use Rattle.std.proofs.lemmas.Bool.{and_from, and_parts, cases_lt, cond-false, cond-true}
 use Rattle.std.proofs.lemmas.Bool.{false_from_ne_true, lt-ltb, ltb-true}
@@ -17,10 +16,12 @@ use Rattle.std.proofs.lemmas.Slice.Eq.{bytes_eq-Decides}
 use Rattle.vod_base.specs.Names.{is_good_name}
 use Rattle.day_run.specs.declared.scripts.Line.{Line}
 use Rattle.day_run.specs.declared.scripts.Line.TheVariants.{Play, Pause, Resume, Look, Slot, Offer}
+use Rattle.day_run.specs.declared.scripts.SourceKind.{SourceKind}
+use Rattle.day_run.specs.declared.scripts.SourceKind.TheVariants.{Film, Trace}
 use Rattle.day_run.specs.declared.sayings.Asked.{Asked}
 use Rattle.day_run.specs.Lines.{is_space, lines_of_script}
 use Rattle.day_run.specs.declared.scripts.Script.{Script}
-use Rattle.day_run.specs.Readings.{IsScript, Name, Reading, is_name, line_read, lines_read}
+use Rattle.day_run.specs.Readings.{IsScript, Name, Reading, is_kind, is_name, line_read, lines_read}
 use Rattle.day_run.specs.Readings.{names_of, nothing_read, name_as, source_in, with_name}
 use Rattle.day_run.specs.Readings.{with_named, with_words}
 use Rattle.day_run.specs.Sayings.{asked_in}
@@ -29,7 +30,7 @@ use Rattle.day_run.specs.Spelling.{AreStanding, AreWritten, IsAsking, IsInWords,
 use Rattle.day_run.specs.Spelling.{MayStand, asked_words, is_word, kind_text}
 use Rattle.day_run.specs.Spelling.{line_text, name_at, names_after, names_used, script_text, words_text, words_of}
 use Rattle.day_run.proofs.SpelledLines.{spaced-line, spaced-split}
-use Rattle.day_run.proofs.SpelledWords.{film-back, in-words, number-back, words-plain}
+use Rattle.day_run.proofs.SpelledWords.{in-words, kind-back, number-back, words-plain}
 
 -- ---- one line
 -- the words of a line are read
@@ -43,39 +44,39 @@ text-read r word words some plain =
     ∙ ap (with_words r) (spaced-split word words plain)
 
 abbrev pub asked-of : Name → ℕ → ℕ → ℕ → Asked
-asked-of name client buffer delay = record { client = client; film = name.film; buffer = buffer; delay = delay }
+asked-of name client buffer delay = record { client = client; kind = name.kind; buffer = buffer; delay = delay }
 
 asked-back : (name : Name) (client buffer delay : ℕ) → IsAsking name client buffer delay
-    → asked_in (decimal client) (kind_text name.film) (decimal buffer) (decimal delay)
+    → asked_in (decimal client) (kind_text name.kind) (decimal buffer) (decimal delay)
     ≡ Some (asked-of name client buffer delay)
 asked-back name client buffer delay may =
     let c = number-back 0 255 client (omega (arith, may.client_fits)) (omega arith) may.client_fits in
     let b = number-back 1 (2 ^ 42) buffer (omega (arith, may.buffer_fits)) may.some_buffer may.buffer_fits in
     let d = number-back 0 10000 delay (omega (arith, may.delay_fits)) (omega arith) may.delay_fits in
-    rw c (rw (film-back name.film) (rw b (rw d refl)))
+    rw c (rw (kind-back name.kind) (rw b (rw d refl)))
 
 -- a name and its place
 name-is : (one other : Name) → is_name one other ≡ true → one ≡ other
 name-is one other same =
-    let parts = and_parts (beq one.film other.film) (bytes_eq one.name other.name) same in
-    let film = film-same one.film other.film parts.0 in
+    let parts = and_parts (is_kind one.kind other.kind) (bytes_eq one.name other.name) same in
+    let kind = kind-same one.kind other.kind parts.0 in
     let name = (bytes_eq-Decides one.name other.name).0 parts.1 in
-    ap (λ f. name_as f one.name) film ∙ ap (λ n. name_as other.film n) name
+    ap (λ k. name_as k one.name) kind ∙ ap (λ n. name_as other.kind n) name
   where
-    film-same : (a b : Bool) → beq a b ≡ true → a ≡ b
-    film-same true true e = refl
-    film-same true false e = cc e
-    film-same false true e = cc e
-    film-same false false e = refl
+    kind-same : (a b : SourceKind) → is_kind a b ≡ true → a ≡ b
+    kind-same Film Film e = refl
+    kind-same Film Trace e = cc e
+    kind-same Trace Film e = cc e
+    kind-same Trace Trace e = refl
 
 name-self : (name : Name) → is_name name name ≡ true
 name-self name =
-    and_from (beq name.film name.film) (bytes_eq name.name name.name) (film-self name.film)
+    and_from (is_kind name.kind name.kind) (bytes_eq name.name name.name) (kind-self name.kind)
     ((bytes_eq-Decides name.name name.name).1 refl)
   where
-    film-self : (a : Bool) → beq a a ≡ true
-    film-self true = refl
-    film-self false = refl
+    kind-self : (a : SourceKind) → is_kind a a ≡ true
+    kind-self Film = refl
+    kind-self Trace = refl
 
 -- the names differ
 abbrev AreApart : List Name → Type 0
@@ -86,7 +87,7 @@ no-name names source good = elim (cases_lt source (length names)) [
   | inl inside ↦ inside
   | inr past ↦
       let none : is_good_name [] ≡ true =
-      ap (λ (n : Name). is_good_name n.name) (sym (get_or_past names source (name_as false []) past)) ∙ good in
+      ap (λ (n : Name). is_good_name n.name) (sym (get_or_past names source (name_as Trace []) past)) ∙ good in
       absurd (let no : ⊥ = cc none in no)
 ]
 
@@ -94,7 +95,7 @@ source-at : {source : ℕ} (names : List Name) (k : ℕ) → AreApart names → 
     → source < length names
     → source_in (take k names) (name_at names source) ≡ source
 source-at {source} names k apart next most inside =
-    let none = name_as false [] in
+    let none = name_as Trace [] in
     let name = name_at names source in
     let count : length (take k names) ≡ k = length-take-le k names most in
     position_or_len_is (is_name name) (take k names) source none (omega (arith, count, next))
@@ -129,7 +130,7 @@ names-at {source} names k next most inside at =
           (λ less. absurd
           (omega (arith, ltb-true (source_in (take k names) name) (length (take k names)) less, at, count, here))))
           ∙ ap (λ n. take k names ++ name_at names n ∷ []) here
-          ∙ sym (take_more names k (name_as false []) within) ∙ ap (λ n. take n names) more
+          ∙ sym (take_more names k (name_as Trace []) within) ∙ ap (λ n. take n names) more
     ]
 
 -- what was read when so many names were named

@@ -1,5 +1,5 @@
 -- The words of a line that is spelled: its numbers are read back, and each is one word.
-use Rattle.std.proofs.Common.{◌≡◌, ◌<◌, ◌≤◌, ◌^◌, ◌&&◌, ℕ, Bool, true, false, nat_le, List, [], ◌∷◌, codes}
+use Rattle.std.proofs.Common.{◌≡◌, ◌<◌, ◌≤◌, ◌^◌, ◌&&◌, ℕ, true, nat_le, List, [], ◌∷◌, codes}
 use Rattle.std.proofs.Common.{decimal, Some, None, arith, refl, ap, ◌∙◌, inl, inr}
 use Rattle.std.specs.Prelude.{◌⊎◌}
 use Rattle.std.specs.List.{list_all}
@@ -8,8 +8,10 @@ use Rattle.std.proofs.lemmas.Bool.{false_from_ne_true, le-leb, leb-true}
 use Rattle.vod_base.proofs.Written.{decimal_read}
 use Rattle.day_run.specs.declared.scripts.Line.{Line}
 use Rattle.day_run.specs.declared.scripts.Line.TheVariants.{Play, Pause, Resume, Look, Slot, Offer}
+use Rattle.day_run.specs.declared.scripts.SourceKind.{SourceKind}
+use Rattle.day_run.specs.declared.scripts.SourceKind.TheVariants.{Film, Trace}
 use Rattle.day_run.specs.Readings.{Name}
-use Rattle.day_run.specs.Sayings.{film_in, in_range, number_in}
+use Rattle.day_run.specs.Sayings.{in_range, kind_in, number_in}
 use Rattle.day_run.specs.Spelling.{IsAskedInWords, IsInWords, MayStand, asked_words, is_word, kind_text}
 use Rattle.day_run.specs.Spelling.{name_at, words_of}
 use Rattle.day_run.proofs.SpelledLines.{decimal-word, kind-word, name-word}
@@ -53,9 +55,9 @@ read-or least most n small = elim (cases_lt n least) [
   ]
 ]
 
-pub film-back : (film : Bool) → film_in (kind_text film) ≡ Some film
-film-back true = refl
-film-back false = refl
+pub kind-back : (kind : SourceKind) → kind_in (kind_text kind) ≡ Some kind
+kind-back Film = refl
+kind-back Trace = refl
 
 pub in-words : (heard : ℕ) (names : List Name) (line : Line) → MayStand heard names line → IsInWords names line
 in-words heard names (Play client source buffer delay) may = record {
@@ -86,9 +88,9 @@ asked-plain : {name : Name} {client buffer delay : ℕ} (words : List (List ℕ)
     → IsAskedInWords name client buffer delay → list_all is_word words ≡ true
     → list_all is_word (asked_words name client buffer delay words) ≡ true
 asked-plain {name} {client} {buffer} {delay} words asked rest =
-    both-words (decimal client) (kind_text name.film ∷ name.name ∷ decimal buffer ∷ decimal delay ∷ words)
+    both-words (decimal client) (kind_text name.kind ∷ name.name ∷ decimal buffer ∷ decimal delay ∷ words)
     (decimal-word client asked.client_small)
-    (both-words (kind_text name.film) (name.name ∷ decimal buffer ∷ decimal delay ∷ words) (kind-word name.film)
+    (both-words (kind_text name.kind) (name.name ∷ decimal buffer ∷ decimal delay ∷ words) (kind-word name.kind)
     (both-words name.name (decimal buffer ∷ decimal delay ∷ words) asked.one_word
     (both-words (decimal buffer) (decimal delay ∷ words) (decimal-word buffer asked.buffer_small)
     (both-words (decimal delay) words (decimal-word delay asked.delay_small) rest))))

@@ -4,7 +4,6 @@ use Rattle.std.specs.Prelude.{nat_lt, List, [], ◌∷◌, ◌++◌, length, map
 use Rattle.std.specs.Prelude.{Option, Some, None, string_bytes}
 use Rattle.std.specs.List.{position_or_len, slice_split}
 use Rattle.std.specs.Option.{option_and_then}
-use Rattle.std.specs.Bool.{beq}
 use Rattle.std.specs.Str.{bytes_eq}
 use Rattle.vod_base.specs.Names.{is_good_name}
 use Rattle.day_run.specs.declared.sayings.Asked.{Asked}
@@ -15,6 +14,8 @@ use Rattle.day_run.specs.declared.scripts.Line.{Line}
 use Rattle.day_run.specs.declared.scripts.Line.TheVariants as lines
 use Rattle.day_run.specs.declared.scripts.Named.{Named}
 use Rattle.day_run.specs.declared.scripts.Script.{Script}
+use Rattle.day_run.specs.declared.scripts.SourceKind.{SourceKind}
+use Rattle.day_run.specs.declared.scripts.SourceKind.TheVariants.{Film, Trace}
 use Rattle.day_run.specs.declared.scripts.ScriptRefused.{ScriptRefused}
 use Rattle.day_run.specs.declared.scripts.ScriptRefused.TheVariants.{BadScript, NoMemory}
 use Rattle.day_run.specs.declared.reading.Draft.{Draft}
@@ -25,17 +26,17 @@ use Rattle.day_run.specs.DayLaws.{AreClients}
 
 -- a film or trace by its name
 pub record Name : Type 0 where
-  pub film : Bool
+  pub kind : SourceKind
   pub name : List ℕ
 
 abbrev pub name_of : Named → Name
-name_of named = record { film = named.film; name = string_bytes named.name }
+name_of named = record { kind = named.kind; name = string_bytes named.name }
 
 abbrev pub names_of : List Named → List Name
 names_of named = map name_of named
 
-abbrev pub name_as : Bool → List ℕ → Name
-name_as film name = record { film = film; name = name }
+abbrev pub name_as : SourceKind → List ℕ → Name
+name_as kind name = record { kind = kind; name = name }
 
 -- what was read: the lines, the names, and the slot of the last `slot` line, 0 before the first
 pub record Reading : Type 0 where
@@ -46,8 +47,13 @@ pub record Reading : Type 0 where
 abbrev pub nothing_read : Reading
 nothing_read = record { lines = []; names = []; slot = 0 }
 
+abbrev pub is_kind : SourceKind → SourceKind → Bool
+is_kind Film Film = true
+is_kind Trace Trace = true
+is_kind _ _ = false
+
 abbrev pub is_name : Name → Name → Bool
-is_name one other = beq one.film other.film && bytes_eq one.name other.name
+is_name one other = is_kind one.kind other.kind && bytes_eq one.name other.name
 
 -- the place of a name, the next one where it is new
 abbrev pub source_in : List Name → Name → ℕ
@@ -73,7 +79,7 @@ with_named r name line =
 
 -- the film or trace that the fourth word of a line names
 abbrev pub named_in : List (List ℕ) → Asked → Name
-named_in words asked = name_as asked.film (slice_index_or words 3 [])
+named_in words asked = name_as asked.kind (slice_index_or words 3 [])
 
 -- what was read with one more line, of these words; None where it may not stand there, as a `slot`
 -- line that isn't later

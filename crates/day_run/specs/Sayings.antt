@@ -1,5 +1,5 @@
 -- What the words of a line say.
-use Rattle.std.specs.Prelude.{ℕ, ◌≤◌, ◌^◌, Bool, true, false, ◌&&◌, if◌then◌else◌, nat_le, List, []}
+use Rattle.std.specs.Prelude.{ℕ, ◌≤◌, ◌^◌, ◌&&◌, if◌then◌else◌, nat_le, List, []}
 use Rattle.std.specs.Prelude.{◌∷◌, codes, Option, Some, None, option_map}
 use Rattle.std.specs.Option.{option_and_then}
 use Rattle.std.specs.Str.{bytes_eq}
@@ -8,6 +8,8 @@ use Rattle.day_run.specs.declared.sayings.Asked.{Asked}
 use Rattle.day_run.specs.declared.sayings.Saying.{Saying}
 use Rattle.day_run.specs.declared.sayings.Saying.TheVariants.{Play, Pause, Resume, Look, Slot}
 use Rattle.day_run.specs.declared.sayings.Saying.TheVariants.{Offer}
+use Rattle.day_run.specs.declared.scripts.SourceKind.{SourceKind}
+use Rattle.day_run.specs.declared.scripts.SourceKind.TheVariants.{Film, Trace}
 
 -- a number that is in a range
 abbrev pub in_range : ℕ → ℕ → Option ℕ → Option ℕ
@@ -22,17 +24,17 @@ number_in least most word = in_range least most (number_of word)
 abbrev pub client_in : List ℕ → Option ℕ
 client_in word = number_in 0 255 word
 
--- whether a film is meant, or a trace
-abbrev pub film_in : List ℕ → Option Bool
-film_in word = if bytes_eq word (codes "film")
-    then Some true else (if bytes_eq word (codes "trace") then Some false else None)
+-- what is named
+abbrev pub kind_in : List ℕ → Option SourceKind
+kind_in word = if bytes_eq word (codes "film")
+    then Some Film else (if bytes_eq word (codes "trace") then Some Trace else None)
 
 -- a client, `film` or `trace`, a buffer and a start delay; the name is read where it is noted
 abbrev pub asked_in : List ℕ → List ℕ → List ℕ → List ℕ → Option Asked
 asked_in client kind buffer delay =
-    option_and_then (λ c. option_and_then (λ f. option_and_then (λ b. option_map (λ d.
-    record { client = c; film = f; buffer = b; delay = d })
-    (number_in 0 10000 delay)) (number_in 1 (2 ^ 42) buffer)) (film_in kind)) (client_in client)
+    option_and_then (λ c. option_and_then (λ k. option_and_then (λ b. option_map (λ d.
+    record { client = c; kind = k; buffer = b; delay = d })
+    (number_in 0 10000 delay)) (number_in 1 (2 ^ 42) buffer)) (kind_in kind)) (client_in client)
 
 -- the lines of two words
 abbrev pub pair_in : List ℕ → List ℕ → Option Saying

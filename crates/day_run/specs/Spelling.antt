@@ -7,21 +7,23 @@ use Rattle.std.specs.Str.{bytes_eq}
 use Rattle.vod_base.specs.Names.{is_good_name}
 use Rattle.day_run.specs.declared.scripts.Line.{Line}
 use Rattle.day_run.specs.declared.scripts.Line.TheVariants.{Play, Pause, Resume, Look, Slot, Offer}
+use Rattle.day_run.specs.declared.scripts.SourceKind.{SourceKind}
+use Rattle.day_run.specs.declared.scripts.SourceKind.TheVariants.{Film, Trace}
 use Rattle.day_run.specs.Readings.{Name, name_as}
 use Rattle.day_run.specs.Scripts.{slot_after}
 
 -- the words for a client, a film or trace by its name, a buffer and a start delay
-abbrev pub kind_text : Bool → List ℕ
-kind_text true = codes "film"
-kind_text false = codes "trace"
+abbrev pub kind_text : SourceKind → List ℕ
+kind_text Film = codes "film"
+kind_text Trace = codes "trace"
 
 abbrev pub asked_words : Name → ℕ → ℕ → ℕ → List (List ℕ) → List (List ℕ)
 asked_words name client buffer delay words =
-    decimal client ∷ kind_text name.film ∷ name.name ∷ decimal buffer ∷ decimal delay ∷ words
+    decimal client ∷ kind_text name.kind ∷ name.name ∷ decimal buffer ∷ decimal delay ∷ words
 
 -- the name at a place
 abbrev pub name_at : List Name → ℕ → Name
-name_at names source = slice_index_or names source (name_as false [])
+name_at names source = slice_index_or names source (name_as Trace [])
 
 -- the words of a line, by the names of films and traces
 abbrev pub words_of : List Name → Line → List (List ℕ)

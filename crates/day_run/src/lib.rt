@@ -29,4 +29,4 @@ pub use laws::{
 };
 pub use reading::read_script;
 pub use reels::Source;
-pub use scripts::{Line, Named, Script, ScriptRefused};
+pub use scripts::{Line, Named, Script, ScriptRefused, SourceKind};

@@ -14,7 +14,7 @@ ghost use Rattle.day_run.specs.Readings.{line_read, name_as, named_in, names_of,
 ghost use Rattle.day_run.specs.Readings.{reading_of, source_in, with_line, with_name, with_saying};
 
 use crate::sayings::{Asked, Saying, saying_in};
-use crate::scripts::{Line, Named, Script, ScriptRefused};
+use crate::scripts::{Line, Named, Script, ScriptRefused, SourceKind};
 use crate::splits::{first_line, split_words};
 use std::alloc::Global;
 use vod_base::{NoMemory, good_name};
@@ -114,7 +114,7 @@ impl Draft {
     {
         match words {
             [_, _, _, name, ..] if good_name(name) => {
-                let place = source_of(self.alloc, &mut self.named, asked.film, name)?;
+                let place = source_of(self.alloc, &mut self.named, asked.kind, name)?;
                 Ok(Some(place))
             }
             _ => Ok(None),
@@ -234,12 +234,12 @@ fn text_of(alloc: Global, name: &[u8]) -> Result<String, NoMemory>
 }
 
 /// Where a name stands among these, or how many they are.
-fn place_of(named: &[Named], film: bool, name: &[u8]) -> usize
-    ensures value { result ≡ source_in (names_of named.now) (name_as film name.now) }
+fn place_of(named: &[Named], kind: SourceKind, name: &[u8]) -> usize
+    ensures value { result ≡ source_in (names_of named.now) (name_as kind name.now) }
     ensures most { result ≤ length named.now }
 {
     for (place, other) in named.iter().enumerate() {
-        if film == other.film && name == other.name.as_bytes() {
+        if kind == other.kind && name == other.name.as_bytes() {
             return place;
         }
     }
@@ -250,21 +250,21 @@ fn place_of(named: &[Named], film: bool, name: &[u8]) -> usize
 fn source_of(
     alloc: Global,
     named: &mut Vec<Named>,
-    film: bool,
+    kind: SourceKind,
     name: &[u8],
 ) -> Result<usize, NoMemory>
     requires { is_good_name name.now ≡ true }
     ensures inside { IfOk result (λ place. place < length named.new.items) }
     ensures longer { OnOk result (length named.old.items ≤ length named.new.items) }
     ensures place { IfOk result (λ place. place ≡
-        source_in (names_of named.old.items) (name_as film name.now)) }
+        source_in (names_of named.old.items) (name_as kind name.now)) }
     ensures names { OnOk result (names_of named.new.items ≡
-        with_name (names_of named.old.items) (name_as film name.now)) }
+        with_name (names_of named.old.items) (name_as kind name.now)) }
 {
-    let place = place_of(named, film, name);
+    let place = place_of(named, kind, name);
     if place == named.len() {
         let name = text_of(alloc, name)?;
-        named.push(Named { film, name })?;
+        named.push(Named { kind, name })?;
     }
     Ok(place)
 }

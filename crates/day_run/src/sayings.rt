@@ -4,10 +4,11 @@ ghost use Rattle.std.specs.Prelude.{◌≡◌, ◌≤◌, ◌^◌, IfSome};
 ghost use Rattle.std.specs.Str.{bytes_eq};
 ghost use Rattle.vod_base.specs.Numbers.{number_of};
 ghost use Rattle.day_run.specs.Lines.{texts_at};
-ghost use Rattle.day_run.specs.Sayings.{IsAskedInRange, IsInRange, asked_in, film_in, number_in};
+ghost use Rattle.day_run.specs.Sayings.{IsAskedInRange, IsInRange, asked_in, kind_in, number_in};
 ghost use Rattle.day_run.specs.Sayings.{client_in, pair_in, play_in, offer_in, saying_in};
 
 use crate::all_clients::CLIENTS;
+use crate::scripts::SourceKind;
 use admission::LATEST_SLOT;
 use early_start::MAX_WAIT;
 use vod_base::read_number;
@@ -16,8 +17,7 @@ use vod_base::read_number;
 #[derive(Clone, Copy)]
 pub(crate) struct Asked {
     pub(crate) client: u8,
-    /// Whether it names a film; else it names a trace.
-    pub(crate) film: bool,
+    pub(crate) kind: SourceKind,
     /// The bytes that the client's buffer holds, 1 to 2^42.
     pub(crate) buffer: u64,
     /// The slots before the first picture is used, at most 10,000.
@@ -83,14 +83,14 @@ fn client_in(word: &[u8]) -> Option<u8>
     Some(number as u8)
 }
 
-/// Whether a word says `film`; it says nothing where it is neither that nor `trace`.
-fn film_in(word: &[u8]) -> Option<bool>
-    ensures { result ≡ film_in word.now }
+/// What a word says is named: `film` or `trace`.
+fn kind_in(word: &[u8]) -> Option<SourceKind>
+    ensures { result ≡ kind_in word.now }
 {
     if is_text(word, b"film") {
-        Some(true)
+        Some(SourceKind::Film)
     } else if is_text(word, b"trace") {
-        Some(false)
+        Some(SourceKind::Trace)
     } else {
         None
     }
@@ -102,12 +102,12 @@ fn asked_in(client: &[u8], kind: &[u8], buffer: &[u8], delay: &[u8]) -> Option<A
     ensures range { IfSome result IsAskedInRange }
 {
     let client = client_in(client)?;
-    let film = film_in(kind)?;
+    let kind = kind_in(kind)?;
     let buffer = number_in(buffer, 1, 1 << 42)?;
     let delay = number_in(delay, 0, 10_000)?;
     Some(Asked {
         client,
-        film,
+        kind,
         buffer,
         delay,
     })

@@ -42,11 +42,20 @@ pub enum Line {
     },
 }
 
+/// What a script names: a film, by `film`, or a trace, by `trace`.
+#[derive(Clone, Copy, Debug, PartialEq, Eq)]
+pub enum SourceKind {
+    /// A film.
+    Film,
+    /// A trace.
+    Trace,
+}
+
 /// A film or trace that a script names.
 #[derive(Debug, Drop)]
 pub struct Named {
-    /// Whether it is named as a film; else it is named as a trace.
-    pub film: bool,
+    /// What it is named as.
+    pub kind: SourceKind,
     /// Its name, as of a file of the library.
     pub name: String,
 }

@@ -65,7 +65,14 @@ pub fault_checked : {E : Type 0} {held : List File} {viewer : Viewer} {cert : Li
     IsChecked held viewer cert done.status done.text.items
 fault_checked read {fault} first {r} text done is =
     checked read
-    (inr (fault, (is.0, first, text_of (codes "refused " ++ cert_fault_text fault ++ codes "\n") r done.text text is.1)))
+    (inr (
+      fault,
+      (
+        is.0,
+        first,
+        text_of (codes "refused " ++ cert_fault_text fault ++ codes "\n") r done.text text is.1,
+      ),
+    ))
 
 pub film_done : {E : Type 0} {held : List File} {film : List ℕ} {size rate : ℕ} {units : List PictureUnit} →
     HoldsFilm held film size rate units →

@@ -1,14 +1,18 @@
 -- The films and traces that a script names.
-use Rattle.std.proofs.Common.{◌≡◌, ◌∙◌, ◌+◌, ◌-◌, ◌<◌, ◌≤◌, ℕ, Bool, true, false, List, [], ◌∷◌, ◌++◌, Option, Some, None, length, take, drop, get_or, refl, sym, ap, subst, suc, zero, add-one, arith, inl, inr, string_bytes}
+use Rattle.std.proofs.Common.{◌≡◌, ◌∙◌, ◌+◌, ◌-◌, ◌<◌, ◌≤◌, ℕ, List, [], ◌∷◌, ◌++◌, Option, Some}
+use Rattle.std.proofs.Common.{None, length, take, drop, get_or, refl, sym, ap, subst, suc, zero}
+use Rattle.std.proofs.Common.{add-one, arith, inl, inr, string_bytes}
 use Rattle.std.specs.Prelude.{All, slice_index_or}
 use Rattle.std.specs.Option.{option_and_then}
 use Rattle.std.proofs.Math.Seq.{drop-cons, get_or-append_seam}
 use Rattle.day_run.specs.Lines.{lines_of_script}
 use Rattle.std.specs.List.{Contains}
 use Rattle.std.proofs.Math.ListN.{get_or-map}
-use Rattle.std.proofs.lemmas.Bool.{cases_lt, true≢false}
+use Rattle.std.proofs.lemmas.Bool.{cases_lt}
 use Rattle.std.proofs.lemmas.Option.{none-some}
-use Rattle.std.proofs.lemmas.List.{length-append, length-map, length-take, take-append-drop, get_or-take, get_or_append_left, get_or-append_right, get_or_push, get_or_read_under}
+use Rattle.std.proofs.lemmas.List.{length-append, length-map, length-take, take-append-drop}
+use Rattle.std.proofs.lemmas.List.{get_or-take, get_or_append_left, get_or-append_right}
+use Rattle.std.proofs.lemmas.List.{get_or_push, get_or_read_under}
 use Rattle.day_run.specs.declared.scripts.Named.{Named}
 use Rattle.day_run.specs.declared.reels.Source.{Source}
 use Rattle.day_run.specs.Sources.{AreSources, IsSource}
@@ -20,25 +24,42 @@ use Rattle.inputs.specs.Files.{IsNamed}
 use Rattle.day_run.specs.declared.reels.Source.TheVariants.{Film, Trace}
 use Rattle.day_run.specs.declared.scripts.Script.{Script}
 use Rattle.day_run.specs.declared.scripts.Line.{Line}
-use Rattle.day_run.specs.Readings.{IsBadLine, IsScript, Name, Reading, line_read, lines_read, name_of, names_of, nothing_read}
+use Rattle.day_run.specs.declared.scripts.SourceKind.{SourceKind}
+use Rattle.day_run.specs.declared.scripts.SourceKind.TheVariants as kinds
+use Rattle.day_run.specs.Readings.{IsBadLine, IsScript, Name, Reading, line_read, lines_read}
+use Rattle.day_run.specs.Readings.{name_of, names_of, nothing_read}
 use Rattle.inputs.proofs.ReadLemmas.{one_file}
 use Rattle.inputs.proofs.VideoLemmas.{held_not_refused}
 use Rattle.inputs.proofs.ScanLemmas.{read_trouble_map}
-use Rattle.local_commands.specs.Days.{AreHeldAs, HoldsScript, IsDayRefused, IsFirstNamedRefused, IsHeldAs, IsHeldUnder, IsNameOf, IsNamedRefused, IsNotRefusedAs, IsRefusedAs, IsScriptRefused, names_in}
+use Rattle.local_commands.specs.Days.{AreHeldAs, HoldsScript, IsDayRefused, IsFirstNamedRefused}
+use Rattle.local_commands.specs.Days.{IsHeldAs, IsHeldUnder, IsNameOf, IsNamedRefused}
+use Rattle.local_commands.specs.Days.{IsNotRefusedAs, IsRefusedAs, IsScriptRefused, names_in}
 use Rattle.local_commands.proofs.OneAnswer.{trace_not_refused}
 
 abbrev bytes_of : Named → List ℕ
 bytes_of n = string_bytes n.name
 
+-- a film or trace is read as what the script names
+pub record IsNamedAs (named : Named) (kind : SourceKind) (name : List ℕ) : Type 0 where
+  pub kind_is : named.kind ≡ kind
+  pub name_is : name ≡ string_bytes named.name
+
 -- the trouble of a film or trace that was read by its name, where the script names it
-pub named_trouble : {film : Bool} {name : List ℕ} (named : Named) (told : Option (List File)) (before after : ℕ) (t : Trouble)
-    → named.film ≡ film → name ≡ string_bytes named.name →
-    IsReadTrouble (IsNamed name) (IsRefusedAs film) told before after t →
+pub named_trouble : {kind : SourceKind} {name : List ℕ} {named : Named} {told : Option (List File)} (before after : ℕ)
+    (t : Trouble) → IsNamedAs named kind name → IsReadTrouble (IsNamed name) (IsRefusedAs kind) told before after t →
     IsReadTrouble (IsNameOf named) (IsNamedRefused named) told before after t
-named_trouble {film} {name} named told before after t kind is h =
-    read_trouble_map before after t (λ other same. same ∙ is)
-    (λ held other fault told_is same refused. subst (λ (b : Bool). IsRefusedAs b held other fault) (sym kind) refused)
+named_trouble before after t read h =
+    read_trouble_map before after t (λ other same. same ∙ read.name_is)
+    (λ held other fault told_is same refused.
+    subst (λ (k : SourceKind). IsRefusedAs k held other fault) (sym read.kind_is) refused)
     h
+
+-- what was read is held as the script names it
+pub held_as : {held : List File} {kind : SourceKind} {name : List ℕ} {named : Named} {source : Source} →
+    IsNamedAs named kind name → IsHeldUnder kind held name source → IsHeldAs held named source
+held_as {held} {kind} {name} {named} {source} read is =
+    subst (λ (n : List ℕ). IsHeldUnder named.kind held n source) read.name_is
+    (subst (λ (k : SourceKind). IsHeldUnder k held name source) (sym read.kind_is) is)
 
 -- a name of the script
 pub named_contains : {one : Named} {name : List ℕ} (named : List Named) (k : ℕ) → k < length named →
@@ -108,19 +129,19 @@ first_of [] k inside = absurd (omega (arith, inside))
 first_of (x ∷ xs) k inside = x
 
 -- a source that is refused under its name
-record RefusedSource (film : Bool) (held : List File) (name : List ℕ) : Type 0 where
+record RefusedSource (kind : SourceKind) (held : List File) (name : List ℕ) : Type 0 where
   fault : Fault
-  refused : IsRefusedAs film held name fault
+  refused : IsRefusedAs kind held name fault
 
 -- what the library holds isn't refused
-held_as_not_refused : {held : List File} {name : List ℕ} (film : Bool) (source : Source) →
-    RefusedSource film held name → IsHeldUnder film held name source → ⊥
-held_as_not_refused {held} {name} true (Film stored) refused_source is =
-    held_not_refused held name stored.film.bytes.items refused_source.fault is.1 refused_source.refused
-held_as_not_refused true (Trace sizes) refused_source is = true≢false is.0
-held_as_not_refused false (Film stored) refused_source is = true≢false (sym is.0)
-held_as_not_refused {held} {name} false (Trace sizes) refused_source is =
-    trace_not_refused held name sizes.items refused_source.fault is.1 refused_source.refused
+held_as_not_refused : {held : List File} {name : List ℕ} (kind : SourceKind) (source : Source) →
+    RefusedSource kind held name → IsHeldUnder kind held name source → ⊥
+held_as_not_refused {held} {name} kinds.Film (Film stored) refused_source is =
+    held_not_refused held name stored.film.bytes.items refused_source.fault is refused_source.refused
+held_as_not_refused kinds.Film (Trace sizes) refused_source is = is
+held_as_not_refused kinds.Trace (Film stored) refused_source is = is
+held_as_not_refused {held} {name} kinds.Trace (Trace sizes) refused_source is =
+    trace_not_refused held name sizes.items refused_source.fault is refused_source.refused
 
 -- those that were loaded so far aren't refused
 front_accepted : {held : List File} {named : List Named} {sources : List Source} {i : ℕ} → i ≤ length named →
@@ -130,7 +151,7 @@ front_accepted {held} {named} {sources} {i} few long are = λ k d inside fault r
     let short : k < i = omega (arith, inside, length-take i named, few) in
     let same : get_or (take i named) k d ≡ get_or named k d = get_or-take i named k d short in
     let other : Named = get_or (take i named) k d in
-    held_as_not_refused other.film (get_or sources k (first_of sources k (omega (arith, short, long))))
+    held_as_not_refused other.kind (get_or sources k (first_of sources k (omega (arith, short, long))))
     (record { fault = fault; refused = refused }) (subst (λ (n : Named). IsHeldAs held n
     (get_or sources k (first_of sources k (omega (arith, short, long))))) (sym same)
     (are.each k d (first_of sources k (omega (arith, short, long))) (omega (arith, short, long))))
@@ -168,7 +189,8 @@ line_fails_after : {mid whole : Reading} {o : Option Reading} (r : Reading) (fir
     lines_read r (first.line ∷ take first.count first.lines) ≡ Some mid →
     lines_read r (first.line ∷ first.lines) ≡ Some whole → ⊥
 line_fails_after {whole} {o = None} r first is fails before all =
-    let bad : None ≡ Some whole = sym (ap (option_and_then (λ (next : Reading). lines_read next first.lines)) is) ∙ all in
+    let bad : None ≡ Some whole = sym (ap (option_and_then (λ (next : Reading). lines_read next first.lines)) is)
+    ∙ all in
     cc
 line_fails_after {whole} {o = Some next} r first is fails before all =
     fails next (sym (ap (option_and_then (λ (n : Reading). lines_read n (take first.count first.lines))) is) ∙ before)
@@ -190,7 +212,8 @@ line_fails {mid} {whole} r (line ∷ lines) zero before failing all =
     cc
 line_fails {whole} r (line ∷ lines) (suc k) before failing all =
     line_fails_after r (record { line = line; lines = lines; count = k }) refl
-    (λ next front rest. line_fails next lines k front (record { inside = omega (arith, failing.inside); here = failing.here })
+    (λ next front rest. line_fails next lines k front
+    (record { inside = omega (arith, failing.inside); here = failing.here })
     rest) before all
 
 -- a script's text has no bad line
@@ -206,7 +229,8 @@ script_not_refused : (held : List File) (name : List ℕ) (script : Script) (fau
 script_not_refused held name script fault holds (inl missing) = none-some holds.text (sym missing.1 ∙ holds.found)
 script_not_refused held name script fault holds (inr bad) =
     script_not_bad holds.text script bad.line holds.script_is
-    (subst (λ (t : List ℕ). IsBadLine t bad.line) (one_file held name bad.text holds.text bad.found holds.found) bad.bad)
+    (subst (λ (t : List ℕ). IsBadLine t bad.line)
+    (one_file held name bad.text holds.text bad.found holds.found) bad.bad)
 
 read_names : Option Reading → List Name
 read_names None = []
@@ -249,17 +273,19 @@ lines_once held name a b p q = ap read_lines (same_reading held name a b p q)
 pub same_name : (a b : Named) → name_of a ≡ name_of b → (held : List File) (source : Source)
     → IsHeldAs held a source → IsHeldAs held b source
 same_name a b same held source is =
-    subst (λ (n : Name). IsHeldUnder n.film held n.name source) same is
+    subst (λ (n : Name). IsHeldUnder n.kind held n.name source) same is
 
 pub day_not_refused : {held : List File} {script : List ℕ} {read : Script} {sources : List Source} (name : List ℕ)
     (fault : Fault) → HoldsScript held script read →
     AreHeldAs held read.named.items sources → IsDayRefused script held name fault → ⊥
 day_not_refused {held} {script} {read} name fault holds are (inl refused) =
-    script_not_refused held script read fault holds (subst (λ (n : List ℕ). IsScriptRefused held n fault) refused.0 refused.1)
+    script_not_refused held script read fault holds
+    (subst (λ (n : List ℕ). IsScriptRefused held n fault) refused.0 refused.1)
 day_not_refused {held} {script} {read} {sources} name fault holds are (inr named) =
     let other : Script = named.0 in
     let first : IsFirstNamedRefused other.named.items held name fault = named.1.1 in
-    let names : names_of other.named.items ≡ names_of read.named.items = names_once held script other read named.1.0 holds in
+    let names : names_of other.named.items ≡ names_of read.named.items =
+    names_once held script other read named.1.0 holds in
     let k : ℕ = length first.before in
     let inside : k < length other.named.items =
     omega (arith, ap length first.named_are, length-append first.before (first.one ∷ first.rest)) in
@@ -269,13 +295,14 @@ day_not_refused {held} {script} {read} {sources} name fault holds are (inr named
     ap (λ (l : List Named). get_or l k first.one) first.named_are
     ∙ get_or-append_seam first.before first.one first.rest first.one in
     let alike : name_of (get_or read.named.items k first.one) ≡ name_of first.one =
-    sym (get_or-map name_of read.named.items k first.one) ∙ ap (λ (ns : List Name). get_or ns k (name_of first.one)) (sym names)
+    sym (get_or-map name_of read.named.items k first.one)
+    ∙ ap (λ (ns : List Name). get_or ns k (name_of first.one)) (sym names)
     ∙ get_or-map name_of other.named.items k first.one ∙ ap name_of at in
     let none : Source = first_of sources k (omega (arith, short, are.count)) in
-    held_as_not_refused first.one.film (get_or sources k none)
+    held_as_not_refused first.one.kind (get_or sources k none)
     (record {
       fault = fault;
-      refused = subst (λ (n : List ℕ). IsRefusedAs first.one.film held n fault) first.name_is
+      refused = subst (λ (n : List ℕ). IsRefusedAs first.one.kind held n fault) first.name_is
           first.refused;
     }) (same_name (get_or read.named.items k first.one) first.one alike held (get_or sources k none)
     (are.each k first.one none short))

@@ -4,7 +4,8 @@ use Rattle.std.specs.List.{list_all}
 use Rattle.command_words.specs.Commands.{keys_of}
 use Rattle.command_words.specs.Forms.{defaults}
 use Rattle.command_words.specs.Spelling.{name_of}
-use Rattle.command_words.specs.Words.{Order, help, version, plan_of, check_of, scan_of, make_of, day_of, fair_of, serve_of, watch_of}
+use Rattle.command_words.specs.Words.{Order, help, version, plan_of, check_of, scan_of, make_of}
+use Rattle.command_words.specs.Words.{day_of, fair_of, serve_of, watch_of}
 use Rattle.command_words.specs.declared.commands.Command.{Command}
 use Rattle.command_words.specs.declared.commands.Command.TheVariants.{Plan, Check, Scan, Make, Day, Fair, Serve, Watch}
 use Rattle.local_commands.specs.HelpLaws.{fits_into, shows_command, shows_default, shows_key}

@@ -1,5 +1,6 @@
 -- The words of a printed line, and what it gives to a key.
-use Rattle.std.proofs.Common.{◌≡◌, ◌≢◌, ◌∙◌, ℕ, ◌<◌, ◌^◌, ◌==◌, ◌||◌, Bool, true, false, List, [], ◌∷◌, ◌++◌, All, map, Option, None, codes, decimal, refl, ap, arith}
+use Rattle.std.proofs.Common.{◌≡◌, ◌≢◌, ◌∙◌, ℕ, ◌<◌, ◌^◌, ◌==◌, ◌||◌, Bool, true, false, List, []}
+use Rattle.std.proofs.Common.{◌∷◌, ◌++◌, All, map, Option, None, codes, decimal, refl, ap, arith}
 use Rattle.std.specs.Prelude.{⊤}
 use Rattle.std.proofs.lemmas.Bool.{ne_eqb}
 use Rattle.std.proofs.lemmas.List.{append-nil}
@@ -28,11 +29,13 @@ apart c blank end = rw (ne_eqb c 32 blank) (ne_eqb c 10 end)
 pub is-word : (text : List ℕ) → HasNo 32 text → HasNo 10 text → IsWord text
 is-word [] blank end = All-nil (λ b. gap b ≡ false)
 is-word (c ∷ text) blank end =
-    All-cons (λ b. gap b ≡ false) c text (apart c (All-head (λ b. b ≢ 32) c text blank) (All-head (λ b. b ≢ 10) c text end))
+    All-cons (λ b. gap b ≡ false) c text
+    (apart c (All-head (λ b. b ≢ 32) c text blank) (All-head (λ b. b ≢ 10) c text end))
     (is-word text (All-tail (λ b. b ≢ 32) c text blank) (All-tail (λ b. b ≢ 10) c text end))
 
 -- a key and a number
-pub number-word : (key : List ℕ) (n : ℕ) → n < 2 ^ 64 → HasNo 32 key → HasNo 10 key → IsWord (word_of (number_setting key n))
+pub number-word : (key : List ℕ) (n : ℕ) → n < 2 ^ 64 → HasNo 32 key → HasNo 10 key
+    → IsWord (word_of (number_setting key n))
 number-word key n small blank end =
     is-word (key ++ (codes "=" ++ decimal n))
     (All-append (λ b. b ≢ 32) key (61 ∷ decimal n) blank
@@ -96,7 +99,8 @@ pub line-values : {key first : List ℕ} (line_end : LineEnd) (settings : List S
     values_of key (words_in (first ++ line_rest line_end.end settings)) ≡ picked key settings
 line-values {key} {first} line_end settings words first_word empty plain =
     ap (values_of key) (line-words first settings line_end first_word.word words)
-    ∙ ap (λ (o : Option (List ℕ)). option_to_list o ++ values_of key (map word_of settings ++ line_end.words)) first_word.none
+    ∙ ap (λ (o : Option (List ℕ)). option_to_list o ++ values_of key
+    (map word_of settings ++ line_end.words)) first_word.none
     ∙ values_of-append key (map word_of settings) line_end.words
     ∙ ap (λ (vs : List (List ℕ)). values_of key (map word_of settings) ++ vs) empty
     ∙ append-nil (values_of key (map word_of settings)) ∙ values_read key settings plain

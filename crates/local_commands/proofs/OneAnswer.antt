@@ -1,5 +1,6 @@
 -- A trace or film that the library holds has one plan, one verdict and one scan, and none where it is refused.
-use Rattle.std.proofs.Common.{◌≡◌, ℕ, ◌≤◌, ◌^◌, List, [], ◌∷◌, ◌++◌, length, take, map, Option, Some, inl, inr, refl, sym, ap, ◌∙◌, subst, arith}
+use Rattle.std.proofs.Common.{◌≡◌, ℕ, ◌≤◌, ◌^◌, List, [], ◌∷◌, ◌++◌, length, take, map, Option}
+use Rattle.std.proofs.Common.{Some, inl, inr, refl, sym, ap, ◌∙◌, subst, arith}
 use Rattle.std.proofs.lemmas.Grind.{same_number_lists}
 use Rattle.std.proofs.lemmas.List.{append_assoc, take_at, length-map, map-append, take-map, length-take}
 use Rattle.std.proofs.lemmas.List.Sums.{sum_by-take-le}
@@ -26,7 +27,9 @@ use Rattle.inputs.proofs.ReadLemmas.{one_file}
 use Rattle.inputs.proofs.VideoLemmas.{held_not_refused, held_once}
 use Rattle.command_words.specs.Words.{Source, trace_source, film_source, Viewer}
 use Rattle.local_commands.specs.Carrying.{IsScanned}
-use Rattle.local_commands.specs.Plans.{ArePictures, HasCurves, HoldsTrace, IsPlanned, IsSourceRefused, IsTraceRefused, IsViewerRefused, Pictures, timing_of}
+use Rattle.local_commands.specs.Plans.{ArePictures, HasCurves, HoldsTrace, IsPlanned}
+use Rattle.local_commands.specs.Plans.{IsSourceRefused, IsTraceRefused, IsViewerRefused, Pictures}
+use Rattle.local_commands.specs.Plans.{timing_of}
 use Rattle.local_commands.specs.ScanText.{scan_text}
 use Rattle.troubles.specs.declared.faults.Fault.{Fault}
 use Rattle.troubles.specs.declared.faults.Fault.TheVariants.{BadTrace, Curves}
@@ -61,7 +64,8 @@ film_once {held} {name} p q =
       same = p.sizes_are ∙ ap sizes_of same ∙ sym q.sizes_are;
     }
 
-pictures_are : (a b : Pictures) → a.sizes ≡ b.sizes → a.picture_units ≡ b.picture_units → a.slot_units ≡ b.slot_units → a ≡ b
+pictures_are : (a b : Pictures) → a.sizes ≡ b.sizes → a.picture_units ≡ b.picture_units → a.slot_units ≡ b.slot_units
+    → a ≡ b
 pictures_are a b sizes picture_units slot_units =
     ap (λ (s : List ℕ). record { sizes = s; picture_units = a.picture_units; slot_units = a.slot_units }) sizes
     ∙ ap (λ (n : ℕ). record { sizes = b.sizes; picture_units = n; slot_units = a.slot_units }) picture_units
@@ -71,11 +75,13 @@ pictures_are a b sizes picture_units slot_units =
 pictures_once : (held : List File) (source : Source) (a b : Pictures) → ArePictures held source a
     → ArePictures held source b → a ≡ b
 pictures_once held (trace_source name) a b p q =
-    pictures_are a b (trace_once held name a.sizes b.sizes p.holds q.holds) (p.picture_units_are ∙ sym q.picture_units_are)
+    pictures_are a b (trace_once held name a.sizes b.sizes p.holds q.holds)
+    (p.picture_units_are ∙ sym q.picture_units_are)
     (p.slot_units_are ∙ sym q.slot_units_are)
 pictures_once held (film_source name slot) a b p q =
     let same : IsSameFilm p.rate q.rate a.sizes b.sizes = film_once p.holds q.holds in
-    pictures_are a b same.same (p.picture_units_are ∙ ap picture_time same.rates ∙ sym q.picture_units_are) (p.slot_units_are ∙ sym q.slot_units_are)
+    pictures_are a b same.same (p.picture_units_are ∙ ap picture_time same.rates ∙ sym q.picture_units_are)
+    (p.slot_units_are ∙ sym q.slot_units_are)
 
 -- the numbers of a film's curves
 pub record AreSame (a b : CurvePair) : Type 0 where
@@ -92,9 +98,11 @@ curves_once held viewer a b p q =
     record {
       from = p'.from_is ∙ sym q.curves_are.from_is;
       low = same_number_lists a.low.items b.low.items (p'.low_slots ∙ sym q.curves_are.low_slots)
-          (λ k h. p'.low_is k (omega (arith, h, p'.low_slots)) ∙ sym (q.curves_are.low_is k (omega (arith, h, p'.low_slots))));
+          (λ k h. p'.low_is k (omega (arith, h, p'.low_slots))
+          ∙ sym (q.curves_are.low_is k (omega (arith, h, p'.low_slots))));
       up = same_number_lists a.up.items b.up.items (p'.up_slots ∙ sym q.curves_are.up_slots)
-          (λ k h. p'.up_is k (omega (arith, h, p'.up_slots)) ∙ sym (q.curves_are.up_is k (omega (arith, h, p'.up_slots))));
+          (λ k h. p'.up_is k (omega (arith, h, p'.up_slots))
+          ∙ sym (q.curves_are.up_is k (omega (arith, h, p'.up_slots))));
     }
 
 -- the plan and its text are the only ones
@@ -130,7 +138,8 @@ bad_no_trace text sizes place trace bad =
     let split : tokens_from 0 text ≡ (bad.good ++ bad.bad ∷ []) ++ bad.rest =
     bad.tokens ∙ sym (append_assoc bad.good (bad.bad ∷ []) bad.rest) in
     bad.ends (take (length (bad.good ++ bad.bad ∷ [])) sizes)
-    (front_trace (bad.good ++ bad.bad ∷ []) bad.rest sizes (subst (λ (ts : List Token). WriteSizes ts sizes) split trace))
+    (front_trace (bad.good ++ bad.bad ∷ []) bad.rest sizes
+    (subst (λ (ts : List Token). WriteSizes ts sizes) split trace))
 
 pub trace_not_refused : (held : List File) (name sizes : List ℕ) (fault : Fault) → HoldsTrace held name sizes
     → IsTraceRefused held name fault → ⊥
@@ -162,7 +171,8 @@ curves_not_refused held viewer curves other has (inr refused) = refused
 -- a film's scan is the only one
 pub scanned_once : (held : List File) (film t t' : List ℕ) → IsScanned held film t → IsScanned held film t' → t ≡ t'
 scanned_once held film t t' p q =
-    let same : p.holds.video ≡ q.holds.video = held_once held film p.holds.video q.holds.video p.holds.holds q.holds.holds in
+    let same : p.holds.video ≡ q.holds.video =
+    held_once held film p.holds.video q.holds.video p.holds.holds q.holds.holds in
     let sizes : p.size ≡ q.size = p.holds.sized ∙ ap (λ (v : List ℕ). length v) same ∙ sym q.holds.sized in
     let rates : p.rate ≡ q.rate =
     p.holds.grammar.rate ∙ ap (λ (v : List ℕ). rate_of (codes_of (read_after [] v))) same ∙ sym q.holds.grammar.rate in

@@ -9,7 +9,9 @@ use Rattle.plan_cert.specs.Reading.{IsBadLine, IsCertificate}
 use Rattle.plan_cert.proofs.OneText.{certificate_has_no_bad_line, one_certificate}
 use Rattle.cert_check.specs.Fault.{IsFirstFault, IsTaut, IsThere, kind_of, fault_number}
 use Rattle.cert_check.specs.declared.CertFault.{CertFault}
-use Rattle.cert_check.specs.declared.CertFault.TheVariants.{EmptySegment, WrongLength, WrongTotal, BelowLow, AboveUp, EqualSlopes, RiseOffUpper, FallOffLower}
+use Rattle.cert_check.specs.declared.CertFault.TheVariants.{EmptySegment, WrongLength, WrongTotal}
+use Rattle.cert_check.specs.declared.CertFault.TheVariants.{BelowLow, AboveUp, EqualSlopes}
+use Rattle.cert_check.specs.declared.CertFault.TheVariants.{RiseOffUpper, FallOffLower}
 use Rattle.inputs.proofs.ReadLemmas.{one_file}
 use Rattle.command_words.specs.Words.{Viewer, check_of}
 use Rattle.troubles.specs.declared.faults.Fault.{Fault}
@@ -77,8 +79,11 @@ verdict_once {text} from low up segments (inl p) (inl q) = (p.0 ∙ sym q.0, p.2
 verdict_once {text} from low up segments (inl p) (inr q) = absurd (no_fault q.0 p.1.taut q.1.1.there)
 verdict_once {text} from low up segments (inr p) (inl q) = absurd (no_fault p.0 q.1.taut p.1.1.there)
 verdict_once {text} from low up segments (inr p) (inr q) =
-    let same : p.0 ≡ q.0 = first_once p.1.1 q.1.1 in
-    (p.1.0 ∙ sym q.1.0, p.1.2 ∙ ap (λ (f : CertFault). codes "refused " ++ cert_fault_text f ++ codes "\n") same ∙ sym q.1.2)
+    let same : p.0 ≡ q.0 = first_once p.1.1 q.1.1 in (
+      p.1.0 ∙ sym q.1.0,
+      p.1.2 ∙ ap (λ (f : CertFault). codes "refused " ++ cert_fault_text f ++ codes "\n") same
+          ∙ sym q.1.2,
+    )
 
 pub checked_once : {held : List File} {viewer : Viewer} {cert : List ℕ} {status status' : ℕ} {text text' : List ℕ} →
     IsChecked held viewer cert status text → IsChecked held viewer cert status' text' →
@@ -92,7 +97,8 @@ checked_once {held} {viewer} {cert} {status'} {text'} p q =
     (subst (λ (s : List Segment). IsVerdict p.curves.from p.curves.low.items p.curves.up.items s status' text') segments
     (subst (λ (from : ℕ). IsVerdict from p.curves.low.items p.curves.up.items q.segments status' text') same.from
     (subst (λ (low : List ℕ). IsVerdict q.curves.from low p.curves.up.items q.segments status' text') same.low
-    (subst (λ (up : List ℕ). IsVerdict q.curves.from q.curves.low.items up q.segments status' text') same.up q.verdict))))
+    (subst (λ (up : List ℕ). IsVerdict q.curves.from q.curves.low.items up q.segments status' text')
+    same.up q.verdict))))
 
 -- a certificate that is there is no other text
 cert_not_refused : {written : List ℕ} {slots bytes : ℕ} {segments : List Segment} (held : List File) (cert : List ℕ)
@@ -106,7 +112,8 @@ cert_not_refused {written} held cert other found certificate refused = refused
 pub checked_not_refused : {held : List File} {viewer : Viewer} {cert : List ℕ} {status : ℕ} {text : List ℕ}
     (name : List ℕ) (fault : Fault) → IsChecked held viewer cert status text →
     IsInputRefused (check_of viewer cert) held name fault → ⊥
-checked_not_refused {held} {viewer} name fault p (inl refused) = curves_not_refused held viewer p.curves fault p.has refused.1
+checked_not_refused {held} {viewer} name fault p (inl refused) =
+    curves_not_refused held viewer p.curves fault p.has refused.1
 checked_not_refused {held} {cert} name fault p (inr refused) = elim refused.1.1 [
   | inl missing ↦ none-some p.written (sym missing.1 ∙ p.found)
   | inr bad ↦ cert_not_refused held cert fault p.found p.certificate bad

@@ -1,5 +1,7 @@
 -- What the lines of a scan tell, read back word by word.
-use Rattle.std.proofs.Common.{◌≡◌, ◌≢◌, ◌∙◌, ℕ, ◌<◌, ◌^◌, ◌==◌, ◌||◌, Bool, true, false, List, [], ◌∷◌, ◌++◌, All, map, Option, Some, None, codes, decimal, length, get_or, refl, sym, ap, arith}
+use Rattle.std.proofs.Common.{◌≡◌, ◌≢◌, ◌∙◌, ℕ, ◌<◌, ◌^◌, ◌==◌, ◌||◌, Bool, true, false, List, []}
+use Rattle.std.proofs.Common.{◌∷◌, ◌++◌, All, map, Option, Some, None, codes, decimal, length}
+use Rattle.std.proofs.Common.{get_or, refl, sym, ap, arith}
 use Rattle.std.specs.Prelude.{◌≤◌, if◌then◌else◌, ◌&&◌, nat_lt, slice_index_or}
 use Rattle.std.specs.List.{after_first, before_first, list_any, position_or_len}
 use Rattle.std.specs.Str.{bytes_eq}
@@ -23,7 +25,8 @@ use Rattle.mpeg_scan.specs.declared.units.Unit.{Unit as PictureUnit}
 use Rattle.local_commands.specs.ScanText.{film_line, kind_text, unit_line, unit_marks, unit_name, unit_places}
 use Rattle.local_commands.specs.TextLaws.{GivesOnce, IsShortUnit, TellsFilm, TellsUnit, words_in}
 use Rattle.local_commands.proofs.ScanTextLemmas.{marks}
-use Rattle.local_commands.proofs.LineWords.{gap, IsWord, is-word, number-word, AreWords, all-words, line_rest, IsLineEnd, ended, line-words, line-values}
+use Rattle.local_commands.proofs.LineWords.{gap, IsWord, is-word, number-word, AreWords, all-words}
+use Rattle.local_commands.proofs.LineWords.{line_rest, IsLineEnd, ended, line-words, line-values}
 
 -- a word without `=` gives no key a value
 setting_none : (key word : List ℕ) → HasNo 61 word → setting_value key word ≡ None
@@ -42,11 +45,13 @@ number-plain n c small other = not_in_decimal c n small (λ within. other within
 
 -- a line's end after more words
 more-ended : (tail : List ℕ) (back : List (List ℕ)) → words_in tail ≡ back → IsLineEnd (32 ∷ tail) back
-more-ended tail back is word plain = slice_split_at gap word 32 tail plain refl ∙ ap (λ (l : List (List ℕ)). word ∷ l) is
+more-ended tail back is word plain = slice_split_at gap word 32 tail plain refl
+    ∙ ap (λ (l : List (List ℕ)). word ∷ l) is
 
 film_settings : ℕ → ℕ → ℕ → List Setting
 film_settings bytes rate pictures =
-    number_setting (codes "bytes") bytes ∷ number_setting (codes "rate") rate ∷ number_setting (codes "pictures") pictures ∷ []
+    number_setting (codes "bytes") bytes ∷ number_setting (codes "rate") rate ∷ number_setting
+    (codes "pictures") pictures ∷ []
 
 film-line : (bytes rate pictures : ℕ)
     → film_line bytes rate pictures ≡ codes "film" ++ line_rest (10 ∷ []) (film_settings bytes rate pictures)
@@ -124,7 +129,8 @@ film-told bytes rate pictures few short little =
 
 unit_settings : PictureUnit → List Setting
 unit_settings u =
-    number_setting (codes "show") u.presentation ∷ number_setting (codes "from") u.from ∷ number_setting (codes "head") u.head_end
+    number_setting (codes "show") u.presentation ∷ number_setting (codes "from") u.from ∷ number_setting
+    (codes "head") u.head_end
     ∷ number_setting (codes "to") u.to ∷ number_setting (codes "slices") u.slices ∷ []
 
 unit-words : (u : PictureUnit) → IsShortUnit u → All (λ s. IsWord (word_of s)) (unit_settings u)
@@ -136,7 +142,8 @@ unit-words u short =
       (
         number-word (codes "from") u.from short.from (none_is 32 (codes "from") refl) (none_is 10 (codes "from") refl),
         (
-          number-word (codes "head") u.head_end short.head_end (none_is 32 (codes "head") refl) (none_is 10 (codes "head") refl),
+          number-word (codes "head") u.head_end short.head_end (none_is 32 (codes "head") refl)
+              (none_is 10 (codes "head") refl),
           (
             number-word (codes "to") u.to short.to (none_is 32 (codes "to") refl) (none_is 10 (codes "to") refl),
             (
@@ -168,10 +175,14 @@ unit-line number u =
     ∙ append_assoc (n ++ codes " ") (kind) (codes " show=" ++ (show ++ ((unit_places u ++ end))))
     ∙ append_assoc n (codes " ") (kind ++ (codes " show=" ++ (show ++ ((unit_places u ++ end)))))
     ∙ ap (λ (X : List ℕ). n ++ (codes " " ++ (kind ++ (codes " show=" ++ (show ++ X)))))
-    (append_assoc (codes " from=" ++ from ++ codes " head=" ++ head ++ codes " to=" ++ to ++ codes " slices=") (slices) (end)
-    ∙ append_assoc (codes " from=" ++ from ++ codes " head=" ++ head ++ codes " to=" ++ to) (codes " slices=") (slices ++ end)
-    ∙ append_assoc (codes " from=" ++ from ++ codes " head=" ++ head ++ codes " to=") (to) (codes " slices=" ++ (slices ++ end))
-    ∙ append_assoc (codes " from=" ++ from ++ codes " head=" ++ head) (codes " to=") (to ++ (codes " slices=" ++ (slices ++ end)))
+    (append_assoc (codes " from=" ++ from ++ codes " head=" ++ head ++ codes " to=" ++ to ++ codes " slices=") (slices)
+    (end)
+    ∙ append_assoc (codes " from=" ++ from ++ codes " head=" ++ head ++ codes " to=" ++ to) (codes " slices=")
+    (slices ++ end)
+    ∙ append_assoc (codes " from=" ++ from ++ codes " head=" ++ head ++ codes " to=") (to)
+    (codes " slices=" ++ (slices ++ end))
+    ∙ append_assoc (codes " from=" ++ from ++ codes " head=" ++ head) (codes " to=")
+    (to ++ (codes " slices=" ++ (slices ++ end)))
     ∙ append_assoc (codes " from=" ++ from ++ codes " head=") (head)
     (codes " to=" ++ (to ++ (codes " slices=" ++ (slices ++ end))))
     ∙ append_assoc (codes " from=" ++ from) (codes " head=")
@@ -278,7 +289,8 @@ shown-at word number u one two three =
     ∙ ap (λ (b : Bool). b || list_any (bytes_eq word) (mark_words u.has_sequence u.starts_group)) three
 
 -- a word that begins with no digit is no number
-no-number : (c : ℕ) (word : List ℕ) (n : ℕ) → n < 2 ^ 64 → (48 ≤ c → c ≤ 57 → ⊥) → bytes_eq (c ∷ word) (decimal n) ≡ false
+no-number : (c : ℕ) (word : List ℕ) (n : ℕ) → n < 2 ^ 64 → (48 ≤ c → c ≤ 57 → ⊥)
+    → bytes_eq (c ∷ word) (decimal n) ≡ false
 no-number c word n small other = by (decimal n) (number-plain n c small other)
   where
     by : (text : List ℕ) → HasNo c text → bytes_eq (c ∷ word) text ≡ false
@@ -334,7 +346,8 @@ group-shown number u few =
     ∙ group-mark u.has_sequence u.starts_group
 
 -- what a unit's line tells
-pub unit-told : (number : ℕ) (u : PictureUnit) → number < 2 ^ 64 → IsShortUnit u → TellsUnit number u (unit_line number u)
+pub unit-told : (number : ℕ) (u : PictureUnit) → number < 2 ^ 64 → IsShortUnit u
+    → TellsUnit number u (unit_line number u)
 unfolding unit_settings
 unit-told number u few short =
     let words = unit-line-words number u few short in

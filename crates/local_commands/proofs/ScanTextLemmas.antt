@@ -1,5 +1,6 @@
 -- The lines of units, from the front on, and the words at their end.
-use Rattle.std.proofs.Common.{◌≡◌, ℕ, ◌+◌, ◌<◌, Bool, List, [], ◌∷◌, ◌++◌, codes, length, take, get_or, sym, ap, ◌∙◌, arith, add-zero, zero-add}
+use Rattle.std.proofs.Common.{◌≡◌, ℕ, ◌+◌, ◌<◌, Bool, List, [], ◌∷◌, ◌++◌, codes, length, take}
+use Rattle.std.proofs.Common.{get_or, sym, ap, ◌∙◌, arith, add-zero, zero-add}
 use Rattle.std.proofs.lemmas.List.{append_assoc, append-nil, take_more, length-take-le}
 use Rattle.mpeg_scan.specs.declared.units.Unit.{Unit as PictureUnit}
 use Rattle.local_commands.specs.ScanText.{word_if, unit_line, unit_lines}
@@ -10,7 +11,8 @@ marks sequence group = word_if sequence (codes " sequence") ++ word_if group (co
 
 unit_lines-more : (number : ℕ) (units : List PictureUnit) (unit : PictureUnit) →
     unit_lines number (units ++ unit ∷ []) ≡ unit_lines number units ++ unit_line (number + length units) unit
-unit_lines-more number [] unit = append-nil (unit_line number unit) ∙ ap (λ (n : ℕ). unit_line n unit) (sym (add-zero number))
+unit_lines-more number [] unit = append-nil (unit_line number unit)
+    ∙ ap (λ (n : ℕ). unit_line n unit) (sym (add-zero number))
 unit_lines-more number (first ∷ units) unit =
     ap (λ (l : List ℕ). unit_line number first ++ l) (unit_lines-more (number + 1) units unit)
     ∙ ap (λ (n : ℕ). unit_line number first ++ (unit_lines (number + 1) units ++ unit_line n unit)) (omega arith)

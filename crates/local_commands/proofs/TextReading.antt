@@ -1,6 +1,10 @@
 -- The texts of a scan and of a verdict are read back.
-use Rattle.std.proofs.Common.{◌≡◌, ◌≢◌, ◌∙◌, ℕ, ◌+◌, ◌<◌, ◌^◌, ◌==◌, ◌&&◌, if◌then◌else◌, Bool, true, false, List, [], ◌∷◌, ◌++◌, All, length, map, flat_map, get_or, codes, decimal, refl, sym, ap, arith}
+use Rattle.std.proofs.Common.{◌≡◌, ◌≢◌, ◌∙◌, ℕ, ◌+◌, ◌<◌, ◌^◌, ◌==◌, ◌&&◌, if◌then◌else◌, Bool}
+use Rattle.std.proofs.Common.{true, false, List, [], ◌∷◌, ◌++◌, All, length, map, flat_map, get_or}
+use Rattle.std.proofs.Common.{codes, decimal, refl, sym, ap, arith, Option, Some, None}
 use Rattle.std.specs.List.{AllZip}
+use Rattle.std.specs.Option.{option_to_list}
+use Rattle.std.specs.Prelude.{IfSome}
 use Rattle.std.specs.Str.{bytes_eq}
 use Rattle.std.proofs.lemmas.Fmt.{decimal_injective}
 use Rattle.std.proofs.lemmas.List.{append-nil, append_assoc, append_cancel_left, append_cancel_right}
@@ -8,13 +12,17 @@ use Rattle.std.proofs.lemmas.List.Elements.{All-cons, All-head, All-nil, All-tai
 use Rattle.mpeg_scan.specs.declared.units.Kind.{Kind}
 use Rattle.mpeg_scan.specs.declared.units.Kind.TheVariants.{I, P, B, D}
 use Rattle.mpeg_scan.specs.declared.units.Unit.{Unit as PictureUnit}
+use Rattle.cert_check.specs.Fault.{fault_number}
 use Rattle.cert_check.specs.declared.CertFault.{CertFault}
-use Rattle.cert_check.specs.declared.CertFault.TheVariants.{EmptySegment, WrongLength, WrongTotal, BelowLow, AboveUp, EqualSlopes, RiseOffUpper, FallOffLower}
+use Rattle.cert_check.specs.declared.CertFault.TheVariants.{EmptySegment, WrongLength, WrongTotal}
+use Rattle.cert_check.specs.declared.CertFault.TheVariants.{BelowLow, AboveUp, EqualSlopes}
+use Rattle.cert_check.specs.declared.CertFault.TheVariants.{RiseOffUpper, FallOffLower}
 use Rattle.plan_cert.proofs.Decimals.{not_in_decimal}
 use Rattle.troubles.specs.Said.{number_text}
 use Rattle.vod_base.proofs.FirstBytes.{none_is}
 use Rattle.troubles.proofs.WordLemmas.{AreShort, HasNo, numbers_back, numbers_of, split, split_words}
-use Rattle.local_commands.specs.ScanText.{film_line, kind_text, word_if, scan_text, unit_line, unit_lines, unit_marks, unit_places}
+use Rattle.local_commands.specs.ScanText.{film_line, kind_text, word_if, scan_text, unit_line}
+use Rattle.local_commands.specs.ScanText.{unit_lines, unit_marks, unit_places}
 use Rattle.local_commands.specs.TextLaws.{AreAlike, IsSameScan, IsShortFault, IsShortUnit}
 use Rattle.local_commands.specs.Verdict.{refused_line}
 use Rattle.local_commands.specs.Verdict.{cert_fault_text, fault_name}
@@ -102,7 +110,8 @@ record AreMarked (sequence sequence' group group' : Bool) (xs ys : List ℕ) : T
 marks_told : {sequence sequence' group group' : Bool} {xs ys : List ℕ}
     → marks sequence group ++ xs ≡ marks sequence' group' ++ ys → AreMarked sequence sequence' group group' xs ys
 marks_told {sequence} {sequence'} {group} {group'} {xs} {ys} e =
-    let s : sequence ≡ sequence' = sym (sequence_back sequence group xs) ∙ ap sequence_of e ∙ sequence_back sequence' group' ys in
+    let s : sequence ≡ sequence' = sym (sequence_back sequence group xs) ∙ ap sequence_of e
+    ∙ sequence_back sequence' group' ys in
     let g : group ≡ group' = sym (group_back sequence group xs) ∙ ap group_of e ∙ group_back sequence' group' ys in
     let same : marks sequence' group' ≡ marks sequence group =
     ap (λ (b : Bool). marks b group') (sym s) ∙ ap (marks sequence) (sym g) in
@@ -215,7 +224,8 @@ units_told number (unit ∷ units) (other ∷ others) xs lists e =
       short = All-head IsShortUnit unit units short;
       also_short = All-head IsShortUnit other others short';
     })
-    (ap tail_of (append_cancel_left (decimal number) (32 ∷ after_number unit more) (32 ∷ after_number other more') line)) in (
+    (ap tail_of (append_cancel_left (decimal number) (32 ∷ after_number unit more)
+    (32 ∷ after_number other more') line)) in (
       told.alike,
       units_told (number + 1) units others xs (record {
         long = omega (arith, long);
@@ -255,7 +265,8 @@ scan_told scanned other e =
     let shape' =
     append_assoc (film_line bytes' rate' (length units')) (unit_lines 0 units') (codes "end\n")
     ∙ film_shape bytes' rate' (length units') more' in
-    let first = field_cut (codes "rate=") b b' (append_cancel_left (codes "film bytes=") _ _ (sym shape ∙ e ∙ shape')) in
+    let first =
+    field_cut (codes "rate=") b b' (append_cancel_left (codes "film bytes=") _ _ (sym shape ∙ e ∙ shape')) in
     let second = field_cut (codes "pictures=") r r' first.rest in
     let third = line_cut n n' second.rest in
     record {
@@ -270,19 +281,23 @@ scan_told scanned other e =
     }
   where
     open scanned use {bytes, rate, units, bytes_fit as b, rate_fits as r, units_fit as n, short}
-    open other use
-        {bytes as bytes', rate as rate', units as units', bytes_fit as b', rate_fits as r', units_fit as n', short as short'}
+    open other use {
+      bytes as bytes',
+      rate as rate',
+      units as units',
+      bytes_fit as b',
+      rate_fits as r',
+      units_fit as n',
+      short as short',
+    }
 
 -- ---- a verdict
-numbers_after : CertFault → List ℕ
-numbers_after (EmptySegment i) = i ∷ []
-numbers_after WrongLength = []
-numbers_after WrongTotal = []
-numbers_after (BelowLow t) = t ∷ []
-numbers_after (AboveUp t) = t ∷ []
-numbers_after (EqualSlopes i) = i ∷ []
-numbers_after (RiseOffUpper i) = i ∷ []
-numbers_after (FallOffLower i) = i ∷ []
+abbrev numbers_after : CertFault → List ℕ
+numbers_after fault = option_to_list (fault_number fault)
+
+numbers_short : (number : Option ℕ) → IfSome number (λ n. n < 2 ^ 64) → AreShort (option_to_list number)
+numbers_short None short = All-nil (λ k. k < 2 ^ 64)
+numbers_short (Some n) short = All-cons (λ k. k < 2 ^ 64) n [] short (All-nil (λ k. k < 2 ^ 64))
 
 abbrev first_or : CertFault → List ℕ → (ℕ → CertFault) → CertFault
 first_or none [] fault = none
@@ -300,90 +315,49 @@ fault_of (name ∷ words) =
     else if bytes_eq name (codes "FallOffLower") then first_or WrongLength (numbers_of words) FallOffLower
     else WrongLength
 
--- what is known of each fault
-record IsRead (fault : CertFault) : Type 0 where
-  shape : cert_fault_text fault ≡ fault_name fault ++ flat_map number_text (numbers_after fault)
+-- a fault's text is its name and its numbers, by which it is known
+record IsFaultRead (fault : CertFault) (numbers : List ℕ) : Type 0 where
+  shape : cert_fault_text fault ≡ fault_name fault ++ flat_map number_text numbers
   word : HasNo 32 (fault_name fault)
-  short : IsShortFault fault → AreShort (numbers_after fault)
-  back : AreShort (numbers_after fault) → fault_of (fault_name fault ∷ map decimal (numbers_after fault)) ≡ fault
+  back : AreShort numbers → fault_of (fault_name fault ∷ map decimal numbers) ≡ fault
 
-lone : (name : List ℕ) → name ≡ name ++ flat_map number_text []
-lone name = sym (append-nil name)
+-- a fault without a number
+alone_read : (fault : CertFault) → cert_fault_text fault ≡ fault_name fault → HasNo 32 (fault_name fault) →
+    fault_of (fault_name fault ∷ []) ≡ fault → IsFaultRead fault []
+alone_read fault text word back = record {
+  shape = text ∙ sym (append-nil (fault_name fault));
+  word = word;
+  back = λ _. back;
+}
 
-placed : (name : List ℕ) (n : ℕ) → name ++ number_text n ≡ name ++ flat_map number_text (n ∷ [])
-placed name n = ap (λ (l : List ℕ). name ++ l) (sym (append-nil (number_text n)))
+-- a fault with one
+number_read : (fault : ℕ → CertFault) (n : ℕ) → cert_fault_text (fault n) ≡ fault_name (fault n) ++ number_text n →
+    HasNo 32 (fault_name (fault n)) →
+    fault_of (fault_name (fault n) ∷ decimal n ∷ []) ≡ first_or WrongLength (numbers_of (decimal n ∷ [])) fault →
+    IsFaultRead (fault n) (n ∷ [])
+number_read fault n text word back = record {
+  shape = text ∙ ap (λ (l : List ℕ). fault_name (fault n) ++ l) (sym (append-nil (number_text n)));
+  word = word;
+  back = λ short. back ∙ ap (λ (ns : List ℕ). first_or WrongLength ns fault) (numbers_back (n ∷ []) short);
+}
 
-one_short : (n : ℕ) → n < 2 ^ 64 → AreShort (n ∷ [])
-one_short n small = All-cons (λ k. k < 2 ^ 64) n [] small (All-nil (λ k. k < 2 ^ 64))
-
-one_back : (fault : ℕ → CertFault) (n : ℕ) → AreShort (n ∷ [])
-    → first_or WrongLength (numbers_of (map decimal (n ∷ []))) fault ≡ fault n
-one_back fault n short = ap (λ (ns : List ℕ). first_or WrongLength ns fault) (numbers_back (n ∷ []) short)
-
-fault_read : (fault : CertFault) → IsRead fault
-unfolding numbers_after fault_of
-fault_read (EmptySegment i) =
-    record {
-      shape = placed (codes "EmptySegment") i;
-      word = none_is 32 (codes "EmptySegment") refl;
-      short = one_short i;
-      back = one_back EmptySegment i;
-    }
-fault_read WrongLength =
-    record {
-      shape = lone (codes "WrongLength");
-      word = none_is 32 (codes "WrongLength") refl;
-      short = λ _. All-nil (λ k. k < 2 ^ 64);
-      back = λ _. refl;
-    }
-fault_read WrongTotal =
-    record {
-      shape = lone (codes "WrongTotal");
-      word = none_is 32 (codes "WrongTotal") refl;
-      short = λ _. All-nil (λ k. k < 2 ^ 64);
-      back = λ _. refl;
-    }
-fault_read (BelowLow t) =
-    record {
-      shape = placed (codes "BelowLow") t;
-      word = none_is 32 (codes "BelowLow") refl;
-      short = one_short t;
-      back = one_back BelowLow t;
-    }
-fault_read (AboveUp t) =
-    record {
-      shape = placed (codes "AboveUp") t;
-      word = none_is 32 (codes "AboveUp") refl;
-      short = one_short t;
-      back = one_back AboveUp t;
-    }
-fault_read (EqualSlopes i) =
-    record {
-      shape = placed (codes "EqualSlopes") i;
-      word = none_is 32 (codes "EqualSlopes") refl;
-      short = one_short i;
-      back = one_back EqualSlopes i;
-    }
-fault_read (RiseOffUpper i) =
-    record {
-      shape = placed (codes "RiseOffUpper") i;
-      word = none_is 32 (codes "RiseOffUpper") refl;
-      short = one_short i;
-      back = one_back RiseOffUpper i;
-    }
-fault_read (FallOffLower i) =
-    record {
-      shape = placed (codes "FallOffLower") i;
-      word = none_is 32 (codes "FallOffLower") refl;
-      short = one_short i;
-      back = one_back FallOffLower i;
-    }
+fault_read : (fault : CertFault) → IsFaultRead fault (numbers_after fault)
+unfolding fault_of
+fault_read (EmptySegment i) = number_read EmptySegment i refl (none_is 32 (codes "EmptySegment") refl) refl
+fault_read WrongLength = alone_read WrongLength refl (none_is 32 (codes "WrongLength") refl) refl
+fault_read WrongTotal = alone_read WrongTotal refl (none_is 32 (codes "WrongTotal") refl) refl
+fault_read (BelowLow t) = number_read BelowLow t refl (none_is 32 (codes "BelowLow") refl) refl
+fault_read (AboveUp t) = number_read AboveUp t refl (none_is 32 (codes "AboveUp") refl) refl
+fault_read (EqualSlopes i) = number_read EqualSlopes i refl (none_is 32 (codes "EqualSlopes") refl) refl
+fault_read (RiseOffUpper i) = number_read RiseOffUpper i refl (none_is 32 (codes "RiseOffUpper") refl) refl
+fault_read (FallOffLower i) = number_read FallOffLower i refl (none_is 32 (codes "FallOffLower") refl) refl
 
 text_read : (fault : CertFault) → IsShortFault fault → fault_of (split 32 (cert_fault_text fault)) ≡ fault
 text_read fault short =
     let own = fault_read fault in
+    let numbers = numbers_short (fault_number fault) short in
     ap (λ (t : List ℕ). fault_of (split 32 t)) own.shape
-    ∙ ap fault_of (split_words (fault_name fault) (numbers_after fault) own.word (own.short short)) ∙ own.back (own.short short)
+    ∙ ap fault_of (split_words (fault_name fault) (numbers_after fault) own.word numbers) ∙ own.back numbers
 
 pub fault_told : (fault fault' : CertFault) → IsShortFault fault → IsShortFault fault'
     → refused_line fault ≡ refused_line fault' → fault ≡ fault'

@@ -1,5 +1,5 @@
 -- What `day` reads, and why it is refused.
-use Rattle.std.specs.Prelude.{◌≡◌, ◌⊎◌, ℕ, ◌<◌, Bool, true, false, List, ◌∷◌, ◌++◌, All, length}
+use Rattle.std.specs.Prelude.{◌≡◌, ◌⊎◌, ℕ, ◌<◌, List, ◌∷◌, ◌++◌, All, length}
 use Rattle.std.specs.Prelude.{map, slice_index_or, Option, Some, string_bytes}
 use Rattle.std.specs.List.{Contains}
 use Rattle.vod_base.specs.Outside.{File, file_named}
@@ -11,6 +11,8 @@ use Rattle.day_run.specs.declared.reels.Source.{Source}
 use Rattle.day_run.specs.declared.reels.Source.TheVariants.{Film, Trace}
 use Rattle.day_run.specs.declared.scripts.Named.{Named}
 use Rattle.day_run.specs.declared.scripts.Script.{Script}
+use Rattle.day_run.specs.declared.scripts.SourceKind.{SourceKind}
+use Rattle.day_run.specs.declared.scripts.SourceKind.TheVariants as kinds
 use Rattle.day_run.specs.Readings.{IsBadLine, IsScript}
 use Rattle.local_commands.specs.Plans.{HoldsTrace, IsTraceRefused}
 
@@ -40,12 +42,12 @@ abbrev pub IsNameOf : Named → List ℕ → Type 0
 IsNameOf named name = name ≡ string_bytes named.name
 
 -- what is named as a film is refused as a film, and what is named as a trace as a trace
-abbrev pub IsRefusedAs : Bool → List File → List ℕ → Fault → Type 0
-IsRefusedAs true held name fault = IsFilmRefused held name fault
-IsRefusedAs false held name fault = IsTraceRefused held name fault
+abbrev pub IsRefusedAs : SourceKind → List File → List ℕ → Fault → Type 0
+IsRefusedAs kinds.Film held name fault = IsFilmRefused held name fault
+IsRefusedAs kinds.Trace held name fault = IsTraceRefused held name fault
 
 abbrev pub IsNamedRefused : Named → List File → List ℕ → Fault → Type 0
-IsNamedRefused named held name fault = IsRefusedAs named.film held name fault
+IsNamedRefused named held name fault = IsRefusedAs named.kind held name fault
 
 -- there is no reason to refuse a film or trace
 abbrev pub IsNotRefusedAs : List File → Named → Type 0
@@ -64,13 +66,13 @@ pub record IsFirstNamedRefused (named : List Named) (held : List File) (name : L
   pub refused : IsNamedRefused one held name fault
 
 -- a film or trace is what the library holds under the name
-abbrev pub IsHeldUnder : Bool → List File → List ℕ → Source → Type 0
-IsHeldUnder film held name (Film stored) =
-    (film ≡ true) × HoldsVideo held name stored.film.bytes.items
-IsHeldUnder film held name (Trace sizes) = (film ≡ false) × HoldsTrace held name sizes.items
+abbrev pub IsHeldUnder : SourceKind → List File → List ℕ → Source → Type 0
+IsHeldUnder kinds.Film held name (Film stored) = HoldsVideo held name stored.film.bytes.items
+IsHeldUnder kinds.Trace held name (Trace sizes) = HoldsTrace held name sizes.items
+IsHeldUnder _ held name _ = ⊥
 
 abbrev pub IsHeldAs : List File → Named → Source → Type 0
-IsHeldAs held named source = IsHeldUnder named.film held (string_bytes named.name) source
+IsHeldAs held named source = IsHeldUnder named.kind held (string_bytes named.name) source
 
 -- all that are named are there, in their order
 pub record AreHeldAs (held : List File) (named : List Named) (sources : List Source) : Type 0 where

@@ -21,7 +21,9 @@ ghost use Rattle.local_commands.specs.Days.{IsNamedRefused, IsScriptRefused, nam
 
 use crate::traces::load_trace;
 use command_words::{FairRun, ScriptRun, profile_of};
-use day_run::{Day, Named, Script, ScriptRefused, Source, fair, read_script, run_script};
+use day_run::{
+    Day, Named, Script, ScriptRefused, Source, SourceKind, fair, read_script, run_script,
+};
 use inputs::{load_script_film, read_input};
 use std::alloc::Global;
 use troubles::{Fault, Trouble};
@@ -150,11 +152,14 @@ fn load_source<'a, L: Library>(
         (L.files library.old) (L.faults library.old) (L.faults library.new)) }
 {
     let name = named.name.as_str();
-    if named.film {
-        let film = load_script_film(alloc, library, name)?;
-        Ok(Source::Film(film))
-    } else {
-        let sizes = load_trace(alloc, library, name)?;
-        Ok(Source::Trace(sizes))
+    match named.kind {
+        SourceKind::Film => {
+            let film = load_script_film(alloc, library, name)?;
+            Ok(Source::Film(film))
+        }
+        SourceKind::Trace => {
+            let sizes = load_trace(alloc, library, name)?;
+            Ok(Source::Trace(sizes))
+        }
     }
 }

@@ -1,7 +1,6 @@
 -- A script that a library holds has one day: one text and one journal.
-use Rattle.std.proofs.Common.{◌≡◌, ◌∙◌, ◌-◌, ◌<◌, ℕ, Bool, List, [], ◌∷◌, length, take, drop, map, get_or, refl, sym, ap, subst, suc, zero, arith, string_bytes}
+use Rattle.std.proofs.Common.{◌≡◌, ◌∙◌, ◌-◌, ◌<◌, ℕ, List, [], ◌∷◌, length, take, drop, map, get_or, refl, sym, ap, subst, suc, zero, arith, string_bytes}
 use Rattle.std.proofs.Math.ListN.{get_or-map}
-use Rattle.std.proofs.lemmas.Bool.{true≢false}
 use Rattle.std.proofs.lemmas.List.{length-map}
 use Rattle.vod_base.specs.Outside.{File}
 use Rattle.mpeg_scan.specs.Codes.{codes_of, read_after}
@@ -25,6 +24,8 @@ use Rattle.day_run.specs.declared.reels.Source.TheVariants.{Film, Trace}
 use Rattle.day_run.specs.declared.scripts.Line.{Line}
 use Rattle.day_run.specs.declared.scripts.Named.{Named}
 use Rattle.day_run.specs.declared.scripts.Script.{Script}
+use Rattle.day_run.specs.declared.scripts.SourceKind.{SourceKind}
+use Rattle.day_run.specs.declared.scripts.SourceKind.TheVariants as kinds
 use Rattle.day_run.proofs.OneDay.{one-day}
 use Rattle.local_commands.specs.Days.{AreHeldAs, HoldsScript, IsHeldUnder}
 use Rattle.local_commands.proofs.DayLemmas.{first_of, lines_once, names_once, same_name}
@@ -59,16 +60,18 @@ content_is slot stored =
     ∙ ap (λ (ss : List ℕ). content_as video (rate_of (codes_of (read_after [] video))) (units_in (film_calls video)) ss) is.slices
 
 -- what is held under a name is played in one way
-content_once : (held : List File) (film : Bool) (name : List ℕ) (slot : ℕ) (a b : Source) →
-    IsHeldUnder film held name a → IsHeldUnder film held name b → source_content slot a ≡ source_content slot b
-content_once held film name slot (Film a) (Film b) p q =
+content_once : {held : List File} {name : List ℕ} {slot : ℕ} (kind : SourceKind) (a b : Source) →
+    IsHeldUnder kind held name a → IsHeldUnder kind held name b → source_content slot a ≡ source_content slot b
+content_once {held} {name} {slot} kinds.Film (Film a) (Film b) p q =
     content_is slot a
-    ∙ ap content_in (held_once held name a.film.bytes.items b.film.bytes.items p.1 q.1)
+    ∙ ap content_in (held_once held name a.film.bytes.items b.film.bytes.items p q)
     ∙ sym (content_is slot b)
-content_once held film name slot (Film a) (Trace b) p q = absurd (true≢false (sym p.0 ∙ q.0))
-content_once held film name slot (Trace a) (Film b) p q = absurd (true≢false (sym q.0 ∙ p.0))
-content_once held film name slot (Trace a) (Trace b) p q =
-    ap (trace_content slot) (trace_once held name a.items b.items p.1 q.1)
+content_once kinds.Film (Film a) (Trace b) p q = absurd q
+content_once kinds.Film (Trace a) b p q = absurd p
+content_once kinds.Trace (Film a) b p q = absurd p
+content_once kinds.Trace (Trace a) (Film b) p q = absurd q
+content_once {held} {name} {slot} kinds.Trace (Trace a) (Trace b) p q =
+    ap (trace_content slot) (trace_once held name a.items b.items p q)
 
 contents_same : (slot : ℕ) (xs ys : List Source) → length xs ≡ length ys →
     ((k : ℕ) (none : Source) → k < length xs →
@@ -105,7 +108,7 @@ reels_once {held} {name} {a} {b} {sources} {others} slot p q are others_are =
     sym (get_or-map name_of a.named.items k one)
     ∙ ap (λ (ns : List Name). get_or ns k (name_of one)) names
     ∙ get_or-map name_of b.named.items k one in
-    content_once held (get_or b.named.items k one).film (string_bytes (get_or b.named.items k one).name) slot
+    content_once (get_or b.named.items k one).kind
     (get_or sources k none) (get_or others k none)
     (same_name (get_or a.named.items k one) (get_or b.named.items k one) alike held (get_or sources k none)
     (are.each k one none (omega (arith, inside, are.count))))

@@ -64,7 +64,11 @@ returns-in-Err-BadCert-clause-trouble g c = (
           (c.in_ok-curves.curves, (c.in_ok-curves.ensures {u = tt}).curves held told),
           inr (
             c.deref.result.now,
-            (found, rw c.in-Err-BadCert.field-0-is (rw c.in-Err-BadCert.field-0-is at c.in-Err-BadCert.ensures.refused)),
+            (
+              found,
+              rw c.in-Err-BadCert.field-0-is
+                  (rw c.in-Err-BadCert.field-0-is at c.in-Err-BadCert.ensures.refused),
+            ),
           ),
         ),
       ),

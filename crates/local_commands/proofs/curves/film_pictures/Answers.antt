@@ -6,7 +6,8 @@ use Rattle.local_commands.proofs.curves.film_pictures.Goals as goal
 pub returns-clause-limits : goal.returns-clause-limits
 returns-clause-limits g c =
     subst (λ (time : ℕ). MayHaveCurves
-    (record { sizes = c.in_ok-film.film.sizes.items; picture_units = time; slot_units = c.args.slot })) (sym c.picture_time.ensures)
+    (record { sizes = c.in_ok-film.film.sizes.items; picture_units = time; slot_units = c.args.slot }))
+    (sym c.picture_time.ensures)
     (film_limits c.in_ok-film.film.rate c.args.slot c.in_ok-film.film.sizes.items
     ((c.in_ok-film.ensures {u = tt}).limits) c.requires)
 

@@ -27,7 +27,8 @@ returns-in_err-source-clause-trouble g c =
     (record {
       reads = λ name is. named_contains c.args.named.now c.loop-one.one-index c.loop-one-test.true c.one-item.is is;
       refuses = λ held name fault told is refused. first_named_refused
-          c.loop-one-test.true c.one-item.is c.loop-one.invariant.count (c.loop-one.invariant.held held told) is refused;
+          c.loop-one-test.true c.one-item.is c.loop-one.invariant.count
+          (c.loop-one.invariant.held held told) is refused;
       keeps = λ held told. c.loop-one.invariant.library.kept ∙ told;
       low = omega (arith, c.loop-one.invariant.library.count);
       high = omega arith;

@@ -9,7 +9,8 @@ abbrev pub invariant-loop-one : goal.invariant-loop-one
 invariant-loop-one g l = record {
   count : length l.sources.items ≡ l.one-index;
   sources : AreSources l.sources.items;
-  held : (held : List File) → g.L.Library.files l.initial.library ≡ Some held → AreHeldFront held l.fn.named l.sources.items;
+  held : (held : List File) → g.L.Library.files l.initial.library ≡ Some held
+      → AreHeldFront held l.fn.named l.sources.items;
   library : IsStoreKept (g.L.Library.files l.initial.library) (g.L.Library.files l.library)
       (g.L.Library.faults l.initial.library) (g.L.Library.faults l.library);
 }

@@ -5,4 +5,5 @@ pub returns-clause-once : goal.returns-clause-once
 returns-clause-once c = λ held film text text' one other. scanned_once held film text text' one other
 
 pub returns-clause-not_refused : goal.returns-clause-not_refused
-returns-clause-not_refused c = λ held film text fault scanned refused. scan_not_refused held film text fault scanned refused
+returns-clause-not_refused c =
+    λ held film text fault scanned refused. scan_not_refused held film text fault scanned refused
