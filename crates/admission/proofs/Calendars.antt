@@ -4,7 +4,7 @@ use Rattle.std.proofs.lemmas.List.{map_push}
 use Rattle.plan_cert.specs.declared.Segment.{Segment}
 use Rattle.slot_calendar.specs.declared.profiles.CapacityStep.{CapacityStep}
 use Rattle.slot_calendar.specs.Plays.{Play as Booked, cut_at, whole_play, cut_play}
-use Rattle.slot_calendar.specs.Calendars.{Entries as Calendar, StandsFor, booked_at}
+use Rattle.slot_calendar.specs.Calendars.{Bookings, StandsFor, booked_at}
 use Rattle.admission.specs.declared.entries.Command.TheVariants.{Look}
 use Rattle.admission.specs.declared.entries.Answer.TheVariants.{Looked}
 use Rattle.admission.specs.Machine.{State, Held, IsAnswer, halted_play, with_halted, held_as, admitted_play, plays_of}
@@ -12,7 +12,7 @@ use Rattle.admission.specs.Kept.{Follows}
 use Rattle.admission.proofs.Halts.{play_of, plays-split, split}
 
 -- a play more
-pub stands-opened : (calendar : Calendar) (held : List Held) (number start : ℕ) (segments : List Segment) →
+pub stands-opened : (calendar : Bookings) (held : List Held) (number start : ℕ) (segments : List Segment) →
     StandsFor calendar (map play_of held ++ whole_play start segments ∷ []) →
     StandsFor calendar (map play_of (held ++ admitted_play number start segments ∷ []))
 stands-opened calendar held number start segments stands =
@@ -36,7 +36,7 @@ pub record HoldsWhole (state : State) (number start : ℕ) (segments : List Segm
   pub play_is : held.play ≡ whole_play start segments
 
 -- it may be cut
-pub cut-allowed : {calendar : Calendar} {state : State} {number start : ℕ} {segments : List Segment} (keep : ℕ)
+pub cut-allowed : {calendar : Bookings} {state : State} {number start : ℕ} {segments : List Segment} (keep : ℕ)
     → HoldsWhole state number start segments → StandsFor calendar (plays_of state)
     → ((before after : List Booked) → StandsFor calendar (before ++ whole_play start segments ∷ after) → (t : ℕ)
     → calendar.first ≤ t → cut_at segments start keep t ≤ booked_at calendar t)
@@ -47,7 +47,7 @@ cut-allowed {calendar} {state} {number} {start} {segments} keep whole stands law
     (subst (StandsFor calendar) (plays-around state number start segments whole.is whole.play_is) stands)
 
 -- once it is cut, the calendar stands for the plays with that one halted
-pub stands-halted : {old new : Calendar} {state : State} {number start : ℕ} {segments : List Segment} (keep : ℕ)
+pub stands-halted : {old new : Bookings} {state : State} {number start : ℕ} {segments : List Segment} (keep : ℕ)
     → HoldsWhole state number start segments → StandsFor old (plays_of state)
     → ((before after : List Booked) → StandsFor old (before ++ whole_play start segments ∷ after)
     → StandsFor new (before ++ cut_play start segments keep ∷ after))
@@ -64,7 +64,7 @@ stands-halted {old} {new} {state} {number} {start} {segments} keep whole stands 
     (cut front back (subst (StandsFor old) (plays-around state number start segments whole.is whole.play_is) stands))
 
 -- what a look tells
-pub look-answer : {calendar : Calendar} {state : State} {now at booked : ℕ} (steps : List CapacityStep) (slot : ℕ) →
+pub look-answer : {calendar : Bookings} {state : State} {now at booked : ℕ} (steps : List CapacityStep) (slot : ℕ) →
     Follows calendar state → now ≡ calendar.first → at ≡ max now slot →
     booked ≡ booked_at calendar at → IsAnswer steps state (Look slot) (Looked now at booked)
 look-answer {at} steps slot follows now_is at_is booked_is = (

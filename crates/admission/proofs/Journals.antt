@@ -4,7 +4,7 @@ use Rattle.std.proofs.lemmas.List.{length_push}
 use Rattle.std.proofs.lemmas.List.Sums.{sum_by-append, sum_by-cons, sum_by_push}
 use Rattle.plan_cert.specs.declared.Segment.{Segment}
 use Rattle.slot_calendar.specs.declared.profiles.CapacityStep.{CapacityStep}
-use Rattle.slot_calendar.specs.Calendars.{Entries as Calendar}
+use Rattle.slot_calendar.specs.Calendars.{Bookings}
 use Rattle.admission.specs.declared.entries.Entry.{Entry}
 use Rattle.admission.specs.declared.entries.Full.{Full}
 use Rattle.admission.specs.declared.entries.Noted.{Noted}
@@ -53,7 +53,7 @@ open-halted state place number keep can =
 -- ---- one entry more
 -- the calendar and the entries of a book, with one entry more, and how many of its plays are open and how many entries
 -- have room
-pub record HasGrown (calendar new : Calendar) (xs ys : List Entry) (e : Entry) (limit room more wide : ℕ) : Type 0 where
+pub record HasGrown (calendar new : Bookings) (xs ys : List Entry) (e : Entry) (limit room more wide : ℕ) : Type 0 where
   pub entries_are : ys ≡ xs ++ e ∷ []
   pub answered : IsAnswered calendar.steps (state_after xs) e
   pub steps_are : new.steps ≡ calendar.steps
@@ -63,7 +63,7 @@ pub record HasGrown (calendar new : Calendar) (xs ys : List Entry) (e : Entry) (
   pub wide_is : wide ≡ room
 
 -- what a book tells of its counts, by its fields
-pub counts-kept : {calendar : Calendar} {xs : List Entry} {journal : Journal} {full : Full} {limit count room : ℕ}
+pub counts-kept : {calendar : Bookings} {xs : List Entry} {journal : Journal} {full : Full} {limit count room : ℕ}
     → IsBookKept calendar xs limit count room → xs ≡ journal.entries → IsFull journal full
     → (full.entries ≡ length xs) × (full.open_plays ≡ count)
 counts-kept kept same full = (
@@ -71,7 +71,7 @@ counts-kept kept same full = (
   full.open_is ∙ ap open_count (sym same) ∙ sym kept.count_is,
 )
 
-pub kept-push : {calendar new : Calendar} {xs ys : List Entry} {e : Entry} {limit count more room wide : ℕ}
+pub kept-push : {calendar new : Bookings} {xs ys : List Entry} {e : Entry} {limit count more room wide : ℕ}
     → IsBookKept calendar xs limit count room → HasGrown calendar new xs ys e limit room more wide
     → IsBookKept new ys limit more wide
 kept-push {calendar} {new} {xs} {ys} {e} {more} kept grown =

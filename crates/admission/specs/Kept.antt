@@ -1,19 +1,19 @@
 -- How a book is kept: the journal with a calendar that has booked what its plays book, and the
 -- number of open plays.
 use Rattle.std.specs.Prelude.{ℕ, ◌≡◌, ◌≤◌, List}
-use Rattle.slot_calendar.specs.Calendars.{Entries as Calendar, StandsFor}
+use Rattle.slot_calendar.specs.Calendars.{Bookings, StandsFor}
 use Rattle.admission.specs.declared.entries.Entry.{Entry}
 use Rattle.admission.specs.Machine.{State, plays_of}
 use Rattle.admission.specs.Histories.{IsLegal, open_count, state_after}
 use Rattle.admission.specs.Books.{places_taken}
 
 -- a calendar has come to the state's now and has booked what its plays book
-pub record Follows (calendar : Calendar) (state : State) : Type 0 where
+pub record Follows (calendar : Bookings) (state : State) : Type 0 where
   pub now : calendar.first ≡ state.now
   pub stands : StandsFor calendar (plays_of state)
 
 -- what holds of each book; the journal has room for all entries without memory
-pub record IsBookKept (calendar : Calendar) (entries : List Entry) (limit count room : ℕ)
+pub record IsBookKept (calendar : Bookings) (entries : List Entry) (limit count room : ℕ)
     : Type 0 where
   pub legal : IsLegal calendar.steps entries
   pub follows : Follows calendar (state_after entries)

@@ -33,7 +33,7 @@ pub fn law_never_overbooked()
 {}
 
 /// A play can be halted exactly where it was admitted and no entry halts it.
-pub fn law_open()
+pub fn law_can_halt()
     ensures open { (steps : List CapacityStep) (entries : List Entry) (number keep : ℕ) →
         IsLegal steps entries → IsStillOpen entries number keep →
         CanHalt (state_after entries) number keep }

@@ -8,7 +8,7 @@ ghost use Rattle.command_words.specs.Settings.{setting_value, texts, values_of};
 ghost use Rattle.command_words.specs.Words.{are_films};
 
 use crate::settings::setting;
-use vod_base::good_name;
+use vod_base::is_good_name;
 
 /// The most films.
 const MAX_FILMS: usize = 64;
@@ -27,7 +27,7 @@ pub(crate) fn are_films(words: &[String]) -> bool
     let mut count = 0usize;
     for (place, word) in words.iter().enumerate() {
         if let Some(name) = film_named(word.as_str()) {
-            if !good_name(name.as_bytes()) || is_named(&words[place + 1..], name) {
+            if !is_good_name(name.as_bytes()) || is_named(&words[place + 1..], name) {
                 return false;
             }
             count += 1;

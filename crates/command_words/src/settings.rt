@@ -7,7 +7,7 @@ ghost use Rattle.command_words.specs.Settings.{texts, setting_value, values_of, 
 ghost use Rattle.command_words.specs.Settings.{one_number, number_or};
 ghost use Rattle.command_words.specs.Given.{IsGiven};
 
-use vod_base::{good_name, number_within};
+use vod_base::{is_good_name, number_within};
 
 /// How often words give a value to a key.
 #[derive(Clone, Copy)]
@@ -53,7 +53,7 @@ pub(crate) fn one_name<'a>(words: &'a [String], key: &str) -> Option<&'a str>
     ensures good { IfSome result (λ name. is_good_name name.now ≡ true) }
 {
     match find_given(words, key) {
-        Given::Once(name) if good_name(name.as_bytes()) => Some(name),
+        Given::Once(name) if is_good_name(name.as_bytes()) => Some(name),
         _ => None,
     }
 }

@@ -14,7 +14,7 @@ use crate::keys::{
 };
 use crate::orders::{FairRun, ScriptRun, Source, Viewer};
 use crate::settings::{Given, find_given};
-use vod_base::good_name;
+use vod_base::is_good_name;
 
 /// What is planned, and for which client.
 pub(crate) fn viewer_given<'a>(words: &'a [String]) -> Option<Viewer<'a>>
@@ -76,7 +76,7 @@ fn trace_alone<'a>(words: &[String], name: &'a str) -> Option<Source<'a>>
         (values_of (codes "film") (texts words.now)) (values_of (codes "slot") (texts words.now)) }
     ensures range { IfSome result IsSourceInRange }
 {
-    if good_name(name.as_bytes()) && is_absent(words, "film") && is_absent(words, "slot") {
+    if is_good_name(name.as_bytes()) && is_absent(words, "film") && is_absent(words, "slot") {
         Some(Source::Trace(name))
     } else {
         None

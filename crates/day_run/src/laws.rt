@@ -25,7 +25,7 @@ ghost use Rattle.day_run.specs.Spelling.{line_text, names_used, script_text, wor
 
 /// After lines of a script, what the clients are sent in the slots up to any later one, after the
 /// slot that was heard last, is what is booked in those slots.
-pub fn law_sent()
+pub fn law_clients_sent()
     ensures { (link : Link) (sources : ℕ) (lines : List Line) (texts : List (List ℕ))
         (moment : Moment) (slot : ℕ) → AreClients lines → AreLines sources lines →
         AreRun link lines texts first_moment moment → moment.heard ≤ slot →
@@ -130,7 +130,7 @@ pub fn law_offers()
 
 /// What is booked in the slots that were heard stays: no line of a script changes it, nor does the
 /// end of the day.
-pub fn law_past()
+pub fn law_heard_slots_stay()
     ensures line { (link : Link) (sources slot : ℕ) (lines : List Line) (texts : List (List ℕ))
         (moment next : Moment) (line : Line) (text : List ℕ) → AreClients lines →
         AreLines sources lines → AreRun link lines texts first_moment moment → IsClient line →

@@ -24,8 +24,9 @@ mod texts;
 pub use days::{Day, run_script};
 pub use fairs::fair;
 pub use laws::{
-    law_capacity_kept, law_clients, law_drawn_turns, law_each_line, law_end, law_fair, law_looks,
-    law_offers, law_one_day, law_past, law_script_lines, law_script_read_back, law_sent, law_texts,
+    law_capacity_kept, law_clients, law_clients_sent, law_drawn_turns, law_each_line, law_end,
+    law_fair, law_heard_slots_stay, law_looks, law_offers, law_one_day, law_script_lines,
+    law_script_read_back, law_texts,
 };
 pub use reading::read_script;
 pub use reels::Source;

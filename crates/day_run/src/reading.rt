@@ -17,7 +17,7 @@ use crate::sayings::{Asked, Saying, saying_in};
 use crate::scripts::{Line, Named, Script, ScriptRefused, SourceKind};
 use crate::splits::{first_line, split_words};
 use std::alloc::Global;
-use vod_base::{NoMemory, good_name};
+use vod_base::{NoMemory, is_good_name};
 
 /// The most lines of a script.
 const MAX_LINES: u64 = 1_000_000;
@@ -113,7 +113,7 @@ impl Draft {
         ensures lines { OnOk result (self.new.lines.items ≡ self.old.lines.items) }
     {
         match words {
-            [_, _, _, name, ..] if good_name(name) => {
+            [_, _, _, name, ..] if is_good_name(name) => {
                 let place = source_of(self.alloc, &mut self.named, asked.kind, name)?;
                 Ok(Some(place))
             }

@@ -1,13 +1,13 @@
 -- What is found in a calendar is found among the plays that it stands for, in all slots.
 use Rattle.std.proofs.Common.{ℕ, ◌<◌, List, Option, Some, None, length, arith}
 use Rattle.plan_cert.specs.declared.Segment.{Segment}
-use Rattle.slot_calendar.specs.Calendars.{Entries}
+use Rattle.slot_calendar.specs.Calendars.{Bookings}
 use Rattle.slot_calendar.specs.Plays.{Play, booked_by}
 use Rattle.slot_calendar.specs.Profiles.{capacity_at}
 use Rattle.slot_calendar.proofs.Everywhere.{StandsWithin, overflow_everywhere, room_everywhere}
 use Rattle.early_start.specs.Offered.{CanStart, IsOffer, IsOfferIn, IsStart, IsStartIn, Offers}
 
-pub offer_everywhere : {calendar : Entries} {plays : List Play} {segments : List Segment} {first : ℕ} {found : Offers}
+pub offer_everywhere : {calendar : Bookings} {plays : List Play} {segments : List Segment} {first : ℕ} {found : Offers}
     → StandsWithin (capacity_at calendar.steps) calendar plays → calendar.first < first → IsOfferIn calendar segments first found
     → IsOffer 0 (booked_by plays) (capacity_at calendar.steps) segments first found
 offer_everywhere {calendar} {plays} {segments} {first} {found} its after offer = record {

@@ -2,7 +2,7 @@
 use Rattle.std.specs.Prelude.{◌≡◌, ℕ, ◌+◌, ◌<◌, ◌≤◌, List, Option, Some, None, length}
 use Rattle.std.specs.Prelude.{slice_index_or}
 use Rattle.plan_cert.specs.declared.Segment.{Segment}
-use Rattle.slot_calendar.specs.Calendars.{Entries, HasRoom, IsFirstOverflow, booked_at}
+use Rattle.slot_calendar.specs.Calendars.{Bookings, HasRoom, IsFirstOverflow, booked_at}
 use Rattle.slot_calendar.specs.Profiles.{capacity_at}
 use Rattle.early_start.specs.declared.Tried.{Tried}
 
@@ -47,18 +47,18 @@ pub record IsOffer (from : ℕ) (booked capacity : ℕ → ℕ) (segments : List
       (length found.tried) found.start
 
 -- what is found in a calendar
-abbrev pub IsOfferIn : Entries → List Segment → ℕ → Offers → Type 0
+abbrev pub IsOfferIn : Bookings → List Segment → ℕ → Offers → Type 0
 IsOfferIn calendar segments first found =
     IsOffer calendar.first (booked_at calendar) (capacity_at calendar.steps) segments first found
 
 -- the starts from `first` on, in order, at which it doesn't fit into a calendar
-abbrev pub AreRefusalsIn : Entries → List Segment → ℕ → List Tried → Type 0
+abbrev pub AreRefusalsIn : Bookings → List Segment → ℕ → List Tried → Type 0
 AreRefusalsIn calendar segments first tried =
     AreRefusals calendar.first (booked_at calendar)
     (capacity_at calendar.steps) segments first tried
 
 -- the start that is found in a calendar
-abbrev pub IsStartIn : Entries → List Segment → ℕ → ℕ → ℕ → Option ℕ → Type 0
+abbrev pub IsStartIn : Bookings → List Segment → ℕ → ℕ → ℕ → Option ℕ → Type 0
 IsStartIn calendar segments first wait tried start =
     IsStart (CanStart calendar.first (booked_at calendar) (capacity_at calendar.steps) segments)
     first wait tried start

@@ -2,7 +2,7 @@
 
 ghost use Rattle.std.specs.Prelude.{ℕ, ◌≡◌, ◌+◌, ◌<◌, ◌≤◌, List, None, Some};
 ghost use Rattle.plan_cert.specs.declared.Segment.{Segment};
-ghost use Rattle.slot_calendar.specs.Calendars.{Entries, HasRoom, StandsFor};
+ghost use Rattle.slot_calendar.specs.Calendars.{Bookings, HasRoom, StandsFor};
 ghost use Rattle.slot_calendar.specs.Plays.{Play, booked_by};
 ghost use Rattle.slot_calendar.specs.Profiles.{capacity_at};
 ghost use Rattle.early_start.specs.Offered.{IsOffer, IsOfferIn, Offers};
@@ -22,7 +22,7 @@ pub fn law_one_offer()
 /// What is found in a calendar is found in all slots, past ones too, among the plays that the
 /// calendar stands for, where they book no slot above its capacity.
 pub fn law_offer_of_plays()
-    ensures { (calendar : Entries) (plays : List Play) (segments : List Segment) (first : ℕ)
+    ensures { (calendar : Bookings) (plays : List Play) (segments : List Segment) (first : ℕ)
         (found : Offers) →
         StandsFor calendar plays →
         ((t : ℕ) → booked_by plays t ≤ capacity_at calendar.steps t) →

@@ -23,7 +23,7 @@ fn run(
 ) -> Result<(), Fail> {
     let plan = plan_of(rt, alloc, segments)?;
     assert!(rt; capacity <= 1 << 42);
-    let mut calendar = Calendar::new(alloc, Profile::flat(alloc, capacity)?)?;
+    let mut calendar = Calendar::new(alloc, Profile::of_one_step(alloc, capacity)?)?;
     assert!(rt; calendar.now() == 0 && plan.slots() < RING_SLOTS);
     assert!(rt; calendar.first_overflow(1, &plan).is_none());
     calendar.book(1, &plan);

@@ -9,7 +9,7 @@ use Rattle.std.proofs.Math.Seq.{take-append-add}
 use Rattle.mpeg_scan.specs.declared.films.Film.{Film}
 use Rattle.rtp_pack.specs.declared.reports.Identity.{Identity}
 use Rattle.film_frames.specs.declared.pieces.Piece.{Piece}
-use Rattle.film_frames.specs.Pieces.{count_of, film_pieces, frames_in, front_pieces, pieces_of}
+use Rattle.film_frames.specs.Pieces.{film_pieces, front_pieces, pieces_of}
 use Rattle.film_frames.specs.Pieces.{wire_in, wire_of}
 use Rattle.film_frames.specs.Runs.{FramedRun, run_of, run_pieces, pieces_in}
 use Rattle.film_frames.specs.Tracks.{begin_of, framed_bytes}

@@ -28,7 +28,7 @@ pub fn law_plan()
 /// the halted play's plan. Exactly those pictures count as played that the client has used: in a
 /// slot before the one last stepped, or in one at whose end some of what is kept was still to be
 /// sent.
-pub fn law_left()
+pub fn law_halt_leaves_run()
     ensures one { OfSendings LeavesOne }
     ensures plays { OfSendings LeavesRun }
     ensures on { OfSendings GoesOn }

@@ -13,7 +13,7 @@ mod runs;
 mod seeks;
 mod units;
 
-pub use laws::{law_boundaries, law_left, law_plan, law_seek};
+pub use laws::{law_boundaries, law_halt_leaves_run, law_plan, law_seek};
 pub use pauses::run_after;
 pub use plans::{Playback, plan_of};
 pub use runs::{Run, whole_run};

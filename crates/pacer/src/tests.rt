@@ -112,8 +112,8 @@ fn sent_by(
         let got = answer_to(&mut pacer, &mut link, *call)?;
         assert_eq!(rt; got, (*answer, *after), "at {call:?}");
     }
-    assert_eq!(rt; link.sent().len() as u64, pacer.bytes_sent());
-    Ok(Vec::from_slice(alloc, link.sent())?)
+    assert_eq!(rt; link.sent_bytes().len() as u64, pacer.bytes_sent());
+    Ok(Vec::from_slice(alloc, link.sent_bytes())?)
 }
 
 /// All bytes of the film's play, slot after slot: the head of the report, the head of the first

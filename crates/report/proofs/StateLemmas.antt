@@ -2,7 +2,7 @@
 use Rattle.std.proofs.Common.{ℕ, zero, suc, ◌+◌, ◌≤◌, ◌≡◌, List, [], ◌∷◌, ◌++◌, codes, All, arith, refl, ap, ◌∙◌}
 use Rattle.std.specs.List.{range_with_len}
 use Rattle.std.proofs.lemmas.List.Elements.{All-cons, All-head, All-nil, All-tail}
-use Rattle.slot_calendar.specs.Calendars.{Entries, StandsFor, booked_at}
+use Rattle.slot_calendar.specs.Calendars.{Bookings, StandsFor, booked_at}
 use Rattle.admission.specs.Machine.{State, booked_in, plays_of}
 use Rattle.slot_calendar.specs.Totals.{ring_slots}
 use Rattle.report.specs.CalendarTexts.{booked_slots, calendar_text, first_words}
@@ -29,7 +29,7 @@ same_lines bytes others (t ∷ rest) same =
     lines-cons bytes t rest ∙ ap (λ (l : List ℕ). l ++ lines bytes rest) here
     ∙ ap (λ (l : List ℕ). line_at others t ++ l) next ∙ (let back = lines-cons others t rest in cc)
 
-pub text_of_state : (calendar : Entries) (state : State) → calendar.first ≡ state.now → StandsFor calendar (plays_of state) →
+pub text_of_state : (calendar : Bookings) (state : State) → calendar.first ≡ state.now → StandsFor calendar (plays_of state) →
     calendar_text calendar.first (booked_at calendar) ≡ calendar_text state.now (booked_in state)
 unfolding booked_slots
 text_of_state calendar state now stands =

@@ -3,7 +3,7 @@
 ghost use Rattle.std.specs.Prelude.{◌≡◌, ◌^◌, ◌<◌, ◌≤◌, ℕ, List};
 ghost use Rattle.std.specs.List.{Contains};
 ghost use Rattle.slot_calendar.specs.declared.profiles.CapacityStep.{CapacityStep};
-ghost use Rattle.slot_calendar.specs.Calendars.{Entries, StandsFor, booked_at};
+ghost use Rattle.slot_calendar.specs.Calendars.{Bookings, StandsFor, booked_at};
 ghost use Rattle.admission.specs.Histories.{IsLegal};
 ghost use Rattle.admission.specs.Machine.{State, booked_in, plays_of};
 ghost use Rattle.admission.specs.declared.entries.Entry.{Entry};
@@ -65,7 +65,7 @@ pub fn law_calendar_lines()
 /// what the machine has booked, from its now on. So it is for the calendar of a book and the state
 /// after its entries.
 pub fn law_state_text()
-    ensures { (calendar : Entries) (state : State) →
+    ensures { (calendar : Bookings) (state : State) →
         calendar.first ≡ state.now → StandsFor calendar (plays_of state) →
         calendar_text calendar.first (booked_at calendar)
         ≡ calendar_text state.now (booked_in state) }

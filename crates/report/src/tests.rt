@@ -135,7 +135,7 @@ fn lines_of_entries(rt: HostRuntime) -> Result<(), Fail> {
 #[test]
 fn texts_of_journals(rt: HostRuntime) -> Result<(), Fail> {
     let alloc = rt.alloc();
-    let mut book = Book::new(alloc, Profile::flat(alloc, 5)?, 4)?;
+    let mut book = Book::new(alloc, Profile::of_one_step(alloc, 5)?, 4)?;
     assert!(rt; book.look(2, 3).is_ok());
     assert!(rt; book.look(1, 4).is_ok());
     let entries = book.entries();
@@ -155,7 +155,7 @@ fn texts_of_journals(rt: HostRuntime) -> Result<(), Fail> {
 /// The plan booked whole at slot 1, and at slot 3 with its first 2 bytes; then slots 0 and 1 are
 /// forgotten.
 fn calendar_of(rt: &impl Abort, alloc: Global, plan: &Plan) -> Result<Calendar, NoMemory> {
-    let mut calendar = Calendar::new(alloc, Profile::flat(alloc, 5)?)?;
+    let mut calendar = Calendar::new(alloc, Profile::of_one_step(alloc, 5)?)?;
     assert!(rt; plan.slots() < 1000 && plan.bytes() >= 2);
     assert!(rt; calendar.first_overflow(1, plan).is_none());
     calendar.book(1, plan);

@@ -2,7 +2,7 @@
 use super::*;
 use std::alloc::Global;
 use std::test::Fail;
-use vod_base::{Event, MemoryLink, MemorySink, good_name};
+use vod_base::{Event, MemoryLink, MemorySink, is_good_name};
 
 /// What a link tells: a reply, bytes of the film as it is sent, other bytes, a slot, the end.
 #[derive(Clone, Copy)]
@@ -350,7 +350,7 @@ fn watch_events(
     failing: Failing,
 ) -> Result<Outcome, Fail> {
     let name = String::from_str(alloc, "b.mpg")?;
-    if !good_name(name.as_bytes()) || buffer < 1 || buffer > 1 << 42 {
+    if !is_good_name(name.as_bytes()) || buffer < 1 || buffer > 1 << 42 {
         return Err(Fail::from("no such wish"));
     }
     let wish = Wish {
@@ -372,7 +372,7 @@ fn watch_events(
     let end = watch(alloc, &wish, &mut link, &mut out);
     Ok(Outcome {
         end,
-        sent: Vec::from_slice(alloc, link.sent())?,
+        sent: Vec::from_slice(alloc, link.sent_bytes())?,
         out: Vec::from_slice(alloc, out.bytes())?,
     })
 }

@@ -9,7 +9,7 @@ ghost use Rattle.rtsp_fields.specs.Urls.{IsAbsoluteUrl, IsStream, IsTail, IsRead
 
 use crate::parts::{part_end, starts_with};
 use rtsp_text::{SCHEME, has_url_bytes};
-use vod_base::good_name;
+use vod_base::is_good_name;
 
 /// What an RTSP URL says (RFC 2326 section 3.2).
 #[derive(Clone, Copy, Debug, PartialEq, Eq)]
@@ -76,7 +76,7 @@ fn film_name(path: &[u8]) -> Option<&[u8]>
     }
     let end = part_end(path, 1, b'/');
     let name = &path[1..end];
-    if good_name(name) && is_tail(&path[end..]) {
+    if is_good_name(name) && is_tail(&path[end..]) {
         Some(name)
     } else {
         None

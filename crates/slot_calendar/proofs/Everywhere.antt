@@ -2,18 +2,18 @@
 use Rattle.std.proofs.Common.{ℕ, ◌<◌, ◌≤◌, List, arith, ◌∙◌, inl, inr}
 use Rattle.std.proofs.lemmas.Bool.{cases_lt}
 use Rattle.plan_cert.specs.declared.Segment.{Segment}
-use Rattle.slot_calendar.specs.Calendars.{Entries, StandsFor, Fits, HasRoom, IsFirstOverflow, booked_at}
+use Rattle.slot_calendar.specs.Calendars.{Bookings, StandsFor, Fits, HasRoom, IsFirstOverflow, booked_at}
 use Rattle.slot_calendar.specs.Plays.{Play, booked_by}
 use Rattle.slot_calendar.specs.declared.calendar.Overflow.{Overflow}
 use Rattle.slot_calendar.proofs.Sending.{asked-before}
 
 -- a calendar stands for plays that book no slot above its capacity
-pub record StandsWithin (capacity : ℕ → ℕ) (calendar : Entries) (plays : List Play) : Type 0 where
+pub record StandsWithin (capacity : ℕ → ℕ) (calendar : Bookings) (plays : List Play) : Type 0 where
   pub stands : StandsFor calendar plays
   pub within : (t : ℕ) → booked_by plays t ≤ capacity t
 
 -- a plan that fits from the calendar's first slot on fits everywhere: before its start it asks for nothing
-fits_each : {capacity : ℕ → ℕ} {calendar : Entries} {plays : List Play} {start u : ℕ} (segments : List Segment)
+fits_each : {capacity : ℕ → ℕ} {calendar : Bookings} {plays : List Play} {start u : ℕ} (segments : List Segment)
     → StandsWithin capacity calendar plays → calendar.first < start
     → (calendar.first ≤ u → Fits (booked_at calendar) capacity start segments u)
     → Fits (booked_by plays) capacity start segments u
@@ -23,7 +23,7 @@ fits_each {calendar} {start} {u} segments its after fits = elim (cases_lt u cale
 ]
 
 -- room from now on is room everywhere
-pub room_everywhere : {capacity : ℕ → ℕ} {calendar : Entries} {plays : List Play} {start : ℕ}
+pub room_everywhere : {capacity : ℕ → ℕ} {calendar : Bookings} {plays : List Play} {start : ℕ}
     {segments : List Segment} → StandsWithin capacity calendar plays → calendar.first < start
     → HasRoom calendar.first (booked_at calendar) capacity start segments
     → HasRoom 0 (booked_by plays) capacity start segments
@@ -32,7 +32,7 @@ room_everywhere {segments} its after room = record {
 }
 
 -- the first overflow from now on is the first one
-pub overflow_everywhere : {capacity : ℕ → ℕ} {calendar : Entries} {plays : List Play} {start : ℕ}
+pub overflow_everywhere : {capacity : ℕ → ℕ} {calendar : Bookings} {plays : List Play} {start : ℕ}
     {segments : List Segment} {over : Overflow} → StandsWithin capacity calendar plays → calendar.first < start
     → IsFirstOverflow calendar.first (booked_at calendar) capacity start segments over
     → IsFirstOverflow 0 (booked_by plays) capacity start segments over

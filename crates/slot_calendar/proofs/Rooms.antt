@@ -6,14 +6,14 @@ use Rattle.plan_cert.specs.Slots.{total_slots}
 use Rattle.slot_calendar.specs.declared.calendar.Overflow.{Overflow}
 use Rattle.slot_calendar.specs.Profiles.{capacity_at}
 use Rattle.slot_calendar.specs.Plays.{Play, asked_at, cut_at}
-use Rattle.slot_calendar.specs.Calendars.{Entries, booked_at, IsCalendar, HasRoom, FitsIn, IsOverflowIn}
+use Rattle.slot_calendar.specs.Calendars.{Bookings, booked_at, IsCalendar, HasRoom, FitsIn, IsOverflowIn}
 use Rattle.slot_calendar.specs.Calendars.{IsFirstOverflow}
 use Rattle.slot_calendar.specs.Totals.{ring_slots}
 use Rattle.slot_calendar.proofs.Capacities.{capacity-most}
 use Rattle.slot_calendar.proofs.Sending.{IsSegmentFrom, asked-in, asked-after, cut-before}
 
 -- a plan that fits leaves totals that can be counted
-pub room-small : {calendar : Entries} {segments : List Segment} {start : ℕ} (t : ℕ) → IsCalendar calendar →
+pub room-small : {calendar : Bookings} {segments : List Segment} {start : ℕ} (t : ℕ) → IsCalendar calendar →
     HasRoom calendar.first (booked_at calendar) (capacity_at calendar.steps) start segments → calendar.first ≤ t →
     booked_at calendar t + asked_at segments start t ≤ 2 ^ 42
 room-small {calendar} {start} t is room from =
@@ -55,7 +55,7 @@ first-overflow {capacity} {from} {over} at later before here =
     }
 
 -- it fits into the slots after it
-pub room-all : {calendar : Entries} {segments : List Segment} {start until : ℕ} → IsCalendar calendar →
+pub room-all : {calendar : Bookings} {segments : List Segment} {start until : ℕ} → IsCalendar calendar →
     start + total_slots segments ≤ until →
     FitsIn calendar.first until (booked_at calendar) (capacity_at calendar.steps) start segments →
     HasRoom calendar.first (booked_at calendar) (capacity_at calendar.steps) start segments
@@ -70,13 +70,13 @@ room-all {segments} {start} {until} is past fits = record {
 }
 
 -- a play that begins after the calendar's end, where nothing is booked
-pub record IsPastEnd (calendar : Entries) (play : Play) : Type 0 where
+pub record IsPastEnd (calendar : Bookings) (play : Play) : Type 0 where
   pub after : calendar.first + ring_slots ≤ play.start
   pub past : (u : ℕ) → calendar.first + ring_slots ≤ u → booked_at calendar u ≡ 0
   pub booked : (u : ℕ) → calendar.first ≤ u → cut_at play.segments play.start play.keep u ≤ booked_at calendar u
 
 -- nothing is left to give back of it
-pub cut-none : {calendar : Entries} {play : Play} (t : ℕ) → IsPastEnd calendar play → calendar.first ≤ t
+pub cut-none : {calendar : Bookings} {play : Play} (t : ℕ) → IsPastEnd calendar play → calendar.first ≤ t
     → cut_at play.segments play.start play.keep t ≡ 0
 cut-none {play} t is from =
     elim (cases_lt t play.start) [

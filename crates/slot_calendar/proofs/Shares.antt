@@ -9,7 +9,7 @@ use Rattle.plan_cert.specs.declared.Segment.{Segment}
 use Rattle.plan_cert.specs.Slots.{total_bytes}
 use Rattle.plan_cert.specs.Plan.{IsPlan}
 use Rattle.slot_calendar.specs.Plays.{Play, sent_before, asked_at, cut_at, whole_play, cut_play, share_at, booked_by}
-use Rattle.slot_calendar.specs.Calendars.{Entries, booked_at, StandsFor}
+use Rattle.slot_calendar.specs.Calendars.{Bookings, booked_at, StandsFor}
 use Rattle.slot_calendar.proofs.Sending.{sent-none, sent-rises, sent-most}
 
 share_parts : (a b k : ℕ) → a ≤ b → min b k - min a k + ((b - k) - (a - k)) ≡ b - a
@@ -82,7 +82,7 @@ booked-cut before after play t plan =
     open play use {start, segments, keep}
 
 -- ---- calendars and the lists that they stand for
-pub stands-push : {old new : Entries} {plays : List Play} {segments : List Segment} (start : ℕ) →
+pub stands-push : {old new : Bookings} {plays : List Play} {segments : List Segment} (start : ℕ) →
     IsPlan segments → new.first ≡ old.first →
     ((t : ℕ) → old.first ≤ t → booked_at new t ≡ booked_at old t + asked_at segments start t) → StandsFor old plays →
     StandsFor new (plays ++ whole_play start segments ∷ [])
@@ -95,11 +95,11 @@ stands-push {old} {new} {plays} {segments} start plan first totals stands = reco
 }
 
 -- a calendar after a play was cut
-pub record HasCut (old new : Entries) (play : Play) : Type 0 where
+pub record HasCut (old new : Bookings) (play : Play) : Type 0 where
   pub first_is : new.first ≡ old.first
   pub totals : (t : ℕ) → old.first ≤ t → booked_at new t + cut_at play.segments play.start play.keep t ≡ booked_at old t
 
-pub stands-cut : {old new : Entries} (before after : List Play) (play : Play) → IsPlan play.segments → HasCut old new play →
+pub stands-cut : {old new : Bookings} (before after : List Play) (play : Play) → IsPlan play.segments → HasCut old new play →
     StandsFor old (before ++ whole_play play.start play.segments ∷ after) → StandsFor new (before ++ play ∷ after)
 stands-cut {old} {new} before after play plan cut stands = record {
   each = λ t from. (
@@ -109,7 +109,7 @@ stands-cut {old} {new} before after play plan cut stands = record {
 }
 
 -- what a play that stands whole may give back
-pub cut-booked : {calendar : Entries} {t : ℕ} (before after : List Play) (play : Play) → IsPlan play.segments →
+pub cut-booked : {calendar : Bookings} {t : ℕ} (before after : List Play) (play : Play) → IsPlan play.segments →
     StandsFor calendar (before ++ whole_play play.start play.segments ∷ after) → calendar.first ≤ t
     → cut_at play.segments play.start play.keep t ≤ booked_at calendar t
 cut-booked {t} before after play plan stands from = omega (arith, stands.each t from, booked-cut before after play t plan)

@@ -1,9 +1,9 @@
 -- How a calendar is kept: a profile, and a ring whose blocks all have their greatest totals.
 use Rattle.std.specs.Prelude.{◌≡◌, None}
-use Rattle.slot_calendar.specs.Calendars.{Entries, IsCalendar}
+use Rattle.slot_calendar.specs.Calendars.{Bookings, IsCalendar}
 use Rattle.slot_calendar.specs.declared.calendar.Calendar.TheInside.{Inside}
 
-abbrev pub entries_of : Inside → Entries
+abbrev pub entries_of : Inside → Bookings
 entries_of calendar =
     record { first = calendar.ring.first; steps = calendar.profile; totals = calendar.ring.totals }
 

@@ -36,9 +36,9 @@ pub struct Calendar {
 }
 
 impl Model for Calendar {
-    ghost use Rattle.slot_calendar.specs.Calendars.{Entries};
+    ghost use Rattle.slot_calendar.specs.Calendars.{Bookings};
 
-    ghost Value = { Entries };
+    ghost Value = { Bookings };
 
     ghost use Rattle.slot_calendar.specs.Inside.{entries_of, IsCalendarInside};
 

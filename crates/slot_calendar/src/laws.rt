@@ -10,7 +10,7 @@ ghost use Rattle.slot_calendar.specs.declared.calendar.Overflow.{Overflow};
 ghost use Rattle.slot_calendar.specs.Profiles.{capacity_at};
 ghost use Rattle.slot_calendar.specs.Plays.{Play, sent_before, asked_at, cut_at, cut_play};
 ghost use Rattle.slot_calendar.specs.Plays.{share_at, whole_play, booked_by};
-ghost use Rattle.slot_calendar.specs.Calendars.{Entries, HasRoom, IsCalendar, IsFirstOverflow};
+ghost use Rattle.slot_calendar.specs.Calendars.{Bookings, HasRoom, IsCalendar, IsFirstOverflow};
 ghost use Rattle.slot_calendar.specs.Calendars.{StandsFor, booked_at};
 
 /// What a plan that begins at `start` has sent before a slot and sends in it, in the words of the
@@ -45,14 +45,14 @@ pub fn law_shares()
 
 /// The plays that a calendar stands for never book more than the capacity, in any slot from now on.
 pub fn law_capacity()
-    ensures { (calendar : Entries) (plays : List Play) → IsCalendar calendar →
+    ensures { (calendar : Bookings) (plays : List Play) → IsCalendar calendar →
         StandsFor calendar plays → (t : ℕ) → calendar.first ≤ t →
         booked_by plays t ≤ capacity_at calendar.steps t }
 {}
 
 /// A plan that stands booked whole may be cut after any of its bytes.
 pub fn law_release()
-    ensures { (calendar : Entries) (before after : List Play) (segments : List Segment)
+    ensures { (calendar : Bookings) (before after : List Play) (segments : List Segment)
         (start keep : ℕ) → IsPlan segments →
         StandsFor calendar (before ++ whole_play start segments ∷ after) →
         (t : ℕ) → calendar.first ≤ t → cut_at segments start keep t ≤ booked_at calendar t }

@@ -78,7 +78,7 @@ impl Profile {
     /// # Errors
     ///
     /// [`NoMemory`] where there is none for its one step.
-    pub fn flat(alloc: Global, bytes: u64) -> Result<Profile, NoMemory>
+    pub fn of_one_step(alloc: Global, bytes: u64) -> Result<Profile, NoMemory>
         requires { bytes ≤ 2 ^ 42 }
         ensures { IfOk result (λ profile. profile ≡ record { from = 0; bytes = bytes } ∷ []) }
     {

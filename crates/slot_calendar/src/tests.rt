@@ -177,7 +177,7 @@ fn tells_capacities(rt: HostRuntime) -> Result<(), Fail> {
     for (slot, want) in [(0, 5), (2, 5), (3, 3), (9, 3), (10, 7), (u64::MAX, 0)] {
         assert_eq!(rt; profile.at(slot), want, "slot {slot}");
     }
-    assert_eq!(rt; Profile::flat(rt.alloc(), 8)?.at(u64::MAX), 8);
+    assert_eq!(rt; Profile::of_one_step(rt.alloc(), 8)?.at(u64::MAX), 8);
     Ok(())
 }
 
@@ -242,7 +242,7 @@ fn comes_round(rt: HostRuntime) -> Result<(), Fail> {
 #[test]
 fn passes_blocks(rt: HostRuntime) -> Result<(), Fail> {
     let alloc = rt.alloc();
-    let mut calendar = Calendar::new(alloc, Profile::flat(alloc, 10)?)?;
+    let mut calendar = Calendar::new(alloc, Profile::of_one_step(alloc, 10)?)?;
     let plan = plan_of(&rt, alloc, &[(1_000_000, 5_000_000)])?;
     assert_eq!(rt; play(&rt, &mut calendar, 1, &plan), None);
     let asked = plan_of(&rt, alloc, &[(999_999, 4_999_995), (1, 6)])?;

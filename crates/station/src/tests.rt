@@ -198,10 +198,10 @@ fn run_four_seats<R: Threads + Wait + Abort + Sync>(
 #[test]
 fn threads_share_one_book(rt: HostRuntime) -> Result<(), Fail> {
     let alloc = rt.alloc();
-    let (station, seat) = Station::new(alloc, Profile::flat(alloc, 36)?, 1024)?;
+    let (station, seat) = Station::new(alloc, Profile::of_one_step(alloc, 36)?, 1024)?;
     assert_eq!(rt; seat.number(), 0);
     run_two_seats(&rt, alloc, station, seat);
-    let (station, seat) = Station::new(alloc, Profile::flat(alloc, 36)?, 2048)?;
+    let (station, seat) = Station::new(alloc, Profile::of_one_step(alloc, 36)?, 2048)?;
     run_four_seats(&rt, alloc, station, seat);
     Ok(())
 }

@@ -49,7 +49,7 @@ fn is_passed(side: Side, apex: Point, chain: &Queue, point: Point) -> bool
         (IsReady side apex chain.now point) }
 {
     match chain.last_edge(apex) {
-        Some((first, second)) => !is_inside(side.other(), first, second, point),
+        Some((first, second)) => !is_inside(side.other_side(), first, second, point),
         None => false,
     }
 }

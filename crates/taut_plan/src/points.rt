@@ -27,7 +27,7 @@ pub(crate) enum Side {
 
 impl Side {
     /// The other one.
-    pub(crate) fn other(self) -> Side
+    pub(crate) fn other_side(self) -> Side
         ensures { result ≡ other_side self }
     {
         match self {

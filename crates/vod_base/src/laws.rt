@@ -57,7 +57,7 @@ pub fn law_first_file()
 {}
 
 /// The bytes sent among what a link tells are those of its sends, in order.
-pub fn law_sent()
+pub fn law_bytes_of_sends()
     ensures bytes { (bytes : List ℕ) → sent_of (sends bytes) ≡ bytes }
     ensures order { (one other : List Doing) →
         sent_of (one ++ other) ≡ sent_of one ++ sent_of other }

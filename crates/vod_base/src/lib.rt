@@ -28,7 +28,8 @@ pub use files::Library;
 pub use fronts::move_to_front;
 pub use gates::{Gate, Opening};
 pub use laws::{
-    law_blanks, law_file_name, law_first_file, law_line_text, law_number_read, law_sent, law_trim,
+    law_blanks, law_bytes_of_sends, law_file_name, law_first_file, law_line_text, law_number_read,
+    law_trim,
 };
 pub use limits::number_within;
 pub use lines::{Line, line_end};
@@ -37,7 +38,7 @@ pub use memory_gates::{MemoryGate, MemoryPart};
 pub use memory_libraries::MemoryLibrary;
 pub use memory_links::{Event, MemoryLink};
 pub use memory_sinks::MemorySink;
-pub use names::good_name;
+pub use names::is_good_name;
 pub use numbers::{NumberFault, are_digits, is_decimal, push_number, read_number};
 pub use output::Sink;
 pub use outside::{GateFault, LinkFault, NoMemory, SinkFault, StoreFault};

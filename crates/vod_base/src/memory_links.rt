@@ -135,7 +135,7 @@ impl MemoryLink {
     }
 
     /// The bytes that were sent.
-    pub fn sent(&self) -> &[u8]
+    pub fn sent_bytes(&self) -> &[u8]
         ensures { result.now ≡ sent_of self.now.told }
     {
         self.sent.as_slice()

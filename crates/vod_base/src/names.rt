@@ -6,7 +6,7 @@ ghost use Rattle.vod_base.specs.Names.{is_good_name, is_name_byte};
 
 /// Whether `name` can name a film, trace, certificate or script: 1 to 64 bytes of letters, digits,
 /// `.`, `_` and `-`, the first not `.`.
-pub fn good_name(name: &[u8]) -> bool
+pub fn is_good_name(name: &[u8]) -> bool
     ensures { result ≡ is_good_name name.now }
 {
     if name.is_empty() || name.len() > 64 || name[0] == b'.' {

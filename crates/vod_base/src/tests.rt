@@ -88,7 +88,7 @@ fn names_files(rt: HostRuntime) {
             false,
         ),
     ] {
-        assert_eq!(rt; good_name(name.as_bytes()), want, "at {name}");
+        assert_eq!(rt; is_good_name(name.as_bytes()), want, "at {name}");
     }
 }
 
@@ -198,7 +198,7 @@ fn sends(rt: HostRuntime) -> Result<(), Fail> {
     for (bytes, want) in rows {
         assert_eq!(rt; link.send(bytes), want);
     }
-    assert_eq!(rt; link.sent(), b"abcdef".as_slice());
+    assert_eq!(rt; link.sent_bytes(), b"abcdef".as_slice());
     Ok(())
 }
 
@@ -242,7 +242,7 @@ fn gives_and_gets_back(rt: HostRuntime) -> Result<(), Fail> {
     let [back] = gate.returned_links(0) else {
         panic!(rt; "one link came back");
     };
-    assert_eq!(rt; back.sent(), b"abc".as_slice());
+    assert_eq!(rt; back.sent_bytes(), b"abc".as_slice());
     Ok(())
 }
 

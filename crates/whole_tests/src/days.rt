@@ -135,7 +135,7 @@ fn refuses_bad_lines(rt: HostRuntime) -> Result<(), Fail> {
 #[test]
 fn runs_drawn_plays(rt: HostRuntime) -> Result<(), Fail> {
     let alloc = rt.alloc();
-    let day = fair(alloc, 7, 2000, Profile::flat(alloc, 50_000)?)?;
+    let day = fair(alloc, 7, 2000, Profile::of_one_step(alloc, 50_000)?)?;
     let text = "fair turns=2000 admitted=975 overflow=728 halted=975 full=0 last=2886 \
         sent=137480547 booked=137480547 peak=50000\n";
     assert_eq!(rt; day.text.as_slice(), text.as_bytes());

@@ -9,7 +9,7 @@ use film_make::make_film;
 use mpeg_scan::scan;
 use std::alloc::Global;
 use std::process::Abort;
-use vod_base::{NoMemory, good_name};
+use vod_base::{NoMemory, is_good_name};
 
 /// Two pictures: a sequence header, a group header, an I picture of one slice, and a P picture of
 /// one slice. On the wire they have a report of 52 bytes, and frames of 54 and 35.
@@ -36,8 +36,8 @@ pub(crate) fn server_films(rt: &impl Abort, alloc: Global) -> Result<Vec<Stored>
 {
     let short = short_film(alloc)?;
     let long = stored(alloc, "news.mpg", make_film(alloc, 1, 250)?)?;
-    assert!(rt; good_name(short.name.as_bytes()));
-    assert!(rt; good_name(long.name.as_bytes()));
+    assert!(rt; is_good_name(short.name.as_bytes()));
+    assert!(rt; is_good_name(long.name.as_bytes()));
     assert!(rt; short.name.len() < long.name.len());
     Ok(Vec::from_array(alloc, [short, long])?)
 }
@@ -53,6 +53,6 @@ pub(crate) fn film_of<R: Abort>(
 {
     assert!(rt; 1 <= pictures && pictures <= 100_000);
     let film = stored(alloc, "film.mpg", make_film(alloc, 1, pictures)?)?;
-    assert!(rt; good_name(film.name.as_bytes()));
+    assert!(rt; is_good_name(film.name.as_bytes()));
     Ok(Vec::from_array(alloc, [film])?)
 }

@@ -74,7 +74,7 @@ impl Visit {
         );
         self.end = report.end;
         self.late = report.late;
-        self.sent = Vec::from_slice(alloc, link.sent())?;
+        self.sent = Vec::from_slice(alloc, link.sent_bytes())?;
         self.read = 0;
         if self.end == ConnEnd::NoMemory || has_refusal(&self.sent) {
             return Err(NoMemory);
@@ -206,7 +206,7 @@ pub(crate) fn station_of<R: Abort>(
     ensures { IfOk result (λ made. made.1 ≡ first_seat made.0) }
 {
     assert!(rt; 2 <= limit && limit <= 1_048_576 && capacity <= 1 << 42);
-    Station::new(alloc, Profile::flat(alloc, capacity)?, limit)
+    Station::new(alloc, Profile::of_one_step(alloc, capacity)?, limit)
 }
 
 /// The line of an entry, as a journal has it.

@@ -81,8 +81,8 @@ impl<'a> Talk<'a> {
         let session = Session::new(alloc, films, SETTINGS, WORDS)?;
         let events = Vec::new(alloc);
         let link = MemoryLink::new(alloc, events, 1 << 20, Vec::new(alloc), Vec::new(alloc))?;
-        let calendar = Calendar::new(alloc, Profile::flat(alloc, OFFERED)?)?;
-        let shared = Calendar::new(alloc, Profile::flat(alloc, SHARED)?)?;
+        let calendar = Calendar::new(alloc, Profile::of_one_step(alloc, OFFERED)?)?;
+        let shared = Calendar::new(alloc, Profile::of_one_step(alloc, SHARED)?)?;
         Ok(Talk {
             session,
             link,
@@ -94,7 +94,7 @@ impl<'a> Talk<'a> {
 
     /// What was sent and not read yet.
     fn unread(&self) -> &[u8] {
-        self.link.sent().get(self.read..).unwrap_or(&[])
+        self.link.sent_bytes().get(self.read..).unwrap_or(&[])
     }
 
     fn play<R: Abort>(&mut self, rt: &R, plan: &Plan, told: Told<'_>)
@@ -218,7 +218,7 @@ impl<'a> Talk<'a> {
         );
         self.hear_once(rt, alloc, message, told)?;
         if self.unread().starts_with(b"RTSP/1.0 500 ") {
-            self.read = self.link.sent().len();
+            self.read = self.link.sent_bytes().len();
             self.hear_once(rt, alloc, message, told)?;
         }
         Ok(())
@@ -259,10 +259,10 @@ impl<'a> Talk<'a> {
             numbers: [0, 1, 4, 141],
         };
         self.hear(rt, alloc, SETUP, told)?;
-        self.read = self.link.sent().len();
+        self.read = self.link.sent_bytes().len();
         if state == "Playing" {
             self.hear(rt, alloc, PLAY, told)?;
-            self.read = self.link.sent().len();
+            self.read = self.link.sent_bytes().len();
         }
         Ok(())
     }

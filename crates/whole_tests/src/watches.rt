@@ -16,7 +16,7 @@ use std::alloc::Global;
 use std::process::Abort;
 use std::sync::Wait;
 use std::test::Fail;
-use vod_base::{Event, MemoryLink, MemorySink, NoMemory, good_name};
+use vod_base::{Event, MemoryLink, MemorySink, NoMemory, is_good_name};
 
 /// The client's slot when it hears the reply to PLAY.
 const BEFORE: u64 = 70;
@@ -37,13 +37,13 @@ fn sent_after<R: Wait + Abort>(
 ) -> Result<Vec<u8>, NoMemory>
     requires { AreFilms films.now }
 {
-    let (station, mut seat) = Station::new(alloc, Profile::flat(alloc, 1 << 20)?, 16)?;
+    let (station, mut seat) = Station::new(alloc, Profile::of_one_step(alloc, 1 << 20)?, 16)?;
     let mut link = MemoryLink::new(alloc, events, 1 << 20, Vec::new(alloc), Vec::new(alloc))?;
     let _report = serve_connection(
         rt, alloc, &station, &mut seat, films, &SETTINGS, WORDS, 0, &mut link,
     );
     let _book: Book = station.close(seat);
-    Ok(Vec::from_slice(alloc, link.sent())?)
+    Ok(Vec::from_slice(alloc, link.sent_bytes())?)
 }
 
 /// What the server hears: requests, slots from 1 on between the second and the third.
@@ -134,7 +134,7 @@ fn watch_over<R: Abort>(
     wish: &Wish,
     events: Vec<Event>,
 ) -> Result<(MemoryLink, MemorySink, WatchEnd), NoMemory> {
-    assert!(rt; good_name(wish.name.as_bytes()) && 1 <= wish.port);
+    assert!(rt; is_good_name(wish.name.as_bytes()) && 1 <= wish.port);
     assert!(rt; 1 <= wish.buffer && wish.buffer <= 1 << 42 && wish.startup <= 10_000);
     assert!(rt; 360 <= wish.slot_units && wish.slot_units <= 360_000);
     let mut link = MemoryLink::new(alloc, events, 1 << 16, Vec::new(alloc), Vec::new(alloc))?;
@@ -166,7 +166,7 @@ fn watch_film<R: Wait + Abort>(
     for request in requests {
         asked.extend_from_slice(request.as_bytes())?;
     }
-    assert!(rt; link.sent() == asked.as_slice(), "other requests");
+    assert!(rt; link.sent_bytes() == asked.as_slice(), "other requests");
     assert!(rt; films.len() == 1);
     assert!(rt;
         out.bytes() == films[0].film.bytes.as_slice(),

@@ -65,7 +65,7 @@ fn sent_of(alloc: Global, gate: &MemoryGate) -> Result<Vec<Vec<u8>>, NoMemory> {
     let mut sent = Vec::new(alloc);
     for number in 0..2 {
         for link in gate.returned_links(number) {
-            sent.push(Vec::from_slice(alloc, link.sent())?)?;
+            sent.push(Vec::from_slice(alloc, link.sent_bytes())?)?;
         }
     }
     Ok(sent)

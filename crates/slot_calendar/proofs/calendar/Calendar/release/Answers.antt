@@ -1,15 +1,15 @@
 use Rattle.std.proofs.Common.{◌≡◌, ◌≤◌, ◌+◌, ℕ, arith, refl, sym, ap, ◌∙◌}
 use Rattle.slot_calendar.specs.Plays.{Play, cut_at, cut_play}
 use Rattle.slot_calendar.specs.Totals.{ring_slots, total_at}
-use Rattle.slot_calendar.specs.Calendars.{Entries, booked_at}
+use Rattle.slot_calendar.specs.Calendars.{Bookings, booked_at}
 use Rattle.slot_calendar.proofs.Rooms.{IsPastEnd, cut-none}
 use Rattle.slot_calendar.proofs.Shares.{HasCut, stands-cut}
 use Rattle.slot_calendar.proofs.calendar.Calendar.release.Goals as goal
 
 pub returns-then-saturating_sub-lt-RING_SLOTS-clause-stands : goal.returns-then-saturating_sub-lt-RING_SLOTS-clause-stands
 returns-then-saturating_sub-lt-RING_SLOTS-clause-stands c = λ before after stands. (
-    let old : Entries = c.args.self.now in
-    let new : Entries =
+    let old : Bookings = c.args.self.now in
+    let new : Bookings =
     record { first = c.settle.new.self.first; steps = c.self.inside.profile; totals = c.settle.new.self.totals } in
     let first : c.self.inside.ring.first ≡ old.first = ap (λ e. e.first) c.self.view_is in
     let settled : (t : ℕ) → booked_at new t ≡ total_at c.release_segments.new.ring.first c.release_segments.new.ring.totals t =
@@ -29,7 +29,7 @@ returns-then-saturating_sub-lt-RING_SLOTS-clause-stands c = λ before after stan
 
 pub returns-else-saturating_sub-lt-RING_SLOTS-clause-stands : goal.returns-else-saturating_sub-lt-RING_SLOTS-clause-stands
 returns-else-saturating_sub-lt-RING_SLOTS-clause-stands c = λ before after stands. (
-    let old : Entries = c.args.self.now in
+    let old : Bookings = c.args.self.now in
     let first : c.self.inside.ring.first ≡ old.first = ap (λ e. e.first) c.self.view_is in
     let past : (u : ℕ) → old.first + ring_slots ≤ u → booked_at old u ≡ 0 =
     λ u more. sym (ap (λ e. booked_at e u) c.self.view_is) ∙ c.now.ensures.past u (omega (arith, first, more)) in

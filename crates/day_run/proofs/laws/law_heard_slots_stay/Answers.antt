@@ -1,6 +1,6 @@
 use Rattle.day_run.proofs.PastSlots.{day-past, end-past}
 use Rattle.day_run.proofs.Takings.{LinesTaken, NextTaken}
-use Rattle.day_run.proofs.laws.law_past.Goals as goal
+use Rattle.day_run.proofs.laws.law_heard_slots_stay.Goals as goal
 
 pub returns-clause-line : goal.returns-clause-line
 returns-clause-line c = λ link sources slot lines texts moment next line text clients are run client stands is past.

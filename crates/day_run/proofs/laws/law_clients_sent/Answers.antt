@@ -1,5 +1,5 @@
 use Rattle.day_run.proofs.BalancedLines.{day-sent}
-use Rattle.day_run.proofs.laws.law_sent.Goals as goal
+use Rattle.day_run.proofs.laws.law_clients_sent.Goals as goal
 
 pub returns : goal.returns
 returns c = λ link n lines texts moment slot clients are run le.

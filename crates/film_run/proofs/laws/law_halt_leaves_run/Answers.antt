@@ -1,6 +1,6 @@
 use Rattle.film_run.proofs.LeftLaws.{goes-on-after, halted-plays, left-one}
 use Rattle.film_run.proofs.UsedPictures.{counts-used}
-use Rattle.film_run.proofs.laws.law_left.Goals as goal
+use Rattle.film_run.proofs.laws.law_halt_leaves_run.Goals as goal
 
 pub returns-clause-one : goal.returns-clause-one
 returns-clause-one c = λ sizes playback run plan is last keep left other. left-one

@@ -1,5 +1,5 @@
 use Rattle.admission.proofs.Opens.{still-open, can-still}
-use Rattle.admission.proofs.laws.law_open.Goals as goal
+use Rattle.admission.proofs.laws.law_can_halt.Goals as goal
 
 pub returns-clause-open : goal.returns-clause-open
 returns-clause-open c = still-open
