@@ -8,7 +8,7 @@ use Rattle.inputs.proofs.scans.end_film.Goals as goal
 pub returns-in-Ok-clause-ended : goal.returns-in-Ok-clause-ended
 returns-in-Ok-clause-ended g c = λ video short taken. elim taken [
   | inl so_far ↦ told_ended so_far
-      ((c.in-Ok.ensures {u = tt}).ended) ((c.in-Ok.ensures {u = tt}).told)
+      ((c.in-Ok.ensures {u = tt}).ended) ((c.in-Ok.ensures {u = tt}).heard)
   | inr so_far ↦
       (let answered : c.finish.result ≡ Err (FaultAnswer so_far.fault) =
       (c.finish.ensures.again (FaultAnswer so_far.fault) so_far.answers).0 in absurd (cc))

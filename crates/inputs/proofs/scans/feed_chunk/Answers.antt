@@ -20,7 +20,7 @@ returns-in-Ok-clause-scanned g c =
     c.read_at.new.chunk c.requires.scanned
     (λ held is. (c.in_ok-count.ensures {u = tt}).told held c.requires.scanned.bytes is
     (c.requires.scanned.front held is) c.requires.scanned.long)
-    ((c.in_ok-count.ensures {u = tt}).within) ((c.in-Ok.ensures {u = tt}).kept) ((c.in-Ok.ensures {u = tt}).told)
+    ((c.in_ok-count.ensures {u = tt}).within) ((c.in-Ok.ensures {u = tt}).kept) ((c.in-Ok.ensures {u = tt}).heard)
 
 pub returns-in-Ok-clause-more : goal.returns-in-Ok-clause-more
 returns-in-Ok-clause-more g c = λ held is.

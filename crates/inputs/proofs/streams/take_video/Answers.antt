@@ -11,7 +11,7 @@ use Rattle.inputs.proofs.streams.take_video.Goals as goal
 pub returns-in-Ok-clause-taken : goal.returns-in-Ok-clause-taken
 returns-in-Ok-clause-taken g c = λ seen taken. elim taken [
   | inl so_far ↦ inl (more_told c.args.video.now so_far
-      ((c.in-Ok.ensures {u = tt}).kept) ((c.in-Ok.ensures {u = tt}).told))
+      ((c.in-Ok.ensures {u = tt}).kept) ((c.in-Ok.ensures {u = tt}).heard))
   | inr so_far ↦
       (let answered : c.feed.result ≡ Err (FaultAnswer so_far.fault) =
       (c.feed.ensures.again (FaultAnswer so_far.fault) so_far.answers).0 in absurd (cc))
