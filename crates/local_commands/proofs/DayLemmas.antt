@@ -45,19 +45,19 @@ pub record IsNamedAs (named : Named) (kind : SourceKind) (name : List ℕ) : Typ
   pub name_is : name ≡ string_bytes named.name
 
 -- the trouble of a film or trace that was read by its name, where the script names it
-pub named_trouble : {kind : SourceKind} {name : List ℕ} {named : Named} {told : Option (List File)} (before after : ℕ)
+pub named_trouble : {kind : SourceKind} {name : List ℕ} {named : Named} (told : Option (List File)) (before after : ℕ)
     (t : Trouble) → IsNamedAs named kind name → IsReadTrouble (IsNamed name) (IsRefusedAs kind) told before after t →
     IsReadTrouble (IsNameOf named) (IsNamedRefused named) told before after t
-named_trouble before after t read h =
+named_trouble told before after t read h =
     read_trouble_map before after t (λ other same. same ∙ read.name_is)
     (λ held other fault told_is same refused.
     subst (λ (k : SourceKind). IsRefusedAs k held other fault) (sym read.kind_is) refused)
     h
 
 -- what was read is held as the script names it
-pub held_as : {held : List File} {kind : SourceKind} {name : List ℕ} {named : Named} {source : Source} →
+pub held_as : {kind : SourceKind} {name : List ℕ} {named : Named} (held : List File) (source : Source) →
     IsNamedAs named kind name → IsHeldUnder kind held name source → IsHeldAs held named source
-held_as {held} {kind} {name} {named} {source} read is =
+held_as {kind} {name} {named} held source read is =
     subst (λ (n : List ℕ). IsHeldUnder named.kind held n source) read.name_is
     (subst (λ (k : SourceKind). IsHeldUnder k held name source) (sym read.kind_is) is)
 

@@ -2,26 +2,26 @@ use Rattle.inputs.proofs.ScanLemmas.{handed_on}
 use Rattle.local_commands.proofs.DayLemmas.{held_as, named_trouble}
 use Rattle.local_commands.proofs.days.load_source.Goals as goal
 
-pub returns-in_ok-film-clause-held : goal.returns-in_ok-film-clause-held
-returns-in_ok-film-clause-held g c = λ held told.
-    held_as (record { kind_is = c.in-Film.is; name_is = c.as_str-name.ensures.value })
-    ((c.in_ok-film.ensures {u = tt}).film held told)
+pub returns-in_ok-film-in-Film-clause-held : goal.returns-in_ok-film-in-Film-clause-held
+returns-in_ok-film-in-Film-clause-held g c = λ held told.
+    held_as {named = c.args.named.now} held _ (record { kind_is = c.in-Film.is; name_is = c.as_str-name.ensures.value })
+    ((c.in_ok-film-in-Film.ensures {u = tt}).film held told)
 
-pub returns-in_err-film-clause-trouble : goal.returns-in_err-film-clause-trouble
-returns-in_err-film-clause-trouble g c =
+pub returns-in_err-film-in-Film-clause-trouble : goal.returns-in_err-film-in-Film-clause-trouble
+returns-in_err-film-in-Film-clause-trouble g c =
     handed_on _ c.from_residual.result c.from_residual.ensures.1
-    (named_trouble _ _ c.in_err-film.field-0.0
+    (named_trouble {named = c.args.named.now} _ _ _ c.in_err-film-in-Film.field-0.0
     (record { kind_is = c.in-Film.is; name_is = c.as_str-name.ensures.value })
-    ((c.in_err-film.ensures {u = tt}).trouble))
+    ((c.in_err-film-in-Film.ensures {u = tt}).trouble))
 
-pub returns-in_ok-sizes-clause-held : goal.returns-in_ok-sizes-clause-held
-returns-in_ok-sizes-clause-held g c = λ held told.
-    held_as (record { kind_is = c.in-Trace.is; name_is = c.as_str-name.ensures.value })
-    ((c.in_ok-sizes.ensures {u = tt}).held held told)
+pub returns-in_ok-sizes-in-Trace-clause-held : goal.returns-in_ok-sizes-in-Trace-clause-held
+returns-in_ok-sizes-in-Trace-clause-held g c = λ held told.
+    held_as {named = c.args.named.now} held _ (record { kind_is = c.in-Trace.is; name_is = c.as_str-name.ensures.value })
+    ((c.in_ok-sizes-in-Trace.ensures {u = tt}).held held told)
 
-pub returns-in_err-sizes-clause-trouble : goal.returns-in_err-sizes-clause-trouble
-returns-in_err-sizes-clause-trouble g c =
-    handed_on _ c.from_residual-in_err-sizes.result c.from_residual-in_err-sizes.ensures.1
-    (named_trouble _ _ c.in_err-sizes.field-0.0
+pub returns-in_err-sizes-in-Trace-clause-trouble : goal.returns-in_err-sizes-in-Trace-clause-trouble
+returns-in_err-sizes-in-Trace-clause-trouble g c =
+    handed_on _ c.from_residual-in_err-sizes-in-Trace.result c.from_residual-in_err-sizes-in-Trace.ensures.1
+    (named_trouble {named = c.args.named.now} _ _ _ c.in_err-sizes-in-Trace.field-0.0
     (record { kind_is = c.in-Trace.is; name_is = c.as_str-name.ensures.value })
-    ((c.in_err-sizes.ensures {u = tt}).trouble))
+    ((c.in_err-sizes-in-Trace.ensures {u = tt}).trouble))
