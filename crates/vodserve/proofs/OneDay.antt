@@ -60,17 +60,17 @@ content_is slot stored =
     ∙ ap (λ (ss : List ℕ). content_as video (rate_of (codes_of (read_after [] video))) (units_in (film_calls video)) ss) is.slices
 
 -- what is held under a name is played in one way
-content_once : {held : List File} {name : List ℕ} {slot : ℕ} (kind : SourceKind) (a b : Source) →
+content_once : (held : List File) (kind : SourceKind) (name : List ℕ) (slot : ℕ) (a b : Source) →
     IsHeldUnder kind held name a → IsHeldUnder kind held name b → source_content slot a ≡ source_content slot b
-content_once {held} {name} {slot} kinds.Film (Film a) (Film b) p q =
+content_once held kinds.Film name slot (Film a) (Film b) p q =
     content_is slot a
     ∙ ap content_in (held_once held name a.film.bytes.items b.film.bytes.items p q)
     ∙ sym (content_is slot b)
-content_once kinds.Film (Film a) (Trace b) p q = absurd q
-content_once kinds.Film (Trace a) b p q = absurd p
-content_once kinds.Trace (Film a) b p q = absurd p
-content_once kinds.Trace (Trace a) (Film b) p q = absurd q
-content_once {held} {name} {slot} kinds.Trace (Trace a) (Trace b) p q =
+content_once held kinds.Film name slot (Film a) (Trace b) p q = absurd q
+content_once held kinds.Film name slot (Trace a) b p q = absurd p
+content_once held kinds.Trace name slot (Film a) b p q = absurd p
+content_once held kinds.Trace name slot (Trace a) (Film b) p q = absurd q
+content_once held kinds.Trace name slot (Trace a) (Trace b) p q =
     ap (trace_content slot) (trace_once held name a.items b.items p q)
 
 contents_same : (slot : ℕ) (xs ys : List Source) → length xs ≡ length ys →
@@ -108,7 +108,7 @@ reels_once {held} {name} {a} {b} {sources} {others} slot p q are others_are =
     sym (get_or-map name_of a.named.items k one)
     ∙ ap (λ (ns : List Name). get_or ns k (name_of one)) names
     ∙ get_or-map name_of b.named.items k one in
-    content_once (get_or b.named.items k one).kind
+    content_once held (get_or b.named.items k one).kind (string_bytes (get_or b.named.items k one).name) slot
     (get_or sources k none) (get_or others k none)
     (same_name (get_or a.named.items k one) (get_or b.named.items k one) alike held (get_or sources k none)
     (are.each k one none (omega (arith, inside, are.count))))
