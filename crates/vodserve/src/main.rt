@@ -3,30 +3,12 @@
 #![tactic(auto)]
 
 mod day_ends;
-#[cfg(test)]
-mod day_tests;
-#[cfg(test)]
-mod film_tests;
-#[cfg(test)]
-mod loopback_tests;
-#[cfg(test)]
-mod meeting_tests;
-#[cfg(test)]
-mod outcomes;
 mod run;
-#[cfg(test)]
-mod scenes;
-#[cfg(test)]
-mod serve_tests;
 mod served;
 mod serving;
 #[cfg(test)]
-mod test_inputs;
-#[cfg(test)]
 mod tests;
 mod text_laws;
-#[cfg(test)]
-mod watch_tests;
 mod watches;
 mod workers;
 

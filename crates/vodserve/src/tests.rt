@@ -1,6 +1,16 @@
 //! Traces, certificates, generated material and the words of the command line, through `run`.
 
-use crate::scenes::passes;
+mod days;
+mod films;
+mod loopback;
+mod materials;
+mod meetings;
+mod outcomes;
+mod scenes;
+mod serves;
+mod watches;
+
+use crate::tests::scenes::passes;
 use std::test::Fail;
 
 /// Plans of traces, and verdicts on certificates of them.

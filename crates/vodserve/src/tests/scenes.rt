@@ -1,8 +1,8 @@
 //! Runs of the program over objects in memory, by scripts.
 
-use crate::outcomes::Outcome;
 use crate::run::{Ended, run};
-use crate::test_inputs::{Files, bytes_of, number_of, word_and_rest, words_of};
+use crate::tests::materials::{Files, bytes_of, number_of, word_and_rest, words_of};
+use crate::tests::outcomes::Outcome;
 use std::alloc::Global;
 use std::process::Abort;
 use std::sync::Wait;
@@ -102,7 +102,7 @@ impl Stage {
             last_events: Vec::new(alloc),
             parts: Vec::new(alloc),
             failing: no_failing(alloc),
-            left: Outcome::nothing(alloc),
+            left: Outcome::new(alloc),
         }
     }
 
@@ -150,7 +150,7 @@ impl Stage {
                 .files
                 .keep(alloc, first, bytes_of(alloc, more, b"\r\n")?)?,
             "bytes" => {
-                let bytes = self.files.joined(rt, alloc, more)?;
+                let bytes = self.files.join_words(rt, alloc, more)?;
                 self.files.keep(alloc, first, bytes)?;
             }
             "sizes" => {
@@ -161,7 +161,7 @@ impl Stage {
                 .events
                 .push(Event::Bytes(bytes_of(alloc, rest, b"\r\n")?))?,
             "gets" => {
-                let bytes = self.files.joined(rt, alloc, rest)?;
+                let bytes = self.files.join_words(rt, alloc, rest)?;
                 self.events.push(Event::Bytes(bytes))?;
             }
             "slots" => {

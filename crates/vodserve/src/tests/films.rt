@@ -1,6 +1,6 @@
 //! Films and system streams through `run`.
 
-use crate::scenes::passes;
+use crate::tests::scenes::passes;
 use std::test::Fail;
 
 /// What a scan of `a.mpg` prints.

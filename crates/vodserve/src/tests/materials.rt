@@ -91,7 +91,7 @@ impl Files {
 
     /// The bytes of words, each of which names a file or has hexadecimal digits. At another word
     /// the test stops.
-    pub(crate) fn joined<R: Abort>(
+    pub(crate) fn join_words<R: Abort>(
         &self,
         rt: &R,
         alloc: Global,

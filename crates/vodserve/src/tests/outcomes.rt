@@ -1,7 +1,7 @@
 //! What a run left, and the lines of a script that say what that is to be.
 
 use crate::run::Ended;
-use crate::test_inputs::{Files, bytes_of, number_of, word_and_rest};
+use crate::tests::materials::{Files, bytes_of, number_of, word_and_rest};
 use admission::{Answer, Entry};
 use conn::{ConnEnd, ConnReport};
 use std::alloc::Global;
@@ -32,18 +32,13 @@ pub(crate) struct Outcome {
 }
 
 /// Whether a text stands in bytes.
-fn has(bytes: &[u8], text: &[u8]) -> bool {
-    for start in 0..bytes.len() {
-        if bytes[start..].starts_with(text) {
-            return true;
-        }
-    }
-    false
+fn contains(bytes: &[u8], text: &[u8]) -> bool {
+    text.is_empty() || bytes.windows(text.len()).any(|part| part == text)
 }
 
 /// Whether a link that sent this told want of memory.
 fn is_refused(sent: &[u8]) -> bool {
-    has(sent, b"RTSP/1.0 500 ")
+    contains(sent, b"RTSP/1.0 500 ")
 }
 
 /// Whether as many plays were admitted as were halted.
@@ -78,7 +73,7 @@ fn sent_of(alloc: Global, gate: &MemoryGate) -> Result<Vec<Vec<u8>>, NoMemory> {
 
 impl Outcome {
     /// Nothing, before the first run.
-    pub(crate) fn nothing(alloc: Global) -> Outcome {
+    pub(crate) fn new(alloc: Global) -> Outcome {
         Outcome {
             status: 0,
             out: Vec::new(alloc),
@@ -132,7 +127,7 @@ impl Outcome {
     }
 
     /// The bytes of the first link that no line has read.
-    fn unread(&self) -> &[u8] {
+    fn unread_bytes(&self) -> &[u8] {
         match self.sent.first() {
             Some(sent) => sent.get(self.read..).unwrap_or(&[]),
             None => &[],
@@ -143,7 +138,7 @@ impl Outcome {
     fn all_sent_read(&self) -> bool {
         let others = self.sent.get(1..).unwrap_or(&[]);
         self.is_sent_searched
-            || (self.unread().is_empty() && others.iter().all(|sent| sent.is_empty()))
+            || (self.unread_bytes().is_empty() && others.iter().all(|sent| sent.is_empty()))
     }
 
     /// Lines are to have read all that the run left, before that place in the script.
@@ -157,8 +152,8 @@ impl Outcome {
     /// The payloads of the blocks on channel 0 that the first link sent next.
     fn read_film(&mut self, alloc: Global) -> Result<Vec<u8>, NoMemory> {
         let mut film = Vec::new(alloc);
-        for _ in 0..self.unread().len() {
-            let [b'$', channel, high, low, after @ ..] = self.unread() else {
+        for _ in 0..self.unread_bytes().len() {
+            let [b'$', channel, high, low, after @ ..] = self.unread_bytes() else {
                 break;
             };
             let length = usize::from(*high) * 256 + usize::from(*low);
@@ -191,7 +186,7 @@ impl Outcome {
             }
             "has" => {
                 let want = bytes_of(alloc, rest, b"\n")?;
-                assert!(rt; has(&self.out, &want), "not in the output: {rest}");
+                assert!(rt; contains(&self.out, &want), "not in the output: {rest}");
                 self.is_out_searched = true;
             }
             "keeps" => {
@@ -222,14 +217,17 @@ impl Outcome {
             "says" => {
                 let want = bytes_of(alloc, rest, b"\r\n")?;
                 assert!(rt;
-                    self.unread().starts_with(&want),
+                    self.unread_bytes().starts_with(&want),
                     "another reply than {rest}"
                 );
                 self.read = self.read.saturating_add(want.len());
             }
             "sends" => {
-                let want = files.joined(rt, alloc, rest)?;
-                assert!(rt; self.unread().starts_with(&want), "other bytes than {rest}");
+                let want = files.join_words(rt, alloc, rest)?;
+                assert!(rt;
+                    self.unread_bytes().starts_with(&want),
+                    "other bytes than {rest}"
+                );
                 self.read = self.read.saturating_add(want.len());
             }
             "plays" => {
@@ -243,7 +241,7 @@ impl Outcome {
                 let want = bytes_of(alloc, more, b"\r\n")?;
                 let mut count = 0u64;
                 for sent in &self.sent {
-                    count = count.saturating_add(u64::from(has(sent, &want)));
+                    count = count.saturating_add(u64::from(contains(sent, &want)));
                 }
                 assert_eq!(rt; count, number_of(first), "at {more}");
                 self.is_sent_searched = true;

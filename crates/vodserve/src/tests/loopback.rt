@@ -2,7 +2,7 @@
 //! watched.
 
 use crate::run::run;
-use crate::test_inputs::{FILM, library_of_film, words_of};
+use crate::tests::materials::{FILM, library_of_film, words_of};
 use net_edge::{DialGate, TcpGate};
 use std::alloc::Global;
 use std::net::{Net, TcpListener, TcpStream};

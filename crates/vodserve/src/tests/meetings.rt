@@ -4,7 +4,7 @@
 ghost use Rattle.std.specs.Prelude.{◌≤◌, None, length};
 
 use crate::run::{Ended, run};
-use crate::test_inputs::{library_of_film, words_of};
+use crate::tests::materials::{library_of_film, words_of};
 use conn::ConnEnd;
 use std::alloc::Global;
 use std::sync::Wait;

@@ -3,7 +3,7 @@
 //! A connection's identity is drawn from the seed of 32 bytes 7: these are the words that a plain
 //! ChaCha20 gives for it.
 
-use crate::scenes::passes;
+use crate::tests::scenes::passes;
 use std::test::Fail;
 
 /// A film of two pictures, as two workers, a failing part, and a look in mid-report have it.

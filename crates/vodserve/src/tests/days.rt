@@ -1,6 +1,6 @@
 //! Scripts and drawn plays through `run`.
 
-use crate::scenes::passes;
+use crate::tests::scenes::passes;
 use std::test::Fail;
 
 /// A link that has room for one play at a time, a pause in mid-report, and what is refused.

@@ -1,6 +1,6 @@
 //! `watch` through `run`, over a gate in memory.
 
-use crate::scenes::passes;
+use crate::tests::scenes::passes;
 use std::test::Fail;
 
 /// A film of two pictures, slot by slot as its plan has it, and what keeps a client from it: the
