@@ -20,7 +20,7 @@ use Rattle.command_words.specs.Capacities.{IsFront, capacity_of, flat_steps, may
 use Rattle.command_words.specs.Capacities.{one_capacity, part_more, stands_after, step_more}
 use Rattle.command_words.specs.Capacities.{step_of, steps_of}
 use Rattle.command_words.specs.Keys.{film_given, cert_given, script_given, buffer_given}
-use Rattle.command_words.specs.Keys.{startup_given, slot_given, capacity_given, journal_given}
+use Rattle.command_words.specs.Keys.{delay_given, slot_given, capacity_given, journal_given}
 use Rattle.command_words.specs.Keys.{port_given, workers_given, connections_given, seed_given}
 use Rattle.command_words.specs.Keys.{pictures_given, plays_given, one_kind, one_bind}
 use Rattle.command_words.specs.Commands.{command_named, is_word_of}
@@ -33,7 +33,7 @@ use Rattle.command_words.specs.Words.{command_order, lone_order, source_of, sour
 use Rattle.command_words.specs.Words.{viewer_given, script_run_given, fair_run_given}
 use Rattle.command_words.specs.Words.{listening_given, pace_given, serving_given, watching_given}
 use Rattle.command_words.specs.Words.{order_given, meaning}
-use Rattle.command_words.specs.Spelling.{IsCapacity, MayBeBuffer, MayBeStartup, MayBePort}
+use Rattle.command_words.specs.Spelling.{IsCapacity, MayBeBuffer, MayBeDelay, MayBePort}
 use Rattle.command_words.specs.Spelling.{MayBeSlot, MayBeJournal, MayBeFilms, MayBeSource}
 use Rattle.command_words.specs.Spelling.{MayBeViewer, MayBePace, MayListen, MayServe, MayRun}
 use Rattle.command_words.specs.Spelling.{MayDraw, MayWatch, MayBeAsked}
@@ -177,8 +177,8 @@ source_asked (trace ∷ traces) (film ∷ films) slots source e = absurd (none-s
 buffer_asked : (words : List (List ℕ)) (buffer : ℕ) → buffer_given words ≡ Some buffer → MayBeBuffer buffer
 buffer_asked words buffer e = or_between (values_of (codes "buffer") words) (omega arith, omega arith) e
 
-startup_asked : (words : List (List ℕ)) (startup : ℕ) → startup_given words ≡ Some startup → MayBeStartup startup
-startup_asked words startup e = or_between (values_of (codes "startup") words) (omega arith, omega arith) e
+delay_asked : (words : List (List ℕ)) (delay : ℕ) → delay_given words ≡ Some delay → MayBeDelay delay
+delay_asked words delay e = or_between (values_of (codes "startup") words) (omega arith, omega arith) e
 
 slot_asked : (words : List (List ℕ)) (slot : ℕ) → slot_given words ≡ Some slot → MayBeSlot slot
 slot_asked words slot e = or_between (values_of (codes "slot") words) (omega arith, omega arith) e
@@ -196,7 +196,7 @@ viewer_asked words viewer e =
       source = source_asked (values_of (codes "trace") words) (values_of (codes "film") words)
           (values_of (codes "slot") words) viewer.source read.source;
       buffer = buffer_asked words viewer.buffer read.buffer;
-      startup = startup_asked words viewer.startup read.startup;
+      delay = delay_asked words viewer.delay read.delay;
     }
 
 pace_asked : (words : List (List ℕ)) (pace : Pace) → pace_given words ≡ Some pace → MayBePace pace
@@ -204,7 +204,7 @@ pace_asked words pace e =
     let read = pace_keys words pace e in
     record {
       buffer = buffer_asked words pace.buffer read.buffer;
-      startup = startup_asked words pace.startup read.startup;
+      delay = delay_asked words pace.delay read.delay;
       slot = slot_asked words pace.slot read.slot;
     }
 

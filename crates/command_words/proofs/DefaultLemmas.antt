@@ -138,7 +138,7 @@ give_same command words default left =
       plays = other (codes "plays") refl;
       buffer = added_same (number_or 1048576 1 (2 ^ 42)) default
           refl (own (codes "buffer") (codes "1048576") refl);
-      startup = added_same (number_or 25 0 10000) default
+      delay = added_same (number_or 25 0 10000) default
           refl (own (codes "startup") (codes "25") refl);
       slot = added_same (number_or 14400 360 360000) default
           refl (own (codes "slot") (codes "14400") refl);

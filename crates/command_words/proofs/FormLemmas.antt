@@ -16,7 +16,7 @@ use Rattle.slot_calendar.specs.declared.profiles.CapacityStep.{CapacityStep}
 use Rattle.command_words.specs.Settings.{number_or, one_name, one_number, setting_value, values_of}
 use Rattle.command_words.specs.Capacities.{one_capacity}
 use Rattle.command_words.specs.Keys.{film_given, cert_given, script_given, buffer_given}
-use Rattle.command_words.specs.Keys.{startup_given, slot_given, capacity_given, journal_given}
+use Rattle.command_words.specs.Keys.{delay_given, slot_given, capacity_given, journal_given}
 use Rattle.command_words.specs.Keys.{port_given, workers_given, connections_given, seed_given}
 use Rattle.command_words.specs.Keys.{pictures_given, plays_given, one_kind, one_bind}
 use Rattle.command_words.specs.Commands.{command_named, is_word_of, keys_of}
@@ -74,13 +74,13 @@ one_of_kind kind (value ∷ other ∷ others) e = absurd (none-some _ e)
 -- ---- what was given where a group of keys was read
 pub record HasClient (words : List (List ℕ)) : Type 0 where
   pub buffer : times (codes "buffer") words ≤ 1
-  pub startup : times (codes "startup") words ≤ 1
+  pub delay : times (codes "startup") words ≤ 1
 
 client_form : (words : List (List ℕ)) (bytes slots : ℕ) → buffer_given words ≡ Some bytes
-    → startup_given words ≡ Some slots → HasClient words
-client_form words bytes slots buffer startup = record {
+    → delay_given words ≡ Some slots → HasClient words
+client_form words bytes slots buffer delay = record {
   buffer = few_of_number 1048576 1 (2 ^ 42) bytes (values_of (codes "buffer") words) buffer;
-  startup = few_of_number 25 0 10000 slots (values_of (codes "startup") words) startup;
+  delay = few_of_number 25 0 10000 slots (values_of (codes "startup") words) delay;
 }
 
 pub record HasPace (words : List (List ℕ)) : Type 0 where
@@ -91,7 +91,7 @@ pace_form : (words : List (List ℕ)) (pace : Pace) → pace_given words ≡ Som
 pace_form words pace e =
     let read = pace_keys words pace e in
     record {
-      client = client_form words pace.buffer pace.startup read.buffer read.startup;
+      client = client_form words pace.buffer pace.delay read.buffer read.delay;
       slot = few_of_number 14400 360 360000 pace.slot (values_of (codes "slot") words) read.slot;
     }
 
@@ -150,7 +150,7 @@ viewer_form words viewer e =
     record {
       source = source_form (values_of (codes "trace") words) (values_of (codes "film") words)
           (values_of (codes "slot") words) viewer.source read.source;
-      client = client_form words viewer.buffer viewer.startup read.buffer read.startup;
+      client = client_form words viewer.buffer viewer.delay read.buffer read.delay;
     }
 
 -- ---- lists of keys
@@ -195,7 +195,7 @@ plan_form words order e =
     let film : IsFew Plan words (codes "film") = omega (arith, viewer.source.one) in
     record {
       few = All-from_recursion (IsFew Plan words) (keys_of Plan)
-          (trace, (film, (client.buffer, (client.startup, (viewer.source.few, tt)))));
+          (trace, (film, (client.buffer, (client.delay, (viewer.source.few, tt)))));
       needed = All-nil (IsGivenBy words);
       source = one_source words viewer;
     }
@@ -211,7 +211,7 @@ check_form words order e =
     let cert : IsFew Check words (codes "cert") = omega (arith, one) in
     record {
       few = All-from_recursion (IsFew Check words) (keys_of Check)
-          (trace, (film, (cert, (client.buffer, (client.startup, (viewer.source.few, tt))))));
+          (trace, (film, (cert, (client.buffer, (client.delay, (viewer.source.few, tt))))));
       needed = All-from_recursion (IsGivenBy words) (needed_keys Check) (omega (arith, one), tt);
       source = one_source words viewer;
     }
@@ -269,7 +269,7 @@ watch_form words order e =
     let port = few_of_number 8554 1 65535 watching.0.port (values_of (codes "port") words) read.port in
     record {
       few = All-from_recursion (IsFew Watch words) (keys_of Watch)
-          (omega (arith, one), (port, (pace.client.buffer, (pace.client.startup, (pace.slot, tt)))));
+          (omega (arith, one), (port, (pace.client.buffer, (pace.client.delay, (pace.slot, tt)))));
       needed = All-from_recursion (IsGivenBy words) (needed_keys Watch) (omega (arith, one), tt);
       source = tt;
     }
@@ -286,13 +286,13 @@ serve_form words order e =
     let capacity = few_of_capacity serving.0.capacity (values_of (codes "capacity") words) read.capacity in
     let journal = few_of_number 65536 2 1048576 serving.0.journal (values_of (codes "journal") words) read.journal in
     let buffer = pace.client.buffer in
-    let startup = pace.client.startup in
+    let delay = pace.client.delay in
     let slot = pace.slot in
     let workers = listening.workers in
     let connections = listening.connections in
     record {
       few = All-from_recursion (IsFew Serve words) (keys_of Serve)
-          (named.few, (port, (bind, (capacity, (buffer, (startup, (slot, (journal, (workers, (connections, tt))))))))));
+          (named.few, (port, (bind, (capacity, (buffer, (delay, (slot, (journal, (workers, (connections, tt))))))))));
       needed = All-from_recursion (IsGivenBy words) (needed_keys Serve) (named.some, tt);
       source = tt;
     }

@@ -4,7 +4,7 @@ use Rattle.std.specs.Option.{option_and_then}
 use Rattle.std.specs.Prelude.{option_map}
 use Rattle.std.proofs.lemmas.Option.{none-some, same_Some}
 use Rattle.command_words.specs.Settings.{values_of}
-use Rattle.command_words.specs.Keys.{film_given, cert_given, script_given, buffer_given, startup_given, slot_given}
+use Rattle.command_words.specs.Keys.{film_given, cert_given, script_given, buffer_given, delay_given, slot_given}
 use Rattle.command_words.specs.Keys.{capacity_given, journal_given, port_given, workers_given, connections_given}
 use Rattle.command_words.specs.Keys.{seed_given, pictures_given, plays_given, one_kind, one_bind}
 use Rattle.command_words.specs.Words.{Viewer, Serving, ScriptRun, Watching, Order, check_of, make_of, are_films}
@@ -37,27 +37,27 @@ test_passes false o a e = absurd (none-some _ e)
 pub record IsViewerRead (words : List (List ℕ)) (viewer : Viewer) : Type 0 where
   pub source : source_given words ≡ Some viewer.source
   pub buffer : buffer_given words ≡ Some viewer.buffer
-  pub startup : startup_given words ≡ Some viewer.startup
+  pub delay : delay_given words ≡ Some viewer.delay
 
 pub viewer_keys : (words : List (List ℕ)) (viewer : Viewer) → viewer_given words ≡ Some viewer
     → IsViewerRead words viewer
 viewer_keys words viewer e =
     let source = step_found _ (source_given words) viewer e in
     let buffer = step_found _ (buffer_given words) viewer source.2 in
-    let startup = last_step_found _ (startup_given words) viewer buffer.2 in
-    subst (IsViewerRead words) startup.2 (record { source = source.1; buffer = buffer.1; startup = startup.1 })
+    let delay = last_step_found _ (delay_given words) viewer buffer.2 in
+    subst (IsViewerRead words) delay.2 (record { source = source.1; buffer = buffer.1; delay = delay.1 })
 
 pub record IsPaceRead (words : List (List ℕ)) (pace : Pace) : Type 0 where
   pub buffer : buffer_given words ≡ Some pace.buffer
-  pub startup : startup_given words ≡ Some pace.startup
+  pub delay : delay_given words ≡ Some pace.delay
   pub slot : slot_given words ≡ Some pace.slot
 
 pub pace_keys : (words : List (List ℕ)) (pace : Pace) → pace_given words ≡ Some pace → IsPaceRead words pace
 pace_keys words pace e =
     let buffer = step_found _ (buffer_given words) pace e in
-    let startup = step_found _ (startup_given words) pace buffer.2 in
-    let slot = last_step_found _ (slot_given words) pace startup.2 in
-    subst (IsPaceRead words) slot.2 (record { buffer = buffer.1; startup = startup.1; slot = slot.1 })
+    let delay = step_found _ (delay_given words) pace buffer.2 in
+    let slot = last_step_found _ (slot_given words) pace delay.2 in
+    subst (IsPaceRead words) slot.2 (record { buffer = buffer.1; delay = delay.1; slot = slot.1 })
 
 pub record IsListeningRead (words : List (List ℕ)) (listening : Listening) : Type 0 where
   pub port : port_given words ≡ Some listening.port

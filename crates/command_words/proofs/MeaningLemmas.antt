@@ -7,7 +7,7 @@ use Rattle.std.specs.Str.{bytes_eq}
 use Rattle.std.proofs.lemmas.Bool.{cases_Bool}
 use Rattle.std.proofs.lemmas.Slice.Eq.{bytes_eq-Decides}
 use Rattle.command_words.specs.Settings.{values_of}
-use Rattle.command_words.specs.Keys.{buffer_given, startup_given, slot_given, capacity_given}
+use Rattle.command_words.specs.Keys.{buffer_given, delay_given, slot_given, capacity_given}
 use Rattle.command_words.specs.Keys.{journal_given, port_given, workers_given, connections_given}
 use Rattle.command_words.specs.Keys.{one_bind}
 use Rattle.command_words.specs.Commands.{command_named, is_word_of}
@@ -47,7 +47,7 @@ pub record GiveSame (words words' : List (List ℕ)) : Type 0 where
   pub pictures : values_of (codes "pictures") words ≡ values_of (codes "pictures") words'
   pub plays : values_of (codes "plays") words ≡ values_of (codes "plays") words'
   pub buffer : buffer_given words ≡ buffer_given words'
-  pub startup : startup_given words ≡ startup_given words'
+  pub delay : delay_given words ≡ delay_given words'
   pub slot : slot_given words ≡ slot_given words'
   pub capacity : capacity_given words ≡ capacity_given words'
   pub journal : journal_given words ≡ journal_given words'
@@ -57,10 +57,10 @@ pub record GiveSame (words words' : List (List ℕ)) : Type 0 where
   pub connections : connections_given words ≡ connections_given words'
 
 viewer_same : (words words' : List (List ℕ)) → GiveSame words words' → viewer_given words ≡ viewer_given words'
-viewer_same words words' same = rw same.source (rw same.buffer (rw same.startup refl))
+viewer_same words words' same = rw same.source (rw same.buffer (rw same.delay refl))
 
 pace_same : (words words' : List (List ℕ)) → GiveSame words words' → pace_given words ≡ pace_given words'
-pace_same words words' same = rw same.buffer (rw same.startup (rw same.slot refl))
+pace_same words words' same = rw same.buffer (rw same.delay (rw same.slot refl))
 
 listening_same : (words words' : List (List ℕ)) → GiveSame words words' → listening_given words ≡ listening_given words'
 listening_same words words' same = rw same.port (rw same.bind (rw same.workers (rw same.connections refl)))

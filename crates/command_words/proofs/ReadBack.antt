@@ -9,7 +9,7 @@ use Rattle.vod_base.specs.Names.{is_good_name}
 use Rattle.slot_calendar.specs.declared.profiles.CapacityStep.{CapacityStep}
 use Rattle.command_words.specs.Settings.{values_of, one_name, number_or}
 use Rattle.command_words.specs.Keys.{film_given, cert_given, script_given, buffer_given}
-use Rattle.command_words.specs.Keys.{startup_given, slot_given, capacity_given, journal_given}
+use Rattle.command_words.specs.Keys.{delay_given, slot_given, capacity_given, journal_given}
 use Rattle.command_words.specs.Keys.{port_given, workers_given, connections_given, seed_given}
 use Rattle.command_words.specs.Keys.{pictures_given, plays_given, one_kind, one_bind}
 use Rattle.command_words.specs.Commands.{keys_of}
@@ -24,7 +24,7 @@ use Rattle.command_words.specs.Words.{serving_given, watching_given, order_given
 use Rattle.command_words.specs.Words.{meaning}
 use Rattle.command_words.specs.Spelling.{Setting, word_of, settings_of, words_of, film_setting}
 use Rattle.command_words.specs.Spelling.{server_settings, viewer_settings, made_name, bind_text}
-use Rattle.command_words.specs.Spelling.{steps_text, IsCapacity, MayBeBuffer, MayBeStartup}
+use Rattle.command_words.specs.Spelling.{steps_text, IsCapacity, MayBeBuffer, MayBeDelay}
 use Rattle.command_words.specs.Spelling.{MayBePort, MayBePictures, MayBeSlot, MayBeJournal}
 use Rattle.command_words.specs.Spelling.{MayBeSource, MayBeViewer, MayBePace, MayListen, MayServe}
 use Rattle.command_words.specs.Spelling.{MayRun, MayDraw, MayWatch, MayBeAsked}
@@ -51,16 +51,16 @@ then_is f o a b found rest = ap (option_and_then f) found ∙ rest
 -- the numbers that settings give to a client
 pub record GivesPace (words : List (List ℕ)) (bytes slots : ℕ) : Type 0 where
   pub buffer : buffer_given words ≡ Some bytes
-  pub startup : startup_given words ≡ Some slots
+  pub delay : delay_given words ≡ Some slots
 
-pace_read : {buffer startup : ℕ} (settings : List Setting) → are_plain settings ≡ true →
+pace_read : {buffer delay : ℕ} (settings : List Setting) → are_plain settings ≡ true →
     picked (codes "buffer") settings ≡ decimal buffer ∷ [] →
-    picked (codes "startup") settings ≡ decimal startup ∷ [] → MayBeBuffer buffer
-    → MayBeStartup startup → GivesPace (given settings) buffer startup
-pace_read {buffer} {startup} settings plain b s some few =
+    picked (codes "startup") settings ≡ decimal delay ∷ [] → MayBeBuffer buffer
+    → MayBeDelay delay → GivesPace (given settings) buffer delay
+pace_read {buffer} {delay} settings plain b s some few =
     record {
       buffer = key_or 1048576 (values_read (codes "buffer") settings plain ∙ b) some (omega (arith, some.1));
-      startup = key_or 25 (values_read (codes "startup") settings plain ∙ s) few (omega (arith, few.1));
+      delay = key_or 25 (values_read (codes "startup") settings plain ∙ s) few (omega (arith, few.1));
     }
 
 slot_read : (settings : List Setting) (slot : ℕ) → are_plain settings ≡ true →
@@ -122,49 +122,49 @@ film_read {name} {slot} settings plain picks good within =
     (values_read (codes "film") settings plain ∙ picks.film) good)
     (ap (option_map (λ (k : ℕ). film_source name k)) (slot_read settings slot plain picks.slot_is within))
 
-viewer_is : (words : List (List ℕ)) (source : Source) (buffer startup : ℕ) → source_given words ≡ Some source →
-    GivesPace words buffer startup →
-    viewer_given words ≡ Some (record { source = source; buffer = buffer; startup = startup })
-viewer_is words source buffer startup from pace = rw from (rw pace.buffer (rw pace.startup refl))
+viewer_is : (words : List (List ℕ)) (source : Source) (buffer delay : ℕ) → source_given words ≡ Some source →
+    GivesPace words buffer delay →
+    viewer_given words ≡ Some (record { source = source; buffer = buffer; delay = delay })
+viewer_is words source buffer delay from pace = rw from (rw pace.buffer (rw pace.delay refl))
 
 viewer_read : (viewer : Viewer) → MayBeViewer viewer → viewer_given (given (viewer_settings viewer)) ≡ Some viewer
-viewer_read viewer may = by viewer.source viewer.buffer viewer.startup may.source may.buffer may.startup
+viewer_read viewer may = by viewer.source viewer.buffer viewer.delay may.source may.buffer may.delay
   where
-    by : (source : Source) (buffer startup : ℕ) → MayBeSource source → MayBeBuffer buffer → MayBeStartup startup →
-        viewer_given (given (viewer_settings (record { source = source; buffer = buffer; startup = startup })))
-        ≡ Some (record { source = source; buffer = buffer; startup = startup })
-    by (trace_source name) buffer startup good some few =
-        let settings = viewer_settings (record { source = trace_source name; buffer = buffer; startup = startup }) in
-        viewer_is (given settings) (trace_source name) buffer startup
+    by : (source : Source) (buffer delay : ℕ) → MayBeSource source → MayBeBuffer buffer → MayBeDelay delay →
+        viewer_given (given (viewer_settings (record { source = source; buffer = buffer; delay = delay })))
+        ≡ Some (record { source = source; buffer = buffer; delay = delay })
+    by (trace_source name) buffer delay good some few =
+        let settings = viewer_settings (record { source = trace_source name; buffer = buffer; delay = delay }) in
+        viewer_is (given settings) (trace_source name) buffer delay
         (trace_read settings refl refl refl refl good) (pace_read settings refl refl refl some few)
-    by (film_source name slot) buffer startup good some few =
+    by (film_source name slot) buffer delay good some few =
         let settings =
-        viewer_settings (record { source = film_source name slot; buffer = buffer; startup = startup }) in
-        viewer_is (given settings) (film_source name slot) buffer startup
+        viewer_settings (record { source = film_source name slot; buffer = buffer; delay = delay }) in
+        viewer_is (given settings) (film_source name slot) buffer delay
         (film_read settings refl (record { trace = refl; film = refl; slot_is = refl }) good.0 good.1)
         (pace_read settings refl refl refl some few)
 
 check_read : (viewer : Viewer) (cert : List ℕ) → MayBeViewer viewer → is_good_name cert ≡ true →
     check_given (given (settings_of (check_of viewer cert))) ≡ Some (check_of viewer cert)
-check_read viewer cert may good = by viewer.source viewer.buffer viewer.startup may.source may.buffer may.startup
+check_read viewer cert may good = by viewer.source viewer.buffer viewer.delay may.source may.buffer may.delay
   where
-    by : (source : Source) (buffer startup : ℕ) → MayBeSource source → MayBeBuffer buffer → MayBeStartup startup →
+    by : (source : Source) (buffer delay : ℕ) → MayBeSource source → MayBeBuffer buffer → MayBeDelay delay →
         check_given (given
-        (settings_of (check_of (record { source = source; buffer = buffer; startup = startup }) cert)))
-        ≡ Some (check_of (record { source = source; buffer = buffer; startup = startup }) cert)
-    by (trace_source name) buffer startup named some few =
-        let viewer : Viewer = record { source = trace_source name; buffer = buffer; startup = startup } in
+        (settings_of (check_of (record { source = source; buffer = buffer; delay = delay }) cert)))
+        ≡ Some (check_of (record { source = source; buffer = buffer; delay = delay }) cert)
+    by (trace_source name) buffer delay named some few =
+        let viewer : Viewer = record { source = trace_source name; buffer = buffer; delay = delay } in
         let settings = settings_of (check_of viewer cert) in
-        let found = viewer_is (given settings) (trace_source name) buffer startup
+        let found = viewer_is (given settings) (trace_source name) buffer delay
         (trace_read settings refl refl refl refl named) (pace_read settings refl refl refl some few) in
         then_is (λ (v : Viewer). option_map (λ (c : List ℕ). check_of v c) (cert_given (given settings)))
         (viewer_given (given settings)) viewer (Some (check_of viewer cert)) found
         (ap (option_map (λ (c : List ℕ). check_of viewer c))
         (name_back cert (values_of (codes "cert") (given settings)) (values_read (codes "cert") settings refl) good))
-    by (film_source name slot) buffer startup named some few =
-        let viewer : Viewer = record { source = film_source name slot; buffer = buffer; startup = startup } in
+    by (film_source name slot) buffer delay named some few =
+        let viewer : Viewer = record { source = film_source name slot; buffer = buffer; delay = delay } in
         let settings = settings_of (check_of viewer cert) in
-        let found = viewer_is (given settings) (film_source name slot) buffer startup
+        let found = viewer_is (given settings) (film_source name slot) buffer delay
         (film_read settings refl (record { trace = refl; film = refl; slot_is = refl }) named.0 named.1)
         (pace_read settings refl refl refl some few) in
         then_is (λ (v : Viewer). option_map (λ (c : List ℕ). check_of v c) (cert_given (given settings)))
@@ -213,14 +213,14 @@ draw_read run may =
 -- the client and the slot length that settings give
 whole_pace : {pace : Pace} (settings : List Setting) → are_plain settings ≡ true →
     picked (codes "buffer") settings ≡ decimal pace.buffer ∷ [] →
-    picked (codes "startup") settings ≡ decimal pace.startup ∷ [] →
+    picked (codes "startup") settings ≡ decimal pace.delay ∷ [] →
     picked (codes "slot") settings ≡ decimal pace.slot ∷ [] → MayBePace pace →
     pace_given (given settings) ≡ Some pace
 whole_pace {pace} settings plain b s k may =
-    let gives : GivesPace (given settings) pace.buffer pace.startup =
-    pace_read settings plain b s may.buffer may.startup in
+    let gives : GivesPace (given settings) pace.buffer pace.delay =
+    pace_read settings plain b s may.buffer may.delay in
     let slot = slot_read settings pace.slot plain k may.slot in
-    rw gives.buffer (rw gives.startup (rw slot refl))
+    rw gives.buffer (rw gives.delay (rw slot refl))
 
 watching_read : (watching : Watching) → MayWatch watching
     → watching_given (given (settings_of (watch_of watching))) ≡ Some watching
@@ -284,33 +284,33 @@ serving_read serving may =
 
 -- the settings of a client are words of `plan` and `check`
 viewer_plain : (viewer : Viewer) → are_plain (viewer_settings viewer) ≡ true
-viewer_plain viewer = by viewer.source viewer.buffer viewer.startup
+viewer_plain viewer = by viewer.source viewer.buffer viewer.delay
   where
-    by : (source : Source) (buffer startup : ℕ)
-        → are_plain (viewer_settings (record { source = source; buffer = buffer; startup = startup })) ≡ true
-    by (trace_source name) buffer startup = refl
-    by (film_source name slot) buffer startup = refl
+    by : (source : Source) (buffer delay : ℕ)
+        → are_plain (viewer_settings (record { source = source; buffer = buffer; delay = delay })) ≡ true
+    by (trace_source name) buffer delay = refl
+    by (film_source name slot) buffer delay = refl
 
 viewer_among : (viewer : Viewer) → are_among (keys_of Plan) (viewer_settings viewer) ≡ true
-viewer_among viewer = by viewer.source viewer.buffer viewer.startup
+viewer_among viewer = by viewer.source viewer.buffer viewer.delay
   where
-    by : (source : Source) (buffer startup : ℕ)
-        → are_among (keys_of Plan) (viewer_settings (record { source = source; buffer = buffer; startup = startup }))
+    by : (source : Source) (buffer delay : ℕ)
+        → are_among (keys_of Plan) (viewer_settings (record { source = source; buffer = buffer; delay = delay }))
         ≡ true
-    by (trace_source name) buffer startup = refl
-    by (film_source name slot) buffer startup = refl
+    by (trace_source name) buffer delay = refl
+    by (film_source name slot) buffer delay = refl
 
 check_plain : (viewer : Viewer) (cert : List ℕ) → are_plain (settings_of (check_of viewer cert)) ≡ true
 check_plain viewer cert = viewer_plain viewer
 
 check_among : (viewer : Viewer) (cert : List ℕ) → are_among (keys_of Check) (settings_of (check_of viewer cert)) ≡ true
-check_among viewer cert = by viewer.source viewer.buffer viewer.startup
+check_among viewer cert = by viewer.source viewer.buffer viewer.delay
   where
-    by : (source : Source) (buffer startup : ℕ)
+    by : (source : Source) (buffer delay : ℕ)
         → are_among (keys_of Check)
-        (settings_of (check_of (record { source = source; buffer = buffer; startup = startup }) cert)) ≡ true
-    by (trace_source name) buffer startup = refl
-    by (film_source name slot) buffer startup = refl
+        (settings_of (check_of (record { source = source; buffer = buffer; delay = delay }) cert)) ≡ true
+    by (trace_source name) buffer delay = refl
+    by (film_source name slot) buffer delay = refl
 
 -- a command whose words are its own
 command_read : (command : Command) (settings : List Setting) (order : Order) → are_plain settings ≡ true →

@@ -23,8 +23,8 @@ abbrev pub buffer_given : List (List ℕ) → Option ℕ
 buffer_given words = number_or 1048576 1 (2 ^ 42) (values_of (codes "buffer") words)
 
 -- the slots before the first picture is used, up to 10,000, by default 25
-abbrev pub startup_given : List (List ℕ) → Option ℕ
-startup_given words = number_or 25 0 10000 (values_of (codes "startup") words)
+abbrev pub delay_given : List (List ℕ) → Option ℕ
+delay_given words = number_or 25 0 10000 (values_of (codes "startup") words)
 
 -- the length of a slot, from 360 to 360,000 in 1/360,000 second, by default 14,400
 abbrev pub slot_given : List (List ℕ) → Option ℕ

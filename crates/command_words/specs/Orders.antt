@@ -27,7 +27,7 @@ abbrev pub viewer_of : ViewerRead → Viewer
 viewer_of viewer = record {
   source = source_read viewer.source;
   buffer = viewer.buffer;
-  startup = viewer.startup;
+  delay = viewer.delay;
 }
 
 abbrev pub serving_of : ServingRead → Serving

@@ -58,12 +58,12 @@ source_settings (film_source name slot) =
 
 abbrev pub viewer_settings : Viewer → List Setting
 viewer_settings viewer =
-    number_setting (codes "buffer") viewer.buffer ∷ number_setting (codes "startup") viewer.startup
+    number_setting (codes "buffer") viewer.buffer ∷ number_setting (codes "startup") viewer.delay
     ∷ source_settings viewer.source
 
 abbrev pub pace_settings : Pace → List Setting
 pace_settings pace =
-    number_setting (codes "buffer") pace.buffer ∷ number_setting (codes "startup") pace.startup
+    number_setting (codes "buffer") pace.buffer ∷ number_setting (codes "startup") pace.delay
     ∷ number_setting (codes "slot") pace.slot ∷ []
 
 abbrev pub listening_settings : Listening → List Setting
@@ -140,8 +140,8 @@ abbrev pub MayBeBuffer : ℕ → Type 0
 MayBeBuffer buffer = IsInRange 1 (2 ^ 42) buffer
 
 -- a start delay, in slots
-abbrev pub MayBeStartup : ℕ → Type 0
-MayBeStartup startup = IsInRange 0 10000 startup
+abbrev pub MayBeDelay : ℕ → Type 0
+MayBeDelay delay = IsInRange 0 10000 delay
 
 -- the length of a slot, in 1/360,000 second
 abbrev pub MayBeSlot : ℕ → Type 0
@@ -172,11 +172,11 @@ MayBeSource (film_source name slot) = (is_good_name name ≡ true) × MayBeSlot 
 pub record MayBeViewer (viewer : Viewer) : Type 0 where
   pub source : MayBeSource viewer.source
   pub buffer : MayBeBuffer viewer.buffer
-  pub startup : MayBeStartup viewer.startup
+  pub delay : MayBeDelay viewer.delay
 
 pub record MayBePace (pace : Pace) : Type 0 where
   pub buffer : MayBeBuffer pace.buffer
-  pub startup : MayBeStartup pace.startup
+  pub delay : MayBeDelay pace.delay
   pub slot : MayBeSlot pace.slot
 
 -- a port, how many workers there are, and how many connections each of them takes

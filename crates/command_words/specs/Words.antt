@@ -8,7 +8,7 @@ use Rattle.vod_base.specs.Names.{is_good_name}
 use Rattle.slot_calendar.specs.declared.profiles.CapacityStep.{CapacityStep}
 use Rattle.command_words.specs.Settings.{values_of, one_name, number_or}
 use Rattle.command_words.specs.Keys.{film_given, cert_given, script_given, buffer_given}
-use Rattle.command_words.specs.Keys.{startup_given, slot_given, capacity_given, journal_given}
+use Rattle.command_words.specs.Keys.{delay_given, slot_given, capacity_given, journal_given}
 use Rattle.command_words.specs.Keys.{port_given, workers_given, connections_given, seed_given}
 use Rattle.command_words.specs.Keys.{pictures_given, plays_given, one_kind, one_bind}
 use Rattle.command_words.specs.Commands.{command_named, is_word_of}
@@ -29,7 +29,7 @@ pub data Source : Type 0 where
 pub record Viewer : Type 0 where
   pub source : Source
   pub buffer : ℕ
-  pub startup : ℕ
+  pub delay : ℕ
 
 -- a server: the names of its films, the capacity of its link, the most entries of its journal
 pub record Serving : Type 0 where
@@ -84,8 +84,8 @@ abbrev pub viewer_given : List (List ℕ) → Option Viewer
 viewer_given words =
     option_and_then (λ source.
     option_and_then (λ buffer.
-    option_map (λ startup. record { source = source; buffer = buffer; startup = startup })
-    (startup_given words))
+    option_map (λ delay. record { source = source; buffer = buffer; delay = delay })
+    (delay_given words))
     (buffer_given words))
     (source_given words)
 
@@ -150,10 +150,10 @@ listening_given words =
 abbrev pub pace_given : List (List ℕ) → Option Pace
 pace_given words =
     option_and_then (λ buffer.
-    option_and_then (λ startup.
-    option_map (λ slot. record { buffer = buffer; startup = startup; slot = slot })
+    option_and_then (λ delay.
+    option_map (λ slot. record { buffer = buffer; delay = delay; slot = slot })
     (slot_given words))
-    (startup_given words))
+    (delay_given words))
     (buffer_given words)
 
 -- `film` from 1 to 64 times

@@ -6,12 +6,12 @@ ghost use Rattle.vod_base.specs.Names.{is_good_name};
 ghost use Rattle.slot_calendar.specs.Profiles.{IsProfile};
 ghost use Rattle.command_words.specs.Settings.{texts, values_of};
 ghost use Rattle.command_words.specs.Keys.{film_given, cert_given, script_given, buffer_given};
-ghost use Rattle.command_words.specs.Keys.{startup_given, slot_given, capacity_given};
+ghost use Rattle.command_words.specs.Keys.{delay_given, slot_given, capacity_given};
 ghost use Rattle.command_words.specs.Keys.{journal_given, port_given, workers_given};
 ghost use Rattle.command_words.specs.Keys.{connections_given, seed_given, pictures_given};
 ghost use Rattle.command_words.specs.Keys.{plays_given, one_kind, one_bind};
 ghost use Rattle.command_words.specs.Spelling.{MayBeBuffer, MayBeJournal, MayBePictures};
-ghost use Rattle.command_words.specs.Spelling.{MayBePlays, MayBePort, MayBeSlot, MayBeStartup};
+ghost use Rattle.command_words.specs.Spelling.{MayBePlays, MayBePort, MayBeSlot, MayBeDelay};
 ghost use Rattle.command_words.specs.Spelling.{MayBeWorkers};
 
 use crate::capacities::one_capacity;
@@ -52,9 +52,9 @@ pub(crate) fn buffer_given(words: &[String]) -> Option<u64>
 }
 
 /// A start delay, in slots.
-pub(crate) fn startup_given(words: &[String]) -> Option<u64>
-    ensures startup { result ≡ startup_given (texts words.now) }
-    ensures range { IfSome result MayBeStartup }
+pub(crate) fn delay_given(words: &[String]) -> Option<u64>
+    ensures delay { result ≡ delay_given (texts words.now) }
+    ensures range { IfSome result MayBeDelay }
 {
     number_or(words, "startup", 25, 0, 10_000)
 }

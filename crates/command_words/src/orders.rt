@@ -59,7 +59,7 @@ pub struct Viewer<'a> {
     /// The client's buffer, from 1 to 2^42 bytes.
     pub buffer: u64,
     /// The start delay, from 0 to 10,000 slots.
-    pub startup: u64,
+    pub delay: u64,
 }
 
 /// What `make` makes.
@@ -93,7 +93,7 @@ pub struct Pace {
     /// The client's buffer, from 1 to 2^42 bytes.
     pub buffer: u64,
     /// The start delay, from 0 to 10,000 slots.
-    pub startup: u64,
+    pub delay: u64,
     /// The length of a slot, from 360 to 360,000 in 1/360,000 second.
     pub slot: u32,
 }

@@ -10,8 +10,8 @@ ghost use Rattle.command_words.specs.Spelling.{MayBePace, MayListen};
 
 use crate::films::are_films;
 use crate::keys::{
-    buffer_given, capacity_given, connections_given, film_given, journal_given, one_bind,
-    port_given, slot_given, startup_given, workers_given,
+    buffer_given, capacity_given, connections_given, delay_given, film_given, journal_given,
+    one_bind, port_given, slot_given, workers_given,
 };
 use crate::orders::{Listening, Pace, Serving, Watching};
 
@@ -70,11 +70,11 @@ fn pace_given(words: &[String]) -> Option<Pace>
     ensures range { IfSome result MayBePace }
 {
     let buffer = buffer_given(words)?;
-    let startup = startup_given(words)?;
+    let delay = delay_given(words)?;
     let slot = slot_given(words)?;
     Some(Pace {
         buffer,
-        startup,
+        delay,
         slot,
     })
 }

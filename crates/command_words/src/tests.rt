@@ -13,14 +13,14 @@ fn words_of(alloc: Global, line: &str) -> Result<Vec<String>, AllocError> {
     Ok(words)
 }
 
-/// A server's numbers: port, workers, connections, buffer, startup, slot, journal.
+/// A server's numbers: port, workers, connections, buffer, delay, slot, journal.
 fn numbers(serving: &Serving<'_>) -> [u64; 7] {
     [
         u64::from(serving.listening.port),
         u64::from(serving.listening.workers),
         serving.listening.connections,
         serving.pace.buffer,
-        serving.pace.startup,
+        serving.pace.delay,
         u64::from(serving.pace.slot),
         serving.journal,
     ]
@@ -148,16 +148,13 @@ fn asked(alloc: Global, order: &Order<'_>) -> Result<String, AllocError> {
     match order {
         Order::Plan(viewer) => match viewer.source {
             Source::Trace(name) => {
-                format!(in alloc; "plan {name} {} {}", viewer.buffer, viewer.startup)
+                format!(in alloc; "plan {name} {} {}", viewer.buffer, viewer.delay)
             }
             Source::Film(name, slot) => {
-                format!(in alloc;
-                    "plan {name} at {slot} {} {}",
-                    viewer.buffer, viewer.startup
-                )
+                format!(in alloc; "plan {name} at {slot} {} {}", viewer.buffer, viewer.delay)
             }
         },
-        Order::Check(viewer, cert) => format!(in alloc; "check {cert} {}", viewer.startup),
+        Order::Check(viewer, cert) => format!(in alloc; "check {cert} {}", viewer.delay),
         Order::Scan(film) => format!(in alloc; "scan {film}"),
         Order::Make(kind, seed, pictures) => format!(in alloc; "make {kind:?} {seed} {pictures}"),
         Order::Day(run) => format!(in alloc; "day {} {} {}", run.script, run.journal, run.slot),
@@ -167,7 +164,7 @@ fn asked(alloc: Global, order: &Order<'_>) -> Result<String, AllocError> {
             watching.film,
             watching.port,
             watching.pace.buffer,
-            watching.pace.startup,
+            watching.pace.delay,
             watching.pace.slot
         ),
         Order::Help => format!(in alloc; "help"),

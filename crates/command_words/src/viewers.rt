@@ -9,8 +9,8 @@ ghost use Rattle.command_words.specs.Ranges.{IsSourceInRange, IsViewerInRange, I
 ghost use Rattle.command_words.specs.Ranges.{IsFairRunInRange};
 
 use crate::keys::{
-    buffer_given, capacity_given, film_given, journal_given, plays_given, script_given, seed_given,
-    slot_given, startup_given,
+    buffer_given, capacity_given, delay_given, film_given, journal_given, plays_given,
+    script_given, seed_given, slot_given,
 };
 use crate::orders::{FairRun, ScriptRun, Source, Viewer};
 use crate::settings::{Given, find_given};
@@ -23,11 +23,11 @@ pub(crate) fn viewer_given<'a>(words: &'a [String]) -> Option<Viewer<'a>>
 {
     let source = source_given(words)?;
     let buffer = buffer_given(words)?;
-    let startup = startup_given(words)?;
+    let delay = delay_given(words)?;
     Some(Viewer {
         source,
         buffer,
-        startup,
+        delay,
     })
 }
 

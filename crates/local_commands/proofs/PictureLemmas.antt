@@ -4,7 +4,7 @@ use Rattle.mpeg_scan.specs.Rates.{picture_time}
 use Rattle.wire_curve.specs.FilmCurves.{IsWithinLimits}
 use Rattle.inputs.specs.Sizes.{AreSizesWithin}
 use Rattle.command_words.specs.Words.{Viewer}
-use Rattle.command_words.specs.Spelling.{MayBeBuffer, MayBeSlot, MayBeStartup}
+use Rattle.command_words.specs.Spelling.{MayBeBuffer, MayBeSlot, MayBeDelay}
 use Rattle.local_commands.specs.Pictures.{MayHaveCurves}
 use Rattle.local_commands.specs.Plans.{Pictures, timing_of}
 
@@ -55,15 +55,15 @@ film_limits rate slot sizes within slot_fits =
     }
 
 pub limits_of : (viewer : Viewer) (pictures : Pictures) → MayHaveCurves pictures → MayBeBuffer viewer.buffer →
-    MayBeStartup viewer.startup →
+    MayBeDelay viewer.delay →
     IsWithinLimits pictures.sizes (timing_of viewer pictures)
-limits_of viewer pictures within buffer startup = record {
+limits_of viewer pictures within buffer delay = record {
   some_picture_units = within.some_picture_units;
   picture_units_fit = within.picture_units_fit;
   some_slot_units = within.some_slot_units;
   slot_units_fit = within.slot_units_fit;
   few_pictures = within.few;
-  delay_fits = startup.1;
+  delay_fits = delay.1;
   some_buffer = buffer.0;
   buffer_fits = buffer.1;
   total_fits = omega (arith, within.few_bytes);

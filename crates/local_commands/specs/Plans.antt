@@ -60,7 +60,7 @@ timing_of viewer pictures = record {
   picture_units = pictures.picture_units;
   slot_units = pictures.slot_units;
   buffer = viewer.buffer;
-  delay = viewer.startup;
+  delay = viewer.delay;
   played = 0;
   sent = 0;
 }

@@ -43,7 +43,7 @@ pub(crate) fn viewer_curves<'a, L: Library>(
         picture_units: pictures.picture_units,
         slot_units: pictures.slot_units,
         buffer: viewer.buffer,
-        delay: viewer.startup,
+        delay: viewer.delay,
         played: 0,
         sent: 0,
     };

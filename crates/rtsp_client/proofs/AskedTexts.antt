@@ -37,7 +37,7 @@ abbrev pub setup_rest : Wish → List (List ℕ)
 setup_rest wish =
     film_url wish ∷ codes "/video RTSP/1.0\r\nCSeq: 1\r\n"
     ∷ codes "Transport: RTP/AVP/TCP;unicast;interleaved=0-1\r\n" ∷ codes "x-Buffer: "
-    ∷ decimal wish.buffer ∷ codes "\r\nx-Startup: " ∷ decimal wish.startup ∷ codes "\r\n\r\n" ∷ []
+    ∷ decimal wish.buffer ∷ codes "\r\nx-Startup: " ∷ decimal wish.delay ∷ codes "\r\n\r\n" ∷ []
 
 abbrev pub play_rest : Wish → List ℕ → List (List ℕ)
 play_rest wish session =

@@ -184,15 +184,15 @@ setup-front wish film = record {
       field-more (codes "CSeq") (codes "1")
       (record { name = codes "Transport"; value = codes "RTP/AVP/TCP;unicast;interleaved=0-1" }
       ∷ record { name = codes "x-Buffer"; value = decimal wish.buffer }
-      ∷ record { name = codes "x-Startup"; value = decimal wish.startup } ∷ []) refl refl
+      ∷ record { name = codes "x-Startup"; value = decimal wish.delay } ∷ []) refl refl
       (field-more (codes "Transport") (codes "RTP/AVP/TCP;unicast;interleaved=0-1")
       (record { name = codes "x-Buffer"; value = decimal wish.buffer }
-      ∷ record { name = codes "x-Startup"; value = decimal wish.startup } ∷ []) refl refl
+      ∷ record { name = codes "x-Startup"; value = decimal wish.delay } ∷ []) refl refl
       (field-more (codes "x-Buffer") (decimal wish.buffer)
-      (record { name = codes "x-Startup"; value = decimal wish.startup } ∷ []) refl
+      (record { name = codes "x-Startup"; value = decimal wish.delay } ∷ []) refl
       (digits wish.buffer (omega (arith, film.is_wish.most_buffer)))
-      (field-more (codes "x-Startup") (decimal wish.startup) [] refl
-      (digits wish.startup (omega (arith, film.is_wish.startup)))
+      (field-more (codes "x-Startup") (decimal wish.delay) [] refl
+      (digits wish.delay (omega (arith, film.is_wish.delay)))
       (All-nil IsHeaderField))));
 }
 
@@ -208,7 +208,7 @@ setup-short wish film = record {
     put-long (codes "SETUP ") (setup_rest wish),
     film-short wish film,
     decimal-short wish.buffer (omega (arith, film.is_wish.most_buffer)),
-    decimal-short wish.startup (omega (arith, film.is_wish.startup)),
+    decimal-short wish.delay (omega (arith, film.is_wish.delay)),
   );
   body_is = omega arith;
 }

@@ -54,17 +54,17 @@ sum-cons : (x : ℕ) (xs : List ℕ) → sum (x ∷ xs) ≡ x + sum xs
 sum-cons x xs = sum_by-cons (λ (y : ℕ). y) x xs
 
 pub used-sum : {p : ℕ} (wish : Wish) (j unit : ℕ) (sizes : List ℕ) → Durations wish.slot_units p
-    → used_before wish p j unit sizes ≡ sum (take (div_ceil ((j - wish.startup) * wish.slot_units) p - unit) sizes)
+    → used_before wish p j unit sizes ≡ sum (take (div_ceil ((j - wish.delay) * wish.slot_units) p - unit) sizes)
 used-sum {p} wish j unit [] lasts =
-    sym (ap sum (take_all (div_ceil ((j - wish.startup) * wish.slot_units) p - unit) [] (omega arith)))
+    sym (ap sum (take_all (div_ceil ((j - wish.delay) * wish.slot_units) p - unit) [] (omega arith)))
 used-sum {p} wish j unit (size ∷ sizes) lasts =
-    let c = div_ceil ((j - wish.startup) * wish.slot_units) p in
+    let c = div_ceil ((j - wish.delay) * wish.slot_units) p in
     let rest = used-sum wish j (unit + 1) sizes lasts in
     elim (cases_lt unit c) [
       | inl few ↦
           let one : c - unit ≡ suc (c - (unit + 1)) = omega (arith, few) in
           let used = cond-true (nat_lt (use_slot wish p unit) j) size 0
-          (lt-ltb (use_slot wish p unit) j (used-early wish.startup j unit lasts few)) in
+          (lt-ltb (use_slot wish p unit) j (used-early wish.delay j unit lasts few)) in
           omega (
             arith,
             used,
@@ -76,7 +76,7 @@ used-sum {p} wish j unit (size ∷ sizes) lasts =
           let none : c - unit ≡ 0 = omega (arith, many) in
           let after : c - (unit + 1) ≡ 0 = omega (arith, many) in
           let unused = cond-false (nat_lt (use_slot wish p unit) j) size 0
-          (le-ltb (use_slot wish p unit) j (used-late wish.startup j unit lasts many)) in
+          (le-ltb (use_slot wish p unit) j (used-late wish.delay j unit lasts many)) in
           omega (arith, unused, rest, ap (λ n. sum (take n (size ∷ sizes))) none, ap (λ n. sum (take n sizes)) after)
     ]
 
@@ -137,8 +137,8 @@ played-in {source = Some source} {ends} wish h j lasts is are =
     let t : time h ≡ p =
     cond-false (frames h == 0) 0 (time_in (first_frame h))
     (ne_eqb (frames h) 0 (λ none. absurd (omega (arith, is.some, none)))) ∙ sym is.time_is in
-    ends-sum ends (sizes h) (div_ceil ((j - wish.startup) * wish.slot_units) p) are
-    ∙ (ap (λ n. sum (take n (sizes h))) (less-none (div_ceil ((j - wish.startup) * wish.slot_units) p))
+    ends-sum ends (sizes h) (div_ceil ((j - wish.delay) * wish.slot_units) p) are
+    ∙ (ap (λ n. sum (take n (sizes h))) (less-none (div_ceil ((j - wish.delay) * wish.slot_units) p))
     ∙ (sym (used-sum wish j 0 (sizes h)
     (record { slot_lasts = lasts.slot_lasts; picture_lasts = lasts.picture_lasts source refl }))
     ∙ sym (ap (λ n. used_before wish n j 0 (sizes h)) t)))
@@ -153,11 +153,11 @@ time-in h (Some source) is =
 lacks-in : (wish : Wish) (h : History) (s : State) (j : ℕ) → KeepsState wish h s
     → is_lacking wish s j ≡ lacks_picture wish h j
 lacks-in wish h s j k =
-    ap (λ c. not c && nat_le (s.watched.units * time_of s.source / wish.slot_units + wish.startup) j)
+    ap (λ c. not c && nat_le (s.watched.units * time_of s.source / wish.slot_units + wish.delay) j)
     (complete-is wish h s k)
-    ∙ (ap (λ n. not (is_complete h) && nat_le (n * time_of s.source / wish.slot_units + wish.startup) j)
+    ∙ (ap (λ n. not (is_complete h) && nat_le (n * time_of s.source / wish.slot_units + wish.delay) j)
     (ap (λ (w : Watched). w.units) k.watched_is)
-    ∙ ap (λ n. not (is_complete h) && nat_le (length (sizes h) * n / wish.slot_units + wish.startup) j)
+    ∙ ap (λ n. not (is_complete h) && nat_le (length (sizes h) * n / wish.slot_units + wish.delay) j)
     (time-in h s.source k.source_is))
 
 -- ---- a slot

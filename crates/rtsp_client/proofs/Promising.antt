@@ -27,11 +27,11 @@ not-yet {wish} {all} {p} {j} n lasts between next =
     elim (cases_lt j (use_slot wish p n)) [
       | inl early ↦ early
       | inr due ↦
-          let c = div_ceil ((j + 1 - wish.startup) * wish.slot_units) p in
+          let c = div_ceil ((j + 1 - wish.delay) * wish.slot_units) p in
           let used : used_before wish p (j + 1) 0 all ≡ sum (take (c - 0) all) = used-sum wish (j + 1) 0 all lasts in
           let many : n < c = elim (cases_lt n c) [
             | inl more ↦ more
-            | inr few ↦ absurd (omega (arith, due, used-late wish.startup (j + 1) n lasts few))
+            | inr few ↦ absurd (omega (arith, due, used-late wish.delay (j + 1) n lasts few))
           ] in
           absurd (omega (arith, used, between.low, next, sum-front all (n + 1) (c - 0) (omega (arith, many))))
     ]
@@ -41,10 +41,10 @@ pub same-used : {p : ℕ} (wish : Wish) (all : List ℕ) (j n : ℕ) → Duratio
     → (n < length all → j ≤ use_slot wish p n)
     → used_before wish p j 0 (take n all) ≡ used_before wish p j 0 all
 same-used {p} wish all j n lasts early =
-    let c = div_ceil ((j - wish.startup) * wish.slot_units) p in
+    let c = div_ceil ((j - wish.delay) * wish.slot_units) p in
     elim (cases_lt n (length all)) [
       | inl fewer ↦ let few : c - 0 ≤ n = elim (cases_lt n c) [
-        | inl more ↦ absurd (omega (arith, early fewer, used-early wish.startup j n lasts more))
+        | inl more ↦ absurd (omega (arith, early fewer, used-early wish.delay j n lasts more))
         | inr less ↦ omega (arith, less)
       ] in
           used-sum wish j 0 (take n all) lasts
@@ -91,7 +91,7 @@ and-none : (a : Bool) → (a && false) ≡ false
 and-none true = refl
 and-none false = refl
 
-pub use-first : (wish : Wish) (t : ℕ) → use_slot wish t 0 ≡ wish.startup
+pub use-first : (wish : Wish) (t : ℕ) → use_slot wish t 0 ≡ wish.delay
 use-first wish t = omega (arith, ap (λ n. n / wish.slot_units) (zero-times t), zero-over wish.slot_units)
 
 enough : {wish : Wish} {all : List ℕ} {p : ℕ} {h : History} {j cut : ℕ} → Durations wish.slot_units p

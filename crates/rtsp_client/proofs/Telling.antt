@@ -52,7 +52,7 @@ whole-received (Slot slot cut ∷ h) = whole-received h
 used-most : {p : ℕ} (wish : Wish) (j : ℕ) (xs : List ℕ) → Durations wish.slot_units p
     → used_before wish p j 0 xs ≤ sum xs
 used-most {p} wish j xs lasts =
-    let c = div_ceil ((j - wish.startup) * wish.slot_units) p in
+    let c = div_ceil ((j - wish.delay) * wish.slot_units) p in
     omega (arith, used-sum wish j 0 xs lasts, sum_by-take-le (λ (x : ℕ). x) xs (c - 0))
 
 -- where none lacks_picture, the next unit isn't used yet

@@ -20,7 +20,7 @@ setup_parts wish = record {
   fields = record { name = codes "CSeq"; value = codes "1" }
       ∷ record { name = codes "Transport"; value = codes "RTP/AVP/TCP;unicast;interleaved=0-1" }
       ∷ record { name = codes "x-Buffer"; value = decimal wish.buffer }
-      ∷ record { name = codes "x-Startup"; value = decimal wish.startup } ∷ [];
+      ∷ record { name = codes "x-Startup"; value = decimal wish.delay } ∷ [];
   body = [];
 }
 

@@ -11,7 +11,7 @@ use Rattle.rtsp_client.specs.Films.{is_complete, time_in}
 
 -- in which slot of the play a unit is used, where a picture takes so many 1/360,000 seconds
 abbrev pub use_slot : Wish → ℕ → ℕ → ℕ
-use_slot wish time unit = unit * time / wish.slot_units + wish.startup
+use_slot wish time unit = unit * time / wish.slot_units + wish.delay
 
 -- the bytes of the units that are used before a slot of the play, among units of these sizes, of
 -- which the first has this number

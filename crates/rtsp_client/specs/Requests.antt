@@ -13,7 +13,7 @@ setup_text wish =
     (((((((codes "SETUP " ++ film_url wish) ++ codes "/video RTSP/1.0\r\nCSeq: 1\r\n")
     ++ codes "Transport: RTP/AVP/TCP;unicast;interleaved=0-1\r\n") ++ codes "x-Buffer: ")
     ++ decimal wish.buffer)
-    ++ codes "\r\nx-Startup: ") ++ decimal wish.startup) ++ codes "\r\n\r\n"
+    ++ codes "\r\nx-Startup: ") ++ decimal wish.delay) ++ codes "\r\n\r\n"
 
 -- PLAY of the whole film, in a session
 abbrev pub play_text : Wish → List ℕ → List ℕ

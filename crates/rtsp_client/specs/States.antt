@@ -139,14 +139,14 @@ used_bytes ends count = if count == 0 then 0 else slice_index ends (count - 1)
 abbrev pub played_of : Wish → Option Source → List ℕ → ℕ → ℕ
 played_of wish None ends slot = 0
 played_of wish (Some source) ends slot =
-    used_bytes ends (min (div_ceil ((slot - wish.startup) * wish.slot_units) source.picture_time)
+    used_bytes ends (min (div_ceil ((slot - wish.delay) * wish.slot_units) source.picture_time)
     (length ends))
 
 -- a unit is used in this slot of the play, or before it, that isn't whole
 abbrev pub is_lacking : Wish → State → ℕ → Bool
 is_lacking wish s slot =
     not (has_all s) && nat_le (s.watched.units * time_of s.source / wish.slot_units
-    + wish.startup) slot
+    + wish.delay) slot
 
 -- the meter was read
 abbrev pub after_reading : Wish → State → ℕ → ℕ → State

@@ -9,6 +9,6 @@ pub record IsWish (wish : Wish) : Type 0 where
   pub port : 1 ≤ wish.port
   pub some_buffer : 1 ≤ wish.buffer
   pub most_buffer : wish.buffer ≤ 2 ^ 42
-  pub startup : wish.startup ≤ 10000
+  pub delay : wish.delay ≤ 10000
   pub some_units : 360 ≤ wish.slot_units
   pub most_units : wish.slot_units ≤ 360000

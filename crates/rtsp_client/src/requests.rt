@@ -29,7 +29,7 @@ pub(crate) fn setup_request(alloc: Global, wish: &Wish) -> Result<Vec<u8>, NoMem
         b"Transport: RTP/AVP/TCP;unicast;interleaved=0-1\r\n",
     )?;
     put_field(&mut text, b"x-Buffer: ", wish.buffer)?;
-    put_field(&mut text, b"\r\nx-Startup: ", wish.startup)?;
+    put_field(&mut text, b"\r\nx-Startup: ", wish.delay)?;
     put(&mut text, b"\r\n\r\n")?;
     Ok(text)
 }

@@ -357,7 +357,7 @@ fn watch_events(
         name,
         port: 8554,
         buffer,
-        startup: 2,
+        delay: 2,
         slot_units: 14_400,
     };
     let (sends, nexts, writes) = failing;

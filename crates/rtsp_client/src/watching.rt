@@ -197,7 +197,7 @@ impl Watching {
         let Some(source) = &self.source else {
             return 0;
         };
-        let passed = u128::from(slot.saturating_sub(wish.startup)) * u128::from(wish.slot_units);
+        let passed = u128::from(slot.saturating_sub(wish.delay)) * u128::from(wish.slot_units);
         let used = passed.div_ceil(u128::from(source.picture_time));
         let count = used.min(self.ends.len() as u128) as usize;
         if count == 0 { 0 } else { self.ends[count - 1] }
@@ -206,7 +206,7 @@ impl Watching {
     /// Whether a picture is used in this slot of the play, or before it, that isn't whole.
     fn is_lacking(&self, wish: &Wish, slot: u64) -> bool
         requires units { 1 ≤ wish.now.slot_units }
-        requires startup { wish.now.startup ≤ 10000 }
+        requires delay { wish.now.delay ≤ 10000 }
         ensures { result ≡ is_lacking wish.now self.now slot }
     {
         let picture_time = match &self.source {
@@ -214,14 +214,14 @@ impl Watching {
             None => 0,
         };
         let used = self.watched.units * u64::from(picture_time) / u64::from(wish.slot_units);
-        !self.is_complete() && used + wish.startup <= slot
+        !self.is_complete() && used + wish.delay <= slot
     }
 
     /// Reads the meter in this slot of the play, while so many bytes wait of a block that isn't
     /// whole.
     fn read(&mut self, wish: &Wish, slot: u64, cut: u64)
         requires units { 1 ≤ wish.now.slot_units }
-        requires startup { wish.now.startup ≤ 10000 }
+        requires delay { wish.now.delay ≤ 10000 }
         requires few { self.old.received + cut < 2 ^ 63 }
         requires over { self.old.watched.over < self.old.last_slot }
         requires under { self.old.watched.under < self.old.last_slot }
@@ -250,7 +250,7 @@ impl Watching {
     /// A slot has begun, while so many bytes wait of a block that isn't whole: reads the meter.
     pub(crate) fn hear_slot(&mut self, wish: &Wish, slot: u64, cut: u64)
         requires units { 1 ≤ wish.now.slot_units }
-        requires startup { wish.now.startup ≤ 10000 }
+        requires delay { wish.now.delay ≤ 10000 }
         requires few { self.old.received + cut < 2 ^ 63 }
         ensures state { self.new ≡ after_slot wish.now self.old slot cut }
         ensures timed { IfSome self.old.source (λ source. 0 < source.picture_time) }

@@ -13,7 +13,7 @@ pub struct Wish {
     /// The client's buffer in bytes, 1 to 2^42.
     pub buffer: u64,
     /// The slots that pass before the first picture is used, 0 to 10,000.
-    pub startup: u64,
+    pub delay: u64,
     /// The slot length in 1/360,000 second, 360 to 360,000.
     pub slot_units: u32,
 }

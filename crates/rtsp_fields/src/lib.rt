@@ -25,7 +25,7 @@ pub use seconds::seconds_text;
 pub use sessions::{session_id, session_matches};
 pub use transports::{Channels, read_transport};
 pub use urls::{Url, read_url};
-pub use values::{read_buffer, read_startup, read_wait};
+pub use values::{read_buffer, read_delay, read_wait};
 
 #[cfg(test)]
 mod tests;

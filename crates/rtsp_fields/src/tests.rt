@@ -170,7 +170,7 @@ fn reads_urls(rt: HostRuntime) {
 
 #[test]
 fn reads_numbers(rt: HostRuntime) {
-    for (text, buffer, startup, wait) in [
+    for (text, buffer, delay, wait) in [
         ("0", None, Some(0), Some(0)),
         ("1", Some(1), Some(1), Some(1)),
         ("007", Some(7), Some(7), Some(7)),
@@ -186,7 +186,7 @@ fn reads_numbers(rt: HostRuntime) {
         ("1 ", None, None, None),
     ] {
         assert_eq!(rt; read_buffer(text.as_bytes()), buffer, "at {text}");
-        assert_eq!(rt; read_startup(text.as_bytes()), startup, "at {text}");
+        assert_eq!(rt; read_delay(text.as_bytes()), delay, "at {text}");
         assert_eq!(rt; read_wait(text.as_bytes()), wait, "at {text}");
     }
 }

@@ -19,7 +19,7 @@ pub fn read_buffer(value: &[u8]) -> Option<u64>
 /// 10,000.
 ///
 /// None exactly where the value isn't such a number in decimal digits.
-pub fn read_startup(value: &[u8]) -> Option<u64>
+pub fn read_delay(value: &[u8]) -> Option<u64>
     ensures { MatchOption result ((n : ℕ) →
         ¬ WritesNumber 0 10000 value.now n) (WritesNumber 0 10000 value.now) }
 {

@@ -8,7 +8,7 @@ ghost use Rattle.rtsp_fields.specs.declared.transports.Channels.{Channels};
 use crate::refusals::Refusal;
 use crate::settings::Settings;
 use crate::states::Setup;
-use rtsp_fields::{Channels, read_buffer, read_startup, read_transport};
+use rtsp_fields::{Channels, read_buffer, read_delay, read_transport};
 use rtsp_text::{Request, header};
 
 /// What a SETUP asks for: the transport first, then the client's buffer and the start delay.
@@ -63,7 +63,7 @@ fn delay_of(request: &Request<'_>, settings: &Settings) -> Option<u64>
     ensures most { IfSome result (λ delay. delay ≤ 10000) }
 {
     match header(request, b"x-Startup") {
-        Some(value) => read_startup(value),
+        Some(value) => read_delay(value),
         None => Some(settings.delay),
     }
 }

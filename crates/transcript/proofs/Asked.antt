@@ -56,7 +56,7 @@ asked-plan {wish} {stored} {settings} {setup} {plan} wished set is =
           slot_units_fit = omega (arith, wished.most_units);
           some_buffer = wished.some_buffer;
           buffer_fits = wished.most_buffer;
-          delay_fits = wished.startup;
+          delay_fits = wished.delay;
         };
         run_is = is.run_of.run_is;
         fits = subst F set.buffer is.run_of.fits;

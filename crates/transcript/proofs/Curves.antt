@@ -26,7 +26,7 @@ used-snoc wish time slot unit (size ∷ sizes) x =
 -- a timing with the slots and the delay of a wish
 pub record WishedTiming (wish : Wish) (timing : Timing) : Type 0 where
   pub units : timing.slot_units ≡ wish.slot_units
-  pub delay : timing.delay ≡ wish.startup
+  pub delay : timing.delay ≡ wish.delay
 
 used-range : {wish : Wish} {timing : Timing} (slot : ℕ) (sizes : List ℕ) (n : ℕ) → WishedTiming wish timing →
     n ≤ length sizes →
@@ -43,7 +43,7 @@ used-range {wish} {timing} slot sizes (suc n) timed few =
     let front = used-snoc wish time slot 0 (take n sizes) (get_or sizes n 0) in
     let place : 0 + length (take n sizes) ≡ n = omega (arith, length-take-le n sizes (omega (arith, few))) in
     let used : use_slot wish time (0 + length (take n sizes)) ≡ due_slot timing n =
-    ap (use_slot wish time) place ∙ (ap (λ u. n * time / u + wish.startup) (sym timed.units) ∙ ap
+    ap (use_slot wish time) place ∙ (ap (λ u. n * time / u + wish.delay) (sym timed.units) ∙ ap
     (λ d. n * time / timing.slot_units + d) (sym timed.delay)) in
     let last = ap (λ u. cond (nat_lt u slot) (get_or sizes n 0) 0) used in
     let sums = sum_by-range_more f n in

@@ -24,7 +24,7 @@ playback_of wish stored = record {
   picture_units = picture_time stored.film.rate;
   slot_units = wish.slot_units;
   buffer = wish.buffer;
-  delay = wish.startup;
+  delay = wish.delay;
 }
 
 -- the run of all units of a film, of which nothing was sent
@@ -82,4 +82,4 @@ pub record IsPlayed (wish : Wish) (stored : Stored) (course : Course) : Type 0 w
 pub record IsSetUpFor (wish : Wish) (settings : Settings) (setup : Setup) : Type 0 where
   pub slots : settings.slot_units ≡ wish.slot_units
   pub buffer : setup.buffer ≡ wish.buffer
-  pub delay : setup.delay ≡ wish.startup
+  pub delay : setup.delay ≡ wish.delay

@@ -38,7 +38,7 @@ pub record IsWishOf (watching : Watching) (wish : Wish) : Type 0 where
   pub name : string_bytes wish.name ≡ watching.film
   pub port : wish.port ≡ watching.port
   pub buffer : wish.buffer ≡ watching.pace.buffer
-  pub startup : wish.startup ≡ watching.pace.startup
+  pub delay : wish.delay ≡ watching.pace.delay
   pub slot : wish.slot_units ≡ watching.pace.slot
 
 -- how the gate is opened for a client: for one connection to a port of this machine

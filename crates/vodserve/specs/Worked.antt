@@ -37,7 +37,7 @@ settings_of serving =
     record {
       slot_units = serving.pace.slot;
       buffer = serving.pace.buffer;
-      delay = serving.pace.startup;
+      delay = serving.pace.delay;
     }
 
 -- what a worker's seat is asked under: the capacity and the most entries that the words say, and

@@ -135,7 +135,7 @@ where
     let settings = Settings {
         slot_units: serving.pace.slot,
         buffer: serving.pace.buffer,
-        delay: serving.pace.startup,
+        delay: serving.pace.delay,
     };
     let mut workers = Vec::new(alloc);
     let mut reports = Vec::new(alloc);

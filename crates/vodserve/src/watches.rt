@@ -78,7 +78,7 @@ fn wish_of(alloc: Global, watching: &Watching<'_>) -> Result<Wish, NoMemory>
         name: String::from_str(alloc, watching.film)?,
         port: watching.port,
         buffer: watching.pace.buffer,
-        startup: watching.pace.startup,
+        delay: watching.pace.delay,
         slot_units: watching.pace.slot,
     })
 }

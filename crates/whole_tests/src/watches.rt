@@ -106,22 +106,22 @@ fn client_events<R: Wait + Abort>(
 }
 
 /// The client's first request, for a buffer and a start delay.
-fn setup_request(alloc: Global, buffer: u64, startup: u64) -> Result<String, NoMemory> {
+fn setup_request(alloc: Global, buffer: u64, delay: u64) -> Result<String, NoMemory> {
     let text = format!(in alloc;
         "SETUP rtsp://127.0.0.1:8554/film.mpg/video RTSP/1.0\r\nCSeq: 1\r\n\
         Transport: RTP/AVP/TCP;unicast;interleaved=0-1\r\nx-Buffer: {buffer}\r\n\
-        x-Startup: {startup}\r\n\r\n"
+        x-Startup: {delay}\r\n\r\n"
     )?;
     Ok(text)
 }
 
 /// What a client wishes for.
-fn wish_for(alloc: Global, buffer: u64, startup: u64) -> Result<Wish, NoMemory> {
+fn wish_for(alloc: Global, buffer: u64, delay: u64) -> Result<Wish, NoMemory> {
     Ok(Wish {
         name: String::from_str(alloc, "film.mpg")?,
         port: 8554,
         buffer,
-        startup,
+        delay,
         slot_units: SETTINGS.slot_units,
     })
 }
@@ -135,7 +135,7 @@ fn watch_over<R: Abort>(
     events: Vec<Event>,
 ) -> Result<(MemoryLink, MemorySink, WatchEnd), NoMemory> {
     assert!(rt; is_good_name(wish.name.as_bytes()) && 1 <= wish.port);
-    assert!(rt; 1 <= wish.buffer && wish.buffer <= 1 << 42 && wish.startup <= 10_000);
+    assert!(rt; 1 <= wish.buffer && wish.buffer <= 1 << 42 && wish.delay <= 10_000);
     assert!(rt; 360 <= wish.slot_units && wish.slot_units <= 360_000);
     let mut link = MemoryLink::new(alloc, events, 1 << 16, Vec::new(alloc), Vec::new(alloc))?;
     let mut out = MemorySink::new(alloc, 1 << 20, Vec::new(alloc))?;
@@ -149,15 +149,15 @@ fn watch_film<R: Wait + Abort>(
     alloc: Global,
     pictures: u32,
     buffer: u64,
-    startup: u64,
+    delay: u64,
 ) -> Result<(), NoMemory> {
     let films = film_of(rt, alloc, pictures)?;
-    let setup = setup_request(alloc, buffer, startup)?;
+    let setup = setup_request(alloc, buffer, delay)?;
     let requests = [setup.as_str(), PLAY, TEARDOWN];
-    assert!(rt; pictures <= 100 && startup <= 100);
-    let slots = u64::from(pictures) + startup + 1;
+    assert!(rt; pictures <= 100 && delay <= 100);
+    let slots = u64::from(pictures) + delay + 1;
     let events = client_events(rt, alloc, &films, requests, slots)?;
-    let wish = wish_for(alloc, buffer, startup)?;
+    let wish = wish_for(alloc, buffer, delay)?;
     let (link, out, end) = watch_over(rt, alloc, &wish, events)?;
     let WatchEnd::Done(watched) = end else {
         return Err(NoMemory);
@@ -184,13 +184,13 @@ fn watch_film<R: Wait + Abort>(
 #[test]
 fn watches_a_film(rt: HostRuntime) -> Result<(), Fail> {
     let alloc = rt.alloc();
-    for (pictures, buffer, startup) in [
+    for (pictures, buffer, delay) in [
         (1, 16_384, 0),
         (10, 16_384, 0),
         (10, 9000, 4),
         (15, 65_536, 2),
     ] {
-        watch_film(&rt, alloc, pictures, buffer, startup)?;
+        watch_film(&rt, alloc, pictures, buffer, delay)?;
     }
     Ok(())
 }

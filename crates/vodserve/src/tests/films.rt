@@ -8,7 +8,7 @@ const SCAN_OF_A: &str = "\
 0 film bytes=34 rate=3 pictures=1|0 I show=0 from=0 head=28 to=34 slices=1 sequence group|end|
 ";
 
-/// The best plan of `b.mpg` for a startup of two slots.
+/// The best plan of `b.mpg` for a delay of two slots.
 const PLAN_OF_B: &str = "\
 0 smooth 1|slots 4|bytes 141|segment 3 106|segment 1 35|end|
 ";

@@ -20,7 +20,7 @@ film_curves-requires g c =
     subst (λ (l : List ℕ). IsWithinLimits l
     (timing_of (viewer_of c.args.viewer) (pictures_of c.in_ok-pictures.pictures))) (sym c.deref.ensures.value)
     (limits_of (viewer_of c.args.viewer) (pictures_of c.in_ok-pictures.pictures)
-    ((c.in_ok-pictures.ensures {u = tt}).limits) c.requires.buffer c.requires.startup)
+    ((c.in_ok-pictures.ensures {u = tt}).limits) c.requires.buffer c.requires.delay)
 
 pub returns-in-Ok-clause-curves : goal.returns-in-Ok-clause-curves
 returns-in-Ok-clause-curves g c = λ held told. record {
