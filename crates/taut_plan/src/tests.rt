@@ -8,12 +8,12 @@ use plan_cert::Segment;
 use std::alloc::{AllocError, Global};
 use wire_curve::Curves;
 
-/// One slot a picture, the first one used after `startup` slots.
+/// One slot a picture, the first one used after `delay` slots.
 fn curves_of(
     alloc: Global,
     sizes: &[u64],
     buffer: u64,
-    startup: usize,
+    delay: usize,
 ) -> Result<Curves, AllocError> {
     let mut total = 0u64;
     for size in sizes {
@@ -22,10 +22,10 @@ fn curves_of(
     let mut used = 0u64;
     let mut low = Vec::new(alloc);
     let mut up = Vec::new(alloc);
-    for slot in 0..startup.saturating_add(sizes.len()) {
+    for slot in 0..delay.saturating_add(sizes.len()) {
         up.push(total.min(used.wrapping_add(buffer)))?;
-        if slot >= startup {
-            used = used.wrapping_add(sizes.get(slot - startup).copied().unwrap_or(0));
+        if slot >= delay {
+            used = used.wrapping_add(sizes.get(slot - delay).copied().unwrap_or(0));
         }
         low.push(used)?;
     }
@@ -47,8 +47,8 @@ fn films_have_these_plans(rt: HostRuntime) -> Result<(), AllocError> {
         (&[106, 0, 35], 1_048_576, 0, &[(1, 106), (2, 35)]),
         (&[0, 0], 1, 0, &[(2, 0)]),
     ];
-    for (sizes, buffer, startup, want) in rows {
-        let curves = curves_of(rt.alloc(), sizes, buffer, startup)?;
+    for (sizes, buffer, delay, want) in rows {
+        let curves = curves_of(rt.alloc(), sizes, buffer, delay)?;
         assert!(rt; curves.is_sound(), "{sizes:?}");
         let Ok(plan) = plan(rt.alloc(), &curves) else {
             return Err(AllocError);
@@ -100,8 +100,8 @@ fn generated_curves_have_the_plain_plan(rt: HostRuntime) -> Result<(), AllocErro
             sizes.push(next(&mut state) % most)?;
         }
         let buffer = most + next(&mut state) % 30;
-        let startup = (next(&mut state) % 4) as usize;
-        let curves = curves_of(rt.alloc(), sizes.as_slice(), buffer, startup)?;
+        let delay = (next(&mut state) % 4) as usize;
+        let curves = curves_of(rt.alloc(), sizes.as_slice(), buffer, delay)?;
         assert!(rt; curves.is_sound(), "{round}");
         let plain = plain_plan(rt.alloc(), &curves)?;
         let Ok(plan) = plan(rt.alloc(), &curves) else {

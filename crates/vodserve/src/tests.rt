@@ -133,6 +133,7 @@ film=55.mpg film=56.mpg film=57.mpg film=58.mpg film=59.mpg film=60.mpg film=61.
 
 /// Calls of the library and of the streams that fail.
 const FAULTS: &str = "\
+file even 10 10 10 10 10
 file t 1 9 1 1
 file c smooth 1|slots 4|bytes 12|segment 2 10|segment 2 2|end|
 fails library 1
@@ -151,7 +152,7 @@ fails library 5
 > check trace=t buffer=9 startup=0 cert=c
 0 least|
 fails out 1
-> plan trace=t buffer=9 startup=0
+> plan trace=even buffer=10 startup=0
 5 vodserve: SinkFault|
 fails out 1
 > check trace=t buffer=9 startup=0 cert=c
@@ -187,7 +188,7 @@ keeps cert
 > make kind=system seed=1 pictures=250
 keeps stream
 > scan film=stream
-has film bytes=268101 rate=3 pictures=250|0 I show=0 from=0 
+is scan
 ends 0
 > check film=stream slot=7200 cert=cert
 0 least|

@@ -3,6 +3,7 @@
 ghost use Rattle.day_run.specs.Sources.{IsSource};
 
 use crate::films::short_film;
+use admission::MAX_ENTRIES;
 use day_run::{ScriptRefused, Source, fair, read_script, run_script};
 use slot_calendar::{CapacityStep, Profile};
 use std::alloc::Global;
@@ -44,7 +45,7 @@ fn compare(rt: &impl Abort, alloc: Global, row: Row, source: Source) -> Result<(
         }
     };
     assert_eq!(rt; script.named.len(), 1);
-    assert!(rt; 2 <= row.limit && row.limit <= 1_048_576);
+    assert!(rt; 2 <= row.limit && row.limit <= MAX_ENTRIES);
     let profile = profile_of(rt, alloc, row.capacity)?;
     let day = run_script(alloc, &script, &[source], profile, row.limit, 14_400)?;
     let text = day.text.as_slice();
@@ -96,7 +97,7 @@ fn runs_traces(rt: HostRuntime) -> Result<(), Fail> {
 #[test]
 fn pauses_in_a_report(rt: HostRuntime) -> Result<(), Fail> {
     let alloc = rt.alloc();
-    let film = short_film(alloc)?;
+    let film = short_film(&rt, alloc)?;
     let row = Row {
         script: "play 0 film b.mpg 1048576 2\nslot 1\npause 0\nslot 2\nslot 3\nresume 0\nslot 4\n",
         capacity: &[(0, 50000)],

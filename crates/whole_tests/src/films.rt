@@ -25,8 +25,8 @@ fn stored(alloc: Global, name: &str, bytes: Vec<u8>) -> Result<Stored, NoMemory>
 }
 
 /// The film of two pictures, `b.mpg`.
-pub(crate) fn short_film(alloc: Global) -> Result<Stored, NoMemory> {
-    stored(alloc, "b.mpg", bytes_of(alloc, FILM_B)?)
+pub(crate) fn short_film(rt: &impl Abort, alloc: Global) -> Result<Stored, NoMemory> {
+    stored(alloc, "b.mpg", bytes_of(rt, alloc, FILM_B)?)
 }
 
 /// The server's films: `b.mpg` of two pictures, and `news.mpg` of 250, 10 seconds.
@@ -34,7 +34,7 @@ pub(crate) fn short_film(alloc: Global) -> Result<Stored, NoMemory> {
 pub(crate) fn server_films(rt: &impl Abort, alloc: Global) -> Result<Vec<Stored>, NoMemory>
     ensures { IfOk result (λ films. AreFilms films.items) }
 {
-    let short = short_film(alloc)?;
+    let short = short_film(rt, alloc)?;
     let long = stored(alloc, "news.mpg", make_film(alloc, 1, 250)?)?;
     assert!(rt; is_good_name(short.name.as_bytes()));
     assert!(rt; is_good_name(long.name.as_bytes()));

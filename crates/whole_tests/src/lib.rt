@@ -12,6 +12,8 @@ mod days;
 #[cfg(test)]
 mod films;
 #[cfg(test)]
+mod limits;
+#[cfg(test)]
 mod links;
 #[cfg(test)]
 mod long_films;

@@ -6,7 +6,7 @@ ghost use Rattle.station.specs.Seats.{IsSameSeat, first_seat};
 
 use crate::scripts::{bytes_of, compare_front, message_of, numbers_of, word_and_rest};
 use crate::talks::{SETTINGS, WORDS};
-use admission::{Answer, Book, Command, Entry};
+use admission::{Answer, Book, Command, Entry, MAX_ENTRIES};
 use conn::{ConnEnd, serve_connection};
 use film_frames::Stored;
 use report::calendar_text;
@@ -125,7 +125,7 @@ impl Visit {
             let filled = vec![in alloc; b'x'; numbers_of(rest)[0] as usize]?;
             self.events.push(Event::Bytes(filled))?;
         } else if word == "gets" {
-            self.events.push(Event::Bytes(bytes_of(alloc, rest)?))?;
+            self.events.push(Event::Bytes(bytes_of(rt, alloc, rest)?))?;
         } else if word == "slots" {
             let [first, last, _, _] = numbers_of(rest);
             for slot in first..=last {
@@ -151,7 +151,7 @@ impl Visit {
             let want = message_of(alloc, rest)?;
             self.read(rt, alloc, &want)?;
         } else if word == "sends" {
-            let want = bytes_of(alloc, rest)?;
+            let want = bytes_of(rt, alloc, rest)?;
             self.read(rt, alloc, &want)?;
         } else if word == "film" {
             assert!(rt; films.len() == 2);
@@ -205,7 +205,7 @@ pub(crate) fn station_of<R: Abort>(
 ) -> Result<(Station, Seat), NoMemory>
     ensures { IfOk result (λ made. made.1 ≡ first_seat made.0) }
 {
-    assert!(rt; 2 <= limit && limit <= 1_048_576 && capacity <= 1 << 42);
+    assert!(rt; 2 <= limit && limit <= MAX_ENTRIES && capacity <= 1 << 42);
     Station::new(alloc, Profile::of_one_step(alloc, capacity)?, limit)
 }
 

@@ -1,5 +1,6 @@
 //! What stands in a script's lines.
 
+use hex::FromHexError;
 use std::alloc::Global;
 use std::process::Abort;
 use vod_base::{NoMemory, read_number};
@@ -21,15 +22,15 @@ pub(crate) fn message_of(alloc: Global, text: &str) -> Result<Vec<u8>, NoMemory>
     Ok(bytes)
 }
 
-/// Bytes in hexadecimal digits, with spaces between them. What is none is answered as want of
-/// memory is, each time.
-pub(crate) fn bytes_of(alloc: Global, digits: &str) -> Result<Vec<u8>, NoMemory> {
+/// Bytes in hexadecimal digits, with spaces between them. At other words the test stops.
+pub(crate) fn bytes_of<R: Abort>(rt: &R, alloc: Global, digits: &str) -> Result<Vec<u8>, NoMemory> {
     let mut bytes = Vec::new(alloc);
     for word in digits.split_whitespace() {
-        let Ok(part) = hex::decode(alloc, word) else {
-            return Err(NoMemory);
-        };
-        bytes.extend_from_slice(&part)?;
+        match hex::decode(alloc, word) {
+            Ok(part) => bytes.extend_from_slice(&part)?,
+            Err(FromHexError::OutOfMemory) => return Err(NoMemory),
+            Err(_) => panic!(rt; "{word} has other bytes than digits"),
+        }
     }
     Ok(bytes)
 }

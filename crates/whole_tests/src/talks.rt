@@ -13,7 +13,7 @@ use film_frames::Stored;
 use interleave::{Demux, Step};
 use plan_cert::Plan;
 use session::{Ask, Session, Settings, Slotted};
-use slot_calendar::{Calendar, Profile};
+use slot_calendar::{Calendar, Profile, RING_SLOTS};
 use std::alloc::Global;
 use std::process::Abort;
 use vod_base::{MemoryLink, NoMemory};
@@ -160,7 +160,7 @@ impl<'a> Talk<'a> {
     {
         let now = self.shared.now();
         assert!(rt; now < start && start <= 1 << 20 && plan.slots() <= 1 << 20);
-        assert!(rt; start + plan.slots() <= now + 1_048_576);
+        assert!(rt; start + plan.slots() <= now + RING_SLOTS);
         assert!(rt; self.shared.first_overflow(start, plan).is_none());
         self.shared.book(start, plan);
     }
@@ -289,7 +289,7 @@ impl<'a> Talk<'a> {
             let want = message_of(alloc, rest)?;
             self.read(rt, alloc, &want)
         } else if word == "sends" {
-            let want = bytes_of(alloc, rest)?;
+            let want = bytes_of(rt, alloc, rest)?;
             self.read(rt, alloc, &want)
         } else {
             assert!(rt; word == "in", "no such line: {line}");

@@ -172,7 +172,7 @@ fn watch_film<R: Wait + Abort>(
         out.bytes() == films[0].film.bytes.as_slice(),
         "another film"
     );
-    assert_eq!(rt; (watched.over, watched.under), (0, 0), "{buffer} {startup}");
+    assert_eq!(rt; (watched.over, watched.under), (0, 0), "{buffer} {delay}");
     assert!(rt;
         watched.units == u64::from(pictures) && watched.most <= buffer,
         "{} {buffer}",

@@ -29,6 +29,18 @@ said 1 RTSP/1.0 200 OK|CSeq: 2|Session:
 said 1 RTSP/1.0 453 Not Enough Bandwidth|CSeq: 2|x-Slot: 1|x-Booked: 35|x-Asked: 35||
 ends 0
 
+# the output fails: both connections were served
+hears OPTIONS * RTSP/1.0|CSeq: 1||
+part
+hears OPTIONS * RTSP/1.0|CSeq: 2||
+part
+fails out 1
+> serve film=b.mpg workers=2
+counts 2 0
+5 vodserve: SinkFault|
+said 1 RTSP/1.0 200 OK|CSeq: 1|
+said 1 RTSP/1.0 200 OK|CSeq: 2|
+
 # the first take of part 1 fails: the connection of part 0 is served
 hears SETUP rtsp://h/b.mpg RTSP/1.0|CSeq: 1|Transport: RTP/AVP/TCP;unicast;interleaved=0-1|x-Startup: 2||\
 PLAY rtsp://h/b.mpg RTSP/1.0|CSeq: 2|Session: 789200f441f6aa57||
