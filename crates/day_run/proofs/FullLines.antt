@@ -9,7 +9,7 @@ use Rattle.std.proofs.lemmas.Str.Parse.{digit_from_value}
 use Rattle.std.specs.Str.Parse.{AllDigits}
 use Rattle.admission.specs.declared.entries.Entry.{Entry}
 use Rattle.report.specs.EntryLines.{answer_words, command_words, entry_line}
-use Rattle.report.specs.Fields.{field}
+use Rattle.vod_base.specs.Fields.{field}
 use Rattle.report.specs.JournalTexts.{journal_text}
 use Rattle.day_run.specs.FairDays.{is_full_line}
 

@@ -2,7 +2,7 @@
 use Rattle.std.proofs.Common.{◌≡◌, ℕ, List, ◌++◌, Result, Ok, Err, OnOk}
 use Rattle.std.proofs.lemmas.List.{append_assoc}
 use Rattle.vod_base.specs.declared.outside.NoMemory.{NoMemory}
-use Rattle.report.proofs.AppendLemmas.{both}
+use Rattle.vod_base.proofs.AppendLemmas.{both}
 
 pub ruleset joins = (append_assoc)
 

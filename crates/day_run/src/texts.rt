@@ -1,7 +1,7 @@
 //! The printed lines of a day that are no entries of the journal.
 
 ghost use Rattle.std.specs.Prelude.{◌≡◌, ◌++◌, OnOk, codes, flat_map};
-ghost use Rattle.report.specs.Fields.{field};
+ghost use Rattle.vod_base.specs.Fields.{field};
 ghost use Rattle.day_run.specs.Prints.{fair_text, fault_text, fault_words, full_text, made_words};
 ghost use Rattle.day_run.specs.Prints.{offer_text, slot_text, slot_words, start_words, state_text};
 ghost use Rattle.day_run.specs.Prints.{sum_words, tried_text, turn_words};
@@ -9,8 +9,7 @@ ghost use Rattle.day_run.specs.Prints.{sum_words, tried_text, turn_words};
 use crate::counts::{Counts, Made};
 use admission::Full;
 use early_start::{Offers, Tried};
-use report::{push, push_field};
-use vod_base::NoMemory;
+use vod_base::{NoMemory, push, push_field};
 use wire_curve::CurveFault;
 
 /// Appends the line of a client that can't be asked in its state.

@@ -6,9 +6,8 @@ ghost use Rattle.film_make.specs.Trace.{sizes_of, trace_of};
 
 use crate::draws::Draws;
 use crate::pictures::GROUP;
-use itoa::Buffer;
 use std::alloc::Global;
-use vod_base::NoMemory;
+use vod_base::{NoMemory, push_number};
 
 /// The sizes of a trace by the next draws: one for each picture, in bytes, from 200 to 7,996.
 pub fn draw_sizes(alloc: Global, draws: &mut Draws, pictures: u32) -> Result<Vec<u64>, NoMemory>
@@ -60,8 +59,7 @@ fn next_size(draws: &mut Draws, index: u32) -> u32
 fn write_line(number: u32, out: &mut Vec<u8>) -> Result<(), NoMemory>
     ensures { OnOk result (out.new.items ≡ out.old.items ++ (decimal number ++ 10 ∷ [])) }
 {
-    let mut buffer = Buffer::new();
-    out.extend_from_slice(buffer.format(number).as_bytes())?;
+    push_number(out, u64::from(number))?;
     out.push(b'\n')?;
     Ok(())
 }

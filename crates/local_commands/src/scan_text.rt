@@ -6,9 +6,8 @@ ghost use Rattle.local_commands.specs.ScanText.{unit_marks, unit_line, unit_line
 ghost use Rattle.local_commands.specs.ScanText.{scan_text};
 
 use mpeg_scan::{Kind, Unit};
-use report::{push, push_field};
 use std::alloc::Global;
-use vod_base::{NoMemory, push_number};
+use vod_base::{NoMemory, push, push_field, push_number};
 
 /// The text of a film with that number of bytes, that rate code and those units.
 pub(crate) fn scan_text(

@@ -5,7 +5,7 @@ ghost use Rattle.plan_cert.specs.Text.{cert_text, cert_head, segment_line};
 
 use crate::{Plan, Segment};
 use std::alloc::Global;
-use vod_base::{NoMemory, push_number};
+use vod_base::{NoMemory, push_field};
 
 /// The certificate of a plan: a line `smooth 1`, `slots` and `bytes` with the sums, one line
 /// `segment SLOTS BYTES` for each segment, and a line `end`. Each line ends with LF, and numbers
@@ -26,11 +26,10 @@ pub fn write_cert(alloc: Global, plan: &Plan) -> Result<Vec<u8>, NoMemory>
 fn head_bytes(alloc: Global, slots: u64, bytes: u64) -> Result<Vec<u8>, NoMemory>
     ensures { IfOk result (λ text. text.items ≡ cert_head slots bytes) }
 {
-    let mut text = Vec::from_slice(alloc, b"smooth 1\nslots ")?;
-    push_number(&mut text, slots)?;
-    text.extend_from_slice(b"\nbytes ")?;
-    push_number(&mut text, bytes)?;
-    text.extend_from_slice(b"\n")?;
+    let mut text = Vec::from_slice(alloc, b"smooth 1\n")?;
+    push_field(&mut text, b"slots ", slots)?;
+    push_field(&mut text, b"\nbytes ", bytes)?;
+    text.push(b'\n')?;
     Ok(text)
 }
 
@@ -38,10 +37,8 @@ fn head_bytes(alloc: Global, slots: u64, bytes: u64) -> Result<Vec<u8>, NoMemory
 fn push_segment(text: &mut Vec<u8>, segment: Segment) -> Result<(), NoMemory>
     ensures { OnOk result (text.new.items ≡ text.old.items ++ segment_line segment) }
 {
-    text.extend_from_slice(b"segment ")?;
-    push_number(text, segment.slots)?;
-    text.extend_from_slice(b" ")?;
-    push_number(text, segment.bytes)?;
-    text.extend_from_slice(b"\n")?;
+    push_field(text, b"segment ", segment.slots)?;
+    push_field(text, b" ", segment.bytes)?;
+    text.push(b'\n')?;
     Ok(())
 }

@@ -8,7 +8,7 @@ use Rattle.admission.specs.declared.entries.Answer.{Answer}
 use Rattle.admission.specs.declared.entries.Answer.TheVariants.{Admitted, Overflow, Halted, Looked}
 use Rattle.report.specs.EntryForms.{HasForm}
 use Rattle.report.specs.EntryLines.{answer_words, command_words}
-use Rattle.report.specs.Fields.{field}
+use Rattle.vod_base.specs.Fields.{field}
 use Rattle.report.specs.Kinds.{IsOfKind}
 
 -- a label, and the text after it

@@ -4,11 +4,11 @@ use Rattle.std.proofs.Common.{length, append_assoc, append-nil, sym, ap, subst, 
 use Rattle.std.proofs.lemmas.List.{drop_all, drop_more, get_or-drop, length-drop}
 use Rattle.vod_base.specs.declared.outside.NoMemory.{NoMemory}
 use Rattle.admission.specs.declared.entries.Entry.{Entry}
-use Rattle.report.specs.Appends.{IsAppended}
+use Rattle.vod_base.specs.Appends.{IsAppended}
 use Rattle.report.specs.EntryLines.{entry_line}
 use Rattle.report.specs.JournalTexts.{IsJournalTold, journal_text}
 use Rattle.report.specs.Kinds.{AreOfKind, IsOfKind}
-use Rattle.report.proofs.AppendLemmas.{appended_as, both, cut_before, then_appended}
+use Rattle.vod_base.proofs.AppendLemmas.{appended_as, both, cut_before, then_appended}
 
 -- the lines of entries, each by itself
 abbrev lines_at : ℕ → List Entry → List (List ℕ)

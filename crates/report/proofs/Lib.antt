@@ -1,4 +1,3 @@
-pub mod AppendLemmas
 mod SlotLemmas
 mod LineLemmas
 mod KindLemmas

@@ -12,7 +12,7 @@ use Rattle.plan_cert.specs.Reading.{Lines, lines_of}
 use Rattle.vod_base.proofs.FirstBytes.{none_is, split_once}
 use Rattle.plan_cert.proofs.Decimals.{not_in_decimal}
 use Rattle.plan_cert.proofs.Grammar.{lines-cut}
-use Rattle.report.specs.Fields.{field}
+use Rattle.vod_base.specs.Fields.{field}
 use Rattle.slot_calendar.specs.Totals.{ring_slots}
 use Rattle.report.specs.CalendarTexts.{AreBookings, booked_among, booked_slots, calendar_lines, calendar_text}
 use Rattle.report.specs.CalendarTexts.{first_words, slot_line, slot_words}

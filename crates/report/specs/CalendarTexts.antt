@@ -4,7 +4,7 @@ use Rattle.std.specs.Prelude.{ℕ, ◌≡◌, ◌+◌, ◌^◌, ◌≤◌, nat_l
 use Rattle.std.specs.List.{range_with_len}
 use Rattle.plan_cert.specs.Reading.{lines_of}
 use Rattle.slot_calendar.specs.Totals.{ring_slots}
-use Rattle.report.specs.Fields.{field}
+use Rattle.vod_base.specs.Fields.{field}
 
 -- What holds of the bytes booked on a link in the slots from one on: a ring's slots alone have
 -- some, and none has more than a capacity can be.

@@ -1,5 +1,3 @@
-pub mod Fields
-pub mod Appends
 pub mod Kinds
 pub mod EntryLines
 pub mod EntryForms

@@ -2,12 +2,11 @@
 
 ghost use Rattle.std.specs.Prelude.{◌++◌, codes, flat_map};
 ghost use Rattle.slot_calendar.specs.Calendars.{booked_at};
-ghost use Rattle.report.specs.Appends.{IsAppended};
+ghost use Rattle.vod_base.specs.Appends.{IsAppended};
 ghost use Rattle.report.specs.CalendarTexts.{booked_slots, calendar_text, slot_line, slot_words};
 
-use crate::fields::{push, push_field};
 use slot_calendar::{Calendar, RING_SLOTS};
-use vod_base::NoMemory;
+use vod_base::{NoMemory, push, push_field};
 
 /// Appends the text of a calendar: `calendar from=T` with T its now, then `at S booked=X` for each
 /// slot S of its ring, from now on, in which X bytes are booked, above 0, and then `end`. Numbers

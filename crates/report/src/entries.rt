@@ -1,13 +1,13 @@
 //! The line of a journal entry.
 
 ghost use Rattle.std.specs.Prelude.{◌++◌};
-ghost use Rattle.report.specs.Appends.{IsAppended};
+ghost use Rattle.vod_base.specs.Appends.{IsAppended};
 ghost use Rattle.report.specs.Kinds.{IsOfKind};
 ghost use Rattle.report.specs.EntryLines.{answer_words, command_words, entry_line};
 
-use crate::fields::{push, push_field, push_three};
+use crate::fields::push_three;
 use admission::{Answer, Command, Entry};
-use vod_base::{NoMemory, push_number};
+use vod_base::{NoMemory, push, push_field, push_number};
 
 /// Appends the line of the journal's entry at `place`: `PLACE seat=M` and then, for a play, `play
 /// slot=S slots=N bytes=B admitted start=T` or `play slot=S slots=N bytes=B overflow slot=U

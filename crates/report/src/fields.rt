@@ -1,30 +1,10 @@
-//! Texts and numbers that are appended.
+//! Numbers with their labels.
 
 ghost use Rattle.std.specs.Prelude.{◌++◌};
-ghost use Rattle.report.specs.Appends.{IsAppended};
-ghost use Rattle.report.specs.Fields.{field};
+ghost use Rattle.vod_base.specs.Appends.{IsAppended};
+ghost use Rattle.vod_base.specs.Fields.{field};
 
-use vod_base::{NoMemory, push_number};
-
-/// Appends a text.
-///
-/// # Errors
-///
-/// After [`NoMemory`] a front of the text was appended.
-pub fn push(out: &mut Vec<u8>, text: &[u8]) -> Result<(), NoMemory>
-    ensures { IsAppended out.old.items text.now out.new.items result }
-{
-    out.extend_from_slice(text)?;
-    Ok(())
-}
-
-/// Appends a label and a number in decimal. Errors are those of `push`.
-pub fn push_field(out: &mut Vec<u8>, label: &[u8], number: u64) -> Result<(), NoMemory>
-    ensures { IsAppended out.old.items (field label.now number) out.new.items result }
-{
-    push(out, label)?;
-    push_number(out, number)
-}
+use vod_base::{NoMemory, push_field};
 
 /// Appends three labels, each with its number.
 pub(crate) fn push_three(

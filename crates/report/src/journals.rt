@@ -1,7 +1,7 @@
 //! The text of a journal: the lines of its entries, in their order.
 
 ghost use Rattle.std.specs.Prelude.{◌≡◌, drop};
-ghost use Rattle.report.specs.Appends.{IsAppended};
+ghost use Rattle.vod_base.specs.Appends.{IsAppended};
 ghost use Rattle.report.specs.JournalTexts.{journal_text};
 ghost use Rattle.report.specs.Kinds.{AreOfKind};
 

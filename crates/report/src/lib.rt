@@ -9,7 +9,6 @@ mod laws;
 
 pub use calendars::calendar_text;
 pub use entries::entry_line;
-pub use fields::{push, push_field};
 pub use journals::journal_text;
 pub use laws::{
     law_answer_kinds, law_calendar_lines, law_entry_line, law_journal_text, law_slot_lines,

@@ -1,3 +1,4 @@
+pub mod AppendLemmas
 pub mod Digits
 mod FileSearch
 pub mod FirstBytes

@@ -1,4 +1,6 @@
+pub mod Appends
 pub mod Blanks
+pub mod Fields
 pub mod Gates
 pub mod Limits
 pub mod Lines

@@ -2,6 +2,7 @@
 //! keep it, and the few words and numbers that every input is read by.
 #![tactic(auto)]
 
+mod appends;
 mod blanks;
 mod failing_calls;
 mod files;
@@ -23,6 +24,7 @@ mod reads;
 mod shares;
 mod splits;
 
+pub use appends::{push, push_field};
 pub use blanks::{is_blank, trim};
 pub use files::Library;
 pub use fronts::move_to_front;

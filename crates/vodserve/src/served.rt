@@ -6,10 +6,10 @@ ghost use Rattle.vodserve.specs.Served.{IsPrinted, last_line, served_text};
 use crate::serving::Closed;
 use admission::Book;
 use conn::PartEnd;
-use report::{calendar_text, journal_text, law_answer_kinds, law_state_text, push, push_field};
+use report::{calendar_text, journal_text, law_answer_kinds, law_state_text};
 use std::alloc::Global;
 use troubles::Trouble;
-use vod_base::{NoMemory, Sink};
+use vod_base::{NoMemory, Sink, push, push_field};
 
 /// Writes the text of a closed server.
 ///

@@ -1,5 +1,5 @@
 use Rattle.std.proofs.Common.{◌++◌, codes}
-use Rattle.report.proofs.AppendLemmas.{both}
+use Rattle.vod_base.proofs.AppendLemmas.{both}
 use Rattle.day_run.specs.Prints.{slot_words, turn_words}
 use Rattle.day_run.proofs.TextSteps.{then_more}
 use Rattle.day_run.proofs.texts.push_fair.Goals as goal

@@ -1,5 +1,5 @@
 use Rattle.std.proofs.Common.{codes}
-use Rattle.report.specs.Fields.{field}
+use Rattle.vod_base.specs.Fields.{field}
 use Rattle.day_run.specs.Prints.{made_words, turn_words}
 use Rattle.day_run.proofs.TextSteps.{then_more}
 use Rattle.day_run.proofs.texts.push_turns.Goals as goal

@@ -1,7 +1,7 @@
 use Rattle.std.proofs.Common.{◌++◌, ap, codes, flat_map}
 use Rattle.slot_calendar.specs.Calendars.{booked_at}
 use Rattle.report.specs.CalendarTexts.{booked_slots, first_words, slot_line}
-use Rattle.report.proofs.AppendLemmas.{appended_as, both, cut_before, handed_on, then_appended}
+use Rattle.vod_base.proofs.AppendLemmas.{appended_as, both, cut_before, handed_on, then_appended}
 use Rattle.report.proofs.calendars.calendar_text.Goals as goal
 
 pub returns-in_err-push_field : goal.returns-in_err-push_field

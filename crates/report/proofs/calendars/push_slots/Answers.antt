@@ -4,7 +4,7 @@ use Rattle.std.specs.List.{range_with_len}
 use Rattle.slot_calendar.specs.Calendars.{booked_at}
 use Rattle.slot_calendar.specs.Totals.{ring_slots}
 use Rattle.report.specs.CalendarTexts.{booked_slots, slot_words}
-use Rattle.report.proofs.AppendLemmas.{appended_as, both, cut_before, handed_on, then_appended}
+use Rattle.vod_base.proofs.AppendLemmas.{appended_as, both, cut_before, handed_on, then_appended}
 use Rattle.report.proofs.SlotLemmas.{IsAmong, line-booked, line-free, lines, lines-around, lines-more}
 use Rattle.report.proofs.calendars.push_slots.Goals as goal
 use Rattle.report.proofs.calendars.push_slots.Goals.{then-booked-gt0+in_ok-push_slot, else-booked-gt0}

@@ -1,7 +1,7 @@
 use Rattle.std.proofs.Common.{◌++◌, ap, codes, decimal}
-use Rattle.report.specs.Fields.{field}
+use Rattle.vod_base.specs.Fields.{field}
 use Rattle.report.specs.EntryLines.{answer_words, command_words}
-use Rattle.report.proofs.AppendLemmas.{appended_as, both, cut_before, handed_on, none_appended, then_appended}
+use Rattle.vod_base.proofs.AppendLemmas.{appended_as, both, cut_before, handed_on, none_appended, then_appended}
 use Rattle.report.proofs.entries.entry_line.Goals as goal
 
 pub returns-in_err-push_number : goal.returns-in_err-push_number

@@ -1,7 +1,7 @@
 use Rattle.std.proofs.Common.{ap, sym, codes}
-use Rattle.report.specs.Fields.{field}
+use Rattle.vod_base.specs.Fields.{field}
 use Rattle.report.specs.EntryLines.{command_words}
-use Rattle.report.proofs.AppendLemmas.{appended_as, cut_before, handed_on, then_appended}
+use Rattle.vod_base.proofs.AppendLemmas.{appended_as, cut_before, handed_on, then_appended}
 use Rattle.report.proofs.entries.push_command.Goals as goal
 
 pub returns-in_err-push_field-in-Halt : goal.returns-in_err-push_field-in-Halt

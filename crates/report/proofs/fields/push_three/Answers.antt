@@ -1,6 +1,6 @@
 use Rattle.std.proofs.Common.{◌++◌}
-use Rattle.report.specs.Fields.{field}
-use Rattle.report.proofs.AppendLemmas.{both, cut_before, handed_on, then_appended}
+use Rattle.vod_base.specs.Fields.{field}
+use Rattle.vod_base.proofs.AppendLemmas.{both, cut_before, handed_on, then_appended}
 use Rattle.report.proofs.fields.push_three.Goals as goal
 
 pub returns-in_err-push_field : goal.returns-in_err-push_field

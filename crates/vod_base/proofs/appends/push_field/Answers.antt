@@ -1,5 +1,5 @@
-use Rattle.report.proofs.AppendLemmas.{all_or_none, cut_before, handed_on, then_appended}
-use Rattle.report.proofs.fields.push_field.Goals as goal
+use Rattle.vod_base.proofs.AppendLemmas.{all_or_none, cut_before, handed_on, then_appended}
+use Rattle.vod_base.proofs.appends.push_field.Goals as goal
 
 pub returns-in_err-push : goal.returns-in_err-push
 returns-in_err-push c = handed_on c.from_residual.result c.from_residual.ensures.0 (cut_before _ c.in_err-push.ensures)

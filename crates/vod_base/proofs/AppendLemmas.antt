@@ -2,7 +2,7 @@
 use Rattle.std.proofs.Common.{ℕ, ◌≡◌, List, [], ◌++◌, Result, Ok, Err, OnOk, OnErr, IsErr, append_assoc, append-nil, refl, sym, ap, subst, ◌∙◌}
 use Rattle.std.proofs.lemmas.Bool.{false≢true}
 use Rattle.vod_base.specs.declared.outside.NoMemory.{NoMemory}
-use Rattle.report.specs.Appends.{HasFrontOf, IsAppended}
+use Rattle.vod_base.specs.Appends.{HasFrontOf, IsAppended}
 
 abbrev Answer : Type 0
 Answer = Result (Unit {0}) NoMemory

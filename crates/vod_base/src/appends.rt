@@ -1,0 +1,31 @@
+//! Texts and numbers that are appended.
+
+ghost use Rattle.vod_base.specs.Appends.{IsAppended};
+ghost use Rattle.vod_base.specs.Fields.{field};
+
+use crate::numbers::push_number;
+use crate::outside::NoMemory;
+
+/// Appends a text.
+///
+/// # Errors
+///
+/// After [`NoMemory`] a front of the text was appended.
+pub fn push(out: &mut Vec<u8>, text: &[u8]) -> Result<(), NoMemory>
+    ensures { IsAppended out.old.items text.now out.new.items result }
+{
+    out.extend_from_slice(text)?;
+    Ok(())
+}
+
+/// Appends a label and a number in decimal, without leading zeros.
+///
+/// # Errors
+///
+/// After [`NoMemory`] a front of the two was appended.
+pub fn push_field(out: &mut Vec<u8>, label: &[u8], number: u64) -> Result<(), NoMemory>
+    ensures { IsAppended out.old.items (field label.now number) out.new.items result }
+{
+    push(out, label)?;
+    push_number(out, number)
+}
