@@ -9,7 +9,7 @@ use crate::codes::Code;
 use crate::tallies::{
     EXTENSION, FIRST_SYSTEM, GROUP, PICTURE, SEQUENCE, Tally, is_head, is_slice, rate_code, type_of,
 };
-use crate::units::{MAX_FILM_PICTURES, MAX_GROUP_PICTURES, MAX_HEAD_BYTES};
+use crate::units::{MAX_FILM_PICTURES, MAX_GROUP_PICTURES, MAX_UNIT_HEAD_BYTES};
 use thiserror::Error;
 use vod_base::NoMemory;
 
@@ -225,7 +225,7 @@ fn first_slice_fault(tally: &Tally, place: u64, kind: u8) -> Option<FilmFault>
         match tally.picture {
             None => Some(FilmFault::HeadWithoutPicture(tally.unit)),
             Some(_) => {
-                if MAX_HEAD_BYTES < place - tally.unit {
+                if MAX_UNIT_HEAD_BYTES < place - tally.unit {
                     Some(FilmFault::HeadTooLong(tally.unit))
                 } else {
                     None

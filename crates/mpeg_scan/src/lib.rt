@@ -24,7 +24,8 @@ pub use laws::{
 };
 pub use scanner::{Ending, Scanner};
 pub use units::{
-    Kind, MAX_FILM_BYTES, MAX_FILM_PICTURES, MAX_GROUP_PICTURES, MAX_HEAD_BYTES, Unit, picture_time,
+    Kind, MAX_FILM_BYTES, MAX_FILM_PICTURES, MAX_GROUP_PICTURES, MAX_UNIT_HEAD_BYTES, Unit,
+    picture_time,
 };
 
 #[cfg(test)]

@@ -8,7 +8,7 @@ ghost use Rattle.mpeg_scan.specs.Words.{kind_of};
 pub const MAX_FILM_BYTES: u64 = 1 << 40;
 
 /// The most bytes of a unit before its first slice: they go into one packet.
-pub const MAX_HEAD_BYTES: u64 = 1380;
+pub const MAX_UNIT_HEAD_BYTES: u64 = 1380;
 
 /// The most pictures of a group: a temporal_reference has 10 bits (ISO/IEC 11172-2, 2.4.2.5).
 pub const MAX_GROUP_PICTURES: u32 = 1024;

@@ -1,6 +1,9 @@
 //! The payload that is filled while a unit is cut, and whether a slice goes into it.
+
 ghost use Rattle.std.specs.Prelude.{◌≡◌, ◌+◌, ◌*◌, ◌<◌, ◌≤◌};
 ghost use Rattle.rtp_pack.specs.Cutting.{full_before, goes_in, holds_after};
+
+use mpeg_scan::MAX_UNIT_HEAD_BYTES;
 
 /// What stands in the portion of a unit that is being filled.
 #[derive(Clone, Copy)]
@@ -24,8 +27,8 @@ pub(crate) struct Filling {
     pub holds: Holds,
 }
 
-/// The most bytes of a unit in one packet.
-pub(crate) const PAYLOAD: u64 = 1380;
+/// The most bytes of a unit in one packet: a head always goes into one whole.
+pub(crate) const MAX_PAYLOAD_BYTES: u64 = MAX_UNIT_HEAD_BYTES;
 
 /// Whether a slice of `length` bytes begins in the portion that is being filled, or else begins the
 /// next.
@@ -35,10 +38,10 @@ pub(crate) fn goes_in(filling: Filling, length: u64) -> bool
 {
     let used = filling.at - filling.from;
     match filling.holds {
-        Holds::HeadersAlone if length > PAYLOAD => used < PAYLOAD,
-        Holds::Slices if length > PAYLOAD => false,
+        Holds::HeadersAlone if length > MAX_PAYLOAD_BYTES => used < MAX_PAYLOAD_BYTES,
+        Holds::Slices if length > MAX_PAYLOAD_BYTES => false,
         Holds::LastFragment => false,
-        _ => used <= PAYLOAD && length <= PAYLOAD - used,
+        _ => used <= MAX_PAYLOAD_BYTES && length <= MAX_PAYLOAD_BYTES - used,
     }
 }
 
@@ -46,7 +49,7 @@ pub(crate) fn goes_in(filling: Filling, length: u64) -> bool
 pub(crate) fn holds_after(length: u64) -> Holds
     ensures { result ≡ holds_after length }
 {
-    if length > PAYLOAD {
+    if length > MAX_PAYLOAD_BYTES {
         Holds::LastFragment
     } else {
         Holds::Slices
@@ -60,5 +63,5 @@ pub(crate) fn full_before(start: u64, end: u64) -> u64
     ensures before { start + 1380 * result < end }
     ensures within { end ≤ start + 1380 * result + 1380 }
 {
-    (end - start - 1) / PAYLOAD
+    (end - start - 1) / MAX_PAYLOAD_BYTES
 }

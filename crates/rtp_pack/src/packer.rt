@@ -6,7 +6,7 @@ ghost use Rattle.rtp_pack.specs.Packets.{IsLaid, before_slice, filling_packet, f
 ghost use Rattle.rtp_pack.specs.Packets.{next_place, packet, slice_packets};
 ghost use Rattle.rtp_pack.specs.Sizes.{IsPacked};
 
-use crate::filling::{Filling, Holds, PAYLOAD, full_before, goes_in, holds_after};
+use crate::filling::{Filling, Holds, MAX_PAYLOAD_BYTES, full_before, goes_in, holds_after};
 use crate::payloads::Packet;
 use mpeg_scan::Unit;
 use vod_base::NoMemory;
@@ -81,8 +81,11 @@ fn put_full(packets: &mut Vec<Packet>, unit: &Unit, start: u64, end: u64) -> Res
     let mut last = start;
     let mut begin = true;
     for _portion in 0..full_before(start, end) {
-        put(packets, packet(unit, last, last + PAYLOAD, begin, false))?;
-        last += PAYLOAD;
+        put(
+            packets,
+            packet(unit, last, last + MAX_PAYLOAD_BYTES, begin, false),
+        )?;
+        last += MAX_PAYLOAD_BYTES;
         begin = false;
     }
     Ok(last)

@@ -4,7 +4,7 @@ ghost use Rattle.rtp_pack.specs.Sizes.{HasSlice, IsSize, measure_from_headers, b
 ghost use Rattle.rtp_pack.specs.Sizes.{measure_of};
 ghost use Rattle.rtp_pack.specs.Sizes.{with_slice};
 
-use crate::filling::{Filling, Holds, PAYLOAD, full_before, goes_in, holds_after};
+use crate::filling::{Filling, Holds, MAX_PAYLOAD_BYTES, full_before, goes_in, holds_after};
 use std::marker::Model;
 
 /// The size of a unit's frames, counted while the lengths of its headers and slices come in. It
@@ -65,7 +65,7 @@ impl UnitSize {
         let full = full_before(start, end);
         self.portions += full;
         self.filling = Filling {
-            from: start + PAYLOAD * full,
+            from: start + MAX_PAYLOAD_BYTES * full,
             at: end,
             holds: holds_after(length),
         };

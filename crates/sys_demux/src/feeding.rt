@@ -1,4 +1,5 @@
 //! Takes the bytes of a system stream, and says at its end whether it was one.
+
 ghost use Rattle.std.specs.Prelude.{◌≡◌, ℕ, ◌+◌, ◌^◌, ◌<◌, ◌≤◌, ◌⊎◌, IsTrue, List, [], ◌∷◌, ◌++◌};
 ghost use Rattle.std.specs.Prelude.{length, take, Option, Some, Err, IfOk, IfErr, MatchResult};
 ghost use Rattle.sys_demux.specs.Items.{choose};
@@ -12,6 +13,12 @@ use crate::places::{
     Place, end_fault, header_place, kind_next, length_next, mark_next, pass, video, zeros_next,
 };
 use crate::unwrapper::Unwrapper;
+
+/// The least kind of a packet of video (ISO/IEC 11172-1, section 2.4.4.2: stream_id).
+const FIRST_VIDEO: u8 = 0xe0;
+
+/// The greatest kind of a packet of video.
+const LAST_VIDEO: u8 = 0xef;
 
 /// What a call of [`Unwrapper::feed`] took.
 #[derive(Clone, Copy, Debug)]
@@ -168,7 +175,7 @@ fn choose(chosen: Option<u8>, kind: u8) -> Option<u8>
 {
     match chosen {
         Some(first) => Some(first),
-        None if 0xe0 <= kind && kind <= 0xef => Some(kind),
+        None if FIRST_VIDEO <= kind && kind <= LAST_VIDEO => Some(kind),
         None => None,
     }
 }

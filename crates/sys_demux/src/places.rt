@@ -1,4 +1,5 @@
 //! Where in a system stream the next byte stands, and where a byte leads.
+
 ghost use Rattle.std.specs.Prelude.{◌≡◌, ℕ, ◌+◌, ◌-◌, ◌≤◌, ◌<◌, ◌==◌, if◌then◌else◌, IsTrue, List};
 ghost use Rattle.std.specs.Prelude.{[], ◌∷◌, ◌++◌, length, Option};
 ghost use Rattle.sys_demux.specs.Items.{choose, is_chosen};
@@ -8,6 +9,15 @@ ghost use Rattle.sys_demux.specs.States.{begins_at, place_in, end_fault};
 
 use crate::faults::SystemFault;
 use crate::headers::{Header, header_next};
+
+/// The kind of the code that ends a stream (ISO/IEC 11172-1, section 2.4.3).
+const END_KIND: u8 = 0xb9;
+
+/// The kind of a pack header; packets have greater ones (ISO/IEC 11172-1, section 2.4.3).
+const PACK_KIND: u8 = 0xba;
+
+/// The bytes of a pack header after its fifth.
+const PACK_REST_BYTES: u16 = 7;
 
 /// Where in a stream the next byte stands.
 #[derive(Clone, Copy)]
@@ -56,11 +66,11 @@ pub(crate) fn kind_next(kind: u8, item: u64) -> Place
         IsAtPrefix start item [] now chosen part kept →
         IsPart (begins_at chosen start) item (choose now kind) (part ++ kind ∷ []) kept result }
 {
-    if kind == 0xb9 {
+    if kind == END_KIND {
         Place::End
-    } else if kind == 0xba {
+    } else if kind == PACK_KIND {
         Place::Mark
-    } else if kind > 0xba {
+    } else if kind > PACK_KIND {
         Place::High(kind)
     } else {
         Place::Failed(SystemFault::BadCode(item))
@@ -75,7 +85,7 @@ pub(crate) fn mark_next(mark: u8, item: u64) -> Place
         IsPart (begins_at chosen start) item now (part ++ mark ∷ []) kept result }
 {
     if mark / 16 == 2 {
-        Place::Pass(7)
+        Place::Pass(PACK_REST_BYTES)
     } else {
         Place::Failed(SystemFault::NotPack(item))
     }
