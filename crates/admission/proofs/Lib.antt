@@ -6,7 +6,7 @@ mod Calendars
 mod Journals
 pub mod Finds
 pub mod Opens
-mod Makers
+pub mod Makers
 pub mod Once
 mod Counts
 mod Bookings

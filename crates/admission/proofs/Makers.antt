@@ -116,7 +116,7 @@ one-made {maker} P place (e ∷ rest) (suc i) all made =
     subst Q at (one-made P (place + 1) rest i later (record { inside = omega (arith, made.inside); own = made.own }))
 
 -- ---- a command that halts a play
-halt_is : (number : ℕ) (command : Command) → Halts number command → (keep : ℕ) × (command ≡ Halt number keep)
+pub halt_is : (number : ℕ) (command : Command) → Halts number command → (keep : ℕ) × (command ≡ Halt number keep)
 halt_is number (Halt that keep) same = (keep, ap (λ n. Halt n keep) same)
 halt_is number (Play slot segments) same = absurd same
 halt_is number (Look slot) same = absurd same

@@ -1,9 +1,8 @@
 -- What is used before a slot, by the first pictures.
-use Rattle.std.proofs.Common.{◌≡◌, ℕ, ◌+◌, ◌<◌, ◌≤◌, List, length, take, sum, inl, inr, ap, arith}
+use Rattle.std.proofs.Common.{◌≡◌, ℕ, ◌+◌, ◌<◌, ◌≤◌, List, length, take, sum, inl, inr, arith}
 use Rattle.std.proofs.Math.Nat.{le_refl}
 use Rattle.std.proofs.lemmas.Bool.{cases_lt}
-use Rattle.std.proofs.lemmas.List.{take-take}
-use Rattle.std.proofs.lemmas.List.Sums.{sum_by-take-le}
+use Rattle.vod_base.proofs.Sums.{sum-take-rises}
 use Rattle.wire_curve.specs.declared.film.Timing.{Timing}
 use Rattle.wire_curve.specs.FilmCurves.{due_slot, used_before}
 use Rattle.wire_curve.proofs.PlayedLaws.{some_before, used_of_first}
@@ -24,12 +23,6 @@ used-front {sizes} {timing} {t} {n} is used = used_of_first sizes timing n t (re
   unused = λ k le _. let rises = due_rises timing n k is.some le in omega (arith, rises, is.unused);
 })
 
--- more first pictures have no fewer bytes
-take-rises : (sizes : List ℕ) (n m : ℕ) → n ≤ m → sum (take n sizes) ≤ sum (take m sizes)
-take-rises sizes n m le =
-    let part : sum (take n (take m sizes)) ≡ sum (take n sizes) = ap (λ l. sum l) (take-take n m sizes le) in
-    omega (arith, part, sum_by-take-le (λ x. x) (take m sizes) n)
-
 -- at least the first n pictures are used before slot t
 pub record AreUsedBefore (sizes : List ℕ) (timing : Timing) (t n : ℕ) : Type 0 where
   pub some : 1 ≤ timing.slot_units
@@ -47,7 +40,7 @@ used-least {sizes} {timing} {t} {n} it =
     elim (cases_lt m n) [
       | inl less ↦ absurd (let by = it.used m less in
           let not = are.unused m (le_refl m) (omega (arith, less, it.fits)) in omega (arith, by, not))
-      | inr le ↦ (let more = take-rises sizes n m le in omega (arith, is, more))
+      | inr le ↦ (let more = sum-take-rises sizes n m le in omega (arith, is, more))
     ]
 
 -- only the first pictures are
@@ -60,5 +53,5 @@ used-most {sizes} {timing} {t} {n} it =
     let is = used_of_first sizes timing m t are in
     elim (cases_lt n m) [
       | inl less ↦ absurd (let by = are.used n less in omega (arith, by, it.unused))
-      | inr le ↦ (let more = take-rises sizes m n le in omega (arith, is, more))
+      | inr le ↦ (let more = sum-take-rises sizes m n le in omega (arith, is, more))
     ]

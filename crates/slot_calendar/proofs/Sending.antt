@@ -6,11 +6,12 @@ use Rattle.std.proofs.Math.Seq.{take-append-add}
 use Rattle.std.proofs.Math.Nat.{add-mul-div_right, mod-lt}
 use Rattle.std.proofs.lemmas.Nat.{div-add-mod'}
 use Rattle.std.proofs.lemmas.Bool.{cases_lt, cases_eq}
-use Rattle.std.proofs.lemmas.List.{take-append-le, take_all, take-take, take_more, take-append-drop, get_or_default}
+use Rattle.std.proofs.lemmas.List.{take-append-le, take_all, take_more, take-append-drop, get_or_default}
 use Rattle.std.proofs.lemmas.List.{get_or_past}
 use Rattle.std.proofs.lemmas.List.Concat.{flat_map-append}
 use Rattle.std.proofs.lemmas.List.Sums.{sum_by-append, sum_by-take-le, sum_by_more}
 use Rattle.std.proofs.lemmas.List.Elements.{All-head, All-take}
+use Rattle.vod_base.proofs.Sums.{sum-take-rises}
 use Rattle.plan_cert.specs.declared.Segment.{Segment}
 use Rattle.plan_cert.specs.Slots.{slots_of, plan_slots, total_slots, total_bytes, sum_through}
 use Rattle.plan_cert.specs.Plan.{IsPlan}
@@ -19,12 +20,6 @@ use Rattle.plan_cert.proofs.Floors.{floor_rises}
 use Rattle.slot_calendar.specs.Plays.{sent_before, asked_at, cut_at}
 
 -- ---- sums of fronts
-pub sum-take-rises : (xs : List ℕ) (j k : ℕ) → j ≤ k → sum (take j xs) ≤ sum (take k xs)
-sum-take-rises xs j k less =
-    let part : sum (take j (take k xs)) ≤ sum (take k xs) = sum_by-take-le (λ x. x) (take k xs) j in
-    let same : sum (take j (take k xs)) ≡ sum (take j xs) = ap sum (take-take j k xs less) in
-    omega (arith, part, same)
-
 pub sum-take-append : (xs ys : List ℕ) (k : ℕ) → sum (take k (xs ++ ys)) ≡ sum (take k xs) + sum (take (k - length xs) ys)
 sum-take-append xs ys k =
     elim (cases_lt (length xs) k) [

@@ -6,21 +6,15 @@ use Rattle.plan_cert.specs.declared.Segment.{Segment}
 use Rattle.plan_cert.specs.Slots.{total_bytes}
 use Rattle.slot_calendar.specs.declared.profiles.CapacityStep.{CapacityStep}
 use Rattle.admission.specs.declared.entries.Answer.TheVariants.{Admitted}
-use Rattle.admission.specs.declared.entries.Command.{Command}
-use Rattle.admission.specs.declared.entries.Command.TheVariants.{Play, Halt, Look}
 use Rattle.admission.specs.declared.entries.Entry.{Entry}
 use Rattle.admission.specs.Books.{Journal}
 use Rattle.admission.specs.Histories.{Halts, IsHalt, IsLegal}
 use Rattle.admission.specs.Makers.{Admits, IsOpenAmong, Placed, made_by}
+use Rattle.admission.proofs.Makers.{halt_is}
 use Rattle.admission.proofs.Opens.{halt-later}
 use Rattle.turnstile.proofs.Prefixes.{made_own}
 use Rattle.station.specs.Ledgers.{IsEntered, play_of}
 use Rattle.station.proofs.Makers.{IsAt, all-at}
-
-halt_is : (number : ℕ) (command : Command) → Halts number command → (keep : ℕ) × (command ≡ Halt number keep)
-halt_is number (Halt that keep) same = (keep, ap (λ n. Halt n keep) same)
-halt_is number (Play slot segments) same = absurd same
-halt_is number (Look slot) same = absurd same
 
 -- no entry of a legal history halts a play that would come after it
 none-later : {steps : List CapacityStep} {xs : List Entry} {maker number : ℕ} {d : Entry} → IsLegal steps xs

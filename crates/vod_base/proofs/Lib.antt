@@ -6,5 +6,6 @@ mod Giving
 mod HandingOut
 mod LineText
 mod Noting
+pub mod Sums
 pub mod Telling
 pub mod Written
