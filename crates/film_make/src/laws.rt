@@ -28,10 +28,9 @@ pub fn law_trace()
 {}
 
 /// A film with a picture begins with a sequence and a group header, and the headers of a film say
-/// what is meant: pictures of 352 by 288 square samples, 25 a second, in
-/// closed groups; and of the twelve pictures of a group, in the order of the stream, the types (1
-/// is I, 2 P, 3 B), the places in the order of showing, and the vectors' fields (0 full-pel, f-code
-/// 1).
+/// what is meant: pictures of 352 by 288 square samples, 25 a second, in closed groups; and of the
+/// twelve pictures of a group, in the order of the stream, the types (1 is I, 2 P, 3 B), the places
+/// in the order of showing, and the vectors' fields (0 full-pel, f-code 1).
 pub fn law_film_headers()
     ensures begins { (words : ℕ → ℕ) (n : ℕ) → 1 ≤ n →
         take 20 (film_of words n) ≡ sequence_and_group }

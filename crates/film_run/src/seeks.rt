@@ -11,13 +11,13 @@ ghost use Rattle.film_run.specs.Seeks.{IsGroupFrom, IsPlaceAfter, IsReversed, St
 use crate::runs::{Run, new_run};
 use mpeg_scan::{Film, Unit, law_film, law_units};
 
-/// Nanoseconds in 25 units of 1/360,000 second, and 9 such units: 25,000 * 10^3 ns are 9 * 10^3
-/// units.
+/// This many nanoseconds are as long as [`UNITS`] units of 1/360,000 second.
 const NANOSECONDS: u128 = 25_000;
 
+/// This many units of 1/360,000 second are as long as [`NANOSECONDS`].
 const UNITS: u128 = 9;
 
-/// No film is as long, in nanoseconds.
+/// Longer than any film, in nanoseconds.
 const LONGEST: u128 = 1 << 64;
 
 /// The new run from a time on, up to another or the film's end, in nanoseconds: from the last group

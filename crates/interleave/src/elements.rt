@@ -33,7 +33,8 @@ pub enum DemuxFault {
 pub fn block_head(channel: u8, length: u16) -> [u8; 4]
     ensures { result ≡ 36 ∷ channel ∷ (length / 256) ∷ (length % 256) ∷ [] }
 {
-    [b'$', channel, (length / 256) as u8, (length % 256) as u8]
+    let [high, low] = length.to_be_bytes();
+    [b'$', channel, high, low]
 }
 
 /// Whether the byte is CR or LF.

@@ -19,7 +19,7 @@ use vod_base::NoMemory;
 pub trait Found {
     ghost heard: { Self → List Call → Type 0 };
 
-    /// the next slice may begin at a place
+    /// That the next slice may begin at a place.
     ghost ready_at: { Self → ℕ → Type 0 } = { λ _ _. Unit {0} };
 
     /// A head, from its unit's first start code to its first slice: 1 to 1,380 bytes.

@@ -281,8 +281,5 @@ fn run_before_zero(bytes: &[u8]) -> usize
     ensures bound { result ≤ length bytes.now }
     ensures run { (k : ℕ) → k < result → slice_index bytes.now k ≢ 0 }
 {
-    match memchr(0, bytes) {
-        None => bytes.len(),
-        Some(count) => count,
-    }
+    memchr(0, bytes).unwrap_or(bytes.len())
 }

@@ -49,8 +49,8 @@ IsPlayRefused old new maker heard asked (PlayOverflow place slot booked bytes) =
 
 -- an offer in the state after these entries: the earliest start within its wait, from the slot
 -- after the heard one and after now on
-pub record IsOffered (steps : List CapacityStep) (entries : List Entry) (heard : ℕ) (plan : List Segment)
-    (told : Offered) (found : Offers) : Type 0 where
+pub record IsOffered (steps : List CapacityStep) (entries : List Entry) (heard : ℕ)
+    (plan : List Segment) (told : Offered) (found : Offers) : Type 0 where
   pub seen_is : told.seen ≡ length entries
   pub first_is : told.first ≡ start_after (state_after entries) (min heard (2 ^ 62))
   pub offer : IsOffer 0 (booked_after entries) (capacity_at steps) plan told.first found

@@ -139,7 +139,8 @@ pub record IsReached (state : Place) (place : ℕ) (now : Option ℕ) (seen vide
   pub seen_is : seen ≡ bytes_of items ++ part
   pub video_is : video ≡ video_of None items ++ kept
   pub is_part :
-      IsPart (begins_at (chosen_after None items) (length (bytes_of items))) place now part kept state
+      IsPart (begins_at (chosen_after None items) (length (bytes_of items)))
+      place now part kept state
 
 -- an unwrapper was fed these bytes, and gave this video
 pub record WasFed (unwrapper : Unwrapper) (seen video : List ℕ) : Type 0 where

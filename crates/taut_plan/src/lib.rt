@@ -1,5 +1,5 @@
-//! The planner: the taut line between two curves, which is the plan whose sending rate varies
-//! least.
+//! The planner: the taut line between two curves, which is the plan that sends the fewest bytes
+//! above any rate.
 #![tactic(auto)]
 
 mod chains;

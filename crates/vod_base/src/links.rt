@@ -7,7 +7,7 @@ ghost use Rattle.vod_base.specs.Links.{Doing, doing_of, IsWithin, sends, told_mo
 
 use crate::outside::LinkFault;
 
-/// The last slot that a connection may begin.
+/// The last slot that a link may tell, 2^62.
 pub const LATEST_SLOT: u64 = 1 << 62;
 
 /// What a connection waited for and heard.
