@@ -3,6 +3,7 @@ mod Cuts
 mod Quiet
 mod ReadLines
 mod ScriptLines
+mod Places
 mod Bookings
 mod Pausing
 mod DaySteps

@@ -5,13 +5,14 @@ use Rattle.std.specs.Prelude.{◌⊎◌}
 use Rattle.std.specs.List.{list_all}
 use Rattle.std.proofs.lemmas.Bool.{and_from, and_parts, cases_lt, cond-false, cond-true}
 use Rattle.std.proofs.lemmas.Bool.{false_from_ne_true, le-leb, leb-true}
+use Rattle.vod_base.specs.Limits.{in_range}
 use Rattle.vod_base.proofs.Written.{decimal_read}
 use Rattle.day_run.specs.declared.scripts.Line.{Line}
 use Rattle.day_run.specs.declared.scripts.Line.TheVariants.{Play, Pause, Resume, Look, Slot, Offer}
 use Rattle.day_run.specs.declared.scripts.SourceKind.{SourceKind}
 use Rattle.day_run.specs.declared.scripts.SourceKind.TheVariants.{Film, Trace}
 use Rattle.day_run.specs.Readings.{Name}
-use Rattle.day_run.specs.Sayings.{in_range, kind_in, number_in}
+use Rattle.day_run.specs.Sayings.{kind_in, number_in}
 use Rattle.day_run.specs.Spelling.{IsAskedInWords, IsInWords, MayStand, asked_words, is_word, kind_text}
 use Rattle.day_run.specs.Spelling.{name_at, words_of}
 use Rattle.day_run.proofs.SpelledLines.{decimal-word, kind-word, name-word}

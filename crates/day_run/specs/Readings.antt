@@ -1,7 +1,8 @@
 -- A script, read line by line.
 use Rattle.std.specs.Prelude.{ℕ, ◌≡◌, ◌-◌, ◌≤◌, Bool, true, false, ◌&&◌, ◌==◌, ◌⊎◌, if◌then◌else◌}
-use Rattle.std.specs.Prelude.{nat_lt, List, [], ◌∷◌, ◌++◌, length, map, take, slice_index_or}
+use Rattle.std.specs.Prelude.{nat_lt, List, [], ◌∷◌, ◌++◌, length, map, take, slice_index_or, All}
 use Rattle.std.specs.Prelude.{Option, Some, None, string_bytes}
+use Rattle.std.specs.BTreeMap.{get_by_text}
 use Rattle.std.specs.List.{position_or_len, slice_split}
 use Rattle.std.specs.Option.{option_and_then}
 use Rattle.std.specs.Str.{bytes_eq}
@@ -19,6 +20,7 @@ use Rattle.day_run.specs.declared.scripts.SourceKind.TheVariants.{Film, Trace}
 use Rattle.day_run.specs.declared.scripts.ScriptRefused.{ScriptRefused}
 use Rattle.day_run.specs.declared.scripts.ScriptRefused.TheVariants.{BadScript, NoMemory}
 use Rattle.day_run.specs.declared.reading.Draft.{Draft}
+use Rattle.day_run.specs.declared.reading.Roster.{Roster}
 use Rattle.day_run.specs.Lines.{is_space, lines_of_script}
 use Rattle.day_run.specs.Sayings.{saying_in}
 use Rattle.day_run.specs.Scripts.{AreLines, latest_slot}
@@ -58,6 +60,11 @@ is_name one other = is_kind one.kind other.kind && bytes_eq one.name other.name
 -- the place of a name, the next one where it is new
 abbrev pub source_in : List Name → Name → ℕ
 source_in names name = position_or_len (is_name name) names
+
+-- the same of a name that is there; None where it is new
+abbrev pub known_place : List Name → Name → Option ℕ
+known_place names name = if nat_lt (source_in names name) (length names)
+    then Some (source_in names name) else None
 
 -- the names, with this one after them where it is new
 abbrev pub with_name : List Name → Name → List Name
@@ -113,7 +120,7 @@ lines_read r (line ∷ lines) = option_and_then (λ next. lines_read next lines)
 abbrev pub reading_of : Draft → Reading
 reading_of draft = record {
   lines = draft.lines.items;
-  names = names_of draft.named.items;
+  names = names_of draft.roster.named.items;
   slot = draft.slot;
 }
 
@@ -128,12 +135,29 @@ abbrev pub IsLineTaken : Bool → Reading → Option Reading → Type 0
 IsLineTaken true new read = read ≡ Some new
 IsLineTaken false new read = read ≡ None
 
+-- a name that a file may have
+abbrev pub HasGoodName : Named → Type 0
+HasGoodName named = is_good_name (string_bytes named.name) ≡ true
+
+-- the places by name are those of the films and traces among these names
+pub record HasPlaces (names : List Name) (roster : Roster) : Type 0 where
+  pub films : (name : List ℕ) →
+      get_by_text roster.films name ≡ known_place names (name_as Film name)
+  pub traces : (name : List ℕ) →
+      get_by_text roster.traces name ≡ known_place names (name_as Trace name)
+
+-- its names are good, and the places by name are theirs
+pub record IsRoster (roster : Roster) : Type 0 where
+  pub good : All HasGoodName roster.named.items
+  pub places : HasPlaces (names_of roster.named.items) roster
+
 -- its lines are those of a script with its names and 256 clients, and the slot is that of their
 -- last `slot` line
 pub record IsDraft (draft : Draft) : Type 0 where
-  pub lines : AreLines (length draft.named.items) draft.lines.items
+  pub lines : AreLines (length draft.roster.named.items) draft.lines.items
   pub clients : AreClients draft.lines.items
   pub slot_is : draft.slot ≡ latest_slot draft.lines.items
+  pub roster : IsRoster draft.roster
 
 -- a text is this script
 pub record IsScript (text : List ℕ) (script : Script) : Type 0 where

@@ -1,8 +1,9 @@
 -- What the words of a line say.
-use Rattle.std.specs.Prelude.{ℕ, ◌≤◌, ◌^◌, ◌&&◌, if◌then◌else◌, nat_le, List, []}
+use Rattle.std.specs.Prelude.{ℕ, ◌≤◌, ◌^◌, if◌then◌else◌, List, []}
 use Rattle.std.specs.Prelude.{◌∷◌, codes, Option, Some, None, option_map}
 use Rattle.std.specs.Option.{option_and_then}
 use Rattle.std.specs.Str.{bytes_eq}
+use Rattle.vod_base.specs.Limits.{in_range}
 use Rattle.vod_base.specs.Numbers.{number_of}
 use Rattle.day_run.specs.declared.sayings.Asked.{Asked}
 use Rattle.day_run.specs.declared.sayings.Saying.{Saying}
@@ -10,12 +11,6 @@ use Rattle.day_run.specs.declared.sayings.Saying.TheVariants.{Play, Pause, Resum
 use Rattle.day_run.specs.declared.sayings.Saying.TheVariants.{Offer}
 use Rattle.day_run.specs.declared.scripts.SourceKind.{SourceKind}
 use Rattle.day_run.specs.declared.scripts.SourceKind.TheVariants.{Film, Trace}
-
--- a number that is in a range
-abbrev pub in_range : ℕ → ℕ → Option ℕ → Option ℕ
-in_range least most None = None
-in_range least most (Some number) = if nat_le least number && nat_le number most
-    then Some number else None
 
 -- the number that a word writes, where it is in a range
 abbrev pub number_in : ℕ → ℕ → List ℕ → Option ℕ

@@ -1,22 +1,24 @@
 //! A script's text, read line by line.
 
-ghost use Rattle.std.specs.Prelude.{◌≡◌, ◌+◌, ◌<◌, ◌≤◌, [], false, true, length, IfOk, IfErr};
-ghost use Rattle.std.specs.Prelude.{IfSome, IfNone, OnOk, MatchOption, slice_index_or};
-ghost use Rattle.std.specs.Prelude.{string_bytes};
+ghost use Rattle.std.specs.Prelude.{◌≡◌, ◌+◌, ◌<◌, ◌≤◌, ◌++◌, ◌∷◌, [], false, true, length, All};
+ghost use Rattle.std.specs.Prelude.{IfOk, IfErr, IfSome, IfNone, None, OnOk, MatchOption};
+ghost use Rattle.std.specs.Prelude.{slice_index_or};
 ghost use Rattle.vod_base.specs.Names.{is_good_name};
 ghost use Rattle.day_run.specs.DayLaws.{AreClients, IsClient};
 ghost use Rattle.day_run.specs.Lines.{texts_at};
 ghost use Rattle.day_run.specs.Sayings.{IsInRange};
 ghost use Rattle.day_run.specs.Scripts.{AreLines, StandsAfter, latest_slot, slot_after};
-ghost use Rattle.day_run.specs.Readings.{IsDraft, IsLineTaken, IsPlaceOf, IsScript};
-ghost use Rattle.day_run.specs.Readings.{IsTextRefused};
-ghost use Rattle.day_run.specs.Readings.{line_read, name_as, named_in, names_of, nothing_read};
-ghost use Rattle.day_run.specs.Readings.{reading_of, source_in, with_line, with_name, with_saying};
+ghost use Rattle.day_run.specs.Readings.{HasGoodName, HasPlaces, IsDraft, IsLineTaken, IsPlaceOf};
+ghost use Rattle.day_run.specs.Readings.{IsRoster, IsScript, IsTextRefused};
+ghost use Rattle.day_run.specs.Readings.{known_place, line_read, name_as, named_in, names_of};
+ghost use Rattle.day_run.specs.Readings.{nothing_read, reading_of, source_in, with_line, with_name};
+ghost use Rattle.day_run.specs.Readings.{with_saying};
 
 use crate::sayings::{Asked, Saying, saying_in};
 use crate::scripts::{Line, Named, Script, ScriptRefused, SourceKind};
 use crate::splits::{first_line, split_words};
 use std::alloc::Global;
+use std::collections::BTreeMap;
 use vod_base::{NoMemory, is_good_name};
 
 /// The most lines of a script.
@@ -26,7 +28,8 @@ const MAX_LINES: u64 = 1_000_000;
 /// counted and passed over; each other one is a line of [`Line`]'s forms, its words one space apart
 /// and its numbers decimal. There are at most 1,000,000.
 ///
-/// It takes time in the text's bytes, and for each line with a name in the names before it.
+/// It takes time in the text's bytes, and for each line with a name in the logarithm of the number
+/// of names before it.
 ///
 /// # Errors
 ///
@@ -37,6 +40,7 @@ pub fn read_script(alloc: Global, text: &[u8]) -> Result<Script, ScriptRefused>
     ensures lines { IfOk result (λ script.
         AreLines (length script.named.items) script.lines.items) }
     ensures clients { IfOk result (λ script. AreClients script.lines.items) }
+    ensures names { IfOk result (λ script. All HasGoodName script.named.items) }
 {
     let mut draft = Draft::new(alloc);
     let mut words = Vec::new(alloc);
@@ -54,20 +58,21 @@ pub fn read_script(alloc: Global, text: &[u8]) -> Result<Script, ScriptRefused>
         rest = next;
     }
     let Draft {
-        alloc: _,
         lines,
-        named,
+        roster,
         slot: _,
     } = draft;
-    Ok(Script { lines, named })
+    Ok(Script {
+        lines,
+        named: roster.into_named(),
+    })
 }
 
 /// A script as far as it was read.
 #[derive(Drop)]
 pub(crate) struct Draft {
-    alloc: Global,
     lines: Vec<Line>,
-    named: Vec<Named>,
+    roster: Roster,
     /// The slot of the last `slot` line, 0 before the first.
     slot: u64,
 }
@@ -79,21 +84,21 @@ impl Draft {
         ensures draft { IsDraft result }
     {
         Draft {
-            alloc,
             lines: Vec::new(alloc),
-            named: Vec::new(alloc),
+            roster: Roster::new(alloc),
             slot: 0,
         }
     }
 
     /// Takes in a line that may stand there.
     fn add(&mut self, line: Line) -> Result<(), NoMemory>
-        requires lines { AreLines (length self.old.named.items) self.old.lines.items }
+        requires lines { AreLines (length self.old.roster.named.items) self.old.lines.items }
         requires clients { AreClients self.old.lines.items }
         requires client { IsClient line }
         requires stands { StandsAfter (latest_slot self.old.lines.items)
-            (length self.old.named.items) line }
+            (length self.old.roster.named.items) line }
         requires slot { self.old.slot ≡ slot_after (latest_slot self.old.lines.items) line }
+        requires roster { IsRoster self.old.roster }
         ensures reading { OnOk result (reading_of self.new ≡ with_line (reading_of self.old) line) }
         ensures draft { OnOk result (IsDraft self.new) }
     {
@@ -103,18 +108,21 @@ impl Draft {
 
     /// The place of the film or trace that is the fourth of these words. None where it is no name.
     fn source(&mut self, words: &[&[u8]], asked: Asked) -> Result<Option<usize>, NoMemory>
+        requires { IsRoster self.old.roster }
         ensures found { IfOk result (λ found. MatchOption found
             (is_good_name (named_in (texts_at words.now) asked).name ≡ false)
             (λ place. IsPlaceOf (reading_of self.old) (reading_of self.new)
             (named_in (texts_at words.now) asked) place)) }
         ensures inside { IfOk result (λ found.
-            IfSome found (λ place. place < length self.new.named.items)) }
-        ensures longer { OnOk result (length self.old.named.items ≤ length self.new.named.items) }
+            IfSome found (λ place. place < length self.new.roster.named.items)) }
+        ensures longer { OnOk result
+            (length self.old.roster.named.items ≤ length self.new.roster.named.items) }
+        ensures roster { OnOk result (IsRoster self.new.roster) }
         ensures lines { OnOk result (self.new.lines.items ≡ self.old.lines.items) }
     {
         match words {
             [_, _, _, name, ..] if is_good_name(name) => {
-                let place = source_of(self.alloc, &mut self.named, asked.kind, name)?;
+                let place = self.roster.source_of(asked.kind, text_of(name))?;
                 Ok(Some(place))
             }
             _ => Ok(None),
@@ -133,11 +141,13 @@ impl Draft {
             IfNone found (with_saying (reading_of self.old) (texts_at words.now) saying ≡ None)) }
         ensures stands { IfOk result (λ found. IfSome found
             (λ line. StandsAfter (latest_slot self.old.lines.items)
-            (length self.new.named.items) line)) }
+            (length self.new.roster.named.items) line)) }
         ensures client { IfOk result (λ found. IfSome found IsClient) }
         ensures slot { IfOk result (λ found. IfSome found
             (λ line. self.new.slot ≡ slot_after (latest_slot self.old.lines.items) line)) }
-        ensures longer { OnOk result (length self.old.named.items ≤ length self.new.named.items) }
+        ensures longer { OnOk result
+            (length self.old.roster.named.items ≤ length self.new.roster.named.items) }
+        ensures roster { OnOk result (IsRoster self.new.roster) }
         ensures lines { OnOk result (self.new.lines.items ≡ self.old.lines.items) }
     {
         match saying {
@@ -223,48 +233,116 @@ fn offer_line(asked: Asked, source: usize, wait: u64) -> Line
 }
 
 /// A name as a text.
-fn text_of(alloc: Global, name: &[u8]) -> Result<String, NoMemory>
+fn text_of(name: &[u8]) -> &str
     requires { is_good_name name.now ≡ true }
-    ensures { IfOk result (λ text. string_bytes text ≡ name.now) }
+    ensures { result.now ≡ name.now }
 {
     match str::from_utf8(name) {
-        Ok(text) => Ok(String::from_str(alloc, text)?),
+        Ok(text) => text,
         Err(_) => unreachable!(),
     }
 }
 
-/// Where a name stands among these, or how many they are.
-fn place_of(named: &[Named], kind: SourceKind, name: &[u8]) -> usize
-    ensures value { result ≡ source_in (names_of named.now) (name_as kind name.now) }
-    ensures most { result ≤ length named.now }
-{
-    for (place, other) in named.iter().enumerate() {
-        if kind == other.kind && name == other.name.as_bytes() {
-            return place;
-        }
-    }
-    named.len()
+/// The films and traces that lines name.
+#[derive(Drop)]
+pub(crate) struct Roster {
+    alloc: Global,
+    /// Each once, in the order of the lines that name them first.
+    named: Vec<Named>,
+    /// The place of each film among them, by its name.
+    films: BTreeMap<String, usize>,
+    /// The place of each trace among them, by its name.
+    traces: BTreeMap<String, usize>,
 }
 
-/// The place of a film or trace among the names, which have it from now on.
-fn source_of(
-    alloc: Global,
-    named: &mut Vec<Named>,
-    kind: SourceKind,
-    name: &[u8],
-) -> Result<usize, NoMemory>
-    requires { is_good_name name.now ≡ true }
-    ensures inside { IfOk result (λ place. place < length named.new.items) }
-    ensures longer { OnOk result (length named.old.items ≤ length named.new.items) }
-    ensures place { IfOk result (λ place. place ≡
-        source_in (names_of named.old.items) (name_as kind name.now)) }
-    ensures names { OnOk result (names_of named.new.items ≡
-        with_name (names_of named.old.items) (name_as kind name.now)) }
-{
-    let place = place_of(named, kind, name);
-    if place == named.len() {
-        let name = text_of(alloc, name)?;
-        named.push(Named { kind, name })?;
+impl Roster {
+    /// A roster of no names.
+    fn new(alloc: Global) -> Roster
+        ensures none { result.named.items ≡ [] }
+        ensures roster { IsRoster result }
+    {
+        Roster {
+            alloc,
+            named: Vec::new(alloc),
+            films: BTreeMap::new(alloc),
+            traces: BTreeMap::new(alloc),
+        }
     }
-    Ok(place)
+
+    /// Gives the films and traces back.
+    fn into_named(self) -> Vec<Named>
+        ensures { result ≡ self.named }
+    {
+        self.named
+    }
+
+    /// The place of a film or trace among them; None where it is new.
+    fn place_of(&self, kind: SourceKind, name: &str) -> Option<usize>
+        requires { IsRoster self.now }
+        ensures { result ≡ known_place (names_of self.now.named.items) (name_as kind name.now) }
+    {
+        match kind {
+            SourceKind::Film => self.films.get(name).copied(),
+            SourceKind::Trace => self.traces.get(name).copied(),
+        }
+    }
+
+    /// Notes that a new film or trace comes after those that there are.
+    fn note(&mut self, kind: SourceKind, name: &str) -> Result<(), NoMemory>
+        requires places { HasPlaces (names_of self.old.named.items) self.old }
+        requires fresh { known_place (names_of self.old.named.items) (name_as kind name.now)
+            ≡ None }
+        ensures places { OnOk result (HasPlaces
+            (names_of self.old.named.items ++ name_as kind name.now ∷ []) self.new) }
+        ensures named { OnOk result (self.new.named.items ≡ self.old.named.items) }
+    {
+        let key = String::from_str(self.alloc, name)?;
+        let place = self.named.len();
+        match kind {
+            SourceKind::Film => {
+                self.films.insert(key, place)?;
+                Ok(())
+            }
+            SourceKind::Trace => {
+                self.traces.insert(key, place)?;
+                Ok(())
+            }
+        }
+    }
+
+    /// Takes in a new film or trace.
+    fn add(&mut self, kind: SourceKind, name: &str) -> Result<(), NoMemory>
+        requires roster { IsRoster self.old }
+        requires good { is_good_name name.now ≡ true }
+        requires fresh { known_place (names_of self.old.named.items) (name_as kind name.now)
+            ≡ None }
+        ensures roster { OnOk result (IsRoster self.new) }
+        ensures names { OnOk result (names_of self.new.named.items ≡
+            names_of self.old.named.items ++ name_as kind name.now ∷ []) }
+    {
+        self.note(kind, name)?;
+        let name = String::from_str(self.alloc, name)?;
+        self.named.push(Named { kind, name })?;
+        Ok(())
+    }
+
+    /// The place of a film or trace among them, which have it from now on.
+    fn source_of(&mut self, kind: SourceKind, name: &str) -> Result<usize, NoMemory>
+        requires roster { IsRoster self.old }
+        requires good { is_good_name name.now ≡ true }
+        ensures roster { OnOk result (IsRoster self.new) }
+        ensures inside { IfOk result (λ place. place < length self.new.named.items) }
+        ensures longer { OnOk result (length self.old.named.items ≤ length self.new.named.items) }
+        ensures place { IfOk result (λ place. place ≡
+            source_in (names_of self.old.named.items) (name_as kind name.now)) }
+        ensures names { OnOk result (names_of self.new.named.items ≡
+            with_name (names_of self.old.named.items) (name_as kind name.now)) }
+    {
+        if let Some(place) = self.place_of(kind, name) {
+            return Ok(place);
+        }
+        let place = self.named.len();
+        self.add(kind, name)?;
+        Ok(place)
+    }
 }

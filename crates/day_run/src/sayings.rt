@@ -4,14 +4,14 @@ ghost use Rattle.std.specs.Prelude.{◌≡◌, ◌≤◌, ◌^◌, IfSome};
 ghost use Rattle.std.specs.Str.{bytes_eq};
 ghost use Rattle.vod_base.specs.Numbers.{number_of};
 ghost use Rattle.day_run.specs.Lines.{texts_at};
-ghost use Rattle.day_run.specs.Sayings.{IsAskedInRange, IsInRange, asked_in, kind_in, number_in};
-ghost use Rattle.day_run.specs.Sayings.{client_in, pair_in, play_in, offer_in, saying_in};
+ghost use Rattle.day_run.specs.Sayings.{IsAskedInRange, IsInRange, asked_in, kind_in, client_in};
+ghost use Rattle.day_run.specs.Sayings.{pair_in, play_in, offer_in, saying_in};
 
 use crate::all_clients::CLIENTS;
 use crate::scripts::SourceKind;
 use admission::LATEST_SLOT;
 use early_start::MAX_WAIT;
-use vod_base::read_number;
+use vod_base::number_within;
 
 /// What a play or an offer asks for; its film or trace is the line's fourth word.
 #[derive(Clone, Copy)]
@@ -64,22 +64,11 @@ fn is_text(word: &[u8], text: &[u8]) -> bool
     word == text
 }
 
-/// The number that a word writes, from `least` to `most`.
-fn number_in(word: &[u8], least: u64, most: u64) -> Option<u64>
-    ensures number { result ≡ number_in least most word.now }
-    ensures range { IfSome result (λ number. (least ≤ number) × (number ≤ most)) }
-{
-    match read_number(word) {
-        Ok(number) if least <= number && number <= most => Some(number),
-        _ => None,
-    }
-}
-
 /// The client that a word names.
 fn client_in(word: &[u8]) -> Option<u8>
     ensures { result ≡ client_in word.now }
 {
-    let number = number_in(word, 0, CLIENTS as u64 - 1)?;
+    let number = number_within(word, 0, CLIENTS as u64 - 1)?;
     Some(number as u8)
 }
 
@@ -103,8 +92,8 @@ fn asked_in(client: &[u8], kind: &[u8], buffer: &[u8], delay: &[u8]) -> Option<A
 {
     let client = client_in(client)?;
     let kind = kind_in(kind)?;
-    let buffer = number_in(buffer, 1, 1 << 42)?;
-    let delay = number_in(delay, 0, 10_000)?;
+    let buffer = number_within(buffer, 1, 1 << 42)?;
+    let delay = number_within(delay, 0, 10_000)?;
     Some(Asked {
         client,
         kind,
@@ -127,11 +116,11 @@ fn pair_in(verb: &[u8], word: &[u8]) -> Option<Saying>
         return Some(Saying::Resume(client));
     }
     if is_text(verb, b"look") {
-        let slot = number_in(word, 0, LATEST_SLOT)?;
+        let slot = number_within(word, 0, LATEST_SLOT)?;
         return Some(Saying::Look(slot));
     }
     if is_text(verb, b"slot") {
-        let slot = number_in(word, 1, LATEST_SLOT)?;
+        let slot = number_within(word, 1, LATEST_SLOT)?;
         return Some(Saying::Slot(slot));
     }
     None
@@ -160,6 +149,6 @@ fn offer_in(verb: &[u8], asked: Option<Asked>, wait: &[u8]) -> Option<Saying>
         return None;
     }
     let asked = asked?;
-    let wait = number_in(wait, 0, MAX_WAIT)?;
+    let wait = number_within(wait, 0, MAX_WAIT)?;
     Some(Saying::Offer(asked, wait))
 }

@@ -50,6 +50,7 @@ returns-clause-script c =
     record {
       few = omega (arith, inv.few, all);
       slot = c.loop-line.draft.slot;
-      read = ap (lines_read nothing_read) (sym (take_all c.loop-line.number (lines_of_script c.args.text.now) all))
-          ∙ inv.read;
+      read = rw c.into_named.ensures
+          (ap (lines_read nothing_read) (sym (take_all c.loop-line.number (lines_of_script c.args.text.now) all))
+          ∙ inv.read);
     }
