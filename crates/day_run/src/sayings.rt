@@ -1,8 +1,7 @@
 //! What a line says.
 
-ghost use Rattle.std.specs.Prelude.{◌≡◌, ◌≤◌, ◌^◌, IfSome};
+ghost use Rattle.std.specs.Prelude.{◌≡◌, IfSome};
 ghost use Rattle.std.specs.Str.{bytes_eq};
-ghost use Rattle.vod_base.specs.Numbers.{number_of};
 ghost use Rattle.day_run.specs.Lines.{texts_at};
 ghost use Rattle.day_run.specs.Sayings.{IsAskedInRange, IsInRange, asked_in, kind_in, client_in};
 ghost use Rattle.day_run.specs.Sayings.{pair_in, play_in, offer_in, saying_in};

@@ -18,9 +18,10 @@ returns-in_ok-insert-in-Film-clause-places c =
     c.in_ok-insert-in-Film.ensures.updates in
     let is : c.args.kind ≡ Film = c.in-Film.is in
     let fresh = subst (λ (k : SourceKind). known_place names (name_as k name) ≡ None) is c.requires.fresh in
+    let more : Name = name_as Film name in
     rw is (record {
-      films = places-more names (name_as Film name) fresh c.requires.places.films (rw (key, count) at sets);
-      traces = λ other. c.requires.places.traces other ∙ places-stay names (name_as Film name) (name_as Trace other) refl;
+      films = places-more names more fresh c.requires.places.films (rw (key, count) at sets);
+      traces = λ other. c.requires.places.traces other ∙ places-stay names more (name_as Trace other) refl;
     })
 
 pub returns-in_ok-insert-in-Trace-clause-places : goal.returns-in_ok-insert-in-Trace-clause-places
@@ -34,7 +35,8 @@ returns-in_ok-insert-in-Trace-clause-places c =
     c.in_ok-insert-in-Trace.ensures.updates in
     let is : c.args.kind ≡ Trace = c.in-Trace.is in
     let fresh = subst (λ (k : SourceKind). known_place names (name_as k name) ≡ None) is c.requires.fresh in
+    let more : Name = name_as Trace name in
     rw is (record {
-      films = λ other. c.requires.places.films other ∙ places-stay names (name_as Trace name) (name_as Film other) refl;
-      traces = places-more names (name_as Trace name) fresh c.requires.places.traces (rw (key, count) at sets);
+      films = λ other. c.requires.places.films other ∙ places-stay names more (name_as Film other) refl;
+      traces = places-more names more fresh c.requires.places.traces (rw (key, count) at sets);
     })
