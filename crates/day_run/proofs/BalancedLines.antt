@@ -16,7 +16,7 @@ use Rattle.admission.proofs.Runs.{state-push}
 use Rattle.day_run.specs.declared.scripts.Line.{Line}
 use Rattle.day_run.specs.declared.scripts.Line.TheVariants as lines
 use Rattle.day_run.specs.Days.{AreRun, IsAsked, IsHaltedPlay, IsLine, IsLookLine, IsOfferLine}
-use Rattle.day_run.specs.Days.{IsPauseLine, IsPlayLine, IsResumeLine, Link, Moment, at_slot}
+use Rattle.day_run.specs.Days.{IsPauseLine, IsResumeLine, Link, Moment, at_slot}
 use Rattle.day_run.specs.Days.{booked_up_to, entry_by, first_moment, rest_at, state_at, sent_up_to, with_play}
 use Rattle.day_run.specs.Scripts.{slot_after}
 use Rattle.day_run.specs.ClientStates.{Idle, Playing, Pausing, Paused, Play, Rest, ClientState}
@@ -24,7 +24,7 @@ use Rattle.day_run.specs.ClientStates.{after_play, after_sending, sent_by}
 use Rattle.day_run.specs.Balanced.{AreHeldOf, IsBalanced, IsReady, share_of}
 use Rattle.day_run.proofs.Balances.{IsShut, balanced-halt, balanced-play, balanced-same, balanced-sent}
 use Rattle.day_run.proofs.BalancedSlots.{balanced-slot, pausing-share}
-use Rattle.day_run.proofs.Takings.{AskedPlay, ClientOf, LineStep, LinesTaken, StandingLine}
+use Rattle.day_run.proofs.Takings.{AskedPlay, ClientOf, IsPlayTaken, LineStep, LinesTaken, StandingLine}
 use Rattle.day_run.proofs.Takings.{StandingLines, first-standing, rest-standing, standing_of}
 
 pub ready-kept : (old new : Moment) → new ≡ old → IsReady old → IsReady new
@@ -85,7 +85,7 @@ asked {c} {rest} {old} {new} {text} client free (inr planned) ready = elim plann
 ]
 
 pub play-ready : {c : ℕ} {state : ClientState} (step : LineStep) (rest : Rest) → ClientOf step.old c state
-    → IsPlayLine step.link c rest state step.old step.new step.text → IsReady step.old → IsReady step.new
+    → IsPlayTaken step c rest state → IsReady step.old → IsReady step.new
 play-ready {c} {state = Idle} step rest own is ready = asked own.client (λ t. ap (share_of t) own.at) is ready
 play-ready {c} {state = Playing play} step rest own is ready = ready-kept step.old step.new is.kept ready
 play-ready {c} {state = Pausing stop left} step rest own is ready = ready-kept step.old step.new is.kept ready
@@ -200,7 +200,7 @@ asked-heard {c} {new} {text} (inr planned) = elim planned.done [
 ]
 
 pub play-heard : (step : LineStep) (c : ℕ) (rest : Rest) (state : ClientState)
-    → IsPlayLine step.link c rest state step.old step.new step.text → step.new.heard ≡ step.old.heard
+    → IsPlayTaken step c rest state → step.new.heard ≡ step.old.heard
 play-heard step c rest Idle is = asked-heard is
 play-heard step c rest (Playing play) is = ap (λ (m : Moment). m.heard) is.kept
 play-heard step c rest (Pausing stop left) is = ap (λ (m : Moment). m.heard) is.kept

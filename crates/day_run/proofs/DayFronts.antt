@@ -14,11 +14,12 @@ use Rattle.admission.proofs.Runs.{legal-take}
 use Rattle.admission.proofs.Within.{sound-after}
 use Rattle.day_run.specs.declared.scripts.Line.{Line}
 use Rattle.day_run.specs.declared.scripts.Line.TheVariants.{Play, Pause, Resume, Look, Slot, Offer}
-use Rattle.day_run.specs.ClientStates.{ClientState, Idle, Playing, Pausing, Paused, Rest}
+use Rattle.day_run.specs.ClientStates.{ClientState, Idle, IfBusy, Playing, Pausing, Paused, Rest}
 use Rattle.day_run.specs.DayLaws.{AreClients, IsClient, KeepsAfter}
 use Rattle.day_run.specs.Days.{AreRun, IsAsked, IsDay, IsLine, IsLookLine, IsNoted, IsOfferLine}
-use Rattle.day_run.specs.Days.{IsPauseLine, IsPlayLine, IsResumeLine, IsTold, Link, Moment}
+use Rattle.day_run.specs.Days.{IsPauseLine, IsResumeLine, IsTold, Link, Moment}
 use Rattle.day_run.specs.Days.{halts_at, last_halts, rest_at, sent_up_to, state_at}
+use Rattle.day_run.specs.Prints.{state_text}
 use Rattle.day_run.specs.Scripts.{AreLines, StandsAfter, latest_slot}
 use Rattle.day_run.proofs.BalancedLines.{day-sent}
 use Rattle.day_run.proofs.Takings.{LinesTaken}
@@ -53,7 +54,7 @@ asked-grows (inr planned) = elim planned.done [
 ]
 
 play-grows : (link : Link) (c : ℕ) (rest : Rest) (text : List ℕ) {old new : Moment} (state : ClientState)
-    → IsPlayLine link c rest state old new text → Grows old new
+    → IfBusy state (IsTold state_text old new text) (IsAsked link c rest old new text) → Grows old new
 play-grows link c rest text Idle is = asked-grows is
 play-grows link c rest text (Playing play) is = told-grows is
 play-grows link c rest text (Pausing stop left) is = told-grows is

@@ -7,7 +7,7 @@ use Rattle.day_run.specs.declared.scripts.Line.{Line}
 use Rattle.day_run.specs.declared.scripts.Line.TheVariants.{Play, Pause, Resume}
 use Rattle.day_run.specs.Days.{IsLine, IsTold, Link, Moment}
 use Rattle.day_run.specs.DayLaws.{IsDrawnLine, IsDrawnTurn}
-use Rattle.day_run.specs.FairDays.{IsDone, IsTurn, Turn, state_in}
+use Rattle.day_run.specs.FairDays.{IsDone, IsTurn, Turn, line_drawn, state_in}
 use Rattle.day_run.specs.ClientStates.{Idle, Paused, Pausing, Playing, ClientState}
 
 -- nothing, or a line
@@ -17,7 +17,7 @@ HasDone link old new text =
 
 drawn-done : {link : Link} {client : ℕ} {old new : Moment} {text : List ℕ} (words : ℕ → ℕ) (state : ClientState)
     → client < 256
-    → IsDone link words client state old new text → HasDone link old new text
+    → IsDone link (line_drawn words client state) old new text → HasDone link old new text
 drawn-done {client} {new} {text} words Idle small is =
     let source = mod_below (words 0) 16 (omega arith) in
     let buffer = mod_below (words 1) 16384 (omega arith) in

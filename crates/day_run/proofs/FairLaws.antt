@@ -15,14 +15,14 @@ use Rattle.admission.specs.Machine.{booked_in}
 use Rattle.admission.proofs.Runs.{legal-take}
 use Rattle.admission.proofs.Within.{sound-after}
 use Rattle.day_run.specs.Balanced.{IsReady}
-use Rattle.day_run.specs.Days.{IsAsked, IsPauseLine, IsPlayLine, IsResumeLine, Link, Moment}
+use Rattle.day_run.specs.Days.{IsAsked, IsPauseLine, IsResumeLine, Link, Moment}
 use Rattle.day_run.specs.Days.{at_slot, halts_at, last_halts, last_journal, rest_at, state_at}
 use Rattle.day_run.specs.FairDays.{AreTurns, IsDone, IsTurn, Turn, after_turn, at_later, client_of}
-use Rattle.day_run.specs.FairDays.{most_up_to, turn_booked, turn_peak, turn_sent}
+use Rattle.day_run.specs.FairDays.{line_drawn, most_up_to, turn_booked, turn_peak, turn_sent}
 use Rattle.day_run.specs.ClientStates.{Rest, ClientState, Idle, Playing, Pausing, Paused}
 use Rattle.day_run.proofs.BalancedLines.{pause-heard, play-heard, ready-sent, resume-heard, slot-ready}
 use Rattle.day_run.proofs.FairTurns.{done-ready}
-use Rattle.day_run.proofs.Takings.{LineStep}
+use Rattle.day_run.proofs.Takings.{IsPlayTaken, LineStep}
 
 -- ---- what is sent is what is booked
 pub later-ready : (old : Moment) (later : ℕ) → IsReady old → IsReady (at_later old later)
@@ -93,7 +93,7 @@ asked-grown {c} {old} {new} {text} (inr planned) = elim planned.done [
 ]
 
 play-grown : (step : LineStep) (c : ℕ) (rest : Rest) (state : ClientState)
-    → IsPlayLine step.link c rest state step.old step.new step.text → HasGrown step.old.entries step.new.entries
+    → IsPlayTaken step c rest state → HasGrown step.old.entries step.new.entries
 play-grown step c rest Idle is = asked-grown is
 play-grown step c rest (Playing play) is = kept-grown step.old step.new is.kept
 play-grown step c rest (Pausing stop left) is = kept-grown step.old step.new is.kept
@@ -114,7 +114,8 @@ pause-grown step c (Pausing stop rest) is = kept-grown step.old step.new is.kept
 pause-grown step c (Paused rest) is = kept-grown step.old step.new is.kept
 
 done-grown : (step : LineStep) (words : ℕ → ℕ) (c : ℕ) (state : ClientState)
-    → IsDone step.link words c state step.old step.new step.text → HasGrown step.old.entries step.new.entries
+    → IsDone step.link (line_drawn words c state) step.old step.new step.text
+    → HasGrown step.old.entries step.new.entries
 done-grown step words c Idle is =
     play-grown step c (rest_at step.link (words 0 % 16) (16384 + words 1 % 16384) (words 2 % 26))
     (state_at step.old c) is
@@ -185,8 +186,8 @@ pub record TurnRun (turns : List Turn) : Type 0 where
   pub new : Moment
   pub run : AreTurns link words turns old new
 
-pub turns-within : {steps : List CapacityStep} {journal : List Entry} {most : ℕ} (turns : List Turn) (come : TurnRun turns)
-    (top : ℕ)
+pub turns-within : {steps : List CapacityStep} {journal : List Entry} {most : ℕ} (turns : List Turn)
+    (come : TurnRun turns) (top : ℕ)
     → GrownJournal steps journal come.new most → top ≤ most → fold max top (map turn_peak turns) ≤ most
 turns-within [] come top given small = small
 turns-within {journal} {most} (turn ∷ turns) come top given small =
@@ -210,7 +211,7 @@ evening-grown evening journal is = record { made = last_halts evening; new_is = 
 
 -- ---- a turn brings at most three slots
 pub done-heard : (step : LineStep) (words : ℕ → ℕ) (c : ℕ) (state : ClientState)
-    → IsDone step.link words c state step.old step.new step.text → step.new.heard ≡ step.old.heard
+    → IsDone step.link (line_drawn words c state) step.old step.new step.text → step.new.heard ≡ step.old.heard
 done-heard step words c Idle is =
     play-heard step c (rest_at step.link (words 0 % 16) (16384 + words 1 % 16384) (words 2 % 26))
     (state_at step.old c) is

@@ -2,7 +2,7 @@
 use Rattle.std.proofs.Common.{◌≡◌, ◌<◌, ◌+◌, ◌-◌, ◌^◌, ◌%◌, ℕ, max, Bool, cond, List, [], ◌∷◌, ◌++◌}
 use Rattle.std.proofs.Common.{length, map, get_or, arith, Result, Ok, Err, IfOk, refl}
 use Rattle.std.proofs.Common.{sym, ap, subst, ◌∙◌}
-use Rattle.std.specs.Prelude.{OnOk, count_by, sum_by}
+use Rattle.std.specs.Prelude.{OnOk, sum_by}
 use Rattle.std.specs.List.{fold, range_with_len}
 use Rattle.std.proofs.lemmas.List.{length-append, map-append}
 use Rattle.std.proofs.lemmas.List.Sums.{sum_by_push}
@@ -13,14 +13,14 @@ use Rattle.admission.specs.declared.entries.Entry.{Entry}
 use Rattle.admission.specs.Histories.{state_after}
 use Rattle.admission.specs.Machine.{booked_in}
 use Rattle.day_run.specs.declared.counts.Counts.{Counts}
-use Rattle.day_run.specs.declared.counts.Made.{Made}
+use Rattle.day_run.specs.declared.counts.EntryCounts.{EntryCounts}
 use Rattle.day_run.specs.declared.clients.Client.{Client}
 use Rattle.day_run.specs.Clients.{state_of}
 use Rattle.day_run.specs.Balanced.{IsReady}
 use Rattle.day_run.specs.Days.{Link, Moment, last_journal, IsPlayLine, first_moment, rest_at, state_at}
 use Rattle.day_run.specs.FairDays.{AreTurns, IsDone, IsTurn, Turn, after_traces, after_turn}
 use Rattle.day_run.specs.FairDays.{at_later, counts_of, fair_link, IsFair, is_full_line, is_refused}
-use Rattle.day_run.specs.FairDays.{made_of, turn_booked, turn_peak, turn_sent, words_for}
+use Rattle.day_run.specs.FairDays.{line_drawn, line_in, entry_counts_of, turn_booked, turn_peak, turn_sent, words_for}
 use Rattle.day_run.specs.Fairs.{HasCome, HasTurned, after_turns, with_slot, with_turn}
 use Rattle.day_run.specs.Prints.{fair_text}
 use Rattle.day_run.specs.declared.runners.Told.{Told}
@@ -35,7 +35,7 @@ use Rattle.day_run.proofs.Peaks.{peak-push}
 
 -- ---- what a client does keeps the balance
 pub done-ready : {c : ℕ} {state : ClientState} (step : LineStep) (words : ℕ → ℕ) → ClientOf step.old c state
-    → IsDone step.link words c state step.old step.new step.text → IsReady step.old → IsReady step.new
+    → IsDone step.link (line_drawn words c state) step.old step.new step.text → IsReady step.old → IsReady step.new
 done-ready {c} {state = Idle} step words own is ready =
     play-ready step (rest_at step.link (words 0 % 16) (16384 + words 1 % 16384) (words 2 % 26))
     (record { client = own.client; at = refl }) is ready
@@ -94,7 +94,7 @@ pub record TurnSteps (link here : Link) (w w1 w2 w3 : ℕ → ℕ) (later client
   pub later_is : later ≡ w 0 % 4
   pub who : client ≡ w1 0 % 256
   pub slot : turn.mid ≡ at_later turn.old later
-  pub done : IsDone here w2 client (state_at turn.mid client) turn.mid turn.new turn.text
+  pub done : IsDone here (line_drawn w2 client (state_at turn.mid client)) turn.mid turn.new turn.text
   pub left : w3 ≡ words_after (words_for (state_at turn.mid client)) w2
   pub counted : c1 ≡ with_slot c turn.old turn.mid.heard
   pub told : is_full_line turn.text ≡ full
@@ -115,11 +115,11 @@ turn-of {here} {w} {w2} {later} {client} {c} {full} turn steps =
     let who-is : client ≡ w 1 % 256 = who ∙ ap (λ (f : ℕ → ℕ). f 0 % 256) one
     ∙ ap (λ k. k % 256) (words_after-at 1 w 0) in
     let second : w2 ≡ words_after 2 w = two ∙ ap (words_after 1) one ∙ words_after-twice 1 1 w in
-    let D : ℕ → Type 0 = λ k. IsDone here w2 k (state_at turn.mid k) turn.mid turn.new turn.text in
+    let D : ℕ → Type 0 = λ k. IsDone here (line_drawn w2 k (state_at turn.mid k)) turn.mid turn.new turn.text in
     let W : (ℕ → ℕ) → Type 0 =
-    λ f. IsDone here f (w 1 % 256) (state_at turn.mid (w 1 % 256)) turn.mid turn.new turn.text in
+    λ f. IsDone here (line_drawn f (w 1 % 256) (state_at turn.mid (w 1 % 256))) turn.mid turn.new turn.text in
     let L : Link → Type 0 =
-    λ x. IsDone x (words_after 2 w) (w 1 % 256) (state_at turn.mid (w 1 % 256)) turn.mid turn.new turn.text in
+    λ x. IsDone x (line_in w turn) turn.mid turn.new turn.text in
     record {
       turn = turn;
       old_is = refl;
@@ -207,12 +207,12 @@ come-next {link} {here} {words} {left} {next} {more} {old} {new} same come turne
 
 -- a day of turns
 pub fair-of : {here : Link} {steps : List CapacityStep} {number plays : ℕ} {words left : ℕ → ℕ} {counts : Counts}
-    {made : Made} {evening : Moment} {text : List ℕ} {journal : List Entry}
+    {entries : EntryCounts} {evening : Moment} {text : List ℕ} {journal : List Entry}
     → here ≡ fair_link steps (words_of number) → words ≡ after_traces 16 (words_of number)
     → HasCome here words left plays counts evening
-    → journal ≡ last_journal evening → made ≡ made_of journal → text ≡ fair_text counts made
+    → journal ≡ last_journal evening → entries ≡ entry_counts_of journal → text ≡ fair_text counts entries
     → IsFair steps number plays text journal
-fair-of {here} {steps} {number} {words} {left} {made} {evening} {text} same w come j m t =
+fair-of {here} {steps} {number} {words} {left} {entries} {evening} {text} same w come j m t =
     let L : Link → Type 0 = λ x. AreTurns x words come.turns first_moment evening in
     let W : (ℕ → ℕ) → Type 0 = λ x. AreTurns (fair_link steps (words_of number)) x come.turns first_moment evening in
     record {
@@ -221,7 +221,7 @@ fair-of {here} {steps} {number} {words} {left} {made} {evening} {text} same w co
       count = come.count;
       run = subst W w (subst L same come.run);
       journal_is = j;
-      text_is = t ∙ ap (λ c. fair_text c made) come.counts_are ∙ ap (fair_text (counts_of come.turns evening)) m;
+      text_is = t ∙ ap (λ c. fair_text c entries) come.counts_are ∙ ap (fair_text (counts_of come.turns evening)) m;
     }
 
 -- ---- words that are drawn one after the other
@@ -247,15 +247,15 @@ pub record SameDraws (s b d source buffer delay : ℕ) : Type 0 where
   pub buffers_are : b ≡ buffer
   pub delays_are : d ≡ delay
 
-pub line-drawn : {s b d source buffer delay : ℕ} (r : Result Told NoMemory) (asks : ClientAsks) (state : ClientState)
+pub play-drawn : {s b d source buffer delay : ℕ} (r : Result Told NoMemory) (asks : ClientAsks)
     → SameDraws s b d source buffer delay
-    → IfOk r (λ told. IsPlayLine asks.link asks.client (rest_at asks.link s b d) state asks.old asks.new
+    → IfOk r (λ told. IsPlayLine asks.link asks.client (rest_at asks.link s b d) asks.old asks.new
     (told_text asks.entries told))
-    → IfOk r (λ told. IsPlayLine asks.link asks.client (rest_at asks.link source buffer delay) state asks.old
+    → IfOk r (λ told. IsPlayLine asks.link asks.client (rest_at asks.link source buffer delay) asks.old
     asks.new (told_text asks.entries told))
-line-drawn {s} {b} {d} {source} {buffer} {delay} r asks state draws is =
+play-drawn {s} {b} {d} {source} {buffer} {delay} r asks draws is =
     let P : Rest → Type 0 =
-    λ rest. IfOk r (λ told. IsPlayLine link client rest state old new (told_text entries told)) in
+    λ rest. IfOk r (λ told. IsPlayLine link client rest old new (told_text entries told)) in
     let e : rest_at link s b d ≡ rest_at link source buffer delay =
     ap (λ k. rest_at link k b d) es ∙ ap (λ k. rest_at link source k d) eb ∙ ap (rest_at link source buffer) ed in
     subst P e is
@@ -285,10 +285,11 @@ no-words {w} stands none = none-left w _ (ap words_for (state-there stands) ∙ 
 
 -- what the drawn client does, by what it is
 pub done-as : {clients : List Client} {c : ℕ} {client is : Client} (step : LineStep) (w : ℕ → ℕ)
-    → StandsAt clients c client → client ≡ is → IsDone step.link w c (state_of is) step.old step.new step.text
-    → IsDone step.link w c (get_or (map state_of clients) c Idle) step.old step.new step.text
+    → StandsAt clients c client → client ≡ is
+    → IsDone step.link (line_drawn w c (state_of is)) step.old step.new step.text
+    → IsDone step.link (line_drawn w c (get_or (map state_of clients) c Idle)) step.old step.new step.text
 done-as {c} step w stands same own =
-    let S : ClientState → Type 0 = λ s. IsDone step.link w c s step.old step.new step.text in
+    let S : ClientState → Type 0 = λ s. IsDone step.link (line_drawn w c s) step.old step.new step.text in
     subst S (sym (state-there stands ∙ ap state_of same)) own
 
 pub ready-morning : (m : Moment) → m ≡ first_moment → IsReady m

@@ -18,6 +18,7 @@ mod FairTurns
 mod FairLaws
 mod SoundClients
 pub mod OneDay
+pub mod OneFair
 mod PastSlots
 mod FairLines
 mod Balances

@@ -25,10 +25,11 @@ use Rattle.vod_base.specs.declared.outside.NoMemory.{NoMemory}
 use Rattle.day_run.specs.Clients.{AreIdle, IsPauseOf, IsQuiet, IsTimed, play_of, rest_of, state_of}
 use Rattle.report.specs.JournalTexts.{journal_text}
 use Rattle.day_run.specs.Days.{IsAsked, IsFull, IsNoted, IsPauseLine, IsPlayLine, IsTold, Link}
-use Rattle.day_run.specs.Days.{Moment, done_halt, entry_by, halt_entries, with_play}
+use Rattle.day_run.specs.Days.{Moment, done_halt, entry_by, halt_entries, state_at, with_play}
 use Rattle.day_run.specs.Prints.{full_text, state_text}
 use Rattle.day_run.specs.Runners.{told_text}
-use Rattle.day_run.specs.ClientStates.{Idle, Playing, Pausing, Paused, Rest, ClientState, after_sending, is_busy}
+use Rattle.day_run.specs.ClientStates.{Idle, Playing, Pausing, Paused, Rest, ClientState, IfBusy, after_sending}
+use Rattle.day_run.specs.ClientStates.{is_busy}
 use Rattle.day_run.proofs.Sweeps.{state-at, states-set}
 use Rattle.day_run.proofs.Takings.{ClientAsks}
 use Rattle.day_run.proofs.Timings.{done-sent}
@@ -164,8 +165,8 @@ pub record PlayAdmitted (slot start heard : ℕ) (answer : Answer) (steps : List
   pub late : slot ≡ heard
 
 -- a play that was admitted hasn't come to its first slot
-pub begun-timed : {slot start heard : ℕ} {answer : Answer} {steps : List CapacityStep} {state : State} {plan : List Segment}
-    (play : ClientPlay) → PlayAdmitted slot start heard answer steps state plan → play.pacer.start ≡ start
+pub begun-timed : {slot start heard : ℕ} {answer : Answer} {steps : List CapacityStep} {state : State}
+    {plan : List Segment} (play : ClientPlay) → PlayAdmitted slot start heard answer steps state plan → play.pacer.start ≡ start
     → play.pacer.passed ≡ 0
     → IsTimed heard (clients.Playing play)
 begun-timed {slot} {start} {steps} {state} {plan} play admitted at begun =
@@ -196,26 +197,25 @@ no-pause {new} {text} link c (clients.Pausing stop) quiet told = told
 no-pause {new} {text} link c (clients.Paused rest) quiet told = told
 
 -- a client asks for a play, or can't
-pub play-line : {link : Link} {c : ℕ} {rest : Rest} {old new : Moment} {text : List ℕ} (state : ClientState)
-    → is_busy state ≡ false
-    → IsAsked link c rest old new text → IsPlayLine link c rest state old new text
-play-line {c} {new} {text} Idle free asked = asked
-play-line {c} {new} {text} (Playing play) free asked = cc free
-play-line {c} {new} {text} (Pausing stop left) free asked = cc free
-play-line {c} {new} {text} (Paused left) free asked = asked
+if-free : {Free : Type 0} (Busy : Type 0) (state : ClientState) → is_busy state ≡ false → Free
+    → IfBusy state Busy Free
+if-free Busy Idle free asked = asked
+if-free Busy (Playing play) free asked = cc free
+if-free Busy (Pausing stop left) free asked = cc free
+if-free Busy (Paused left) free asked = asked
 
-pub play-asked : {link : Link} {c : ℕ} {one rest : Rest} {own state : ClientState} {old new : Moment}
-    {text : List ℕ} → one ≡ rest → own ≡ state → is_busy own ≡ false
-    → IsAsked link c one old new text → IsPlayLine link c rest state old new text
-play-asked {link} {c} {one} {own} {state} {old} {new} {text} r s free asked =
-    let R : Rest → Type 0 = λ x. IsPlayLine link c x state old new text in
-    let S : ClientState → Type 0 = λ x. IsPlayLine link c one x old new text in
-    subst R r (subst S s (play-line own free asked))
+play-asked : {link : Link} {c : ℕ} {one rest : Rest} {own : ClientState} {old new : Moment} {text : List ℕ}
+    → one ≡ rest → own ≡ state_at old c → is_busy own ≡ false
+    → IsAsked link c one old new text → IsPlayLine link c rest old new text
+play-asked {link} {c} {one} {own} {old} {new} {text} r s free asked =
+    let R : Rest → Type 0 = λ x. IsPlayLine link c x old new text in
+    let S : ClientState → Type 0 = λ x. IfBusy x (IsTold state_text old new text) (IsAsked link c one old new text) in
+    subst R r (subst S s (if-free (IsTold state_text old new text) own free asked))
 
-pub play-ok : {one rest : Rest} {own state : ClientState} (r : Result Told NoMemory) (asks : ClientAsks) → one ≡ rest
-    → own ≡ state → is_busy own ≡ false
+pub play-ok : {one rest : Rest} {own : ClientState} (r : Result Told NoMemory) (asks : ClientAsks) → one ≡ rest
+    → own ≡ state_at asks.old asks.client → is_busy own ≡ false
     → IfOk r (λ told. IsAsked asks.link asks.client one asks.old asks.new (told_text asks.entries told))
-    → IfOk r (λ told. IsPlayLine asks.link asks.client rest state asks.old asks.new (told_text asks.entries told))
+    → IfOk r (λ told. IsPlayLine asks.link asks.client rest asks.old asks.new (told_text asks.entries told))
 play-ok {one} (Ok told) asks r s free asked =
     play-asked r s free asked
 play-ok {one} (Err e) asks r s free asked = tt

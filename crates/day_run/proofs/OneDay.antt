@@ -27,12 +27,12 @@ use Rattle.day_run.specs.declared.scripts.Line.TheVariants as lines
 use Rattle.day_run.specs.DayLaws.{AreClients, IsLink, IsSoundRest, IsSoundClient}
 use Rattle.day_run.specs.Days.{AreRun, IsAnsweredPlay, IsAsked, IsDay, IsFaulty, IsFull}
 use Rattle.day_run.specs.Days.{IsHaltedPlay, IsLine, IsLookLine, IsNoted, IsOfferLine, IsPauseLine}
-use Rattle.day_run.specs.Days.{IsPlayLine, IsResumeLine, IsTold, Link, Moment, entry_by}
+use Rattle.day_run.specs.Days.{IsResumeLine, IsTold, Link, Moment, entry_by}
 use Rattle.day_run.specs.Days.{last_journal, last_lines, state_at, with_play}
-use Rattle.day_run.specs.Prints.{fault_text, offer_text}
+use Rattle.day_run.specs.Prints.{fault_text, offer_text, state_text}
 use Rattle.report.specs.EntryLines.{entry_line}
 use Rattle.day_run.specs.Scripts.{AreLines}
-use Rattle.day_run.specs.ClientStates.{Idle, Playing, Pausing, Paused, Play, Rest, ClientState}
+use Rattle.day_run.specs.ClientStates.{Idle, IfBusy, Playing, Pausing, Paused, Play, Rest, ClientState}
 use Rattle.day_run.specs.ClientStates.{pausing_state, slot_sent}
 use Rattle.day_run.proofs.BalancedLines.{heard-after, morning-ready}
 use Rattle.day_run.proofs.SoundClients.{IsSound, idle-sound, line-sound, whole-sound}
@@ -52,7 +52,7 @@ pub record IsOne (new new' : Moment) (text text' : List ℕ) : Type 0 where
   pub new_is : new ≡ new'
   pub text_is : text ≡ text'
 
-one-told : {told : List ℕ} {old new new' : Moment} {text text' : List ℕ} → IsTold told old new text
+pub one-told : {told : List ℕ} {old new new' : Moment} {text text' : List ℕ} → IsTold told old new text
     → IsTold told old new' text' → IsOne new new' text text'
 one-told {new} {text} a b = record { new_is = a.kept ∙ sym b.kept; text_is = a.text_is ∙ sym b.text_is }
 
@@ -114,8 +114,9 @@ record Asker : Type 0 where
 
 one-play : {rest : Rest} {new new' : Moment} {text text' : List ℕ} (asker : Asker) (state : ClientState)
     → (0 < length (rest_sizes rest.sizes rest.run) → IsSoundRest rest)
-    → IsPlayLine asker.link asker.c rest state asker.old new text
-    → IsPlayLine asker.link asker.c rest state asker.old new' text' → IsOne new new' text text'
+    → IfBusy state (IsTold state_text asker.old new text) (IsAsked asker.link asker.c rest asker.old new text)
+    → IfBusy state (IsTold state_text asker.old new' text') (IsAsked asker.link asker.c rest asker.old new' text')
+    → IsOne new new' text text'
 one-play {new} {text} asker Idle own a b = one-asked own a b
 one-play {new} {text} asker (Playing play) own a b = one-told a b
 one-play {new} {text} asker (Pausing stop left) own a b = one-told a b
@@ -201,7 +202,7 @@ one-offer {link} {rest} {old} {new} {text} own (inr a) (inr b) =
     let T : Offers → Type 0 = λ f. IsTold (offer_text f) old new text in
     one-told (subst T found a.told) b.told
 
-one-line : {link : Link} {old new new' : Moment} {text text' : List ℕ} (line : Line) → IsLink link
+pub one-line : {link : Link} {old new new' : Moment} {text text' : List ℕ} (line : Line) → IsLink link
     → StandingLine old.heard (length link.reels) line → IsSound old → IsLine link line old new text
     → IsLine link line old new' text' → IsOne new new' text text'
 one-line {link} {old} {new} {text} (lines.Play c source buffer delay) link-is standing sound a b =

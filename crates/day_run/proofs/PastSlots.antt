@@ -19,15 +19,15 @@ use Rattle.day_run.specs.declared.scripts.Line.TheVariants as lines
 use Rattle.day_run.specs.Balanced.{IsReady, share_of}
 use Rattle.day_run.specs.Clients.{after_open}
 use Rattle.day_run.specs.Days.{IsAsked, IsHaltedPlay, IsLine, IsLookLine, IsOfferLine, IsPauseLine}
-use Rattle.day_run.specs.Days.{IsPlayLine, IsResumeLine, Link, Moment, at_slot, entry_by}
+use Rattle.day_run.specs.Days.{IsResumeLine, Link, Moment, at_slot, entry_by}
 use Rattle.day_run.specs.Days.{last_journal, first_moment, rest_at, state_at, with_play}
 use Rattle.day_run.specs.FairDays.{AreTurns, IsDone, IsTurn, Turn, after_turn, at_later, client_of}
-use Rattle.day_run.specs.FairDays.{turn_booked, turn_peak}
+use Rattle.day_run.specs.FairDays.{line_drawn, turn_booked, turn_peak}
 use Rattle.day_run.specs.ClientStates.{Idle, Playing, Pausing, Paused, Play, Rest, ClientState, booking_of, sent_by}
 use Rattle.day_run.proofs.BalancedSlots.{BegunPlay, its-held, last-later, last-stays, play-stays}
 use Rattle.day_run.proofs.BalancedSlots.{slot-stays, stays-halt}
 use Rattle.day_run.proofs.BalancedLines.{morning-ready, taken-ready}
-use Rattle.day_run.proofs.Takings.{AskedPlay, ClientOf, LineStep, LinesTaken, NextTaken, StandingLine}
+use Rattle.day_run.proofs.Takings.{AskedPlay, ClientOf, IsPlayTaken, LineStep, LinesTaken, NextTaken, StandingLine}
 use Rattle.day_run.proofs.FairLaws.{done-heard, later-heard, turn-ready, later-ready}
 use Rattle.day_run.proofs.SoundClients.{kept-most}
 use Rattle.day_run.proofs.Peaks.{peak-slots}
@@ -85,7 +85,7 @@ asked-past {link} {c} {rest} {old} {new} {text} (inr planned) = elim planned.don
 ]
 
 play-past : (step : LineStep) (c : ℕ) (rest : Rest) (state : ClientState)
-    → IsPlayLine step.link c rest state step.old step.new step.text → Past step.old step.new
+    → IsPlayTaken step c rest state → Past step.old step.new
 play-past step c rest Idle is = asked-past is
 play-past step c rest (Playing play) is = kept-past step.old step.new is.kept
 play-past step c rest (Pausing stop left) is = kept-past step.old step.new is.kept
@@ -160,7 +160,8 @@ end-past taken t past = last-stays taken.moment t past (taken-ready taken).balan
 
 -- ---- the same of turns
 done-past : {c : ℕ} {state : ClientState} (step : LineStep) (words : ℕ → ℕ) → ClientOf step.old c state
-    → IsReady step.old → IsDone step.link words c state step.old step.new step.text → Past step.old step.new
+    → IsReady step.old → IsDone step.link (line_drawn words c state) step.old step.new step.text
+    → Past step.old step.new
 done-past {c} {state = Idle} step words own ready is =
     play-past step c (rest_at step.link (words 0 % 16) (16384 + words 1 % 16384) (words 2 % 26))
     (state_at step.old c) is

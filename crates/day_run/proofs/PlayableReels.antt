@@ -1,11 +1,11 @@
 -- Films and traces that can be played.
-use Rattle.std.proofs.Common.{◌≡◌, ◌≤◌, ◌+◌, ◌^◌, ◌∷◌, [], ℕ, zero, suc, List, length, sum, take}
-use Rattle.std.proofs.Common.{get_or, Result, Ok, Err, arith, sym, subst, lit≤}
+use Rattle.std.proofs.Common.{◌≡◌, ◌≤◌, ◌+◌, ◌^◌, ◌∷◌, [], ℕ, List, length, sum, take}
+use Rattle.std.proofs.Common.{get_or, Result, Ok, Err, arith, sym, subst}
 use Rattle.std.specs.Prelude.{All, OnOk}
 use Rattle.std.specs.Global.{Vec}
 use Rattle.std.proofs.lemmas.List.{length-map, take_more}
 use Rattle.std.proofs.lemmas.List.Elements.{All-append, All-cons, All-map, All-nil}
-use Rattle.mpeg_scan.specs.Rates.{picture_time}
+use Rattle.mpeg_scan.proofs.RateLemmas.{time-bounds}
 use Rattle.slot_calendar.specs.declared.profiles.CapacityStep.{CapacityStep}
 use Rattle.film_frames.specs.declared.stores.Stored.{Stored}
 use Rattle.film_frames.specs.Pieces.{wire_size}
@@ -20,35 +20,22 @@ use Rattle.day_run.specs.Days.{link_of}
 use Rattle.day_run.specs.Sources.{IsSource}
 use Rattle.day_run.proofs.Takings.{Place}
 
--- the time of a picture, of each code
-record IsTime (time : ℕ) : Type 0 where
-  some : 1 ≤ time
-  fits : time ≤ 360000
-
-time-fits : (rate : ℕ) → 1 ≤ rate → rate ≤ 8 → IsTime (picture_time rate)
-time-fits zero low high = absurd (omega (arith, low))
-time-fits (suc zero) low high = record { some = lit≤ tt; fits = lit≤ tt }
-time-fits (suc (suc zero)) low high = record { some = lit≤ tt; fits = lit≤ tt }
-time-fits (suc (suc (suc zero))) low high = record { some = lit≤ tt; fits = lit≤ tt }
-time-fits (suc (suc (suc (suc zero)))) low high = record { some = lit≤ tt; fits = lit≤ tt }
-time-fits (suc (suc (suc (suc (suc zero))))) low high = record { some = lit≤ tt; fits = lit≤ tt }
-time-fits (suc (suc (suc (suc (suc (suc zero)))))) low high = record { some = lit≤ tt; fits = lit≤ tt }
-time-fits (suc (suc (suc (suc (suc (suc (suc zero))))))) low high = record { some = lit≤ tt; fits = lit≤ tt }
-time-fits (suc (suc (suc (suc (suc (suc (suc (suc zero)))))))) low high = record { some = lit≤ tt; fits = lit≤ tt }
-time-fits (suc (suc (suc (suc (suc (suc (suc (suc (suc rate))))))))) low high = absurd (omega (arith, high))
-
 -- a film, of a code from 1 to 8, whose units keep to what a trace does
 pub film-playable : {source : Source} (stored : Stored) → source ≡ Film stored → 1 ≤ stored.film.rate
     → stored.film.rate ≤ 8
     → length stored.film.units.items ≤ 4194304 → sum (stored_sizes stored) ≤ 2 ^ 42 → IsPlayable source
 film-playable stored is low high few small =
-    let time = time-fits stored.film.rate low high in
+    let time = time-bounds stored.film.rate low high in
     let sizes : AreUnitSizes (stored_sizes stored) = record {
       few = omega (arith, few, length-map stored.film.units.items (wire_size stored.film.slice_starts.items));
       small = small;
     } in
     subst IsPlayable (sym is)
-    (λ units some fit. record { sizes = sizes; some_picture_units = time.some; picture_units_fit = time.fits })
+    (λ units some fit. record {
+      sizes = sizes;
+      some_picture_units = omega (arith, time.0);
+      picture_units_fit = omega (arith, time.1);
+    })
 
 trace-fits : {source : Source} (sizes : Vec ℕ) → source ≡ Trace sizes → IsSource source → IsPlayable source
 trace-fits sizes is trace =

@@ -30,14 +30,14 @@ use Rattle.day_run.specs.declared.scripts.Line.TheVariants as lines
 use Rattle.day_run.specs.Balanced.{AreHeldOf, IsHeld, IsReady}
 use Rattle.day_run.specs.DayLaws.{IsLink, IsSoundPlay, IsSoundRest, IsSoundClient}
 use Rattle.day_run.specs.Days.{AreRun, IsAsked, IsHaltedPlay, IsLine, IsLookLine, IsOfferLine}
-use Rattle.day_run.specs.Days.{IsPauseLine, IsPlayLine, IsResumeLine, Link, Moment, at_slot}
+use Rattle.day_run.specs.Days.{IsPauseLine, IsResumeLine, Link, Moment, at_slot}
 use Rattle.day_run.specs.Days.{entry_by, first_moment, rest_at, state_at, with_play}
 use Rattle.day_run.specs.Scripts.{IsWish}
 use Rattle.day_run.specs.ClientStates.{Idle, Playing, Pausing, Paused, IsPause, Play, Rest}
 use Rattle.day_run.specs.ClientStates.{ClientState, after_play, after_sending, booking_of, is_done}
 use Rattle.day_run.specs.ClientStates.{no_reel, sent_by, slot_sent}
-use Rattle.day_run.proofs.BalancedLines.{heard-after, line-ready, morning-ready}
-use Rattle.day_run.proofs.Takings.{ClientOf, LineStep, LinesTaken, StandingLine, StandingLines}
+use Rattle.day_run.proofs.BalancedLines.{heard-after, line-ready, morning-ready, slot-ready}
+use Rattle.day_run.proofs.Takings.{ClientOf, IsPlayTaken, LineStep, LinesTaken, StandingLine, StandingLines}
 use Rattle.day_run.proofs.Takings.{first-standing, rest-standing, standing_of}
 
 -- ---- what holds of the clients
@@ -257,6 +257,12 @@ slot-states old slot sound c client =
     ∙ ap (after_play slot) (get_or-map (after_sending slot) old.states c Idle Idle inside)))
     (state-slot old.heard slot (get_or old.states c Idle) (sound.each c client))
 
+pub slot-sound : (old : Moment) (slot : ℕ) → old.heard ≤ slot → IsSound old → IsSound (at_slot old slot)
+slot-sound old slot later sound = record {
+  ready = slot-ready old (at_slot old slot) slot later refl sound.ready;
+  each = slot-states old slot sound;
+}
+
 -- ---- all of a reel
 pub whole-sound : {link : Link} {source buffer delay : ℕ} → IsLink link → IsWish (length link.reels) source buffer delay
     → 0 < length (rest_sizes (rest_at link source buffer delay).sizes (rest_at link source buffer delay).run)
@@ -294,7 +300,7 @@ whole-sound {link} {source} {buffer} {delay} link-is wish some =
 -- ---- each kind of line leaves the clients sound
 play-states : {c : ℕ} {rest : Rest} (step : LineStep) (state : ClientState) → c < 256
     → (0 < length (rest_sizes rest.sizes rest.run) → IsSoundRest rest) → IsSound step.old
-    → IsPlayLine step.link c rest state step.old step.new step.text → AreStates step.new.heard step.new.states
+    → IsPlayTaken step c rest state → AreStates step.new.heard step.new.states
 play-states {c} step Idle client own sound is = asked-states client own sound is
 play-states {c} step (Playing play) client own sound is = kept-states step.old step.new is.kept sound.each
 play-states {c} step (Pausing stop left) client own sound is = kept-states step.old step.new is.kept sound.each

@@ -3,9 +3,10 @@ use Rattle.std.proofs.Common.{◌≡◌, ℕ, zero, suc, ◌<◌, List, ◌∷�
 use Rattle.std.specs.List.{fold}
 use Rattle.plan_cert.specs.declared.Segment.{Segment}
 use Rattle.admission.specs.declared.entries.Entry.{Entry}
-use Rattle.day_run.specs.ClientStates.{ClientState, Idle, Rest}
+use Rattle.day_run.specs.ClientStates.{ClientState, Idle, IfBusy, Rest}
 use Rattle.day_run.specs.DayLaws.{AreClients, IsClient}
-use Rattle.day_run.specs.Days.{AreRun, IsLine, Link, Moment, first_moment}
+use Rattle.day_run.specs.Days.{AreRun, IsAsked, IsLine, IsTold, Link, Moment, first_moment}
+use Rattle.day_run.specs.Prints.{state_text}
 use Rattle.day_run.specs.Scripts.{AreLines, StandsAfter, slot_after}
 use Rattle.day_run.specs.declared.scripts.Line.{Line}
 
@@ -21,6 +22,11 @@ pub record LineStep : Type 0 where
   pub old : Moment
   pub new : Moment
   pub text : List ℕ
+
+-- what a play of a rest brings, by the client's state
+abbrev pub IsPlayTaken : LineStep → ℕ → Rest → ClientState → Type 0
+IsPlayTaken step c rest state =
+    IfBusy state (IsTold state_text step.old step.new step.text) (IsAsked step.link c rest step.old step.new step.text)
 
 -- what a client asks to play: which client, what is to be sent, and by which plan
 pub record AskedPlay : Type 0 where

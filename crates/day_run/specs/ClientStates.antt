@@ -93,6 +93,13 @@ is_busy (Playing play) = true
 is_busy (Pausing stop rest) = true
 is_busy (Paused rest) = false
 
+-- one fact of a client that is busy, and another of one that isn't
+abbrev pub IfBusy : ClientState → Type 0 → Type 0 → Type 0
+IfBusy Idle Busy Free = Free
+IfBusy (Playing play) Busy Free = Busy
+IfBusy (Pausing stop rest) Busy Free = Busy
+IfBusy (Paused rest) Busy Free = Free
+
 -- the bytes that were sent by the end of slot t: those of the plan up to there, but none past those
 -- that are kept
 abbrev pub sent_by : Booked → ℕ → ℕ

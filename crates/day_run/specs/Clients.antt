@@ -19,8 +19,8 @@ use Rattle.day_run.specs.declared.clients.Halt.{Halt}
 use Rattle.day_run.specs.declared.clients.Play.{Play}
 use Rattle.day_run.specs.declared.clients.Rest.{Rest}
 use Rattle.day_run.specs.declared.clients.Stop.{Stop}
-use Rattle.day_run.specs.declared.clients.Which.{Which}
-use Rattle.day_run.specs.declared.clients.Which.TheVariants.{Done, Open}
+use Rattle.day_run.specs.declared.clients.HaltedPlays.{HaltedPlays}
+use Rattle.day_run.specs.declared.clients.HaltedPlays.TheVariants.{Done, Open}
 use Rattle.day_run.specs.Reels.{reel_pieces, reel_sizes}
 use Rattle.day_run.specs.ClientStates as states
 use Rattle.day_run.specs.Days.{done_halt, halt_by, open_halt}
@@ -188,11 +188,11 @@ after_open (states.Paused rest) = states.Paused rest
 
 -- the halts of such plays, and what such a client does then: at a slot its play is halted if it is
 -- done, and at a day's end in any case
-abbrev pub halt_for : Which → ℕ → ℕ → states.ClientState → List Entry
+abbrev pub halt_for : HaltedPlays → ℕ → ℕ → states.ClientState → List Entry
 halt_for Done = done_halt
 halt_for Open = open_halt
 
-abbrev pub state_for : Which → ℕ → states.ClientState → states.ClientState
+abbrev pub state_for : HaltedPlays → ℕ → states.ClientState → states.ClientState
 state_for Done = states.after_play
 state_for Open = λ heard. after_open
 

@@ -22,7 +22,7 @@ use Rattle.film_run.specs.Plans.{CanPlay, IsPlanOf}
 use Rattle.day_run.specs.ClientStates.{ClientState, Idle, Playing, Pausing, Paused}
 use Rattle.day_run.specs.ClientStates.{Play as ClientPlay, Rest}
 use Rattle.day_run.specs.ClientStates.{ReelContent, source_content}
-use Rattle.day_run.specs.FairDays.{Turn, at_later, made_of}
+use Rattle.day_run.specs.FairDays.{Turn, at_later, entry_counts_of}
 use Rattle.day_run.specs.Prints.{fair_text, start_words, tried_text}
 use Rattle.day_run.specs.declared.reels.Source.{Source}
 use Rattle.day_run.specs.declared.scripts.Line.{Line}
@@ -136,7 +136,7 @@ pub record IsOfferTold (link : Link) (rest : Rest) (wait : ℕ) (moment : Moment
 pub record IsFairLine (steps : List CapacityStep) (plays : ℕ) (text : List ℕ) (journal : List Entry)
     : Type 0 where
   pub counts : Counts
-  pub text_is : text ≡ fair_text counts (made_of journal)
+  pub text_is : text ≡ fair_text counts (entry_counts_of journal)
   pub turns_are : counts.turns ≡ plays
   pub last : counts.last ≤ 3 * plays
   pub balanced : counts.sent ≡ counts.booked

@@ -28,8 +28,8 @@ use Rattle.day_run.specs.declared.reels.Source.{Source}
 use Rattle.day_run.specs.declared.scripts.Line.{Line}
 use Rattle.day_run.specs.declared.scripts.Line.TheVariants as lines
 use Rattle.day_run.specs.Prints.{fault_text, full_text, offer_text, slot_text, state_text}
-use Rattle.day_run.specs.ClientStates.{ClientState, Idle, Playing, Pausing, Paused, IsPause}
-use Rattle.day_run.specs.ClientStates.{ReelContent, Rest, Play}
+use Rattle.day_run.specs.ClientStates.{ClientState, Idle, Playing, Pausing, Paused, IfBusy}
+use Rattle.day_run.specs.ClientStates.{IsPause, ReelContent, Rest, Play}
 use Rattle.day_run.specs.ClientStates.{after_play, after_sending, booking_of, is_done, no_reel}
 use Rattle.day_run.specs.ClientStates.{sent_between, sent_by, source_content, whole_rest}
 
@@ -134,11 +134,10 @@ IsAsked link client rest old new text = IsFaulty rest old new text
 
 -- a client that plays, or whose pause isn't done, can't ask for a play; one that is paused begins
 -- anew
-abbrev pub IsPlayLine : Link → ℕ → Rest → ClientState → Moment → Moment → List ℕ → Type 0
-IsPlayLine link client rest Idle old new text = IsAsked link client rest old new text
-IsPlayLine link client rest (Playing play) old new text = IsTold state_text old new text
-IsPlayLine link client rest (Pausing stop left) old new text = IsTold state_text old new text
-IsPlayLine link client rest (Paused left) old new text = IsAsked link client rest old new text
+abbrev pub IsPlayLine : Link → ℕ → Rest → Moment → Moment → List ℕ → Type 0
+IsPlayLine link client rest old new text =
+    IfBusy (state_at old client) (IsTold state_text old new text)
+    (IsAsked link client rest old new text)
 
 -- a client that is paused goes on with what is left
 abbrev pub IsResumeLine : Link → ℕ → ClientState → Moment → Moment → List ℕ → Type 0
@@ -243,7 +242,7 @@ slot_lines moment slot =
 -- what a line makes of a moment, and what it prints
 abbrev pub IsLine : Link → Line → Moment → Moment → List ℕ → Type 0
 IsLine link (lines.Play client source buffer delay) old new text =
-    IsPlayLine link client (rest_at link source buffer delay) (state_at old client) old new text
+    IsPlayLine link client (rest_at link source buffer delay) old new text
 IsLine link (lines.Pause client) old new text =
     IsPauseLine link client (state_at old client) old new text
 IsLine link (lines.Resume client) old new text =

@@ -2,8 +2,8 @@
 -- to a later slot and one client does something. The words are those of the number's generator; n
 -- modulo a word's range is what a draw gives.
 use Rattle.std.specs.Prelude.{ℕ, zero, suc, ◌+◌, ◌-◌, ◌%◌, ◌≡◌, ◌==◌, max, Bool, true, false}
-use Rattle.std.specs.Prelude.{if◌then◌else◌, List, [], ◌∷◌, codes, count_by, fold, length, map}
-use Rattle.std.specs.Prelude.{sum_by, take}
+use Rattle.std.specs.Prelude.{if◌then◌else◌, List, [], ◌∷◌, Option, Some, None, codes, count_by}
+use Rattle.std.specs.Prelude.{fold, length, map, sum_by, take}
 use Rattle.std.specs.List.{range_with_len}
 use Rattle.std.specs.Str.{bytes_eq}
 use Rattle.film_make.specs.Generator.{words_after, words_of}
@@ -15,7 +15,8 @@ use Rattle.admission.specs.declared.entries.Entry.{Entry}
 use Rattle.admission.specs.Histories.{is_admission, state_after}
 use Rattle.admission.specs.Machine.{booked_in}
 use Rattle.day_run.specs.declared.counts.Counts.{Counts}
-use Rattle.day_run.specs.declared.counts.Made.{Made}
+use Rattle.day_run.specs.declared.counts.EntryCounts.{EntryCounts}
+use Rattle.day_run.specs.declared.scripts.Line.{Line}
 use Rattle.day_run.specs.declared.scripts.Line.TheVariants as lines
 use Rattle.day_run.specs.Days.{IsLine, IsTold, Link, Moment, at_slot, booked_up_to, last_journal}
 use Rattle.day_run.specs.Days.{first_moment, state_at, sent_up_to}
@@ -64,13 +65,17 @@ at_later moment later = if later == 0 then moment else at_slot moment (moment.he
 
 -- What a client does follows from its state: it plays one of the traces with a drawn buffer and
 -- start delay; it pauses; nothing, as its pause isn't done; or it goes on.
-abbrev pub IsDone : Link → (ℕ → ℕ) → ℕ → ClientState → Moment → Moment → List ℕ → Type 0
-IsDone link words client Idle old new text =
-    IsLine link (lines.Play client (words 0 % 16) (16384 + words 1 % 16384) (words 2 % 26)) old new
-    text
-IsDone link words client (Playing play) old new text = IsLine link (lines.Pause client) old new text
-IsDone link words client (Pausing stop rest) old new text = IsTold [] old new text
-IsDone link words client (Paused rest) old new text = IsLine link (lines.Resume client) old new text
+abbrev pub line_drawn : (ℕ → ℕ) → ℕ → ClientState → Option Line
+line_drawn words client Idle =
+    Some (lines.Play client (words 0 % 16) (16384 + words 1 % 16384) (words 2 % 26))
+line_drawn words client (Playing play) = Some (lines.Pause client)
+line_drawn words client (Pausing stop rest) = None
+line_drawn words client (Paused rest) = Some (lines.Resume client)
+
+-- such a line is run, or nothing is done
+abbrev pub IsDone : Link → Option Line → Moment → Moment → List ℕ → Type 0
+IsDone link (Some line) old new text = IsLine link line old new text
+IsDone link None old new text = IsTold [] old new text
 
 -- the words that are drawn for it
 abbrev pub words_for : ClientState → ℕ
@@ -79,19 +84,20 @@ words_for (Playing play) = 0
 words_for (Pausing stop rest) = 0
 words_for (Paused rest) = 0
 
--- the client of a turn, and its state when it is drawn
+-- the client of a turn, its state when it is drawn, and what it then does
 abbrev pub client_of : (ℕ → ℕ) → ℕ
 client_of words = words 1 % 256
 
 abbrev pub state_in : (ℕ → ℕ) → Turn → ClientState
 state_in words turn = state_at turn.mid (client_of words)
 
+abbrev pub line_in : (ℕ → ℕ) → Turn → Option Line
+line_in words turn = line_drawn (words_after 2 words) (client_of words) (state_in words turn)
+
 -- a turn by the next words: how many slots later, 0 to 3, and one of 256 clients
 pub record IsTurn (link : Link) (words : ℕ → ℕ) (turn : Turn) : Type 0 where
   pub slot : turn.mid ≡ at_later turn.old (words 0 % 4)
-  pub done : IsDone link (words_after 2 words) (client_of words) (state_in words turn) turn.mid
-      turn.new
-      turn.text
+  pub done : IsDone link (line_in words turn) turn.mid turn.new turn.text
 
 -- the words that a turn leaves
 abbrev pub after_turn : (ℕ → ℕ) → Turn → ℕ → ℕ
@@ -148,8 +154,8 @@ abbrev pub is_halted : Answer → Bool
 is_halted Halted = true
 is_halted _ = false
 
-abbrev pub made_of : List Entry → Made
-made_of entries = record {
+abbrev pub entry_counts_of : List Entry → EntryCounts
+entry_counts_of entries = record {
   admitted = count_by (λ (e : Entry). is_admission e.answer) entries;
   overflows = count_by (λ (e : Entry). is_overflow e.answer) entries;
   halted = count_by (λ (e : Entry). is_halted e.answer) entries;
@@ -157,12 +163,12 @@ made_of entries = record {
 
 -- A number's day of so many turns: the journal, which at the end has the halts of the plays that
 -- are open, and the one line that is printed.
-pub record IsFair (steps : List CapacityStep) (number plays : ℕ) (text : List ℕ) (journal : List Entry)
-    : Type 0 where
+pub record IsFair (steps : List CapacityStep) (number plays : ℕ) (text : List ℕ)
+    (journal : List Entry) : Type 0 where
   pub turns : List Turn
   pub evening : Moment
   pub count : length turns ≡ plays
   pub run : AreTurns (fair_link steps (words_of number)) (after_traces 16 (words_of number)) turns
       first_moment evening
   pub journal_is : journal ≡ last_journal evening
-  pub text_is : text ≡ fair_text (counts_of turns evening) (made_of journal)
+  pub text_is : text ≡ fair_text (counts_of turns evening) (entry_counts_of journal)

@@ -9,7 +9,7 @@ use Rattle.wire_curve.specs.declared.film.CurveFault.{CurveFault}
 use Rattle.wire_curve.specs.declared.film.CurveFault.TheVariants.{NoPictures, TooManySlots}
 use Rattle.wire_curve.specs.declared.film.CurveFault.TheVariants.{BufferTooSmall}
 use Rattle.day_run.specs.declared.counts.Counts.{Counts}
-use Rattle.day_run.specs.declared.counts.Made.{Made}
+use Rattle.day_run.specs.declared.counts.EntryCounts.{EntryCounts}
 
 -- a client isn't in a state in which it can be asked
 abbrev pub state_text : List ℕ
@@ -54,20 +54,20 @@ offer_text found =
     flat_map tried_text found.tried
     ++ (start_words found.start ++ field (codes " tried=") (length found.tried) ++ codes "\n")
 
--- the entries that a fair made
-unfoldable pub made_words : Made → List ℕ
-made_words made =
-    field (codes " admitted=") made.admitted ++ field (codes " overflow=") made.overflows
-    ++ field (codes " halted=") made.halted
+-- how many entries of a fair have each answer
+unfoldable pub entry_words : EntryCounts → List ℕ
+entry_words entries =
+    field (codes " admitted=") entries.admitted ++ field (codes " overflow=") entries.overflows
+    ++ field (codes " halted=") entries.halted
 
 -- what its slots brought
 unfoldable pub sum_words : Counts → List ℕ
 sum_words counts = field (codes " sent=") counts.sent ++ field (codes " booked=") counts.booked
     ++ field (codes " peak=") counts.peak
 
--- its turns, and what was made in them
-unfoldable pub turn_words : Counts → Made → List ℕ
-turn_words counts made = field (codes "fair turns=") counts.turns ++ made_words made
+-- its turns, and how many entries have each answer
+unfoldable pub turn_words : Counts → EntryCounts → List ℕ
+turn_words counts entries = field (codes "fair turns=") counts.turns ++ entry_words entries
 
 -- how often the journal was full, the last slot, and what the slots brought
 unfoldable pub slot_words : Counts → List ℕ
@@ -75,5 +75,5 @@ slot_words counts = field (codes " full=") counts.full ++ field (codes " last=")
     ++ sum_words counts
 
 -- what a fair tells at its end
-abbrev pub fair_text : Counts → Made → List ℕ
-fair_text counts made = turn_words counts made ++ slot_words counts ++ codes "\n"
+abbrev pub fair_text : Counts → EntryCounts → List ℕ
+fair_text counts entries = turn_words counts entries ++ slot_words counts ++ codes "\n"

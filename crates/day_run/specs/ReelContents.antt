@@ -9,7 +9,7 @@ use Rattle.day_run.specs.ClientStates.{ReelContent}
 -- the time of a picture; a trace has one picture a slot
 abbrev pub reel_units : ℕ → Reel → ℕ
 reel_units slot_units (Film stored) = picture_time stored.now.film.rate
-reel_units slot_units (Trace rolled) = slot_units
+reel_units slot_units (Trace trace) = slot_units
 
 abbrev pub reel_content : ℕ → Reel → ReelContent
 reel_content slot_units reel =

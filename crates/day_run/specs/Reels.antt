@@ -28,11 +28,11 @@ film_pieces stored = run_pieces (run_of stored.film 0 (length stored.film.units.
 
 abbrev pub reel_sizes : Reel → List ℕ
 reel_sizes (reels.Film stored) = stored_sizes stored.now
-reel_sizes (reels.Trace rolled) = rolled.sizes
+reel_sizes (reels.Trace trace) = trace.sizes
 
 abbrev pub reel_pieces : Reel → List (List ℕ)
 reel_pieces (reels.Film stored) = film_pieces stored.now
-reel_pieces (reels.Trace rolled) = zero_frames rolled.sizes
+reel_pieces (reels.Trace trace) = zero_frames trace.sizes
 
 abbrev pub sending_pieces : Sending → List (List ℕ)
 sending_pieces (sendings.Film frames) = run_pieces frames

@@ -4,7 +4,8 @@ use Rattle.std.specs.Prelude.{flat_map}
 use Rattle.admission.specs.declared.entries.Entry.{Entry}
 use Rattle.admission.specs.Histories.{state_after}
 use Rattle.early_start.specs.Offered.{Offers}
-use Rattle.wire_curve.specs.declared.film.CurveFault.{CurveFault}
+use Rattle.wire_curve.specs.declared.film.CurveRefused.{CurveRefused}
+use Rattle.wire_curve.specs.declared.film.CurveRefused.TheVariants.{Fault, NoMemory}
 use Rattle.day_run.specs.declared.scripts.Line.{Line}
 use Rattle.day_run.specs.declared.clients.Client.{Client}
 use Rattle.day_run.specs.declared.runners.Runner.{Runner}
@@ -56,10 +57,11 @@ told_text entries (tolds.Full full) = full_text full
 told_text entries tolds.State = state_text
 told_text entries (tolds.Fault fault) = fault_text fault
 
--- the text of an offer
-abbrev pub offer_lines : Result Offers CurveFault → List ℕ
-offer_lines (Ok found) = offer_text found
-offer_lines (Err fault) = fault_text fault
+-- a fact of the lines of an offer, or of the curves' fault; of none where memory is wanting
+abbrev pub IfSaid : Result Offers CurveRefused → (List ℕ → Type 0) → Type 0
+IfSaid (Ok found) Is = Is (offer_text found)
+IfSaid (Err (Fault fault)) Is = Is (fault_text fault)
+IfSaid (Err NoMemory) Is = Unit {0}
 
 -- what was printed after a text
 pub record IsPrinted (before after : List ℕ) (Is : List ℕ → Type 0) : Type 0 where

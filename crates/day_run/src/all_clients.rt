@@ -10,7 +10,7 @@ ghost use Rattle.day_run.specs.Clients.{AreOnBook, AreUndone, IsSameBook};
 ghost use Rattle.day_run.specs.Clients.{IsHaltOf, halt_for, halts_of, state_for, state_of};
 ghost use Rattle.day_run.specs.Days.{halt_entries};
 
-use crate::clients::{Client, Halt, Which};
+use crate::clients::{Client, Halt, HaltedPlays};
 use admission::Book;
 use std::alloc::Global;
 use vod_base::NoMemory;
@@ -41,14 +41,14 @@ pub(crate) fn step_clients(clients: &mut [Client<'_>], slot: u64) -> u64
         AreSteps heard slot clients.old clients.new result }
 {
     let mut sent = 0;
-    for client in 0..clients.len() {
-        sent += clients[client].step(slot);
+    for client in clients.iter_mut() {
+        sent += client.step(slot);
     }
     sent
 }
 
 /// Halts the plays that are done, or all that are open.
-pub(crate) fn end_each(book: &mut Book, clients: &mut [Client<'_>], which: Which)
+pub(crate) fn end_each(book: &mut Book, clients: &mut [Client<'_>], which: HaltedPlays)
     requires few { length clients.old ≤ 256 }
     requires sound { AreOnBook book.old.entries clients.old }
     ensures sound { AreOnBook book.new.entries clients.new }

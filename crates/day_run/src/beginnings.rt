@@ -1,9 +1,7 @@
-//! How a client's play begins: what is asked for, its plan, and the play that was admitted.
+//! How a client's play begins: what is asked for, and the play that was admitted.
 
 ghost use Rattle.std.specs.Prelude.{◌≡◌, ◌<◌, ℕ, false, length, map, slice_index_or, IfSome};
-ghost use Rattle.std.specs.Prelude.{IfNone, IfOk, IfErr};
-ghost use Rattle.wire_curve.specs.Refusal.{HasFault};
-ghost use Rattle.film_run.specs.Plans.{rest_sizes, timing_of};
+ghost use Rattle.std.specs.Prelude.{IfNone};
 ghost use Rattle.pacer.specs.Pacings.{is_done};
 ghost use Rattle.admission.specs.declared.entries.Answer.TheVariants.{Admitted};
 ghost use Rattle.admission.specs.Histories.{is_admission};
@@ -16,12 +14,9 @@ ghost use Rattle.day_run.specs.ReelContents.{reel_content};
 use crate::clients::{Play, Rest};
 use crate::reels::Reel;
 use admission::Answer;
-use film_run::{Playback, plan_of, whole_run};
+use film_run::{Playback, whole_run};
 use pacer::Pacer;
 use plan_cert::Plan;
-use std::alloc::Global;
-use vod_base::NoMemory;
-use wire_curve::{CurveFault, CurveRefused};
 
 /// The source of that number.
 pub(crate) fn reel_at<'r>(reels: &'r [Reel<'r>], source: usize) -> &'r Reel<'r>
@@ -61,24 +56,6 @@ pub(crate) fn whole_of<'r>(
         playback,
         run,
     })
-}
-
-/// The plan by which a rest is sent, or the fault of its curves.
-pub(crate) fn plan_rest(
-    alloc: Global,
-    rest: &Rest<'_>,
-) -> Result<Result<Plan, CurveFault>, NoMemory>
-    requires { IsRest rest.now }
-    ensures plan { IfOk result (λ planned. IfOk planned (IsPlanFor rest.now)) }
-    ensures fault { IfOk result (λ planned. IfErr planned (HasFault
-        (rest_sizes (reel_sizes rest.now.reel.now) rest.now.run)
-        (timing_of rest.now.playback rest.now.run))) }
-{
-    match plan_of(alloc, rest.reel, &rest.playback, &rest.run) {
-        Ok(plan) => Ok(Ok(plan)),
-        Err(CurveRefused::Fault(fault)) => Ok(Err(fault)),
-        Err(CurveRefused::NoMemory) => Err(NoMemory),
-    }
 }
 
 /// The first slot of a play that was admitted.

@@ -78,7 +78,7 @@ pub(crate) struct Halt {
 
 /// Which plays are halted.
 #[derive(Clone, Copy)]
-pub(crate) enum Which {
+pub(crate) enum HaltedPlays {
     /// Those that are done, which keep all their bytes.
     Done,
     /// All that are open, which keep what is due.
@@ -156,8 +156,8 @@ impl<'r> Client<'r> {
         }
     }
 
-    /// Its play, which keeps what is due.
-    fn open(&self) -> Option<Halt>
+    /// Its play, if it has one, which keeps what is due.
+    fn halt_when_open(&self) -> Option<Halt>
         ensures some { IfSome result (IsHaltOf self.now) }
         ensures none { IfNone result (IsUndone self.now) }
         ensures halt { (heard client : ℕ) → IsGoing self.now → IsTimed heard self.now →
@@ -175,7 +175,7 @@ impl<'r> Client<'r> {
     }
 
     /// How its play is to be halted, if it has one and that is such a play.
-    pub(crate) fn halt_of(&self, which: Which) -> Option<Halt>
+    pub(crate) fn halt_of(&self, which: HaltedPlays) -> Option<Halt>
         ensures some { IfSome result (IsHaltOf self.now) }
         ensures none { IfNone result (IsUndone self.now) }
         ensures halt { (slot client : ℕ) → IsGoing self.now → IsTimed slot self.now →
@@ -184,8 +184,8 @@ impl<'r> Client<'r> {
             state_for which slot (state_of self.now) ≡ state_after_halt result (state_of self.now) }
     {
         match which {
-            Which::Done => self.halt_when_done(),
-            Which::Open => self.open(),
+            HaltedPlays::Done => self.halt_when_done(),
+            HaltedPlays::Open => self.halt_when_open(),
         }
     }
 

@@ -17,9 +17,9 @@ pub(crate) struct Counts {
     pub(crate) peak: u64,
 }
 
-/// The entries of a journal, by their answers.
+/// How many entries of a journal have each answer.
 #[derive(Clone, Copy)]
-pub(crate) struct Made {
+pub(crate) struct EntryCounts {
     /// The plays that were admitted.
     pub(crate) admitted: u64,
     /// The plays that a slot had no room for.

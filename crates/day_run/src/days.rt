@@ -7,7 +7,7 @@ ghost use Rattle.day_run.specs.Days.{IsDay, IsLine, last_journal, last_lines, li
 ghost use Rattle.day_run.specs.Days.{first_moment};
 ghost use Rattle.day_run.specs.DayLaws.{IsLink};
 ghost use Rattle.day_run.specs.Runners.{HasRun, IsKept, IsPrinted, IsRunner, link_on, moment_of};
-ghost use Rattle.day_run.specs.Runners.{offer_lines, told_text};
+ghost use Rattle.day_run.specs.Runners.{told_text};
 ghost use Rattle.day_run.specs.Scripts.{AreLines, StandsAfter, slot_after};
 ghost use Rattle.day_run.specs.Sources.{AreSources};
 
@@ -17,12 +17,11 @@ use crate::scripts::{Line, Script};
 use crate::sources::reels_of;
 use crate::texts::{push_fault, push_full, push_offer, push_slot, push_state};
 use admission::{Book, Entry};
-use early_start::Offers;
 use report::{calendar_text, journal_text, law_answer_kinds, law_state_text};
 use slot_calendar::Profile;
 use std::alloc::Global;
 use vod_base::NoMemory;
-use wire_curve::CurveFault;
+use wire_curve::CurveRefused;
 
 /// What a day leaves.
 #[derive(Drop)]
@@ -93,16 +92,6 @@ fn print_told(book: &Book, told: Told, text: &mut Vec<u8>) -> Result<(), NoMemor
     }
 }
 
-/// Prints what is offered, or the fault of its curves.
-fn print_offer(offered: Result<Offers, CurveFault>, text: &mut Vec<u8>) -> Result<(), NoMemory>
-    ensures { OnOk result (text.new.items ≡ text.old.items ++ offer_lines offered) }
-{
-    match offered {
-        Ok(offers) => push_offer(text, &offers),
-        Err(fault) => push_fault(text, fault),
-    }
-}
-
 /// Runs a `slot` line.
 fn run_slot(runner: &mut Runner<'_>, slot: u64, text: &mut Vec<u8>) -> Result<(), NoMemory>
     requires runner { IsRunner runner.old }
@@ -165,7 +154,11 @@ fn run_line(
             buffer,
             delay,
             wait,
-        } => print_offer(runner.offer(alloc, source, buffer, delay, wait)?, text),
+        } => match runner.offer(alloc, source, buffer, delay, wait) {
+            Ok(offers) => push_offer(text, &offers),
+            Err(CurveRefused::Fault(fault)) => push_fault(text, fault),
+            Err(CurveRefused::NoMemory) => Err(NoMemory),
+        },
     }
 }
 

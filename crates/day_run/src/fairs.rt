@@ -9,8 +9,9 @@ ghost use Rattle.admission.specs.Histories.{IsLegal};
 ghost use Rattle.day_run.specs.Balanced.{IsReady};
 ghost use Rattle.report.specs.JournalTexts.{journal_text};
 ghost use Rattle.day_run.specs.Days.{IsPlayLine, first_moment, rest_at, state_at};
-ghost use Rattle.day_run.specs.FairDays.{IsDone, IsFair, after_traces, at_later, is_full_line};
-ghost use Rattle.day_run.specs.FairDays.{made_of, traces_drawn, words_for};
+ghost use Rattle.day_run.specs.FairDays.{IsDone, IsFair, after_traces, at_later};
+ghost use Rattle.day_run.specs.FairDays.{entry_counts_of, is_full_line, line_drawn, traces_drawn};
+ghost use Rattle.day_run.specs.FairDays.{words_for};
 ghost use Rattle.day_run.specs.Fairs.{AreTraces, HasCome, HasTurned, IsFitting, said_text};
 ghost use Rattle.day_run.specs.Fairs.{sizes_in, with_slot};
 ghost use Rattle.day_run.specs.Runners.{IsKept, IsRunner, link_on, moment_of, told_text};
@@ -18,7 +19,7 @@ ghost use Rattle.day_run.specs.ClientStates.{trace_content};
 ghost use Rattle.day_run.specs.ReelContents.{reel_content};
 
 use crate::clients::Client;
-use crate::counts::{Counts, Made};
+use crate::counts::{Counts, EntryCounts};
 use crate::days::Day;
 use crate::reels::Reel;
 use crate::runners::{Runner, Told};
@@ -55,9 +56,9 @@ pub fn fair(alloc: Global, seed: u64, plays: u32, profile: Profile) -> Result<Da
     let counts = run_turns(alloc, &mut draws, &mut runner, plays)?;
     runner.end();
     let journal = runner.into_entries();
-    let made = count_entries(&journal);
+    let entries = count_entries(&journal);
     let mut text = Vec::new(alloc);
-    push_fair(&mut text, &counts, &made)?;
+    push_fair(&mut text, &counts, &entries)?;
     Ok(Day { text, journal })
 }
 
@@ -106,8 +107,8 @@ fn play_drawn(
     ensures line { IfOk result (λ told.
         IsPlayLine (link_on runner.old) client (rest_at (link_on runner.old)
         (words_left draws.old 0 % 16) (16384 + words_left draws.old 1 % 16384)
-        (words_left draws.old 2 % 26)) (state_at (moment_of runner.old) client)
-        (moment_of runner.old) (moment_of runner.new) (told_text runner.new.book.entries told)) }
+        (words_left draws.old 2 % 26)) (moment_of runner.old) (moment_of runner.new)
+        (told_text runner.new.book.entries told)) }
     ensures left { OnOk result (words_left draws.new ≡ words_after 3 (words_left draws.old)) }
 {
     let source = draws.draw(TRACES as u32) as usize;
@@ -129,9 +130,9 @@ fn turn_client(
     ensures kept { OnOk result (IsKept runner.old runner.new) }
     ensures heard { OnOk result (runner.new.heard ≡ runner.old.heard) }
     ensures done { IfOk result (λ told.
-        IsDone (link_on runner.old) (words_left draws.old) client
-        (state_at (moment_of runner.old) client) (moment_of runner.old) (moment_of runner.new)
-        (said_text runner.new.book.entries told)) }
+        IsDone (link_on runner.old)
+        (line_drawn (words_left draws.old) client (state_at (moment_of runner.old) client))
+        (moment_of runner.old) (moment_of runner.new) (said_text runner.new.book.entries told)) }
     ensures left { OnOk result (words_left draws.new
         ≡ words_after (words_for (state_at (moment_of runner.old) client)) (words_left draws.old)) }
 {
@@ -144,7 +145,7 @@ fn turn_client(
 }
 
 /// Comes to a slot that is so many later, if it is.
-fn go_on(runner: &mut Runner<'_>, later: u64, counts: &mut Counts)
+fn advance(runner: &mut Runner<'_>, later: u64, counts: &mut Counts)
     requires runner { IsRunner runner.old }
     requires ready { IsReady (moment_of runner.old) }
     requires few { later ≤ 3 }
@@ -188,7 +189,7 @@ fn is_full(told: Told) -> bool
     }
 }
 
-/// Whether a client was told so, if it was asked at all.
+/// Whether a client was told that the journal is full.
 fn is_refused(told: Option<Told>) -> bool
     ensures { (entries : List Entry) → is_full_line (said_text entries told) ≡ result }
 {
@@ -236,7 +237,7 @@ fn run_turn(
         (moment_of runner.new)) }
 {
     let later = u64::from(draws.draw(4));
-    go_on(runner, later, counts);
+    advance(runner, later, counts);
     let client = draws.draw(256) as u8;
     let told = turn_client(alloc, draws, runner, client)?;
     count_turn(counts, is_refused(told));
@@ -244,24 +245,24 @@ fn run_turn(
 }
 
 /// Counts the entries of a journal by their answers.
-fn count_entries(entries: &[Entry]) -> Made
+fn count_entries(entries: &[Entry]) -> EntryCounts
     requires { length entries.now ≤ 1048576 }
-    ensures { result ≡ made_of entries.now }
+    ensures { result ≡ entry_counts_of entries.now }
 {
-    let mut made = Made {
+    let mut counts = EntryCounts {
         admitted: 0,
         overflows: 0,
         halted: 0,
     };
     for entry in entries {
         match entry.answer {
-            Answer::Admitted { .. } => made.admitted += 1,
-            Answer::Overflow { .. } => made.overflows += 1,
-            Answer::Halted => made.halted += 1,
+            Answer::Admitted { .. } => counts.admitted += 1,
+            Answer::Overflow { .. } => counts.overflows += 1,
+            Answer::Halted => counts.halted += 1,
             Answer::Looked { .. } => {}
         }
     }
-    made
+    counts
 }
 
 /// Runs so many turns.

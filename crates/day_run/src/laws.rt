@@ -61,8 +61,8 @@ pub fn law_texts()
 /// What the line of a large day says holds: what was sent is what the journal books in its slots,
 /// and no slot has more than the capacity.
 pub fn law_fair()
-    ensures { (steps : List CapacityStep) (number plays : ℕ) (text : List ℕ) (journal : List Entry) →
-        IsFair steps number plays text journal → IsLegal steps journal →
+    ensures { (steps : List CapacityStep) (number plays : ℕ) (text : List ℕ)
+        (journal : List Entry) → IsFair steps number plays text journal → IsLegal steps journal →
         IsFairLine steps plays text journal }
 {}
 
@@ -168,4 +168,12 @@ pub fn law_one_day()
         (journal others : List Entry) → IsLink link → AreClients lines →
         AreLines (length link.reels) lines → IsDay link lines text journal →
         IsDay link lines other others → (text ≡ other) × (journal ≡ others) }
+{}
+
+/// A large day has one line and one journal: its number, its turns and the link's capacity
+/// determine them.
+pub fn law_one_fair()
+    ensures { (steps : List CapacityStep) (number plays : ℕ) (text other : List ℕ)
+        (journal others : List Entry) → IsFair steps number plays text journal →
+        IsFair steps number plays other others → (text ≡ other) × (journal ≡ others) }
 {}

@@ -7,7 +7,7 @@ ghost use Rattle.day_run.specs.Reels.{reel_pieces, reel_sizes, sending_pieces};
 ghost use Rattle.day_run.specs.ReelContents.{reel_content, reel_units};
 ghost use Rattle.day_run.specs.ClientStates.{trace_content};
 
-use crate::rolls::Rolled;
+use crate::trace_reels::TraceReel;
 use film_frames::{Frames, Part, Stored, TraceTrack, Track, law_piece_sizes};
 use film_run::{Trace, Units};
 use rtp_pack::Identity;
@@ -38,7 +38,7 @@ const NOBODY: Identity = Identity {
 #[derive(Drop)]
 pub(crate) enum Reel<'s> {
     Film(&'s Stored),
-    Trace(Rolled<'s>),
+    Trace(TraceReel<'s>),
 }
 
 /// All of a source as a track.
@@ -58,7 +58,7 @@ impl<'s> Reel<'s> {
     {
         let track = TraceTrack::new(Vec::from_slice(alloc, sizes)?)?;
         let sizes = Trace::new(sizes);
-        Ok(Reel::Trace(Rolled { sizes, track }))
+        Ok(Reel::Trace(TraceReel { sizes, track }))
     }
 
     /// The time of a picture in 1/360,000 second; a trace has one picture a slot.
@@ -87,7 +87,7 @@ impl<'s> Reel<'s> {
                 law_piece_sizes();
                 Sending::Film(Frames::new(stored, 0, end, NOBODY))
             }
-            Reel::Trace(rolled) => Sending::Trace(&rolled.track),
+            Reel::Trace(trace) => Sending::Trace(&trace.track),
         }
     }
 }
@@ -100,14 +100,14 @@ impl Units for Reel<'_> {
     fn count(&self) -> usize {
         match self {
             Reel::Film(stored) => stored.count(),
-            Reel::Trace(rolled) => rolled.sizes.count(),
+            Reel::Trace(trace) => trace.sizes.count(),
         }
     }
 
     fn wire_size(&self, unit: usize) -> u64 {
         match self {
             Reel::Film(stored) => Units::wire_size(*stored, unit),
-            Reel::Trace(rolled) => rolled.sizes.wire_size(unit),
+            Reel::Trace(trace) => trace.sizes.wire_size(unit),
         }
     }
 }

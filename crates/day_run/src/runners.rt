@@ -9,22 +9,23 @@ ghost use Rattle.day_run.specs.Days.{state_at, sent_up_to};
 ghost use Rattle.day_run.specs.Days.{IsAsked, IsLookLine, IsOfferLine, IsPauseLine, IsPlanned};
 ghost use Rattle.day_run.specs.Days.{IsPlayLine, IsResumeLine};
 ghost use Rattle.day_run.specs.FairDays.{most_up_to};
-ghost use Rattle.day_run.specs.Runners.{IsKept, IsRunner, IsWithinRanges, link_on, moment_of};
-ghost use Rattle.day_run.specs.Runners.{offer_lines, told_text};
+ghost use Rattle.day_run.specs.Runners.{IfSaid, IsKept, IsRunner, IsWithinRanges, link_on};
+ghost use Rattle.day_run.specs.Runners.{moment_of, told_text};
 ghost use Rattle.day_run.specs.ReelContents.{reel_content};
 
 use crate::all_clients::{end_each, idle_clients, step_clients};
-use crate::beginnings::{begin_play, plan_rest, reel_at, start_of, whole_of};
-use crate::clients::{Client, Rest, Which};
+use crate::beginnings::{begin_play, reel_at, start_of, whole_of};
+use crate::clients::{Client, HaltedPlays, Rest};
 use crate::reels::Reel;
 use crate::sums::booked_between;
 use admission::{Book, Entry, Full};
 use early_start::Offers;
+use film_run::plan_of;
 use plan_cert::Plan;
 use slot_calendar::Profile;
 use std::alloc::Global;
 use vod_base::NoMemory;
-use wire_curve::CurveFault;
+use wire_curve::{CurveFault, CurveRefused};
 
 /// What is answered to a client.
 #[derive(Clone, Copy)]
@@ -117,8 +118,7 @@ impl<'r> Runner<'r> {
         ensures heard { OnOk result (self.new.heard ≡ self.old.heard) }
         ensures line { IfOk result (λ told.
             IsPlayLine (link_on self.old) client (rest_at (link_on self.old) source buffer delay)
-            (state_at (moment_of self.old) client) (moment_of self.old) (moment_of self.new)
-            (told_text self.new.book.entries told)) }
+            (moment_of self.old) (moment_of self.new) (told_text self.new.book.entries told)) }
     {
         if self.clients[client as usize].is_busy() {
             return Ok(Told::State);
@@ -156,13 +156,14 @@ impl<'r> Runner<'r> {
             IsAsked (link_on self.old) client (rest_of rest.entry)
             (moment_of self.old) (moment_of self.new) (told_text self.new.book.entries told)) }
     {
-        match plan_rest(alloc, &rest)? {
+        match plan_of(alloc, rest.reel, &rest.playback, &rest.run) {
             Ok(plan) => {
                 let paced = plan.copy()?;
                 let kept = plan.copy()?;
                 Ok(self.book_play(client, rest, plan, kept, paced))
             }
-            Err(fault) => Ok(Told::Fault(fault)),
+            Err(CurveRefused::Fault(fault)) => Ok(Told::Fault(fault)),
+            Err(CurveRefused::NoMemory) => Err(NoMemory),
         }
     }
 
@@ -232,29 +233,27 @@ impl<'r> Runner<'r> {
         buffer: u64,
         delay: u64,
         wait: u64,
-    ) -> Result<Result<Offers, CurveFault>, NoMemory>
+    ) -> Result<Offers, CurveRefused>
         requires runner { IsRunner self.now }
         requires source { source < length self.now.reels.now }
         requires asked { IsWithinRanges 1 buffer delay }
         requires wait { wait ≤ 255 }
-        ensures { IfOk result (λ offered.
-            IsOfferLine (link_on self.now) (rest_at (link_on self.now) source buffer delay) wait
-            (moment_of self.now) (moment_of self.now) (offer_lines offered)) }
+        ensures { IfSaid result
+            (IsOfferLine (link_on self.now) (rest_at (link_on self.now) source buffer delay) wait
+            (moment_of self.now) (moment_of self.now)) }
     {
         let Some(rest) = whole_of(reel_at(self.reels, source), self.slot_units, buffer, delay)
         else {
-            return Ok(Err(CurveFault::NoPictures));
+            return Err(CurveRefused::Fault(CurveFault::NoPictures));
         };
-        match plan_rest(alloc, &rest)? {
-            Ok(plan) => {
-                let mut offers = Offers::new(alloc, wait)?;
-                let _legal = self.book.entries();
-                let calendar = self.book.calendar();
-                offers.find(calendar, &plan, calendar.now().max(self.heard) + 1);
-                Ok(Ok(offers))
-            }
-            Err(fault) => Ok(Err(fault)),
-        }
+        let plan = plan_of(alloc, rest.reel, &rest.playback, &rest.run)?;
+        let Ok(mut offers) = Offers::new(alloc, wait) else {
+            return Err(CurveRefused::NoMemory);
+        };
+        let _legal = self.book.entries();
+        let calendar = self.book.calendar();
+        offers.find(calendar, &plan, calendar.now().max(self.heard) + 1);
+        Ok(offers)
     }
 
     /// The link comes to a slot: what is due is sent, and plays that are done are halted.
@@ -274,7 +273,7 @@ impl<'r> Runner<'r> {
         let sent = step_clients(&mut self.clients, slot);
         let (booked, peak) = booked_between(&self.book, self.heard, slot);
         self.heard = slot;
-        end_each(&mut self.book, &mut self.clients, Which::Done);
+        end_each(&mut self.book, &mut self.clients, HaltedPlays::Done);
         Passed { sent, booked, peak }
     }
 
@@ -284,7 +283,7 @@ impl<'r> Runner<'r> {
         ensures kept { IsKept self.old self.new }
         ensures journal { self.new.book.entries ≡ last_journal (moment_of self.old) }
     {
-        end_each(&mut self.book, &mut self.clients, Which::Open);
+        end_each(&mut self.book, &mut self.clients, HaltedPlays::Open);
     }
 
     /// The entries of its journal.

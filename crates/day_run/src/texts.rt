@@ -2,11 +2,11 @@
 
 ghost use Rattle.std.specs.Prelude.{◌≡◌, ◌++◌, OnOk, codes, flat_map};
 ghost use Rattle.vod_base.specs.Fields.{field};
-ghost use Rattle.day_run.specs.Prints.{fair_text, fault_text, fault_words, full_text, made_words};
+ghost use Rattle.day_run.specs.Prints.{entry_words, fair_text, fault_text, fault_words, full_text};
 ghost use Rattle.day_run.specs.Prints.{offer_text, slot_text, slot_words, start_words, state_text};
 ghost use Rattle.day_run.specs.Prints.{sum_words, tried_text, turn_words};
 
-use crate::counts::{Counts, Made};
+use crate::counts::{Counts, EntryCounts};
 use admission::Full;
 use early_start::{Offers, Tried};
 use vod_base::{NoMemory, push, push_field};
@@ -66,10 +66,14 @@ pub(crate) fn push_offer(out: &mut Vec<u8>, offers: &Offers) -> Result<(), NoMem
 
 /// Appends the line of a fair.
 #[tactic(auto, using(std::proofs::lemmas::List::append_assoc))]
-pub(crate) fn push_fair(out: &mut Vec<u8>, counts: &Counts, made: &Made) -> Result<(), NoMemory>
-    ensures { OnOk result (out.new.items ≡ out.old.items ++ fair_text counts.now made.now) }
+pub(crate) fn push_fair(
+    out: &mut Vec<u8>,
+    counts: &Counts,
+    entries: &EntryCounts,
+) -> Result<(), NoMemory>
+    ensures { OnOk result (out.new.items ≡ out.old.items ++ fair_text counts.now entries.now) }
 {
-    push_turns(out, counts, made)?;
+    push_turns(out, counts, entries)?;
     push_slots(out, counts)?;
     push(out, b"\n")
 }
@@ -143,14 +147,14 @@ fn push_start(out: &mut Vec<u8>, start: Option<u64>) -> Result<(), NoMemory>
     }
 }
 
-/// Appends what was made in a fair.
-#[tactic(auto, using(crate::proofs::TextSteps::joins), unfolding(crate::specs::Prints::made_words))]
-fn push_made(out: &mut Vec<u8>, made: &Made) -> Result<(), NoMemory>
-    ensures { OnOk result (out.new.items ≡ out.old.items ++ made_words made.now) }
+/// Appends how many entries of a fair have each answer.
+#[tactic(auto, using(crate::proofs::TextSteps::joins), unfolding(crate::specs::Prints::entry_words))]
+fn push_entries(out: &mut Vec<u8>, entries: &EntryCounts) -> Result<(), NoMemory>
+    ensures { OnOk result (out.new.items ≡ out.old.items ++ entry_words entries.now) }
 {
-    push_field(out, b" admitted=", made.admitted)?;
-    push_field(out, b" overflow=", made.overflows)?;
-    push_field(out, b" halted=", made.halted)
+    push_field(out, b" admitted=", entries.admitted)?;
+    push_field(out, b" overflow=", entries.overflows)?;
+    push_field(out, b" halted=", entries.halted)
 }
 
 /// Appends what a fair's slots brought.
@@ -163,13 +167,13 @@ fn push_sums(out: &mut Vec<u8>, counts: &Counts) -> Result<(), NoMemory>
     push_field(out, b" peak=", counts.peak)
 }
 
-/// Appends the turns of a fair and what was made in them.
+/// Appends the turns of a fair and how many entries have each answer.
 #[tactic(auto, using(crate::proofs::TextSteps::joins), unfolding(crate::specs::Prints::turn_words))]
-fn push_turns(out: &mut Vec<u8>, counts: &Counts, made: &Made) -> Result<(), NoMemory>
-    ensures { OnOk result (out.new.items ≡ out.old.items ++ turn_words counts.now made.now) }
+fn push_turns(out: &mut Vec<u8>, counts: &Counts, entries: &EntryCounts) -> Result<(), NoMemory>
+    ensures { OnOk result (out.new.items ≡ out.old.items ++ turn_words counts.now entries.now) }
 {
     push_field(out, b"fair turns=", counts.turns)?;
-    push_made(out, made)
+    push_entries(out, entries)
 }
 
 /// Appends how often the journal was full, the last slot, and what the slots brought.

@@ -9,8 +9,8 @@ pub loop-client-preserved : goal.loop-client-preserved
 loop-client-preserved c =
     let inv = c.loop-client.invariant in
     let cs = c.loop-client.clients in
-    let i = c.loop-client.client in
-    let old = c.index-clients-client.result in
+    let i = c.loop-client.client-index in
+    let old = c.client-item.result in
     let new = c.step-sent.new.self in
     let inside : i < length cs = omega arith in
     record {

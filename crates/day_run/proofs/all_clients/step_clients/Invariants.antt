@@ -8,7 +8,7 @@ abbrev pub invariant-loop-client : goal.invariant-loop-client
 invariant-loop-client l = record {
   going : AreGoing l.clients;
   booked : (entries : List Entry) → AreBooked entries l.initial.clients → AreBooked entries l.clients;
-  few : l.sent ≤ l.client * 2 ^ 42;
+  few : l.sent ≤ l.client-index * 2 ^ 42;
   steps : (heard : ℕ) → heard ≤ l.slot → AreTimed heard l.initial.clients
-      → AreStepsTo l.client heard l.slot l.initial.clients l.clients l.sent;
+      → AreStepsTo l.client-index heard l.slot l.initial.clients l.clients l.sent;
 }

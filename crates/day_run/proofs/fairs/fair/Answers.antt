@@ -1,6 +1,6 @@
 use Rattle.std.proofs.Common.{◌≡◌, ◌++◌, ℕ, List, map, ap, ◌∙◌}
 use Rattle.film_make.specs.Generator.{words_of}
-use Rattle.day_run.specs.FairDays.{after_traces, fair_link, made_of, traces_drawn}
+use Rattle.day_run.specs.FairDays.{after_traces, entry_counts_of, fair_link, traces_drawn}
 use Rattle.day_run.specs.Fairs.{sizes_in}
 use Rattle.day_run.specs.Prints.{fair_text}
 use Rattle.day_run.specs.Runners.{link_on}
@@ -24,6 +24,6 @@ returns-clause-fair c =
     link
     (c.in_ok-traces.ensures.left ∙ ap (after_traces 16) c.new-draws.ensures) c.in_ok-counts.ensures.come
     (c.into_entries-journal.ensures.value ∙ c.end.ensures.journal)
-    (c.count_entries-made.ensures ∙ ap made_of c.deref-3.ensures.value)
+    (c.count_entries-entries.ensures ∙ ap entry_counts_of c.deref-3.ensures.value)
     (c.in_ok-push_fair.ensures
-    ∙ ap (λ (l : List ℕ). l ++ fair_text c.in_ok-counts.counts c.count_entries-made.result) c.new-text.ensures.items)
+    ∙ ap (λ (l : List ℕ). l ++ fair_text c.in_ok-counts.counts c.count_entries-entries.result) c.new-text.ensures.items)

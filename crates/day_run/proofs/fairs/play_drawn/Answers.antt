@@ -1,8 +1,7 @@
 use Rattle.std.proofs.Common.{◌+◌, ◌%◌, ap, ◌∙◌}
 use Rattle.film_make.specs.Generator.{words_left}
-use Rattle.day_run.specs.Days.{state_at}
 use Rattle.day_run.specs.Runners.{link_on, moment_of}
-use Rattle.day_run.proofs.FairTurns.{line-drawn, ok-of, second-word, third-word, three-left}
+use Rattle.day_run.proofs.FairTurns.{play-drawn, ok-of, second-word, third-word, three-left}
 use Rattle.day_run.proofs.fairs.play_drawn.Goals as goal
 
 pub returns-clause-line : goal.returns-clause-line
@@ -10,13 +9,13 @@ returns-clause-line c =
     let w = words_left c.args.draws.now in
     let one = c.draw-source.ensures.left in
     let two = c.draw.ensures.left in
-    line-drawn c.play.result (record {
+    play-drawn c.play.result (record {
       link = link_on c.args.runner.now;
       client = c.args.client;
       old = moment_of c.args.runner.now;
       new = _;
       entries = _;
-    }) (state_at (moment_of c.args.runner.now) c.args.client) (record {
+    }) (record {
       sources_are = c.draw-source.ensures.value;
       buffers_are =
           ap (λ n. 16384 + n) (c.from-buffer.ensures ∙ c.draw.ensures.value

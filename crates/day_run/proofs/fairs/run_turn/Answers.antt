@@ -8,7 +8,7 @@ use Rattle.day_run.proofs.fairs.run_turn.Goals as goal
 
 pub returns-clause-ready : goal.returns-clause-ready
 returns-clause-ready c =
-    let mid = c.go_on.new.runner in
+    let mid = c.advance.new.runner in
     let client : c.draw-client.result < 256 = omega (arith, c.draw-client.ensures.value) in
     done-ready (record {
       link = link_on mid;
@@ -16,11 +16,11 @@ returns-clause-ready c =
       new = moment_of c.turn_client.new.runner;
       text = said_text c.turn_client.new.runner.book.entries c.in_ok-told.told;
     }) (words_left c.draw-client.new.self)
-    (record { client = client; at = refl }) c.in_ok-told.ensures.done c.go_on.ensures.ready
+    (record { client = client; at = refl }) c.in_ok-told.ensures.done c.advance.ensures.ready
 
 pub returns-clause-turned : goal.returns-clause-turned
 returns-clause-turned c =
-    let mid = c.go_on.new.runner in
+    let mid = c.advance.new.runner in
     let new = c.turn_client.new.runner in
     let turn : Turn =
     record {
@@ -30,15 +30,15 @@ returns-clause-turned c =
       text = said_text new.book.entries c.in_ok-told.told;
     } in
     turn-of turn (record {
-      same = c.go_on.ensures.kept.link;
+      same = c.advance.ensures.kept.link;
       one = c.draw.ensures.left;
       two = c.draw-client.ensures.left;
       later_is = c.from-later.ensures ∙ c.draw.ensures.value;
       who = c.draw-client.ensures.value;
-      slot = c.go_on.ensures.moment;
+      slot = c.advance.ensures.moment;
       done = c.in_ok-told.ensures.done;
       left = c.in_ok-told.ensures.left;
-      counted = c.go_on.ensures.counts;
+      counted = c.advance.ensures.counts;
       told = c.is_refused.ensures new.book.entries;
       counts_are = c.count_turn.ensures;
     })

@@ -7,7 +7,7 @@ use Rattle.day_run.proofs.texts.push_fair.Goals as goal
 pub returns : goal.returns
 returns c =
     let out = c.args.out.now.items in
-    let turns = turn_words c.args.counts.now c.args.made.now in
+    let turns = turn_words c.args.counts.now c.args.entries.now in
     let slots = slot_words c.args.counts.now in
     then_more c.push.result (record {
       before = out;

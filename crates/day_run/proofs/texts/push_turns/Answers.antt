@@ -1,14 +1,14 @@
 use Rattle.std.proofs.Common.{codes}
 use Rattle.vod_base.specs.Fields.{field}
-use Rattle.day_run.specs.Prints.{made_words, turn_words}
+use Rattle.day_run.specs.Prints.{entry_words, turn_words}
 use Rattle.day_run.proofs.TextSteps.{then_more}
 use Rattle.day_run.proofs.texts.push_turns.Goals as goal
 
 pub returns : goal.returns
 unfolding turn_words
 returns c =
-    then_more c.push_made.result (record {
+    then_more c.push_entries.result (record {
       before = c.args.out.now.items;
       text = field (codes "fair turns=") c.args.counts.now.turns;
       whole = c.in_ok-push_field.ensures.whole;
-    }) (made_words c.args.made.now) c.push_made.new.out.items c.push_made.ensures
+    }) (entry_words c.args.entries.now) c.push_entries.new.out.items c.push_entries.ensures

@@ -1,6 +1,5 @@
-use Rattle.std.proofs.Common.{◌≡◌, ◌<◌, ◌≤◌, ◌+◌, ℕ, max, List, IfOk, Result, refl, sym, ap, subst, ◌∙◌, inr, arith}
-use Rattle.plan_cert.specs.declared.Segment.{Segment}
-use Rattle.wire_curve.specs.declared.film.CurveFault.{CurveFault}
+use Rattle.std.proofs.Common.{◌≡◌, ◌<◌, ◌≤◌, ◌+◌, ℕ, max, refl, sym, ap, subst, ◌∙◌, inr, arith}
+use Rattle.std.proofs.Common.{List}
 use Rattle.slot_calendar.specs.Profiles.{capacity_at}
 use Rattle.admission.specs.Histories.{state_after}
 use Rattle.admission.specs.Machine.{booked_in, plays_of}
@@ -9,25 +8,23 @@ use Rattle.slot_calendar.proofs.Everywhere.{StandsWithin}
 use Rattle.early_start.proofs.Everywhere.{offer_everywhere}
 use Rattle.early_start.specs.Offered.{IsOffer}
 use Rattle.slot_calendar.specs.declared.profiles.CapacityStep.{CapacityStep}
-use Rattle.day_run.specs.Clients.{IsPlanFor, rest_of}
+use Rattle.day_run.specs.Clients.{rest_of}
 use Rattle.day_run.specs.Days.{IsOfferLine, rest_at}
 use Rattle.day_run.specs.Prints.{offer_text}
 use Rattle.day_run.specs.Runners.{link_on, moment_of}
 use Rattle.day_run.specs.ClientStates.{Rest, ReelContent, no_reel, whole_rest}
 use Rattle.day_run.proofs.runners.Runner.offer.Goals as goal
 
-pub returns-in_ok-offers-in-Ok : goal.returns-in_ok-offers-in-Ok
-returns-in_ok-offers-in-Ok c =
+pub returns : goal.returns
+returns c =
     let r = c.args.self.now in
     let state = state_after r.book.entries in
     let rest = c.in-Some.rest in
     let calendar = c.calendar-calendar.result.now in
     let found = c.find.new.self in
-    let plan = c.in-Ok.plan in
+    let plan = c.in_ok-plan.plan in
     let within : (t : ℕ) → booked_in state t ≤ capacity_at r.book.steps t =
     (sound-after r.book.steps r.book.entries c.entries-legal.ensures.legal).within.each in
-    let P : Result (List Segment) CurveFault → Type 0 = λ p. IfOk p (IsPlanFor rest) in
-    let planned : IsPlanFor rest plan = subst P c.in-Ok.is c.in_ok-plan.ensures.plan in
     let S : List CapacityStep → Type 0 = λ s. (t : ℕ) → booked_in state t ≤ capacity_at s t in
     let late : calendar.first < c.max.result + 1 = omega arith in
     let its : StandsWithin (capacity_at calendar.steps) calendar (plays_of state) =
@@ -37,19 +34,21 @@ returns-in_ok-offers-in-Ok c =
           subst S (sym c.calendar-calendar.ensures.steps) within;
     } in
     let offer = offer_everywhere its late c.find.ensures.offer in
-    let O : List CapacityStep → Type 0 = λ s. IsOffer 0 (booked_in state) (capacity_at s) plan (c.max.result + 1) found in
+    let O : List CapacityStep → Type 0 =
+    λ s. IsOffer 0 (booked_in state) (capacity_at s) plan (c.max.result + 1) found in
     let first : c.max.result + 1 ≡ max state.now r.heard + 1 = omega (arith, c.calendar-calendar.ensures.now) in
     let F : ℕ → Type 0 = λ n. IsOffer 0 (booked_in state) (capacity_at r.book.steps) plan n found in
     let at : rest_of rest ≡ rest_at (link_on r) c.args.source c.args.buffer c.args.delay =
     c.in-Some.ensures.whole
     ∙ ap (λ (t : ReelContent). whole_rest r.slot_units t c.args.buffer c.args.delay)
     (sym (c.reel_at.ensures r.slot_units no_reel)) in
-    let R : Rest → Type 0 = λ x. IsOfferLine (link_on r) x c.args.wait (moment_of r) (moment_of r) (offer_text found) in
+    let R : Rest → Type 0 =
+    λ x. IsOfferLine (link_on r) x c.args.wait (moment_of r) (moment_of r) (offer_text found) in
     subst R at (inr (record {
       plan = plan;
-      plan_is = planned.plan_is;
+      plan_is = c.in_ok-plan.ensures.plan;
       found = found;
-      wait_is = c.find.ensures.wait ∙ c.in_ok-offers-in-Ok.ensures.wait;
+      wait_is = c.find.ensures.wait ∙ c.in-Ok.ensures.wait;
       found_is = subst F first (subst O c.calendar-calendar.ensures.steps offer);
       told = record { kept = refl; text_is = refl };
     }))

@@ -1,13 +1,13 @@
-//! A trace that is played, with its track.
+//! The reel of a trace.
 
 ghost use Rattle.std.specs.Prelude.{◌≡◌};
 
 use film_frames::TraceTrack;
 use film_run::Trace;
 
-/// A trace with its track.
+/// A trace as it is played: its sizes, and its track.
 #[derive(Drop)]
-pub(crate) struct Rolled<'s> {
+pub(crate) struct TraceReel<'s> {
     pub(crate) sizes: Trace<'s>,
     pub(crate) track: TraceTrack,
     pub(crate) ghost same: { track ≡ sizes },

@@ -2,7 +2,7 @@ use Rattle.std.proofs.Common.{◌≡◌, ◌+◌, sym, ◌∙◌, arith}
 use Rattle.day_run.specs.Runners.{moment_of}
 use Rattle.day_run.proofs.BalancedLines.{ready-sent, slot-ready}
 use Rattle.day_run.proofs.FairTurns.{same-counts}
-use Rattle.day_run.proofs.fairs.go_on.Goals as goal
+use Rattle.day_run.proofs.fairs.advance.Goals as goal
 
 pub overflow_add-counts : goal.overflow_add-counts
 overflow_add-counts c =
