@@ -1,16 +1,13 @@
 //! What all clients of a day do: they come to a slot, and plays are halted.
 
-ghost use Rattle.std.specs.Prelude.{◌≡◌, ◌≤◌, ◌<◌, ◌++◌, ℕ, List, length, map, slice_set};
-ghost use Rattle.std.specs.Prelude.{slice_index_or, IfSome, IfNone, IfOk, OnSome};
+ghost use Rattle.std.specs.Prelude.{◌≡◌, ◌≤◌, ◌++◌, ℕ, List, length, map, IfOk};
 ghost use Rattle.admission.specs.declared.entries.Entry.{Entry};
-ghost use Rattle.day_run.specs.declared.clients.Client.{Client};
-ghost use Rattle.day_run.specs.declared.clients.Client.TheVariants.{Idle};
 ghost use Rattle.day_run.specs.Clients.{AreBooked, AreGoing, AreIdle, AreSteps, AreTimed};
 ghost use Rattle.day_run.specs.Clients.{AreOnBook, AreUndone, IsSameBook};
-ghost use Rattle.day_run.specs.Clients.{IsHaltOf, halt_for, halts_of, state_for, state_of};
+ghost use Rattle.day_run.specs.Clients.{halt_for, state_for, state_of};
 ghost use Rattle.day_run.specs.Days.{halt_entries};
 
-use crate::clients::{Client, Halt, HaltedPlays};
+use crate::clients::{Client, HaltedPlays};
 use admission::Book;
 use std::alloc::Global;
 use vod_base::NoMemory;
@@ -60,27 +57,10 @@ pub(crate) fn end_each(book: &mut Book, clients: &mut [Client<'_>], which: Halte
     ensures states { (slot : ℕ) → AreTimed slot clients.old →
         map state_of clients.new ≡ map (state_for which slot) (map state_of clients.old) }
 {
-    for client in 0..clients.len() {
-        let halt = clients[client].halt_of(which);
-        end_play(book, clients, client, halt);
-    }
-}
-
-/// Halts a client's play.
-fn end_play(book: &mut Book, clients: &mut [Client<'_>], client: usize, halt: Option<Halt>)
-    requires inside { client < length clients.old }
-    requires few { length clients.old ≤ 256 }
-    requires halt { IfSome halt (λ h. (none : Client) →
-        IsHaltOf (slice_index_or clients.old client none) h) }
-    requires sound { AreOnBook book.old.entries clients.old }
-    ensures sound { AreOnBook book.new.entries clients.new }
-    ensures kept { IsSameBook book.old book.new }
-    ensures ended { OnSome halt (clients.new ≡ slice_set clients.old client Idle) }
-    ensures left { IfNone halt (clients.new ≡ clients.old) }
-    ensures entries { book.new.entries ≡ book.old.entries ++ halts_of client halt }
-{
-    if let Some(halt) = halt {
-        clients[client] = Client::Idle;
-        let _noted = book.halt(client as u32, halt.number, halt.keep);
+    for (maker, client) in clients.iter_mut().enumerate() {
+        if let Some(halt) = client.halt_of(which) {
+            *client = Client::Idle;
+            let _noted = book.halt(maker as u32, halt.number, halt.keep);
+        }
     }
 }

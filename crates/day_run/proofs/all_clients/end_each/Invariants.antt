@@ -3,12 +3,12 @@ use Rattle.day_run.specs.Clients.{AreOnBook, AreTimed, AreUndone, IsSameBook, ha
 use Rattle.day_run.proofs.Sweeps.{AreEndedTo}
 use Rattle.day_run.proofs.all_clients.end_each.Given as goal
 
-abbrev pub invariant-loop-client : goal.invariant-loop-client
-invariant-loop-client l = record {
+abbrev pub invariant-loop-maker : goal.invariant-loop-maker
+invariant-loop-maker l = record {
   sound : AreOnBook l.book.entries l.clients;
   kept : IsSameBook l.initial.book l.book;
-  undone : AreUndone l.client l.clients;
+  undone : AreUndone l.maker l.clients;
   ended : (slot : ℕ) → AreTimed slot l.initial.clients
-      → AreEndedTo (halt_for l.which slot) (state_for l.which slot) slot l.client l.initial.book.entries
+      → AreEndedTo (halt_for l.which slot) (state_for l.which slot) slot l.maker l.initial.book.entries
       l.book.entries l.initial.clients l.clients;
 }
