@@ -31,7 +31,7 @@ mod TraceReels
 mod SlotSums
 mod Drawn
 mod TriedTexts
-mod TextSteps
+mod TextLaws
 mod OfferLaws
 mod SpelledLines
 mod SpelledWords

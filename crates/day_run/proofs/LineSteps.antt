@@ -166,8 +166,8 @@ pub record PlayAdmitted (slot start heard : ℕ) (answer : Answer) (steps : List
 
 -- a play that was admitted hasn't come to its first slot
 pub begun-timed : {slot start heard : ℕ} {answer : Answer} {steps : List CapacityStep} {state : State}
-    {plan : List Segment} (play : ClientPlay) → PlayAdmitted slot start heard answer steps state plan → play.pacer.start ≡ start
-    → play.pacer.passed ≡ 0
+    {plan : List Segment} (play : ClientPlay) → PlayAdmitted slot start heard answer steps state plan
+    → play.pacer.start ≡ start → play.pacer.passed ≡ 0
     → IsTimed heard (clients.Playing play)
 begun-timed {slot} {start} {steps} {state} {plan} play admitted at begun =
     let A : Answer → Type 0 = λ a. IsAnswer steps state (commands.Play slot plan) a in

@@ -148,7 +148,7 @@ fn push_start(out: &mut Vec<u8>, start: Option<u64>) -> Result<(), NoMemory>
 }
 
 /// Appends how many entries of a fair have each answer.
-#[tactic(auto, using(crate::proofs::TextSteps::joins), unfolding(crate::specs::Prints::entry_words))]
+#[tactic(auto, using(crate::proofs::TextLaws::joins), unfolding(crate::specs::Prints::entry_words))]
 fn push_entries(out: &mut Vec<u8>, entries: &EntryCounts) -> Result<(), NoMemory>
     ensures { OnOk result (out.new.items ≡ out.old.items ++ entry_words entries.now) }
 {
@@ -158,7 +158,7 @@ fn push_entries(out: &mut Vec<u8>, entries: &EntryCounts) -> Result<(), NoMemory
 }
 
 /// Appends what a fair's slots brought.
-#[tactic(auto, using(crate::proofs::TextSteps::joins), unfolding(crate::specs::Prints::sum_words))]
+#[tactic(auto, using(crate::proofs::TextLaws::joins), unfolding(crate::specs::Prints::sum_words))]
 fn push_sums(out: &mut Vec<u8>, counts: &Counts) -> Result<(), NoMemory>
     ensures { OnOk result (out.new.items ≡ out.old.items ++ sum_words counts.now) }
 {
@@ -168,7 +168,7 @@ fn push_sums(out: &mut Vec<u8>, counts: &Counts) -> Result<(), NoMemory>
 }
 
 /// Appends the turns of a fair and how many entries have each answer.
-#[tactic(auto, using(crate::proofs::TextSteps::joins), unfolding(crate::specs::Prints::turn_words))]
+#[tactic(auto, using(crate::proofs::TextLaws::joins), unfolding(crate::specs::Prints::turn_words))]
 fn push_turns(out: &mut Vec<u8>, counts: &Counts, entries: &EntryCounts) -> Result<(), NoMemory>
     ensures { OnOk result (out.new.items ≡ out.old.items ++ turn_words counts.now entries.now) }
 {
@@ -177,7 +177,7 @@ fn push_turns(out: &mut Vec<u8>, counts: &Counts, entries: &EntryCounts) -> Resu
 }
 
 /// Appends how often the journal was full, the last slot, and what the slots brought.
-#[tactic(auto, using(crate::proofs::TextSteps::joins), unfolding(crate::specs::Prints::slot_words))]
+#[tactic(auto, using(crate::proofs::TextLaws::joins), unfolding(crate::specs::Prints::slot_words))]
 fn push_slots(out: &mut Vec<u8>, counts: &Counts) -> Result<(), NoMemory>
     ensures { OnOk result (out.new.items ≡ out.old.items ++ slot_words counts.now) }
 {

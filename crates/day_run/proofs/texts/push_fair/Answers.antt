@@ -1,7 +1,7 @@
 use Rattle.std.proofs.Common.{◌++◌, codes}
 use Rattle.vod_base.proofs.AppendLemmas.{both}
 use Rattle.day_run.specs.Prints.{slot_words, turn_words}
-use Rattle.day_run.proofs.TextSteps.{then_more}
+use Rattle.day_run.proofs.TextLaws.{then_more}
 use Rattle.day_run.proofs.texts.push_fair.Goals as goal
 
 pub returns : goal.returns

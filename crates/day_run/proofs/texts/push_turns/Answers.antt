@@ -1,7 +1,7 @@
 use Rattle.std.proofs.Common.{codes}
 use Rattle.vod_base.specs.Fields.{field}
 use Rattle.day_run.specs.Prints.{entry_words, turn_words}
-use Rattle.day_run.proofs.TextSteps.{then_more}
+use Rattle.day_run.proofs.TextLaws.{then_more}
 use Rattle.day_run.proofs.texts.push_turns.Goals as goal
 
 pub returns : goal.returns
