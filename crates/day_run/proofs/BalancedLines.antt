@@ -15,6 +15,7 @@ use Rattle.admission.specs.Machine.{Held, State}
 use Rattle.admission.proofs.Runs.{state-push}
 use Rattle.day_run.specs.declared.scripts.Line.{Line}
 use Rattle.day_run.specs.declared.scripts.Line.TheVariants as lines
+use Rattle.day_run.specs.Days.{AskedPlay}
 use Rattle.day_run.specs.Days.{AreRun, IsAsked, IsHaltedPlay, IsLine, IsLookLine, IsOfferLine}
 use Rattle.day_run.specs.Days.{IsPauseLine, IsResumeLine, Link, Moment, at_slot}
 use Rattle.day_run.specs.Days.{booked_up_to, entry_by, first_moment, rest_at, state_at, sent_up_to, with_play}
@@ -24,7 +25,7 @@ use Rattle.day_run.specs.ClientStates.{after_play, after_sending, sent_by}
 use Rattle.day_run.specs.Balanced.{AreHeldOf, IsBalanced, IsReady, share_of}
 use Rattle.day_run.proofs.Balances.{IsShut, balanced-halt, balanced-play, balanced-same, balanced-sent}
 use Rattle.day_run.proofs.BalancedSlots.{balanced-slot, pausing-share}
-use Rattle.day_run.proofs.Takings.{AskedPlay, ClientOf, IsPlayTaken, LineStep, LinesTaken, StandingLine}
+use Rattle.day_run.proofs.Takings.{ClientOf, IsPlayTaken, LineStep, LinesTaken, StandingLine}
 use Rattle.day_run.proofs.Takings.{StandingLines, first-standing, rest-standing, standing_of}
 
 pub ready-kept : (old new : Moment) → new ≡ old → IsReady old → IsReady new
@@ -39,17 +40,17 @@ ready-made {new} old e is count balanced =
     let R : Moment → Type 0 = λ m. IsReady m in
     subst R (sym is) (record { count = count; balanced = balanced })
 
-answered : {old new : Moment} (answer : Answer) (ask : AskedPlay) → ask.c < 256
-    → ((t : ℕ) → share_of t (get_or old.states ask.c Idle) ≡ 0)
+answered : {old new : Moment} (answer : Answer) (ask : AskedPlay) → ask.client < 256
+    → ((t : ℕ) → share_of t (get_or old.states ask.client Idle) ≡ 0)
     → new ≡ record {
-      entries = old.entries ++ entry_by ask.c (commands.Play old.heard ask.plan) answer ∷ [];
-      states = with_play ask.c ask.rest ask.plan (length old.entries) answer old.states;
+      entries = old.entries ++ entry_by ask.client (commands.Play old.heard ask.plan) answer ∷ [];
+      states = with_play ask.client ask.rest ask.plan (length old.entries) answer old.states;
       heard = old.heard;
     } → IsReady old → IsReady new
 answered {old} {new} (Admitted start) ask client free is ready =
     let play : Play = record { number = length old.entries; rest = ask.rest; plan = ask.plan; start = start } in
-    let e = entry_by ask.c (commands.Play old.heard ask.plan) (Admitted start) in
-    ready-made old e is (length-set old.states ask.c (Playing play) ∙ ready.count)
+    let e = entry_by ask.client (commands.Play old.heard ask.plan) (Admitted start) in
+    ready-made old e is (length-set old.states ask.client (Playing play) ∙ ready.count)
     (balanced-play
     (record {
       play = play;
@@ -59,17 +60,17 @@ answered {old} {new} (Admitted start) ask client free is ready =
       is = ap (λ (s : State). s.held) (state-push old.entries e);
     }) (omega (arith, client, ready.count)) free ready.balanced)
 answered {old} {new} (Overflow over booked asked) ask client free is ready =
-    let e = entry_by ask.c (commands.Play old.heard ask.plan) (Overflow over booked asked) in
+    let e = entry_by ask.client (commands.Play old.heard ask.plan) (Overflow over booked asked) in
     ready-made old e is ready.count
     (balanced-same old.entries old.states old.heard e
     (ap (λ (s : State). s.held) (state-push old.entries e)) ready.balanced)
 answered {old} {new} Halted ask client free is ready =
-    let e = entry_by ask.c (commands.Play old.heard ask.plan) Halted in
+    let e = entry_by ask.client (commands.Play old.heard ask.plan) Halted in
     ready-made old e is ready.count
     (balanced-same old.entries old.states old.heard e
     (ap (λ (s : State). s.held) (state-push old.entries e)) ready.balanced)
 answered {old} {new} (Looked now at booked) ask client free is ready =
-    let e = entry_by ask.c (commands.Play old.heard ask.plan) (Looked now at booked) in
+    let e = entry_by ask.client (commands.Play old.heard ask.plan) (Looked now at booked) in
     ready-made old e is ready.count
     (balanced-same old.entries old.states old.heard e
     (ap (λ (s : State). s.held) (state-push old.entries e)) ready.balanced)
@@ -81,7 +82,7 @@ asked {c} {old} {new} {text} client free (inl faulty) ready = ready-kept old new
 asked {c} {rest} {old} {new} {text} client free (inr planned) ready = elim planned.done [
   | inl full ↦ ready-kept old new full.told.kept ready
   | inr made ↦
-      answered made.answer (record { c = c; rest = rest; plan = planned.plan }) client free made.noted.new_is ready
+      answered made.answer (record { client = c; rest = rest; plan = planned.plan }) client free made.noted.new_is ready
 ]
 
 pub play-ready : {c : ℕ} {state : ClientState} (step : LineStep) (rest : Rest) → ClientOf step.old c state

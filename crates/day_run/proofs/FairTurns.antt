@@ -21,7 +21,7 @@ use Rattle.day_run.specs.Days.{Link, Moment, last_journal, IsPlayLine, first_mom
 use Rattle.day_run.specs.FairDays.{AreTurns, IsDone, IsTurn, Turn, after_traces, after_turn}
 use Rattle.day_run.specs.FairDays.{at_later, counts_of, fair_link, IsFair, is_full_line, is_refused}
 use Rattle.day_run.specs.FairDays.{line_drawn, line_in, entry_counts_of, turn_booked, turn_peak, turn_sent, words_for}
-use Rattle.day_run.specs.Fairs.{HasCome, HasTurned, after_turns, with_slot, with_turn}
+use Rattle.day_run.specs.Fairs.{HasCome, HasTurned, after_turns, drawn_to, with_slot, with_turn}
 use Rattle.day_run.specs.Prints.{fair_text}
 use Rattle.day_run.specs.declared.runners.Told.{Told}
 use Rattle.day_run.specs.Runners.{told_text}
@@ -110,7 +110,8 @@ pub record TurnSteps (link here : Link) (w w1 w2 w3 : ℕ → ℕ) (later client
 
 -- ---- one turn
 pub turn-of : {link here : Link} {w w1 w2 w3 : ℕ → ℕ} {later client : ℕ} {c c1 c2 : Counts} {full : Bool} (turn : Turn)
-    → TurnSteps link here w w1 w2 w3 later client c c1 c2 full turn → HasTurned link w w3 c c2 turn.old turn.new
+    → TurnSteps link here w w1 w2 w3 later client c c1 c2 full turn
+    → HasTurned link (drawn_to w c turn.old) (drawn_to w3 c2 turn.new)
 turn-of {here} {w} {w2} {later} {client} {c} {full} turn steps =
     let who-is : client ≡ w 1 % 256 = who ∙ ap (λ (f : ℕ → ℕ). f 0 % 256) one
     ∙ ap (λ k. k % 256) (words_after-at 1 w 0) in
@@ -185,7 +186,8 @@ come-none link words counts moment is c =
 
 pub come-next : {link here : Link} {words left next : ℕ → ℕ} {n : ℕ} {counts more : Counts} {old new : Moment}
     → here ≡ link → HasCome link words left n counts old
-    → HasTurned here left next counts more old new → more.last ≡ new.heard → HasCome link words next (n + 1) more new
+    → HasTurned here (drawn_to left counts old) (drawn_to next more new) → more.last ≡ new.heard
+    → HasCome link words next (n + 1) more new
 come-next {link} {here} {words} {left} {next} {more} {old} {new} same come turned last =
     let turn = turned.turn in
     let all = come.turns ++ turn ∷ [] in

@@ -25,7 +25,7 @@ use Rattle.admission.proofs.Once.{answer-once}
 use Rattle.day_run.specs.declared.scripts.Line.{Line}
 use Rattle.day_run.specs.declared.scripts.Line.TheVariants as lines
 use Rattle.day_run.specs.DayLaws.{AreClients, IsLink, IsSoundRest, IsSoundClient}
-use Rattle.day_run.specs.Days.{AreRun, IsAnsweredPlay, IsAsked, IsDay, IsFaulty, IsFull}
+use Rattle.day_run.specs.Days.{AreRun, AskedPlay, IsAnsweredPlay, IsAsked, IsDay, IsFaulty, IsFull}
 use Rattle.day_run.specs.Days.{IsHaltedPlay, IsLine, IsLookLine, IsNoted, IsOfferLine, IsPauseLine}
 use Rattle.day_run.specs.Days.{IsResumeLine, IsTold, Link, Moment, entry_by}
 use Rattle.day_run.specs.Days.{last_journal, last_lines, state_at, with_play}
@@ -66,19 +66,19 @@ one-noted {one} {other} {states} {old} {new} {text} e s a b = record {
   text_is = a.text_is ∙ ap (entry_line (length old.entries)) e ∙ sym b.text_is;
 }
 
-one-planned : {link : Link} {c : ℕ} {rest : Rest} {plan : List Segment} {old new new' : Moment} {text text' : List ℕ}
-    → (IsFull link 2 old new text ⊎ IsAnsweredPlay link c rest plan old new text)
-    → (IsFull link 2 old new' text' ⊎ IsAnsweredPlay link c rest plan old new' text')
+one-planned : {link : Link} {ask : AskedPlay} {old new new' : Moment} {text text' : List ℕ}
+    → (IsFull link 2 old new text ⊎ IsAnsweredPlay link ask old new text)
+    → (IsFull link 2 old new' text' ⊎ IsAnsweredPlay link ask old new' text')
     → IsOne new new' text text'
-one-planned {c} {new} {text} (inl a) (inl b) = one-told a.told b.told
-one-planned {c} {new} {text} (inl a) (inr b) = absurd (omega (arith, a.full, b.room))
-one-planned {c} {new} {text} (inr a) (inl b) = absurd (omega (arith, a.room, b.full))
-one-planned {link} {c} {rest} {plan} {old} {new} {text} (inr a) (inr b) =
+one-planned {ask} {new} {text} (inl a) (inl b) = one-told a.told b.told
+one-planned {ask} {new} {text} (inl a) (inr b) = absurd (omega (arith, a.full, b.room))
+one-planned {ask} {new} {text} (inr a) (inl b) = absurd (omega (arith, a.room, b.full))
+one-planned {link} {ask} {old} {new} {text} (inr a) (inr b) =
     let same : a.answer ≡ b.answer =
-    answer-once (record { steps = link.steps; state = state_after old.entries }) (commands.Play old.heard plan)
+    answer-once (record { steps = link.steps; state = state_after old.entries }) (commands.Play old.heard ask.plan)
     a.answer b.answer a.noted.answered b.noted.answered in
-    one-noted (ap (entry_by c (commands.Play old.heard plan)) same)
-    (ap (λ x. with_play c rest plan (length old.entries) x old.states) same) a.noted b.noted
+    one-noted (ap (entry_by ask.client (commands.Play old.heard ask.plan)) same)
+    (ap (λ x. with_play ask.client ask.rest ask.plan (length old.entries) x old.states) same) a.noted b.noted
 
 one-fault : {rest : Rest} {old new new' : Moment} {text text' : List ℕ} → IsFaulty rest old new text
     → IsFaulty rest old new' text' → IsOne new new' text text'
@@ -103,7 +103,9 @@ one-asked {link} {c} {rest} {old} {new} {text} own (inr a) (inr b) =
     let same : a.plan ≡ b.plan =
     sending-one rest.sizes rest.playback rest.run b.plan
     (record { can_play = can; plan_is = b.plan_is }) a.plan a.plan_is in
-    let D : List Segment → Type 0 = λ p. IsFull link 2 old new text ⊎ IsAnsweredPlay link c rest p old new text in
+    let D : List Segment → Type 0 =
+    λ p. IsFull link 2 old new text
+    ⊎ IsAnsweredPlay link (record { client = c; rest = rest; plan = p }) old new text in
     one-planned (subst D same a.done) b.done
 
 -- a client that asks for something at a moment

@@ -18,6 +18,7 @@ use Rattle.day_run.specs.declared.scripts.Line.{Line}
 use Rattle.day_run.specs.declared.scripts.Line.TheVariants as lines
 use Rattle.day_run.specs.Balanced.{IsReady, share_of}
 use Rattle.day_run.specs.Clients.{after_open}
+use Rattle.day_run.specs.Days.{AskedPlay}
 use Rattle.day_run.specs.Days.{IsAsked, IsHaltedPlay, IsLine, IsLookLine, IsOfferLine, IsPauseLine}
 use Rattle.day_run.specs.Days.{IsResumeLine, Link, Moment, at_slot, entry_by}
 use Rattle.day_run.specs.Days.{last_journal, first_moment, rest_at, state_at, with_play}
@@ -27,7 +28,7 @@ use Rattle.day_run.specs.ClientStates.{Idle, Playing, Pausing, Paused, Play, Res
 use Rattle.day_run.proofs.BalancedSlots.{BegunPlay, its-held, last-later, last-stays, play-stays}
 use Rattle.day_run.proofs.BalancedSlots.{slot-stays, stays-halt}
 use Rattle.day_run.proofs.BalancedLines.{morning-ready, taken-ready}
-use Rattle.day_run.proofs.Takings.{AskedPlay, ClientOf, IsPlayTaken, LineStep, LinesTaken, NextTaken, StandingLine}
+use Rattle.day_run.proofs.Takings.{ClientOf, IsPlayTaken, LineStep, LinesTaken, NextTaken, StandingLine}
 use Rattle.day_run.proofs.FairLaws.{done-heard, later-heard, turn-ready, later-ready}
 use Rattle.day_run.proofs.SoundClients.{kept-most}
 use Rattle.day_run.proofs.Peaks.{peak-slots}
@@ -46,14 +47,14 @@ same-past old new e states is same t past =
     ap (λ (m : Moment). booked_after m.entries t) is ∙ ap (λ hs. booked_by (map (λ (h : Held). h.play) hs) t) same
 
 answered-past : {new : Moment} (answer : Answer) (link : Link) (ask : AskedPlay) (old : Moment)
-    → IsAnswered link.steps (state_after old.entries) (entry_by ask.c (commands.Play old.heard ask.plan) answer)
+    → IsAnswered link.steps (state_after old.entries) (entry_by ask.client (commands.Play old.heard ask.plan) answer)
     → new ≡ record {
-      entries = old.entries ++ entry_by ask.c (commands.Play old.heard ask.plan) answer ∷ [];
-      states = with_play ask.c ask.rest ask.plan (length old.entries) answer old.states;
+      entries = old.entries ++ entry_by ask.client (commands.Play old.heard ask.plan) answer ∷ [];
+      states = with_play ask.client ask.rest ask.plan (length old.entries) answer old.states;
       heard = old.heard;
     } → Past old new
 answered-past {new} (Admitted start) link ask old answered is = λ t past.
-    let e = entry_by ask.c (commands.Play old.heard ask.plan) (Admitted start) in
+    let e = entry_by ask.client (commands.Play old.heard ask.plan) (Admitted start) in
     let early : old.heard < start = omega (arith, answered.0) in
     let begun : BegunPlay old.entries = record {
       e = e;
@@ -65,13 +66,13 @@ answered-past {new} (Admitted start) link ask old answered is = λ t past.
     ap (λ (m : Moment). booked_after m.entries t) is
     ∙ play-stays old.entries old.heard t begun early past
 answered-past {new} (Overflow over booked asked) link ask old answered is =
-    let e = entry_by ask.c (commands.Play old.heard ask.plan) (Overflow over booked asked) in
+    let e = entry_by ask.client (commands.Play old.heard ask.plan) (Overflow over booked asked) in
     same-past old new e old.states is (ap (λ (s : State). s.held) (state-push old.entries e))
 answered-past {new} Halted link ask old answered is =
-    let e = entry_by ask.c (commands.Play old.heard ask.plan) Halted in
+    let e = entry_by ask.client (commands.Play old.heard ask.plan) Halted in
     same-past old new e old.states is (ap (λ (s : State). s.held) (state-push old.entries e))
 answered-past {new} (Looked now at booked) link ask old answered is =
-    let e = entry_by ask.c (commands.Play old.heard ask.plan) (Looked now at booked) in
+    let e = entry_by ask.client (commands.Play old.heard ask.plan) (Looked now at booked) in
     same-past old new e old.states is (ap (λ (s : State). s.held) (state-push old.entries e))
 
 asked-past : {link : Link} {c : ℕ} {rest : Rest} {old new : Moment} {text : List ℕ}
@@ -80,7 +81,7 @@ asked-past {c} {old} {new} {text} (inl faulty) = kept-past old new faulty.told.k
 asked-past {link} {c} {rest} {old} {new} {text} (inr planned) = elim planned.done [
   | inl full ↦ kept-past old new full.told.kept
   | inr made ↦
-      answered-past made.answer link (record { c = c; rest = rest; plan = planned.plan }) old
+      answered-past made.answer link (record { client = c; rest = rest; plan = planned.plan }) old
       made.noted.answered made.noted.new_is
 ]
 

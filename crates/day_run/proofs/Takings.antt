@@ -1,7 +1,6 @@
 -- The lines of a script as they are taken: what their lemmas speak of.
 use Rattle.std.proofs.Common.{◌≡◌, ℕ, zero, suc, ◌<◌, List, ◌∷◌, length, get_or, take, sym, subst, arith}
 use Rattle.std.specs.List.{fold}
-use Rattle.plan_cert.specs.declared.Segment.{Segment}
 use Rattle.admission.specs.declared.entries.Entry.{Entry}
 use Rattle.day_run.specs.ClientStates.{ClientState, Idle, IfBusy, Rest}
 use Rattle.day_run.specs.DayLaws.{AreClients, IsClient}
@@ -27,12 +26,6 @@ pub record LineStep : Type 0 where
 abbrev pub IsPlayTaken : LineStep → ℕ → Rest → ClientState → Type 0
 IsPlayTaken step c rest state =
     IfBusy state (IsTold state_text step.old step.new step.text) (IsAsked step.link c rest step.old step.new step.text)
-
--- what a client asks to play: which client, what is to be sent, and by which plan
-pub record AskedPlay : Type 0 where
-  pub c : ℕ
-  pub rest : Rest
-  pub plan : List Segment
 
 -- what a client asks for on a link: the day before and after it, and the journal by which it is told
 pub record ClientAsks : Type 0 where

@@ -112,20 +112,28 @@ with_play client rest plan number (Admitted start) states =
     }))
 with_play client rest plan number _ states = states
 
+-- which client asks for a play, what is to be sent, and by which plan
+pub record AskedPlay : Type 0 where
+  pub client : ℕ
+  pub rest : Rest
+  pub plan : List Segment
+
 -- the machine answers a play, for whose entry and whose halt's the journal has room
-pub record IsAnsweredPlay (link : Link) (client : ℕ) (rest : Rest) (plan : List Segment)
-    (old new : Moment) (text : List ℕ) : Type 0 where
+pub record IsAnsweredPlay (link : Link) (asked : AskedPlay) (old new : Moment) (text : List ℕ)
+    : Type 0 where
   pub room : places_taken old.entries + 2 ≤ link.limit
   pub answer : Answer
-  pub noted : IsNoted link (entry_by client (commands.Play old.heard plan) answer)
-      (with_play client rest plan (length old.entries) answer old.states) old new text
+  pub noted : IsNoted link (entry_by asked.client (commands.Play old.heard asked.plan) answer)
+      (with_play asked.client asked.rest asked.plan (length old.entries) answer old.states)
+      old new text
 
 -- there is a plan, and the journal has no room or the play is answered
 pub record IsPlanned (link : Link) (client : ℕ) (rest : Rest) (old new : Moment) (text : List ℕ)
     : Type 0 where
   pub plan : List Segment
   pub plan_is : IsPlanOf rest.sizes rest.playback rest.run plan
-  pub done : IsFull link 2 old new text ⊎ IsAnsweredPlay link client rest plan old new text
+  pub done : IsFull link 2 old new text
+      ⊎ IsAnsweredPlay link (record { client = client; rest = rest; plan = plan }) old new text
 
 -- a client asks for what is to be sent: the curves are judged first, then the journal
 abbrev pub IsAsked : Link → ℕ → Rest → Moment → Moment → List ℕ → Type 0

@@ -54,15 +54,23 @@ pub record IsFitting (heard : ℕ) (counts : Counts) : Type 0 where
   pub sent : counts.sent ≤ heard * 2 ^ 42
   pub booked : counts.booked ≤ heard * 2 ^ 42
 
+-- a large day as far as it has come: the words that are left, what is counted of it, and the moment
+pub record Drawn : Type 0 where
+  pub words : ℕ → ℕ
+  pub counts : Counts
+  pub moment : Moment
+
+abbrev pub drawn_to : (ℕ → ℕ) → Counts → Moment → Drawn
+drawn_to words counts moment = record { words = words; counts = counts; moment = moment }
+
 -- one turn came
-pub record HasTurned (link : Link) (words left : ℕ → ℕ) (counts counts' : Counts) (old new : Moment)
-    : Type 0 where
+pub record HasTurned (link : Link) (old new : Drawn) : Type 0 where
   pub turn : Turn
-  pub old_is : turn.old ≡ old
-  pub new_is : turn.new ≡ new
-  pub turn_is : IsTurn link words turn
-  pub left_is : left ≡ after_turn words turn
-  pub counts_are : counts' ≡ with_turn counts turn
+  pub old_is : turn.old ≡ old.moment
+  pub new_is : turn.new ≡ new.moment
+  pub turn_is : IsTurn link old.words turn
+  pub left_is : new.words ≡ after_turn old.words turn
+  pub counts_are : new.counts ≡ with_turn old.counts turn
 
 -- the words that turns leave
 abbrev pub after_turns : (ℕ → ℕ) → List Turn → ℕ → ℕ

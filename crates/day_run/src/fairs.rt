@@ -12,8 +12,8 @@ ghost use Rattle.day_run.specs.Days.{IsPlayLine, first_moment, rest_at, state_at
 ghost use Rattle.day_run.specs.FairDays.{IsDone, IsFair, after_traces, at_later};
 ghost use Rattle.day_run.specs.FairDays.{entry_counts_of, is_full_line, line_drawn, traces_drawn};
 ghost use Rattle.day_run.specs.FairDays.{words_for};
-ghost use Rattle.day_run.specs.Fairs.{AreTraces, HasCome, HasTurned, IsFitting, said_text};
-ghost use Rattle.day_run.specs.Fairs.{sizes_in, with_slot};
+ghost use Rattle.day_run.specs.Fairs.{AreTraces, HasCome, HasTurned, IsFitting, drawn_to};
+ghost use Rattle.day_run.specs.Fairs.{said_text, sizes_in, with_slot};
 ghost use Rattle.day_run.specs.Runners.{IsKept, IsRunner, link_on, moment_of, told_text};
 ghost use Rattle.day_run.specs.ClientStates.{trace_content};
 ghost use Rattle.day_run.specs.ReelContents.{reel_content};
@@ -232,9 +232,9 @@ fn run_turn(
     ensures kept { OnOk result (IsKept runner.old runner.new) }
     ensures heard { OnOk result (runner.new.heard ≤ runner.old.heard + 3) }
     ensures fitting { OnOk result (IsFitting runner.new.heard counts.new) }
-    ensures turned { OnOk result (HasTurned (link_on runner.old) (words_left draws.old)
-        (words_left draws.new) counts.old counts.new (moment_of runner.old)
-        (moment_of runner.new)) }
+    ensures turned { OnOk result (HasTurned (link_on runner.old)
+        (drawn_to (words_left draws.old) counts.old (moment_of runner.old))
+        (drawn_to (words_left draws.new) counts.new (moment_of runner.new))) }
 {
     let later = u64::from(draws.draw(4));
     advance(runner, later, counts);
