@@ -1,5 +1,5 @@
 -- The text of lines and words, cut again at its lines' ends and spaces.
-use Rattle.std.proofs.Common.{◌≡◌, ◌≢◌, ◌<◌, ◌≤◌, ◌-◌, ◌^◌, ◌==◌, ℕ, suc, Bool, true, false, nat_le}
+use Rattle.std.proofs.Common.{◌≡◌, ◌≢◌, ◌<◌, ◌≤◌, ◌-◌, ◌^◌, ◌==◌, ℕ, suc, true, false, nat_le}
 use Rattle.std.proofs.Common.{List, [], ◌∷◌, ◌++◌, All, decimal, length, get_or}
 use Rattle.std.proofs.Common.{slice_index, arith, refl, ap, ◌∙◌, ne_eqb, inl, inr}
 use Rattle.std.specs.List.{list_all, slice_split}

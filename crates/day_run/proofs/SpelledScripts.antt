@@ -1,5 +1,5 @@
 -- Lines that are spelled are read back, and the script that they make.
-use Rattle.std.proofs.Common.{◌≡◌, ◌≢◌, ◌<◌, ◌≤◌, ◌+◌, ◌^◌, ◌==◌, ℕ, max, true, false, nat_lt, List}
+use Rattle.std.proofs.Common.{◌≡◌, ◌≢◌, ◌<◌, ◌≤◌, ◌+◌, ◌^◌, ◌==◌, ℕ, max, true, nat_lt, List}
 use Rattle.std.proofs.Common.{[], ◌∷◌, ◌++◌, codes}
 use Rattle.std.proofs.Common.{decimal, length, map, take, get_or, Some, None, arith, refl, sym, ap, ◌∙◌, inl, inr}
 use Rattle.std.specs.List.{fold, list_all, slice_split}
