@@ -16,3 +16,5 @@ pub mod Handing
 pub mod Asking
 pub mod AskedTexts
 pub mod Telling
+pub mod OneEnd
+pub mod OneOutcome

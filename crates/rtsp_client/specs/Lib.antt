@@ -14,3 +14,4 @@ pub mod Keeps
 pub mod Takings
 pub mod Promises
 pub mod Asked
+pub mod Outcomes

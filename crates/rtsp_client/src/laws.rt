@@ -1,6 +1,8 @@
 //! What the definitions of a watching come to.
 
-ghost use Rattle.std.specs.Prelude.{◌≡◌, ◌-◌, ◌^◌, ◌<◌, ◌≤◌, ◌↔◌, ℕ, List, length, take, drop};
+ghost use Rattle.std.specs.Prelude.{◌≡◌, ◌-◌, ◌^◌, ◌<◌, ◌≤◌, ◌↔◌, ◌++◌, ℕ, List, length, take};
+ghost use Rattle.std.specs.Prelude.{drop, Option};
+ghost use Rattle.vod_base.specs.Links.{Doing};
 ghost use Rattle.rtp_pack.specs.Packets.{OfUnit};
 ghost use Rattle.film_frames.specs.Laws.{OfRuns, run_frames};
 ghost use Rattle.film_frames.specs.Runs.{run_of};
@@ -9,12 +11,22 @@ ghost use Rattle.rtsp_client.specs.Asked.{IsAsked, IsSessionId};
 ghost use Rattle.rtsp_client.specs.Asked.{play_parts, setup_parts, teardown_parts};
 ghost use Rattle.rtsp_client.specs.Meters.{most_waiting, count_over, count_under};
 ghost use Rattle.rtsp_client.specs.Moments.{History, Moment};
+ghost use Rattle.rtsp_client.specs.Outcomes.{IsOutcome, Outcome, events_in};
 ghost use Rattle.rtsp_client.specs.Promises.{IsBetweenAlways, IsHeardAlways, frames_of};
 ghost use Rattle.rtsp_client.specs.Requests.{play_text, setup_text, teardown_text};
 ghost use Rattle.rtsp_client.specs.Wishes.{IsWish};
 ghost use Rattle.rtsp_client.specs.declared.wishes.Wish.{Wish};
 
 use film_frames::law_film_comes_back;
+
+/// A watching has one answer. Where the client heard it, the events that were heard decide it, and
+/// what was sent and handed on too. No front of these events has another answer, so the first cause
+/// in the order of the events is the one that is answered.
+pub fn law_one_watching()
+    ensures { (wish : Wish) (told later : List Doing) (out : Option (List ℕ))
+        (one other : Outcome) → IsOutcome wish told out one → IsOutcome wish told out other →
+        events_in other.doings ≡ events_in one.doings ++ later → one ≡ other }
+{}
 
 /// Where at each reading the bytes that came lie between the two curves of a film's units, the
 /// meter stays between empty and the buffer: no picture lacks when it is used, and what waits fits.

@@ -13,7 +13,9 @@ mod viewing;
 mod watching;
 mod wishes;
 
-pub use laws::{law_film_watched, law_meter_tells, law_meter_within, law_requests_read};
+pub use laws::{
+    law_film_watched, law_meter_tells, law_meter_within, law_one_watching, law_requests_read,
+};
 pub use viewing::watch;
 pub use wishes::{WatchEnd, WatchFault, Watched, Wish};
 

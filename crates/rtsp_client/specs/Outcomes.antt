@@ -1,0 +1,37 @@
+-- What came of a watching whose answer the events decided.
+use Rattle.std.specs.Prelude.{ℕ, ⊤, List, [], ◌∷◌, ◌++◌, Option, Some}
+use Rattle.vod_base.specs.Links.{Doing, HeardBytes, HeardEnd, HeardSlot, Sent}
+use Rattle.rtsp_client.specs.declared.wishes.Wish.{Wish}
+use Rattle.rtsp_client.specs.declared.wishes.WatchEnd.{WatchEnd}
+use Rattle.rtsp_client.specs.declared.wishes.WatchEnd.TheVariants.{Done, Fault, LinkFault}
+use Rattle.rtsp_client.specs.declared.wishes.WatchEnd.TheVariants.{NoMemory, SinkFault}
+use Rattle.rtsp_client.specs.Courses.{HasWatched}
+
+-- the events of doings, without the bytes that were sent
+abbrev pub events_in : List Doing → List Doing
+events_in [] = []
+events_in (HeardBytes bytes ∷ doings) = HeardBytes bytes ∷ events_in doings
+events_in (HeardSlot slot ∷ doings) = HeardSlot slot ∷ events_in doings
+events_in (HeardEnd ∷ doings) = HeardEnd ∷ events_in doings
+events_in (Sent byte ∷ doings) = events_in doings
+
+-- an answer that the events decide: neither a fault of the outside nor want of memory
+abbrev pub IsDecided : WatchEnd → Type 0
+IsDecided (Done watched) = ⊤
+IsDecided (Fault fault) = ⊤
+IsDecided LinkFault = ⊥
+IsDecided SinkFault = ⊥
+IsDecided NoMemory = ⊥
+
+-- the answer, what the link tells of the watching, and what the output tells after it
+pub record Outcome : Type 0 where
+  pub end : WatchEnd
+  pub doings : List Doing
+  pub out : Option (List ℕ)
+
+-- so a film was watched, after a link and an output had told these
+pub record IsOutcome (wish : Wish) (told : List Doing) (out : Option (List ℕ)) (outcome : Outcome)
+    : Type 0 where
+  pub decided : IsDecided outcome.end
+  pub watched : HasWatched wish outcome.end
+      (Some told) (Some (told ++ outcome.doings)) out outcome.out
