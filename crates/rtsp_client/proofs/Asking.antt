@@ -1,5 +1,5 @@
 -- A client's requests are requests of RTSP 1.0.
-use Rattle.std.proofs.Common.{◌≡◌, ℕ, ◌-◌, ◌^◌, ◌<◌, ◌≤◌, ◌&&◌, ◌==◌, Bool, reverse, true, false}
+use Rattle.std.proofs.Common.{◌≡◌, ℕ, ◌-◌, ◌^◌, ◌<◌, ◌≤◌, ◌&&◌, ◌==◌, reverse, true, false}
 use Rattle.std.proofs.Common.{not, nat_lt, nat_le, List, [], ◌∷◌, ◌++◌, All, codes, decimal}
 use Rattle.std.proofs.Common.{string_bytes, length, get_or, refl, sym, ap, subst, ◌∙◌, arith, inr}
 use Rattle.std.specs.List.{list_all}
@@ -21,6 +21,7 @@ use Rattle.vod_base.proofs.Digits.{decimal_numerals}
 use Rattle.rtsp_text.proofs.WordTexts.{word_of, value_of}
 use Rattle.rtsp_text.proofs.SpelledTexts.{request_found, request_of, values_of}
 use Rattle.rtsp_text.proofs.Inside.{all-append}
+use Rattle.rtsp_text.proofs.UrlBytes.{all_of, name_in_url}
 use Rattle.rtsp_client.specs.Wishes.{IsWish}
 use Rattle.rtsp_client.specs.Requests.{film_url, setup_text, play_text, teardown_text}
 use Rattle.rtsp_client.specs.Asked.{setup_parts, play_parts, teardown_parts, IsSessionId, IsAsked}
@@ -28,19 +29,8 @@ use Rattle.rtsp_client.specs.declared.wishes.Wish.{Wish}
 use Rattle.rtsp_client.proofs.AskedTexts.{setup-is, setup_rest, play-is, play_rest, teardown-is, teardown_rest}
 use Rattle.rtsp_client.proofs.Texts.{put-long}
 
--- bytes of one kind are bytes of another
-all-of : (p q : ℕ → Bool) → ((c : ℕ) → p c ≡ true → q c ≡ true) → (text : List ℕ) → list_all p text ≡ true
-    → list_all q text ≡ true
-all-of p q is [] all = refl
-all-of p q is (c ∷ text) all =
-    let parts = and_parts (p c) (list_all p text) all in
-    and_from (q c) (list_all q text) (is c parts.0) (all-of p q is text parts.1)
-
 digit-in-url : (c : ℕ) → is_ascii_digit c ≡ true → is_url_byte c ≡ true
 digit-in-url c digit = grind arith
-
-name-in-url : (c : ℕ) → is_name_byte c ≡ true → is_url_byte c ≡ true
-name-in-url c is = grind arith
 
 no-slash : (c : ℕ) → is_ascii_digit c ≡ true → not (c == 47) ≡ true
 no-slash c digit = grind arith
@@ -72,7 +62,7 @@ bare text all =
     ∙ ap reverse (bare-front (reverse text) back) ∙ reverse-reverse text
 
 digits : (n : ℕ) → n < 2 ^ 64 → list_all is_url_byte (decimal n) ≡ true
-digits n small = all-of is_ascii_digit is_url_byte digit-in-url (decimal n) (digits_decimal decimal_numerals n small)
+digits n small = all_of is_ascii_digit is_url_byte digit-in-url (decimal n) (digits_decimal decimal_numerals n small)
 
 -- the film's URL
 record IsFilm (wish : Wish) : Type 0 where
@@ -82,7 +72,7 @@ record IsFilm (wish : Wish) : Type 0 where
 name-bytes : (wish : Wish) → IsFilm wish → list_all is_url_byte (string_bytes wish.name) ≡ true
 name-bytes wish film =
     let name = string_bytes wish.name in
-    all-of is_name_byte is_url_byte name-in-url name
+    name_in_url name
     (and_parts (nat_lt 0 (length name) && nat_le (length name) 64 && not (get_or name 0 0 == 46))
     (list_all is_name_byte name) film.is_wish.name).1
 
@@ -106,7 +96,7 @@ rtsp-url wish tail film = record {
   no_slash = list_all-append (λ c. not (c == 47)) (codes "127.0.0.1:") (decimal wish.port)
       ∙ and_from (list_all (λ c. not (c == 47)) (codes "127.0.0.1:"))
       (list_all (λ c. not (c == 47)) (decimal wish.port)) refl
-      (all-of is_ascii_digit (λ c. not (c == 47)) no-slash (decimal wish.port)
+      (all_of is_ascii_digit (λ c. not (c == 47)) no-slash (decimal wish.port)
       (digits_decimal decimal_numerals wish.port (omega (arith, film.port))));
   path_begins = λ some. refl;
 }
@@ -128,7 +118,7 @@ field-of : (name value : List ℕ) → is_token name ≡ true → list_all is_ur
     → IsHeaderField (record { name = name; value = value })
 field-of name value token all = record {
   name_is = word_of name token;
-  value_is = value_of value (all-of is_url_byte is_value_byte url-in-value value all);
+  value_is = value_of value (all_of is_url_byte is_value_byte url-in-value value all);
   bare = bare value all;
 }
 

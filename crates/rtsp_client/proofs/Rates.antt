@@ -1,15 +1,7 @@
 -- The times of pictures.
-use Rattle.std.proofs.Common.{ℕ, zero, suc, ◌<◌, ◌≤◌, arith}
+use Rattle.std.proofs.Common.{ℕ, ◌<◌, ◌≤◌, arith}
 use Rattle.mpeg_scan.specs.Rates.{picture_time}
+use Rattle.mpeg_scan.proofs.RateLemmas.{time-bounds}
 
 pub time_bounds : (rate : ℕ) → 1 ≤ rate → rate ≤ 8 → (0 < picture_time rate) × (picture_time rate ≤ 15015)
-time_bounds zero low high = absurd (omega (arith, low))
-time_bounds (suc zero) low high = (omega arith, omega arith)
-time_bounds (suc (suc zero)) low high = (omega arith, omega arith)
-time_bounds (suc (suc (suc zero))) low high = (omega arith, omega arith)
-time_bounds (suc (suc (suc (suc zero)))) low high = (omega arith, omega arith)
-time_bounds (suc (suc (suc (suc (suc zero))))) low high = (omega arith, omega arith)
-time_bounds (suc (suc (suc (suc (suc (suc zero)))))) low high = (omega arith, omega arith)
-time_bounds (suc (suc (suc (suc (suc (suc (suc zero))))))) low high = (omega arith, omega arith)
-time_bounds (suc (suc (suc (suc (suc (suc (suc (suc zero)))))))) low high = (omega arith, omega arith)
-time_bounds (suc (suc (suc (suc (suc (suc (suc (suc (suc n))))))))) low high = absurd (omega (arith, high))
+time_bounds rate low high = let bounds = time-bounds rate low high in (omega (arith, bounds.0), bounds.1)

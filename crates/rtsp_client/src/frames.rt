@@ -25,7 +25,7 @@ pub(crate) struct Source {
     pub(crate) marker: bool,
     /// The time of a picture in 1/360,000 second.
     pub(crate) picture_time: u32,
-    /// The pictures that are to come.
+    /// How many pictures the film has.
     pub(crate) units: u64,
 }
 
@@ -42,8 +42,8 @@ impl Source {
         if !begins_film(payload) {
             return None;
         }
-        let picture_units = picture_time(payload[7] % 16);
-        let units = units_until(end_ms, picture_units);
+        let picture_time = picture_time(payload[7] % 16);
+        let units = units_until(end_ms, picture_time);
         if units < 1 || units > u128::from(MAX_FILM_PICTURES) {
             return None;
         }
@@ -51,7 +51,7 @@ impl Source {
             ssrc: head.ssrc,
             sequence: head.sequence,
             marker: head.marker,
-            picture_time: picture_units,
+            picture_time,
             units: units as u64,
         })
     }
@@ -79,7 +79,7 @@ fn begins_film(payload: &[u8]) -> bool
     ensures { result ≡ begins_film payload.now }
 {
     payload.len() >= 12
-        && (payload[0] == 0 && payload[1] == 0 && payload[2] == 1 && payload[3] == 0xb3)
+        && payload.starts_with(&[0, 0, 1, 0xb3])
         && payload[7] % 16 >= 1
         && payload[7] % 16 <= 8
 }
