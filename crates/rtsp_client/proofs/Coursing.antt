@@ -1,5 +1,6 @@
 -- Events, one after another, up to the answer.
-use Rattle.std.proofs.Common.{◌≡◌, ℕ, ◌+◌, ◌<◌, List, [], ◌∷◌, ◌++◌, take, Option, Some, Ok, IfSome}
+use Rattle.std.proofs.Common.{◌≡◌, ℕ, ◌+◌, ◌<◌, List, [], ◌∷◌, ◌++◌, take, Option, Some, None, Ok, IfSome}
+use Rattle.std.specs.Prelude.{if◌then◌else◌, is_some, option_map, unwrap_or}
 use Rattle.std.proofs.Common.{refl, sym, ap, subst, ◌∙◌, append_assoc, inl, inr}
 use Rattle.std.proofs.lemmas.List.{append-nil, length-append}
 use Rattle.std.proofs.lemmas.List.Concat.{flat_map-append}
@@ -20,10 +21,10 @@ use Rattle.rtsp_client.specs.Answers.{history_after, cut_bytes, moments_in, payl
 use Rattle.rtsp_client.specs.Courses.{Ends, HasWatched, Round, Runs, RunsAll, Stage}
 use Rattle.rtsp_client.specs.Courses.{moments_of_rounds, rounds_doings, stage}
 use Rattle.rtsp_client.specs.Keeps.{Keeps, KeepsState}
-use Rattle.rtsp_client.specs.States.{after_slot, new_state}
+use Rattle.rtsp_client.specs.States.{State, after_slot, new_state}
 use Rattle.rtsp_client.specs.Takings.{HasEnded, HasRound, HasRun, HasStopped, HasTaken, IsUnsent}
 use Rattle.rtsp_client.specs.Takings.{Sight, sight, sight_more}
-use Rattle.rtsp_client.proofs.Keeping.{keeps-new}
+use Rattle.rtsp_client.proofs.Keeping.{keeps-new, replies-same, session-same, slot-play}
 use Rattle.rtsp_client.proofs.Metering.{keeps-slot}
 use Rattle.rtsp_client.proofs.Sighting.{sight-none}
 use Rattle.rtsp_client.proofs.Taking.{after-on}
@@ -57,20 +58,20 @@ pub record IsWaiting (wish : Wish) (h : History) (c : Client) (cut : ℕ) : Type
 
 -- the client after a slot
 pub record HasHeardSlot (wish : Wish) (c : Client) (slot cut : ℕ) (new : Client) : Type 0 where
-  pub replies : new.replies ≡ c.replies
-  pub session : new.session.items ≡ c.session.items
+  pub session : new.session ≡ c.session
   pub input : new.input ≡ c.input
   pub watching : new.watching ≡ after_slot wish c.watching slot cut
 
 pub round-slot : {wish : Wish} {h : History} {c new : Client} {slot cut : ℕ} {s : Sight}
     → IsWaiting wish h c cut → HasHeardSlot wish c slot cut new
     → HasRound wish h c.input (HeardSlot slot) new s s
-round-slot {wish} {h} {c} {slot} {s} waits later = record {
+round-slot {wish} {h} {c} {new} {slot} {cut} {s} waits later = record {
   moments = Slot slot (cut_bytes c.input) ∷ [];
   runs = record { brings = (refl, later.input); good = (tt, tt); history_is = refl };
   keeps = record {
-    replies_are = later.replies ∙ waits.keeps.replies_are;
-    session_is = later.session ∙ waits.keeps.session_is;
+    replies_are = replies-same c new later.session (ap (λ (s : State). s.play) later.watching
+        ∙ slot-play wish c.watching slot cut) ∙ waits.keeps.replies_are;
+    session_is = session-same c new later.session ∙ waits.keeps.session_is;
     state = subst (λ w. KeepsState wish (Slot slot (cut_bytes c.input) ∷ h) w)
         (sym (later.watching ∙ ap (after_slot wish c.watching slot) waits.cut_is))
         (keeps-slot waits.keeps.state
@@ -141,17 +142,18 @@ moments-of-on (first ∷ rounds) round =
     ap (λ m. first.moments ++ m) (moments-of-on rounds round)
     ∙ sym (append_assoc first.moments (moments_of_rounds rounds) round.moments)
 
-pub run-none : {wish : Wish} {client : Client} {s : Sight} → client.replies ≡ 0 → client.session.items ≡ []
+pub run-none : {wish : Wish} {client : Client} {s : Sight} → client.session ≡ None
     → client.watching ≡ new_state
     → client.input ≡ [] → HasRun wish 0 client s s
-run-none {wish} {s} none empty new_ input = record {
+run-none {wish} {client} {s} empty new_ input = record {
   rounds = [];
   count_is = refl;
   history = [];
   runs = ap (λ i. stage [] i) input;
   keeps = record {
-    replies_are = none;
-    session_is = empty;
+    replies_are = ap (λ (s : State). if is_some s.play then 2 else (if is_some client.session then 1 else 0)) new_
+        ∙ ap (λ id. if is_some id then 1 else 0) empty;
+    session_is = ap (λ id. unwrap_or (option_map (λ id. id.items) id) []) empty;
     state = subst (λ w. KeepsState wish [] w) (sym new_) (keeps-new wish);
   };
   sight_is = ap (λ t. sight t s.out) (sym (told_more-nil s.told))

@@ -5,17 +5,14 @@ use Rattle.interleave.specs.Elements.{IsFirst, IsMessageLength}
 use Rattle.interleave.specs.declared.elements.Step.TheVariants.{Message}
 use Rattle.rtsp_text.proofs.Whole.{first_taken}
 use Rattle.rtsp_client.specs.declared.clients.Client.{Client}
-use Rattle.rtsp_client.specs.Standing.{GoesOnFrom}
+use Rattle.rtsp_client.specs.Standing.{bytes_in}
 
 pub whole-request : (b w : List ℕ) (n : ℕ) → IsFirst b (Ok (Message n)) → w ≡ b
     → IsMessageLength (take n w) (length (take n w))
 whole-request b w n first same =
     subst (λ x. IsMessageLength (take n x) (length (take n x))) (sym same) (first_taken b n first)
 
-pub goes-on : {c new : Client} (n : ℕ) → new.replies ≤ 2 → new.watching.received ≤ c.watching.received + n
+pub goes-on : (c new : Client) (n : ℕ) → new.watching.received ≤ c.watching.received + n
     → n ≤ length c.input →
-    new.input ≡ drop n c.input → GoesOnFrom c new
-goes-on {c} {new} n replies few within dropped = record {
-  replies = replies;
-  few = omega (arith, few, within, ap length dropped, length-drop n c.input);
-}
+    new.input ≡ drop n c.input → bytes_in new ≤ bytes_in c
+goes-on c new n few within dropped = omega (arith, few, within, ap length dropped, length-drop n c.input)

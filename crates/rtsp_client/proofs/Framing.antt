@@ -18,9 +18,11 @@ use Rattle.rtsp_client.specs.Films.{is_complete}
 use Rattle.rtsp_client.specs.Answers.{GoesOn, block_moments, request_after}
 use Rattle.rtsp_client.specs.Courses.{Fails, IsFront}
 use Rattle.rtsp_client.specs.Keeps.{Keeps, KeepsState}
+use Rattle.rtsp_client.specs.Standing.{session_of}
 use Rattle.rtsp_client.specs.States.{State, after_frame, after_report, has_all, source_with}
 use Rattle.rtsp_client.specs.Takings.{HasEndedAt, HasPassed, Sight, sight, sight_more}
-use Rattle.rtsp_client.proofs.Keeping.{complete-is, good-is, keeps-frame, keeps-report}
+use Rattle.rtsp_client.proofs.Keeping.{complete-is, good-is, keeps-frame, keeps-report, replies-same, report-play}
+use Rattle.rtsp_client.proofs.Keeping.{session-same}
 use Rattle.rtsp_client.proofs.Replying.{gives, passed-one}
 use Rattle.rtsp_client.proofs.Sources.{rest-whole}
 use Rattle.rtsp_client.proofs.Sighting.{all-front, no-front, sight-both, sight-handed, sight-none}
@@ -94,8 +96,7 @@ pub record TakenFrame (wish : Wish) (h : History) (c mid : Client) (b : List ℕ
   pub keeps : Keeps wish h c
   pub next_is : source_with c.watching b ≡ Some next
   pub long : 20 ≤ length b
-  pub replies : mid.replies ≡ c.replies
-  pub session : mid.session.items ≡ c.session.items
+  pub session : mid.session ≡ c.session
   pub watching : mid.watching ≡ after_frame c.watching next (length b)
 
 frame-taken : {wish : Wish} {h : History} {c mid : Client} {b : List ℕ} {next : Source}
@@ -105,9 +106,9 @@ frame-taken {b} taken = frame-good b taken.keeps taken.next_is
 -- the client after the frame
 keeps-taken : {wish : Wish} {h : History} {c mid : Client} {b : List ℕ} {next : Source} → TakenFrame wish h c mid b next
     → Keeps wish (Frame b ∷ h) mid
-keeps-taken {wish} {h} {b} taken = record {
-  replies_are = taken.replies ∙ taken.keeps.replies_are;
-  session_is = taken.session ∙ taken.keeps.session_is;
+keeps-taken {wish} {h} {c} {mid} {b} taken = record {
+  replies_are = replies-same c mid taken.session (ap (λ (s : State). s.play) taken.watching) ∙ taken.keeps.replies_are;
+  session_is = session-same c mid taken.session ∙ taken.keeps.session_is;
   state = subst (λ w. KeepsState wish (Frame b ∷ h) w) (sym taken.watching)
       (keeps-frame taken.keeps.state taken.next_is taken.long);
 }
@@ -132,7 +133,6 @@ taken-frame {next} c n read state = record {
   keeps = read.keeps;
   next_is = source-here c n read.same read.found_is read.next_is;
   long = subst (λ (i : List ℕ). 20 ≤ length (take n i)) read.same read.long;
-  replies = refl;
   session = refl;
   watching = state ∙ ap (after_frame c.watching next) (sym (length-take-le n c.input read.within));
 }
@@ -154,7 +154,7 @@ frame-done {wish} {h} {mid} {b} {out} {new_out} told taken open_ handed =
 request-last : {wish : Wish} {h : History} {c mid : Client} {b : List ℕ} {next : Source}
     → TakenFrame wish h c mid b next
     → has_all mid.watching ≡ true
-    → request_after wish h (Frame b) ≡ teardown_text wish c.session.items
+    → request_after wish h (Frame b) ≡ teardown_text wish (session_of c)
 request-last {wish} {h} {mid} {b} taken all =
     cond-true (is_complete (Frame b ∷ h)) (teardown_text wish (session h)) []
     (sym (complete-is wish (Frame b ∷ h) mid.watching (keeps-taken taken).state) ∙ all)
@@ -165,7 +165,7 @@ pub last-done : {wish : Wish} {h : History} {c mid : Client} {b : List ℕ} {nex
     {new_told : Option (List Doing)}
     {out new_out : Option (List ℕ)} (told : Option (List Doing)) → TakenFrame wish h c mid b next
     → has_all mid.watching ≡ true
-    → new_out ≡ told_more out (drop 20 b) → new_told ≡ told_more told (sends (teardown_text wish c.session.items))
+    → new_out ≡ told_more out (drop 20 b) → new_told ≡ told_more told (sends (teardown_text wish (session_of c)))
     → HasPassed wish h (Frame b ∷ []) mid (sight told out) (sight new_told new_out)
 last-done {wish} {h} {b} {new_told} {out} told taken all handed sent =
     let P : List ℕ → Type 0 = λ text. new_told ≡ told_more told (sends text) in
@@ -177,10 +177,10 @@ last-done {wish} {h} {b} {new_told} {out} told taken all handed sent =
 pub last-cut : {wish : Wish} {h : History} {c mid : Client} {b : List ℕ} {next : Source} {end : WatchEnd}
     {told new_told : Option (List Doing)}
     {out new_out : Option (List ℕ)} → TakenFrame wish h c mid b next → has_all mid.watching ≡ true → end ≡ LinkFault
-    → new_out ≡ told_more out (drop 20 b) → IsFrontTold told new_told (teardown_text wish c.session.items)
+    → new_out ≡ told_more out (drop 20 b) → IsFrontTold told new_told (teardown_text wish (session_of c))
     → HasEndedAt wish h (Frame b) end (sight told out) (sight new_told new_out)
 last-cut {wish} {h} {c} {b} {told} {new_told} {out} {new_out} taken all is handed front =
-    let text = teardown_text wish c.session.items in
+    let text = teardown_text wish (session_of c) in
     let F : List ℕ → Type 0 = λ t. IsFront (take front.0 text) t in
     record {
       sent = take front.0 text;
@@ -197,14 +197,14 @@ last-cut {wish} {h} {c} {b} {told} {new_told} {out} {new_out} taken all is hande
 -- ---- a report
 
 pub report-done : {wish : Wish} {h : History} {c new : Client} {b : List ℕ} {s : Sight} → Keeps wish h c
-    → new.replies ≡ c.replies
-    → new.session.items ≡ c.session.items → new.watching ≡ after_report c.watching (length b)
+    → new.session ≡ c.session → new.watching ≡ after_report c.watching (length b)
     → HasPassed wish h (Report b ∷ []) new s s
-report-done {wish} {h} {c} {new} {b} {s} k replies_same session_same state =
+report-done {wish} {h} {c} {new} {b} {s} k same state =
     passed-one tt
     (record {
-      replies_are = replies_same ∙ k.replies_are;
-      session_is = session_same ∙ k.session_is;
+      replies_are = replies-same c new same (ap (λ (s : State). s.play) state ∙ report-play c.watching (length b))
+          ∙ k.replies_are;
+      session_is = session-same c new same ∙ k.session_is;
       state = subst (λ w. KeepsState wish (Report b ∷ h) w) (sym state) (keeps-report wish h c.watching b k.state);
     })
     (sight-none s)

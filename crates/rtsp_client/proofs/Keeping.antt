@@ -2,7 +2,8 @@
 use Rattle.std.proofs.Common.{◌≡◌, ℕ, ◌+◌, ◌-◌, ◌%◌, ◌^◌, ◌<◌, ◌≤◌, ◌==◌, ◌&&◌, Bool, true, false}
 use Rattle.std.proofs.Common.{not, nat_lt, nat_le, cond, List, [], ◌∷◌, ◌++◌, length, drop, sum}
 use Rattle.std.proofs.Common.{get_or, Option, Some, None, Result, Ok, Err, is_some, is_ok}
-use Rattle.std.proofs.Common.{unwrap_or, refl, sym, ap, subst, ◌∙◌, arith, inl, inr}
+use Rattle.std.proofs.Common.{unwrap_or, if◌then◌else◌, refl, sym, ap, subst, ◌∙◌, arith, inl, inr}
+use Rattle.std.specs.Prelude.{option_map}
 use Rattle.std.proofs.lemmas.Bool.{cases_lt, cond-true, cond-false, eq-eqb, ne_eqb, lt-ltb, le-ltb, true≢false}
 use Rattle.std.proofs.lemmas.List.{length-append, length-drop, take-append-le, take_all}
 use Rattle.std.proofs.lemmas.List.Sums.{sum_by-append}
@@ -11,6 +12,7 @@ use Rattle.std.proofs.Math.Seq.{get_or-append_seam}
 use Rattle.rtp_pack.specs.declared.heads.Head.{Head}
 use Rattle.rtp_pack.specs.declared.heads.HeadFault.{HeadFault}
 use Rattle.rtp_pack.specs.Heads.{head_at, head_of}
+use Rattle.rtsp_client.specs.declared.clients.Client.{Client}
 use Rattle.rtsp_client.specs.declared.frames.Source.{Source}
 use Rattle.rtsp_client.specs.declared.plays.Play.{Play}
 use Rattle.rtsp_client.specs.declared.wishes.Wish.{Wish}
@@ -25,7 +27,8 @@ use Rattle.rtsp_client.specs.Films.{is_next_good, time_in, units, units_until}
 use Rattle.rtsp_client.specs.Meters.{watched_in}
 use Rattle.rtsp_client.specs.States.{State, after_frame, after_play, after_report, has_all, is_all}
 use Rattle.rtsp_client.specs.States.{is_between, new_state, report_in, source_after, source_played}
-use Rattle.rtsp_client.specs.States.{source_read, source_with}
+use Rattle.rtsp_client.specs.States.{after_slot, place_of, reading_at, source_read, source_with}
+use Rattle.rtsp_client.specs.Standing.{replies_in, session_of}
 use Rattle.rtsp_client.specs.Keeps.{AreSumsOf, IsPlayOf, IsSource, IsSourceOf, KeepsState}
 
 -- ---- nothing was heard
@@ -44,6 +47,35 @@ keeps-new wish = record {
 }
 
 -- ---- replies
+
+-- the same replies were heard
+pub replies-same : (c new : Client) → new.session ≡ c.session → new.watching.play ≡ c.watching.play
+    → replies_in new ≡ replies_in c
+replies-same c new session play =
+    ap (λ p. if is_some p then 2 else (if is_some new.session then 1 else 0)) play
+    ∙ ap (λ id. if is_some c.watching.play then 2 else (if is_some id then 1 else 0)) session
+
+pub session-same : (c new : Client) → new.session ≡ c.session → session_of new ≡ session_of c
+session-same c new same = ap (λ id. unwrap_or (option_map (λ id. id.items) id) []) same
+
+report-in-play : (play : Option Play) (s : State) (length : ℕ) → (report_in play s length).play ≡ s.play
+report-in-play None s length = refl
+report-in-play (Some play) s length = refl
+
+pub report-play : (s : State) (length : ℕ) → (after_report s length).play ≡ s.play
+report-play s length = report-in-play s.play s length
+
+reading-play : (wish : Wish) (s : State) (place : Option ℕ) (cut : ℕ) → (reading_at wish s place cut).play ≡ s.play
+reading-play wish s None cut = refl
+reading-play wish s (Some place) cut = refl
+
+pub slot-play : (wish : Wish) (s : State) (slot cut : ℕ) → (after_slot wish s slot cut).play ≡ s.play
+slot-play wish s slot cut =
+    elim (nat_le slot s.last_slot) as (λ b. (if b then s
+    else reading_at wish (record s { last_slot = slot }) (place_of s.play slot) cut).play ≡ s.play) [
+      | true ↦ refl
+      | false ↦ reading-play wish (record s { last_slot = slot }) (place_of s.play slot) cut
+    ]
 
 no-play : (h : History) → replies h ≤ 1 → is_playing h ≡ false
 no-play h few = le-ltb 1 (replies h) few

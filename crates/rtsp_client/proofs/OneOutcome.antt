@@ -66,8 +66,8 @@ record AreSameMoments (one other : List Moment) (rest rest' : List ℕ) : Type 0
   moments_are : one ≡ other
   rest_is : rest ≡ rest'
 
-brings-once : {new new' : List ℕ} {moments moments' : List Moment} (old : List ℕ) (event : Doing) → Brings event old moments new
-    → IsFirst new (Ok More) → Brings event old moments' new' → IsFirst new' (Ok More)
+brings-once : {new new' : List ℕ} {moments moments' : List Moment} (old : List ℕ) (event : Doing)
+    → Brings event old moments new → IsFirst new (Ok More) → Brings event old moments' new' → IsFirst new' (Ok More)
     → AreSameMoments moments moments' new new'
 brings-once {new} {new'} old (HeardBytes bytes) (elements, (cut, is)) idle (elements', (cut', is')) idle' =
     let streams : TwoStreams (old ++ bytes) elements elements' new new' =

@@ -1,7 +1,7 @@
 -- What a reply comes to.
-use Rattle.std.proofs.Common.{◌≡◌, ◌≢◌, ℕ, ◌+◌, ◌==◌, ◌&&◌, ◌||◌, true, false, nat_lt, List, []}
+use Rattle.std.proofs.Common.{◌≡◌, ◌≢◌, ℕ, ◌+◌, ◌==◌, ◌&&◌, ◌||◌, Bool, true, false, nat_lt, List, []}
 use Rattle.std.proofs.Common.{◌∷◌, ◌++◌, take, Option, Some, None, Result, Ok, is_some, unwrap_or}
-use Rattle.std.proofs.Common.{refl, sym, ap, subst, ◌∙◌, arith, inl, inr}
+use Rattle.std.proofs.Common.{if◌then◌else◌, refl, sym, ap, subst, ◌∙◌, arith, inl, inr}
 use Rattle.std.specs.Prelude.{MatchOption, option_map}
 use Rattle.std.specs.Result.{result_ok}
 use Rattle.std.proofs.lemmas.Bool.{cond-true, cond-false, eq-eqb, ne_eqb}
@@ -19,14 +19,14 @@ use Rattle.rtsp_client.specs.Moments.{History, Moment, Reply, replies, session}
 use Rattle.rtsp_client.specs.Answers.{Gives, GoesOn, IsOrderly, has_fields, is_awaited, payload_of, request_after}
 use Rattle.rtsp_client.specs.Courses.{Fails, IsFront}
 use Rattle.rtsp_client.specs.Keeps.{Keeps, KeepsState}
-use Rattle.rtsp_client.specs.Standing.{IsAwaited}
-use Rattle.rtsp_client.specs.States.{after_play, has_all}
+use Rattle.rtsp_client.specs.Standing.{IsAwaited, replies_in, session_of}
+use Rattle.rtsp_client.specs.States.{State, after_play, has_all}
 use Rattle.rtsp_client.specs.Takings.{HasEndedAt, HasPassed, Sight, sight, sight_more}
-use Rattle.rtsp_client.proofs.Keeping.{complete-is, keeps-first, keeps-play}
+use Rattle.rtsp_client.proofs.Keeping.{complete-is, keeps-first, keeps-play, session-same}
 use Rattle.rtsp_client.proofs.Sighting.{no-front, sight-none, sight-sent}
 
 awaited-is : (wish : Wish) (h : History) (c : Client) → Keeps wish h c
-    → (nat_lt c.replies 2 || has_all c.watching) ≡ is_awaited h
+    → (nat_lt (replies_in c) 2 || has_all c.watching) ≡ is_awaited h
 awaited-is wish h c k =
     ap (λ n. nat_lt n 2 || has_all c.watching) k.replies_are
     ∙ ap (λ b. nat_lt (replies h) 2 || b) (complete-is wish h c.watching k.state)
@@ -52,7 +52,8 @@ gives wish h m end s is = record { sent = []; out = []; comes = inl (is, refl, r
 
 -- the reply isn't awaited, or isn't as it should be
 pub bad-reply : {wish : Wish} {h : History} {c : Client} {m : List ℕ} {end : WatchEnd} {s : Sight} → Keeps wish h c
-    → ((code : ℕ) → ¬ IsAwaited c m code) → end ≡ Fault (BadReply (c.replies + 1)) → HasEndedAt wish h (Reply m) end s s
+    → ((code : ℕ) → ¬ IsAwaited c m code) → end ≡ Fault (BadReply (replies_in c + 1))
+    → HasEndedAt wish h (Reply m) end s s
 bad-reply {wish} {h} {c} {m} {end} {s} k none is =
     gives wish h (Reply m) end s
     (inl (inl (λ code o. none code (awaited-from k o)), is ∙ ap (λ n. Fault (BadReply (n + 1))) k.replies_are))
@@ -81,7 +82,7 @@ fields-third h m two =
 -- ---- the reply to SETUP
 
 pub setup-lacks : {wish : Wish} {h : History} {c : Client} {m : List ℕ} {end : WatchEnd} {s : Sight}
-    → Keeps wish h c → c.replies ≡ 0
+    → Keeps wish h c → replies_in c ≡ 0
     → IsAwaited c m 200 → session_in m ≡ None → end ≡ Fault (BadReply 1) → HasEndedAt wish h (Reply m) end s s
 setup-lacks {wish} {h} {c} {m} {end} {s} k first is none end_is =
     let zero_ : replies h ≡ 0 = sym k.replies_are ∙ first in
@@ -102,7 +103,7 @@ session-read now length same read part was =
 
 pub record SetupReply (wish : Wish) (h : History) (c : Client) (m id : List ℕ) : Type 0 where
   pub keeps : Keeps wish h c
-  pub first : c.replies ≡ 0
+  pub first : replies_in c ≡ 0
   pub awaited : IsAwaited c m 200
   pub session_is : session_in m ≡ Some id
 
@@ -158,10 +159,20 @@ passed-one {wish} {h} {m} {new} {old_sight} good keeps is = record {
       ∙ ap (λ x. sight_more old_sight (request_after wish h m ++ []) x) (sym (append-nil (payload_of m))));
 }
 
+not-played : (plays : Bool) (n : ℕ) → ◌≡◌ {A = ℕ} (if plays then 2 else n) 0 → plays ≡ false
+not-played true n none = absurd (omega (arith, none))
+not-played false n none = refl
+
+-- the first reply begins the session
+pub first-reply : (c : Client) → replies_in c ≡ 0 → ◌≡◌ {A = ℕ} (if is_some c.watching.play then 2 else 1) 1
+first-reply c none =
+    cond-false (is_some c.watching.play) 2 1
+    (not-played (is_some c.watching.play) (if is_some c.session then 1 else 0) none)
+
 -- the client after it
 pub record IsInSession (c new : Client) (id : List ℕ) : Type 0 where
-  pub replies : new.replies ≡ 1
-  pub session : new.session.items ≡ id
+  pub replies : replies_in new ≡ 1
+  pub session : session_of new ≡ id
   pub watching : new.watching ≡ c.watching
 
 pub setup-done : {wish : Wish} {h : History} {c new : Client} {m id : List ℕ} {new_told : Option (List Doing)}
@@ -187,7 +198,7 @@ setup-done {wish} {h} {new} {m} {id} {new_told} told out reply later sent =
 -- ---- the reply to PLAY
 
 pub play-lacks : {wish : Wish} {h : History} {c : Client} {m : List ℕ} {end : WatchEnd} {s : Sight}
-    → Keeps wish h c → c.replies ≡ 1
+    → Keeps wish h c → replies_in c ≡ 1
     → IsAwaited c m 200 → (is_some (play_range m) && is_some (play_start m)) ≡ false → end ≡ Fault (BadReply 2)
     → HasEndedAt wish h (Reply m) end s s
 play-lacks {wish} {h} {c} {m} {end} {s} k second is none end_is =
@@ -198,16 +209,16 @@ play-lacks {wish} {h} {c} {m} {end} {s} k second is none end_is =
 -- the reply that is awaited second, with the play's beginning and end
 pub record PlayReply (wish : Wish) (h : History) (c : Client) (m : List ℕ) (begin ms : ℕ) : Type 0 where
   pub keeps : Keeps wish h c
-  pub second : c.replies ≡ 1
+  pub second : replies_in c ≡ 1
   pub awaited : IsAwaited c m 200
   pub start_is : play_start m ≡ Some begin
   pub range_is : play_range m ≡ Some ms
 
 pub play-done : {wish : Wish} {h : History} {c new : Client} {m : List ℕ} {begin ms : ℕ} {s : Sight}
     → PlayReply wish h c m begin ms
-    → new.replies ≡ 2 → new.session.items ≡ c.session.items → new.watching ≡ after_play c.watching begin ms
+    → new.session ≡ c.session → new.watching ≡ after_play c.watching begin ms
     → HasPassed wish h (Reply m ∷ []) new s s
-play-done {wish} {h} {m} {s} reply two same state =
+play-done {wish} {h} {c} {new} {m} {s} reply same state =
     let k = reply.keeps in
     let one : replies h ≡ 1 = sym k.replies_are ∙ reply.second in
     let later : (replies h == 0) ≡ false = ne_eqb (replies h) 0 (λ none. absurd (omega (arith, none, one))) in
@@ -220,9 +231,11 @@ play-done {wish} {h} {m} {s} reply two same state =
       omega (arith, one),
     )
     (record {
-      replies_are = two ∙ ap (λ n. n + 1) (sym one);
+      replies_are = ap (λ (s : State). if is_some s.play then 2 else (if is_some new.session then 1 else 0)) state
+          ∙ ap (λ n. n + 1) (sym one);
       session_is =
-          same ∙ (k.session_is ∙ sym (cond-false (replies h == 0) (unwrap_or (session_in m) []) (session h) later));
+          session-same c new same
+          ∙ (k.session_is ∙ sym (cond-false (replies h == 0) (unwrap_or (session_in m) []) (session h) later));
       state =
           subst (λ w. KeepsState wish (Reply m ∷ h) w) (sym state)
           (keeps-play k.state one reply.start_is reply.range_is);
@@ -234,15 +247,15 @@ play-done {wish} {h} {m} {s} reply two same state =
 -- ---- the reply to TEARDOWN
 
 pub watch-done : {wish : Wish} {h : History} {c : Client} {m : List ℕ} {end : WatchEnd} {s : Sight}
-    → Keeps wish h c → c.replies ≡ 2
+    → Keeps wish h c → replies_in c ≡ 2
     → IsAwaited c m 200 → end ≡ Done c.watching.watched → HasEndedAt wish h (Reply m) end s s
 watch-done {wish} {h} {c} {m} {end} {s} k third is end_is =
     let two : replies h ≡ 2 = sym k.replies_are ∙ third in
     gives wish h (Reply m) end s
     (inr (inr ((orderly k is, fields-third h m two), two, end_is ∙ ap (λ (w : Watched). Done w) k.state.watched_is)))
 
-pub awaited-of : (o : Option ℕ) (c : Client) (m : List ℕ) → (nat_lt c.replies 2 || has_all c.watching) ≡ true
-    → MatchOption o ((code : ℕ) → ¬ IsAnswer m (c.replies + 1) code) (IsAnswer m (c.replies + 1))
+pub awaited-of : (o : Option ℕ) (c : Client) (m : List ℕ) → (nat_lt (replies_in c) 2 || has_all c.watching) ≡ true
+    → MatchOption o ((code : ℕ) → ¬ IsAnswer m (replies_in c + 1) code) (IsAnswer m (replies_in c + 1))
     → MatchOption o ((code : ℕ) → ¬ IsAwaited c m code) (IsAwaited c m)
 awaited-of None c m awaited none = λ code is. none code is.answer
 awaited-of (Some code) c m awaited is = record { awaited = awaited; answer = is }

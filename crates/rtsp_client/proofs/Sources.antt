@@ -4,6 +4,8 @@ use Rattle.std.proofs.Common.{drop, ◌-◌, Option, Some, None, Result, Ok, Err
 use Rattle.std.proofs.Common.{arith}
 use Rattle.std.proofs.lemmas.List.{length-drop, take_all}
 use Rattle.std.proofs.lemmas.Bool.Decides.{nat_tests}
+use Rattle.std.proofs.lemmas.Option.{none-some, same_Some}
+use Rattle.std.specs.Result.{result_ok}
 use Rattle.std.specs.Prelude.{IfSome, nat_lt}
 use Rattle.rtp_pack.specs.Heads.{head_of}
 use Rattle.rtp_pack.specs.declared.heads.Head.{Head}
@@ -50,6 +52,16 @@ source-read {play} s block is some read found =
     ∙ sym (ap (λ p. source_played p s block) is
     ∙ ap (λ (b : Bool). if b then None else source_read s.source (head_of (drop 4 block)) (drop 20 block)
     play.end_ms) some)
+
+-- a head was read, or it wasn't
+pub head-read : {head : Head} (read : Result Head HeadFault) → result_ok read ≡ Some head → read ≡ Ok head
+head-read {head} (Ok found) is = ap Ok (same_Some found head is)
+head-read {head} (Err fault) is = absurd (none-some head is)
+
+pub head-unread : (source : Option Source) (read : Result Head HeadFault) (payload : List ℕ) (end_ms : ℕ)
+    → result_ok read ≡ None → None ≡ source_read source read payload end_ms
+head-unread source (Ok head) payload end_ms is = absurd (none-some head (sym is))
+head-unread source (Err fault) payload end_ms is = refl
 
 -- the rest of a block
 pub rest-whole : (n : ℕ) (block : List ℕ) → take (length block - n) (drop n block) ≡ drop n block

@@ -21,6 +21,7 @@ use Rattle.rtsp_client.specs.Answers.{GoOn, history_after, block_moments, moment
 use Rattle.rtsp_client.specs.Answers.{payload_of, payloads_of, request_after, requests_after}
 use Rattle.rtsp_client.specs.Courses.{Stops, stage}
 use Rattle.rtsp_client.specs.Keeps.{Keeps, KeepsState}
+use Rattle.rtsp_client.specs.Standing.{replies_in, session_of}
 use Rattle.rtsp_client.specs.Takings.{HasEndedAt, HasPassed, HasStopped, HasTaken, Sight, sight_more}
 use Rattle.rtsp_client.proofs.Sighting.{sight-none, sight-on}
 
@@ -90,8 +91,8 @@ ends-none (b ∷ bytes) all =
 
 -- the same client, but for its input
 pub record IsSameClient (c new : Client) : Type 0 where
-  pub replies : new.replies ≡ c.replies
-  pub session : new.session.items ≡ c.session.items
+  pub replies : replies_in new ≡ replies_in c
+  pub session : session_of new ≡ session_of c
   pub watching : new.watching ≡ c.watching
 
 pub keeps-moved : {wish : Wish} {h : History} {c new : Client} → Keeps wish h c → IsSameClient c new → Keeps wish h new

@@ -12,6 +12,7 @@ use Rattle.rtsp_client.specs.Moments.{bytes_received}
 use Rattle.rtsp_client.specs.Moments.{replies, session, sizes, slot_before, start}
 use Rattle.rtsp_client.specs.Films.{time_in, units}
 use Rattle.rtsp_client.specs.Meters.{watched_in}
+use Rattle.rtsp_client.specs.Standing.{replies_in, session_of}
 use Rattle.rtsp_client.specs.States.{State, is_between}
 
 -- the sums of the first sizes, one after another
@@ -53,6 +54,6 @@ pub record KeepsState (wish : Wish) (h : History) (s : State) : Type 0 where
   pub watched_is : s.watched ≡ watched_in wish h
 
 pub record Keeps (wish : Wish) (h : History) (c : Client) : Type 0 where
-  pub replies_are : c.replies ≡ replies h
-  pub session_is : c.session.items ≡ session h
+  pub replies_are : replies_in c ≡ replies h
+  pub session_is : session_of c ≡ session h
   pub state : KeepsState wish h c.watching

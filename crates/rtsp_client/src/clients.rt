@@ -1,8 +1,8 @@
 //! A client between two events: what it asked for, what was replied, and what waits of its input.
 
 ghost use Rattle.std.specs.Prelude.{◌≡◌, ◌+◌, ◌^◌, ◌<◌, ◌≤◌, ◌||◌, ◌∷◌, ℕ, false, true, Ok, List};
-ghost use Rattle.std.specs.Prelude.{[], Option, nat_lt, take, length as list_length, IfOk, IfErr};
-ghost use Rattle.std.specs.Prelude.{IfSome, OnOk, OnErr, MatchOption};
+ghost use Rattle.std.specs.Prelude.{[], Option, None, nat_lt, take, length as list_length, IfOk};
+ghost use Rattle.std.specs.Prelude.{IfErr, IfSome, OnOk, OnErr, MatchOption};
 ghost use Rattle.vod_base.specs.Links.{Doing, IsWithin, doing_of, sends, told_more};
 ghost use Rattle.interleave.specs.Elements.{IsFirst, IsMessageLength};
 ghost use Rattle.interleave.specs.declared.elements.Step.TheVariants.{Block, More, Message};
@@ -10,7 +10,7 @@ ghost use Rattle.rtsp_client.specs.Answers.{cut_bytes};
 ghost use Rattle.rtsp_client.specs.Causes.{EndsWithCause};
 ghost use Rattle.rtsp_client.specs.Moments.{Frame};
 ghost use Rattle.rtsp_client.specs.Requests.{setup_text};
-ghost use Rattle.rtsp_client.specs.Standing.{GoesOnFrom, IsAwaited, IsGoing, bytes_in};
+ghost use Rattle.rtsp_client.specs.Standing.{IsAwaited, bytes_in, replies_in, session_of};
 ghost use Rattle.rtsp_client.specs.States.{has_all, new_state};
 ghost use Rattle.rtsp_client.specs.Takings.{EndsAtBlock, EndsAtEvent, EndsAtMoment, EndsAtReply};
 ghost use Rattle.rtsp_client.specs.Takings.{IsUnsent, PassesBlock, PassesMoments, PassesReply};
@@ -19,7 +19,7 @@ ghost use Rattle.rtsp_client.specs.Wishes.{IsWish};
 
 use crate::frames::HEADS;
 use crate::replies::{play_range, play_start, reply_code, session_in};
-use crate::requests::{copy_of, play_request, setup_request, teardown_request};
+use crate::requests::{play_request, setup_request, teardown_request};
 use crate::watching::Watching;
 use crate::wishes::{WatchEnd, WatchFault, Wish};
 use interleave::{Demux, Step};
@@ -31,10 +31,8 @@ use vod_base::{Heard, Link, NoMemory, Sink};
 pub(crate) struct Client {
     alloc: Global,
     input: Demux,
-    /// The replies that were heard.
-    replies: u64,
     /// The session's id, from the first reply on.
-    session: Vec<u8>,
+    session: Option<Vec<u8>>,
     watching: Watching,
 }
 
@@ -42,15 +40,13 @@ impl Client {
     /// A client that did nothing yet.
     pub(crate) fn new(alloc: Global) -> Result<Client, NoMemory>
         ensures input { IfOk result (λ client. client.input ≡ []) }
-        ensures replies { IfOk result (λ client. client.replies ≡ 0) }
-        ensures session { IfOk result (λ client. client.session.items ≡ []) }
+        ensures session { IfOk result (λ client. client.session ≡ None) }
         ensures watching { IfOk result (λ client. client.watching ≡ new_state) }
     {
         Ok(Client {
             alloc,
             input: Demux::new(alloc)?,
-            replies: 0,
-            session: Vec::new(alloc),
+            session: None,
             watching: Watching::new(alloc),
         })
     }
@@ -83,13 +79,11 @@ impl Client {
         out: &mut O,
     ) -> Result<(), WatchEnd>
         requires wish { IsWish wish.now }
-        requires going { IsGoing self.old }
         requires waits { list_length self.old.input ≤ 81920 }
         requires idle { IsFirst self.old.input (Ok More) }
         requires heard { IsWithin heard (list_length bytes.now) }
         requires short { list_length bytes.now ≤ 16384 }
         requires few { bytes_in self.old + 16384 < 2 ^ 62 }
-        ensures replies { OnOk result (self.new.replies ≤ 2) }
         ensures few { OnOk result (bytes_in self.new ≤ bytes_in self.old + 16384) }
         ensures waits { OnOk result (list_length self.new.input ≤ 81920) }
         ensures count { K.faults link.old ≤ K.faults link.new }
@@ -127,8 +121,8 @@ impl Client {
         link: &mut K,
         out: &mut O,
     ) -> Result<(), WatchEnd>
-        requires going { IsGoing self.old }
-        ensures going { OnOk result (GoesOnFrom self.old self.new) }
+        requires few { bytes_in self.old < 2 ^ 62 }
+        ensures few { OnOk result (bytes_in self.new ≤ bytes_in self.old) }
         ensures waits { OnOk result (list_length self.new.input ≤ 81920) }
         ensures count { K.faults link.old ≤ K.faults link.new }
         ensures count_out { O.faults out.old ≤ O.faults out.new }
@@ -157,8 +151,8 @@ impl Client {
         link: &mut K,
         out: &mut O,
     ) -> Result<bool, WatchEnd>
-        requires going { IsGoing self.old }
-        ensures going { OnOk result (GoesOnFrom self.old self.new) }
+        requires few { bytes_in self.old < 2 ^ 62 }
+        ensures few { OnOk result (bytes_in self.new ≤ bytes_in self.old) }
         ensures shorter { IfOk result (λ more. more ≡ true →
             list_length self.new.input < list_length self.old.input) }
         ensures waits { IfOk result (λ more. more ≡ false → list_length self.new.input ≤ 81920) }
@@ -203,10 +197,9 @@ impl Client {
         link: &mut K,
         out: &mut O,
     ) -> Result<(), WatchEnd>
-        requires going { IsGoing self.old }
+        requires few { bytes_in self.old < 2 ^ 62 }
         requires block { IsFirst self.old.input (Ok (Block channel length)) }
         ensures input { self.new.input ≡ self.old.input }
-        ensures replies { self.new.replies ≡ self.old.replies }
         ensures few { OnOk result (self.new.watching.received ≤ self.old.watching.received
             + length) }
         ensures count { K.faults link.old ≤ K.faults link.new }
@@ -239,11 +232,10 @@ impl Client {
         link: &mut K,
         out: &mut O,
     ) -> Result<(), WatchEnd>
-        requires going { IsGoing self.old }
+        requires few { bytes_in self.old < 2 ^ 62 }
         requires least { 4 ≤ length }
         requires within { length ≤ list_length self.old.input }
         ensures input { self.new.input ≡ self.old.input }
-        ensures replies { self.new.replies ≡ self.old.replies }
         ensures few { OnOk result (self.new.watching.received ≤ self.old.watching.received
             + length) }
         ensures count { K.faults link.old ≤ K.faults link.new }
@@ -267,22 +259,42 @@ impl Client {
         if !self.watching.is_complete() {
             return Ok(());
         }
-        let request = teardown_request(self.alloc, wish, self.session.as_slice())?;
+        let request = teardown_request(self.alloc, wish, self.session_id())?;
         link.send(request.as_slice())?;
         Ok(())
+    }
+
+    /// The session's id; none before the first reply.
+    fn session_id(&self) -> &[u8]
+        ensures { result.now ≡ session_of self.now }
+    {
+        match &self.session {
+            Some(id) => id.as_slice(),
+            None => &[],
+        }
+    }
+
+    /// The replies that were heard: the one to SETUP, which began the session, and the one to PLAY.
+    fn replies(&self) -> u64
+        ensures count { result ≡ replies_in self.now }
+        ensures most { result ≤ 2 }
+    {
+        if self.watching.is_playing() {
+            return 2;
+        }
+        u64::from(self.session.is_some())
     }
 
     /// Whether a reply is awaited: to SETUP and then to PLAY, and to TEARDOWN once all pictures are
     /// whole.
     fn is_awaited(&self) -> bool
-        ensures { result ≡ (nat_lt self.now.replies 2 || has_all self.now.watching) }
+        ensures { result ≡ (nat_lt (replies_in self.now) 2 || has_all self.now.watching) }
     {
-        self.replies < 2 || self.watching.is_complete()
+        self.replies() < 2 || self.watching.is_complete()
     }
 
     /// The code of a reply that is awaited, and has its first line and its CSeq.
     fn awaited_code(&self, message: &[u8]) -> Option<u16>
-        requires going { self.now.replies ≤ 2 }
         requires whole { IsMessageLength message.now (list_length message.now) }
         ensures { MatchOption result ((code : ℕ) →
             ¬ IsAwaited self.now message.now code) (IsAwaited self.now message.now) }
@@ -290,7 +302,7 @@ impl Client {
         if !self.is_awaited() {
             return None;
         }
-        reply_code(message, self.replies + 1)
+        reply_code(message, self.replies() + 1)
     }
 
     /// Takes up the reply in front, which stays there.
@@ -300,10 +312,8 @@ impl Client {
         length: usize,
         link: &mut K,
     ) -> Result<(), WatchEnd>
-        requires going { self.old.replies ≤ 2 }
         requires message { IsFirst self.old.input (Ok (Message length)) }
         ensures input { self.new.input ≡ self.old.input }
-        ensures replies { OnOk result (self.new.replies ≤ 2) }
         ensures few { self.new.watching.received ≡ self.old.watching.received }
         ensures count { K.faults link.old ≤ K.faults link.new }
         ensures cause { EndsWithCause result (K.faults link.old) (K.faults link.new) 0 0 }
@@ -313,27 +323,25 @@ impl Client {
             (stand self.old (K.told link.old)) (stand self.new (K.told link.new)) }
     {
         let Some(code) = self.awaited_code(&self.input.waiting_bytes()[..length]) else {
-            let number = self.replies + 1;
+            let number = self.replies() + 1;
             return Err(WatchEnd::Fault(WatchFault::BadReply(number)));
         };
         if code != 200 {
             return Err(WatchEnd::Fault(WatchFault::Refused(code)));
         }
-        self.take_good(wish, length, link)
+        self.take_success(wish, length, link)
     }
 
     /// Takes up the reply in front, which is awaited and has the code 200.
-    fn take_good<K: Link>(
+    fn take_success<K: Link>(
         &mut self,
         wish: &Wish,
         length: usize,
         link: &mut K,
     ) -> Result<(), WatchEnd>
-        requires going { self.old.replies ≤ 2 }
         requires message { IsFirst self.old.input (Ok (Message length)) }
         requires good { IsAwaited self.old (take length self.old.input) 200 }
         ensures input { self.new.input ≡ self.old.input }
-        ensures replies { OnOk result (self.new.replies ≤ 2) }
         ensures few { self.new.watching.received ≡ self.old.watching.received }
         ensures count { K.faults link.old ≤ K.faults link.new }
         ensures cause { EndsWithCause result (K.faults link.old) (K.faults link.new) 0 0 }
@@ -342,13 +350,11 @@ impl Client {
         ensures ended { EndsAtReply wish.now length result
             (stand self.old (K.told link.old)) (stand self.new (K.told link.new)) }
     {
-        if self.replies == 0 {
-            return self.take_setup(wish, length, link);
+        match self.replies() {
+            0 => self.take_setup(wish, length, link),
+            1 => self.take_play(wish, length),
+            _ => Err(WatchEnd::Done(self.watching.tally())),
         }
-        if self.replies == 1 {
-            return self.take_play(wish, length);
-        }
-        Err(WatchEnd::Done(self.watching.tally()))
     }
 
     /// Takes up the reply to SETUP in front, and asks for PLAY.
@@ -358,11 +364,10 @@ impl Client {
         length: usize,
         link: &mut K,
     ) -> Result<(), WatchEnd>
-        requires first { self.old.replies ≡ 0 }
+        requires first { replies_in self.old ≡ 0 }
         requires message { IsFirst self.old.input (Ok (Message length)) }
         requires good { IsAwaited self.old (take length self.old.input) 200 }
         ensures input { self.new.input ≡ self.old.input }
-        ensures replies { OnOk result (self.new.replies ≡ 1) }
         ensures few { self.new.watching.received ≡ self.old.watching.received }
         ensures count { K.faults link.old ≤ K.faults link.new }
         ensures cause { EndsWithCause result (K.faults link.old) (K.faults link.new) 0 0 }
@@ -374,20 +379,18 @@ impl Client {
         let message = &self.input.waiting_bytes()[..length];
         let session = session_in(message).ok_or(WatchFault::BadReply(1))?;
         let request = play_request(self.alloc, wish, session)?;
-        let kept = copy_of(self.alloc, session)?;
+        let kept = Vec::from_slice(self.alloc, session)?;
         link.send(request.as_slice())?;
-        self.session = kept;
-        self.replies = 1;
+        self.session = Some(kept);
         Ok(())
     }
 
     /// Takes up the reply to PLAY in front.
     fn take_play(&mut self, wish: &Wish, length: usize) -> Result<(), WatchEnd>
-        requires second { self.old.replies ≡ 1 }
+        requires second { replies_in self.old ≡ 1 }
         requires message { IsFirst self.old.input (Ok (Message length)) }
         requires good { IsAwaited self.old (take length self.old.input) 200 }
         ensures input { self.new.input ≡ self.old.input }
-        ensures replies { OnOk result (self.new.replies ≡ 2) }
         ensures few { self.new.watching.received ≡ self.old.watching.received }
         ensures cause { EndsWithCause result 0 0 0 0 }
         ensures passed { (told : Option (List Doing)) → PassesReply wish.now length result
@@ -399,7 +402,6 @@ impl Client {
         let end_ms = play_range(message).ok_or(WatchFault::BadReply(2))?;
         let start = play_start(message).ok_or(WatchFault::BadReply(2))?;
         self.watching.begin(start, end_ms);
-        self.replies = 2;
         Ok(())
     }
 }

@@ -7,14 +7,6 @@ use crate::wishes::Wish;
 use std::alloc::Global;
 use vod_base::{NoMemory, push_number};
 
-/// A copy of a text.
-pub(crate) fn copy_of(alloc: Global, text: &[u8]) -> Result<Vec<u8>, NoMemory>
-    ensures { IfOk result (λ copy. copy.items ≡ text.now) }
-{
-    let copy = Vec::from_slice(alloc, text)?;
-    Ok(copy)
-}
-
 /// SETUP of the film's video, interleaved on the channels 0 and 1, with the client's buffer and
 /// start delay.
 pub(crate) fn setup_request(alloc: Global, wish: &Wish) -> Result<Vec<u8>, NoMemory>

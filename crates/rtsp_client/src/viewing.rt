@@ -1,6 +1,6 @@
 //! A film watched from the first request to the last reply.
 
-ghost use Rattle.std.specs.Prelude.{◌≡◌, ◌≤◌, List, [], Option};
+ghost use Rattle.std.specs.Prelude.{◌≡◌, ◌≤◌, List, [], Option, None};
 ghost use Rattle.vod_base.specs.Links.{Doing, sends, told_more};
 ghost use Rattle.vod_base.specs.Outside.{HasRisen};
 ghost use Rattle.rtsp_client.specs.Causes.{HasCause};
@@ -55,8 +55,7 @@ fn hear_all<K: Link, O: Sink>(
     requires wish { IsWish wish.now }
     requires new { client.old.watching ≡ new_state }
     requires empty { client.old.input ≡ [] }
-    requires replies { client.old.replies ≡ 0 }
-    requires session { client.old.session.items ≡ [] }
+    requires session { client.old.session ≡ None }
     ensures count { K.faults link.old ≤ K.faults link.new }
     ensures count_out { O.faults out.old ≤ O.faults out.new }
     ensures watched { (told : Option (List Doing)) →
@@ -65,12 +64,12 @@ fn hear_all<K: Link, O: Sink>(
     ensures cause { HasCause result (K.faults link.old) (K.faults link.new) (O.faults out.old)
         (O.faults out.new) }
 {
-    let mut into = [0; MAX_HEARD];
+    let mut bytes = [0; MAX_HEARD];
     'events: for _event in 0..MAX_EVENTS {
-        let Ok(heard) = link.next(&mut into) else {
+        let Ok(heard) = link.next(&mut bytes) else {
             return WatchEnd::LinkFault;
         };
-        if let Err(end) = client.hear(wish, heard, &into, link, out) {
+        if let Err(end) = client.hear(wish, heard, &bytes, link, out) {
             return end;
         }
     }

@@ -1,7 +1,7 @@
 //! What is heard of a film, and the meter of the client's buffer.
 
 ghost use Rattle.std.specs.Prelude.{◌≡◌, ◌+◌, ◌^◌, ◌<◌, ◌≤◌, ℕ, Option, Some, None, true, false};
-ghost use Rattle.std.specs.Prelude.{length, IfSome, OnOk};
+ghost use Rattle.std.specs.Prelude.{length, is_some, IfSome, OnOk};
 ghost use Rattle.rtsp_client.specs.Sound.{IsSoundSource};
 ghost use Rattle.rtsp_client.specs.States.{after_frame, after_play, after_reading, after_report};
 ghost use Rattle.rtsp_client.specs.States.{after_slot, has_all, is_between, is_lacking, new_state};
@@ -86,6 +86,13 @@ impl Watching {
         self.watched
     }
 
+    /// Whether the reply to PLAY was heard.
+    pub(crate) fn is_playing(&self) -> bool
+        ensures { result ≡ is_some self.now.play }
+    {
+        self.play.is_some()
+    }
+
     /// Whether all pictures are whole.
     pub(crate) fn is_complete(&self) -> bool
         ensures { result ≡ has_all self.now }
@@ -116,15 +123,11 @@ impl Watching {
             IsSoundSource source (self.now.watched.units + 1)) }
         ensures long { IfSome result (λ source. 20 ≤ length block.now) }
     {
-        let Some(play) = &self.play else {
-            return None;
-        };
+        let play = self.play?;
         if self.is_complete() {
             return None;
         }
-        let Ok(head) = read_head(&block[BLOCK_HEAD..]) else {
-            return None;
-        };
+        let head = read_head(&block[BLOCK_HEAD..]).ok()?;
         self.source_after(&head, &block[HEADS..], play.end_ms)
     }
 

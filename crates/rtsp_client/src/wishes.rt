@@ -1,5 +1,6 @@
 //! What is to be watched, and what came of it.
 
+use std::alloc::AllocError;
 use thiserror::Error;
 use vod_base::{LinkFault, NoMemory, SinkFault};
 
@@ -119,6 +120,17 @@ impl From<NoMemory> for WatchEnd {
     ghost from_gives = { λ _ end. end ≡ MemoryEnd };
 
     fn from(_fault: NoMemory) -> WatchEnd {
+        WatchEnd::NoMemory
+    }
+}
+
+impl From<AllocError> for WatchEnd {
+    ghost use Rattle.std.specs.Prelude.{◌≡◌};
+    ghost use Rattle.rtsp_client.specs.declared.wishes.WatchEnd.TheVariants.{NoMemory as MemoryEnd};
+
+    ghost from_gives = { λ _ end. end ≡ MemoryEnd };
+
+    fn from(_error: AllocError) -> WatchEnd {
         WatchEnd::NoMemory
     }
 }

@@ -7,8 +7,7 @@ use Rattle.rtsp_client.proofs.viewing.hear_all.Given as goal
 
 abbrev pub invariant-events : goal.invariant-events
 invariant-events g l =
-    (l.client.replies ≤ 2)
-    × (bytes_in l.client ≤ 16384 * l._event)
+    (bytes_in l.client ≤ 16384 * l._event)
     × (length l.client.input ≤ 81920)
     × IsFirst l.client.input (Ok More)
     × HasRun l.wish l._event l.client (sight (g.K.Link.told l.initial.link) (g.O.Sink.written l.initial.out))

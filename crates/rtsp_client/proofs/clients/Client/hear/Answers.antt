@@ -30,7 +30,6 @@ returns-in-Slot-clause-on g c = λ h k.
     (record {
       alloc = c.args.self.now.alloc;
       input = c.args.self.now.input;
-      replies = c.args.self.now.replies;
       session = c.args.self.now.session;
       watching = c.hear_slot.new.self;
     })
@@ -45,7 +44,7 @@ returns-in-Slot-clause-on g c = λ h k.
       cut_is = c.cut_bytes-cut.ensures.cut ∙ ap cut_bytes c.waiting_bytes.ensures;
       idle = c.requires.idle;
     })
-    (record { replies = refl; session = refl; input = refl; watching = c.hear_slot.ensures.state }))
+    (record { session = refl; input = refl; watching = c.hear_slot.ensures.state }))
 
 pub returns-in-Ok-clause-on : goal.returns-in-Ok-clause-on
 returns-in-Ok-clause-on g c = λ h k.

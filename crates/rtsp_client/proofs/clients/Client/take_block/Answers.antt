@@ -31,7 +31,6 @@ returns-in-1-clause-passed g c = λ h k.
     (record {
       alloc = c.args.self.now.alloc;
       input = c.args.self.now.input;
-      replies = c.args.self.now.replies;
       session = c.args.self.now.session;
       watching = c.add_report.new.self;
     })
@@ -39,7 +38,7 @@ returns-in-1-clause-passed g c = λ h k.
     (sight (g.K.Link.told c.args.link.now) (g.O.Sink.written c.args.out.now)))
     (sym c.in-1.is)
     (report-done
-    k refl refl
+    k refl
     (state ∙ ap (after_report c.args.self.now.watching) (sym whole)))
 
 pub returns-in_default-clause-passed : goal.returns-in_default-clause-passed

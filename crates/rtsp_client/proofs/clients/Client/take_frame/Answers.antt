@@ -6,6 +6,7 @@ use Rattle.rtsp_client.specs.declared.wishes.Watched.{Watched}
 use Rattle.rtsp_client.specs.declared.wishes.WatchEnd.TheVariants.{Fault}
 use Rattle.rtsp_client.specs.declared.wishes.WatchFault.TheVariants.{BadFrame}
 use Rattle.rtsp_client.specs.Requests.{teardown_text}
+use Rattle.rtsp_client.specs.Standing.{session_of}
 use Rattle.rtsp_client.specs.States.{has_all}
 use Rattle.rtsp_client.proofs.Framing.{bad-frame, frame-cut, frame-done, frame-starved, last-cut, last-done}
 use Rattle.rtsp_client.proofs.Framing.{payload-here, source-here, taken-frame, teardown-starved}
@@ -67,7 +68,7 @@ returns-in_err-send-clause-ended g c =
     rw (p.1, p.2)
     (λ h k.
     let all : has_all c.add_frame.new.self ≡ true = search rules in
-    let text : c.as_slice-2.result.now ≡ teardown_text c.args.wish.now c.args.self.now.session.items = search rules in
+    let text : c.as_slice.result.now ≡ teardown_text c.args.wish.now (session_of c.args.self.now) = search rules in
     last-cut {told = g.K.Link.told c.args.link.now} {new_told = g.K.Link.told c.send.new.self}
     {out = g.O.Sink.written c.args.out.now} {new_out = g.O.Sink.written c.write_all.new.self}
     (taken-frame c.args.self.now c.args.length (record {
@@ -87,7 +88,7 @@ returns-in_err-send-clause-ended g c =
 pub returns-clause-passed : goal.returns-clause-passed
 returns-clause-passed g c = λ h k.
     let all : has_all c.add_frame.new.self ≡ true = search rules in
-    let text : c.as_slice-2.result.now ≡ teardown_text c.args.wish.now c.args.self.now.session.items = search rules in
+    let text : c.as_slice.result.now ≡ teardown_text c.args.wish.now (session_of c.args.self.now) = search rules in
     last-done (g.K.Link.told c.args.link.now)
     (taken-frame c.args.self.now c.args.length (record {
       keeps = k;

@@ -1,4 +1,4 @@
-use Rattle.std.proofs.Common.{◌<◌, ◌≤◌, Ok, drop, refl, ap, subst, sym, ◌∙◌, arith}
+use Rattle.std.proofs.Common.{◌<◌, Ok, drop, refl, ap, subst, sym, ◌∙◌, arith}
 use Rattle.std.proofs.lemmas.Result.{err_from_is_err_and}
 use Rattle.interleave.specs.Elements.{IsFirst}
 use Rattle.interleave.specs.declared.elements.Step.TheVariants.{Block, Message, Skip}
@@ -72,19 +72,18 @@ returns-in_ok-take_reply-in-Ok-Message-clause-taken g c = λ h k.
     (record { replies = refl; session = refl; watching = refl })
     (c.drop_front-in-Ok-Message.ensures ∙ ap (drop c.in-Ok-Message.length) c.take_reply.ensures.input))
 
-pub returns-in-Ok-Skip-clause-going : goal.returns-in-Ok-Skip-clause-going
-returns-in-Ok-Skip-clause-going g c =
+pub returns-in-Ok-Skip-clause-few : goal.returns-in-Ok-Skip-clause-few
+returns-in-Ok-Skip-clause-few g c =
     let first : IsFirst c.args.self.now.input (Ok (Skip c.in-Ok-Skip.length)) =
     first_is c.in-Ok-Skip.ensures.first refl c.in-Ok-Skip.field-0-is in
-    goes-on {c = c.args.self.now}
-    {new = record {
+    goes-on c.args.self.now
+    (record {
       alloc = c.args.self.now.alloc;
       input = c.drop_front.new.self;
-      replies = c.args.self.now.replies;
       session = c.args.self.now.session;
       watching = c.args.self.now.watching;
-    }}
-    c.in-Ok-Skip.length c.requires.going.replies (omega arith) first.1.within
+    })
+    c.in-Ok-Skip.length (omega arith) first.1.within
     (c.drop_front.ensures ∙ ap (drop c.in-Ok-Skip.length) c.look.ensures.waiting)
 
 pub returns-in-Ok-Skip-clause-shorter : goal.returns-in-Ok-Skip-clause-shorter
@@ -94,20 +93,18 @@ returns-in-Ok-Skip-clause-shorter g c =
     λ _. fewer c.args.self.now.input c.drop_front.new.self c.in-Ok-Skip.length first.0 first.1.within
     (c.drop_front.ensures ∙ ap (drop c.in-Ok-Skip.length) c.look.ensures.waiting)
 
-pub returns-in_ok-take_block-in-Ok-Block-clause-going : goal.returns-in_ok-take_block-in-Ok-Block-clause-going
-returns-in_ok-take_block-in-Ok-Block-clause-going g c =
+pub returns-in_ok-take_block-in-Ok-Block-clause-few : goal.returns-in_ok-take_block-in-Ok-Block-clause-few
+returns-in_ok-take_block-in-Ok-Block-clause-few g c =
     let first : IsFirst c.args.self.now.input (Ok (Block c.in-Ok-Block.channel c.in-Ok-Block.length)) =
     first_is c.in-Ok-Block.ensures.first refl c.in-Ok-Block.field-0-is in
-    goes-on {c = c.args.self.now}
-    {new = record {
+    goes-on c.args.self.now
+    (record {
       alloc = c.take_block.new.self.alloc;
       input = c.drop_front-in-Ok-Block.new.self;
-      replies = c.take_block.new.self.replies;
       session = c.take_block.new.self.session;
       watching = c.take_block.new.self.watching;
-    }}
-    c.in-Ok-Block.length (subst (λ r. r ≤ 2) (sym c.take_block.ensures.replies) c.requires.going.replies)
-    c.in_ok-take_block-in-Ok-Block.ensures.few first.4
+    })
+    c.in-Ok-Block.length c.in_ok-take_block-in-Ok-Block.ensures.few first.4
     (c.drop_front-in-Ok-Block.ensures
     ∙ ap (drop c.in-Ok-Block.length) (c.take_block.ensures.input ∙ c.look.ensures.waiting))
 
@@ -120,20 +117,18 @@ returns-in_ok-take_block-in-Ok-Block-clause-shorter g c =
     (c.drop_front-in-Ok-Block.ensures
     ∙ ap (drop c.in-Ok-Block.length) (c.take_block.ensures.input ∙ c.look.ensures.waiting))
 
-pub returns-in_ok-take_reply-in-Ok-Message-clause-going : goal.returns-in_ok-take_reply-in-Ok-Message-clause-going
-returns-in_ok-take_reply-in-Ok-Message-clause-going g c =
+pub returns-in_ok-take_reply-in-Ok-Message-clause-few : goal.returns-in_ok-take_reply-in-Ok-Message-clause-few
+returns-in_ok-take_reply-in-Ok-Message-clause-few g c =
     let first : IsFirst c.args.self.now.input (Ok (Message c.in-Ok-Message.length)) =
     first_is c.in-Ok-Message.ensures.first refl c.in-Ok-Message.field-0-is in
-    goes-on {c = c.args.self.now}
-    {new = record {
+    goes-on c.args.self.now
+    (record {
       alloc = c.take_reply.new.self.alloc;
       input = c.drop_front-in-Ok-Message.new.self;
-      replies = c.take_reply.new.self.replies;
       session = c.take_reply.new.self.session;
       watching = c.take_reply.new.self.watching;
-    }}
-    c.in-Ok-Message.length c.in_ok-take_reply-in-Ok-Message.ensures.replies
-    (omega (arith, c.take_reply.ensures.few)) first.2
+    })
+    c.in-Ok-Message.length (omega (arith, c.take_reply.ensures.few)) first.2
     (c.drop_front-in-Ok-Message.ensures
     ∙ ap (drop c.in-Ok-Message.length) (c.take_reply.ensures.input ∙ c.look.ensures.waiting))
 
@@ -146,6 +141,7 @@ returns-in_ok-take_reply-in-Ok-Message-clause-shorter g c =
     (c.drop_front-in-Ok-Message.ensures
     ∙ ap (drop c.in-Ok-Message.length) (c.take_reply.ensures.input ∙ c.look.ensures.waiting))
 
-pub take_reply-requires-clause-message : goal.take_reply-requires-clause-message
-take_reply-requires-clause-message g c =
-    first_is c.in-Ok-Message.ensures.first c.look.ensures.waiting c.in-Ok-Message.field-0-is
+pub take_reply-requires : goal.take_reply-requires
+take_reply-requires g c = record {
+  message = first_is c.in-Ok-Message.ensures.first c.look.ensures.waiting c.in-Ok-Message.field-0-is;
+}

@@ -52,4 +52,4 @@ returns-clause-passed c = λ told out h k.
       awaited = c.requires.good;
       start_is = start;
       range_is = range;
-    }) refl refl c.begin.ensures
+    }) refl c.begin.ensures

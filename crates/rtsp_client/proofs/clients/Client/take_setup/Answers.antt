@@ -1,4 +1,4 @@
-use Rattle.std.proofs.Common.{◌≡◌, None, take, rules, refl, sym, ap, subst, ◌∙◌}
+use Rattle.std.proofs.Common.{◌≡◌, None, Some, take, rules, refl, sym, ap, subst, ◌∙◌}
 use Rattle.std.specs.Prelude.{option_map}
 use Rattle.std.proofs.lemmas.Result.{err_from_is_err_and}
 use Rattle.vod_base.specs.Links.{IsFrontTold, sends, told_more}
@@ -8,7 +8,7 @@ use Rattle.rtsp_client.specs.declared.wishes.WatchFault.TheVariants.{BadReply}
 use Rattle.rtsp_client.specs.Replies.{session_in}
 use Rattle.rtsp_client.specs.Requests.{play_text}
 use Rattle.rtsp_client.proofs.Outcomes.{ok-or-err}
-use Rattle.rtsp_client.proofs.Replying.{session-read, setup-cut, setup-done, setup-lacks, setup-starved}
+use Rattle.rtsp_client.proofs.Replying.{first-reply, session-read, setup-cut, setup-done, setup-lacks, setup-starved}
 use Rattle.rtsp_client.proofs.clients.Client.take_setup.Goals as goal
 
 pub returns-in_err-session-clause-ended : goal.returns-in_err-session-clause-ended
@@ -75,7 +75,7 @@ returns-clause-passed g c = λ out h k.
     c.as_slice.ensures.value ∙ c.in_ok-request.ensures in
     let sent : g.K.Link.told c.send.new.self
     ≡ told_more (g.K.Link.told c.args.link.now) (sends c.as_slice.result.now) = c.in_ok-send.ensures.whole in
-    setup-done
+    setup-done {new = record (c.args.self.now) { session = Some c.in_ok-kept.kept }}
     (g.K.Link.told c.args.link.now) out
     (record {
       keeps = k;
@@ -84,5 +84,5 @@ returns-clause-passed g c = λ out h k.
       session_is = session-read (λ s. s.now)
           c.args.length c.waiting_bytes.ensures c.session_in.ensures c.ok_or.ensures.ok_part (c.in_ok-session.was {u = tt});
     })
-    (record { replies = refl; session = search rules; watching = refl })
+    (record { replies = first-reply c.args.self.now c.requires.first; session = search rules; watching = refl })
     (sent ∙ ap (λ x. told_more (g.K.Link.told c.args.link.now) (sends x)) text)

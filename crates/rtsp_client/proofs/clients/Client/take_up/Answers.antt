@@ -6,7 +6,7 @@ use Rattle.rtsp_client.proofs.clients.Client.take_up.Goals as goal
 
 pub elements-init : goal.elements-init
 elements-init g c = (
-  record { replies = c.requires.going.replies; few = omega arith },
+  omega arith,
   omega arith,
   omega arith,
   λ h k. taken-none k (record { replies = refl; session = refl; watching = refl }) refl,
@@ -27,10 +27,7 @@ returns-then-not-more-clause-taken g c = λ h k.
 
 pub elements-preserved : goal.elements-preserved
 elements-preserved g c = (
-  record {
-    replies = c.in_ok-more.ensures.going.replies;
-    few = omega (arith, c.elements.invariant.0.few, c.in_ok-more.ensures.going.few);
-  },
+  omega (arith, c.elements.invariant.0, c.in_ok-more.ensures.few),
   omega (arith, c.elements.invariant.1, c.take_next.ensures.count),
   omega (arith, c.elements.invariant.2, c.take_next.ensures.count_out),
   λ h k. taken-on
