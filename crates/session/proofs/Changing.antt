@@ -19,9 +19,11 @@ use Rattle.session.specs.declared.states.Awaited.TheVariants.{Play}
 use Rattle.session.specs.declared.states.Setup.{Setup}
 use Rattle.session.specs.declared.states.State.{State}
 use Rattle.session.specs.declared.states.State.TheVariants.{Ready}
-use Rattle.session.specs.Changes.{AsksOrLacks, CanBePlayed, ChangesState, IsGoodPlay, IsPlayAskedFor, IsSameGround}
+use Rattle.session.specs.Changes.{AsksOrLacks, AwaitsNoStop, CanBePlayed, ChangesState, IsGoodPlay, IsPlayAskedFor}
+use Rattle.session.specs.Changes.{IsSameGround}
 use Rattle.session.specs.Hearings.{Hears, HearsOn}
 use Rattle.session.specs.Judging.{IsJudged}
+use Rattle.session.specs.Laws.{AsksNoHalt}
 use Rattle.session.specs.Methods.{AsksPlayOr, IsRefused, IsReplied, Plays, Takes, play_call, play_front, prepared_of}
 use Rattle.session.specs.Planning.{IsPlanned, IsPlannedRun}
 use Rattle.session.specs.Standings.{Standing}
@@ -34,7 +36,7 @@ Changes ask old new = IsSameGround old new × ChangesState ask old new
 replied_changes : (old : Standing) (text : List ℕ) (ask : Ask) (new : Standing) → IsReplied old text ask new → Changes ask old new
 replied_changes old text ask new is =
     subst (λ a. Changes a old new) (sym is.0) (
-      subst (IsSameGround old) (sym is.1) (record { films = refl; settings = refl; source = refl; counts = refl; heard = refl }),
+      subst (IsSameGround old) (sym is.1) (record { films = refl; settings = refl; source = refl; counts = refl; heard = refl; plays = refl }),
       inl (ap (λ (s : Standing). s.state) is.1),
     )
 
@@ -67,17 +69,17 @@ comes_changes old new message ask (Lacks may is) = replied_changes old _ ask new
 comes_changes old new message ask (Refuses sequence refusal option other is) = replied_changes old _ ask new is
 comes_changes old new message ask (Says sequence fields body tearing by command is) =
     subst (λ a. Changes a old new) (sym command) (
-      subst (IsSameGround old) (sym is) (record { films = refl; settings = refl; source = refl; counts = refl; heard = refl }),
+      subst (IsSameGround old) (sym is) (record { films = refl; settings = refl; source = refl; counts = refl; heard = refl; plays = refl }),
       inl (ap (λ (s : Standing). s.state) is),
     )
 comes_changes old new message ask (SettlesSetup sequence setup init ranges command is) =
     subst (λ a. Changes a old new) (sym command) (
-      subst (IsSameGround old) (sym is) (record { films = refl; settings = refl; source = refl; counts = refl; heard = refl }),
+      subst (IsSameGround old) (sym is) (record { films = refl; settings = refl; source = refl; counts = refl; heard = refl; plays = refl }),
       inr (record { setup = setup; state = ap (λ (s : Standing). s.state) is; ranges = ranges }),
     )
 comes_changes old new message ask (AsksForPlay stored setup paused range planned sequence authority ready planned_is command is) =
     subst (λ a. Changes a old new) (sym command) (
-      subst (IsSameGround old) (sym is) (record { films = refl; settings = refl; source = refl; counts = refl; heard = refl }),
+      subst (IsSameGround old) (sym is) (record { films = refl; settings = refl; source = refl; counts = refl; heard = refl; plays = refl }),
       (
         ap (λ (s : Standing). s.state) is,
         play_asked sequence authority ready planned_is is,
@@ -86,19 +88,28 @@ comes_changes old new message ask (AsksForPlay stored setup paused range planned
 comes_changes old new message ask (AsksForHalt sequence setup play next playing told by halts) =
     subst (λ a. Changes a old new) (sym halts.command) (
       subst (IsSameGround old) (sym halts.state)
-          (record { films = refl; settings = refl; source = refl; counts = refl; heard = refl }),
-      record { setup = setup; play = play; keep = halts.keep; was = playing; now = ap (λ (s : Standing). s.state) halts.state },
+          (record { films = refl; settings = refl; source = refl; counts = refl; heard = refl; plays = refl }),
+      record {
+        setup = setup;
+        play = play;
+        keep = halts.keep;
+        next = next;
+        was = playing;
+        keep_is = halts.keep_is;
+        now = ap (λ (s : Standing). s.state) halts.state;
+        awaited = ap (λ (s : Standing). s.awaited) halts.state;
+      },
     )
 comes_changes old new message ask (AsksForLook sequence look) =
     subst (λ a. Changes a old new) (sym look.command) (
       subst (IsSameGround old) (sym look.state)
-          (record { films = refl; settings = refl; source = refl; counts = refl; heard = refl }),
+          (record { films = refl; settings = refl; source = refl; counts = refl; heard = refl; plays = refl }),
       ap (λ (s : Standing). s.state) look.state,
     )
 comes_changes old new message ask (AsksForOffer sequence wait planned asks) =
     subst (λ a. Changes a old new) (sym asks.command) (
       subst (IsSameGround old) (sym asks.state)
-          (record { films = refl; settings = refl; source = refl; counts = refl; heard = refl }),
+          (record { films = refl; settings = refl; source = refl; counts = refl; heard = refl; plays = refl }),
       ap (λ (s : Standing). s.state) asks.state,
     )
 
@@ -107,6 +118,24 @@ hears_ground old new message ask hears = (comes_changes old new message ask (com
 
 pub hears_state : (old new : Standing) (message : List ℕ) (ask : Ask) → Hears old message ask new → ChangesState ask old new
 hears_state old new message ask hears = (comes_changes old new message ask (comes_to old message ask new hears)).1
+
+-- a PAUSE or a TEARDOWN waits for no halt but the one that it asks for
+comes_unstopped : {old new : Standing} {message : List ℕ} {ask : Ask} → AsksNoHalt ask → AwaitsNoStop old
+    → ComesTo old message ask new → AwaitsNoStop new
+comes_unstopped free none (Lacks may is) = subst AwaitsNoStop (sym is.1) none
+comes_unstopped free none (Refuses sequence refusal option other is) = subst AwaitsNoStop (sym is.1) none
+comes_unstopped free none (Says sequence fields body tearing by command is) = subst AwaitsNoStop (sym is) none
+comes_unstopped free none (SettlesSetup sequence setup init ranges command is) = subst AwaitsNoStop (sym is) none
+comes_unstopped free none (AsksForPlay stored setup paused range planned sequence authority ready planned_is command is) =
+    subst AwaitsNoStop (sym is) refl
+comes_unstopped free none (AsksForHalt sequence setup play next playing told by halts) =
+    absurd (subst AsksNoHalt halts.command free)
+comes_unstopped free none (AsksForLook sequence look) = subst AwaitsNoStop (sym look.state) refl
+comes_unstopped free none (AsksForOffer sequence wait planned asks) = subst AwaitsNoStop (sym asks.state) refl
+
+pub hears_unstopped : (old new : Standing) (message : List ℕ) (ask : Ask) → Hears old message ask new → AsksNoHalt ask
+    → AwaitsNoStop old → AwaitsNoStop new
+hears_unstopped old new message ask hears free none = comes_unstopped free none (comes_to old message ask new hears)
 
 -- a PLAY to which no refusal applies
 no_refusal : {old : Standing} {request : Request} {setup : Setup} {paused : Option Run} {ask : Ask} {new : Standing}

@@ -7,13 +7,16 @@ use Rattle.rtsp_text.specs.declared.requests.Request.{Request}
 use Rattle.rtsp_text.specs.declared.requests.RequestFault.{RequestFault}
 use Rattle.film_frames.specs.declared.stores.Stored.{Stored}
 use Rattle.film_run.specs.declared.runs.Run.{Run}
+use Rattle.pacer.specs.Pacings.{next_boundary}
 use Rattle.session.specs.declared.asks.Ask.{Ask}
 use Rattle.session.specs.declared.asks.Ask.TheVariants.{Reply, Play as AskPlay, Halt as AskHalt}
 use Rattle.session.specs.declared.asks.Ask.TheVariants.{Look as AskLook, Offer as AskOffer}
 use Rattle.session.specs.declared.plans.Planned.{Planned}
 use Rattle.session.specs.declared.refusals.Refusal.{Refusal}
 use Rattle.session.specs.declared.refusals.Refusal.TheVariants.{Memory}
-use Rattle.session.specs.declared.states.Awaited.TheVariants.{Play}
+use Rattle.session.specs.declared.states.Awaited.TheVariants.{Play, Halt}
+use Rattle.session.specs.declared.states.Next.{Next}
+use Rattle.session.specs.declared.states.Next.TheVariants.{Done}
 use Rattle.session.specs.declared.states.Play.{Play as Played}
 use Rattle.session.specs.declared.states.Setup.{Setup}
 use Rattle.session.specs.declared.states.State.TheVariants.{Ready, Playing}
@@ -22,6 +25,7 @@ use Rattle.session.specs.declared.methods.Method.TheVariants.{Play as PlayMethod
 use Rattle.session.specs.Methods.{IsRefused, play_front, prepared_of}
 use Rattle.session.specs.Planning.{IsPlanned, IsPlannedRun}
 use Rattle.session.specs.Ranges.{AreSettings, IsSetup}
+use Rattle.session.specs.Sendings.{next_of}
 use Rattle.session.specs.Standings.{Standing}
 
 -- what no request changes
@@ -31,6 +35,7 @@ pub record IsSameGround (old new : Standing) : Type 0 where
   pub source : new.source ≡ old.source
   pub counts : new.counts ≡ old.counts
   pub heard : new.heard ≡ old.heard
+  pub plays : new.plays ≡ old.plays
 
 -- a SETUP: what it settles is in its ranges
 pub record IsSetUpBy (old new : Standing) : Type 0 where
@@ -57,13 +62,21 @@ pub record IsPlayAskedFor (old : Standing) (ask : Ask) (new : Standing) : Type 0
   pub play : IsPlayAsked old new
   pub command : ask ≡ AskPlay play.planned.plan
 
--- a PAUSE or a TEARDOWN in Playing: less of the play may become due
+-- a PAUSE or a TEARDOWN in Playing: of the play no more may become due than up to the end of the
+-- frame or report in hand, and a halt that keeps so much is awaited
 pub record IsHaltAsked (old new : Standing) : Type 0 where
   pub setup : Setup
   pub play : Played
   pub keep : ℕ
+  pub next : Next
   pub was : old.state ≡ Playing setup play
+  pub keep_is : keep ≡ next_boundary play.pacer
   pub now : new.state ≡ Playing setup (record play { pacer = record play.pacer { keep = keep } })
+  pub awaited : new.awaited ≡ Halt keep next
+
+-- neither a PAUSE nor a TEARDOWN waits for its halt
+abbrev pub AwaitsNoStop : Standing → Type 0
+AwaitsNoStop standing = next_of standing.awaited ≡ Done
 
 -- by what is asked of the station
 abbrev pub ChangesState : Ask → Standing → Standing → Type 0

@@ -1,6 +1,6 @@
 -- Laws of a session, in RFC 2326's words.
-use Rattle.std.specs.Prelude.{ℕ, ◌≡◌, ◌+◌, ◌%◌, ◌^◌, ◌++◌, ◌⊎◌, ⊤, true, List, [], Option, Some}
-use Rattle.std.specs.Prelude.{codes}
+use Rattle.std.specs.Prelude.{ℕ, ◌≡◌, ◌+◌, ◌%◌, ◌^◌, ◌++◌, ◌⊎◌, ⊤, true, List, [], ◌∷◌, Option}
+use Rattle.std.specs.Prelude.{Some, codes}
 use Rattle.rtp_pack.specs.declared.reports.Identity.{Identity}
 use Rattle.film_frames.specs.declared.stores.Stored.{Stored}
 use Rattle.film_run.specs.declared.runs.Run.{Run}
@@ -9,7 +9,9 @@ use Rattle.rtsp_text.specs.declared.requests.Request.{Request}
 use Rattle.session.specs.declared.asks.Ask.{Ask}
 use Rattle.session.specs.declared.asks.Ask.TheVariants.{Reply, Play as AskPlay, Halt as AskHalt}
 use Rattle.session.specs.declared.asks.Ask.TheVariants.{Look as AskLook, Offer as AskOffer}
+use Rattle.session.specs.declared.notes.Receipt.{Receipt}
 use Rattle.session.specs.declared.plans.Planned.{Planned}
+use Rattle.session.specs.declared.states.Awaited.TheVariants.{Nothing}
 use Rattle.session.specs.declared.states.Setup.{Setup}
 use Rattle.session.specs.declared.wanted.Wanted.TheVariants.{New}
 use Rattle.session.specs.declared.states.State.{State}
@@ -55,6 +57,14 @@ pub record IsOk (text : List ℕ) : Type 0 where
 -- a reply other than 200 leaves all but the reply
 abbrev pub LeavesOr : Standing → Standing → Type 0
 LeavesOr old new = IsOk new.text ⊎ (new ≡ with_reply old new.text)
+
+-- a refusal of the station's leaves all but the reply: its receipt is noted, and no answer is
+-- awaited any more
+abbrev pub LeavesNoted : Standing → Receipt → Standing → Type 0
+LeavesNoted old receipt new = new ≡ record (with_reply old new.text) {
+  awaited = Nothing;
+  receipts = old.receipts ++ receipt ∷ [];
+}
 
 -- no halt is asked for
 abbrev pub AsksNoHalt : Ask → Type 0

@@ -5,7 +5,9 @@ ghost use Rattle.rtsp_text.specs.Replies.{Field, phrase, reply_front};
 ghost use Rattle.film_frames.specs.declared.stores.Stored.{Stored};
 ghost use Rattle.film_frames.specs.Runs.{FramedRun, frames_before, octets_before};
 ghost use Rattle.film_run.specs.declared.runs.Run.{Run};
+ghost use Rattle.admission.specs.declared.entries.Answer.{Answer};
 ghost use Rattle.session.specs.declared.asks.Ask.{Ask};
+ghost use Rattle.session.specs.declared.notes.Receipt.{Receipt};
 ghost use Rattle.session.specs.declared.plans.Planned.{Planned};
 ghost use Rattle.session.specs.declared.refusals.Refusal.{Refusal};
 ghost use Rattle.session.specs.declared.states.Counts.{Counts};
@@ -14,12 +16,12 @@ ghost use Rattle.session.specs.declared.states.Setup.{Setup};
 ghost use Rattle.session.specs.declared.states.Source.{Source};
 ghost use Rattle.session.specs.declared.states.State.TheVariants.{Playing, Ready};
 ghost use Rattle.session.specs.Films.{counts_after, identity_of, sending_of};
-ghost use Rattle.session.specs.Changes.{AsksOrLacks, CanBePlayed, ChangesState, IsSameGround};
-ghost use Rattle.session.specs.Changes.{RefusesNone};
+ghost use Rattle.session.specs.Changes.{AsksOrLacks, AwaitsNoStop, CanBePlayed, ChangesState};
+ghost use Rattle.session.specs.Changes.{IsSameGround, RefusesNone};
 ghost use Rattle.session.specs.Hearings.{Hears, after_admission, after_full, after_halt};
 ghost use Rattle.session.specs.Hearings.{after_look, after_overflow};
 ghost use Rattle.session.specs.Laws.{AsksNoHalt, GoesOn, InitStage, Is500, IsDropped, IsOneHearing};
-ghost use Rattle.session.specs.Laws.{IsWanting, LeavesOr, MayWantMemory, NeverLacks};
+ghost use Rattle.session.specs.Laws.{IsWanting, LeavesNoted, LeavesOr, MayWantMemory, NeverLacks};
 ghost use Rattle.session.specs.Laws.{PlayingStage, PlaysOn, ReadyStage, Resumes, StaysOr};
 ghost use Rattle.session.specs.Methods.{IsSetUp, play_front};
 ghost use Rattle.session.specs.Planning.{IsPlannedRun};
@@ -31,10 +33,17 @@ ghost use Rattle.session.specs.Telling.{IsDescribed, IsFilmTold, IsFullTold, IsL
 ghost use Rattle.session.specs.Telling.{IsOverflowTold, IsPlayTold, IsSetupTold, IsStartTold};
 ghost use Rattle.session.specs.Telling.{IsTellable, phrase_of};
 
-/// A reply other than 200 leaves all of the session but the reply (RFC 2326 section 7.1.1).
+/// A reply other than 200 leaves all of the session but the reply (RFC 2326 section 7.1.1). So do
+/// 453 and 503, which tell what the station answered: only its receipt is noted, and no answer is
+/// awaited any more.
 pub fn law_refusal_leaves()
-    ensures { (old new : Standing) (message : List ℕ) → Hears old message Ask.Reply new →
+    ensures own { (old new : Standing) (message : List ℕ) → Hears old message Ask.Reply new →
         LeavesOr old new }
+    ensures overflow { (old : Standing) (place slot booked asked : ℕ)
+        → LeavesNoted old (Receipt.Entry place (Answer.Overflow slot booked asked))
+        (after_overflow old place slot booked asked) }
+    ensures full { (old : Standing) (entries open_plays : ℕ)
+        → LeavesNoted old (Receipt.Full entries open_plays) (after_full old entries open_plays) }
 {}
 
 /// A request in Playing that asks for no halt leaves the play.
@@ -79,14 +88,19 @@ pub fn law_states()
         StaysOr PlayingStage ReadyStage old (after_halt old place) }
 {}
 
-/// A request changes neither the films, the settings, what was sent before, nor the heard slot.
+/// A request changes neither the films, the settings, what was sent before, the heard slot, nor
+/// the notes of plays.
 /// What a SETUP settles is in its ranges (RFC 2326 section 10.4). A PLAY asks for the run that its
-/// Range means, or the paused one, with the plan that is taken for it.
+/// Range means, or the paused one, with the plan that is taken for it. A PAUSE and a TEARDOWN in
+/// Playing ask for a halt that keeps what is sent up to the end of the frame or report in hand; no
+/// other request leaves one waiting.
 pub fn law_changes()
     ensures ground { (old new : Standing) (message : List ℕ) (ask : Ask) →
         Hears old message ask new → IsSameGround old new }
     ensures state { (old new : Standing) (message : List ℕ) (ask : Ask) →
         Hears old message ask new → ChangesState ask old new }
+    ensures unstopped { (old new : Standing) (message : List ℕ) (ask : Ask) →
+        Hears old message ask new → AsksNoHalt ask → AwaitsNoStop old → AwaitsNoStop new }
 {}
 
 /// No reply of the session's own is 453 or 503. A PLAY to which no refusal applies asks the station

@@ -1,4 +1,4 @@
-use Rattle.session.proofs.Changing.{hears_ground, hears_state}
+use Rattle.session.proofs.Changing.{hears_ground, hears_state, hears_unstopped}
 use Rattle.session.proofs.laws.law_changes.Goals as goal
 
 pub returns-clause-ground : goal.returns-clause-ground
@@ -6,3 +6,6 @@ returns-clause-ground c = hears_ground
 
 pub returns-clause-state : goal.returns-clause-state
 returns-clause-state c = hears_state
+
+pub returns-clause-unstopped : goal.returns-clause-unstopped
+returns-clause-unstopped c = hears_unstopped
