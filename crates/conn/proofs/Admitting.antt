@@ -53,13 +53,19 @@ pub record HasToldRefusal (refused : PlayRefused) (before after : Connection) : 
   pub closed : open_of after.session ≡ None
   pub booking : after.booking ≡ before.booking
 
-gone_refused : {before after : Connection} (seat next : SeatState) (heard : ℕ) (plan : List Segment) (refused : PlayRefused) →
-    IsSeatRefused seat next heard plan refused → before.booking ≡ None → HasToldRefusal refused before after →
+-- a play of a plan was refused, at a heard slot
+record HasRefused (refused : PlayRefused) (seat next : SeatState) : Type 0 where
+  heard : ℕ
+  plan : List Segment
+  is : IsSeatRefused seat next heard plan refused
+
+gone_refused : {seat next : SeatState} {before after : Connection} (refused : PlayRefused) →
+    HasRefused refused seat next → before.booking ≡ None → HasToldRefusal refused before after →
     HasGone (business seat.mine before) (business next.mine after)
-gone_refused seat next heard plan (JournalFull asked entries open_plays) is none told =
-    gone_full entries open_plays is.1.mine told.booking told.handed.receipts
-gone_refused seat next heard plan (Overflow place slot booked bytes) is none told =
-    gone_overflow none told.booking (record { mine = is.mine; receipts = told.handed.receipts })
+gone_refused (JournalFull asked entries open_plays) play none told =
+    gone_full entries open_plays play.is.1.mine told.booking told.handed.receipts
+gone_refused (Overflow place slot booked bytes) play none told =
+    gone_overflow none told.booking (record { mine = play.is.mine; receipts = told.handed.receipts })
 
 pub kept_refused : {seat next : SeatState} {before after : Connection} {refused : PlayRefused} (heard : ℕ) (plan : List Segment) →
     IsAsking seat next before → IsSeatRefused seat next heard plan refused → HasToldRefusal refused before after →
@@ -69,7 +75,7 @@ kept_refused {seat} {next} {before} {refused} heard plan asking is told =
     record {
       seat = asking.same;
       quiet = record { rest = told.handed.at_rest; held = held_closed next.mine (told.booking ∙ none) told.closed };
-      gone = gone_refused seat next heard plan refused is none told;
+      gone = gone_refused refused (record { heard = heard; plan = plan; is = is }) none told;
     }
 
 pub answered_refused : {plan : List Segment} {seat next : SeatState} {after : Standing} (before : Connection)

@@ -11,6 +11,7 @@ mod Cutting
 pub mod Filming
 mod Going
 mod Grounds
+mod Halting
 mod Hearing
 mod Passing
 pub mod Playing
@@ -25,6 +26,7 @@ mod SeatReplies
 pub mod Sighting
 mod Outcomes
 mod Staying
+mod Stopping
 pub mod Telling
 mod Workers
 pub mod Journals

@@ -98,7 +98,7 @@ film_cases false between one after plain text = append-nil plain
 film_cases true false one after plain text = refl
 film_cases true true one after plain text = ap (λ bs. one ++ bs) (append-nil after)
 
-abbrev state_after_slot : Bool → State → ℕ → State
+abbrev pub state_after_slot : Bool → State → ℕ → State
 state_after_slot waits state slot =
     if waits && is_between (stepped_in true slot state) then after_stop (due_state waits state slot)
     else due_state waits state slot
@@ -179,15 +179,15 @@ as_it_was session setup play film is has = record {
   sent = has;
 }
 
-pub slot_cases : {taken sending : Bool} {old next : Standing} {setup : Setup} {play : Played} {film : List ℕ}
+-- what holds before a slot, in a session that sends, and once what is due was sent in it, holds after the slot
+pub slot_cases : {taken sending : Bool} {old next : Standing} {film : List ℕ} (P : Standing → List ℕ → Type 0)
     (still : Standing) (parts : List Part) → sending ≡ true →
-    HasSentOn setup play old film → (taken ≡ true → HasSentOn setup play next (film ++ film_bytes parts)) →
-    HasSentOn setup play (if taken then (if sending then next else still) else old)
+    P old film → (taken ≡ true → P next (film ++ film_bytes parts)) →
+    P (if taken then (if sending then next else still) else old)
     (film ++ film_bytes (if taken && sending then parts else []))
-slot_cases {taken = false} {old} {next} {setup} {play} {film} still parts sends was goes =
-    subst (HasSentOn setup play old) (sym (append-nil film)) was
-slot_cases {taken = true} {sending = true} {next} still parts sends was goes = goes refl
-slot_cases {taken = true} {sending = false} {next} still parts sends was goes = absurd (true≢false (sym sends))
+slot_cases {taken = false} {old} {film} P still parts sends was goes = subst (P old) (sym (append-nil film)) was
+slot_cases {taken = true} {sending = true} P still parts sends was goes = goes refl
+slot_cases {taken = true} {sending = false} P still parts sends was goes = absurd (true≢false (sym sends))
 
 pub later_slot : (old : Standing) (slot : ℕ) → is_taken old slot ≡ true → old.heard < slot
 later_slot old slot taken = ltb-true old.heard slot (and_parts (nat_lt old.heard slot) (nat_le slot (2 ^ 62)) taken).0
@@ -200,7 +200,7 @@ pub play_slot : {new : Standing} {setup : Setup} {play : Played} {film : List �
 play_slot {new} {setup} {play} {film} {old} slot halt going finishes free =
     subst (λ s. HasSentOn setup play s (film ++ film_bytes (slot_parts old slot)))
     (sym (finished_same (awaited_answer (after_slot old slot)) (after_slot old slot) halt new finishes free))
-    (slot_cases (record old { heard = slot }) (due_parts old slot)
+    (slot_cases (HasSentOn setup play) (record old { heard = slot }) (due_parts old slot)
     (ap is_sending is) (as_it_was old setup play film is has)
     (λ taken. taken_slot old slot is has (later_slot old slot taken)))
   where

@@ -16,21 +16,23 @@ use Rattle.session.specs.declared.states.Play.{Play as Played}
 use Rattle.session.specs.declared.states.Setup.{Setup}
 use Rattle.session.specs.declared.states.State.{State}
 use Rattle.session.specs.declared.states.State.TheVariants.{Init, Playing, Ready, Stopping}
+use Rattle.session.specs.declared.states.Stop.{Stop}
 use Rattle.session.specs.Hearings.{new_standing}
 use Rattle.session.specs.Ranges.{AreSettings}
 use Rattle.session.specs.Sendings.{after_play, is_between, is_sending, is_taken, sent_due}
 use Rattle.session.specs.Sendings.{sent_slot, after_slot, stepped_in}
 use Rattle.session.specs.Standings.{Standing, taken_up}
-use Rattle.conn.specs.Turns.{Outcome, Part, Stage, film_bytes, stage}
+use Rattle.conn.specs.Turns.{Outcome, Part, Stage, due_parts, film_bytes, slot_parts, stage}
 use Rattle.conn.specs.Rounds.{Round}
 use Rattle.conn.specs.Films.{HasSent, HasSentOn}
-use Rattle.conn.specs.Plays.{ArePlaysKept, IsKeptIn, IsSentBy, client_of, heard_by}
+use Rattle.conn.specs.Plays.{ArePlaysKept, IsCutBy, IsKeptIn, IsSentBy, client_of, heard_by}
 use Rattle.conn.specs.Plays.{play_pieces}
 use Rattle.conn.proofs.Between.{planned_between}
-use Rattle.conn.proofs.Hearing.{AreShown, HasPlay, IsStateOf, IsWell, ground_of}
+use Rattle.conn.proofs.Hearing.{AreShown, HasPlay, HasStopped, IsStateOf, IsWell, ground_of}
 use Rattle.conn.proofs.Playing.{as_it_was, reply_heard}
 use Rattle.conn.proofs.Replying.{film_count}
 use Rattle.conn.proofs.SeatReplies.{refusals_told}
+use Rattle.conn.proofs.Stopping.{stop_cut, stop_slot, stop_still}
 use Rattle.conn.proofs.Telling.{course_tells}
 use Rattle.conn.specs.Films.{rounds_parts}
 use Rattle.conn.specs.Rounds.{ending_outcomes, entries_in, rounds_outcomes}
@@ -49,7 +51,8 @@ use Rattle.conn.proofs.Occasions.{SlotStandings, EventCome}
 -- a session that heard nothing yet
 pub new_well : (films : List Stored) (settings : Settings) (words : List ℕ) → AreShown films → AreSettings settings →
     IsWell (new_standing films settings words) []
-new_well films settings words shown good = record { films = shown; settings = good; state = tt }
+new_well films settings words shown good =
+    record { films = shown; settings = good; unstopped = refl; state = tt }
 
 -- the heard slot after a slot
 heard_cases : {slot : ℕ} (taken sending : Bool) (standings : SlotStandings) → standings.sending.heard ≡ slot →
@@ -126,6 +129,29 @@ kept_event {setup} {play} {film} {old} {event = HeardSlot slot} come its is =
 kept_event {event = HeardEnd} come its is = absurd come.comes
 kept_event {event = Sent byte} come its is = absurd come.comes
 
+-- and of the rest of a play that was halted
+cut_event : {setup : Setup} {stop : Stop} {film : List ℕ} {old new : Stage} {event : Doing}
+    (come : EventCome old event new) →
+    HasStopped (ground_of old.session film) setup stop →
+    old.session.state ≡ Stopping setup stop →
+    (stored : Stored) × IsCutBy old.session stored setup stop (heard_by old.session.heard event)
+    (film ++ film_bytes come.due)
+cut_event {setup} {stop} {film} {old} {event = HeardBytes bytes} come has is =
+    subst (λ ps. (stored : Stored)
+    × IsCutBy old.session stored setup stop old.session.heard (film ++ film_bytes ps)) (sym come.comes.0)
+    (subst (λ bs. (stored : Stored) × IsCutBy old.session stored setup stop old.session.heard bs)
+    (sym (append-nil film))
+    (stop_cut (stop_still old.session is has)))
+cut_event {setup} {stop} {film} {old} {event = HeardSlot slot} come has is =
+    subst (λ ps. (stored : Stored)
+    × IsCutBy old.session stored setup stop (taken_up old.session.heard slot) (film ++ film_bytes ps))
+    (sym come.comes.1.parts_are)
+    (subst (λ n. (stored : Stored)
+    × IsCutBy old.session stored setup stop n (film ++ film_bytes (slot_parts old.session slot)))
+    (slot_heard old.session slot) (stop_cut (stop_slot old.session slot is has)))
+cut_event {event = HeardEnd} come has is = absurd come.comes
+cut_event {event = Sent byte} come has is = absurd come.comes
+
 kept_in : {state : State} {film : List ℕ} {old new : Stage} {event : Doing} (come : EventCome old event new) →
     IsWell old.session film → old.session.state ≡ state →
     IsKeptIn state old.session (heard_by old.session.heard event) (film ++ film_bytes come.due)
@@ -135,13 +161,32 @@ kept_in {state = Playing setup play} {film} {old} come well is =
     let s = old.session in
     let was = subst (IsStateOf (ground_of s film)) is well.state in
     kept_event come was.1 is
-kept_in {state = Stopping setup stop} come well is = tt
+kept_in {state = Stopping setup stop} {film} {old} come well is =
+    let s = old.session in
+    let was = subst (IsStateOf (ground_of s film)) is well.state in
+    cut_event come was.1 is
+
+-- else nothing of a film is sent
+no_parts : (taken : Bool) (parts : List Part) → film_bytes (if taken && false then parts else []) ≡ []
+no_parts true parts = refl
+no_parts false parts = refl
+
+no_film_event : {old new : Stage} {event : Doing} (come : EventCome old event new) →
+    is_sending old.session.state ≡ false → film_bytes come.due ≡ []
+no_film_event {event = HeardBytes bytes} come none = ap film_bytes come.comes.0
+no_film_event {old} {event = HeardSlot slot} come none =
+    let s = old.session in
+    ap film_bytes come.comes.1.parts_are
+    ∙ ap (λ sends. film_bytes (if is_taken s slot && sends then due_parts s slot else [])) none
+    ∙ no_parts (is_taken s slot) (due_parts s slot)
+no_film_event {event = HeardEnd} come none = absurd come.comes
+no_film_event {event = Sent byte} come none = absurd come.comes
 
 -- in each course from such a session on
 pub plays_kept : (first : Standing) (rounds : List Round) → IsWell first [] → ArePlaysKept first rounds
 plays_kept first rounds well = λ before round old at.
-    kept_in (record { due = round.due; halt = round.halt; comes = at.comes })
-    (rounds_well (stage first []) old before [] well at.runs) refl
+    let come : EventCome old round.event at.opened = record { due = round.due; halt = round.halt; comes = at.comes } in
+    (kept_in come (rounds_well (stage first []) old before [] well at.runs) refl, no_film_event come)
 
 -- no slot is booked above its capacity
 never_overbooked : (seat : SeatState) → IsSeat seat → (n slot : ℕ)
@@ -172,7 +217,7 @@ keeps_promise {session} {old_seat} {new_seat} {report} well none is served =
       booked = record { legal = is.legal; within = never_overbooked new_seat is };
       keeps = record {
         plays = plays_kept session (course.rounds ++ ending_rounds course.ending) well;
-        refusals = refusals_told made parts
+        refusals = refusals_told {made = made} parts
             (record { before = old_seat.mine; after = after; seat_is = is; mine_is = mine }) told;
       };
     })

@@ -1,10 +1,10 @@
 -- What the replies of a connection tell, by what its seat has seen of the journal.
-use Rattle.std.proofs.Common.{◌≡◌, ℕ, ◌++◌, Contains}
-use Rattle.std.proofs.Common.{List, [], ◌∷◌, Some, get_or, take, refl, sym}
-use Rattle.std.proofs.Common.{ap, subst, ◌∙◌}
-use Rattle.std.proofs.lemmas.List.{append-nil}
-use Rattle.std.proofs.lemmas.List.Elements.{All-contains}
-use Rattle.std.proofs.lemmas.List.Elements.{Contains-append_right}
+use Rattle.std.proofs.Common.{◌≡◌, ℕ, ◌<◌, ◌++◌, All, Contains}
+use Rattle.std.proofs.Common.{List, [], ◌∷◌, Some, get_or, length, take, refl, sym}
+use Rattle.std.proofs.Common.{ap, arith, subst, ◌∙◌}
+use Rattle.std.proofs.lemmas.List.Elements.{All-cons, All-contains, All-nil, All-weaker}
+use Rattle.std.proofs.lemmas.List.Elements.{Contains-append_left, Contains-append_right}
+use Rattle.std.proofs.lemmas.List.Elements.{Contains-push}
 use Rattle.admission.specs.declared.entries.Answer.TheVariants.{Overflow}
 use Rattle.admission.specs.Histories.{state_after}
 use Rattle.admission.specs.Machine.{IsAnswer, State as Journal, booked_in, start_after}
@@ -20,35 +20,57 @@ use Rattle.station.specs.Seats.{IsSeat, SeatState}
 use Rattle.station.proofs.Makers.{IsAt, all-at}
 use Rattle.std.proofs.lemmas.Option.{slice_get-get_or}
 use Rattle.std.specs.Prelude.{slice_get}
-use Rattle.conn.specs.Turns.{Outcome, Part, Film, Text}
+use Rattle.conn.specs.Turns.{Outcome, Unasked, Entered, WasFull, Offered, Part, Film, Text}
+use Rattle.conn.specs.Turns.{entry_in}
 use Rattle.conn.specs.Rounds.{entries_in}
 use Rattle.conn.specs.Promises.{AreRefusalsTold, TellsOverflowOf}
-use Rattle.conn.proofs.Telling.{AreRepliesTold, AreTold, IsReplyTold, TellsOver, over_among, refusal_more}
+use Rattle.conn.proofs.Telling.{AreTold, TellsOver}
 
--- more entries of the seat's
-mine_more : (mine after : List Placed) (made : List Outcome) (parts : List Part)
-    → AreRepliesTold mine made parts → AreRepliesTold (mine ++ after) made parts
-mine_more mine after made [] told = tt
-mine_more mine after made (Film bytes ∷ parts) told = mine_more mine after made parts told
-mine_more mine after made (Text text ∷ parts) told = (
-  subst (λ m. IsReplyTold (mine ++ after) m text) (append-nil made)
-      (refusal_more mine after made [] text told.0),
-  mine_more mine after made parts told.1,
-)
+-- the entry of an answer, if it has one, is among these
+abbrev IsEntryAmong : List Placed → Outcome → Type 0
+IsEntryAmong mine Unasked = Unit {0}
+IsEntryAmong mine (Entered placed) = Contains mine placed
+IsEntryAmong mine (WasFull more entries open_plays) = Unit {0}
+IsEntryAmong mine (Offered at_slot note) = Unit {0}
 
-mine_before : (before mine : List Placed) (made : List Outcome) (parts : List Part)
-    → AreRepliesTold mine made parts → AreRepliesTold (before ++ mine) made parts
-mine_before before mine made [] told = tt
-mine_before before mine made (Film bytes ∷ parts) told = mine_before before mine made parts told
-mine_before before mine made (Text text ∷ parts) told = (
-  record {
-    overflow = λ is.
-        let its = told.0.overflow is in
-        over_among mine (before ++ mine) text its (Contains-append_right before mine its.placed its.made);
-    full = told.0.full;
-  },
-  mine_before before mine made parts told.1,
-)
+among_own : (outcome : Outcome) (rest : List Placed) → IsEntryAmong (entry_in outcome ++ rest) outcome
+among_own Unasked rest = tt
+among_own (Entered placed) rest = Contains-append_left (placed ∷ []) rest placed (Contains-push [] placed)
+among_own (WasFull more entries open_plays) rest = tt
+among_own (Offered at_slot note) rest = tt
+
+among_more : (before mine : List Placed) (outcome : Outcome) → IsEntryAmong mine outcome
+    → IsEntryAmong (before ++ mine) outcome
+among_more before mine Unasked among = tt
+among_more before mine (Entered placed) among = Contains-append_right before mine placed among
+among_more before mine (WasFull more entries open_plays) among = tt
+among_more before mine (Offered at_slot note) among = tt
+
+all_among : (made : List Outcome) → All (IsEntryAmong (entries_in made)) made
+all_among [] = All-nil (IsEntryAmong [])
+all_among (outcome ∷ made) =
+    let rest : List Placed = entries_in made in
+    let mine : List Placed = entry_in outcome ++ rest in
+    All-cons (IsEntryAmong mine) outcome made (among_own outcome rest)
+    (All-weaker (IsEntryAmong rest) (IsEntryAmong mine) (among_more (entry_in outcome) rest) made (all_among made))
+
+-- a seat's own entries: those of these answers, with those before and after them
+pub record SeatEntries (seat : SeatState) (made : List Outcome) : Type 0 where
+  pub before : List Placed
+  pub after : List Placed
+  pub seat_is : IsSeat seat
+  pub mine_is : seat.mine ≡ (before ++ entries_in made) ++ after
+
+-- an answer's entry is the seat's own
+entered_own : {seat : SeatState} {made : List Outcome} (placed : Placed) → SeatEntries seat made →
+    Contains made (Entered placed) → Contains seat.mine placed
+entered_own {seat} {made} placed own among =
+    let mine : List Placed = entries_in made in
+    let entered : Contains mine placed =
+    All-contains (IsEntryAmong mine) made (Entered placed) (all_among made) among in
+    subst (λ ps. Contains ps placed) (sym own.mine_is)
+    (Contains-append_left (own.before ++ mine) own.after placed
+    (Contains-append_right own.before mine placed entered))
 
 -- an entry of a seat's stands in what it has seen, and was answered in the state before it
 overflow_stands : {command : Command} {slot booked asked : ℕ} (steps : List CapacityStep) (before : Journal) →
@@ -62,29 +84,33 @@ overflow_stands {command = Play heard plan} {slot} steps before is = (heard, (pl
 overflow_stands {command = Halt number keep} {slot} steps before is = absurd is
 overflow_stands {command = Look at} {slot} steps before is = absurd is
 
-overflow_seen : (seat : SeatState) (text : List ℕ) → IsSeat seat → TellsOver seat.mine text → TellsOverflowOf seat text
-overflow_seen seat text is told =
-    let entry : Entry = told.placed.entry in
-    let own : Contains (made_by seat.number seat.seen) told.placed =
-    subst (λ ps. Contains ps told.placed) is.own told.made in
-    let at = All-contains (IsAt 0 seat.number entry seat.seen) (made_by seat.number seat.seen) told.placed
-    (all-at 0 seat.number entry seat.seen) own in
-    let place : ℕ = at.at in
-    let read : slice_get seat.seen place ≡ Some (get_or seat.seen place entry) =
-    slice_get-get_or seat.seen place entry at.inside in
-    let seen : slice_get seat.seen place ≡ Some entry = read ∙ ap (λ e. Some e) (sym at.entry_is) in
-    let answered : IsAnswer seat.steps (state_after (take place seat.seen)) entry.command entry.answer =
-    subst (λ (e : Entry). IsAnswer seat.steps (state_after (take place seat.seen)) e.command e.answer)
-    (sym at.entry_is) (is.legal.each place entry at.inside) in
-    let over = overflow_stands seat.steps (state_after (take place seat.seen))
-    (subst (IsAnswer seat.steps (state_after (take place seat.seen)) entry.command) told.answer answered) in record {
+overflow_seen : {seat : SeatState} {made : List Outcome} (text : List ℕ) → SeatEntries seat made → TellsOver made text →
+    TellsOverflowOf seat made text
+overflow_seen {seat} text own told =
+    let placed : Placed = told.placed in
+    let entry : Entry = placed.entry in
+    let place : ℕ = placed.place in
+    let its : Contains (made_by seat.number seat.seen) placed =
+    subst (λ ps. Contains ps placed) is.own (entered_own placed own told.among) in
+    let at = All-contains (IsAt 0 seat.number entry seat.seen) (made_by seat.number seat.seen) placed
+    (all-at 0 seat.number entry seat.seen) its in
+    let same : at.at ≡ place = omega (arith, at.place_is) in
+    let inside : place < length seat.seen = subst (λ k. k < length seat.seen) same at.inside in
+    let entry_is : entry ≡ get_or seat.seen place entry =
+    subst (λ k. entry ≡ get_or seat.seen k entry) same at.entry_is in
+    let before = take place seat.seen in
+    let answered : IsAnswer seat.steps (state_after before) entry.command entry.answer =
+    subst (λ (e : Entry). IsAnswer seat.steps (state_after before) e.command e.answer)
+    (sym entry_is) (is.legal.each place entry inside) in
+    let over = overflow_stands seat.steps (state_after before)
+    (subst (IsAnswer seat.steps (state_after before) entry.command) told.answer answered) in record {
       slot = told.slot;
       booked = told.booked;
       asked = told.asked;
       overflow = record {
-        place = place;
-        entry = entry;
-        seen = seen;
+        placed = placed;
+        among = told.among;
+        seen = slice_get-get_or seat.seen place entry inside ∙ ap (λ e. Some e) (sym entry_is);
         maker = ap (λ (e : Entry). e.maker) at.entry_is ∙ at.maker_is;
         answer = told.answer;
         heard = over.0;
@@ -95,28 +121,15 @@ overflow_seen seat text is told =
       sequence = told.sequence;
       text_is = told.text_is;
     }
-
-all_seen : (seat : SeatState) (made : List Outcome) (parts : List Part) → IsSeat seat
-    → AreRepliesTold seat.mine made parts → AreRefusalsTold seat made parts
-all_seen seat made [] is told = tt
-all_seen seat made (Film bytes ∷ parts) is told = all_seen seat made parts is told
-all_seen seat made (Text text ∷ parts) is told = (
-  record { overflow = λ code. overflow_seen seat text is (told.0.overflow code); full = told.0.full },
-  all_seen seat made parts is told.1,
-)
-
--- a seat's own entries: those of these answers, with those before and after them
-pub record SeatEntries (seat : SeatState) (made : List Outcome) : Type 0 where
-  pub before : List Placed
-  pub after : List Placed
-  pub seat_is : IsSeat seat
-  pub mine_is : seat.mine ≡ (before ++ entries_in made) ++ after
+  where
+    open own use {seat_is as is}
 
 -- over a whole course, by the seat at its end
-pub refusals_told : {seat : SeatState} (made : List Outcome) (parts : List Part) → SeatEntries seat made →
+pub refusals_told : {seat : SeatState} {made : List Outcome} (parts : List Part) → SeatEntries seat made →
     AreTold made parts → AreRefusalsTold seat made parts
-refusals_told {seat} made parts own told =
-    all_seen seat made parts is (subst (λ ps. AreRepliesTold ps made parts) (sym mine)
-    (mine_more (before ++ entries_in made) after made parts (mine_before before (entries_in made) made parts told)))
-  where
-    open own use {before, after, seat_is as is, mine_is as mine}
+refusals_told [] own told = tt
+refusals_told (Film bytes ∷ parts) own told = refusals_told parts own told
+refusals_told (Text text ∷ parts) own told = (
+  record { overflow = λ code. overflow_seen text own (told.0.overflow code); full = told.0.full },
+  refusals_told parts own told.1,
+)

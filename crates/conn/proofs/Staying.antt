@@ -1,6 +1,6 @@
 -- Through a course a session stays as `IsWell` has it.
 use Rattle.std.proofs.Common.{◌≡◌, ℕ, ◌++◌, ◌&&◌, Bool, true, false, if◌then◌else◌, List, [], ◌∷◌}
-use Rattle.std.proofs.Common.{length, refl, sym, ap, subst, ◌∙◌}
+use Rattle.std.proofs.Common.{length, slice_get, Option, Some, None, refl, sym, ap, subst, ◌∙◌}
 use Rattle.std.proofs.lemmas.Bool.{true≢false}
 use Rattle.std.proofs.lemmas.List.{append-nil}
 use Rattle.film_frames.specs.declared.stores.Stored.{Stored}
@@ -20,6 +20,7 @@ use Rattle.session.specs.declared.asks.Ask.TheVariants.{Halt as AskHalt, Look as
 use Rattle.session.specs.declared.asks.Ask.TheVariants.{Offer as AskOffer}
 use Rattle.session.specs.declared.settings.Settings.{Settings}
 use Rattle.session.specs.declared.states.Awaited.{Awaited}
+use Rattle.session.specs.declared.states.Awaited.TheVariants.{Halt}
 use Rattle.session.specs.declared.states.Counts.{Counts}
 use Rattle.session.specs.declared.states.Next.{Next}
 use Rattle.session.specs.declared.states.Next.TheVariants.{Done, Paused, Torn}
@@ -29,14 +30,15 @@ use Rattle.session.specs.declared.states.Source.{Source}
 use Rattle.session.specs.declared.states.State.{State}
 use Rattle.session.specs.declared.states.State.TheVariants.{Init, Playing, Ready, Stopping}
 use Rattle.session.specs.declared.states.Stop.{Stop}
-use Rattle.pacer.specs.Pacings.{stands_at_boundary, after_step}
+use Rattle.session.specs.Changes.{AwaitsNoStop, IsSameGround}
 use Rattle.session.specs.Films.{sending_of}
-use Rattle.session.specs.Hearings.{after_admission, after_halt, counts_of}
+use Rattle.session.specs.Hearings.{after_admission, counts_done, counts_next, counts_of, halted_counts}
 use Rattle.session.specs.Playing.{playback_of}
 use Rattle.session.specs.Ranges.{AreSettings, IsSetup}
-use Rattle.session.specs.Sendings.{can_reply, due_state, after_play, halted_in, is_between}
-use Rattle.session.specs.Sendings.{is_sending, is_taken, next_of, sent_due, sent_reply, sent_slot}
-use Rattle.session.specs.Sendings.{after_slot, state_once_halted, stepped_in}
+use Rattle.session.specs.Sendings.{after_play, after_slot, can_reply, halted_in, halted_notes}
+use Rattle.session.specs.Sendings.{is_between, is_done_in, is_sending, is_taken, kept_of, next_of}
+use Rattle.session.specs.Sendings.{note_of, sent_due, sent_in, sent_reply, sent_slot}
+use Rattle.session.specs.Sendings.{state_once_halted, stepped_in}
 use Rattle.session.specs.Standings.{Awaits, NoAnswer, PlayAnswer, HaltAnswer, LookAnswer}
 use Rattle.session.specs.Standings.{OfferAnswer, Standing, awaited_answer}
 use Rattle.session.specs.Steps.{IsPlayIn, after_stop}
@@ -48,10 +50,12 @@ use Rattle.conn.specs.Rounds.{Round, Runs, RunsAll}
 use Rattle.conn.specs.Films.{HasSent, HasSentOn, IsReady}
 use Rattle.conn.specs.Plays.{film_in, film_since, film_taken}
 use Rattle.conn.proofs.Beginning.{play_begins}
-use Rattle.conn.proofs.Hearing.{AreShown, Ground, HasPlay, IsAskedWell, IsHalting, IsSetUpIn}
-use Rattle.conn.proofs.Hearing.{IsStateOf, IsWell, ground_of, ground_same, hears_well}
-use Rattle.conn.proofs.Playing.{as_it_was, later_slot, reply_state, slot_cases, taken_slot}
+use Rattle.conn.proofs.Hearing.{AreShown, Ground, HasPlay, HasStopped, IsAskedWell, IsHaltAwaited}
+use Rattle.conn.proofs.Hearing.{IsHaltedTo, IsHalting, IsHaltingIn, IsStateOf, IsWell, ground_of}
+use Rattle.conn.proofs.Hearing.{ground_same, hears_well}
+use Rattle.conn.proofs.Playing.{as_it_was, later_slot, slot_cases, taken_slot}
 use Rattle.conn.proofs.Replying.{no_film}
+use Rattle.conn.proofs.Stopping.{StopsOn, stop_left, stop_slot}
 use Rattle.conn.proofs.Occasions.{EventCome}
 
 -- an admitted play is a sending of which nothing was sent
@@ -86,6 +90,7 @@ admitted_well {old} {start} {new} placed plan well answered =
     subst (λ s. IsWell s []) (sym answered.1) (record {
       films = well.0.films;
       settings = well.0.settings;
+      unstopped = refl;
       state = subst (IsStateOf ground) (sym begun.state) (asked.values, play);
     })
 
@@ -95,7 +100,7 @@ play_answered : {old new : Standing} {film : List ℕ} (placed : Placed) (answer
 play_answered {new} placed (Admitted start) plan well answered = admitted_well placed plan well answered
 play_answered {new} {film} placed (Overflow slot booked asked) plan well answered =
     subst (λ s. IsWell s film) (sym answered)
-    (record { films = well.0.films; settings = well.0.settings; state = well.0.state })
+    (record { films = well.0.films; settings = well.0.settings; unstopped = refl; state = well.0.state })
 play_answered {new} placed Halted plan well answered = absurd answered
 play_answered {new} placed (Looked now at booked) plan well answered = absurd answered
 
@@ -106,49 +111,93 @@ look_answered {new} placed (Overflow slot booked asked) well answered = absurd a
 look_answered {new} placed Halted well answered = absurd answered
 look_answered {new} {film} placed (Looked now at booked) well answered =
     subst (λ s. IsWell s film) (sym answered)
-    (record { films = well.films; settings = well.settings; state = well.state })
+    (record { films = well.films; settings = well.settings; unstopped = refl; state = well.state })
 
--- after a halt no play goes on
-next_values : {setup : Setup} (ground : Ground) (play : Played) (next : Next) → IsSetup (length ground.films) setup →
-    IsStateOf ground (state_once_halted setup play next)
-next_values ground play Done values = values
-next_values ground play (Paused run) values = values
-next_values ground play Torn values = values
+-- a halt is noted, and leaves the rest of its play
+noted_stop : {setup : Setup} {ground : Ground} {awaited : Awaited} (play : Played) (paused : Option Run) →
+    IsHaltAwaited ground awaited setup play →
+    HasStopped (record ground {
+      plays = ground.plays ++ note_of setup play (kept_of awaited play.pacer.due) ∷ [];
+    }) setup
+    (record { paused = paused; start = play.start; pacer = play.pacer })
+noted_stop {setup} {ground} play paused halted =
+    let rest = halted.rest in
+    record {
+      play = play;
+      earlier = ground.plays;
+      noted = ap (λ n. ground.plays ++ note_of setup play n ∷ []) halted.keep_is;
+      rest = record {
+        stored = rest.stored;
+        at = rest.at;
+        sending = rest.sending;
+        pieces = rest.pieces;
+        plan = rest.plan;
+        before = rest.before;
+        start = rest.start;
+        halted = rest.halted;
+      };
+    }
 
-halted_values : (ground : Ground) (state : State) (awaited : Awaited) → IsSetUpIn (length ground.films) state →
-    IsStateOf ground (halted_in state awaited)
-halted_values ground Init awaited values = tt
-halted_values ground (Ready setup paused) awaited values = values
-halted_values ground (Playing setup play) awaited values =
-    next_values ground play (next_of awaited) values
-halted_values ground (Stopping setup stop) awaited values = values
+-- or no play
+next_state : {setup : Setup} (old : Standing) (film : List ℕ) (play : Played) (next : Next) →
+    IsSetup (length old.films) setup → IsHaltedTo next (IsHaltAwaited (ground_of old film) old.awaited setup play) →
+    IsStateOf (record (ground_of old film) {
+      counts = counts_next old.counts (counts_done old.source old.counts setup play.run
+          (kept_of old.awaited play.pacer.due) (slice_get old.films setup.film)) next;
+      plays = old.plays ++ note_of setup play (kept_of old.awaited play.pacer.due) ∷ [];
+    }) (state_once_halted setup play next)
+next_state old film play Done values halted = values
+next_state old film play (Paused run) values halted = (values, noted_stop play (Some run) halted)
+next_state old film play Torn values halted = (values, noted_stop play None halted)
 
-halted_well : {old new : Standing} {film : List ℕ} (keep : ℕ) (outcome : Outcome) → IsHalting old
+halted_state : (old : Standing) (film : List ℕ) (state : State) → IsHaltingIn (ground_of old film) old.awaited state →
+    IsStateOf (record (ground_of old film) {
+      counts = halted_counts old state;
+      plays = old.plays ++ halted_notes state old.awaited;
+    }) (halted_in state old.awaited)
+halted_state old film Init is = tt
+halted_state old film (Ready setup paused) is = is
+halted_state old film (Playing setup play) is =
+    next_state old film play (next_of old.awaited) is.0 is.1
+halted_state old film (Stopping setup stop) is =
+    subst (λ p. IsStateOf (record (ground_of old film) { plays = p }) (Stopping setup stop))
+    (sym (append-nil old.plays)) is
+
+halted_well : {old new : Standing} {film : List ℕ} (keep : ℕ) (outcome : Outcome) → IsHalting old film
     → IsHalted old keep outcome new → IsWell new film
 halted_well {new} keep Unasked well halted = absurd halted
 halted_well {old} {new} {film} keep (Entered placed) well halted =
-    let made : Standing = after_halt old placed.place in
     subst (λ s. IsWell s film) (sym halted.halts) (record {
       films = well.films;
       settings = well.settings;
-      state = halted_values (ground_of made film) old.state old.awaited well.values;
+      unstopped = refl;
+      state = halted_state old film old.state well.state;
     })
 halted_well {new} keep (WasFull more entries open_plays) well halted = absurd halted
 halted_well {new} keep (Offered at_slot note) well halted = absurd halted
 
-values_in : (ground : Ground) (state : State) →
-    IsStateOf ground state →
-    IsSetUpIn (length ground.films) state
-values_in ground Init is = tt
-values_in ground (Ready setup paused) is = is
-values_in ground (Playing setup play) is = is.0
-values_in ground (Stopping setup stop) is = is
+-- and admits none
+halted_since : (old : Standing) (keep : ℕ) (outcome : Outcome) (new : Standing) (film : List ℕ) →
+    IsHalted old keep outcome new → film_since film outcome ≡ film
+halted_since old keep Unasked new film halted = absurd halted
+halted_since old keep (Entered placed) new film halted = ap (λ a. if is_admission a then [] else film) halted.answer
+halted_since old keep (WasFull more entries open_plays) new film halted = absurd halted
+halted_since old keep (Offered at_slot note) new film halted = absurd halted
 
-halting_of : (s : Standing) (film : List ℕ) → IsWell s film → IsHalting s
+-- where no PAUSE and no TEARDOWN waits for it, a halt leaves no play
+halting_in : (ground : Ground) (awaited : Awaited) (state : State) → next_of awaited ≡ Done →
+    IsStateOf ground state → IsHaltingIn ground awaited state
+halting_in ground awaited Init none is = tt
+halting_in ground awaited (Ready setup paused) none is = is
+halting_in ground awaited (Playing setup play) none is =
+    (is.0, subst (λ n. IsHaltedTo n (IsHaltAwaited ground awaited setup play)) (sym none) tt)
+halting_in ground awaited (Stopping setup stop) none is = is
+
+halting_of : (s : Standing) (film : List ℕ) → IsWell s film → IsHalting s film
 halting_of s film well = record {
   films = well.films;
   settings = well.settings;
-  values = values_in (ground_of s film) s.state well.state;
+  state = halting_in (ground_of s film) s.awaited s.state well.unstopped well.state;
 }
 
 -- the station's answers
@@ -164,22 +213,23 @@ answered_well {new} old (AskPlay plan) (Entered placed) film well answered =
     play_answered placed placed.entry.answer plan well answered.1
 answered_well {new} old (AskPlay plan) (WasFull more entries open_plays) film well answered =
     subst (λ s. IsWell s film) (sym answered.0)
-    (record { films = well.0.films; settings = well.0.settings; state = well.0.state })
+    (record { films = well.0.films; settings = well.0.settings; unstopped = refl; state = well.0.state })
 answered_well {new} old (AskPlay plan) (Offered at_slot note) film well answered = absurd answered
-answered_well {new} old (AskHalt keep) outcome film well answered = halted_well keep outcome well answered
+answered_well {new} old (AskHalt keep) outcome film well answered =
+    subst (IsWell new) (sym (halted_since old keep outcome new film answered)) (halted_well keep outcome well answered)
 answered_well {new} old (AskLook slot) Unasked film well answered = absurd answered
 answered_well {new} old (AskLook slot) (Entered placed) film well answered =
     look_answered placed placed.entry.answer well answered.1
 answered_well {new} old (AskLook slot) (WasFull more entries open_plays) film well answered =
     subst (λ s. IsWell s film) (sym answered.0)
-    (record { films = well.films; settings = well.settings; state = well.state })
+    (record { films = well.films; settings = well.settings; unstopped = refl; state = well.state })
 answered_well {new} old (AskLook slot) (Offered at_slot note) film well answered = absurd answered
 answered_well {new} old (AskOffer plan offers) Unasked film well answered = absurd answered
 answered_well {new} old (AskOffer plan offers) (Entered placed) film well answered = absurd answered
 answered_well {new} old (AskOffer plan offers) (WasFull more entries open_plays) film well answered = absurd answered
 answered_well {new} old (AskOffer plan offers) (Offered at_slot note) film well answered =
     subst (λ s. IsWell s film) (sym answered.2)
-    (record { films = well.films; settings = well.settings; state = well.state })
+    (record { films = well.films; settings = well.settings; unstopped = refl; state = well.state })
 
 pub heard_well : {old : Standing} {message : List ℕ} {outcome : Outcome} {new : Standing} {film : List ℕ} →
     IsWell old film →
@@ -195,7 +245,7 @@ settled_well : (ground : Ground) (state : State) →
 settled_well ground Init is = is
 settled_well ground (Ready setup paused) is = is
 settled_well ground (Playing setup play) is = is
-settled_well ground (Stopping setup stop) is = is
+settled_well ground (Stopping setup stop) is = is.0
 
 reply_well : (goes : Bool) (s : Standing) (film : List ℕ) → IsWell s film
     → IsWell (if goes then sent_reply s else s) film
@@ -203,6 +253,7 @@ reply_well false s film well = well
 reply_well true s film well = record {
   films = well.films;
   settings = well.settings;
+  unstopped = well.unstopped;
   state = settled_well (ground_of s film) s.state well.state;
 }
 
@@ -236,14 +287,36 @@ record IsSameSession (old new : Standing) : Type 0 where
   source : new.source ≡ old.source
   settings : new.settings ≡ old.settings
   counts : new.counts ≡ old.counts
+  plays : new.plays ≡ old.plays
+  unstopped : AwaitsNoStop old → AwaitsNoStop new
 
 sent_ground : (goes : Bool) (old s : Standing) → IsSameSession old s
     → IsSameSession old (if goes then sent_reply s else s)
 sent_ground false old s is = is
-sent_ground true old s is = record { films = is.films; source = is.source; settings = is.settings; counts = is.counts }
+sent_ground true old s is = record {
+  films = is.films;
+  source = is.source;
+  settings = is.settings;
+  counts = is.counts;
+  plays = is.plays;
+  unstopped = is.unstopped;
+}
+
+-- a play that is done is halted, and leaves nothing
+done_next : (done : Bool) (keep : ℕ) (awaited : Awaited) → next_of awaited ≡ Done →
+    next_of (if done then Halt keep Done else awaited) ≡ Done
+done_next true keep awaited none = refl
+done_next false keep awaited none = none
 
 finished_ground : (old s : Standing) → IsSameSession old s → IsSameSession old (after_play s)
-finished_ground old s is = record { films = is.films; source = is.source; settings = is.settings; counts = is.counts }
+finished_ground old s is = record {
+  films = is.films;
+  source = is.source;
+  settings = is.settings;
+  counts = is.counts;
+  plays = is.plays;
+  unstopped = λ none. done_next (is_done_in s.state) (sent_in s.state) s.awaited (is.unstopped none);
+}
 
 -- a slot is taken up in a play or its rest, or outside, or not at all
 slot_any : {sending : Bool} {next still old : Standing} (P : Standing → Type 0) (taken : Bool) →
@@ -253,79 +326,73 @@ slot_any {next} P false goes stays same = same
 slot_any {sending = false} {next} P true goes stays same = stays
 slot_any {sending = true} {next} P true goes stays same = goes refl
 
-same_ground : (s : Standing) → IsSameSession s s
-same_ground s = record { films = refl; source = refl; settings = refl; counts = refl }
+-- what is due leaves it, and so does a slot in which nothing is
+still_ground : (old new : Standing) → new ≡ record old { heard = new.heard; late = new.late; state = new.state } →
+    IsSameSession old new
+still_ground old new is = record {
+  films = ap (λ (s : Standing). s.films) is;
+  source = ap (λ (s : Standing). s.source) is;
+  settings = ap (λ (s : Standing). s.settings) is;
+  counts = ap (λ (s : Standing). s.counts) is;
+  plays = ap (λ (s : Standing). s.plays) is;
+  unstopped = λ none. ap (λ (s : Standing). next_of s.awaited) is ∙ none;
+}
 
 slot_ground : (old : Standing) (slot : ℕ) → IsSameSession old (after_slot old slot)
 slot_ground old slot =
     slot_any (IsSameSession old) (is_taken old slot)
     (λ sends. finished_ground old (sent_slot old slot)
     (sent_ground (old.waits && is_between (stepped_in true slot old.state)) old (sent_due old slot)
-    (record { films = refl; source = refl; settings = refl; counts = refl })))
-    (record { films = refl; source = refl; settings = refl; counts = refl }) (same_ground old)
+    (still_ground old (sent_due old slot) refl)))
+    (still_ground old (record old { heard = slot }) refl) (still_ground old old refl)
 
 -- no play goes on
 abbrev IsOff : ℕ → State → Type 0
 IsOff films Init = Unit {0}
 IsOff films (Ready setup paused) = IsSetup films setup
 IsOff films (Playing setup play) = ⊥
-IsOff films (Stopping setup stop) = IsSetup films setup
+IsOff films (Stopping setup stop) = ⊥
 
 off_state : (ground : Ground) (state : State) → IsOff (length ground.films) state →
     IsStateOf ground state
 off_state ground Init off = tt
 off_state ground (Ready setup paused) off = off
 off_state ground (Playing setup play) off = absurd off
-off_state ground (Stopping setup stop) off = off
+off_state ground (Stopping setup stop) off = absurd off
 
 off_well : {old new : Standing} {film more : List ℕ} → IsSameSession old new → IsWell old film
     → IsOff (length old.films) new.state → IsWell new more
 off_well {new} {more} same well off = record {
   films = subst AreShown (sym same.films) well.films;
   settings = subst AreSettings (sym same.settings) well.settings;
+  unstopped = same.unstopped well.unstopped;
   state = off_state (ground_of new more) new.state
       (subst (λ (f : List Stored). IsOff (length f) new.state) (sym same.films) off);
 }
 
--- the rest of a play that was halted
-rest_off : {films : ℕ} {setup : Setup} (waits between : Bool) (both one plain : Stop) → IsSetup films setup →
-    IsOff films (if waits && between
-    then after_stop
-    (if waits then (if between then Stopping setup both else Stopping setup one) else Stopping setup plain)
-    else (if waits then (if between then Stopping setup both else Stopping setup one) else Stopping setup plain))
-rest_off false between both one plain values = values
-rest_off true false both one plain values = values
-rest_off true true both one plain values = values
-
-sent_off : {films : ℕ} {setup : Setup} {stop : Stop} (old : Standing) (slot : ℕ) →
-    old.state ≡ Stopping setup stop → IsSetup films setup →
-    IsOff films (after_play (sent_slot old slot)).state
-sent_off {films} {stop} old slot is values =
-    let p = stop.pacer in
-    let both : Stop = record stop { pacer = after_step false slot (after_step true slot p) } in
-    let one : Stop = record stop { pacer = after_step true slot p } in
-    let plain : Stop = record stop { pacer = after_step false slot p } in
-    subst (IsOff films) (sym (reply_state (old.waits && is_between (stepped_in true slot old.state))
-    (sent_due old slot)))
-    (subst (λ st. IsOff films
-    (if old.waits
-    && is_between (stepped_in true slot st) then after_stop (due_state old.waits st slot) else due_state
-    old.waits st slot)) (sym is)
-    (rest_off old.waits (stands_at_boundary (after_step true slot p)) both one plain values))
-
--- a slot
-slot_off : (films : ℕ) (old : Standing) (slot : ℕ) → IsOff films old.state →
-    (is_sending old.state ≡ true → IsOff films (after_play (sent_slot old slot)).state) →
+-- a slot in which nothing is sent
+slot_off : (films : ℕ) (old : Standing) (slot : ℕ) → is_sending old.state ≡ false → IsOff films old.state →
     IsOff films (after_slot old slot).state
-slot_off films old slot off sent =
-    slot_any (λ s. IsOff films s.state) (is_taken old slot) sent off off
+slot_off films old slot none off =
+    slot_any (λ s. IsOff films s.state) (is_taken old slot) (λ sends. absurd (true≢false (sym sends ∙ none))) off off
+
+-- the session before a slot, but for the heard slot
+passed_ground : {old new : Standing} → IsSameSession old new → IsSameGround (record old { heard = new.heard }) new
+passed_ground same = record {
+  films = same.films;
+  settings = same.settings;
+  source = same.source;
+  counts = same.counts;
+  heard = refl;
+  plays = same.plays;
+}
 
 -- a play goes on by a slot
 pub slot_play : {setup : Setup} {play : Played} {film : List ℕ} (old : Standing) (slot : ℕ) →
     old.state ≡ Playing setup play → HasSent play old.heard film →
     HasSentOn setup play (after_slot old slot) (film ++ film_bytes (slot_parts old slot))
 slot_play {setup} {play} {film} old slot is has =
-    slot_cases (record old { heard = slot }) (due_parts old slot)
+    slot_cases (HasSentOn setup play) (record old { heard = slot }) (due_parts old slot)
     (ap is_sending is) (as_it_was old setup play film is has)
     (λ taken. taken_slot old slot is has (later_slot old slot taken))
 
@@ -349,36 +416,41 @@ play_on {old} {new} {setup} {play} {film} {more} same well is on =
     } in record {
       films = subst AreShown (sym same.films) well.films;
       settings = subst AreSettings (sym same.settings) well.settings;
+      unstopped = same.unstopped well.unstopped;
       state = subst (IsStateOf (ground_of new more)) (sym on.state)
-          (subst (λ g. IsStateOf g (Playing setup on.now)) (ground_same passed new more (record {
-            films = same.films;
-            settings = same.settings;
-            source = same.source;
-            counts = same.counts;
-            heard = refl;
-          })) (was.0, its));
+          (subst (λ g. IsStateOf g (Playing setup on.now)) (ground_same passed new more (passed_ground same))
+          (was.0, its));
     }
+
+-- the rest of a halted play goes on by a slot
+stop_on : {old new : Standing} {setup : Setup} {stop : Stop} {film more : List ℕ} → IsSameSession old new →
+    IsWell old film → IsSetup (length old.films) setup →
+    StopsOn (ground_of old film) setup stop new more → IsWell new more
+stop_on {old} {new} {stop} {more} same well values on = record {
+  films = subst AreShown (sym same.films) well.films;
+  settings = subst AreSettings (sym same.settings) well.settings;
+  unstopped = same.unstopped well.unstopped;
+  state = subst (λ g. IsStateOf g new.state)
+      (ground_same (record old { heard = new.heard }) new more (passed_ground same))
+      (stop_left stop values on.stopped on.state);
+}
 
 slot_state : (state : State) (old : Standing) (slot : ℕ) (film : List ℕ) → old.state ≡ state → IsWell old film →
     IsWell (after_slot old slot) (film ++ film_bytes (slot_parts old slot))
 slot_state Init old slot film is well =
     off_well (slot_ground old slot) well
-    (slot_off (length old.films) old slot (subst (IsOff (length old.films)) (sym is) tt)
-    (λ sends. absurd (true≢false (sym sends ∙ ap is_sending is))))
+    (slot_off (length old.films) old slot (ap is_sending is) (subst (IsOff (length old.films)) (sym is) tt))
 slot_state (Ready setup paused) old slot film is well =
     let values = subst (IsStateOf (ground_of old film)) is well.state in
     off_well (slot_ground old slot) well
-    (slot_off (length old.films) old slot (subst (IsOff (length old.films)) (sym is) values)
-    (λ sends. absurd (true≢false (sym sends ∙ ap is_sending is))))
+    (slot_off (length old.films) old slot (ap is_sending is) (subst (IsOff (length old.films)) (sym is) values))
 slot_state (Playing setup play) old slot film is well =
     let was = subst (IsStateOf (ground_of old film)) is well.state in
     play_on (slot_ground old slot) well is
     (slot_play old slot is was.1.sent)
 slot_state (Stopping setup stop) old slot film is well =
-    let values = subst (IsStateOf (ground_of old film)) is well.state in
-    off_well (slot_ground old slot) well
-    (slot_off (length old.films) old slot (subst (IsOff (length old.films)) (sym is) values)
-    (λ sends. sent_off old slot is values))
+    let was = subst (IsStateOf (ground_of old film)) is well.state in
+    stop_on (slot_ground old slot) well was.0 (stop_slot old slot is was.1)
 
 -- a play that is done is halted
 finish_well : {old new : Standing} {film : List ℕ} (asks : Awaits) (halt : Outcome) → IsWell old film

@@ -27,13 +27,12 @@ use Rattle.conn.specs.Turns.{Taking, Passed, Answered, HasHeard, IsAskAnswered, 
 use Rattle.conn.specs.Turns.{IsLookAnswered, IsPlayAnswered, Takes as TakesElement, TakesAll}
 use Rattle.conn.specs.Turns.{slot_parts}
 use Rattle.conn.specs.Rounds.{Comes, Ending, Ends, Unheard, PeerEnded, Overfull, AtElement, InSlot}
-use Rattle.conn.specs.Rounds.{InReply, Round, Runs, RunsAll, ending_outcomes, entries_in}
+use Rattle.conn.specs.Rounds.{InReply, Round, Runs, RunsAll, ending_outcomes}
 use Rattle.conn.specs.Rounds.{round_outcomes, rounds_outcomes, takings_outcomes}
 use Rattle.conn.specs.Films.{round_parts, rounds_parts, takings_parts}
 use Rattle.conn.specs.Plays.{ending_rounds}
 use Rattle.conn.specs.declared.reports.ConnEnd.{ConnEnd}
 use Rattle.session.proofs.Refusing.{hears_text, ok_plain}
-use Rattle.conn.proofs.Sighting.{entries_in-append}
 use Rattle.conn.specs.Promises.{TellsFullOf}
 use Rattle.conn.proofs.Occasions.{SlotStandings, SlotBytes}
 
@@ -50,10 +49,10 @@ full_not_overflow : (sequence entries open_plays : ℕ) → HasCode 453 (full_te
 unfolding reply_text reply_front status_line digits
 full_not_overflow sequence entries open_plays is = other (λ p. absurd (omega (arith, p))) is
 
--- what a reply tells, by a seat's entries and the station's answers
-pub record TellsOver (mine : List Placed) (text : List ℕ) : Type 0 where
+-- what a reply tells of the station's answers
+pub record TellsOver (made : List Outcome) (text : List ℕ) : Type 0 where
   pub placed : Placed
-  pub made : Contains mine placed
+  pub among : Contains made (Entered placed)
   pub slot : ℕ
   pub booked : ℕ
   pub asked : ℕ
@@ -61,21 +60,15 @@ pub record TellsOver (mine : List Placed) (text : List ℕ) : Type 0 where
   pub sequence : ℕ
   pub text_is : text ≡ overflow_text sequence slot booked asked
 
-pub record IsReplyTold (mine : List Placed) (outcomes : List Outcome) (text : List ℕ) : Type 0 where
-  pub overflow : HasCode 453 text → TellsOver mine text
-  pub full : HasCode 503 text → TellsFullOf outcomes text
-
-abbrev pub AreRepliesTold : List Placed → List Outcome → List Part → Type 0
-AreRepliesTold mine outcomes [] = Unit {0}
-AreRepliesTold mine outcomes (Film bytes ∷ parts) = AreRepliesTold mine outcomes parts
-AreRepliesTold mine outcomes (Text text ∷ parts) = IsReplyTold mine outcomes text × AreRepliesTold mine outcomes parts
-
--- the same of what the station has answered up to now
-abbrev pub IsTold : List Outcome → List ℕ → Type 0
-IsTold made text = IsReplyTold (entries_in made) made text
+-- by what the station has answered up to now
+pub record IsTold (made : List Outcome) (text : List ℕ) : Type 0 where
+  pub overflow : HasCode 453 text → TellsOver made text
+  pub full : HasCode 503 text → TellsFullOf made text
 
 abbrev pub AreTold : List Outcome → List Part → Type 0
-AreTold made parts = AreRepliesTold (entries_in made) made parts
+AreTold made [] = Unit {0}
+AreTold made (Film bytes ∷ parts) = AreTold made parts
+AreTold made (Text text ∷ parts) = IsTold made text × AreTold made parts
 
 told_plain : (made : List Outcome) (text : List ℕ) → IsNoRefusal text → IsTold made text
 told_plain made text plain = record {
@@ -83,42 +76,32 @@ told_plain made text plain = record {
   full = λ is. absurd (plain.not_full is);
 }
 
--- its entry is among others too
-pub over_among : (mine more : List Placed) (text : List ℕ) (its : TellsOver mine text) → Contains more its.placed
-    → TellsOver more text
-over_among mine more text its made = record {
-  placed = its.placed;
-  made = made;
-  slot = its.slot;
-  booked = its.booked;
-  asked = its.asked;
-  answer = its.answer;
-  sequence = its.sequence;
-  text_is = its.text_is;
-}
-
-pub refusal_more : (mine mine' : List Placed) (made made' : List Outcome) (text : List ℕ) → IsReplyTold mine made text →
-    IsReplyTold (mine ++ mine') (made ++ made') text
-refusal_more mine mine' made made' text told = record {
+-- with more answers
+told_with_more : (made more : List Outcome) (text : List ℕ) → IsTold made text → IsTold (made ++ more) text
+told_with_more made more text told = record {
   overflow = λ is.
       let its = told.overflow is in
-      over_among mine (mine ++ mine') text its (Contains-append_left mine mine' its.placed its.made);
+      record {
+        placed = its.placed;
+        among = Contains-append_left made more (Entered its.placed) its.among;
+        slot = its.slot;
+        booked = its.booked;
+        asked = its.asked;
+        answer = its.answer;
+        sequence = its.sequence;
+        text_is = its.text_is;
+      };
   full = λ is.
       let its = told.full is in
       record {
         more = its.more;
         entries = its.entries;
         open_plays = its.open_plays;
-        full = Contains-append_left made made' (WasFull its.more its.entries its.open_plays) its.full;
+        full = Contains-append_left made more (WasFull its.more its.entries its.open_plays) its.full;
         sequence = its.sequence;
         text_is = its.text_is;
       };
 }
-
-told_with_more : (made more : List Outcome) (text : List ℕ) → IsTold made text → IsTold (made ++ more) text
-told_with_more made more text told =
-    subst (λ mine. IsReplyTold mine (made ++ more) text) (sym (entries_in-append made more))
-    (refusal_more (entries_in made) (entries_in more) made more text told)
 
 are_more : (made more : List Outcome) (parts : List Part) → AreTold made parts → AreTold (made ++ more) parts
 are_more made more [] told = tt
@@ -137,8 +120,7 @@ told_overflow : {slot booked asked : ℕ} (made : List Outcome) (placed : Placed
 told_overflow {slot} {booked} {asked} made placed sequence answer = record {
   overflow = λ is. record {
     placed = placed;
-    made = subst (λ mine. Contains mine placed) (sym (entries_in-append made (Entered placed ∷ [])))
-        (Contains-push (entries_in made) placed);
+    among = Contains-push made (Entered placed);
     slot = slot;
     booked = booked;
     asked = asked;

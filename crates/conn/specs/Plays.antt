@@ -1,24 +1,27 @@
 -- What a connection keeps to while a play goes on: the film's bytes by the plan of the play's run,
--- between the client's curves.
+-- between the client's curves; and while the rest of a halted play is sent.
 use Rattle.std.specs.Prelude.{◌≡◌, ℕ, ◌+◌, ◌-◌, ◌≤◌, ◌++◌, ⊤, Bool, false, if◌then◌else◌, List, []}
-use Rattle.std.specs.Prelude.{◌∷◌, length, take, drop}
+use Rattle.std.specs.Prelude.{◌∷◌, length, min, take, drop}
 use Rattle.vod_base.specs.Links.{Doing, HeardBytes, HeardEnd, HeardSlot, Sent}
 use Rattle.mpeg_scan.specs.Rates.{picture_time}
 use Rattle.film_frames.specs.declared.stores.Stored.{Stored}
 use Rattle.film_frames.specs.Runs.{run_pieces}
-use Rattle.film_frames.specs.Tracks.{framed_bytes}
+use Rattle.film_frames.specs.Tracks.{IsBoundaryAfter, framed_bytes}
 use Rattle.film_run.specs.declared.plans.Playback.{Playback}
 use Rattle.film_run.specs.Laws.{IsSending}
 use Rattle.film_run.specs.Plans.{IsBestPlanOf}
 use Rattle.film_run.specs.Units.{AreUnitSizes, stored_sizes}
 use Rattle.admission.specs.Histories.{is_admission}
 use Rattle.pacer.specs.Pacings.{first_slots}
+use Rattle.session.specs.declared.notes.PlayNote.{PlayNote}
 use Rattle.session.specs.declared.states.Play.{Play as Played}
 use Rattle.session.specs.declared.states.Setup.{Setup}
 use Rattle.session.specs.declared.states.State.{State}
 use Rattle.session.specs.declared.states.State.TheVariants.{Init, Playing, Ready, Stopping}
+use Rattle.session.specs.declared.states.Stop.{Stop}
 use Rattle.session.specs.Films.{IsFilmAt, sending_of}
 use Rattle.session.specs.Playing.{playback_of}
+use Rattle.session.specs.Sendings.{is_sending, note_of}
 use Rattle.session.specs.Standings.{Standing, taken_up}
 use Rattle.conn.specs.Turns.{Outcome, Unasked, Entered, WasFull, Offered, Stage, Taking, Passed}
 use Rattle.conn.specs.Turns.{Answered, film_bytes, stage}
@@ -87,13 +90,34 @@ pub record IsSentBy (session : Standing) (stored : Stored) (setup : Setup) (play
       → IsBetween (stored_sizes stored) (client_of session stored setup) play.run slot
       (play.run.sent + length film)
 
--- of the play that goes on, if any
+-- By the end of a slot these bytes were sent of a play that was halted: of the last that the
+-- session noted, with what its halt keeps. Its plan is its run's own, with the least excess. The
+-- bytes are as many as the plan has through that slot, but none past what is kept, in order, of the
+-- run's frames and reports from where its sending goes on. What is kept ends with the frame or
+-- report in hand: at the first boundary at or after what was sent.
+pub record IsCutBy (session : Standing) (stored : Stored) (setup : Setup) (stop : Stop)
+    (heard : ℕ) (film : List ℕ) : Type 0 where
+  pub at : IsFilmAt session.films setup.film stored
+  pub play : Played
+  pub earlier : List PlayNote
+  pub noted : session.plays ≡ earlier ++ note_of setup play stop.pacer.keep ∷ []
+  pub sending : IsSending (stored_sizes stored) (client_of session stored setup) play.run play.plan
+  pub best : IsBestPlanOf (stored_sizes stored) (client_of session stored setup) play.run play.plan
+  pub count : length film ≡
+      min (first_slots play.plan (heard + 1 - play.start)) stop.pacer.keep
+  pub front : film ≡ take (length film)
+      (drop play.run.sent (framed_bytes (play_pieces session stored setup play)))
+  pub ends : IsBoundaryAfter (play_pieces session stored setup play)
+      (play.run.sent + length film) (play.run.sent + stop.pacer.keep)
+
+-- of the play that goes on, or of the one that was halted as long as its rest is sent, if any
 abbrev pub IsKeptIn : State → Standing → ℕ → List ℕ → Type 0
 IsKeptIn Init session heard film = ⊤
 IsKeptIn (Ready setup paused) session heard film = ⊤
 IsKeptIn (Playing setup play) session heard film = (stored : Stored)
     × IsSentBy session stored setup play heard film
-IsKeptIn (Stopping setup stop) session heard film = ⊤
+IsKeptIn (Stopping setup stop) session heard film = (stored : Stored)
+    × IsCutBy session stored setup stop heard film
 
 -- the round in which a connection ended
 abbrev pub ending_rounds : Ending → List Round
@@ -114,9 +138,12 @@ pub record IsRoundIn (first : Standing) (rounds before : List Round) (round : Ro
   pub comes : Comes old round.event round.due round.halt opened
 
 -- Each play is kept, from its admission until its halt: after the step of each slot, which its halt
--- follows at the earliest, what was sent of it is by its plan and between its curves.
+-- follows at the earliest, what was sent of it is by its plan and between its curves. After the
+-- halt, until the rest up to a boundary was sent, it is by its plan and cut at that boundary. Else
+-- nothing of a film is sent.
 abbrev pub ArePlaysKept : Standing → List Round → Type 0
 ArePlaysKept first rounds =
     (before : List Round) (round : Round) (old : Stage) → IsRoundIn first rounds before round old
     → IsKeptIn old.session.state old.session (heard_by old.session.heard round.event)
     (film_in [] before ++ film_bytes round.due)
+    × (is_sending old.session.state ≡ false → film_bytes round.due ≡ [])

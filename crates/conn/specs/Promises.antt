@@ -4,9 +4,9 @@ use Rattle.std.specs.Prelude.{Option, Some}
 use Rattle.vod_base.specs.Links.{Doing}
 use Rattle.admission.specs.declared.entries.Answer.TheVariants.{Overflow}
 use Rattle.admission.specs.declared.entries.Command.TheVariants.{Play}
-use Rattle.admission.specs.declared.entries.Entry.{Entry}
 use Rattle.admission.specs.Histories.{IsLegal, booked_after, state_after}
 use Rattle.admission.specs.Machine.{start_after}
+use Rattle.admission.specs.Makers.{Placed}
 use Rattle.plan_cert.specs.declared.Segment.{Segment}
 use Rattle.slot_calendar.specs.Calendars.{IsFirstOverflow}
 use Rattle.slot_calendar.specs.Profiles.{capacity_at}
@@ -14,38 +14,42 @@ use Rattle.session.specs.Changes.{HasCode}
 use Rattle.session.specs.Replies.{full_text, overflow_text}
 use Rattle.session.specs.Standings.{Standing}
 use Rattle.station.specs.Seats.{SeatState}
-use Rattle.conn.specs.Turns.{Outcome, WasFull, Part, Film, Text}
+use Rattle.conn.specs.Turns.{Outcome, Entered, WasFull, Part, Film, Text}
 use Rattle.conn.specs.Rounds.{Ending, Round, ending_outcomes, rounds_outcomes}
 use Rattle.conn.specs.Films.{rounds_parts}
 use Rattle.conn.specs.Plays.{ArePlaysKept, ending_rounds}
 use Rattle.conn.specs.Served.{HasDoneNothing, HasServedFrom}
 use Rattle.conn.specs.declared.reports.ConnReport.{ConnReport}
 
--- One of a seat's entries is a play that the link has no room for: beside what the plays before it
--- book, this slot is the first into which its plan doesn't fit, with the bytes booked and asked
+-- One of the station's answers to a connection is the entry of a play that the link has no room
+-- for. It stands in the journal at its place, as the seat has seen it: beside what the plays before
+-- it book, this slot is the first into which its plan doesn't fit, with the bytes booked and asked
 -- there.
-pub record IsOverflowOf (seat : SeatState) (slot booked asked : ℕ) : Type 0 where
-  pub place : ℕ
-  pub entry : Entry
-  pub seen : slice_get seat.seen place ≡ Some entry
-  pub maker : entry.maker ≡ seat.number
-  pub answer : entry.answer ≡ Overflow slot booked asked
+pub record IsOverflowOf (seat : SeatState) (outcomes : List Outcome) (slot booked asked : ℕ)
+    : Type 0 where
+  pub placed : Placed
+  pub among : Contains outcomes (Entered placed)
+  pub seen : slice_get seat.seen placed.place ≡ Some placed.entry
+  pub maker : placed.entry.maker ≡ seat.number
+  pub answer : placed.entry.answer ≡ Overflow slot booked asked
   pub heard : ℕ
   pub plan : List Segment
-  pub command : entry.command ≡ Play heard plan
-  pub first : IsFirstOverflow 0 (booked_after (take place seat.seen)) (capacity_at seat.steps)
-      (start_after (state_after (take place seat.seen)) heard) plan (record {
+  pub command : placed.entry.command ≡ Play heard plan
+  pub first : IsFirstOverflow 0 (booked_after (take placed.place seat.seen))
+      (capacity_at seat.steps)
+      (start_after (state_after (take placed.place seat.seen)) heard) plan (record {
         slot = slot;
         booked = booked;
         asked = asked;
       })
 
 -- a reply tells it
-pub record TellsOverflowOf (seat : SeatState) (text : List ℕ) : Type 0 where
+pub record TellsOverflowOf (seat : SeatState) (outcomes : List Outcome) (text : List ℕ)
+    : Type 0 where
   pub slot : ℕ
   pub booked : ℕ
   pub asked : ℕ
-  pub overflow : IsOverflowOf seat slot booked asked
+  pub overflow : IsOverflowOf seat outcomes slot booked asked
   pub sequence : ℕ
   pub text_is : text ≡ overflow_text sequence slot booked asked
 
@@ -58,10 +62,10 @@ pub record TellsFullOf (outcomes : List Outcome) (text : List ℕ) : Type 0 wher
   pub sequence : ℕ
   pub text_is : text ≡ full_text sequence entries open_plays
 
--- a reply is 453 only where a slot has no room for the play that was asked for, and 503 only where
--- the journal was full
+-- a reply is 453 only where a slot has no room for a play that this connection asked for, and 503
+-- only where the journal was full
 pub record IsRefusalTold (seat : SeatState) (outcomes : List Outcome) (text : List ℕ) : Type 0 where
-  pub overflow : HasCode 453 text → TellsOverflowOf seat text
+  pub overflow : HasCode 453 text → TellsOverflowOf seat outcomes text
   pub full : HasCode 503 text → TellsFullOf outcomes text
 
 -- so it is of each reply among these

@@ -449,7 +449,8 @@ fn hear_refusal(session: &mut Session<'_>, refused: PlayRefused)
     }
 }
 
-/// Holds a booking, where none is held.
+/// Holds a booking, where none is held. An assignment would drop what was held before, and a
+/// booking can't be dropped: it is to be spent by its halt.
 fn hold(held: &mut Option<Booking>, booking: Booking)
     requires { held.old ≡ None }
     ensures { held.new ≡ Some booking }
