@@ -33,6 +33,7 @@ use Rattle.rtsp_text.specs.Replies.{Field, field_line, phrase, reply_front, valu
 use Rattle.rtsp_text.proofs.Cuts.{all_other}
 use Rattle.rtsp_text.proofs.Inside.{all-drop, all-take}
 use Rattle.rtsp_text.proofs.Texts.{front_field, whole_reply}
+use Rattle.rtsp_text.proofs.UrlBytes.{name_in_url}
 use Rattle.session.specs.declared.asks.Ask.{Ask}
 use Rattle.session.specs.declared.plans.Planned.{Planned}
 use Rattle.session.specs.declared.refusals.Refusal.{Refusal}
@@ -164,15 +165,6 @@ span_told film first end small short =
     }
 
 -- a URL of a film under the authority of another
-name_byte_prints : (byte : ℕ) → is_name_byte byte ≡ true → is_url_byte byte ≡ true
-name_byte_prints byte is = grind (arith, nat_tests, is)
-
-all_print : (name : List ℕ) → list_all is_name_byte name ≡ true → list_all is_url_byte name ≡ true
-all_print [] all = refl
-all_print (byte ∷ name) all =
-    let parts = and_parts (is_name_byte byte) (list_all is_name_byte name) all in
-    and_from (is_url_byte byte) (list_all is_url_byte name) (name_byte_prints byte parts.0) (all_print name parts.1)
-
 tail_prints : (tail : List ℕ) → IsTail tail → list_all is_url_byte tail ≡ true
 tail_prints tail (inl is) = rw is refl
 tail_prints tail (inr (inl is)) = rw is refl
@@ -252,7 +244,7 @@ film_url authority name tail is good is_tail =
     }
   where
     all_print_after : (n : List ℕ) → list_all is_name_byte n ≡ true → list_all is_url_byte (47 ∷ n) ≡ true
-    all_print_after n all = all_print n all
+    all_print_after n all = name_in_url n all
 
 -- a play's reply
 few_ms : (units unit time : ℕ) → unit ≤ units → units ≤ 4194304 → time ≤ 360000 → unit * time / 360 < 10 ^ 12

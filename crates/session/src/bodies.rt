@@ -2,6 +2,7 @@
 
 ghost use Rattle.std.specs.Prelude.{◌≡◌, ◌+◌, ◌≤◌, ◌++◌, length};
 ghost use Rattle.session.specs.Replies.{look_body, offer_body, over_line, start_line, start_text};
+ghost use Rattle.session.specs.declared.texts.TheConstants.{ROOM};
 
 use crate::texts::Text;
 use early_start::{Offers, Tried};
@@ -9,7 +10,7 @@ use early_start::{Offers, Tried};
 /// What is booked in a slot.
 pub(crate) fn put_look(body: &mut Text, now: u64, at: u64, booked: u64)
     ensures text { body.new ≡ look_body now at booked }
-    ensures short { length body.new ≤ 24576 }
+    ensures short { length body.new ≤ ROOM }
 {
     body.clear();
     body.put(b"x-Now: ");
@@ -25,7 +26,7 @@ pub(crate) fn put_look(body: &mut Text, now: u64, at: u64, booked: u64)
 /// tried in vain.
 pub(crate) fn put_offer(body: &mut Text, offers: &Offers)
     ensures text { body.new ≡ offer_body offers.now.start offers.now.tried }
-    ensures short { length body.new ≤ 24576 }
+    ensures short { length body.new ≤ ROOM }
 {
     // the contract of `wait` says that it is at most 255, so that at most 256 starts were tried
     let _most = offers.wait();
@@ -38,7 +39,7 @@ pub(crate) fn put_offer(body: &mut Text, offers: &Offers)
 
 /// The slot in which a play could begin, or `none`.
 fn put_start_text(body: &mut Text, start: Option<u64>)
-    requires { length body.old + 20 ≤ 24576 }
+    requires { length body.old + 20 ≤ ROOM }
     ensures text { body.new ≡ body.old ++ start_text start }
     ensures short { length body.new ≤ length body.old + 20 }
 {
@@ -50,7 +51,7 @@ fn put_start_text(body: &mut Text, start: Option<u64>)
 
 /// The line of the slot in which a play could begin.
 fn put_start_line(body: &mut Text, start: Option<u64>)
-    requires { length body.old + 31 ≤ 24576 }
+    requires { length body.old + 31 ≤ ROOM }
     ensures text { body.new ≡ body.old ++ start_line start }
     ensures short { length body.new ≤ length body.old + 31 }
 {
@@ -62,7 +63,7 @@ fn put_start_line(body: &mut Text, start: Option<u64>)
 /// The line of a start that was tried in vain: the first slot without room, what is booked in it
 /// and what the plan asks for there.
 fn put_over_line(body: &mut Text, tried: &Tried)
-    requires { length body.old + 93 ≤ 24576 }
+    requires { length body.old + 93 ≤ ROOM }
     ensures text { body.new ≡ body.old ++ over_line tried.now }
     ensures short { length body.new ≤ length body.old + 93 }
 {

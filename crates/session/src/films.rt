@@ -1,6 +1,7 @@
 //! The films of a session, and what is sent of them.
 
 ghost use Rattle.std.specs.Prelude.{◌≡◌, ◌+◌, ◌*◌, ◌%◌, ◌^◌, ◌<◌, ◌≤◌, ℕ, true, length};
+ghost use Rattle.mpeg_scan.specs.declared.units.TheConstants.{MAX_FILM_PICTURES};
 ghost use Rattle.std.specs.Prelude.{string_bytes};
 ghost use Rattle.vod_base.specs.Names.{is_good_name};
 ghost use Rattle.film_frames.specs.Runs.{run_pieces};
@@ -33,7 +34,7 @@ pub(crate) fn stored_at(films: &[Stored], film: usize) -> &Stored
 
 /// The time at which a unit begins, in whole milliseconds.
 pub(crate) fn milliseconds_at(film: &Film, unit: usize) -> u64
-    requires { unit ≤ 4194304 }
+    requires { unit ≤ MAX_FILM_PICTURES }
     ensures { result ≡ milliseconds_at film.now unit }
 {
     unit as u64 * u64::from(film.picture_time()) / 360
@@ -50,7 +51,7 @@ pub(crate) fn length_ms(film: &Film) -> u64
 /// The timestamp of a unit, in 1/90,000 second.
 #[tactic(auto, using(crate::proofs::Sums::sum_mod))]
 pub(crate) fn timestamp_at(film: &Film, source: Source, unit: usize) -> u32
-    requires { unit ≤ 4194304 }
+    requires { unit ≤ MAX_FILM_PICTURES }
     ensures { result ≡ timestamp_at film.now source unit }
 {
     let since = unit as u64 * u64::from(film.picture_time()) / 4;

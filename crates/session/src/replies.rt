@@ -1,6 +1,8 @@
 //! The replies, each from its status line to its body (RFC 2326 section 7).
 
 ghost use Rattle.session.specs.Replies.{code_of, refusal_fields, refusal_text, public_text};
+ghost use Rattle.mpeg_scan.specs.declared.units.TheConstants.{MAX_FILM_PICTURES};
+ghost use Rattle.session.specs.declared.texts.TheConstants.{ROOM};
 ghost use Rattle.session.specs.Replies.{describe_text, setup_text, session_text};
 ghost use Rattle.session.specs.Replies.{plain_text, play_fields, play_text, overflow_text};
 ghost use Rattle.session.specs.Replies.{full_text, parameters_text};
@@ -148,8 +150,8 @@ pub(crate) fn info_of<'m>(
     prepared: &Prepared<'_>,
     authority: &'m [u8],
 ) -> Info<'m>
-    requires from { prepared.now.run.from_unit ≤ 4194304 }
-    requires end { prepared.now.run.end_unit ≤ 4194304 }
+    requires from { prepared.now.run.from_unit ≤ MAX_FILM_PICTURES }
+    requires end { prepared.now.run.end_unit ≤ MAX_FILM_PICTURES }
     ensures first { result.first_ms ≡ milliseconds_at stored.now.film prepared.now.run.from_unit }
     ensures end { result.end_ms ≡ milliseconds_at stored.now.film prepared.now.run.end_unit }
     ensures authority { result.authority.now ≡ authority.now }
@@ -250,7 +252,7 @@ pub(crate) fn put_full(reply: &mut Reply, sequence: u64, entries: u64, open_play
 
 /// The 200 of a GET_PARAMETER with this body.
 pub(crate) fn put_parameters(reply: &mut Reply, sequence: u64, body: &[u8])
-    requires { length body.now ≤ 24576 }
+    requires { length body.now ≤ ROOM }
     ensures { reply.new ≡ parameters_text sequence body.now }
 {
     reply.clear();

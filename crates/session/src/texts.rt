@@ -20,12 +20,13 @@ pub(crate) struct Text {
 
 impl Model for Text {
     ghost use Rattle.std.specs.Prelude.{ℕ, List, ◌≤◌, vec_capacity};
+    ghost use Rattle.session.specs.declared.texts.TheConstants.{ROOM};
 
     ghost Value = { List ℕ };
 
     ghost view = { λ text. text.bytes.items };
 
-    ghost invariant = { λ text. 24576 ≤ vec_capacity text.bytes };
+    ghost invariant = { λ text. ROOM ≤ vec_capacity text.bytes };
 }
 
 impl Text {
@@ -53,7 +54,7 @@ impl Text {
 
     /// Appends bytes.
     pub(crate) fn put(&mut self, bytes: &[u8])
-        requires { length self.old + length bytes.now ≤ 24576 }
+        requires { length self.old + length bytes.now ≤ ROOM }
         ensures text { self.new ≡ self.old ++ bytes.now }
         ensures long { length self.new ≡ length self.old + length bytes.now }
     {
@@ -65,7 +66,7 @@ impl Text {
 
     /// Appends a number in decimal digits, of which there are at most 20.
     pub(crate) fn put_number(&mut self, number: u64)
-        requires { length self.old + 20 ≤ 24576 }
+        requires { length self.old + 20 ≤ ROOM }
         ensures text { self.new ≡ self.old ++ decimal number }
         ensures short { length self.new ≤ length self.old + 20 }
     {
