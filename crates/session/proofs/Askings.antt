@@ -21,7 +21,6 @@ use Rattle.session.specs.Standings.{CanHear, IsReadyIn}
 use Rattle.session.specs.declared.settings.Settings.{Settings}
 use Rattle.session.specs.declared.states.Awaited.{Awaited}
 use Rattle.session.specs.declared.states.Awaited.TheVariants.{Nothing, Play, Halt, Look, Offer}
-use Rattle.session.specs.declared.states.Counts.{Counts}
 use Rattle.session.specs.declared.states.Next.{Next}
 use Rattle.session.specs.declared.states.Play.{Play as Played}
 use Rattle.session.specs.declared.states.Prepared.{Prepared}
