@@ -67,7 +67,8 @@ gone_refused (JournalFull asked entries open_plays) play none told =
 gone_refused (Overflow place slot booked bytes) play none told =
     gone_overflow none told.booking (record { mine = play.is.mine; receipts = told.handed.receipts })
 
-pub kept_refused : {seat next : SeatState} {before after : Connection} {refused : PlayRefused} (heard : ℕ) (plan : List Segment) →
+pub kept_refused : {seat next : SeatState} {before after : Connection} {refused : PlayRefused} (heard : ℕ)
+    (plan : List Segment) →
     IsAsking seat next before → IsSeatRefused seat next heard plan refused → HasToldRefusal refused before after →
     KeepsBusiness seat next before after
 kept_refused {seat} {next} {before} {refused} heard plan asking is told =
@@ -83,7 +84,8 @@ pub answered_refused : {plan : List Segment} {seat next : SeatState} {after : St
     IsAsking seat next before → IsSeatRefused seat next before.session.heard plan refused →
     after ≡ after_refusal before.session refused →
     HasAnswered before.session (AskPlay plan) after seat next
-answered_refused before (JournalFull asked entries open_plays) asking is told = answered_full asking.same is.1 (told, refl)
+answered_refused before (JournalFull asked entries open_plays) asking is told =
+    answered_full asking.same is.1 (told, refl)
 answered_refused before (Overflow place slot booked bytes) asking is told =
     answered_entry asking.kept asking.also asking.same is refl (refl, told)
 
@@ -94,9 +96,11 @@ pub record HasAdmitted (plan : List Segment) (booking : Booking) (before after :
   pub opens : open_of after.session ≡ booking_of (awaited_answer before.session) booking.start
   pub booking_is : after.booking ≡ Some booking
 
-pub kept_admitted : {plan : List Segment} {seat next : SeatState} {before after : Connection} {booking : Booking} (heard : ℕ) →
+pub kept_admitted : {plan : List Segment} {seat next : SeatState} {before after : Connection} {booking : Booking}
+    (heard : ℕ) →
     IsAsking seat next before → HasMade seat next 2 (play_of heard plan) booking.number (Admitted booking.start) →
-    ((keep : ℕ) → keep ≤ total_bytes plan → IsOpenAmong next.mine booking.number keep) → HasAdmitted plan booking before after →
+    ((keep : ℕ) → keep ≤ total_bytes plan → IsOpenAmong next.mine booking.number keep) →
+    HasAdmitted plan booking before after →
     KeepsBusiness seat next before after
 kept_admitted {plan} {seat} {next} {before} {after} {booking} heard asking made keeps admitted =
     let none = held_none seat.mine before.booking (open_of before.session) asking.closed asking.held in
@@ -118,8 +122,9 @@ pub record HasHeardAdmission (before : Standing) (booking : Booking) (after : St
   pub exact : after ≡ after_admission before booking.number booking.start
   pub play : IsPlayIn after.state
 
-pub answered_admitted : {plan : List Segment} {seat next : SeatState} {before : Connection} {after : Standing} {booking : Booking} →
-    IsAsking seat next before → HasMade seat next 2 (play_of before.session.heard plan) booking.number (Admitted booking.start) →
+pub answered_admitted : {plan : List Segment} {seat next : SeatState} {before : Connection} {after : Standing}
+    {booking : Booking} → IsAsking seat next before →
+    HasMade seat next 2 (play_of before.session.heard plan) booking.number (Admitted booking.start) →
     HasHeardAdmission before.session booking after → HasAnswered before.session (AskPlay plan) after seat next
 answered_admitted asking made heard =
     answered_entry asking.kept asking.also asking.same made refl (refl, (heard.later, heard.exact, heard.play))

@@ -27,7 +27,6 @@ use Rattle.conn.specs.Turns.{Taking, Passed, Answered, HasHeard, IsAskAnswered, 
 use Rattle.conn.specs.Turns.{IsLookAnswered, IsPlayAnswered, Takes, TakesAll, after_reply}
 use Rattle.conn.specs.Turns.{due_parts, film_bytes, slot_parts}
 use Rattle.vod_base.specs.Links.{Doing, HeardBytes, HeardEnd, HeardSlot, Sent}
-use Rattle.session.specs.Hearings.{Hears}
 use Rattle.conn.specs.Rounds.{Round, Runs, RunsAll, round_outcomes, rounds_outcomes}
 use Rattle.conn.specs.Rounds.{taking_outcomes, takings_outcomes}
 use Rattle.conn.specs.Films.{HaveNoHalt, GoesOn, HasSent, HasSentOn, IsNoHalt}

@@ -19,7 +19,6 @@ use Rattle.slot_calendar.specs.declared.profiles.CapacityStep.{CapacityStep}
 use Rattle.station.specs.Seats.{IsSeat, SeatState}
 use Rattle.station.proofs.Makers.{IsAt, all-at}
 use Rattle.std.proofs.lemmas.Option.{slice_get-get_or}
-use Rattle.std.specs.Prelude.{slice_get}
 use Rattle.conn.specs.Turns.{Outcome, Unasked, Entered, WasFull, Offered, Part, Film, Text}
 use Rattle.conn.specs.Turns.{entry_in}
 use Rattle.conn.specs.Rounds.{entries_in}

@@ -18,7 +18,6 @@ use Rattle.session.specs.declared.asks.Ask.{Ask}
 use Rattle.session.specs.declared.asks.Ask.TheVariants.{Reply as AskReply, Play as AskPlay}
 use Rattle.session.specs.declared.asks.Ask.TheVariants.{Halt as AskHalt, Look as AskLook}
 use Rattle.session.specs.declared.asks.Ask.TheVariants.{Offer as AskOffer}
-use Rattle.session.specs.declared.settings.Settings.{Settings}
 use Rattle.session.specs.declared.states.Awaited.{Awaited}
 use Rattle.session.specs.declared.states.Awaited.TheVariants.{Halt}
 use Rattle.session.specs.declared.states.Counts.{Counts}
@@ -26,7 +25,6 @@ use Rattle.session.specs.declared.states.Next.{Next}
 use Rattle.session.specs.declared.states.Next.TheVariants.{Done, Paused, Torn}
 use Rattle.session.specs.declared.states.Play.{Play as Played}
 use Rattle.session.specs.declared.states.Setup.{Setup}
-use Rattle.session.specs.declared.states.Source.{Source}
 use Rattle.session.specs.declared.states.State.{State}
 use Rattle.session.specs.declared.states.State.TheVariants.{Init, Playing, Ready, Stopping}
 use Rattle.session.specs.declared.states.Stop.{Stop}

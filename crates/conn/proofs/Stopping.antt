@@ -1,11 +1,10 @@
 -- The rest of a play that was halted, from slot to slot.
 use Rattle.std.proofs.Common.{◌≡◌, ◌⊎◌, ℕ, ◌+◌, ◌-◌, ◌<◌, ◌++◌, ◌&&◌, Bool, true, false, if◌then◌else◌}
-use Rattle.std.proofs.Common.{min, List, [], ◌∷◌, length, take, drop, refl, ap, sym, ◌∙◌, subst, inl, inr, arith}
+use Rattle.std.proofs.Common.{List, [], ◌∷◌, length, take, drop, refl, ap, sym, ◌∙◌, subst, inl, inr, arith}
 use Rattle.film_frames.specs.declared.stores.Stored.{Stored}
 use Rattle.film_frames.specs.Tracks.{IsBoundaryAfter, framed_bytes}
 use Rattle.film_run.proofs.PlayLaws.{sending-best}
 use Rattle.film_run.specs.Units.{stored_sizes}
-use Rattle.pacer.specs.Boundaries.{bytes_between}
 use Rattle.pacer.specs.Pacings.{Pacing, after_step, at_slot, first_slots, plan_bytes, stands_at_boundary, step_end}
 use Rattle.session.specs.declared.states.Setup.{Setup}
 use Rattle.session.specs.declared.states.State.{State}
@@ -19,7 +18,7 @@ use Rattle.session.specs.Steps.{after_stop}
 use Rattle.conn.specs.Plays.{IsCutBy, client_of, play_pieces}
 use Rattle.conn.specs.Turns.{due_parts, film_bytes, slot_parts}
 use Rattle.conn.proofs.Filming.{sent_through, slot_film, slot_is, slot_pacing}
-use Rattle.conn.proofs.Halting.{IsHaltedPacing, halted_count, halted_on}
+use Rattle.conn.proofs.Halting.{halted_count, halted_on}
 use Rattle.conn.proofs.Hearing.{Ground, HasStopped, IsStateOf, ground_of}
 use Rattle.conn.proofs.Playing.{film_cases, later_slot, parts_of, reply_heard, reply_state, slot_cases}
 use Rattle.conn.proofs.Playing.{state_after_slot}
@@ -162,8 +161,7 @@ stop_cut {old} {s} {setup} {stop} {more} on =
     let size : p.before + p.sent - p.before ≡ length more = omega (arith, count) in
     let ends : IsBoundaryAfter p.pieces (p.before + length more) (p.before + stop.pacer.keep) =
     subst (λ n. IsBoundaryAfter p.pieces (p.before + length more) (p.before + n)) keep
-    (subst (λ n. IsBoundaryAfter p.pieces (p.before + n) (p.before + p.keep)) (sym count) its.ends) in
-    (
+    (subst (λ n. IsBoundaryAfter p.pieces (p.before + n) (p.before + p.keep)) (sym count) its.ends) in (
       stored,
       record {
         at = rest.at;
