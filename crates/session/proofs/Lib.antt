@@ -28,3 +28,6 @@ mod PlayEnds
 mod Offers
 mod Looks
 mod Endings
+pub mod PlayHeard
+pub mod SetupHeard
+pub mod WholeAsked
