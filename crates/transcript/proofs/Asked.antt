@@ -22,7 +22,7 @@ use Rattle.session.specs.declared.states.Source.{Source}
 use Rattle.session.specs.Playing.{IsPlayable, playback_of as session_playback}
 use Rattle.transcript.specs.Played.{IsSetUpFor, playback_of, whole_run}
 
-playback-same : (a b : Playback) → a.picture_units ≡ b.picture_units → a.slot_units ≡ b.slot_units
+pub playback-same : (a b : Playback) → a.picture_units ≡ b.picture_units → a.slot_units ≡ b.slot_units
     → a.buffer ≡ b.buffer → a.delay ≡ b.delay → a ≡ b
 playback-same a b pictures slots buffer delay =
     ap (λ x. record a { picture_units = x }) pictures

@@ -168,12 +168,16 @@ heard-of {film} {identity} {x} {c} {at} is gone reading count =
 sum-most : (xs : List ℕ) (a : ℕ) → sum (take a xs) ≤ sum xs
 sum-most xs a = sum_by-take-le (λ (x : ℕ). x) xs a
 
+pub run-total : (film : Film) (identity : Identity)
+    → length (framed_bytes (run_pieces (film_run film identity))) ≡ sum (film_sizes film)
+run-total film identity =
+    (run-sum film 0 (length film.units.items) identity (omega arith) (omega arith)).1
+    ∙ ap (λ us. sum (map (λ u. wire_size film.slice_starts.items u) us)) (units-all film)
+
 pub blocks-sum : (film : Film) (identity : Identity) (x : Stream) → IsFilmIn film identity x
     → length (framed_bytes x.blocks) ≡ sum (film_sizes film)
 blocks-sum film identity x is =
-    ap (λ bs. length (framed_bytes bs)) (is.blocks ∙ sym (run-blocks film identity))
-    ∙ ((run-sum film 0 (length film.units.items) identity (omega arith) (omega arith)).1
-    ∙ ap (λ us. sum (map (λ u. wire_size film.slice_starts.items u) us)) (units-all film))
+    ap (λ bs. length (framed_bytes bs)) (is.blocks ∙ sym (run-blocks film identity)) ∙ run-total film identity
 
 -- what was heard of a whole film
 pub record IsWholeOf (film : Film) (x : Stream) (h : History) : Type 0 where

@@ -38,6 +38,15 @@ mod Woven
 mod Promised
 mod Told
 mod Asked
+mod SettledSetups
+mod NoPlays
+mod Waiting
+mod Wished
+mod OnePlay
+mod TwoReplies
+mod AskedInput
+mod AskedPlays
+mod WatchedWhole
 mod Noting
 mod NotedCourses
 mod Receipting

@@ -158,7 +158,7 @@ film-blocks wish stored identity play whole =
     ap (λ n. drop n (framed_bytes play.pieces)) whole.before ∙ ap framed_bytes whole.pieces
 
 -- all units of a film are those of its run
-rest-all : (stored : Stored) → rest_sizes (stored_sizes stored) (whole_run stored) ≡ film_sizes stored.film
+pub rest-all : (stored : Stored) → rest_sizes (stored_sizes stored) (whole_run stored) ≡ film_sizes stored.film
 rest-all stored =
     take_all (length stored.film.units.items - 0) (film_sizes stored.film)
     (omega (arith, length-map stored.film.units.items (λ u. wire_size stored.film.slice_starts.items u)))

@@ -11,10 +11,10 @@ use Rattle.interleave.specs.declared.elements.Step.TheVariants.{More, Message}
 use Rattle.interleave.specs.declared.elements.DemuxFault.TheVariants.{HeadTooLong as LongHead, BodyTooLong as LongBody}
 use Rattle.interleave.proofs.Streams.{cut_grows, tells_none}
 use Rattle.conn.specs.Rounds.{Comes, IsStopped, Round}
-use Rattle.conn.specs.Turns.{Outcome, Part, Stage, stage}
+use Rattle.conn.specs.Turns.{Answered, Outcome, Part, Passed, Stage, Taking, TakesAll, stage}
 use Rattle.conn.specs.declared.reports.ConnEnd.{ConnEnd}
 use Rattle.conn.specs.declared.reports.ConnEnd.TheVariants.{Ended, TornDown, LinkFault, TooMuchInput, HeadTooLong, BodyTooLong, EventsSpent, NoMemory}
-use Rattle.transcript.specs.Courses.{first_stage}
+use Rattle.transcript.specs.Courses.{Follows, first_stage}
 use Rattle.transcript.specs.Cuttings.{Beginning, Cutting, Hearing, IsDone, TakesUp, hearings_in, takings_hearings}
 use Rattle.transcript.specs.Requests.{AreTaken, AwaitsReply, bytes_in, is_no_request, message_of, requests_in, rounds_input}
 use Rattle.transcript.proofs.Paths.{GoesAll, IsOver, AnEnd, ABlock, Over, Element, Taken, over_element, path_of, elements_hearings}
@@ -24,13 +24,13 @@ append_by : (other : Bool) (x : List ℕ) (all xs ys : List (List ℕ)) → all 
 append_by true x all xs ys same = same
 append_by false x all xs ys same = ap (λ rs. x ∷ rs) same
 
-requests-append : (xs ys : List (List ℕ)) → requests_in (xs ++ ys) ≡ requests_in xs ++ requests_in ys
+pub requests-append : (xs ys : List (List ℕ)) → requests_in (xs ++ ys) ≡ requests_in xs ++ requests_in ys
 requests-append [] ys = refl
 requests-append (x ∷ xs) ys =
     append_by (is_no_request x) x (requests_in (xs ++ ys)) (requests_in xs) (requests_in ys) (requests-append xs ys)
 
 -- a request begins with another byte than CR, LF and `$`
-starts_request : (input : List ℕ) (n : ℕ) → StartsMessage input → 0 < n → is_no_request (take n input) ≡ false
+pub starts_request : (input : List ℕ) (n : ℕ) → StartsMessage input → 0 < n → is_no_request (take n input) ≡ false
 starts_request input n starts some =
     let same : get_or (take n input) 0 0 ≡ get_or input 0 0 = get_or-take n input 0 0 some in
     ap (λ b. is_line_end b || (b == 36)) same ∙ ap (λ b. b || (get_or input 0 0 == 36)) starts.1 ∙ starts.2
@@ -114,32 +114,64 @@ hearings_map : (xs ys : List Hearing) → map message_of (xs ++ ys) ≡ map mess
 hearings_map [] ys = refl
 hearings_map (x ∷ xs) ys = ap (λ ms. x.message ∷ ms) (hearings_map xs ys)
 
-record CutsAll (heard : List ℕ) (new : Stage) (messages : List (List ℕ)) : Type 0 where
-  elements : List (List ℕ)
-  cut : AreCut heard elements new.input
-  requests : requests_in elements ≡ messages
+pub record CutsAll (heard : List ℕ) (new : Stage) (messages : List (List ℕ)) : Type 0 where
+  pub elements : List (List ℕ)
+  pub cut : AreCut heard elements new.input
+  pub requests : requests_in elements ≡ messages
 
 -- what was heard by a stage is cut into elements with these requests, and into what waits
-record HeardCut (old : Stage) (messages : List (List ℕ)) : Type 0 where
-  heard : List ℕ
-  elements : List (List ℕ)
-  cut : AreCut heard elements old.input
-  requests : requests_in elements ≡ messages
+pub record HeardCut (old : Stage) (messages : List (List ℕ)) : Type 0 where
+  pub heard : List ℕ
+  pub elements : List (List ℕ)
+  pub cut : AreCut heard elements old.input
+  pub requests : requests_in elements ≡ messages
 
-rounds_cut : {new : Stage} {messages : List (List ℕ)} (old : Stage) (rounds : List Round)
-    (takes : TakesUp old rounds new) (heard_cut : HeardCut old messages) →
-    CutsAll (heard_cut.heard ++ rounds_input rounds) new (messages ++ map message_of (hearings_in old rounds new takes))
-rounds_cut {new} {messages} old [] takes heard_cut = record {
+-- the requests that were taken up, in order
+abbrev pub takings_requests : List Taking → List (List ℕ)
+takings_requests [] = []
+takings_requests (Passed n ∷ takings) = takings_requests takings
+takings_requests (Answered message outcome parts ∷ takings) = message ∷ takings_requests takings
+
+abbrev pub rounds_requests : List Round → List (List ℕ)
+rounds_requests [] = []
+rounds_requests (round ∷ rounds) = takings_requests round.takings ++ rounds_requests rounds
+
+-- the requests that are heard are those that are taken up
+takings_heard : (old new : Stage) (takings : List Taking) (takes : TakesAll old takings new)
+    → map message_of (takings_hearings old takings new takes) ≡ takings_requests takings
+takings_heard old new [] takes = refl
+takings_heard old new (Passed n ∷ takings) takes = takings_heard takes.0 new takings takes.1.1
+takings_heard old new (Answered message outcome parts ∷ takings) takes =
+    ap (λ ms. message ∷ ms) (takings_heard takes.0 new takings takes.1.1)
+
+rounds_heard : (old new : Stage) (rounds : List Round) (takes : TakesUp old rounds new)
+    → map message_of (hearings_in old rounds new takes) ≡ rounds_requests rounds
+rounds_heard old new [] takes = refl
+rounds_heard old new (round ∷ rounds) takes =
+    let runs = takes.1.0 in
+    hearings_map (takings_hearings runs.opened round.takings takes.0 runs.takes) (hearings_in takes.0 rounds new takes.1.2)
+    ∙ ap (λ ms. ms ++ map message_of (hearings_in takes.0 rounds new takes.1.2))
+    (takings_heard runs.opened takes.0 round.takings runs.takes)
+    ∙ ap (λ ms. takings_requests round.takings ++ ms) (rounds_heard takes.0 new rounds takes.1.2)
+
+takes_follow : (old new : Stage) (rounds : List Round) → TakesUp old rounds new → Follows old rounds new
+takes_follow old new [] takes = takes
+takes_follow old new (round ∷ rounds) takes = (takes.0, (takes.1.0, takes_follow takes.0 new rounds takes.1.2))
+
+pub follows_cut : {new : Stage} {messages : List (List ℕ)} (old : Stage) (rounds : List Round)
+    (follows : Follows old rounds new) (heard_cut : HeardCut old messages) →
+    CutsAll (heard_cut.heard ++ rounds_input rounds) new (messages ++ rounds_requests rounds)
+follows_cut {new} {messages} old [] follows heard_cut = record {
   elements = elements;
   cut = subst (λ w. AreCut w elements new.input) (sym (append-nil heard))
-      (subst (AreCut heard elements) (ap (λ (s : Stage). s.input) (sym takes)) cut);
+      (subst (AreCut heard elements) (ap (λ (s : Stage). s.input) (sym follows)) cut);
   requests = requests ∙ sym (append-nil messages);
 }
   where
     open heard_cut use {heard, elements, cut, requests}
-rounds_cut {new} {messages} old (round ∷ rounds) takes heard_cut =
-    let mid : Stage = takes.0 in
-    let runs = takes.1.0 in
+follows_cut {new} {messages} old (round ∷ rounds) follows heard_cut =
+    let mid : Stage = follows.0 in
+    let runs = follows.1.0 in
     let opened : Stage = runs.opened in
     let bytes : List ℕ = bytes_in round.event in
     let grown : AreCut (heard ++ bytes) elements opened.input =
@@ -147,11 +179,12 @@ rounds_cut {new} {messages} old (round ∷ rounds) takes heard_cut =
     (sym (comes_input old opened round.event round.due round.halt runs.comes)) (cut_grows heard bytes elements old.input cut) in
     let path = path_of opened mid round.takings runs.takes in
     let cuts = goes_cut opened mid path.elements path.goes in
-    let more : List (List ℕ) = map message_of (takings_hearings opened round.takings mid runs.takes) in
+    let more : List (List ℕ) = takings_requests round.takings in
     let these : requests_in (elements ++ cuts.elements) ≡ messages ++ more =
     requests-append elements cuts.elements ∙ ap (λ rs. rs ++ requests_in cuts.elements) requests
-    ∙ ap (λ rs. messages ++ rs) (cuts.requests ∙ ap (λ hs. map message_of hs) path.hearings_are) in
-    let rest = rounds_cut {new = new} {messages = messages ++ more} mid rounds takes.1.2
+    ∙ ap (λ rs. messages ++ rs) (cuts.requests ∙ ap (λ hs. map message_of hs) path.hearings_are
+    ∙ takings_heard opened mid round.takings runs.takes) in
+    let rest = follows_cut {new = new} {messages = messages ++ more} mid rounds follows.1.1
     (record {
       heard = heard ++ bytes;
       elements = elements ++ cuts.elements;
@@ -166,9 +199,7 @@ rounds_cut {new} {messages} old (round ∷ rounds) takes heard_cut =
     record {
       elements = rest.elements;
       cut = subst (λ w. AreCut w rest.elements new.input) (append_assoc heard bytes (rounds_input rounds)) rest.cut;
-      requests = rest.requests ∙ append_assoc messages more (map message_of (hearings_in mid rounds new takes.1.2))
-          ∙ ap (λ rs. messages ++ rs)
-          (sym (hearings_map (takings_hearings opened round.takings mid runs.takes) (hearings_in mid rounds new takes.1.2)));
+      requests = rest.requests ∙ append_assoc messages more (rounds_requests rounds);
     }
   where
     open heard_cut use {heard, elements, cut, requests}
@@ -204,11 +235,12 @@ last_done old new (round ∷ rounds) done takes = last_done takes.0 new rounds t
 pub requests_taken : (beginning : Beginning) (cutting : Cutting beginning) → AreTaken beginning cutting
 requests_taken beginning cutting =
     let first : Stage = first_stage beginning.films beginning.settings beginning.words in
-    let cuts = rounds_cut first cutting.rounds cutting.takes (record { heard = []; elements = []; cut = refl; requests = refl }) in
+    let follows = takes_follow first cutting.last cutting.rounds cutting.takes in
+    let cuts = follows_cut first cutting.rounds follows (record { heard = []; elements = []; cut = refl; requests = refl }) in
     let begins : IsDone first = inl (record { torn = refl; waits = inl (inl refl) }) in
     record {
       elements = cuts.elements;
       cut = cuts.cut;
-      requests = cuts.requests;
+      requests = cuts.requests ∙ sym (rounds_heard first cutting.last cutting.rounds cutting.takes);
       rest = done_rest cutting.last (last_done first cutting.last cutting.rounds begins cutting.takes);
     }

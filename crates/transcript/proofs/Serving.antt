@@ -254,7 +254,7 @@ halt-none (Halt keep next) (Offered slot note) s new is = λ askings. refl
 halt-none (Look sequence) halt s new is = absurd is
 halt-none (Offer sequence) halt s new is = absurd is
 
-comes-none : {old opened : Stage} {event : Doing} (come : EventCome old event opened) (askings : List Asking) →
+pub comes-none : {old opened : Stage} {event : Doing} (come : EventCome old event opened) (askings : List Asking) →
     plays_begun (asked_by old.session event) come.halt askings ≡ []
 comes-none {event = HeardBytes bytes} come = λ askings. ap (λ h. plays_begun Nothing h askings) come.comes.1
 comes-none {old} {opened} {event = HeardSlot slot} come =

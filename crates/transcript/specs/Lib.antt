@@ -11,3 +11,4 @@ pub mod Replied
 pub mod Notes
 pub mod Receipts
 pub mod Failures
+pub mod Asked

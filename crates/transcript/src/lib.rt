@@ -11,4 +11,6 @@ pub use laws::{
     law_plays_noted, law_receipts_told, law_replies_placed, law_replies_woven, law_requests_taken,
     law_sent_at_failure, law_two_cuttings,
 };
-pub use watched::{law_play_read, law_units_counted, law_watched_whole, law_whole_asked};
+pub use watched::{
+    law_asked_is_played, law_play_read, law_units_counted, law_watched_whole, law_whole_asked,
+};

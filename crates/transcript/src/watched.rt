@@ -1,13 +1,12 @@
 //! What a client makes of what a connection sends: the promise to its meter, and what it reads in
 //! replies.
 
-ghost use Rattle.std.specs.Prelude.{◌≡◌, ◌≤◌, ◌<◌, ◌-◌, ◌+◌, ◌^◌, ◌++◌, ◌∷◌, All, List, Some, []};
-ghost use Rattle.std.specs.Prelude.{ℕ, codes, decimal, length, take, drop};
+ghost use Rattle.std.specs.Prelude.{◌≡◌, ◌≤◌, ◌<◌, ◌+◌, ◌^◌, ◌++◌, ◌∷◌, All, List, Some, []};
+ghost use Rattle.std.specs.Prelude.{ℕ, codes, decimal, length};
 ghost use Rattle.film_frames.specs.declared.stores.Stored.{Stored};
 ghost use Rattle.interleave.specs.Elements.{IsMessageLength};
 ghost use Rattle.mpeg_scan.specs.Rates.{picture_time};
 ghost use Rattle.mpeg_scan.specs.declared.films.Film.{Film};
-ghost use Rattle.rtp_pack.specs.Packets.{OfUnit};
 ghost use Rattle.rtsp_client.specs.Films.{units_until};
 ghost use Rattle.rtsp_text.specs.Replies.{IsPlain, all_fields};
 ghost use Rattle.film_run.specs.Laws.{IsSending};
@@ -28,6 +27,7 @@ ghost use Rattle.rtsp_client.specs.Wishes.{IsWish};
 ghost use Rattle.rtsp_client.specs.declared.wishes.WatchEnd.TheVariants.{Done};
 ghost use Rattle.rtsp_client.specs.declared.wishes.Watched.{Watched};
 ghost use Rattle.rtsp_client.specs.declared.wishes.Wish.{Wish};
+ghost use Rattle.transcript.specs.Asked.{HasWatchedWhole, IsAskedFor};
 ghost use Rattle.transcript.specs.Carried.{IsCarried};
 ghost use Rattle.transcript.specs.Played.{IsPlayed, IsSetUpFor, playback_of, whole_run};
 ghost use Rattle.transcript.specs.Replied.{IsPlayRead};
@@ -36,18 +36,31 @@ ghost use Rattle.transcript.specs.Courses.{Course};
 /// A film that is watched over a link that carries, slot by slot, what a server's connection sent
 /// of its one play, of the whole film and for the client's own buffer, start delay and slot, comes
 /// back from its first picture to its last one; and at each reading no picture lacks that is used,
-/// and what waits fits in the buffer (Salehi, Zhang, Kurose and Towsley 1998).
+/// and what waits fits in the buffer (Salehi, Zhang, Kurose and Towsley 1998). So it is where the
+/// connection was asked for the film by the client's requests, and its play was kept whole.
 pub fn law_watched_whole()
-    ensures { (wish : Wish) (stored : Stored) (course : Course) (watched : Watched)
+    ensures played { (wish : Wish) (stored : Stored) (course : Course) (watched : Watched)
         (heard : List Doing) (out : List ℕ) → IsWish wish
         → (played : IsPlayed wish stored course)
         → (client : HasCourse wish (Done watched) (Some []) (Some heard) (Some []) (Some out))
         → IsCarried (rounds_doings course.rounds) heard played.play.start
-        (first_slot client.mid.history)
-        → (watched.over ≡ 0) × (watched.under ≡ 0) × (watched.most ≤ wish.buffer)
-        × OfUnit stored.film.units.items 0 (λ first.
-        OfUnit stored.film.units.items (length stored.film.units.items - 1) (λ last.
-        out ≡ take (last.to - first.from) (drop first.from stored.film.bytes.items))) }
+        (first_slot client.mid.history) → HasWatchedWhole wish stored watched out }
+    ensures asked { (wish : Wish) (stored : Stored) (course : Course) (watched : Watched)
+        (heard : List Doing) (out : List ℕ) → (asked : IsAskedFor wish stored course)
+        → (client : HasCourse wish (Done watched) (Some []) (Some heard) (Some []) (Some out))
+        → IsCarried (rounds_doings course.rounds) heard asked.play.start
+        (first_slot client.mid.history) → HasWatchedWhole wish stored watched out }
+{}
+
+/// What a client that wishes for a film asks of a connection, SETUP, PLAY and, once the film was
+/// due to its end, TEARDOWN, is played as it wished where it was admitted and nothing cut it: one
+/// play, of the whole film, by its plan for the client's buffer, start delay and slot, on the
+/// channels 0 and 1. The replies to SETUP and to PLAY come before the film's first byte, and a
+/// later one after its last (RFC 2326 sections 10.4, 10.5 and 10.12).
+pub fn law_asked_is_played()
+    ensures { (wish : Wish) (stored : Stored) (course : Course)
+        → (asked : IsAskedFor wish stored course)
+        → (played : IsPlayed wish stored course) × (played.play ≡ asked.play) }
 {}
 
 /// A client reads in the reply to PLAY what the server writes in it: its code and number, the

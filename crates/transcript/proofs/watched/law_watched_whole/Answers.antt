@@ -1,32 +1,18 @@
-use Rattle.std.proofs.Common.{ℕ, ◌-◌, List, [], ◌∷◌, ◌++◌, ap, subst, sym, ◌∙◌}
+use Rattle.std.proofs.Common.{subst, sym}
 use Rattle.conn.specs.Rounds.{rounds_doings}
 use Rattle.rtsp_client.specs.Meters.{first_slot}
-use Rattle.transcript.specs.Carried.{heard_bytes, sent_bytes}
-use Rattle.transcript.proofs.Promised.{all-sent, fed, film-in, front-again, stream_of}
-use Rattle.transcript.proofs.Reading.{all_of}
-use Rattle.transcript.proofs.Readings.{AreFed, IsFed}
-use Rattle.transcript.proofs.Watching.{kept-promise, told-course}
-use Rattle.film_frames.specs.Tracks.{framed_bytes}
+use Rattle.transcript.specs.Carried.{IsCarried}
+use Rattle.transcript.specs.Plays.{FilmPlay}
+use Rattle.transcript.proofs.AskedPlays.{asked-played}
+use Rattle.transcript.proofs.WatchedWhole.{watched-whole}
 use Rattle.transcript.proofs.watched.law_watched_whole.Goals as goal
 
-pub returns : goal.returns
-returns c = λ wish stored course watched heard out wished played client carried.
-    let x = stream_of wish stored course played in
-    let told = told-course wish watched heard out client in
-    let begin = first_slot client.mid.history in
-    let front = front-again (heard_bytes heard) (sent_bytes (rounds_doings course.rounds))
-    (framed_bytes (all_of x)) carried.front.0 carried.front.1.1
-    (all-sent wish stored course played) in
-    let feeds : AreFed wish stored.film x begin [] client.rounds = λ before later round slot split event after_begin.
-    let its = told.split before later round split in
-    let P : List ℕ → ℕ → Type 0 = λ b n. IsFed wish stored.film x b n in
-    subst (λ b. P b (slot - begin)) its.1.1.1
-    (fed played
-    (carried.each its.0 its.1.0 slot (its.1.1.0 ∙ ap (λ e. its.0 ++ e ∷ its.1.0) event) after_begin)) in
-    let kept = kept-promise front.count (record {
-      wished = wished;
-      timed = played.whole.sending.can_play.playback_is.some_picture_units;
-      film_is = film-in wish stored course played;
-    })
-    client.runs told.all (sym told.heard_is ∙ front.is) feeds in
-    (kept.over_none, kept.under_none, kept.most_fits, λ first at_first last at_last. kept.film_back first last at_first at_last)
+pub returns-clause-played : goal.returns-clause-played
+returns-clause-played c = watched-whole
+
+pub returns-clause-asked : goal.returns-clause-asked
+returns-clause-asked c = λ wish stored course watched heard out asked client carried.
+    let played = asked-played asked in
+    let C : FilmPlay → Type 0 = λ play.
+    IsCarried (rounds_doings course.rounds) heard play.start (first_slot client.mid.history) in
+    watched-whole wish stored course watched heard out asked.wished played.0 client (subst C (sym played.1) carried)

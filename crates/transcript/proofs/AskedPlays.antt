@@ -1,0 +1,188 @@
+-- What a client that wishes for a film asks of a connection is played as it wished.
+use Rattle.std.proofs.Common.{◌≡◌, ℕ, List, [], ◌∷◌, ◌++◌, length, sum, get_or, codes, refl, sym, ap, subst, ◌∙◌, arith}
+use Rattle.std.proofs.lemmas.List.{append-nil}
+use Rattle.film_frames.specs.declared.stores.Stored.{Stored}
+use Rattle.film_frames.specs.Tracks.{framed_bytes}
+use Rattle.film_run.proofs.PlayLaws.{sending-keeps}
+use Rattle.film_run.specs.Units.{stored_sizes}
+use Rattle.rtp_pack.specs.declared.reports.Identity.{Identity}
+use Rattle.rtsp_client.specs.Asked.{teardown_parts}
+use Rattle.rtsp_client.specs.Requests.{film_url, play_text, setup_text, teardown_text}
+use Rattle.rtsp_client.specs.declared.wishes.Wish.{Wish}
+use Rattle.rtsp_client.proofs.Asking.{play-asked, setup-asked, teardown-asked}
+use Rattle.rtsp_text.specs.Requests.{IsRequest}
+use Rattle.rtsp_text.specs.Spelled.{request_head}
+use Rattle.rtsp_text.proofs.Once.{request_once}
+use Rattle.conn.specs.Rounds.{IsFront}
+use Rattle.transcript.specs.Asked.{IsAskedFor}
+use Rattle.transcript.specs.Courses.{Course, course_plays, first_stage, greatest_slot}
+use Rattle.transcript.specs.Places.{AreSentAt, slots_from}
+use Rattle.transcript.specs.Played.{IsPlayed, IsWholePlay, film_blocks, playback_of, whole_run}
+use Rattle.transcript.specs.Plays.{FilmPlay}
+use Rattle.transcript.specs.Replies.{course_texts}
+use Rattle.transcript.specs.Requests.{rounds_input}
+use Rattle.transcript.proofs.AskedInput.{AreFound, joined, requests-front}
+use Rattle.transcript.proofs.Film.{run-total}
+use Rattle.transcript.proofs.NoPlays.{AreNoPlays, IsNoPlay, rounds-none}
+use Rattle.transcript.proofs.OnePlay.{IsOnePlay, Outlook, rounds-walk, setup-no-play}
+use Rattle.transcript.proofs.Promised.{rest-all}
+use Rattle.transcript.proofs.Replied.{replies_sent}
+use Rattle.transcript.proofs.Requests.{rounds_requests}
+use Rattle.transcript.proofs.TwoReplies.{two-first}
+use Rattle.transcript.proofs.Waiting.{Beginning, IsWaiting}
+use Rattle.transcript.proofs.Wished.{IsWished}
+
+abbrev beginning_of : {wish : Wish} {stored : Stored} {course : Course} → IsAskedFor wish stored course → Beginning
+beginning_of {wish} {stored} {course} asked = record {
+  wish = wish;
+  films = course.films;
+  settings = course.settings;
+  session = asked.session;
+  wished = asked.wished;
+  port = asked.port;
+  session_is = asked.session_is;
+  slot_units = asked.slot_units;
+}
+
+-- TEARDOWN asks for no play
+teardown-no-play : (b : Beginning) {message : List ℕ} → message ≡ teardown_text b.wish b.session → IsNoPlay message
+teardown-no-play b {message} is = λ request read method.
+    let asked = teardown-asked b.wish b.session b.wished b.port b.session_is in
+    let R : List ℕ → Type 0 = λ m.
+    IsRequest m (codes "TEARDOWN") (film_url b.wish) 3 (request_head (teardown_parts b.wish b.session)) [] in
+    let same = request_once (subst R (sym is) asked.read) read in
+    let clash : 84 ≡ 80 = ap (λ name. get_or name 0 0) (same.method_is ∙ method) in omega (arith, clash)
+
+-- the requests of a client, and those of them that a connection took up
+pub record AreAsked (b : Beginning) (requests : List (List ℕ)) : Type 0 where
+  pub last : List (List ℕ)
+  pub requests_are : requests ≡ setup_text b.wish ∷ play_text b.wish b.session ∷ last
+  pub last_are : AreNoPlays last
+
+abbrev all_texts : Beginning → List (List ℕ)
+all_texts b = setup_text b.wish ∷ play_text b.wish b.session ∷ teardown_text b.wish b.session ∷ []
+
+last-no-plays : (b : Beginning) (last more : List (List ℕ)) → teardown_text b.wish b.session ∷ [] ≡ last ++ more
+    → AreNoPlays last
+last-no-plays b [] more is = tt
+last-no-plays b (one ∷ []) more is =
+    let same : teardown_text b.wish b.session ≡ one = cc in
+    (teardown-no-play b (sym same), tt)
+last-no-plays b (one ∷ two ∷ last) more is = absurd (let no : ⊥ = cc in no)
+
+requests-asked : (b : Beginning) (requests more : List (List ℕ)) → all_texts b ≡ requests ++ more
+    → (AreNoPlays requests → ⊥) → AreAsked b requests
+requests-asked b [] more is some = absurd (some tt)
+requests-asked b (one ∷ []) more is some =
+    let same : setup_text b.wish ≡ one = cc in
+    absurd (some (setup-no-play b (sym same), tt))
+requests-asked b (one ∷ two ∷ last) more is some =
+    let first : setup_text b.wish ≡ one = cc in
+    let second : play_text b.wish b.session ≡ two = cc in
+    let rest : teardown_text b.wish b.session ∷ [] ≡ last ++ more = cc in
+    record {
+      last = last;
+      requests_are = ap (λ t. t ∷ two ∷ last) (sym first) ∙ ap (λ t. setup_text b.wish ∷ t ∷ last) (sym second);
+      last_are = last-no-plays b last more rest;
+    }
+
+first-waits : {wish : Wish} {stored : Stored} {course : Course} (asked : IsAskedFor wish stored course)
+    → IsWaiting (beginning_of asked) (first_stage course.films course.settings course.words).session
+first-waits asked = record {
+  stands = record { rest = refl; sound = tt };
+  films_are = refl;
+  settings_are = refl;
+  unbegun = tt;
+}
+
+requests-of : {wish : Wish} {stored : Stored} {course : Course} (asked : IsAskedFor wish stored course)
+    → AreAsked (beginning_of asked) (rounds_requests course.rounds)
+requests-of {wish} {stored} {course} asked =
+    let b = beginning_of asked in
+    let session = asked.session in
+    let found : AreFound (all_texts b) = (
+      (setup-asked wish asked.wished asked.port).found,
+      (
+        (play-asked wish session asked.wished asked.port asked.session_is).found,
+        ((teardown-asked wish session asked.wished asked.port asked.session_is).found, tt),
+      ),
+    ) in
+    let all : setup_text wish ++ (play_text wish session ++ teardown_text wish session) ≡ joined (all_texts b) =
+    ap (λ l. setup_text wish ++ (play_text wish session ++ l)) (sym (append-nil (teardown_text wish session))) in
+    let its = requests-front course (all_texts b) found (subst (IsFront (rounds_input course.rounds)) all asked.heard) in
+    requests-asked b (rounds_requests course.rounds) its.0 its.1 (λ none.
+    let first = first_stage course.films course.settings course.words in
+    let empty = rounds-none first course.last course.rounds course.follows (first-waits asked).stands none in
+    let clash : [] ≡ asked.play ∷ asked.others = sym empty ∙ asked.plays in
+    let no : ⊥ = cc in no)
+
+abbrev outlook_of : {wish : Wish} {stored : Stored} {course : Course} (asked : IsAskedFor wish stored course)
+    → AreAsked (beginning_of asked) (rounds_requests course.rounds) → Outlook
+outlook_of asked its = record {
+  last = its.last;
+  last_are = its.last_are;
+  play = asked.play;
+  others = asked.others;
+}
+
+one-play : {wish : Wish} {stored : Stored} {course : Course} (asked : IsAskedFor wish stored course)
+    → IsOnePlay (beginning_of asked) (outlook_of asked (requests-of asked)) 0 1 (slots_from 0 course.rounds)
+one-play {wish} {stored} {course} asked =
+    rounds-walk (first_stage course.films course.settings course.words) course.last course.rounds course.follows 0
+    (setup_text wish ∷ []) (record {
+      waits = first-waits asked;
+      heard = refl;
+      setups = (refl, tt);
+      requests_are = (requests-of asked).requests_are;
+      plays = asked.plays;
+    })
+
+whole-play : {wish : Wish} {stored : Stored} {course : Course} (asked : IsAskedFor wish stored course)
+    (wished : IsWished (beginning_of asked) asked.play) → IsWholePlay wish stored wished.identity asked.play
+whole-play {wish} {stored} {course} asked wished =
+    let same : wished.stored ≡ stored = asked.named wished.number wished.stored wished.at wished.name_is in
+    subst (λ s. IsWholePlay wish s wished.identity asked.play) same (record {
+      media = wished.media;
+      control = wished.control;
+      pieces = wished.pieces;
+      before = wished.before;
+      sending = wished.sending;
+      keep = asked.keep;
+    })
+
+whole-total : {wish : Wish} {stored : Stored} {identity : Identity} {play : FilmPlay}
+    → IsWholePlay wish stored identity play
+    → length (framed_bytes (film_blocks stored identity)) ≡ play.keep
+whole-total {wish} {stored} {identity} {play} whole =
+    let keeps = sending-keeps (stored_sizes stored) (playback_of wish stored) (whole_run stored) play.plan whole.sending in
+    omega (arith, keeps.bytes, ap sum (rest-all stored), run-total stored.film identity, whole.keep)
+
+pub asked-played : {wish : Wish} {stored : Stored} {course : Course} (asked : IsAskedFor wish stored course)
+    → (played : IsPlayed wish stored course) × (played.play ≡ asked.play)
+asked-played {wish} {stored} {course} asked =
+    let one = one-play asked in
+    let play = asked.play in
+    let plays : course_plays course ≡ play ∷ [] = asked.plays ∙ ap (λ l. play ∷ l) one.alone in
+    let whole = whole-play asked one.wished in
+    let now = greatest_slot course.rounds in
+    let slots = slots_from 0 course.rounds in
+    let S : List FilmPlay → Type 0 = λ ps. AreSentAt now ps slots (course_texts course) in
+    let sent = subst S plays
+    (replies_sent course.films course.settings course.words course.rounds course.last course.follows) in
+    let two = two-first play now (length (framed_bytes (film_blocks stored one.wished.identity))) slots (course_texts course)
+    one.wished.before (whole-total whole) one.before asked.due sent asked.messages in (
+      record {
+        identity = one.wished.identity;
+        play = play;
+        plays = plays;
+        whole = whole;
+        setup = two.first;
+        played = two.second;
+        later = two.later;
+        texts = two.texts_are;
+        setup_is = two.first_is;
+        played_is = two.second_is;
+        after = two.after;
+      },
+      refl,
+    )

@@ -1,0 +1,85 @@
+-- Requests other than PLAY begin no play.
+use Rattle.std.specs.Prelude.{⊤}
+use Rattle.std.proofs.Common.{ℕ, ◌≡◌, ◌≢◌, List, [], ◌∷◌, ◌++◌, codes, refl, sym, ap, subst, ◌∙◌}
+use Rattle.session.specs.declared.states.Awaited.{Awaited}
+use Rattle.session.specs.Judging.{IsReadAs}
+use Rattle.session.specs.Standings.{Standing}
+use Rattle.rtsp_text.specs.declared.requests.Request.{Request}
+use Rattle.conn.specs.Rounds.{Round, Runs}
+use Rattle.conn.specs.Turns.{Answered, IsReplied, Outcome, Part, Passed, Stage, Taking, TakesAll}
+use Rattle.transcript.specs.Courses.{Follows, asked_by, askings_of, takings_askings}
+use Rattle.transcript.specs.Plays.{Asking, plays_begun, plays_of}
+use Rattle.transcript.proofs.Filming.{Stands, opened_stands, taken_stands}
+use Rattle.session.proofs.PlayHeard.{play_heard}
+use Rattle.transcript.proofs.Requests.{rounds_requests, takings_requests}
+use Rattle.transcript.proofs.Serving.{comes-none}
+use Rattle.transcript.proofs.Turning.{Begins, Ends, Starts, Stays, TurnsAs, turns_as}
+
+abbrev pub IsNoPlay : List ℕ → Type 0
+IsNoPlay message = (request : Request) → IsReadAs message request → request.method.now ≢ codes "PLAY"
+
+abbrev pub AreNoPlays : List (List ℕ) → Type 0
+AreNoPlays [] = ⊤
+AreNoPlays (message ∷ messages) = IsNoPlay message × AreNoPlays messages
+
+pub no-plays-rest : (a b : List (List ℕ)) → AreNoPlays (a ++ b) → AreNoPlays b
+no-plays-rest [] b are = are
+no-plays-rest (message ∷ a) b are = no-plays-rest a b are.1
+
+-- what a request that was answered begins: nothing, or the play that it asked for
+turn-none : (old new : Standing) (asked : Awaited) (outcome : Outcome)
+    → ((begins : Begins old asked outcome new) → ⊥) → TurnsAs old asked outcome new
+    → (askings : List Asking) → plays_begun asked outcome askings ≡ []
+turn-none old new asked outcome never (Stays same after still) = still.none
+turn-none old new asked outcome never (Starts after begins) = absurd (never begins)
+turn-none old new asked outcome never (Ends after halts) = halts.none
+
+pub no-play-begins : {old : Stage} {message : List ℕ} {outcome : Outcome} {parts : List Part} {new : Stage}
+    (replied : IsReplied old message outcome parts new) → Stands old.session → IsNoPlay message
+    → (askings : List Asking) → plays_begun replied.heard.asking.awaited outcome askings ≡ []
+no-play-begins {old} {message} {outcome} replied stands none =
+    let heard = replied.heard in
+    turn-none old.session replied.answered heard.asking.awaited outcome
+    (λ begins. let its = play_heard old.session message heard.ask heard.asking begins.prepared stands.rest begins.asked_is heard.hears in
+    none its.request its.is_request its.method)
+    (turns_as old.session message outcome replied.answered heard stands.rest)
+
+pub takings-none : (old new : Stage) (takings : List Taking) (takes : TakesAll old takings new) (more : List Asking)
+    → Stands old.session → AreNoPlays (takings_requests takings) → plays_of more ≡ []
+    → plays_of (takings_askings old takings new takes ++ more) ≡ []
+takings-none old new [] takes more stands are none = none
+takings-none old new (Passed n ∷ takings) takes more stands are none =
+    takings-none takes.0 new takings takes.1.1 more (taken_stands old takes.0 (Passed n) takes.1.0 stands) are none
+takings-none old new (Answered message outcome parts ∷ takings) takes more stands are none =
+    let later = takings_askings takes.0 takings new takes.1.1 ++ more in
+    let begun = no-play-begins takes.1.0 stands are.0 later in
+    ap (λ l. l ++ plays_of later) begun
+    ∙ takings-none takes.0 new takings takes.1.1 more
+    (taken_stands old takes.0 (Answered message outcome parts) takes.1.0 stands) are.1 none
+
+pub no-plays-front : (a b : List (List ℕ)) → AreNoPlays (a ++ b) → AreNoPlays a
+no-plays-front [] b are = tt
+no-plays-front (message ∷ a) b are = (are.0, no-plays-front a b are.1)
+
+pub takes-stands : (old new : Stage) (takings : List Taking) → TakesAll old takings new → Stands old.session → Stands new.session
+takes-stands old new [] takes stands = subst (λ (s : Stage). Stands s.session) (sym takes) stands
+takes-stands old new (taking ∷ takings) takes stands =
+    takes-stands takes.0 new takings takes.1.1 (taken_stands old takes.0 taking takes.1.0 stands)
+
+pub event-none : {old new : Stage} {round : Round} (runs : Runs old round new) (askings : List Asking)
+    → plays_begun (asked_by old.session round.event) round.halt askings ≡ []
+event-none {round} runs askings = comes-none (record { due = round.due; halt = round.halt; comes = runs.comes }) askings
+
+pub rounds-none : (old new : Stage) (rounds : List Round) (follows : Follows old rounds new) → Stands old.session
+    → AreNoPlays (rounds_requests rounds) → plays_of (askings_of old rounds new follows) ≡ []
+rounds-none old new [] follows stands are = refl
+rounds-none old new (round ∷ rounds) follows stands are =
+    let runs = follows.1.0 in
+    let opened = opened_stands old follows.0 round runs stands in
+    let more = askings_of follows.0 rounds new follows.1.1 in
+    let later = takings_askings runs.opened round.takings follows.0 runs.takes ++ more in
+    ap (λ l. l ++ plays_of later) (event-none runs later)
+    ∙ takings-none runs.opened follows.0 round.takings runs.takes more opened
+    (no-plays-front (takings_requests round.takings) (rounds_requests rounds) are)
+    (rounds-none follows.0 new rounds follows.1.1 (takes-stands runs.opened follows.0 round.takings runs.takes opened)
+    (no-plays-rest (takings_requests round.takings) (rounds_requests rounds) are))

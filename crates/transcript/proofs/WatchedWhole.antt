@@ -1,0 +1,46 @@
+-- A film that is watched over a link that carries it slot by slot comes back whole.
+use Rattle.std.proofs.Common.{ℕ, ◌-◌, List, [], ◌∷◌, ◌++◌, Some, ap, subst, sym, ◌∙◌}
+use Rattle.vod_base.specs.Links.{Doing}
+use Rattle.film_frames.specs.declared.stores.Stored.{Stored}
+use Rattle.film_frames.specs.Tracks.{framed_bytes}
+use Rattle.conn.specs.Rounds.{rounds_doings}
+use Rattle.rtsp_client.specs.Courses.{HasCourse}
+use Rattle.rtsp_client.specs.Meters.{first_slot}
+use Rattle.rtsp_client.specs.Wishes.{IsWish}
+use Rattle.rtsp_client.specs.declared.wishes.WatchEnd.TheVariants.{Done}
+use Rattle.rtsp_client.specs.declared.wishes.Watched.{Watched}
+use Rattle.rtsp_client.specs.declared.wishes.Wish.{Wish}
+use Rattle.transcript.specs.Asked.{HasWatchedWhole}
+use Rattle.transcript.specs.Carried.{IsCarried, heard_bytes, sent_bytes}
+use Rattle.transcript.specs.Courses.{Course}
+use Rattle.transcript.specs.Played.{IsPlayed}
+use Rattle.transcript.proofs.Promised.{all-sent, fed, film-in, front-again, stream_of}
+use Rattle.transcript.proofs.Reading.{all_of}
+use Rattle.transcript.proofs.Readings.{AreFed, IsFed}
+use Rattle.transcript.proofs.Watching.{kept-promise, told-course}
+
+pub watched-whole : (wish : Wish) (stored : Stored) (course : Course) (watched : Watched) (heard : List Doing) (out : List ℕ)
+    → IsWish wish → (played : IsPlayed wish stored course)
+    → (client : HasCourse wish (Done watched) (Some []) (Some heard) (Some []) (Some out))
+    → IsCarried (rounds_doings course.rounds) heard played.play.start (first_slot client.mid.history)
+    → HasWatchedWhole wish stored watched out
+watched-whole wish stored course watched heard out wished played client carried =
+    let x = stream_of wish stored course played in
+    let told = told-course wish watched heard out client in
+    let begin = first_slot client.mid.history in
+    let front = front-again (heard_bytes heard) (sent_bytes (rounds_doings course.rounds))
+    (framed_bytes (all_of x)) carried.front.0 carried.front.1.1
+    (all-sent wish stored course played) in
+    let feeds : AreFed wish stored.film x begin [] client.rounds = λ before later round slot split event after_begin.
+    let its = told.split before later round split in
+    let P : List ℕ → ℕ → Type 0 = λ b n. IsFed wish stored.film x b n in
+    subst (λ b. P b (slot - begin)) its.1.1.1
+    (fed played
+    (carried.each its.0 its.1.0 slot (its.1.1.0 ∙ ap (λ e. its.0 ++ e ∷ its.1.0) event) after_begin)) in
+    let kept = kept-promise front.count (record {
+      wished = wished;
+      timed = played.whole.sending.can_play.playback_is.some_picture_units;
+      film_is = film-in wish stored course played;
+    })
+    client.runs told.all (sym told.heard_is ∙ front.is) feeds in
+    (kept.over_none, kept.under_none, kept.most_fits, λ first at_first last at_last. kept.film_back first last at_first at_last)
