@@ -28,6 +28,7 @@ mod Outcomes
 mod Staying
 mod Stopping
 pub mod Telling
+pub mod Visits
 mod Workers
 pub mod Journals
 mod Keeping

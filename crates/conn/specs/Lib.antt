@@ -13,3 +13,4 @@ pub mod Refusals
 pub mod Admissions
 pub mod Journals
 pub mod Endings
+pub mod Agreement

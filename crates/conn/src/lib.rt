@@ -2,6 +2,7 @@
 //! connections, one after another.
 #![tactic(auto)]
 
+mod agreement;
 mod connections;
 mod films;
 mod laws;
@@ -10,6 +11,7 @@ mod reports;
 mod serving;
 mod words;
 
+pub use agreement::law_agrees;
 pub use laws::{
     law_between_curves, law_connection_words, law_count_by_plan, law_events_spent,
     law_film_by_plan, law_overflow_told, law_play_answered, law_play_begins, law_play_completed,

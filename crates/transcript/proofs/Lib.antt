@@ -5,7 +5,6 @@ mod Steps
 mod Slots
 mod Filming
 mod Hearing
-mod Agreeing
 mod Following
 mod Booking
 mod Weaving
@@ -49,6 +48,7 @@ mod AskedPlays
 mod WatchedWhole
 mod Noting
 mod NotedCourses
+mod NotedEntries
 mod Receipting
 mod Missing
 mod Failing

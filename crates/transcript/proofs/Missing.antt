@@ -22,7 +22,7 @@ use Rattle.conn.specs.Turns.{IsPlayAnswered, Outcome, Unasked, Entered, WasFull,
 use Rattle.conn.specs.Turns.{Stage, Taking, Passed, Answered, TakesAll}
 use Rattle.conn.specs.declared.reports.ConnEnd.{ConnEnd}
 use Rattle.conn.specs.declared.reports.ConnReport.{ConnReport}
-use Rattle.transcript.specs.Agreement.{Doings, HasDone}
+use Rattle.conn.specs.Agreement.{Doings, HasDone}
 use Rattle.transcript.specs.Courses.{first_stage}
 use Rattle.transcript.specs.Notes.{ending_missed, missed_by, missed_in, rounds_missed}
 

@@ -22,7 +22,7 @@ use Rattle.conn.specs.Turns.{Offered, Part, Stage, Taking, Passed, Answered, Tak
 use Rattle.conn.specs.Turns.{film_bytes}
 use Rattle.conn.specs.declared.reports.ConnEnd.{ConnEnd}
 use Rattle.conn.specs.declared.reports.ConnReport.{ConnReport}
-use Rattle.transcript.specs.Agreement.{Doings, HasDone, doings_outcomes}
+use Rattle.conn.specs.Agreement.{Doings, HasDone, doings_outcomes}
 use Rattle.conn.specs.Films.{rounds_film}
 use Rattle.transcript.specs.Courses.{askings_of, first_stage, round_askings}
 use Rattle.transcript.specs.Notes.{Turn, asking_at, ending_turns, notes_of_turns, notes_of}
@@ -234,18 +234,18 @@ ending-carries old new count (InReply round message outcome front) end ends =
     (round-carries old e.mid round e.runs) (subst C (sym failed.new_is) last)
 
 -- ---- between doings nothing is awaited
-stands-all : (old new : Stage) (rounds : List Round) → RunsAll old rounds new → Stands old.session → Stands new.session
+pub stands-all : (old new : Stage) (rounds : List Round) → RunsAll old rounds new → Stands old.session → Stands new.session
 stands-all old new rounds runs stands =
     let follows = follows_all old new rounds runs in
     stands_by old.session new.session (askings_of old rounds new follows) (rounds_film rounds)
     (course_step old new rounds follows stands)
 
-stands-round : (old new : Stage) (round : Round) → Runs old round new → Stands old.session → Stands new.session
+pub stands-round : (old new : Stage) (round : Round) → Runs old round new → Stands old.session → Stands new.session
 stands-round old new round runs stands =
     stands_by old.session new.session (round_askings old round new runs) (film_bytes round.due)
     (round_step old new round runs stands)
 
-ending-rest : {old : Stage} (ending : Ending) (ended : CourseEnd old ending) → Stands old.session →
+pub ending-rest : {old : Stage} (ending : Ending) (ended : CourseEnd old ending) → Stands old.session →
     ended.new.session.awaited ≡ Nothing
 ending-rest Unheard ended stands = ap (λ (s : Stage). s.session.awaited) ended.ends.1 ∙ stands.rest
 ending-rest PeerEnded ended stands = ap (λ (s : Stage). s.session.awaited) ended.ends.1 ∙ stands.rest

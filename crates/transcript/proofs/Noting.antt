@@ -205,7 +205,7 @@ begun-state {awaited} {setup} {paused} place start later ready asks =
     ap (λ s. open_note (admitted_in s awaited place start) later) ready
     ∙ ap (λ a. open_note (admitted_in (Ready setup paused) a place start) later) asks
 
-begun-note : {setup : Setup} {paused : Option Run} {prepared : Prepared} {answer : Answer} {asking : Standing}
+pub begun-note : {setup : Setup} {paused : Option Run} {prepared : Prepared} {answer : Answer} {asking : Standing}
     {placed : Placed} (later : List Turn) → asking.state ≡ Ready setup paused → asking.awaited ≡ Play prepared →
     PlayEntry asking prepared placed answer →
     notes_of_turns asking (Entered placed) later ≡ noted_for setup prepared.run placed.place

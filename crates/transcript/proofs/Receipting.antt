@@ -21,7 +21,7 @@ use Rattle.conn.specs.Turns.{IsPlayAnswered, Outcome, Unasked, Entered, WasFull,
 use Rattle.conn.specs.Turns.{Stage, Taking, Passed, Answered, TakesAll, after_reply}
 use Rattle.conn.specs.declared.reports.ConnEnd.{ConnEnd}
 use Rattle.conn.specs.declared.reports.ConnReport.{ConnReport}
-use Rattle.transcript.specs.Agreement.{Doings, HasDone, doings_outcomes}
+use Rattle.conn.specs.Agreement.{Doings, HasDone, doings_outcomes}
 use Rattle.transcript.specs.Courses.{first_stage}
 use Rattle.transcript.specs.Receipts.{offer_in, offers_in, receipt_in, receipts_in}
 

@@ -1,8 +1,8 @@
 -- What a connection's report notes: its plays, and the slots that were missed.
-use Rattle.std.specs.Prelude.{ℕ, ◌+◌, ◌&&◌, if◌then◌else◌, List, [], ◌∷◌, ◌++◌, length, Option}
-use Rattle.std.specs.Prelude.{Some, None}
+use Rattle.std.specs.Prelude.{ℕ, ◌+◌, ◌&&◌, if◌then◌else◌, List, [], ◌∷◌, ◌++◌, length, map}
+use Rattle.std.specs.Prelude.{Option, Some, None}
 use Rattle.vod_base.specs.Links.{Doing, HeardBytes, HeardEnd, HeardSlot, Sent}
-use Rattle.slot_calendar.specs.Plays.{Play as Booked}
+use Rattle.slot_calendar.specs.Plays.{Play as Booked, cut_play}
 use Rattle.film_run.specs.declared.runs.Run.{Run}
 use Rattle.admission.specs.Histories.{play_admitted}
 use Rattle.admission.specs.Makers.{Placed}
@@ -19,9 +19,9 @@ use Rattle.conn.specs.Rounds.{Ending, Unheard, PeerEnded, Overfull, AtElement, I
 use Rattle.conn.specs.Rounds.{Ends, Round, Runs, RunsAll}
 use Rattle.conn.specs.Turns.{Outcome, Unasked, Entered, WasFull, Offered, Stage, Taking, Passed}
 use Rattle.conn.specs.Turns.{Answered, TakesAll}
-use Rattle.transcript.specs.Agreement.{Doings, HasDone}
+use Rattle.conn.specs.Agreement.{Doings, HasDone}
 use Rattle.transcript.specs.Courses.{first_stage}
-use Rattle.transcript.specs.Plays.{kept_with}
+use Rattle.transcript.specs.Plays.{booked_by, kept_with}
 use Rattle.film_frames.specs.declared.stores.Stored.{Stored}
 use Rattle.session.specs.declared.settings.Settings.{Settings}
 use Rattle.conn.specs.declared.reports.ConnEnd.{ConnEnd}
@@ -126,6 +126,27 @@ notes_of_turns asking (Offered at_slot note) turns = []
 abbrev pub notes_of : List Turn → List PlayNote
 notes_of [] = []
 notes_of (turn ∷ turns) = notes_of_turns turn.asking turn.outcome turns ++ notes_of turns
+
+-- a play that was admitted: where its entry stands in the journal, and what the link has booked of
+-- it
+pub record PlacedPlay : Type 0 where
+  pub place : ℕ
+  pub booked : Booked
+
+abbrev pub placed_play : ℕ → Booked → PlacedPlay
+placed_play place booked = record { place = place; booked = booked }
+
+-- as its note tells it
+abbrev pub noted_play : PlayNote → PlacedPlay
+noted_play note = placed_play note.place (cut_play note.start note.plan note.keep)
+
+-- the plays that a connection's entries tell, one for each admission, in order
+abbrev pub placed_plays : List Placed → List PlacedPlay
+placed_plays [] = []
+placed_plays (placed ∷ made) =
+    map (placed_play placed.place)
+    (booked_by (play_admitted placed.entry.command placed.entry.answer) made)
+    ++ placed_plays made
 
 -- the slots that an event missed: a slot was heard while a play, or its rest, was being sent
 abbrev pub missed_in : Standing → ℕ → ℕ

@@ -1,33 +1,25 @@
 //! Laws on every course of a connection, on its bytes and its report, each a contract without a
 //! body.
 
-ghost use Rattle.std.specs.Prelude.{◌≡◌, ◌+◌, ◌++◌, ◌∷◌, [], ℕ, List, Some, map};
-ghost use mathlib.Core.List.{IsPrefix};
-ghost use Rattle.vod_base.specs.Gates.{Returned};
+ghost use Rattle.std.specs.Prelude.{◌≡◌, ◌+◌, ◌++◌, ◌∷◌, [], ℕ, List, map};
 ghost use Rattle.vod_base.specs.Links.{Doing, HeardSlot};
 ghost use Rattle.film_frames.specs.declared.stores.Stored.{Stored};
-ghost use Rattle.admission.specs.declared.entries.Entry.{Entry};
-ghost use Rattle.admission.specs.Histories.{IsLegal};
-ghost use Rattle.station.specs.Seats.{SeatState};
 ghost use Rattle.session.specs.Ranges.{AreFilms};
 ghost use Rattle.session.specs.declared.settings.Settings.{Settings};
 ghost use Rattle.conn.specs.Films.{rounds_film};
-ghost use Rattle.conn.specs.Journals.{Terms, terms_of};
-ghost use Rattle.conn.specs.Parts.{HasServedOne};
 ghost use Rattle.conn.specs.Rounds.{EndsInReply, HasFailedInSlot, IsStopped, Round, Runs, RunsAll};
 ghost use Rattle.conn.specs.Rounds.{entries_in, round_bytes, rounds_outcomes};
 ghost use Rattle.conn.specs.Turns.{Answered, Outcome, Stage, reply_parts};
 ghost use Rattle.conn.specs.declared.reports.ConnEnd.{ConnEnd};
-ghost use Rattle.conn.specs.declared.reports.ConnEnd.TheVariants.{NoMemory};
 ghost use Rattle.conn.specs.declared.reports.ConnReport.{ConnReport};
-ghost use Rattle.transcript.specs.Agreement.{Agrees, Doings, HasDone, Visit, doings_outcomes};
+ghost use Rattle.conn.specs.Agreement.{Doings, HasDone, doings_outcomes};
 ghost use Rattle.transcript.specs.Courses.{Course, Follows, IsParted, course_film, course_plays};
 ghost use Rattle.transcript.specs.Courses.{first_stage, greatest_slot, rounds_bytes};
 ghost use Rattle.transcript.specs.Cuttings.{AllLackAlike, AreFronts, AreSameAnswers, Beginning};
 ghost use Rattle.transcript.specs.Cuttings.{Cutting, HearAlike, Hearing, SendAlike, TakesUp};
 ghost use Rattle.transcript.specs.Failures.{IsCutShort};
-ghost use Rattle.transcript.specs.Notes.{ending_missed, notes_of, outcome_of, rounds_missed};
-ghost use Rattle.transcript.specs.Notes.{turns_of};
+ghost use Rattle.transcript.specs.Notes.{ending_missed, noted_play, notes_of, outcome_of};
+ghost use Rattle.transcript.specs.Notes.{placed_plays, rounds_missed, turns_of};
 ghost use Rattle.transcript.specs.Receipts.{offers_in, receipts_in};
 ghost use Rattle.transcript.specs.Places.{AreSentAt, slots_from};
 ghost use Rattle.transcript.specs.Plays.{AreOver, booked_plays, booking_of};
@@ -128,8 +120,8 @@ pub fn law_sent_at_failure()
 {}
 
 /// A report's notes of plays are, place by place, those of the plays that the connection's entries
-/// admitted: with the plan and the start of the entry, what the play's halt keeps, and the run that
-/// was asked for as the session was set up then.
+/// admitted, one for each of them: with the plan and the start of the entry, what the play's halt
+/// keeps, and the run that was asked for as the session was set up then.
 pub fn law_plays_noted()
     ensures notes { (films : List Stored) (settings : Settings) (words : List ℕ)
         (doings : Doings) (report : ConnReport)
@@ -140,6 +132,9 @@ pub fn law_plays_noted()
         → (done : HasDone films settings words doings report)
         → map outcome_of (turns_of films settings words doings report done)
         ≡ doings_outcomes doings }
+    ensures entries { (films : List Stored) (settings : Settings) (words : List ℕ)
+        (doings : Doings) (report : ConnReport) → HasDone films settings words doings report
+        → map noted_play report.plays.items ≡ placed_plays (entries_in (doings_outcomes doings)) }
 {}
 
 /// A report's receipts are, in order, those of what the station answered: of each entry its place
@@ -162,17 +157,4 @@ pub fn law_missed_told()
         (report : ConnReport) → (done : HasDone films settings words doings report)
         → report.late ≡ rounds_missed (first_stage films settings words) doings.rounds done.mid
         done.runs + ending_missed done.mid.session doings.ending }
-{}
-
-/// What a connection's link told and its report agree with the journal that its seat has seen then,
-/// and with each longer one: its entries, the two numbers of each answer that the journal was full,
-/// and its offers.
-pub fn law_agrees()
-    ensures seen { (visit : Visit) (returned : Returned) (old new : SeatState)
-        → HasServedOne visit.films visit.settings returned visit.report old new
-        → returned.told ≡ Some visit.told → ¬ (visit.report.end ≡ NoMemory)
-        → Agrees visit (terms_of new) new.seen }
-    ensures longer { (visit : Visit) (terms : Terms) (journal longer : List Entry)
-        → Agrees visit terms journal → IsPrefix journal longer → IsLegal terms.steps longer
-        → Agrees visit terms longer }
 {}

@@ -7,7 +7,7 @@ mod laws;
 mod watched;
 
 pub use laws::{
-    law_agrees, law_cuttings, law_film_written, law_follows, law_missed_told, law_plays_booked,
+    law_cuttings, law_film_written, law_follows, law_missed_told, law_plays_booked,
     law_plays_noted, law_receipts_told, law_replies_placed, law_replies_woven, law_requests_taken,
     law_sent_at_failure, law_two_cuttings,
 };

@@ -1,18 +1,21 @@
 -- When what a link told and a report go with a journal.
-use Rattle.std.specs.Prelude.{◌≡◌, ℕ, ◌+◌, ◌≤◌, ◌^◌, List, [], ◌∷◌, ◌++◌, length}
+use Rattle.std.specs.Prelude.{◌≡◌, ◌≢◌, ℕ, ◌+◌, ◌≤◌, ◌^◌, List, [], ◌∷◌, ◌++◌, length, Some}
+use Rattle.vod_base.specs.Gates.{Returned}
 use Rattle.vod_base.specs.Links.{Doing}
+use Rattle.vod_base.specs.Outside.{HasRisen}
 use Rattle.film_frames.specs.declared.stores.Stored.{Stored}
 use Rattle.admission.specs.declared.entries.Entry.{Entry}
 use Rattle.admission.specs.Histories.{IsLegal}
 use Rattle.session.specs.declared.settings.Settings.{Settings}
+use Rattle.session.specs.Hearings.{new_standing}
 use Rattle.session.specs.Standings.{Standing, open_of}
 use Rattle.conn.specs.Rounds.{Ending, Ends, Round, RunsAll, ending_doings, ending_events}
 use Rattle.conn.specs.Rounds.{ending_outcomes, rounds_doings, rounds_outcomes}
 use Rattle.conn.specs.Journals.{AgreeWith, Terms}
 use Rattle.conn.specs.Served.{IsToldOf}
-use Rattle.conn.specs.Turns.{IsClosed, Outcome, Stage}
+use Rattle.conn.specs.Turns.{IsClosed, Outcome, Stage, stage}
+use Rattle.conn.specs.declared.reports.ConnEnd.TheVariants.{LinkFault, NoMemory}
 use Rattle.conn.specs.declared.reports.ConnReport.{ConnReport}
-use Rattle.transcript.specs.Courses.{first_stage}
 
 -- what a connection did from its first event to its end, and the halt of a booking that was open
 -- then
@@ -33,7 +36,7 @@ doings_outcomes doings =
 pub record HasDone (films : List Stored) (settings : Settings) (words : List ℕ) (doings : Doings)
     (report : ConnReport) : Type 0 where
   pub mid : Stage
-  pub runs : RunsAll (first_stage films settings words) doings.rounds mid
+  pub runs : RunsAll (stage (new_standing films settings words) []) doings.rounds mid
   pub last : Stage
   pub ends : Ends mid (length doings.rounds) doings.ending report.end last
   pub few : length doings.rounds + length (ending_events doings.ending) ≤ 2 ^ 40
@@ -41,20 +44,31 @@ pub record HasDone (films : List Stored) (settings : Settings) (words : List ℕ
   pub closes : IsClosed (open_of last.session) last.session doings.halt closed
   pub report_is : IsToldOf closed report
 
--- a connection: what it was served with, what its link told, and its report
+-- a connection: what it was served with, its link as it was given back, and its report
 pub record Visit : Type 0 where
   pub films : List Stored
   pub settings : Settings
-  pub told : List Doing
+  pub returned : Returned
   pub report : ConnReport
+
+abbrev pub visit : List Stored → Settings → Returned → ConnReport → Visit
+visit films settings returned report =
+    record { films = films; settings = settings; returned = returned; report = report }
 
 -- What a link told and a report agree with a legal journal: they are a connection's doings, and
 -- what the station answered on the way agrees with it. Each entry stands at its place as the
 -- maker's; a full answer tells the entries that the journal had then and its open plays, and had no
--- room; an offer is the one that is made in the state of the entries that it names.
+-- room; an offer is the one that is made in the state of the entries that it names. The connection
+-- failed only where its link counted a fault.
 pub record Agrees (visit : Visit) (terms : Terms) (journal : List Entry) : Type 0 where
   pub legal : IsLegal terms.steps journal
   pub doings : Doings
-  pub told_is : visit.told ≡ doings_told doings
+  pub told_is : visit.returned.told ≡ Some (doings_told doings)
   pub done : HasDone visit.films visit.settings visit.report.words doings visit.report
   pub agree : AgreeWith terms journal 0 (doings_outcomes doings)
+  pub fault : visit.report.end ≡ LinkFault → HasRisen 0 visit.returned.faults
+
+-- they do, where the link told what was done and memory was found before the first event
+abbrev pub AgreesIfTold : Visit → Terms → List Entry → Type 0
+AgreesIfTold visit terms journal = (told : List Doing) → visit.returned.told ≡ Some told
+    → visit.report.end ≢ NoMemory → Agrees visit terms journal

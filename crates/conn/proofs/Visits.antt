@@ -1,0 +1,156 @@
+-- What a connection did agrees with its journal, and with each longer one.
+use Rattle.std.proofs.Common.{◌≡◌, ◌<◌, ℕ, List, [], ◌∷◌, Some, length, sym, ◌∙◌, subst, arith, inl, inr, suc, zero}
+use Rattle.std.specs.Prelude.{slice_index_or}
+use mathlib.Core.List.{IsPrefix}
+use Rattle.vod_base.specs.Gates.{Returned}
+use Rattle.vod_base.specs.Links.{Doing}
+use Rattle.vod_base.specs.Outside.{HasRisen}
+use Rattle.film_frames.specs.declared.stores.Stored.{Stored}
+use Rattle.admission.specs.declared.entries.Entry.{Entry}
+use Rattle.admission.specs.Histories.{IsLegal}
+use Rattle.session.specs.declared.settings.Settings.{Settings}
+use Rattle.session.specs.Hearings.{new_standing}
+use Rattle.session.specs.Standings.{Standing}
+use Rattle.station.specs.Seats.{IsSameSeat, SeatState}
+use Rattle.station.proofs.SameSeats.{seat_none, seat_on}
+use Rattle.conn.specs.Agreement.{Agrees, AgreesIfTold, Doings, Visit, doings_outcomes, visit}
+use Rattle.conn.specs.Journals.{AgreeWith, Terms, terms_of}
+use Rattle.conn.specs.Parts.{AreServed, HasServedOne, fresh_told}
+use Rattle.conn.specs.Promises.{KeepsCourse, KeepsPromise}
+use Rattle.conn.specs.Sights.{AreNoted}
+use Rattle.conn.specs.declared.reports.ConnEnd.TheVariants.{LinkFault}
+use Rattle.conn.specs.declared.reports.ConnReport.{ConnReport}
+use Rattle.conn.proofs.Journals.{agree_longer, agree_lower, terms_same}
+use Rattle.conn.proofs.Sighting.{noted_on}
+
+course_agrees : {told : List Doing} {old new : SeatState} (visit : Visit) →
+    KeepsCourse (new_standing visit.films visit.settings visit.report.words) (Some []) (Some told) old new
+    visit.report → visit.returned.told ≡ Some told → (visit.report.end ≡ LinkFault → HasRisen 0 visit.returned.faults) →
+    Agrees visit (terms_of new) new.seen
+course_agrees {old} {new} visit keeps tells fault =
+    let served = keeps.served in
+    let course = served.course in
+    let doings : Doings = record { rounds = course.rounds; ending = course.ending; halt = served.closes.halt } in
+    let noted : AreNoted old new (doings_outcomes doings) = noted_on course.noted served.closes.noted in
+    let agree : AgreeWith (terms_of new) new.seen 0 (doings_outcomes doings) =
+    subst (λ terms. AgreeWith terms new.seen 0 (doings_outcomes doings)) (sym (terms_same old new noted.seat))
+    (agree_lower (record {
+      terms = terms_of old;
+      journal = new.seen;
+      low = 0;
+      from = length old.seen;
+      below = omega arith;
+    }) (doings_outcomes doings) noted.agree) in
+    record {
+      legal = keeps.booked.legal;
+      doings = doings;
+      told_is = tells ∙ (served.told ∙ course.told);
+      done = record {
+        mid = course.mid;
+        runs = course.runs;
+        last = served.ended.stage;
+        ends = course.ends;
+        few = course.few;
+        closed = served.closed;
+        closes = served.closes.closes;
+        report_is = served.report_is;
+      };
+      agree = agree;
+      fault = fault;
+    }
+
+-- what was served agrees with the seat's journal
+pub one_agrees : {old new : SeatState} (visit : Visit) →
+    HasServedOne visit.films visit.settings visit.returned visit.report old new →
+    AgreesIfTold visit (terms_of new) new.seen
+one_agrees {old} {new} visit one = λ told tells found.
+    let session : Standing = new_standing visit.films visit.settings visit.report.words in
+    let keeps : KeepsPromise session (Some []) (Some told) old new visit.report =
+    subst (λ t. KeepsPromise session (fresh_told t) t old new visit.report) tells one.keeps in
+    elim keeps [
+      | inl course ↦ course_agrees visit course tells one.fault
+      | inr nothing ↦ absurd (found nothing.end)
+    ]
+
+-- and with each longer legal journal
+pub agrees_longer : {visit : Visit} {terms : Terms} {journal longer : List Entry} → Agrees visit terms journal →
+    IsPrefix journal longer → IsLegal terms.steps longer → Agrees visit terms longer
+agrees_longer {terms} {journal} {longer} agrees prefix legal = record {
+  legal = legal;
+  doings = agrees.doings;
+  told_is = agrees.told_is;
+  done = agrees.done;
+  agree = agree_longer (record { terms = terms; journal = journal; longer = longer; prefix = prefix }) 0
+      (doings_outcomes agrees.doings) agrees.agree;
+  fault = agrees.fault;
+}
+
+-- ---- one after another
+
+-- a connection leaves its seat as it was, but for what that has seen and made
+record GoesOn (old new : SeatState) : Type 0 where
+  seat : IsSameSeat old new
+  legal : IsLegal old.steps old.seen → IsLegal new.steps new.seen
+
+same_on : (old new : SeatState) → new ≡ old → GoesOn old new
+same_on old new same = subst (GoesOn old) (sym same) (record { seat = seat_none old; legal = λ legal. legal })
+
+one_on : {films : List Stored} {settings : Settings} {returned : Returned} {report : ConnReport}
+    {old new : SeatState} → HasServedOne films settings returned report old new → GoesOn old new
+one_on {old} {new} one = elim one.keeps [
+  | inl keeps ↦ record {
+    seat = (noted_on keeps.served.course.noted keeps.served.closes.noted).seat;
+    legal = λ legal. keeps.booked.legal;
+  }
+  | inr nothing ↦ same_on old new nothing.seat
+]
+
+-- what agrees with what a seat has seen agrees with what it has seen later
+agrees_on : {visit : Visit} {old new : SeatState} → Agrees visit (terms_of old) old.seen → GoesOn old new →
+    Agrees visit (terms_of new) new.seen
+agrees_on {visit} {old} {new} agrees on =
+    let legal : IsLegal old.steps new.seen =
+    subst (λ steps. IsLegal steps new.seen) on.seat.steps (on.legal agrees.legal) in
+    subst (λ terms. Agrees visit terms new.seen) (sym (terms_same old new on.seat))
+    (agrees_longer agrees on.seat.longer legal)
+
+all_on : {old new : SeatState} (films : List Stored) (settings : Settings) (back : List Returned)
+    (reports : List ConnReport) → AreServed films settings old back reports new → GoesOn old new
+all_on {old} {new} films settings [] [] served = same_on old new served
+all_on films settings [] (report ∷ reports) served = absurd served
+all_on films settings (returned ∷ back) [] served = absurd served
+all_on {old} {new} films settings (returned ∷ back) (report ∷ reports) served =
+    let one = one_on served.1.0 in
+    let rest = all_on films settings back reports served.1.1 in
+    record {
+      seat = seat_on old served.0 new one.seat rest.seat;
+      legal = λ legal. rest.legal (one.legal legal);
+    }
+
+-- a place among the connections that were given back
+pub record InsideBack (back : List Returned) (k : ℕ) : Type 0 where
+  pub none : Returned
+  pub no_report : ConnReport
+  pub inside : k < length back
+
+-- one of a part's connections agrees with what the seat has seen after the last one
+pub record IsOneOf (films : List Stored) (settings : Settings) (returned : Returned) (report : ConnReport)
+    (first left : SeatState) : Type 0 where
+  pub agrees : AgreesIfTold (visit films settings returned report) (terms_of left) left.seen
+
+pub all_agree : {films : List Stored} {settings : Settings} {old new : SeatState} (back : List Returned)
+    (reports : List ConnReport) → AreServed films settings old back reports new → (k : ℕ) (here : InsideBack back k) →
+    IsOneOf films settings (slice_index_or back k here.none) (slice_index_or reports k here.no_report) old new
+all_agree [] reports served k here = absurd (omega (arith, here.inside))
+all_agree (returned ∷ back) [] served k here = absurd served
+all_agree {films} {settings} (returned ∷ back) (report ∷ reports) served zero here = record {
+  agrees = λ told tells found.
+      agrees_on (one_agrees (visit films settings returned report) served.1.0 told tells found)
+      (all_on films settings back reports served.1.1);
+}
+all_agree (returned ∷ back) (report ∷ reports) served (suc k) here =
+    let rest = all_agree back reports served.1.1 k
+    (record { none = none; no_report = no_report; inside = omega (arith, inside) }) in
+    record { agrees = rest.agrees }
+  where
+    open here use {none, no_report, inside}
