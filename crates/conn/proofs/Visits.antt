@@ -56,6 +56,7 @@ course_agrees {old} {new} visit keeps tells fault =
         report_is = served.report_is;
       };
       agree = agree;
+      plays = keeps.keeps.plays;
       fault = fault;
     }
 
@@ -82,6 +83,7 @@ agrees_longer {terms} {journal} {longer} agrees prefix legal = record {
   done = agrees.done;
   agree = agree_longer (record { terms = terms; journal = journal; longer = longer; prefix = prefix }) 0
       (doings_outcomes agrees.doings) agrees.agree;
+  plays = agrees.plays;
   fault = agrees.fault;
 }
 

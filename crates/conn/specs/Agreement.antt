@@ -12,6 +12,7 @@ use Rattle.session.specs.Standings.{Standing, open_of}
 use Rattle.conn.specs.Rounds.{Ending, Ends, Round, RunsAll, ending_doings, ending_events}
 use Rattle.conn.specs.Rounds.{ending_outcomes, rounds_doings, rounds_outcomes}
 use Rattle.conn.specs.Journals.{AgreeWith, Terms}
+use Rattle.conn.specs.Plays.{ArePlaysKept, ending_rounds}
 use Rattle.conn.specs.Served.{IsToldOf}
 use Rattle.conn.specs.Turns.{IsClosed, Outcome, Stage, stage}
 use Rattle.conn.specs.declared.reports.ConnEnd.TheVariants.{LinkFault, NoMemory}
@@ -58,14 +59,17 @@ visit films settings returned report =
 -- What a link told and a report agree with a legal journal: they are a connection's doings, and
 -- what the station answered on the way agrees with it. Each entry stands at its place as the
 -- maker's; a full answer tells the entries that the journal had then and its open plays, and had no
--- room; an offer is the one that is made in the state of the entries that it names. The connection
--- failed only where its link counted a fault.
+-- room; an offer is the one that is made in the state of the entries that it names. Each play is
+-- kept between its client's curves, with the least excess. The connection failed only where its
+-- link counted a fault.
 pub record Agrees (visit : Visit) (terms : Terms) (journal : List Entry) : Type 0 where
   pub legal : IsLegal terms.steps journal
   pub doings : Doings
   pub told_is : visit.returned.told ≡ Some (doings_told doings)
   pub done : HasDone visit.films visit.settings visit.report.words doings visit.report
   pub agree : AgreeWith terms journal 0 (doings_outcomes doings)
+  pub plays : ArePlaysKept (new_standing visit.films visit.settings visit.report.words)
+      (doings.rounds ++ ending_rounds doings.ending)
   pub fault : visit.report.end ≡ LinkFault → HasRisen 0 visit.returned.faults
 
 -- they do, where the link told what was done and memory was found before the first event

@@ -15,8 +15,8 @@ ghost use Rattle.conn.specs.declared.reports.ConnReport.{ConnReport};
 
 /// What a connection's link told and its report agree with the journal that its seat has seen then,
 /// and with each longer one: its entries, the two numbers of each answer that the journal was full,
-/// and its offers. So those of each connection of a part agree with what the seat has seen after
-/// the last one.
+/// and its offers; and each of its plays is kept. So those of each connection of a part agree with
+/// what the seat has seen after the last one.
 pub fn law_agrees()
     ensures seen { (visit : Visit) (old new : SeatState)
         → HasServedOne visit.films visit.settings visit.returned visit.report old new

@@ -6,6 +6,7 @@ use Rattle.std.proofs.lemmas.List.Elements.{All-append, All-cons, All-head, All-
 use Rattle.vod_base.specs.Gates.{Content, Part, Returned}
 use Rattle.film_frames.specs.declared.stores.Stored.{Stored}
 use Rattle.admission.specs.declared.entries.Entry.{Entry}
+use Rattle.admission.specs.Histories.{IsLegal}
 use Rattle.admission.specs.Makers.{Placed, made_by}
 use Rattle.session.specs.declared.notes.Receipt.{Receipt}
 use Rattle.session.specs.declared.notes.Receipt.TheVariants.{Entry as EntryReceipt, Full as FullReceipt}
@@ -13,13 +14,15 @@ use Rattle.session.specs.declared.settings.Settings.{Settings}
 use Rattle.station.specs.Seats.{SeatState}
 use Rattle.station.proofs.Makers.{IsAt, all-at}
 use Rattle.turnstile.proofs.Prefixes.{prefix_self, prefix_trans}
-use Rattle.conn.specs.Journals.{terms_of}
-use Rattle.conn.specs.Keeping.{entry_receipts, receipt_for}
+use Rattle.conn.specs.Agreement.{Agrees, AgreesIfTold, Visit, visit}
+use Rattle.conn.specs.Journals.{Terms, terms_of}
+use Rattle.conn.specs.Keeping.{Closed, entry_receipts, open_play_from, receipt_for}
 use Rattle.conn.specs.Parts.{AreServed, AreTold, Duty, HasServed, HasServedOne, Outlet, duty, entries_told}
 use Rattle.conn.specs.declared.reports.ConnReport.{ConnReport}
 use Rattle.conn.specs.declared.reports.PartEnd.TheVariants.{NoMemory as PartNoMemory}
 use Rattle.conn.specs.declared.reports.PartReport.{PartReport}
 use Rattle.conn.proofs.Journals.{terms_same}
+use Rattle.conn.proofs.Visits.{agrees_longer, one_agrees}
 use Rattle.command_words.specs.Words.{Serving}
 use Rattle.vodserve.specs.Laws.{IsReceiptIn, IsReportIn, IsServedPart, ServesEach, TellsItsJournal}
 use Rattle.vodserve.specs.Run.{HasServed as HasServedFilms, World}
@@ -212,13 +215,26 @@ one_at {old} {new} (returned ∷ back) (report ∷ reports) served (suc k) here 
   where
     open here use {none, no_report, inside}
 
+-- it agrees with the journal in which its seat's worker left what it had seen
+one_agrees_in : {films : List Stored} {settings : Settings} {returned : Returned} {report : ConnReport}
+    {first left : SeatState} {terms : Terms} {journal : List Entry} →
+    (one : IsOne films settings returned report first left) → terms_of first ≡ terms → IsPrefix left.seen journal →
+    IsLegal terms.steps journal → AgreesIfTold (visit films settings returned report) terms journal
+one_agrees_in {films} {settings} {returned} {report} {left} {journal} one terms_is seen legal = λ told tells found.
+    let served : Visit = visit films settings returned report in
+    agrees_longer
+    (subst (λ t. Agrees served t one.new.seen) (one.terms ∙ terms_is) (one_agrees served one.served told tells found))
+    (prefix_trans one.new.seen left.seen journal one.on.seen seen) legal
+
 part_served : {films : List Stored} {serving : Serving} {seed : List ℕ} {journal : List Entry} {gate gate' : Outlet}
     {content : Content} {worker : ℕ} {report : PartReport} →
-    HasWorked serving (duty films (settings_of serving) seed worker) journal gate gate' report → gate'.told ≡ Some content →
+    IsLegal serving.capacity journal →
+    HasWorked serving (duty films (settings_of serving) seed worker) journal gate gate' report →
+    gate'.told ≡ Some content →
     (part : Part)
     × ((slice_index_or content.parts worker None ≡ Some part)
     × IsServedPart films seed serving journal worker part report.reports.items)
-part_served {films} {serving} {seed} {journal} {content} {worker} {report} worked told =
+part_served {films} {serving} {seed} {journal} {content} {worker} {report} legal worked told =
     let settings = settings_of serving in
     let reports = report.reports.items in
     let back : HasBack worker worked.after.told content =
@@ -245,8 +261,10 @@ part_served {films} {serving} {seed} {journal} {content} {worker} {report} worke
                 terms = one.terms ∙ worked.terms;
                 entries = subst (λ (m : List Placed). IsPrefix one.new.mine m) worked.made one.on.mine;
                 seen = prefix_trans one.new.seen worked.left.seen journal one.on.seen worked.seen;
+                agrees = one_agrees_in one worked.terms worked.seen legal;
               };
           entries = worked.served.entries.receipts_are ∙ ap (map receipt_for) (made_all worked);
+          halts = ap (open_play_from Closed) (sym (made_all worked)) ∙ worked.served.entries.open_is;
         },
       ),
     )
@@ -264,7 +282,7 @@ serves_each before after seed serving ended gate serves told have_run =
       count = worked.count;
       reports = reports_whole run.served run.found;
       each = λ worker none inside.
-          part_served
+          part_served run.served.journal.legal
           (worker_of (record { films = run.served.films; serving = _; seed = seed; journal = _; gate = _; gate_after = _ })
           worked.parts worked.each worker none (omega (arith, inside, worked.count))) told;
     }

@@ -12,8 +12,9 @@ use Rattle.session.specs.declared.notes.Receipt.{Receipt}
 use Rattle.session.specs.declared.notes.Receipt.TheVariants.{Entry as EntryReceipt}
 use Rattle.session.specs.declared.notes.Receipt.TheVariants.{Full as FullReceipt}
 use Rattle.station.specs.Seats.{SeatState}
+use Rattle.conn.specs.Agreement.{AgreesIfTold, visit}
 use Rattle.conn.specs.Journals.{terms_of}
-use Rattle.conn.specs.Keeping.{receipt_for}
+use Rattle.conn.specs.Keeping.{Closed, open_play_from, receipt_for}
 use Rattle.conn.specs.Parts.{HasServedOne, entries_told}
 use Rattle.conn.specs.Words.{words_of}
 use Rattle.conn.specs.declared.reports.ConnReport.{ConnReport}
@@ -127,7 +128,8 @@ TellsItsJournal =
 -- the worker's number and the connection's words, it was served as the report tells and kept what
 -- it promises, under the capacity and the most entries that the words say. What its seat, of the
 -- number after the worker's own, made up to its end are the first of the journal's entries of that
--- seat, and all that the seat had seen by then is the journal's front
+-- seat, and all that the seat had seen by then is the journal's front. What its link told and its
+-- report agree with the journal, as the words' capacity and most entries have it
 pub record IsServedBy (films : List Stored) (seed : List ℕ) (serving : Serving)
     (journal : List Entry) (worker place : ℕ) (returned : Returned) (report : ConnReport)
     : Type 0 where
@@ -139,9 +141,12 @@ pub record IsServedBy (films : List Stored) (seed : List ℕ) (serving : Serving
   pub terms : terms_of new ≡ terms_for serving worker
   pub entries : IsPrefix new.mine (made_by (worker + 1) journal)
   pub seen : IsPrefix new.seen journal
+  pub agrees : AgreesIfTold (visit films (settings_of serving) returned report)
+      (terms_for serving worker) journal
 
 -- each connection of a part was served: it has the report at its place, and the entries that the
--- reports tell are those that the journal has of the worker's seat, in order
+-- reports tell are those that the journal has of the worker's seat, in order. Among these each play
+-- that was admitted is halted once, before the next one is admitted
 pub record IsServedPart (films : List Stored) (seed : List ℕ) (serving : Serving)
     (journal : List Entry) (worker : ℕ) (part : Part) (reports : List ConnReport) : Type 0 where
   pub count : length reports ≡ length part.back
@@ -149,6 +154,7 @@ pub record IsServedPart (films : List Stored) (seed : List ℕ) (serving : Servi
       IsServedBy films seed serving journal worker k (slice_index_or part.back k none)
       (slice_index_or reports k no_report)
   pub entries : entries_told reports ≡ map receipt_for (made_by (worker + 1) journal)
+  pub halts : open_play_from Closed (made_by (worker + 1) journal) ≡ Closed
 
 -- the films are those of the library, the journal is a legal history over the capacity, the gate
 -- was opened once, each connection of each worker was served, and the reports are those of the
