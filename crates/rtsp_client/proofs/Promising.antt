@@ -7,6 +7,7 @@ use Rattle.std.proofs.lemmas.List.{take_all, take-take}
 use Rattle.std.proofs.lemmas.List.Sums.{sum_by-take-le}
 use Rattle.std.proofs.Math.Nat.{div-eq_of_lt}
 use Rattle.std.specs.Int.{div_ceil}
+use Rattle.vod_base.proofs.Sums.{sum-take-rises}
 use Rattle.rtsp_client.specs.declared.wishes.Wish.{Wish}
 use Rattle.rtsp_client.specs.Moments.{History, Frame, Reply, Report, Slot, frames, bytes_received, sizes}
 use Rattle.rtsp_client.specs.Films.{is_complete, units}
@@ -15,9 +16,6 @@ use Rattle.rtsp_client.specs.Meters.{played_before, time, count_under, use_slot,
 use Rattle.rtsp_client.specs.Meters.{bytes_waiting}
 use Rattle.rtsp_client.specs.Promises.{IsBetween, IsBetweenAlways, IsHeardOf}
 use Rattle.rtsp_client.proofs.Metering.{Durations, no-units, used-early, used-late, used-sum}
-
-sum-front : (xs : List ℕ) (a b : ℕ) → a ≤ b → sum (take a xs) ≤ sum (take b xs)
-sum-front xs a b few = omega (arith, sum_by-take-le (λ (x : ℕ). x) (take b xs) a, ap sum (take-take a b xs few))
 
 -- the next unit isn't used yet
 not-yet : {wish : Wish} {all : List ℕ} {p j came : ℕ} (n : ℕ) → Durations wish.slot_units p
@@ -33,7 +31,7 @@ not-yet {wish} {all} {p} {j} n lasts between next =
             | inl more ↦ more
             | inr few ↦ absurd (omega (arith, due, used-late wish.delay (j + 1) n lasts few))
           ] in
-          absurd (omega (arith, used, between.low, next, sum-front all (n + 1) (c - 0) (omega (arith, many))))
+          absurd (omega (arith, used, between.low, next, sum-take-rises all (n + 1) (c - 0) (omega (arith, many))))
     ]
 
 -- what is used of the whole units is what is used of the film

@@ -1,11 +1,11 @@
 //! The three requests of a client (RFC 2326 sections 6 and 10).
 
-ghost use Rattle.std.specs.Prelude.{◌≡◌, ◌++◌, IfOk, OnOk, decimal};
+ghost use Rattle.std.specs.Prelude.{◌≡◌, ◌++◌, IfOk, OnOk};
 ghost use Rattle.rtsp_client.specs.Requests.{film_url, play_text, setup_text, teardown_text};
 
 use crate::wishes::Wish;
 use std::alloc::Global;
-use vod_base::{NoMemory, push_number};
+use vod_base::{NoMemory, push, push_field};
 
 /// SETUP of the film's video, interleaved on the channels 0 and 1, with the client's buffer and
 /// start delay.
@@ -13,16 +13,16 @@ pub(crate) fn setup_request(alloc: Global, wish: &Wish) -> Result<Vec<u8>, NoMem
     ensures { IfOk result (λ text. text.items ≡ setup_text wish.now) }
 {
     let mut text = Vec::new(alloc);
-    put(&mut text, b"SETUP ")?;
-    put_url(&mut text, wish)?;
-    put(&mut text, b"/video RTSP/1.0\r\nCSeq: 1\r\n")?;
-    put(
+    push(&mut text, b"SETUP ")?;
+    push_url(&mut text, wish)?;
+    push(&mut text, b"/video RTSP/1.0\r\nCSeq: 1\r\n")?;
+    push(
         &mut text,
         b"Transport: RTP/AVP/TCP;unicast;interleaved=0-1\r\n",
     )?;
-    put_field(&mut text, b"x-Buffer: ", wish.buffer)?;
-    put_field(&mut text, b"\r\nx-Startup: ", wish.delay)?;
-    put(&mut text, b"\r\n\r\n")?;
+    push_field(&mut text, b"x-Buffer: ", wish.buffer)?;
+    push_field(&mut text, b"\r\nx-Startup: ", wish.delay)?;
+    push(&mut text, b"\r\n\r\n")?;
     Ok(text)
 }
 
@@ -53,29 +53,13 @@ pub(crate) fn teardown_request(
     session_request(alloc, wish, session, b"TEARDOWN ", fields, b"\r\n\r\n")
 }
 
-/// Appends bytes.
-fn put(text: &mut Vec<u8>, bytes: &[u8]) -> Result<(), NoMemory>
-    ensures { OnOk result (text.new.items ≡ text.old.items ++ bytes.now) }
-{
-    text.extend_from_slice(bytes)?;
-    Ok(())
-}
-
-/// Appends a label and a number in decimal.
-fn put_field(text: &mut Vec<u8>, label: &[u8], number: u64) -> Result<(), NoMemory>
-    ensures { OnOk result (text.new.items ≡ text.old.items ++ label.now ++ decimal number) }
-{
-    put(text, label)?;
-    push_number(text, number)
-}
-
 /// Appends the film's URL.
-fn put_url(text: &mut Vec<u8>, wish: &Wish) -> Result<(), NoMemory>
+fn push_url(text: &mut Vec<u8>, wish: &Wish) -> Result<(), NoMemory>
     ensures { OnOk result (text.new.items ≡ text.old.items ++ film_url wish.now) }
 {
-    put_field(text, b"rtsp://127.0.0.1:", u64::from(wish.port))?;
-    put(text, b"/")?;
-    put(text, wish.name.as_bytes())?;
+    push_field(text, b"rtsp://127.0.0.1:", u64::from(wish.port))?;
+    push(text, b"/")?;
+    push(text, wish.name.as_bytes())?;
     Ok(())
 }
 
@@ -93,10 +77,10 @@ fn session_request(
         ≡ (((method.now ++ film_url wish.now) ++ fields.now) ++ session.now) ++ end.now) }
 {
     let mut text = Vec::new(alloc);
-    put(&mut text, method)?;
-    put_url(&mut text, wish)?;
-    put(&mut text, fields)?;
-    put(&mut text, session)?;
-    put(&mut text, end)?;
+    push(&mut text, method)?;
+    push_url(&mut text, wish)?;
+    push(&mut text, fields)?;
+    push(&mut text, session)?;
+    push(&mut text, end)?;
     Ok(text)
 }

@@ -1,4 +1,4 @@
-use Rattle.std.proofs.Common.{◌≡◌, ◌<◌, List, arith, Ok, ap, inl, inr, length, refl, rules, subst, sym, ℕ, Err}
+use Rattle.std.proofs.Common.{◌<◌, List, arith, Ok, ap, inl, inr, length, refl, rules, subst, sym, ℕ, Err}
 use Rattle.interleave.specs.Streams.{told_length}
 use Rattle.conn.proofs.Counting.{counted_none}
 use Rattle.rtsp_text.proofs.Whole.{fewer, first_is}

@@ -1,7 +1,6 @@
-use Rattle.std.proofs.Common.{◌≡◌, ap, inl, inr, refl, rules, sym, ◌∙◌}
+use Rattle.std.proofs.Common.{inl, inr, refl, rules, ◌∙◌}
 use Rattle.interleave.specs.declared.elements.Step.TheVariants.{Message}
 use Rattle.conn.specs.Sights.{sight}
-use Rattle.conn.specs.Turns.{after_reply, stage}
 use Rattle.conn.proofs.Counting.{counted_fault, counted_none}
 use Rattle.rtsp_text.proofs.Whole.{fewer, some_request}
 use Rattle.conn.proofs.Cutting.{cuts_drop, cuts_none}
