@@ -1,7 +1,9 @@
 -- Troubles whose causes follow from each other.
-use Rattle.std.proofs.Common.{◌≡◌, ℕ, ◌≤◌, List, Option, Some, arith}
+use Rattle.std.proofs.Common.{◌≡◌, ℕ, ◌≤◌, List, Option, Some, true, arith}
+use Rattle.vod_base.specs.Names.{is_good_name}
 use Rattle.vod_base.specs.Outside.{File}
 use Rattle.troubles.specs.Causes.{IsReadTrouble}
+use Rattle.troubles.specs.Messages.{HasGoodName}
 use Rattle.troubles.specs.declared.faults.Fault.{Fault}
 use Rattle.troubles.specs.declared.faults.Trouble.{Trouble}
 use Rattle.troubles.specs.declared.faults.Trouble.TheVariants.{Usage, Refused, StoreFault, SinkFault, NoMemory, GateFault, LinkFault}
@@ -39,3 +41,14 @@ trouble_map one other SinkFault wider h = h
 trouble_map one other NoMemory wider h = tt
 trouble_map one other GateFault wider h = h
 trouble_map one other LinkFault wider h = h
+
+-- where the inputs that are read have good names, so has the one that a trouble names
+pub good_input : (causes : Causes) (t : Trouble) → ((name : List ℕ) → causes.Reads name → is_good_name name ≡ true) →
+    IsTroubleOf causes t → HasGoodName t
+good_input causes Usage good h = tt
+good_input causes (Refused name fault) good h = good name.now h.0
+good_input causes (StoreFault name) good h = good name.now h.0
+good_input causes SinkFault good h = tt
+good_input causes NoMemory good h = tt
+good_input causes GateFault good h = tt
+good_input causes LinkFault good h = tt

@@ -32,6 +32,12 @@ message_of LinkFault = failed_link
 abbrev pub HasShortNumbers : Fault → Type 0
 HasShortNumbers fault = All (λ n. n < 2 ^ 64) (fault_words fault).numbers
 
+-- the input that a trouble names, if it names one, has a good name
+abbrev pub HasGoodName : Trouble → Type 0
+HasGoodName (Refused name fault) = is_good_name name.now ≡ true
+HasGoodName (StoreFault name) = is_good_name name.now ≡ true
+HasGoodName _ = Unit {0}
+
 -- the troubles that there can be: inputs have good names, and numbers have 64 bits
 abbrev pub MayBeSaid : Trouble → Type 0
 MayBeSaid (Refused name fault) = (is_good_name name.now ≡ true) × HasShortNumbers fault

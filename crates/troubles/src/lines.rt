@@ -3,7 +3,8 @@
 ghost use Rattle.std.specs.Prelude.{◌≡◌, ◌++◌};
 ghost use Rattle.troubles.specs.Said.{GoesOn, IsSaid, with_label, number_text};
 ghost use Rattle.troubles.specs.Lines.{fault_text, trouble_text};
-ghost use Rattle.troubles.specs.Messages.{IsOwnLine, MayBeSaid, message_of};
+ghost use Rattle.troubles.specs.Messages.{HasGoodName, HasShortNumbers, IsOwnLine, MayBeSaid};
+ghost use Rattle.troubles.specs.Messages.{message_of};
 ghost use Rattle.troubles.specs.declared.faults.Trouble.{Trouble as Cause};
 
 use crate::faults::{Fault, Trouble};
@@ -26,11 +27,13 @@ pub fn add<S: Sink>(sink: &mut S, going: bool, part: &[u8]) -> bool
     }
 }
 
-/// Says one line of trouble, and tells whether all of it was written. It takes no memory.
+/// Says one line of trouble, and tells whether all of it was written. It takes no memory. An input
+/// with a good name makes it a line that [`law_line_tells_trouble`] speaks of.
 pub fn say<S: Sink>(sink: &mut S, trouble: Trouble<'_>) -> bool
-    ensures { IsSaid (S.faults sink.old) (S.faults sink.new) (S.written sink.old)
+    ensures said { IsSaid (S.faults sink.old) (S.faults sink.new) (S.written sink.old)
         (S.written sink.new)
         (trouble_text trouble.entry) result }
+    ensures may { HasGoodName trouble.entry → MayBeSaid trouble.entry }
 {
     match trouble {
         Trouble::Usage => add(sink, true, b"vodserve: usage\n"),
@@ -87,8 +90,9 @@ fn add_number<S: Sink>(sink: &mut S, going: bool, number: u64) -> bool
 
 /// Writes a refusal's name and its numbers.
 fn add_fault<S: Sink>(sink: &mut S, going: bool, fault: Fault) -> bool
-    ensures { GoesOn (S.faults sink.old) (S.faults sink.new) (S.written sink.old)
+    ensures said { GoesOn (S.faults sink.old) (S.faults sink.new) (S.written sink.old)
         (S.written sink.new) going result (fault_text fault) }
+    ensures short { HasShortNumbers fault }
 {
     let words = fault_words(fault);
     let mut goes = add(sink, going, words.name.as_bytes());

@@ -24,8 +24,8 @@ loop-number-preserved g c = λ first start text said.
     ∙ ap (λ (ns : List ℕ). name ++ flat_map number_text ns) (sym (take_more numbers i 0 c.loop-number-test.true))))
     (c.add_number-goes.ensures first start (text ++ (name ++ so_far)) (c.loop-number.invariant first start text said))
 
-pub returns : goal.returns
-returns g c = λ first start text said.
+pub returns-clause-said : goal.returns-clause-said
+returns-clause-said g c = λ first start text said.
     let numbers : List ℕ = take c.fault_words-words.result.count c.fault_words-words.result.numbers in
     said_as (ap (λ (ns : List ℕ). text ++ ((fault_words c.args.fault).name ++ flat_map number_text ns))
     (take_all c.loop-number.number-index numbers c.loop-number-test.false ∙ c.fault_words-words.ensures.numbers))
