@@ -1,6 +1,6 @@
 -- What the commands' answers mean, in terms of the definitions that the run cites.
 use Rattle.std.proofs.Common.{◌≡◌, ℕ, List, ◌++◌, Some, None, Result, Ok, Vec, Global, subst, inl, inr}
-use Rattle.std.specs.Prelude.{IfOk, codes}
+use Rattle.std.specs.Prelude.{IfOk, OnOk, codes}
 use Rattle.vod_base.specs.Outside.{File, file_named}
 use Rattle.wire_curve.specs.declared.curves.Curves.{Curves}
 use Rattle.plan_cert.specs.declared.Segment.{Segment}
@@ -20,6 +20,10 @@ use Rattle.local_commands.specs.declared.done.Done.{Done}
 pub text_of : {E : Type 0} (text : List ℕ) (r : Result (Vec ℕ Global) E) (made : Vec ℕ Global)
     → IfOk r (λ v. v.items ≡ text) → r ≡ Ok made → made.items ≡ text
 text_of {E = E} text r made h e = subst (λ (x : Result (Vec ℕ Global) E). IfOk x (λ v. v.items ≡ text)) e h
+
+-- what holds where a result is Ok
+pub on_ok_of : {T E P : Type 0} (r : Result T E) (made : T) → OnOk r P → r ≡ Ok made → P
+on_ok_of {T = T} {E = E} {P = P} r made h e = subst (λ (x : Result T E). OnOk x P) e h
 
 -- what `check` reads before its verdict
 pub record HasCertificate (held : List File) (viewer : Viewer) (cert : List ℕ) (curves : Curves)

@@ -1,6 +1,6 @@
 -- The films and traces that a script names.
 use Rattle.std.proofs.Common.{◌≡◌, ◌∙◌, ◌+◌, ◌-◌, ◌<◌, ◌≤◌, ℕ, List, [], ◌∷◌, ◌++◌, Option, Some}
-use Rattle.std.proofs.Common.{None, length, take, drop, get_or, refl, sym, ap, subst, suc, zero}
+use Rattle.std.proofs.Common.{None, true, length, take, drop, get_or, refl, sym, ap, subst, suc, zero}
 use Rattle.std.proofs.Common.{add-one, arith, inl, inr, string_bytes}
 use Rattle.std.specs.Prelude.{All, slice_index_or}
 use Rattle.std.specs.Option.{option_and_then}
@@ -13,9 +13,11 @@ use Rattle.std.proofs.lemmas.Option.{none-some}
 use Rattle.std.proofs.lemmas.List.{length-append, length-map, length-take, take-append-drop}
 use Rattle.std.proofs.lemmas.List.{get_or-take, get_or_append_left, get_or-append_right}
 use Rattle.std.proofs.lemmas.List.{get_or_push, get_or_read_under}
+use Rattle.std.proofs.lemmas.List.Elements.{All-cons, All-head, All-nil, All-tail}
 use Rattle.day_run.specs.declared.scripts.Named.{Named}
 use Rattle.day_run.specs.declared.reels.Source.{Source}
 use Rattle.day_run.specs.Sources.{AreSources, IsSource}
+use Rattle.vod_base.specs.Names.{is_good_name}
 use Rattle.vod_base.specs.Outside.{File}
 use Rattle.troubles.specs.Causes.{IsReadTrouble}
 use Rattle.troubles.specs.declared.faults.Fault.{Fault}
@@ -26,14 +28,14 @@ use Rattle.day_run.specs.declared.scripts.Script.{Script}
 use Rattle.day_run.specs.declared.scripts.Line.{Line}
 use Rattle.day_run.specs.declared.scripts.SourceKind.{SourceKind}
 use Rattle.day_run.specs.declared.scripts.SourceKind.TheVariants as kinds
-use Rattle.day_run.specs.Readings.{IsBadLine, IsScript, Name, Reading, line_read, lines_read}
+use Rattle.day_run.specs.Readings.{HasGoodName, IsBadLine, IsScript, Name, Reading, line_read, lines_read}
 use Rattle.day_run.specs.Readings.{name_of, names_of, nothing_read}
 use Rattle.inputs.proofs.ReadLemmas.{one_file}
 use Rattle.inputs.proofs.VideoLemmas.{held_not_refused}
 use Rattle.inputs.proofs.ScanLemmas.{read_trouble_map}
 use Rattle.local_commands.specs.Days.{AreHeldAs, HoldsScript, IsDayRefused, IsFirstNamedRefused}
 use Rattle.local_commands.specs.Days.{IsHeldAs, IsHeldUnder, IsNameOf, IsNamedRefused}
-use Rattle.local_commands.specs.Days.{IsNotRefusedAs, IsRefusedAs, IsScriptRefused, names_in}
+use Rattle.local_commands.specs.Days.{IsNotRefusedAs, IsRefusedAs, IsScriptOf, IsScriptRefused, names_in}
 use Rattle.local_commands.proofs.OneAnswer.{trace_not_refused}
 
 abbrev bytes_of : Named → List ℕ
@@ -172,6 +174,23 @@ first_named_refused {named} {i} {one} {name} inside at long are is refused = rec
   name_is = is;
   refused = refused;
 }
+
+-- a script that was read is what the library holds, where it tells that
+pub script_held : {told : Option (List File)} {name : List ℕ} {script : Script} (held : List File) →
+    IsScriptOf told name script → told ≡ Some held → HoldsScript held name script
+script_held held read told_is = record { text = read.text; found = read.found held told_is; script_is = read.script_is }
+
+names_good : (named : List Named) → All HasGoodName named → All (λ name. is_good_name name ≡ true) (names_in named)
+names_good [] good = All-nil (λ name. is_good_name name ≡ true)
+names_good (n ∷ named) good =
+    All-cons (λ name. is_good_name name ≡ true) (string_bytes n.name) (names_in named)
+    (All-head HasGoodName n named good) (names_good named (All-tail HasGoodName n named good))
+
+-- a film or trace that a script names has a good name
+pub named_good : {name : List ℕ} (named : List Named) → All HasGoodName named → Contains (names_in named) name →
+    is_good_name name ≡ true
+named_good {name} named good (k, inside, at) =
+    subst (λ (n : List ℕ). is_good_name n ≡ true) at (names_good named good k name inside)
 
 -- ---- what is read once
 

@@ -20,6 +20,7 @@ use Rattle.mpeg_scan.specs.declared.units.Unit.{Unit as PictureUnit}
 use Rattle.troubles.specs.declared.faults.Fault.{Fault}
 pub use Rattle.local_commands.specs.Plans.{IsCertRefused, IsChecked, IsPlanned, IsViewerRefused}
 use Rattle.local_commands.specs.ScanText.{scan_text}
+use Rattle.local_commands.specs.TextLaws.{IsShortFault, IsShortScan}
 use Rattle.local_commands.specs.Texts.{help_text, version_text}
 use Rattle.local_commands.specs.Verdict.{refused_line}
 
@@ -46,16 +47,19 @@ abbrev pub IsCertificateOf : List ℕ → Option (List Segment) → Type 0
 IsCertificateOf text plan =
     (segments : List Segment) × ((plan ≡ Some segments) × (text ≡ cert_text segments))
 
--- the line of a verdict: with status 0 that of the best plan, with status 1 that of a fault
+-- the line of a verdict: with status 0 that of the best plan, with status 1 that of a fault, whose
+-- number has 64 bits
 abbrev pub IsVerdictLine : ℕ → List ℕ → Type 0
 IsVerdictLine status text = ((status ≡ 0) × (text ≡ codes "least\n"))
-    ⊎ ((fault : CertFault) × ((status ≡ 1) × (text ≡ refused_line fault)))
+    ⊎ ((fault : CertFault)
+    × ((status ≡ 1) × IsShortFault fault × (text ≡ refused_line fault)))
 
--- the text is that of some film's scan
+-- the text is that of some film's scan, in numbers of 64 bits
 pub record IsSomeScan (text : List ℕ) : Type 0 where
   pub size : ℕ
   pub rate : ℕ
   pub units : List PictureUnit
+  pub short : IsShortScan size rate units
   pub printed : text ≡ scan_text size rate units
 
 -- the status, the text for the output and the plan of what is asked for. What `--help`, `--version`

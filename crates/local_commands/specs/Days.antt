@@ -14,6 +14,7 @@ use Rattle.day_run.specs.declared.scripts.Script.{Script}
 use Rattle.day_run.specs.declared.scripts.SourceKind.{SourceKind}
 use Rattle.day_run.specs.declared.scripts.SourceKind.TheVariants as kinds
 use Rattle.day_run.specs.Readings.{IsBadLine, IsScript}
+use Rattle.local_commands.specs.Carrying.{IfTold}
 use Rattle.local_commands.specs.Plans.{HoldsTrace, IsTraceRefused}
 
 -- the library holds this script under a name
@@ -80,11 +81,17 @@ pub record AreHeldAs (held : List File) (named : List Named) (sources : List Sou
   pub each : (k : ℕ) (name : Named) (none : Source) → k < length named →
       IsHeldAs held (slice_index_or named k name) (slice_index_or sources k none)
 
--- the script of that name names a film or trace of this name, where the library tells what it holds
-abbrev pub IsPlayed : Option (List File) → List ℕ → List ℕ → Type 0
-IsPlayed told script name =
-    (held : List File) → told ≡ Some held →
-    (read : Script) × (HoldsScript held script read × Contains (names_in read.named.items) name)
+-- a text was read as this script: the one under that name, where the library tells what it holds
+pub record IsScriptOf (told : Option (List File)) (name : List ℕ) (script : Script) : Type 0 where
+  pub text : List ℕ
+  pub found : IfTold told (λ held. file_named held name ≡ Some text)
+  pub script_is : IsScript text script
+
+-- the script of that name was read, and names a film or trace of this name
+pub record IsPlayed (told : Option (List File)) (script name : List ℕ) : Type 0 where
+  pub read : Script
+  pub is : IsScriptOf told script read
+  pub names : Contains (names_in read.named.items) name
 
 -- the script is read, and then the films and traces that it names
 abbrev pub IsDayInput : Option (List File) → List ℕ → List ℕ → Type 0

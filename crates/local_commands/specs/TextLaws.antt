@@ -1,6 +1,6 @@
 -- What a reader of the texts of a scan, a verdict and `--help` can tell from them.
-use Rattle.std.specs.Prelude.{ℕ, ◌≡◌, ◌<◌, ◌^◌, ◌==◌, ◌||◌, List, [], ◌∷◌, IfSome}
-use Rattle.std.specs.Prelude.{codes, decimal, slice_index_or}
+use Rattle.std.specs.Prelude.{ℕ, ◌≡◌, ◌<◌, ◌^◌, ◌==◌, ◌||◌, List, [], ◌∷◌, All, IfSome}
+use Rattle.std.specs.Prelude.{codes, decimal, length, slice_index_or}
 use Rattle.std.specs.List.{AllZip, list_any, slice_split}
 use Rattle.std.specs.Str.{bytes_eq}
 use Rattle.mpeg_scan.specs.declared.units.Unit.{Unit as PictureUnit}
@@ -20,6 +20,13 @@ pub record IsShortUnit (unit : PictureUnit) : Type 0 where
   pub head_end : unit.head_end < 2 ^ 64
   pub to : unit.to < 2 ^ 64
   pub slices : unit.slices < 2 ^ 64
+
+-- a scan in numbers of 64 bits: its film's size, its rate code, and its units and their count
+pub record IsShortScan (size rate : ℕ) (units : List PictureUnit) : Type 0 where
+  pub size_short : size < 2 ^ 64
+  pub rate_short : rate < 2 ^ 64
+  pub count_short : length units < 2 ^ 64
+  pub units_short : All IsShortUnit units
 
 -- the units have the same kind and place in presentation order, the same places in the film, as
 -- many slices, and the same headers

@@ -1,11 +1,12 @@
 //! The command `check`: the verdict on a certificate.
 
-ghost use Rattle.std.specs.Prelude.{◌≡◌, ◌++◌, codes, IfOk, IfErr};
+ghost use Rattle.std.specs.Prelude.{◌≡◌, ◌++◌, codes, IfOk, IfErr, OnOk};
 ghost use Rattle.command_words.specs.Words.{check_of};
 ghost use Rattle.command_words.specs.Orders.{viewer_of};
 ghost use Rattle.command_words.specs.Ranges.{IsViewerInRange};
 ghost use Rattle.troubles.specs.Causes.{IsReadOnly, IsReadTrouble};
 ghost use Rattle.local_commands.specs.Carrying.{IsDone, IsInputRefused, IsRead};
+ghost use Rattle.local_commands.specs.TextLaws.{IsShortFault};
 ghost use Rattle.local_commands.specs.Verdict.{AreFaultWords, cert_fault_text};
 
 use crate::curves::viewer_curves;
@@ -57,7 +58,8 @@ pub fn check_viewer<'a, L: Library>(
 
 /// The name of a fault and the number that goes with it.
 fn cert_fault_words(fault: &CertFault) -> (&'static str, Option<u64>)
-    ensures { AreFaultWords fault.now result.0.now result.1 }
+    ensures words { AreFaultWords fault.now result.0.now result.1 }
+    ensures short { IsShortFault fault.now }
 {
     match fault {
         CertFault::EmptySegment(segment) => ("EmptySegment", Some(*segment)),
@@ -73,8 +75,9 @@ fn cert_fault_words(fault: &CertFault) -> (&'static str, Option<u64>)
 
 /// The line that names the fault of a certificate.
 fn refusal_text(alloc: Global, fault: &CertFault) -> Result<Vec<u8>, NoMemory>
-    ensures { IfOk result (λ text. text.items ≡
+    ensures text { IfOk result (λ text. text.items ≡
         codes "refused " ++ cert_fault_text fault.now ++ codes "\n") }
+    ensures short { OnOk result (IsShortFault fault.now) }
 {
     let mut text = Vec::from_slice(alloc, b"refused ")?;
     let (name, number) = cert_fault_words(fault);

@@ -1,6 +1,6 @@
 //! What `day` and `fair` read and run.
 
-ghost use Rattle.std.specs.Prelude.{◌≡◌, ◌≤◌, Some, List, ℕ, length, IfOk, IfErr, OnOk};
+ghost use Rattle.std.specs.Prelude.{◌≡◌, ◌≤◌, Some, List, ℕ, All, length, IfOk, IfErr, OnOk};
 ghost use Rattle.std.specs.List.{Contains};
 ghost use Rattle.vod_base.specs.Outside.{File};
 ghost use Rattle.admission.specs.Histories.{IsLegal};
@@ -8,6 +8,7 @@ ghost use Rattle.command_words.specs.Ranges.{IsFairRunInRange, IsScriptRunInRang
 ghost use Rattle.day_run.specs.DayLaws.{AreClients, IsLink};
 ghost use Rattle.day_run.specs.Days.{IsDay, link_of};
 ghost use Rattle.day_run.specs.FairDays.{IsFair};
+ghost use Rattle.day_run.specs.Readings.{HasGoodName};
 ghost use Rattle.day_run.specs.Scripts.{AreLines};
 ghost use Rattle.day_run.specs.Sources.{AreSources, IsSource};
 ghost use Rattle.troubles.specs.Causes.{IsReadOnly, IsReadTrouble};
@@ -17,7 +18,7 @@ ghost use Rattle.troubles.specs.declared.faults.Fault.{Fault};
 ghost use Rattle.inputs.specs.Files.{IsNamed};
 ghost use Rattle.local_commands.specs.Days.{AreHeldAs, HoldsScript, IsDayRefused};
 ghost use Rattle.local_commands.specs.Days.{IsFirstNamedRefused, IsHeldAs, IsNameOf};
-ghost use Rattle.local_commands.specs.Days.{IsNamedRefused, IsScriptRefused, names_in};
+ghost use Rattle.local_commands.specs.Days.{IsNamedRefused, IsScriptOf, IsScriptRefused, names_in};
 
 use crate::traces::load_trace;
 use command_words::{FairRun, ScriptRun, profile_of};
@@ -45,8 +46,8 @@ pub fn load_script<'a, L: Library>(
     ensures lines { IfOk result (λ script.
         AreLines (length script.named.items) script.lines.items) }
     ensures clients { IfOk result (λ script. AreClients script.lines.items) }
-    ensures held { (held : List File) → L.files library.old ≡ Some held →
-        IfOk result (HoldsScript held name.entry.now) }
+    ensures read { IfOk result (IsScriptOf (L.files library.old) name.entry.now) }
+    ensures names { IfOk result (λ script. All HasGoodName script.named.items) }
     ensures trouble { IfErr result (IsReadTrouble (IsNamed name.entry.now) IsScriptRefused
         (L.files library.old) (L.faults library.old) (L.faults library.new)) }
 {

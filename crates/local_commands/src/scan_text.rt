@@ -4,6 +4,7 @@ ghost use Rattle.std.specs.Prelude.{◌≡◌, ◌++◌, IfOk, OnOk};
 ghost use Rattle.local_commands.specs.ScanText.{kind_text, word_if, unit_name, unit_places};
 ghost use Rattle.local_commands.specs.ScanText.{unit_marks, unit_line, unit_lines, film_line};
 ghost use Rattle.local_commands.specs.ScanText.{scan_text};
+ghost use Rattle.local_commands.specs.TextLaws.{IsShortScan, IsShortUnit};
 
 use mpeg_scan::{Kind, Unit};
 use std::alloc::Global;
@@ -16,11 +17,12 @@ pub(crate) fn scan_text(
     rate: u8,
     units: &[Unit],
 ) -> Result<Vec<u8>, NoMemory>
-    ensures { IfOk result (λ text. text.items ≡ scan_text bytes rate units.now) }
+    ensures text { IfOk result (λ text. text.items ≡ scan_text bytes rate units.now) }
+    ensures short { OnOk result (IsShortScan bytes rate units.now) }
 {
     let mut text = film_text(alloc, bytes, rate, units.len() as u64)?;
     for (number, unit) in units.iter().enumerate() {
-        push_unit(&mut text, number as u64, unit)?;
+        push_unit(&mut text, number as u64, *unit)?;
     }
     push(&mut text, b"end\n")?;
     Ok(text)
@@ -75,12 +77,13 @@ fn push_marks(text: &mut Vec<u8>, unit: &Unit) -> Result<(), NoMemory>
 }
 
 /// Appends the line of a unit.
-fn push_unit(text: &mut Vec<u8>, number: u64, unit: &Unit) -> Result<(), NoMemory>
-    ensures { OnOk result (text.new.items ≡ text.old.items ++ unit_line number unit.now) }
+fn push_unit(text: &mut Vec<u8>, number: u64, unit: Unit) -> Result<(), NoMemory>
+    ensures line { OnOk result (text.new.items ≡ text.old.items ++ unit_line number unit) }
+    ensures short { IsShortUnit unit }
 {
-    push_name(text, number, unit)?;
-    push_places(text, unit)?;
-    push_marks(text, unit)
+    push_name(text, number, &unit)?;
+    push_places(text, &unit)?;
+    push_marks(text, &unit)
 }
 
 /// The line of the film itself.

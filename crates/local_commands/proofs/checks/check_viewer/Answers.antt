@@ -8,7 +8,7 @@ use Rattle.local_commands.specs.Carrying.{IsDone, IsInputRefused, IsRead}
 use Rattle.std.specs.Prelude.{codes}
 use Rattle.local_commands.specs.Verdict.{refused_line}
 use Rattle.inputs.proofs.ScanLemmas.{handed_on, ok_map, read_trouble_map}
-use Rattle.local_commands.proofs.CommandLemmas.{text_of, HasCertificate, least_checked, fault_checked}
+use Rattle.local_commands.proofs.CommandLemmas.{on_ok_of, text_of, HasCertificate, least_checked, fault_checked}
 use Rattle.local_commands.proofs.checks.check_viewer.Goals as goal
 
 pub returns-in_err-curves-clause-trouble : goal.returns-in_err-curves-clause-trouble
@@ -117,10 +117,14 @@ returns-clause-done g c =
     (λ done is. (
       inr (
         c.in-Err.fault,
-        (is.0, text_of (refused_line c.in-Err.fault) c.refusal_text.result done.text c.refusal_text.ensures is.1),
+        (
+          is.0,
+          on_ok_of c.refusal_text.result done.text c.refusal_text.ensures.short is.1,
+          text_of (refused_line c.in-Err.fault) c.refusal_text.result done.text c.refusal_text.ensures.text is.1,
+        ),
       ),
       is.2,
       λ held told.
-          fault_checked (read held told) (c.in-Err.ensures {u = tt}).verdict c.refusal_text.ensures done is,
+          fault_checked (read held told) (c.in-Err.ensures {u = tt}).verdict c.refusal_text.ensures.text done is,
     ))
     c.done_with_text-in-Err.ensures.done

@@ -4,7 +4,7 @@ use Rattle.inputs.specs.Scans.{HoldsFilm}
 use Rattle.local_commands.specs.Carrying.{IsDone}
 use Rattle.local_commands.specs.ScanText.{scan_text}
 use Rattle.inputs.proofs.ScanLemmas.{ok_map}
-use Rattle.local_commands.proofs.CommandLemmas.{film_done, text_of}
+use Rattle.local_commands.proofs.CommandLemmas.{film_done, on_ok_of, text_of}
 use Rattle.local_commands.proofs.scans.list_units.Goals as goal
 
 pub returns-clause-done : goal.returns-clause-done
@@ -19,14 +19,15 @@ returns-clause-done g c =
         size = c.in_ok-scanned.scanned.bytes;
         rate = c.in_ok-scanned.scanned.rate;
         units = c.deref.result.now;
+        short = on_ok_of c.scan_text.result done.text c.scan_text.ensures.short is.1;
         printed = text_of
             (scan_text c.in_ok-scanned.scanned.bytes c.in_ok-scanned.scanned.rate c.deref.result.now)
-            c.scan_text.result done.text c.scan_text.ensures is.1;
+            c.scan_text.result done.text c.scan_text.ensures.text is.1;
       },
       λ held told.
           let holds : HoldsFilm held c.args.film.now c.in_ok-scanned.scanned.bytes c.in_ok-scanned.scanned.rate
           c.deref.result.now =
           rw c.deref.ensures.value ((c.in_ok-scanned.ensures {u = tt}).film held told) in
-          film_done holds c.scan_text.ensures done is.1,
+          film_done holds c.scan_text.ensures.text done is.1,
     ))
     c.done_with_text.ensures.done
