@@ -8,4 +8,6 @@ mod ConnectionLaws
 mod TextReading
 mod LineReading
 mod WatchLemmas
+mod WorkLaws
+mod NameLemmas
 mod OneDay

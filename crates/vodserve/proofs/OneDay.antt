@@ -28,7 +28,7 @@ use Rattle.day_run.specs.declared.scripts.SourceKind.{SourceKind}
 use Rattle.day_run.specs.declared.scripts.SourceKind.TheVariants as kinds
 use Rattle.day_run.proofs.OneDay.{one-day}
 use Rattle.local_commands.specs.Days.{AreHeldAs, HoldsScript, IsHeldUnder}
-use Rattle.local_commands.proofs.DayLemmas.{first_of, lines_once, names_once, same_name}
+use Rattle.local_commands.proofs.DayLemmas.{first_of, lines_once, names_once, same_name, script_held}
 use Rattle.local_commands.proofs.OneAnswer.{trace_once}
 use Rattle.vodserve.specs.Laws.{HasOneDay, IsScriptDay, RunsItsDay}
 
@@ -138,10 +138,10 @@ pub has_one_day : HasOneDay
 has_one_day held run text text' journal journal' p q = day_once p q
 
 pub runs_its_day : RunsItsDay
-runs_its_day held store out out' err err' run ended ran told = record {
+runs_its_day held store streams run ended ran told = record {
   script = ran.script;
   sources = ran.sources;
-  read = ran.read held told;
+  read = script_held held ran.read told;
   loaded = ran.loaded held told;
   clients = ran.clients;
   lines = ran.lines;

@@ -13,13 +13,13 @@ use Rattle.vod_base.specs.Outside.{File}
 use Rattle.local_commands.specs.Carrying.{IsDone, IsInputRefused, IsRead, made_text}
 use Rattle.local_commands.specs.Texts.{help_text, version_text}
 use Rattle.local_commands.proofs.CommandLemmas.{text_of}
-use Rattle.vodserve.specs.Run.{World, Does, HasServedNothing, IsCarriedOut, IsCause, IsWritten, Printed, Prints, Ran}
+use Rattle.vodserve.specs.Run.{World, Does, HasServedNothing, IsCarriedOut, IsCause, IsWritten, Printed, Prints, Ran, streams_of}
 use Rattle.local_commands.specs.declared.done.Done.{Done}
 use Rattle.vodserve.specs.declared.run.Ended.{Ended}
 
 written : {order : Order} {ended : Ended} (before after : World) (done : Done) →
     IsDone before.store.told order done.status done.text.items done.plan →
-    IsWritten before.out after.out before.err after.err done ended → IsCarriedOut before after order ended
+    IsWritten (streams_of before after) done ended → IsCarriedOut before after order ended
 written {order} {ended} before after done is (inl whole) = inl (record {
   text = done.text.items;
   done = subst (λ (status : ℕ). IsDone before.store.told order status done.text.items ended.plan) (sym whole.0)
@@ -54,7 +54,7 @@ record OrderResult (before after : World) (order : Order) (result : Result Done 
       (IsReadTrouble (IsRead order) (IsInputRefused order) before.store.told before.store.faults after.store.faults)
 
 carried_out : {before after : World} {order : Order} (result : Result Done Trouble) (ended : Ended) →
-    OrderResult before after order result → Printed before.out after.out before.err after.err result ended →
+    OrderResult before after order result → Printed (streams_of before after) result ended →
     IsCarriedOut before after order ended
 carried_out {before} {after} (Ok done) ended given is = written before after done given.ok is
 carried_out {before} {after} {order} (Err trouble) ended given is =
@@ -65,7 +65,7 @@ pub printed : {before after : World} {order : Order} {ended : Ended} (result : R
     after.gate ≡ before.gate → HasServedNothing ended →
     IfOk result (λ done. IsDone before.store.told order done.status done.text.items done.plan) →
     IfErr result (IsReadTrouble (IsRead order) (IsInputRefused order) before.store.told before.store.faults after.store.faults) →
-    Printed before.out after.out before.err after.err result ended → Prints before after order ended
+    Printed (streams_of before after) result ended → Prints before after order ended
 printed {before} {after} {order} {ended} result gate nothing ok err is =
     record { gate = gate; nothing = nothing; out = carried_out result ended (record { ok = ok; err = err }) is }
 

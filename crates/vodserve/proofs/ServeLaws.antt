@@ -17,7 +17,7 @@ use Rattle.troubles.specs.declared.faults.Fault.{Fault}
 use Rattle.troubles.specs.declared.faults.Trouble.{Trouble}
 use Rattle.troubles.specs.declared.faults.Trouble.TheVariants.{Usage, Refused, StoreFault, SinkFault, NoMemory, GateFault, LinkFault}
 use Rattle.vodserve.specs.Laws.{GivesEachBack, HasGivenBack, HasNoFault, HaveRun, IsServable, LeavesNoneOut, ServesNoRefused, ServesWhatItMay}
-use Rattle.vodserve.specs.Run.{Ends, HasServed, Serves, World}
+use Rattle.vodserve.specs.Run.{Ends, HasServed, Serves, World, streams_of}
 use Rattle.vodserve.specs.Served.{IsPrinted, IsServeTrouble}
 use Rattle.vodserve.specs.declared.run.Ended.{Ended}
 use Rattle.vodserve.specs.Worked.{AllWorked, AreLeft, HasBack, HasTooFew, HasWorked, IsOpenAs, IsOpenedOnce, HasParts, MayBeServed, opening_of, settings_of}
@@ -25,7 +25,7 @@ use Rattle.vodserve.proofs.GateLemmas.{risen_some}
 use Rattle.vodserve.proofs.ServeLemmas.{loaded_accepted, worker_worked, ServingRun, Working}
 
 -- what keeps from serving, where nothing is refused and nothing failed, is want of memory
-kept_by_memory : {before after : World} {serving : Serving} (trouble : Trouble) →
+pub kept_by_memory : {before after : World} {serving : Serving} (trouble : Trouble) →
     IsServable serving before.store.told → HasNoFault before after →
     IsServeTrouble serving before.store.told before.store.faults after.store.faults before.gate after.gate
     trouble → status_of trouble ≡ 6
@@ -39,7 +39,7 @@ kept_by_memory GateFault may none is = absurd (none.gate is.0)
 kept_by_memory LinkFault may none is = absurd is
 
 -- and so is what goes wrong at the end
-ended_by_memory : {before after : World} {end : PartEnd} (text : List ℕ) (trouble : Trouble) → HasNoFault before after →
+pub ended_by_memory : {before after : World} {end : PartEnd} (text : List ℕ) (trouble : Trouble) → HasNoFault before after →
     (end ≡ PartFault → HasRisen before.gate.faults after.gate.faults) →
     IsPrinted before.out.faults after.out.faults before.out.told after.out.told text end (Err trouble) → status_of trouble ≡ 6
 ended_by_memory {end} text Usage none fault is = absurd is
@@ -143,7 +143,7 @@ not_memory printing GateFault printed status = apart printed.1
 not_memory printing LinkFault printed status = printed
 
 pub ended_whole : {end : PartEnd} {ended : Ended} (before after : World) (text : List ℕ) →
-    Ends before.out after.out before.err after.err text end ended →
+    Ends (streams_of before after) text end ended →
     ended.status ≢ 6 → end ≢ PartNoMemory
 ended_whole {end} {ended} before after text (inl whole) status memory = apart (sym memory ∙ whole.0.1)
   where
@@ -320,7 +320,7 @@ gives_each_back before after seed serving ended gate serves told have_run =
 
 -- with status 0 each worker's part had no more connections
 all_taken : {end : PartEnd} {ended : Ended} (before after : World) (text : List ℕ) →
-    Ends before.out after.out before.err after.err text end ended → ended.status ≡ 0 →
+    Ends (streams_of before after) text end ended → ended.status ≡ 0 →
     end ≡ AllTaken
 all_taken {end} {ended} before after text (inl whole) status = whole.0.1
 all_taken {end} {ended} before after text (inr wrong) status = absurd (not_none wrong.0 (sym wrong.1.1.status ∙ status))

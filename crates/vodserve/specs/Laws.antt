@@ -2,7 +2,7 @@
 use Rattle.std.specs.Prelude.{◌≡◌, ◌≢◌, ◌⊎◌, ℕ, ◌+◌, ◌<◌, ⊤, List, All, length, map, slice_index_or}
 use Rattle.std.specs.Prelude.{Option, Some, None}
 use Rattle.std.specs.List.{Contains}
-use Rattle.vod_base.specs.Outside.{File, HasRisen}
+use Rattle.vod_base.specs.Outside.{File, HasRisen, told_more}
 use mathlib.Core.List.{IsPrefix}
 use Rattle.vod_base.specs.Gates.{Content, Failed, NoMore, Part, Returned}
 use Rattle.film_frames.specs.declared.stores.Stored.{Stored}
@@ -21,17 +21,21 @@ use Rattle.conn.specs.declared.reports.ConnReport.{ConnReport}
 use Rattle.conn.specs.declared.reports.PartReport.{PartReport}
 use Rattle.inputs.specs.Films.{IsHeldRefused}
 use Rattle.troubles.specs.declared.faults.Fault.{Fault}
-use Rattle.command_words.specs.Words.{ScriptRun, Serving}
+use Rattle.command_words.specs.Words.{Order, ScriptRun, Serving, day_of, fair_of, help}
+use Rattle.command_words.specs.Words.{make_of, serve_of, version, watch_of}
 use Rattle.day_run.specs.DayLaws.{AreClients, IsLink, KeepsAfter}
 use Rattle.day_run.specs.Days.{IsDay, link_of}
+use Rattle.day_run.specs.FairDays.{IsFair}
 use Rattle.day_run.specs.Scripts.{AreLines}
 use Rattle.day_run.specs.declared.reels.Source.{Source}
 use Rattle.day_run.specs.declared.scripts.Script.{Script}
-use Rattle.local_commands.specs.Days.{AreHeldAs, HoldsScript}
+use Rattle.local_commands.specs.Carrying.{IfTold, IsDone, IsInputRefused, IsRead}
+use Rattle.local_commands.specs.Days.{AreHeldAs, HoldsScript, IsDayRefused}
 use Rattle.vodserve.specs.Worked.{AreLoaded, IsOpenedOnce, all_reports, opening_of, settings_of}
 use Rattle.vodserve.specs.Worked.{terms_for}
-use Rattle.vodserve.specs.Run.{HasRunScript, HasServedNothing, Seen, Serves, World}
-use Rattle.vodserve.specs.Served.{IsJournal}
+use Rattle.vodserve.specs.Run.{Does, HasRunScript, HasServedNothing, Seen, Serves, Streams}
+use Rattle.vodserve.specs.Run.{World}
+use Rattle.vodserve.specs.Served.{IsJournal, served_text}
 use Rattle.vodserve.specs.declared.run.Ended.{Ended}
 
 -- the library tells what it holds, and refuses no film that the words name
@@ -46,6 +50,68 @@ pub record HasNoFault (before after : World) : Type 0 where
   pub store : HasRisen before.store.faults after.store.faults → ⊥
   pub out : HasRisen before.out.faults after.out.faults → ⊥
   pub gate : HasRisen before.gate.faults after.gate.faults → ⊥
+
+-- the day of a script that a library holds, with the films and traces that it names: what it prints
+-- and its journal
+pub record IsScriptDay (held : List File) (run : ScriptRun) (text : List ℕ) (journal : List Entry)
+    : Type 0 where
+  pub script : Script
+  pub sources : List Source
+  pub read : HoldsScript held run.script script
+  pub loaded : AreHeldAs held script.named.items sources
+  pub clients : AreClients script.lines.items
+  pub lines : AreLines (length sources) script.lines.items
+  pub link : IsLink (link_of run.capacity run.journal run.slot sources)
+  pub day : IsDay (link_of run.capacity run.journal run.slot sources) script.lines.items text
+      journal
+
+-- the inputs that a command reads, and why one is refused
+abbrev pub IsRefusedFor : Order → List File → List ℕ → Fault → Type 0
+IsRefusedFor (day_of run) held name fault = IsDayRefused run.script held name fault
+IsRefusedFor order held name fault = IsRead order name × IsInputRefused order held name fault
+
+-- the library tells what it holds, and refuses no input of a command
+pub record IsAccepted (order : Order) (told : Option (List File)) : Type 0 where
+  pub held : List File
+  pub told_is : told ≡ Some held
+  pub accepted : (name : List ℕ) (fault : Fault) → IsRefusedFor order held name fault → ⊥
+
+-- nothing that is asked for keeps a command from its work: what it reads is accepted. `watch` rests
+-- on a server besides
+abbrev pub MayBeDone : Order → Option (List File) → Type 0
+MayBeDone help told = Unit {0}
+MayBeDone version told = Unit {0}
+MayBeDone (make_of kind seed pictures) told = Unit {0}
+MayBeDone (fair_of run) told = Unit {0}
+MayBeDone (watch_of watching) told = ⊥
+MayBeDone order told = IsAccepted order told
+
+-- a command's work: with status 0, or for `check` with 1 where the certificate is refused, this
+-- text and what else it leaves
+abbrev pub IsWorkOf : Option (List File) → Order → Ended → List ℕ → Type 0
+IsWorkOf told (day_of run) ended text =
+    (ended.status ≡ 0) × IfTold told (λ held. IsScriptDay held run text ended.journal.items)
+IsWorkOf told (fair_of run) ended text =
+    (ended.status ≡ 0) × IsFair run.capacity run.seed run.plays text ended.journal.items
+IsWorkOf told (serve_of serving) ended text =
+    (ended.status ≡ 0) × (text ≡ served_text ended.journal.items (length ended.reports.items))
+IsWorkOf told (watch_of watching) ended text = ⊥
+IsWorkOf told order ended text = IsDone told order ended.status text ended.plan
+
+-- a command did its work and wrote the whole of its text, and said nothing on the error stream
+pub record HasDone (before after : World) (order : Order) (ended : Ended) : Type 0 where
+  pub text : List ℕ
+  pub work : IsWorkOf before.store.told order ended text
+  pub wrote : after.out.told ≡ told_more before.out.told text
+  pub quiet : after.err ≡ before.err
+
+-- a command whose inputs are accepted does its work: without a fault from outside it writes its
+-- whole text, or ends with status 6 for want of memory
+abbrev pub DoesWhatItMay : Type 0
+DoesWhatItMay =
+    (before after : World) (seed : List ℕ) (order : Order) (ended : Ended) →
+    Does before after seed order ended → MayBeDone order before.store.told →
+    HasNoFault before after → HasDone before after order ended ⊎ (ended.status ≡ 6)
 
 -- films that are accepted are served: without a fault from outside a server ends with status 0, or
 -- with 6 for want of memory
@@ -184,23 +250,9 @@ ServesEach =
 -- one is what is booked there, and within the capacity
 abbrev pub KeepsEachLine : Type 0
 KeepsEachLine =
-    (store : Seen (List File)) (out out' err err' : Seen (List ℕ)) (run : ScriptRun)
-    (ended : Ended) (ran : HasRunScript store out out' err err' run ended) (count : ℕ) →
+    (store : Seen (List File)) (streams : Streams) (run : ScriptRun)
+    (ended : Ended) (ran : HasRunScript store streams run ended) (count : ℕ) →
     KeepsAfter (link_of run.capacity run.journal run.slot ran.sources) ran.script.lines.items count
-
--- the day of a script that a library holds, with the films and traces that it names: what it prints
--- and its journal
-pub record IsScriptDay (held : List File) (run : ScriptRun) (text : List ℕ) (journal : List Entry)
-    : Type 0 where
-  pub script : Script
-  pub sources : List Source
-  pub read : HoldsScript held run.script script
-  pub loaded : AreHeldAs held script.named.items sources
-  pub clients : AreClients script.lines.items
-  pub lines : AreLines (length sources) script.lines.items
-  pub link : IsLink (link_of run.capacity run.journal run.slot sources)
-  pub day : IsDay (link_of run.capacity run.journal run.slot sources) script.lines.items text
-      journal
 
 -- there is one such text and one such journal
 abbrev pub HasOneDay : Type 0
@@ -212,6 +264,6 @@ HasOneDay =
 -- what a run of the script writes, and the journal that it leaves, are those of this day
 abbrev pub RunsItsDay : Type 0
 RunsItsDay =
-    (held : List File) (store : Seen (List File)) (out out' err err' : Seen (List ℕ))
-    (run : ScriptRun) (ended : Ended) (ran : HasRunScript store out out' err err' run ended) →
+    (held : List File) (store : Seen (List File)) (streams : Streams)
+    (run : ScriptRun) (ended : Ended) (ran : HasRunScript store streams run ended) →
     store.told ≡ Some held → IsScriptDay held run ran.ran.text ended.journal.items

@@ -13,7 +13,7 @@ use Rattle.day_run.specs.DayLaws.{AreClients, IsLink}
 use Rattle.day_run.specs.Days.{IsDay, link_of}
 use Rattle.day_run.specs.Scripts.{AreLines}
 use Rattle.day_run.specs.FairDays.{IsFair}
-use Rattle.local_commands.specs.Days.{AreHeldAs, HoldsScript, IsDayInput, IsDayRefused}
+use Rattle.local_commands.specs.Days.{AreHeldAs, IsDayInput, IsDayRefused, IsScriptOf}
 use Rattle.rtsp_client.specs.declared.wishes.Wish.{Wish}
 use Rattle.rtsp_client.specs.declared.wishes.Watched.{Watched}
 use Rattle.rtsp_client.specs.declared.wishes.WatchEnd.{WatchEnd}
@@ -29,6 +29,7 @@ use Rattle.command_words.specs.Words.{serve_of, watch_of}
 use Rattle.command_words.specs.declared.orders.FairRun.{FairRun}
 use Rattle.troubles.specs.Said.{IsSaid}
 use Rattle.troubles.specs.Lines.{trouble_text}
+use Rattle.troubles.specs.Messages.{MayBeSaid}
 use Rattle.troubles.specs.Statuses.{status_of}
 use Rattle.troubles.specs.Causes.{IsStoreKept, IsReadTrouble}
 use Rattle.troubles.specs.declared.faults.Trouble.{Trouble}
@@ -71,9 +72,25 @@ pub record World : Type 0 where
 abbrev pub world : Seen (List File) → Seen (List ℕ) → Seen (List ℕ) → Outlet → World
 world store out err gate = record { store = store; out = out; err = err; gate = gate }
 
--- a trouble's status, and its line on the error stream, or after a fault there a front of it
+-- the output and the error stream, before a command and after it
+pub record Streams : Type 0 where
+  pub out : Seen (List ℕ)
+  pub out_after : Seen (List ℕ)
+  pub err : Seen (List ℕ)
+  pub err_after : Seen (List ℕ)
+
+abbrev pub streams : Seen (List ℕ) → Seen (List ℕ) → Seen (List ℕ) → Seen (List ℕ) → Streams
+streams out out' err err' =
+    record { out = out; out_after = out'; err = err; err_after = err' }
+
+abbrev pub streams_of : World → World → Streams
+streams_of before after = streams before.out after.out before.err after.err
+
+-- a trouble's status, and its line on the error stream, or after a fault there a front of it; the
+-- trouble is one whose line tells its cause
 pub record Fails (err err' : Seen (List ℕ)) (trouble : Trouble) (ended : Ended) : Type 0 where
   pub status : ended.status ≡ status_of trouble
+  pub may : MayBeSaid trouble
   pub no_plan : ended.plan ≡ None
   pub whole : Bool
   pub said : IsSaid err.faults err'.faults err.told err'.told (trouble_text trouble) whole
@@ -95,19 +112,18 @@ pub record LeavesFront (before after : World) (order : Order) : Type 0 where
   pub front : IsFrontMore before.out.told after.out.told text
 
 -- the text of what was done was written whole; or a fault left a front of it, and was said
-abbrev pub IsWritten : Seen (List ℕ) → Seen (List ℕ) → Seen (List ℕ) → Seen (List ℕ) → Done →
-    Ended → Type 0
-IsWritten out out' err err' done ended =
+abbrev pub IsWritten : Streams → Done → Ended → Type 0
+IsWritten s done ended =
     ((ended.status ≡ done.status) × (ended.plan ≡ done.plan)
-    × (out'.told ≡ told_more out.told done.text.items) × (err' ≡ err))
-    ⊎ (HasRisen out.faults out'.faults × IsFrontMore out.told out'.told done.text.items
-    × Fails err err' SinkFault ended)
+    × (s.out_after.told ≡ told_more s.out.told done.text.items) × (s.err_after ≡ s.err))
+    ⊎ (HasRisen s.out.faults s.out_after.faults
+    × IsFrontMore s.out.told s.out_after.told done.text.items
+    × Fails s.err s.err_after SinkFault ended)
 
 -- the same of what was done; a trouble that kept from it was said alone
-abbrev pub Printed : Seen (List ℕ) → Seen (List ℕ) → Seen (List ℕ) → Seen (List ℕ) →
-    Result Done Trouble → Ended → Type 0
-Printed out out' err err' (Ok done) ended = IsWritten out out' err err' done ended
-Printed out out' err err' (Err trouble) ended = (out' ≡ out) × Fails err err' trouble ended
+abbrev pub Printed : Streams → Result Done Trouble → Ended → Type 0
+Printed s (Ok done) ended = IsWritten s done ended
+Printed s (Err trouble) ended = (s.out_after ≡ s.out) × Fails s.err s.err_after trouble ended
 
 -- what a trouble comes from, and what it leaves of the output: before the text was made nothing was
 -- written
@@ -144,14 +160,13 @@ pub record Prints (before after : World) (order : Order) (ended : Ended) : Type 
   pub out : IsCarriedOut before after order ended
 
 -- a server's end: its text was written whole; or what went wrong was said
-abbrev pub Ends : Seen (List ℕ) → Seen (List ℕ) → Seen (List ℕ) → Seen (List ℕ) → List ℕ → PartEnd →
-    Ended → Type 0
-Ends out out' err err' text end ended =
-    (IsPrinted out.faults out'.faults out.told out'.told text end (Ok tt) × (ended.status ≡ 0)
-    × (ended.plan ≡ None) × (err' ≡ err))
+abbrev pub Ends : Streams → List ℕ → PartEnd → Ended → Type 0
+Ends s text end ended =
+    (IsPrinted s.out.faults s.out_after.faults s.out.told s.out_after.told text end (Ok tt)
+    × (ended.status ≡ 0) × (ended.plan ≡ None) × (s.err_after ≡ s.err))
     ⊎ ((trouble : Trouble)
-    × (IsPrinted out.faults out'.faults out.told out'.told text end (Err trouble)
-    × Fails err err' trouble ended))
+    × (IsPrinted s.out.faults s.out_after.faults s.out.told s.out_after.told text end (Err trouble)
+    × Fails s.err s.err_after trouble ended))
 
 -- a server that served: the films as they were loaded, the journal, what the workers did over the
 -- one opening of the gate, and the text that tells of it, whose counts are numbers of 64 bits;
@@ -168,7 +183,7 @@ pub record HasServed (before after : World) (seed : List ℕ) (serving : Serving
       ended.reports.items
   pub once : IfSome after.gate.told (IsOpenedOnce before.gate.told)
   pub fault : end ≡ PartFault → HasRisen before.gate.faults after.gate.faults
-  pub ends : Ends before.out after.out before.err after.err
+  pub ends : Ends (streams_of before after)
       (served_text ended.journal.items (length ended.reports.items)) end ended
 
 -- a server: what kept it from its work, and then nothing was written; or it served
@@ -188,60 +203,57 @@ IsUsage before after ended =
     × Fails before.err after.err Usage ended
 
 -- a text was written whole, and the status is 0; or a fault left a front of it, and was said
-abbrev pub IsTextWritten : Seen (List ℕ) → Seen (List ℕ) → Seen (List ℕ) → Seen (List ℕ) → List ℕ →
-    Ended → Type 0
-IsTextWritten out out' err err' text ended =
-    ((ended.status ≡ 0) × (ended.plan ≡ None) × (out'.told ≡ told_more out.told text)
-    × (err' ≡ err))
-    ⊎ (HasRisen out.faults out'.faults × IsFrontMore out.told out'.told text
-    × Fails err err' SinkFault ended)
+abbrev pub IsTextWritten : Streams → List ℕ → Ended → Type 0
+IsTextWritten s text ended =
+    ((ended.status ≡ 0) × (ended.plan ≡ None) × (s.out_after.told ≡ told_more s.out.told text)
+    × (s.err_after ≡ s.err))
+    ⊎ (HasRisen s.out.faults s.out_after.faults × IsFrontMore s.out.told s.out_after.told text
+    × Fails s.err s.err_after SinkFault ended)
 
 -- a day that ran: its journal is a legal history over the link's capacity, and what it printed was
 -- written
-pub record HasRun (out out' err err' : Seen (List ℕ)) (capacity : List CapacityStep)
+pub record HasRun (streams : Streams) (capacity : List CapacityStep)
     (IsDayOf : List ℕ → List Entry → Type 0) (ended : Ended) : Type 0 where
   pub legal : IsLegal capacity ended.journal.items
   pub no_reports : ended.reports.items ≡ []
   pub text : List ℕ
   pub day : IsDayOf text ended.journal.items
-  pub written : IsTextWritten out out' err err' text ended
+  pub written : IsTextWritten streams text ended
 
 -- what kept a day from its run: then nothing was written
-abbrev pub HasNotRun : Seen (List ℕ) → Seen (List ℕ) → Seen (List ℕ) → Seen (List ℕ) →
-    (Trouble → Type 0) → Ended → Type 0
-HasNotRun out out' err err' IsWhy ended =
+abbrev pub HasNotRun : Streams → (Trouble → Type 0) → Ended → Type 0
+HasNotRun s IsWhy ended =
     (trouble : Trouble)
-    × (IsWhy trouble × (out' ≡ out) × HasServedNothing ended × Fails err err' trouble ended)
+    × (IsWhy trouble × (s.out_after ≡ s.out) × HasServedNothing ended
+    × Fails s.err s.err_after trouble ended)
 
--- a script that ran, with its films and traces, as the library holds them: its lines ask for one of
--- the 256 clients and for what it names, and all of that can be played
-pub record HasRunScript (store : Seen (List File)) (out out' err err' : Seen (List ℕ))
-    (run : ScriptRun) (ended : Ended) : Type 0 where
+-- a script that was read and ran, with its films and traces, as the library holds them: its lines
+-- ask for one of the 256 clients and for what it names, and all of that can be played
+pub record HasRunScript (store : Seen (List File)) (streams : Streams) (run : ScriptRun)
+    (ended : Ended) : Type 0 where
   pub script : Script
   pub sources : List Source
-  pub read : IfTold store.told (λ held. HoldsScript held run.script script)
+  pub read : IsScriptOf store.told run.script script
   pub loaded : IfTold store.told (λ held. AreHeldAs held script.named.items sources)
   pub clients : AreClients script.lines.items
   pub lines : AreLines (length sources) script.lines.items
   pub link : IsLink (link_of run.capacity run.journal run.slot sources)
-  pub ran : HasRun out out' err err' run.capacity
+  pub ran : HasRun streams run.capacity
       (IsDay (link_of run.capacity run.journal run.slot sources) script.lines.items) ended
 
 -- a script was run; or an input kept from that, or want of memory
-abbrev pub RunsDay : Seen (List File) → Seen (List File) → Seen (List ℕ) → Seen (List ℕ) →
-    Seen (List ℕ) → Seen (List ℕ) → ScriptRun → Ended → Type 0
-RunsDay store store' out out' err err' run ended =
-    HasNotRun out out' err err'
+abbrev pub RunsDay : Seen (List File) → Seen (List File) → Streams → ScriptRun → Ended → Type 0
+RunsDay store store' streams run ended =
+    HasNotRun streams
     (λ trouble. IsReadTrouble (IsDayInput store.told run.script)
     (IsDayRefused run.script) store.told store.faults store'.faults trouble) ended
-    ⊎ HasRunScript store out out' err err' run ended
+    ⊎ HasRunScript store streams run ended
 
 -- drawn plays were run; or memory was wanting
-abbrev pub RunsFair : Seen (List ℕ) → Seen (List ℕ) → Seen (List ℕ) → Seen (List ℕ) → FairRun →
-    Ended → Type 0
-RunsFair out out' err err' run ended =
-    HasNotRun out out' err err' (λ trouble. trouble ≡ NoMemory) ended
-    ⊎ HasRun out out' err err' run.capacity (IsFair run.capacity run.seed run.plays) ended
+abbrev pub RunsFair : Streams → FairRun → Ended → Type 0
+RunsFair streams run ended =
+    HasNotRun streams (λ trouble. trouble ≡ NoMemory) ended
+    ⊎ HasRun streams run.capacity (IsFair run.capacity run.seed run.plays) ended
 
 -- a gate was opened for a client as the words say
 abbrev pub IsOpenFor : Watching → Outlet → Type 0
@@ -283,25 +295,25 @@ EndsWatch err err' film WatchNoMemory ended = Fails err err' NoMemory ended
 
 -- a client that watched a film over the one connection of a gate that was opened once, as the words
 -- say
-pub record HasWatchedFilm (out out' err err' : Seen (List ℕ)) (gate gate' : Outlet)
-    (watching : Watching) (ended : Ended) : Type 0 where
+pub record HasWatchedFilm (streams : Streams) (gate gate' : Outlet) (watching : Watching)
+    (ended : Ended) : Type 0 where
   pub wish : Wish
   pub wish_is : IsWishOf watching wish
   pub open_as : IsOpenFor watching gate'
   pub once : IfSome gate'.told (IsOpenedOnce gate.told)
   pub end : WatchEnd
-  pub heard : HasHeardFilm wish gate'.told out.faults out'.faults out.told out'.told end
+  pub heard : HasHeardFilm wish gate'.told streams.out.faults streams.out_after.faults
+      streams.out.told streams.out_after.told end
   pub nothing : HasServedNothing ended
-  pub ends : EndsWatch err err' watching.film end ended
+  pub ends : EndsWatch streams.err streams.err_after watching.film end ended
 
 -- a client: what kept it from the film, and then nothing was written; or it watched it
-abbrev pub Watches : Seen (List ℕ) → Seen (List ℕ) → Seen (List ℕ) → Seen (List ℕ) → Outlet →
-    Outlet → Watching → Ended → Type 0
-Watches out out' err err' gate gate' watching ended =
+abbrev pub Watches : Streams → Outlet → Outlet → Watching → Ended → Type 0
+Watches s gate gate' watching ended =
     ((trouble : Trouble)
-    × (IsWatchTrouble watching gate gate' trouble × (out' ≡ out) × HasServedNothing ended
-    × Fails err err' trouble ended))
-    ⊎ HasWatchedFilm out out' err err' gate gate' watching ended
+    × (IsWatchTrouble watching gate gate' trouble × (s.out_after ≡ s.out)
+    × HasServedNothing ended × Fails s.err s.err_after trouble ended))
+    ⊎ HasWatchedFilm s gate gate' watching ended
 
 -- one definition for each command
 abbrev pub Does : World → World → List ℕ → Order → Ended → Type 0
@@ -317,19 +329,20 @@ Does before after seed (make_of kind number pictures) ended =
 Does before after seed (scan_of film) ended = Prints before after (scan_of film) ended
 Does before after seed (day_of run) ended =
     (after.gate ≡ before.gate)
-    × RunsDay before.store after.store before.out after.out before.err after.err run ended
+    × RunsDay before.store after.store (streams_of before after) run ended
 Does before after seed (fair_of run) ended =
     (after.gate ≡ before.gate) × (after.store ≡ before.store)
-    × RunsFair before.out after.out before.err after.err run ended
+    × RunsFair (streams_of before after) run ended
 Does before after seed (watch_of watching) ended =
     (after.store ≡ before.store)
-    × Watches before.out after.out before.err after.err before.gate after.gate watching ended
+    × Watches (streams_of before after) before.gate after.gate watching ended
 Does before after seed (serve_of serving) ended = Serves before after seed serving ended
 
 -- the library is as it was, and what the words ask for was done, if they mean something
 pub record Ran (before after : World) (seed : List ℕ) (asked : Option Order) (ended : Ended)
     : Type 0 where
-  pub library : IsStoreKept before.store.told after.store.told before.store.faults after.store.faults
+  pub library : IsStoreKept before.store.told after.store.told before.store.faults
+      after.store.faults
   pub output : before.out.faults ≤ after.out.faults
   pub gate : before.gate.faults ≤ after.gate.faults
   pub does : ((order : Order) × ((asked ≡ Some order) × Does before after seed order ended))

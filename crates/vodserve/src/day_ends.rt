@@ -4,7 +4,7 @@ ghost use Rattle.std.specs.Prelude.{◌≡◌, ◌≤◌, [], List, ℕ};
 ghost use Rattle.command_words.specs.Orders.{script_run_of};
 ghost use Rattle.command_words.specs.Ranges.{IsFairRunInRange, IsScriptRunInRange};
 ghost use Rattle.troubles.specs.Causes.{IsReadOnly};
-ghost use Rattle.vodserve.specs.Run.{IsTextWritten, RunsDay, RunsFair, sight_of};
+ghost use Rattle.vodserve.specs.Run.{IsTextWritten, RunsDay, RunsFair, sight_of, streams};
 
 use crate::run::{Ended, end_with};
 use command_words::{FairRun, ScriptRun};
@@ -27,8 +27,8 @@ pub(crate) fn day<L: Library, O: Sink, E: Sink>(
     ensures count { O.faults out.old ≤ O.faults out.new }
     ensures runs { RunsDay
         (sight_of L.faults L.files library.old) (sight_of L.faults L.files library.new)
-        (sight_of O.faults O.written out.old) (sight_of O.faults O.written out.new)
-        (sight_of E.faults E.written err.old) (sight_of E.faults E.written err.new)
+        (streams (sight_of O.faults O.written out.old) (sight_of O.faults O.written out.new)
+        (sight_of E.faults E.written err.old) (sight_of E.faults E.written err.new))
         (script_run_of run.now) result }
 {
     let script = match load_script(alloc, library, run.script) {
@@ -55,8 +55,8 @@ pub(crate) fn fair<O: Sink, E: Sink>(
     requires { IsFairRunInRange run.now }
     ensures count { O.faults out.old ≤ O.faults out.new }
     ensures runs { RunsFair
-        (sight_of O.faults O.written out.old) (sight_of O.faults O.written out.new)
-        (sight_of E.faults E.written err.old) (sight_of E.faults E.written err.new)
+        (streams (sight_of O.faults O.written out.old) (sight_of O.faults O.written out.new)
+        (sight_of E.faults E.written err.old) (sight_of E.faults E.written err.new))
         run.now result }
 {
     match run_fair(alloc, run) {
@@ -70,9 +70,9 @@ fn end_day<O: Sink, E: Sink>(alloc: Global, out: &mut O, err: &mut E, day: Day) 
     ensures journal { result.journal ≡ day.journal }
     ensures reports { result.reports.items ≡ [] }
     ensures count { O.faults out.old ≤ O.faults out.new }
-    ensures written { IsTextWritten (sight_of O.faults O.written out.old)
-        (sight_of O.faults O.written out.new)
-        (sight_of E.faults E.written err.old) (sight_of E.faults E.written err.new)
+    ensures written { IsTextWritten
+        (streams (sight_of O.faults O.written out.old) (sight_of O.faults O.written out.new)
+        (sight_of E.faults E.written err.old) (sight_of E.faults E.written err.new))
         day.text.items result }
 {
     let Day { text, journal } = day;

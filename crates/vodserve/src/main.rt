@@ -35,9 +35,9 @@ fn program_words(rt: &(impl Env + AllocGlobal)) -> Result<Vec<String>, AllocErro
     }
 }
 
-/// Whether a client is asked for, which makes a connection where a server waits for them.
-fn is_watch(words: &[String]) -> bool {
-    words.first().is_some_and(|word| command_named(word.as_str()) == Some(Command::Watch))
+/// The command that the first word names.
+fn command_of(words: &[String]) -> Option<Command> {
+    words.first().and_then(|word| command_named(word.as_str()))
 }
 
 /// Carries out the words over the files of the current folder and a gate; answers the exit status.
@@ -57,19 +57,21 @@ where
     run(rt, rt.alloc(), words, &mut library, out, err, gate, seed).status
 }
 
-/// Carries out the words of the command line, over a gate of the kind that they ask for. The gate
-/// fails where there are no random bytes, from which the identities of connections are drawn.
+/// Carries out the words of the command line, over a gate of the kind that they ask for: a client
+/// makes a connection where a server waits for them. The gate fails where there are no random
+/// bytes, from which the identities of a server's connections are drawn.
 fn main(rt: HostRuntime) -> ExitCode {
     let mut out = OutSink::new(rt.stdout());
     let mut err = OutSink::new(rt.stderr());
     let Ok(words) = program_words(&rt) else {
         return ExitCode::from(end_with(rt.alloc(), &mut err, Trouble::NoMemory).status);
     };
+    let command = command_of(&words);
     let mut seed = [0; 32];
-    if rt.fill_bytes(&mut seed).is_err() {
+    if command == Some(Command::Serve) && rt.fill_bytes(&mut seed).is_err() {
         return ExitCode::from(end_with(rt.alloc(), &mut err, Trouble::GateFault).status);
     }
-    let status = if is_watch(&words) {
+    let status = if command == Some(Command::Watch) {
         let mut gate = DialGate::new(&rt, rt.alloc());
         status_over(&rt, &words, &mut out, &mut err, &mut gate, seed)
     } else {

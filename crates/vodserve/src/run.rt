@@ -6,6 +6,7 @@ ghost use Rattle.command_words.specs.Words.{Order, check_of, meaning};
 ghost use Rattle.command_words.specs.Settings.{texts};
 ghost use Rattle.plan_cert.specs.declared.Segment.{Segment};
 ghost use Rattle.troubles.specs.Causes.{IsReadOnly, IsReadTrouble};
+ghost use Rattle.troubles.specs.Messages.{HasGoodName};
 ghost use Rattle.troubles.specs.declared.faults.Fault.{Fault};
 ghost use Rattle.vod_base.specs.Outside.{File};
 ghost use Rattle.command_words.specs.Words.{Viewer};
@@ -14,11 +15,12 @@ ghost use Rattle.local_commands.specs.Carrying.{IsPlanned, IsRead, IsViewerRefus
 ghost use Rattle.command_words.specs.Orders.{serving_of};
 ghost use Rattle.command_words.specs.Ranges.{IsServingInRange};
 ghost use Rattle.vodserve.specs.Served.{served_text};
-ghost use Rattle.vodserve.specs.Laws.{GivesEachBack, HasOneDay, KeepsEachLine, LeavesNoneOut};
+ghost use Rattle.vodserve.specs.Laws.{DoesWhatItMay, GivesEachBack, HasOneDay, KeepsEachLine};
+ghost use Rattle.vodserve.specs.Laws.{LeavesNoneOut};
 ghost use Rattle.vodserve.specs.Laws.{RunsItsDay, ServesEach, ServesNoRefused, ServesWhatItMay};
 ghost use Rattle.vodserve.specs.Laws.{TellsItsJournal};
 ghost use Rattle.vodserve.specs.Run.{Ends, Fails, HasServedNothing, Printed, Ran, Serves};
-ghost use Rattle.vodserve.specs.Run.{gate_seen, sight_of, world};
+ghost use Rattle.vodserve.specs.Run.{gate_seen, sight_of, streams, world};
 
 use crate::day_ends::{day, fair};
 use crate::served::print_served;
@@ -70,6 +72,7 @@ impl Ended {
 
 /// Ends with a trouble: says its line, whose own faults change nothing.
 pub(crate) fn end_with<E: Sink>(alloc: Global, err: &mut E, trouble: Trouble<'_>) -> Ended
+    requires { HasGoodName trouble }
     ensures fails { Fails
         (sight_of E.faults E.written err.old) (sight_of E.faults E.written err.new)
         trouble.entry result }
@@ -87,9 +90,10 @@ fn print<O: Sink, E: Sink>(
     err: &mut E,
     done: Result<Done, Trouble<'_>>,
 ) -> Ended
+    requires { IfErr done HasGoodName }
     ensures printed { Printed
-        (sight_of O.faults O.written out.old) (sight_of O.faults O.written out.new)
-        (sight_of E.faults E.written err.old) (sight_of E.faults E.written err.new)
+        (streams (sight_of O.faults O.written out.old) (sight_of O.faults O.written out.new)
+        (sight_of E.faults E.written err.old) (sight_of E.faults E.written err.new))
         done.entry result }
     ensures count { O.faults out.old ≤ O.faults out.new }
     ensures nothing { HasServedNothing result }
@@ -151,8 +155,8 @@ fn end_server<O: Sink, E: Sink>(alloc: Global, out: &mut O, err: &mut E, closed:
     ensures reports { result.reports.items ≡ closed.reports.items }
     ensures count { O.faults out.old ≤ O.faults out.new }
     ensures ends { Ends
-        (sight_of O.faults O.written out.old) (sight_of O.faults O.written out.new)
-        (sight_of E.faults E.written err.old) (sight_of E.faults E.written err.new)
+        (streams (sight_of O.faults O.written out.old) (sight_of O.faults O.written out.new)
+        (sight_of E.faults E.written err.old) (sight_of E.faults E.written err.new))
         (served_text closed.book.entries (length closed.reports.items)) closed.end result }
 {
     let mut ended = match print_served(alloc, out, &closed) {
@@ -202,6 +206,13 @@ where
         Err(trouble) => end_with(alloc, err, trouble),
     }
 }
+
+/// A law: each command but `watch` whose inputs are accepted does its work, where nothing fails
+/// outside: it ends with status 0, or `check` with 1 where it refuses the certificate, and its
+/// whole text is written; or it ends with 6.
+pub fn law_does()
+    ensures { DoesWhatItMay }
+{}
 
 /// A law: a server whose films are accepted serves, where nothing fails outside and memory is
 /// found. Where one of its films is refused, it does nothing.

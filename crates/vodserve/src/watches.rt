@@ -1,6 +1,7 @@
 //! The command `watch`.
 
-ghost use Rattle.std.specs.Prelude.{◌≡◌, ◌≤◌, IfSome, IfOk, OnErr, OnOk, option_map};
+ghost use Rattle.std.specs.Prelude.{◌≡◌, ◌≤◌, true, IfSome, IfOk, OnErr, OnOk, option_map};
+ghost use Rattle.vod_base.specs.Names.{is_good_name};
 ghost use Rattle.vod_base.specs.Outside.{HasRisen};
 ghost use Rattle.vod_base.specs.Gates.{Failed, after_empty_take};
 ghost use Rattle.rtsp_client.specs.Wishes.{IsWish};
@@ -9,7 +10,7 @@ ghost use Rattle.command_words.specs.Ranges.{IsWatchingInRange};
 ghost use Rattle.conn.specs.Parts.{IsUntouched};
 ghost use Rattle.troubles.specs.Said.{IsSaid};
 ghost use Rattle.vodserve.specs.Run.{EndsWatch, HasServedNothing, SaysWatched, Watches, gate_seen};
-ghost use Rattle.vodserve.specs.Run.{sight_of};
+ghost use Rattle.vodserve.specs.Run.{sight_of, streams};
 ghost use Rattle.vodserve.specs.Watches.{Hears, HearsPart, IsSameOutput, IsShortWatched};
 ghost use Rattle.vodserve.specs.Watches.{IsWishOf, opening_at};
 ghost use Rattle.vodserve.specs.Watches.{refusal_of, watched_text};
@@ -35,8 +36,8 @@ pub(crate) fn watch_film<O: Sink, E: Sink, G: Gate + Drop>(
     ensures output { O.faults out.old ≤ O.faults out.new }
     ensures gate { G.faults gate.old ≤ G.faults gate.new }
     ensures watches { Watches
-        (sight_of O.faults O.written out.old) (sight_of O.faults O.written out.new)
-        (sight_of E.faults E.written err.old) (sight_of E.faults E.written err.new)
+        (streams (sight_of O.faults O.written out.old) (sight_of O.faults O.written out.new)
+        (sight_of E.faults E.written err.old) (sight_of E.faults E.written err.new))
         (gate_seen G.faults G.told gate.old) (gate_seen G.faults G.told gate.new)
         (watching_of watching.entry.now) result }
 {
@@ -174,6 +175,7 @@ fn end_with_meter<E: Sink>(alloc: Global, err: &mut E, watched: Watched) -> Ende
 
 /// Ends a watching: says what the meter read, or what kept from the film's end.
 fn end_watch<E: Sink>(alloc: Global, err: &mut E, film: &str, end: WatchEnd) -> Ended
+    requires { is_good_name film.now ≡ true }
     ensures nothing { HasServedNothing result }
     ensures ends { EndsWatch
         (sight_of E.faults E.written err.old) (sight_of E.faults E.written err.new)

@@ -1,13 +1,41 @@
-use Rattle.std.proofs.Common.{◌∙◌, ℕ, Vec, Global, inl, inr, refl, sym, ap, subst, length, arith}
+use Rattle.std.proofs.Common.{◌≡◌, ◌∙◌, ℕ, true, List, Vec, Global, inl, inr, refl, sym, ap, subst, length, arith}
 use Rattle.day_run.specs.Days.{IsDay, link_of}
 use Rattle.day_run.specs.Scripts.{AreLines}
 use Rattle.admission.specs.Histories.{IsLegal}
 use Rattle.admission.specs.declared.entries.Entry.{Entry}
 use Rattle.std.specs.List.{Contains}
-use Rattle.troubles.proofs.CauseLemmas.{trouble_map}
+use Rattle.vod_base.specs.Names.{is_good_name}
+use Rattle.troubles.proofs.CauseLemmas.{good_input, trouble_map}
+use Rattle.inputs.specs.Files.{IsNamed}
 use Rattle.inputs.proofs.ScanLemmas.{read_trouble_map}
-use Rattle.local_commands.specs.Days.{IsDayInput, IsDayRefused, IsFirstNamedRefused, names_in}
+use Rattle.local_commands.specs.Days.{IsDayInput, IsDayRefused, IsFirstNamedRefused, IsScriptRefused, names_in}
+use Rattle.local_commands.proofs.DayLemmas.{named_good, script_held}
 use Rattle.vodserve.proofs.day_ends.day.Goals as goal
+
+pub end_with-requires : goal.end_with-requires
+end_with-requires g c =
+    good_input (record {
+      Reads = IsNamed c.args.run.now.script.now;
+      Refuses = IsScriptRefused;
+      told = g.L.Library.files c.args.library.now;
+      before = g.L.Library.faults c.args.library.now;
+      after = g.L.Library.faults c.load_script.new.library;
+    }) c.in-Err.trouble
+    (λ name is. subst (λ (n : List ℕ). is_good_name n ≡ true) (sym is) c.requires.named)
+    ((c.in-Err.ensures {u = tt}).trouble)
+
+pub end_with-requires-in-Err-load_sources : goal.end_with-requires-in-Err-load_sources
+end_with-requires-in-Err-load_sources g c =
+    good_input (record {
+      Reads = Contains (names_in c.deref.result.now);
+      Refuses = IsFirstNamedRefused c.deref.result.now;
+      told = g.L.Library.files c.load_script.new.library;
+      before = g.L.Library.faults c.load_script.new.library;
+      after = g.L.Library.faults c.load_sources.new.library;
+    }) c.in-Err-load_sources.trouble
+    (λ name inside. named_good c.in-Ok.script.named.items ((c.in-Ok.ensures {u = tt}).names)
+    (rw c.deref.ensures.value at inside))
+    ((c.in-Err-load_sources.ensures {u = tt}).trouble)
 
 pub returns-in-Err-clause-runs : goal.returns-in-Err-clause-runs
 returns-in-Err-clause-runs g c =
@@ -44,11 +72,13 @@ returns-in-Err-load_sources-clause-runs g c =
             })
             c.in-Err-load_sources.trouble
             (record {
-              reads = λ name inside. inr
-                  (λ held told.
-                  (c.in-Ok.script, ((c.in-Ok.ensures {u = tt}).held held told, rw c.deref.ensures.value at inside)));
+              reads = λ name inside. inr (record {
+                read = c.in-Ok.script;
+                is = (c.in-Ok.ensures {u = tt}).read;
+                names = rw c.deref.ensures.value at inside;
+              });
               refuses = λ held name fault told is refused. inr
-                  (c.in-Ok.script, ((c.in-Ok.ensures {u = tt}).held held told, rw c.deref.ensures.value at refused));
+                  (c.in-Ok.script, (script_held held ((c.in-Ok.ensures {u = tt}).read) told, rw c.deref.ensures.value at refused));
               keeps = λ held told. c.load_script.ensures.library.kept ∙ told;
               low = omega (arith, c.load_script.ensures.library.count);
               high = omega arith;
@@ -64,7 +94,7 @@ pub returns-in-Ok-run_day-clause-runs : goal.returns-in-Ok-run_day-clause-runs
 returns-in-Ok-run_day-clause-runs g c = inr (record {
   script = c.in-Ok.script;
   sources = c.in-Ok-load_sources.sources.items;
-  read = λ held told. (c.in-Ok.ensures {u = tt}).held held told;
+  read = (c.in-Ok.ensures {u = tt}).read;
   loaded = λ held told.
       rw c.deref.ensures.value at ((c.in-Ok-load_sources.ensures {u = tt}).held held (c.load_script.ensures.library.kept ∙ told));
   clients = (c.in-Ok.ensures {u = tt}).clients;

@@ -1,7 +1,43 @@
-use Rattle.std.proofs.Common.{None, refl, arith}
-use Rattle.command_words.specs.Words.{help, version, make_of}
+use Rattle.std.proofs.Common.{◌≡◌, ℕ, true, List, None, inl, inr, refl, sym, subst, arith}
+use Rattle.vod_base.specs.Names.{is_good_name}
+use Rattle.command_words.specs.Orders.{viewer_of}
+use Rattle.command_words.specs.Ranges.{IsOrderInRange}
+use Rattle.command_words.specs.Words.{check_of, help, make_of, plan_of, scan_of, version}
+use Rattle.vodserve.proofs.NameLemmas.{causes_of, good_result, nameless, viewer_named}
 use Rattle.vodserve.proofs.RunLemmas.{help_done, made_done, no_memory, printed, ran_as, version_done}
 use Rattle.vodserve.proofs.run.run.Goals as goal
+
+pub print-requires-in-Plan : goal.print-requires-in-Plan
+print-requires-in-Plan g c =
+    good_result (causes_of _ _ _ (plan_of (viewer_of c.in-Plan.viewer))) c.plan_viewer-done.result
+    (λ name is. subst (λ (n : List ℕ). is_good_name n ≡ true) (sym is)
+    (viewer_named (viewer_of c.in-Plan.viewer) (subst IsOrderInRange c.in-Plan.is ((c.in-Some.ensures {u = tt}).range))))
+    c.plan_viewer-done.ensures.trouble
+
+pub print-requires-in-Check : goal.print-requires-in-Check
+print-requires-in-Check g c =
+    good_result (causes_of _ _ _ (check_of (viewer_of c.in-Check.viewer) c.in-Check.cert.now)) c.check_viewer-done.result
+    (λ name is. elim is [
+      | inl source ↦ subst (λ (n : List ℕ). is_good_name n ≡ true) (sym source)
+          (viewer_named (viewer_of c.in-Check.viewer) ((subst IsOrderInRange c.in-Check.is ((c.in-Some.ensures {u = tt}).range)).0))
+      | inr cert ↦ subst (λ (n : List ℕ). is_good_name n ≡ true) (sym cert) ((subst IsOrderInRange c.in-Check.is ((c.in-Some.ensures {u = tt}).range)).1)
+    ])
+    c.check_viewer-done.ensures.trouble
+
+pub print-requires-in-Scan : goal.print-requires-in-Scan
+print-requires-in-Scan g c =
+    good_result (causes_of _ _ _ (scan_of c.in-Scan.film.now)) c.list_units-done.result
+    (λ name is. subst (λ (n : List ℕ). is_good_name n ≡ true) (sym is) (subst IsOrderInRange c.in-Scan.is ((c.in-Some.ensures {u = tt}).range)))
+    c.list_units-done.ensures.trouble
+
+pub print-requires-in-Make : goal.print-requires-in-Make
+print-requires-in-Make g c = nameless c.done_with_text-in-Make.result c.done_with_text-in-Make.ensures.trouble
+
+pub print-requires : goal.print-requires
+print-requires g c = nameless c.done_with_text.result c.done_with_text.ensures.trouble
+
+pub print-requires-in-Version : goal.print-requires-in-Version
+print-requires-in-Version g c = nameless c.done_with_text-in-Version.result c.done_with_text-in-Version.ensures.trouble
 
 pub returns-in-Plan : goal.returns-in-Plan
 returns-in-Plan g c = record {

@@ -6,10 +6,26 @@ use Rattle.command_words.specs.Words.{Serving}
 use Rattle.command_words.specs.Orders.{serving_of}
 use Rattle.vodserve.specs.Served.{IsJournal, served_text}
 use Rattle.vodserve.specs.Worked.{HaveWorked}
-use Rattle.vodserve.specs.Run.{Ends, Seen, gate_seen, sight_of}
+use Rattle.vodserve.specs.Run.{Ends, Seen, gate_seen, sight_of, streams}
 use Rattle.vodserve.proofs.ServeLemmas.{fault_risen, have_worked_since, make_serves, only_opened}
 use Rattle.vodserve.proofs.GateLemmas.{once_since}
+use Rattle.vodserve.proofs.NameLemmas.{good_make_trouble, good_serve_trouble}
 use Rattle.vodserve.proofs.run.serve.Goals as goal
+
+pub end_with-requires : goal.end_with-requires
+end_with-requires g c =
+    good_serve_trouble (record {
+      serving = serving_of c.args.serving.now;
+      told = g.L.Library.files c.args.library.now;
+      faults = g.L.Library.faults c.args.library.now;
+      faults_after = g.L.Library.faults c.prepare.new.library;
+      gate = gate_seen g.G.Gate.faults g.G.Gate.told c.args.gate.now;
+      gate_after = gate_seen g.G.Gate.faults g.G.Gate.told c.prepare.new.gate;
+    }) c.in-Err.trouble c.requires.films ((c.in-Err.ensures {u = tt}).trouble)
+
+pub end_with-requires-in-Err-run_server : goal.end_with-requires-in-Err-run_server
+end_with-requires-in-Err-run_server g c =
+    good_make_trouble _ _ c.in-Err-run_server.trouble ((c.in-Err-run_server.ensures {u = tt}).trouble)
 
 pub returns-in-Ok-run_server-clause-serves : goal.returns-in-Ok-run_server-clause-serves
 returns-in-Ok-run_server-clause-serves g c =
@@ -50,7 +66,7 @@ returns-in-Ok-run_server-clause-serves g c =
       once = once_since before.told opened.told after.told ((c.in-Ok.ensures {u = tt}).once) c.run_server.ensures.since;
       fault = fault_risen
           worked;
-      ends = subst (λ (text : List ℕ). Ends out out' err err' text c.in-Ok-run_server.closed.end
+      ends = subst (λ (text : List ℕ). Ends (streams out out' err err') text c.in-Ok-run_server.closed.end
           c.end_server.result) same c.end_server.ensures.ends;
     })
 
