@@ -1,4 +1,5 @@
 //! The bytes of a report, and those in front of a payload.
+
 ghost use Rattle.std.specs.Prelude.{◌≡◌, ◌+◌, ◌++◌, ◌≤◌, ◌/◌, ◌%◌, ◌∷◌, take};
 ghost use Rattle.rtp_pack.specs.Heads.{head_bytes};
 ghost use Rattle.rtp_pack.specs.Reports.{report_bytes};

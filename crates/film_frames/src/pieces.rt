@@ -1,4 +1,5 @@
 //! A report or a frame of a film.
+
 ghost use Rattle.std.specs.Prelude.{◌≡◌, ℕ, List};
 ghost use Rattle.film_frames.specs.Pieces.{wire_of};
 ghost use Rattle.film_frames.specs.Tables.{IsSound};

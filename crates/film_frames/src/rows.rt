@@ -1,4 +1,5 @@
 //! What the table keeps of a report or a frame.
+
 ghost use Rattle.std.specs.Prelude.{◌≡◌, ◌+◌, ◌^◌, ◌<◌, ◌≤◌, ℕ, List, slice_get, Some};
 ghost use Rattle.mpeg_scan.specs.declared.units.Unit.{Unit as PictureUnit};
 ghost use Rattle.film_frames.specs.Pieces.{unit_of, wire_of};

@@ -1,4 +1,5 @@
 //! Finds the end that a place belongs to.
+
 ghost use Rattle.std.specs.Prelude.{◌≡◌, ◌+◌, ◌<◌, ◌≤◌, ℕ, List, length, slice_index};
 ghost use Rattle.std.specs.List.Sorted.{IsNonDecreasing};
 

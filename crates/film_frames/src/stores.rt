@@ -1,4 +1,5 @@
 //! A film with its name and its table of frames.
+
 ghost use Rattle.film_frames.specs.Tables.{IsTableOf};
 
 use crate::pieces::Piece;

@@ -1,4 +1,5 @@
 //! The sizes and bytes of short films and traces are worked out by hand.
+
 mod films;
 mod sizes;
 

@@ -1,4 +1,5 @@
 //! The track of a trace, whose frames are zero bytes.
+
 ghost use Rattle.std.specs.Prelude.{◌≡◌, ◌++◌, ◌+◌, ◌-◌, ◌^◌, ◌<◌, ◌≤◌, List, ℕ, length, min};
 ghost use Rattle.std.specs.Prelude.{replicate, slice_range, sum, Ok};
 ghost use Rattle.film_frames.specs.Tracks.{IsBoundaryAfter, IsNext, IsSplit, framed_bytes};

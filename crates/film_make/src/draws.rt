@@ -1,4 +1,5 @@
 //! The generator: each number has its own draws.
+
 ghost use Rattle.std.specs.Prelude.{◌≡◌, ◌%◌, ◌^◌, ◌<◌, ◌≤◌};
 ghost use Rattle.rand_chacha.specs.ChaCha.{ChaCha};
 ghost use Rattle.film_make.specs.Generator.{words_left, words_of, words_after};

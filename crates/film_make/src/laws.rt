@@ -1,4 +1,5 @@
 //! What holds of every made trace, film and system stream.
+
 ghost use Rattle.std.specs.Prelude.{◌≡◌, ◌≢◌, ℕ, ◌+◌, ◌*◌, ◌%◌, ◌<◌, ◌≤◌, ◌++◌, [], ◌∷◌, List};
 ghost use Rattle.std.specs.Prelude.{decimal};
 ghost use Rattle.std.specs.Prelude.{drop, flat_map, length, take};

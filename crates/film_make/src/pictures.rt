@@ -1,4 +1,5 @@
 //! Makes a picture with its headers and slices.
+
 ghost use Rattle.std.specs.Prelude.{◌≡◌, ℕ, ◌+◌, ◌++◌, ◌%◌, ◌<◌, ◌≤◌, ◌==◌, [], if◌then◌else◌};
 ghost use Rattle.std.specs.Prelude.{OnOk};
 ghost use Rattle.film_make.specs.Generator.{words_after, words_left};

@@ -1,4 +1,5 @@
 //! Makes a film as an MPEG-1 system stream.
+
 ghost use Rattle.std.specs.Prelude.{◌≡◌, ◌+◌, ◌/◌, ◌++◌, ◌≤◌, length, IfOk, OnOk};
 ghost use Rattle.film_make.specs.Generator.{words_of};
 ghost use Rattle.film_make.specs.Film.{film_of};

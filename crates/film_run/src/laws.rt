@@ -1,4 +1,5 @@
 //! What holds of every plan of a run, and of every jump and pause in it.
+
 ghost use Rattle.std.specs.Prelude.{◌<◌, ◌≤◌, ℕ, length, Option};
 ghost use Rattle.mpeg_scan.specs.declared.films.Film.{Film as FilmIs};
 ghost use Rattle.film_run.specs.declared.runs.Run.{Run};

@@ -1,4 +1,5 @@
 //! Scans a film of the library, and keeps its units or their sizes.
+
 ghost use Rattle.std.specs.Prelude.{◌≡◌, ◌≤◌, Some, List, IfErr, IfOk};
 ghost use Rattle.vod_base.specs.Outside.{File};
 ghost use Rattle.mpeg_scan.specs.Films.{units_in};

@@ -1,4 +1,5 @@
 //! Reads a file of the library.
+
 ghost use Rattle.std.specs.Prelude.{◌≡◌, ◌<◌, ◌≤◌, ◌+◌, ◌++◌, Some, ℕ, List, length, take};
 ghost use Rattle.std.specs.Prelude.{option_map, vec_len, IfErr, IfOk};
 ghost use Rattle.vod_base.specs.Outside.{File, file_named};

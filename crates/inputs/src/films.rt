@@ -1,4 +1,5 @@
 //! Loads a film into memory.
+
 ghost use Rattle.std.specs.Prelude.{◌≡◌, ◌≤◌, ◌^◌, Some, List, length, vec_len, IfErr, IfOk};
 ghost use Rattle.std.specs.Prelude.{string_bytes};
 ghost use Rattle.vod_base.specs.Outside.{File};

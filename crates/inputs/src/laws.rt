@@ -1,4 +1,5 @@
 //! What the words of a trace are, and where the fault of a system stream stands in its file.
+
 ghost use Rattle.std.specs.Prelude.{◌≡◌, ◌<◌, ◌^◌, ℕ, List, All};
 ghost use Rattle.sys_demux.specs.declared.faults.SystemFault.{SystemFault};
 ghost use Rattle.inputs.specs.Laws.{AreWithinLimits, IsFaultInFile, trace_text};

@@ -1,4 +1,5 @@
 //! Finds out whether a file is a system stream, by its first start code.
+
 ghost use Rattle.std.specs.Prelude.{◌≡◌, ◌<◌, ◌≤◌, ◌+◌, ◌^◌, ◌++◌, Some, ℕ, List, length};
 ghost use Rattle.std.specs.Prelude.{option_map, IfErr, IfOk, IfSome};
 ghost use Rattle.vod_base.specs.Outside.{File, file_named};

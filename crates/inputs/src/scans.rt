@@ -1,4 +1,5 @@
 //! Scans a film of the library while it is read.
+
 ghost use Rattle.std.specs.Prelude.{◌≡◌, ◌<◌, ◌≤◌, ◌+◌, ◌^◌, Some, None, ℕ, List, [], length};
 ghost use Rattle.std.specs.Prelude.{IfErr, IfOk, OnOk};
 ghost use Rattle.vod_base.specs.Outside.{File};

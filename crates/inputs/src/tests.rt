@@ -1,4 +1,5 @@
 //! The films, system streams and traces are a few bytes each, written by hand.
+
 ghost use Rattle.std.specs.Prelude.{None};
 
 use crate::{load_film, load_script_film, read_input, read_trace, scan_film, size_film};

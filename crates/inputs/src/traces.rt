@@ -1,4 +1,5 @@
 //! Reads the picture sizes of a trace.
+
 ghost use Rattle.std.specs.Prelude.{◌≡◌, ◌<◌, ◌≤◌, ◌+◌, ◌^◌, ◌⊎◌, ℕ, List, [], true, false};
 ghost use Rattle.std.specs.Prelude.{length, take, drop, slice_index, MatchOption, IfOk, IfErr};
 ghost use Rattle.std.specs.List.{list_all};

@@ -1,4 +1,5 @@
 //! The bytes of a connection that wait, and what stands in front of them.
+
 ghost use Rattle.std.specs.Prelude.{◌≡◌, ◌+◌, ◌-◌, ◌*◌, ◌<◌, ◌≤◌, ◌++◌, [], length, drop, nat_lt};
 ghost use Rattle.std.specs.Prelude.{slice_index, if◌then◌else◌, vec_capacity, IfOk, MatchResult};
 ghost use Rattle.std.specs.Prelude.{is_err, Ok, Err};

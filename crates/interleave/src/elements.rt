@@ -1,4 +1,5 @@
 //! What stands in front of the waiting bytes, and the head of an interleaved block.
+
 ghost use Rattle.std.specs.Prelude.{◌≡◌, ◌/◌, ◌%◌, [], ◌∷◌};
 ghost use Rattle.interleave.specs.Heads.{is_line_end};
 

@@ -1,4 +1,5 @@
 //! How a stream is split, however its bytes came.
+
 ghost use Rattle.std.specs.Prelude.{◌≡◌, ℕ, ◌+◌, ◌/◌, ◌%◌, ◌<◌, ◌++◌, ◌∷◌, All, List, length};
 ghost use Rattle.std.specs.Prelude.{drop, Ok, Result};
 ghost use Rattle.interleave.specs.Laws.{BeginsOtherwise, IsCrOrLf};

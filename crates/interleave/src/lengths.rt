@@ -1,4 +1,5 @@
 //! The length of a request's body, by its Content-Length.
+
 ghost use Rattle.std.specs.Prelude.{◌≡◌, ◌<◌, ◌≤◌, ◌↔◌, IsTrue, length, MatchOption};
 ghost use Rattle.interleave.specs.Lengths.{written_length, IsLengthLine, IsWrittenAt, IsLongAt};
 ghost use Rattle.interleave.specs.Lengths.{IsBodyLength, IsLongBody};

@@ -1,4 +1,5 @@
 //! Finds the end of a request.
+
 ghost use Rattle.std.specs.Prelude.{◌≡◌, ◌+◌, ◌<◌, ◌≤◌, true, false, ℕ, length, MatchOption};
 ghost use Rattle.std.specs.Prelude.{MatchResult, Ok, Err};
 ghost use Rattle.interleave.specs.declared.elements.DemuxFault.{DemuxFault};

@@ -1,4 +1,5 @@
 //! The requests and blocks are written by hand from RFC 2326.
+
 use super::*;
 use std::alloc::Global;
 use std::test::Fail;

@@ -1,4 +1,5 @@
 //! Start codes, found byte by byte.
+
 ghost use Rattle.std.specs.Prelude.{◌≡◌, ◌↔◌, IsTrue};
 ghost use Rattle.mpeg_scan.specs.Codes.{is_whole, next_prefix};
 

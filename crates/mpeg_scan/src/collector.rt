@@ -1,4 +1,5 @@
 //! Keeps the units of a film and the places of its slices.
+
 ghost use Rattle.std.specs.Prelude.{◌≡◌, [], List};
 ghost use Rattle.mpeg_scan.specs.Calls.{Call};
 ghost use Rattle.mpeg_scan.specs.Films.{slices_in, units_in};

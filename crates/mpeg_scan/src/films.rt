@@ -1,4 +1,5 @@
 //! A film in memory, scanned whole.
+
 ghost use Rattle.std.specs.Prelude.{◌≡◌, ◌≤◌, [], Some, Err, IfOk};
 ghost use Rattle.mpeg_scan.specs.Films.{IsFilm, refusal, film_calls};
 ghost use Rattle.mpeg_scan.specs.Codes.{read_after};

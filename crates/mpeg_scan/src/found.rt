@@ -1,4 +1,5 @@
 //! Tells of a film's heads, slices and units as they end.
+
 ghost use Rattle.std.specs.Prelude.{◌≡◌, ◌+◌, ◌^◌, ◌<◌, ◌≤◌, ◌++◌, ◌∷◌, ℕ, [], List, IsSome};
 ghost use Rattle.std.specs.Prelude.{OnOk, true};
 ghost use Rattle.mpeg_scan.specs.Room.{AwaitsSlice, AwaitsSliceAfter, HasRoom};

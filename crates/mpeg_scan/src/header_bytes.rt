@@ -1,4 +1,5 @@
 //! The first bytes after a start code, where the fields of its header stand.
+
 ghost use Rattle.std.specs.Prelude.{◌≡◌, ℕ, ◌<◌, ◌≤◌, List, [], length, take, slice_index, not};
 ghost use Rattle.std.specs.Prelude.{nat_lt};
 ghost use Rattle.mpeg_scan.specs.HeaderBytes.{header_with};

@@ -1,4 +1,5 @@
 //! What holds of every film and of every refusal, said of its bytes.
+
 ghost use Rattle.std.specs.Prelude.{◌≡◌, ◌↔◌, ℕ, ◌+◌, ◌^◌, ◌<◌, ◌≤◌, ◌++◌, [], List, None, Some};
 ghost use Rattle.std.specs.Prelude.{length, true};
 ghost use Rattle.mpeg_scan.specs.declared.units.Unit.{Unit as PictureUnit};

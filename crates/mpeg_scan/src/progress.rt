@@ -1,4 +1,5 @@
 //! How far a film was read, and what a further byte does.
+
 ghost use Rattle.std.specs.Prelude.{◌≡◌, ℕ, ◌+◌, ◌^◌, ◌<◌, ◌≤◌, List, [], ◌∷◌, ◌++◌, Some, None};
 ghost use Rattle.std.specs.Prelude.{length, take, slice_index, IsSome, IsTrue, true, IfOk, IfErr};
 ghost use Rattle.std.specs.Prelude.{MatchResult, OnOk, ◌≢◌};

@@ -1,4 +1,5 @@
 //! Scans a film whose bytes come in chunks.
+
 ghost use Rattle.std.specs.Prelude.{◌≡◌, None};
 ghost use Rattle.mpeg_scan.specs.declared.faults.FilmFault.{FilmFault};
 ghost use Rattle.mpeg_scan.specs.Room.{IsAhead};

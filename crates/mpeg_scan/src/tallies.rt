@@ -1,4 +1,5 @@
 //! What the start codes so far say of the latest unit: its picture header, counts and places.
+
 ghost use Rattle.std.specs.Prelude.{◌≡◌, ◌^◌, ◌≤◌, ℕ, List, []};
 ghost use Rattle.mpeg_scan.specs.Room.{HasCounts};
 ghost use Rattle.mpeg_scan.specs.Words.{header_of, is_head, is_slice, rate_code, tally_of, type_of};

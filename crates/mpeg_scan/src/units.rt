@@ -1,4 +1,5 @@
 //! The pictures of a film with their headers and slices, and how long a picture lasts.
+
 ghost use Rattle.std.specs.Prelude.{◌≡◌, ◌≤◌};
 ghost use Rattle.mpeg_scan.specs.Rates.{picture_time};
 ghost use Rattle.mpeg_scan.specs.Standard.{type_number};

@@ -1,4 +1,5 @@
 //! Slots by the clock. A slot's length is given in 1/360,000 second.
+
 ghost use Rattle.std.specs.Prelude.{◌≡◌, ◌+◌, ◌-◌, ◌*◌, ◌/◌, ◌^◌, ◌<◌, ◌≤◌, min};
 ghost use Rattle.std.specs.Duration.{as_nanos};
 

@@ -1,4 +1,5 @@
 //! Over the loopback interface and the test's own folder.
+
 ghost use Rattle.std.specs.Prelude.{IfSome};
 ghost use Rattle.vod_base.specs.Gates.{MaySplit};
 

@@ -1,4 +1,5 @@
 //! What is sent in each slot, and that it is the whole track in the end.
+
 ghost use Rattle.pacer.specs.Laws.{BringsNothing, DoPartsJoin, OfSteps, SendsNext};
 ghost use Rattle.pacer.specs.Laws.{SendsTheTrack, SendsThrough, StopsAtBoundary};
 ghost use Rattle.pacer.specs.Laws.{TellsBoundaries, TellsTheEnd};

@@ -1,4 +1,5 @@
 //! Sends a track slot by slot, as its plan says.
+
 ghost use Rattle.std.specs.Prelude.{◌≡◌, ◌+◌, ◌-◌, ◌*◌, ◌^◌, ◌≤◌, ◌<◌, ◌↔◌, Some, None, IsTrue};
 ghost use Rattle.std.specs.Prelude.{length, take, min, max, OnOk, OnErr, IfOk, true, false};
 ghost use Rattle.vod_base.specs.Outside.{HasRisen};

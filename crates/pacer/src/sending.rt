@@ -1,4 +1,5 @@
 //! Sends the bytes of a track from one place up to another.
+
 ghost use Rattle.std.specs.Prelude.{◌≡◌, ◌++◌, ◌+◌, ◌≤◌, ◌<◌, length, take, min, MatchResult, IfOk};
 ghost use Rattle.std.specs.Prelude.{IfErr, OnErr, OnOk};
 ghost use Rattle.vod_base.specs.Outside.{HasRisen};

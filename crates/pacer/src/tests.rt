@@ -1,5 +1,6 @@
 //! Film B: a sequence header, a group header, an I picture and one slice; a P picture and one
 //! slice. Its bytes on the wire are a report of 52 bytes, a frame of 54 and a frame of 35.
+
 use super::*;
 use film_frames::{Frames, Stored, Track};
 use mpeg_scan::scan;

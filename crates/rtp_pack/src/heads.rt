@@ -1,4 +1,5 @@
 //! The RTP header and the video header of a packet, written and read.
+
 ghost use Rattle.std.specs.Prelude.{◌≡◌, ◌+◌, ◌%◌, ◌^◌, ◌<◌};
 ghost use Rattle.rtp_pack.specs.Heads.{head_bytes, head_of, packet_head};
 ghost use Rattle.rtp_pack.specs.Heads.{unit_timestamp, video_word};

@@ -1,4 +1,5 @@
 //! What holds of every cutting, of the headers and of the times in them.
+
 ghost use Rattle.std.specs.Prelude.{◌≡◌, ◌+◌, ◌*◌, ◌%◌, ◌^◌, ◌<◌, ◌≤◌, ◌++◌, ℕ, List, sum};
 ghost use Rattle.std.specs.Prelude.{Ok};
 ghost use Rattle.mpeg_scan.specs.declared.units.Unit.{Unit as PictureUnit};

@@ -1,4 +1,5 @@
 //! A packet, and the packets of a unit of a film.
+
 ghost use Rattle.std.specs.Prelude.{◌<◌, length, IfOk, OnOk};
 ghost use Rattle.rtp_pack.specs.Packets.{OfUnit};
 ghost use Rattle.rtp_pack.specs.Sizes.{IsPacked};

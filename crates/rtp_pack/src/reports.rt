@@ -1,4 +1,5 @@
 //! RTCP sender reports.
+
 ghost use Rattle.std.specs.Prelude.{◌≡◌};
 ghost use Rattle.rtp_pack.specs.Reports.{report_bytes, unit_report, media_time};
 

@@ -1,4 +1,5 @@
 //! The size of a unit's frames, counted while its slices come in.
+
 ghost use Rattle.std.specs.Prelude.{◌≡◌, ◌+◌, ◌*◌, ◌^◌, ◌≤◌, []};
 ghost use Rattle.rtp_pack.specs.Sizes.{HasSlice, IsSize, measure_from_headers, bytes_of, frames_of};
 ghost use Rattle.rtp_pack.specs.Sizes.{measure_of};

@@ -4,7 +4,6 @@ use Rattle.std.proofs.Common.{true, false, not, nat_lt, nat_le, cond, List, [], 
 use Rattle.std.proofs.Common.{sum, max, refl, sym, ap, subst, ◌∙◌, arith, inl, inr}
 use Rattle.std.proofs.lemmas.Bool.{cases_lt, eq-eqb, lt-ltb, le-ltb, lt-leb}
 use Rattle.std.proofs.lemmas.List.{take_all, take-take}
-use Rattle.std.proofs.lemmas.List.Sums.{sum_by-take-le}
 use Rattle.std.proofs.Math.Nat.{div-eq_of_lt}
 use Rattle.std.specs.Int.{div_ceil}
 use Rattle.vod_base.proofs.Sums.{sum-take-rises}

@@ -1,4 +1,5 @@
 //! Films watched over a link in memory, with values worked out by hand.
+
 use super::*;
 use std::alloc::Global;
 use std::test::Fail;

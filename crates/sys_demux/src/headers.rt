@@ -1,4 +1,5 @@
 //! The header of a packet's content: stuffing, buffer size and time stamps.
+
 ghost use Rattle.std.specs.Prelude.{◌≡◌, ℕ, ◌+◌, ◌≤◌, ◌<◌, List, ◌∷◌, length, None, MatchOption};
 ghost use Rattle.sys_demux.specs.Contents.{from_stamp, from_size, after_bytes};
 ghost use Rattle.sys_demux.specs.Sound.{least_rest};

@@ -1,4 +1,5 @@
 //! What a system stream is, said in the fields of ISO/IEC 11172-1.
+
 ghost use Rattle.std.specs.Prelude.{◌≡◌, ◌≢◌, ◌↔◌, ◌⊎◌, ◌+◌, ◌/◌, ◌<◌, ◌∷◌, ◌++◌, ℕ, List};
 ghost use Rattle.std.specs.Prelude.{length, None, Some};
 ghost use Rattle.sys_demux.specs.Contents.{video_in};

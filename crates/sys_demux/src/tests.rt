@@ -1,4 +1,5 @@
 //! The streams are written by hand from the fields of ISO/IEC 11172-1.
+
 ghost use Rattle.std.specs.Prelude.{◌≤◌, ◌^◌, length, IfOk, MatchResult};
 ghost use Rattle.sys_demux.specs.Streams.{IsSystem, IsRefused};
 

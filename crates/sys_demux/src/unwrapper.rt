@@ -1,4 +1,5 @@
 //! The state of a reader of system streams.
+
 ghost use Rattle.std.specs.Prelude.{IsTrue};
 ghost use Rattle.sys_demux.specs.Sound.{is_sound};
 

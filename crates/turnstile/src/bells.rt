@@ -1,4 +1,5 @@
 //! Where passes sleep while they wait for their turns.
+
 use crossbeam_utils::sync::EventCount;
 use std::array;
 

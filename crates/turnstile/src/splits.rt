@@ -1,4 +1,5 @@
 //! How a pass is split, and how two are joined.
+
 ghost use Rattle.turnstile.specs.Steps.{view_after_join, split_view, spent_view, view_after_split};
 
 use crate::view::View;

@@ -1,4 +1,5 @@
 //! Each atomic step of the turn, as a small function.
+
 ghost use Rattle.std.specs.Prelude.{◌≡◌, ◌++◌, [], ◌∷◌, Some, false, true};
 ghost use Rattle.admission.specs.declared.entries.Entry.{Entry};
 ghost use Rattle.turnstile.specs.declared.view.Stage.TheVariants.{Idle};

@@ -1,4 +1,5 @@
 //! The table of the turn: the words tickets, serving and entries, and one slot for the value.
+
 use crate::kept::KeptValue;
 use crate::view::View;
 use atomic_table::{Join, Play, Seat, Shared, Split, Table, TableRule};

@@ -1,4 +1,5 @@
 //! How a seat takes the turn, and gives it back.
+
 ghost use Rattle.std.specs.Prelude.{◌≡◌, ◌%◌, ◌^◌, ◌<◌, ◌++◌, [], ◌∷◌, Some, None, true, false};
 ghost use Rattle.turnstile.specs.Sized.{IsFree, IsSame, IsSeated};
 ghost use Rattle.turnstile.specs.Steps.{HasTaken, IsWaiting, ticket_of};

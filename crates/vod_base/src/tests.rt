@@ -1,5 +1,6 @@
 //! Worked rows: numbers, lines, names and blanks as they are read, and the objects in memory with
 //! their failing calls.
+
 use super::*;
 use std::alloc::Global;
 use std::process::Abort;
