@@ -161,7 +161,8 @@ pub fn law_looks()
         (slice_index_or entries place none).answer ≡ Answer.Looked now at booked →
         at ≡ max now slot }
     ensures booked { (steps : List CapacityStep) (entries : List Entry)
-        (place slot now at booked : ℕ) (none : Entry) → IsLegal steps entries → place < length entries →
+        (place slot now at booked : ℕ) (none : Entry) → IsLegal steps entries →
+        place < length entries →
         (slice_index_or entries place none).command ≡ Command.Look slot →
         (slice_index_or entries place none).answer ≡ Answer.Looked now at booked →
         booked ≡ booked_after (take place entries) at }

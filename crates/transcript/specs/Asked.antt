@@ -1,6 +1,6 @@
 -- What a client that wishes for a film asks of a connection (RFC 2326 section 10).
-use Rattle.std.specs.Prelude.{◌≡◌, ℕ, ◌-◌, ◌^◌, ◌<◌, ◌≤◌, ⊤, List, [], ◌∷◌, ◌++◌, length, take, drop}
-use Rattle.std.specs.Prelude.{string_bytes}
+use Rattle.std.specs.Prelude.{◌≡◌, ℕ, ◌-◌, ◌^◌, ◌<◌, ◌≤◌, ⊤, List, [], ◌∷◌, ◌++◌, length, take}
+use Rattle.std.specs.Prelude.{drop, string_bytes}
 use Rattle.rtp_pack.specs.Packets.{OfUnit}
 use Rattle.film_frames.specs.declared.stores.Stored.{Stored}
 use Rattle.plan_cert.specs.Slots.{total_bytes}
