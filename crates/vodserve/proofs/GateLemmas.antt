@@ -1,9 +1,7 @@
 -- How a gate and its parts stand as workers are made and joined.
-use Rattle.std.proofs.Common.{◌≡◌, ◌∙◌, ◌+◌, ◌<◌, ◌≤◌, ◌-◌, ◌^◌, ℕ, List, [], ◌∷◌, ◌++◌, length, Option, Some, None, inl, inr, sym, ap, subst, refl, arith}
+use Rattle.std.proofs.Common.{◌≡◌, ◌∙◌, ◌+◌, ◌<◌, ◌≤◌, ◌-◌, ◌^◌, ℕ, List, [], ◌∷◌, length, Option, Some, None, inl, inr, sym, ap, subst, refl, arith}
 use Rattle.std.specs.Prelude.{IfSome, All, option_map, slice_index_or}
-use Rattle.std.specs.List.{remove}
 use Rattle.std.proofs.lemmas.Bool.{cases_lt}
-use Rattle.std.proofs.lemmas.List.{append_assoc}
 use Rattle.std.proofs.lemmas.List.Elements.{All-head, All-tail}
 use Rattle.vod_base.specs.Outside.{HasRisen}
 use Rattle.vod_base.specs.Gates.{Content, Failed, Part, IsOpen, new_part, after_empty_take, after_open, after_rejoin, split_off, told_rejoined}
@@ -14,16 +12,6 @@ use Rattle.vodserve.specs.Worked.{HasParts, HasTooFew, IsIdle, IsOpenAs, IsOpene
 use Rattle.vodserve.specs.Workers.{AreBack, AreJoined, AreOut, IsFresh, IsNotOpened}
 use Rattle.vodserve.specs.declared.workers.Worker.{Worker}
 use Rattle.vodserve.proofs.WorkerLemmas.{out_more}
-
--- the first of the workers that are left
-pub first_split : {A : Type 0} (xs : List A) (x : A) → 0 < length xs → x ≡ slice_index_or xs 0 x → xs ≡ x ∷ remove xs 0
-first_split [] x some is = absurd (omega (arith, some))
-first_split (y ∷ ys) x some is = ap (λ (z : _). z ∷ ys) (sym is)
-
-pub one_done : {A : Type 0} (all done rest : List A) (x : A) → all ≡ done ++ rest → rest ≡ x ∷ remove rest 0
-    → all ≡ (done ++ x ∷ []) ++ remove rest 0
-one_done all done rest x whole split =
-    whole ∙ ap (λ (r : List _). done ++ r) split ∙ sym (append_assoc done (x ∷ []) (remove rest 0))
 
 -- so many parts are in the gate
 pub counted_parts : (from count workers : ℕ) (gate : Option Content) → IfSome gate (AreOut from count)

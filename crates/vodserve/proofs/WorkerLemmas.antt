@@ -1,7 +1,6 @@
 -- Workers that are made, run and joined.
 use Rattle.std.proofs.Common.{◌≡◌, ◌≢◌, ◌⊎◌, ◌∙◌, ◌+◌, ◌<◌, ◌≤◌, ℕ, List, [], ◌∷◌, ◌++◌, length, Option, Some, None, inl, inr, sym, ap, subst, refl, suc, zero, arith, add-zero, zero-add, length-append}
 use Rattle.std.specs.Prelude.{IfSome, All, map, slice_index_or, slice_set}
-use Rattle.std.specs.List.{remove}
 use mathlib.Core.List.{IsPrefix}
 use Rattle.std.proofs.Math.ListN.{length-set, get_or-append}
 use Rattle.std.proofs.Math.Seq.{get_or-append_seam}
@@ -9,7 +8,7 @@ use Rattle.std.proofs.lemmas.Bool.{cases_lt}
 use Rattle.std.proofs.lemmas.List.{append-nil, append_assoc, get_or-set_other, get_or-set_same, map-append}
 use Rattle.std.proofs.lemmas.List.Elements.{All-head, All-push, All-tail}
 use Rattle.vod_base.specs.Outside.{HasRisen}
-use Rattle.vod_base.specs.Gates.{Content, Part, after_rejoin, split_off, told_rejoined}
+use Rattle.vod_base.specs.Gates.{Content, IsOut, Part, after_rejoin, split_off, told_rejoined}
 use Rattle.film_frames.specs.declared.stores.Stored.{Stored}
 use Rattle.admission.specs.declared.entries.Entry.{Entry}
 use Rattle.admission.specs.Makers.{made_by}
@@ -38,27 +37,27 @@ workers_push from [] all number is = (number ∙ add-zero from, is, tt)
 workers_push from (first ∷ workers) all number is =
     (all.0, all.1, workers_push (from + 1) workers all.2 (omega (arith, number)) is)
 
--- the first worker, and the rest
-pub first_worker : {G : Type 0} {told : G → Option Content} {faults : G → ℕ} {hall : StationState} {from : ℕ}
-    {worker : Worker G} (workers : List (Worker G)) →
-    AreWorkers told faults hall from workers → 0 < length workers → worker ≡ slice_index_or workers 0 worker →
-    (worker.number ≡ from) × IsWorker told faults hall worker
-first_worker {from} [] all some is = absurd (omega (arith, some))
-first_worker {told} {faults} {hall} {from} {worker} (first ∷ workers) all some is =
+-- the worker at a place
+worker_here : {G : Type 0} {told : G → Option Content} {faults : G → ℕ} {hall : StationState}
+    {worker : Worker G} (from : ℕ) (workers : List (Worker G)) → AreWorkers told faults hall from workers →
+    (i : ℕ) → i < length workers → worker ≡ slice_index_or workers i worker →
+    (worker.number ≡ from + i) × IsWorker told faults hall worker
+worker_here from [] all i inside is = absurd (omega (arith, inside))
+worker_here {told} {faults} {hall} {worker} from (first ∷ workers) all zero inside is =
     let same : worker ≡ first = is in
-    (ap (λ (w : Worker _). w.number) same ∙ all.0, subst (IsWorker told faults hall) (sym same) all.1)
+    (ap (λ (w : Worker _). w.number) same ∙ all.0 ∙ sym (add-zero from), subst (IsWorker told faults hall) (sym same) all.1)
+worker_here {worker} from (first ∷ workers) all (suc i) inside is =
+    let here = worker_here {worker = worker} (from + 1) workers all.2 i (omega (arith, inside)) is in
+    (omega (arith, here.0), here.1)
 
--- how the parts of workers are told and their faults counted, and in which hall they sit
-pub record WorkersOf (G : Type 0) : Type 0 where
-  pub told : G → Option Content
-  pub faults : G → ℕ
-  pub hall : StationState
-
-pub rest_workers : {G : Type 0} (of_workers : WorkersOf G) (from : ℕ) (workers : List (Worker G)) →
-    AreWorkers of_workers.told of_workers.faults of_workers.hall from workers → 0 < length workers →
-    AreWorkers of_workers.told of_workers.faults of_workers.hall (from + 1) (remove workers 0)
-rest_workers of_workers from [] all some = absurd (omega (arith, some))
-rest_workers of_workers from (first ∷ workers) all some = all.2
+-- the worker that is taken after others
+pub taken_worker : {G : Type 0} {told : G → Option Content} {faults : G → ℕ} {hall : StationState}
+    {worker : Worker G} (workers done : List (Worker G)) → AreWorkers told faults hall 0 workers →
+    (length done < length workers) × (worker ≡ slice_index_or workers (length done) worker) →
+    (worker.number ≡ length done) × IsWorker told faults hall worker
+taken_worker {worker} workers done all turn =
+    let here = worker_here {worker = worker} 0 workers all (length done) turn.0 turn.1 in
+    (here.0 ∙ zero-add (length done), here.1)
 
 worker_at : {G : Type 0} {told : G → Option Content} {faults : G → ℕ} {hall : StationState} (from : ℕ)
     (workers : List (Worker G)) → AreWorkers told faults hall from workers →
@@ -247,6 +246,31 @@ join_one {told} {count} {workers} {worker} {seat} {seat'} {gate} so_far is numbe
     }
   where
     open joins use {seated, rejoins, longer, seen}
+
+-- the part of the worker that is joined next is out
+part_out : (place count : ℕ) (gate part : Option Content) → IfSome gate (AreOut place count) →
+    IfSome part (λ content. content.own.number ≡ place) → place < count →
+    IfSome gate (λ content. IfSome part (λ own. IsOut own.own.number content))
+part_out place count None part out number inside = tt
+part_out place count (Some content) None out number inside = tt
+part_out place count (Some content) (Some own) out number inside = (
+  omega (arith, number, out.counted, inside),
+  subst (λ (k : ℕ). slice_index_or content.parts k None ≡ None) (sym number) (out.out place (omega arith) inside),
+)
+
+-- the same of a worker
+pub worker_out : {G : Type 0} {told : G → Option Content} {faults : G → ℕ} {hall : StationState} {worker : Worker G}
+    (place count : ℕ) (gate : Option Content) → IfSome gate (AreOut place count) →
+    (worker.number ≡ place) × IsWorker told faults hall worker → place < count →
+    IfSome gate (λ content. IfSome (told worker.part) (λ own. IsOut own.own.number content))
+worker_out {told} {worker} place count gate out is inside =
+    part_out place count gate (told worker.part) out (number_of (told worker.part) worker.number place is.1.part is.0) inside
+
+-- how the parts of workers are told and their faults counted, and in which hall they sit
+record WorkersOf (G : Type 0) : Type 0 where
+  told : G → Option Content
+  faults : G → ℕ
+  hall : StationState
 
 -- every seat that was split is joined
 joined_at : {G : Type 0} {k : ℕ} (of_workers : WorkersOf G) (from : ℕ) (workers : List (Worker G)) →

@@ -127,7 +127,7 @@ pub(crate) fn join_workers<G: Gate + Drop>(
     station: &Station,
     seat: &mut Seat,
     gate: &mut G,
-    mut workers: Vec<Worker<G>>,
+    workers: Vec<Worker<G>>,
     reports: &mut Vec<ConnReport>,
 ) -> PartEnd
     requires seat { seat.old ≡ split_seat station.now (length workers.items) }
@@ -145,13 +145,13 @@ pub(crate) fn join_workers<G: Gate + Drop>(
         HasRisen (G.faults gate.old) (G.faults gate.new)) workers.items }
 {
     let mut end = PartEnd::AllTaken;
-    while !workers.is_empty() {
+    for worker in workers {
         let Worker {
             number: _,
             seat: other,
             part,
             report,
-        } = workers.remove(0);
+        } = worker;
         station.join(seat, other);
         gate.rejoin(part);
         end = add_reports(end, report, reports);
