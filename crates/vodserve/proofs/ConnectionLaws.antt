@@ -27,9 +27,8 @@ use Rattle.command_words.specs.Words.{Serving}
 use Rattle.vodserve.specs.Laws.{IsReceiptIn, IsReportIn, IsServedPart, ServesEach, TellsItsJournal}
 use Rattle.vodserve.specs.Run.{HasServed as HasServedFilms, World}
 use Rattle.vodserve.specs.declared.run.Ended.{Ended}
-use Rattle.vodserve.specs.Worked.{AllWorked, HasBack, HasWorked, IsOpenedOnce, all_reports, settings_of}
+use Rattle.vodserve.specs.Worked.{AllWorked, HasBack, HasWorked, IsOpenedOnce, Working, all_reports, settings_of}
 use Rattle.vodserve.proofs.ServeLaws.{HasRunAll, ended_whole, given_back, run_all, worker_of}
-use Rattle.vodserve.proofs.ServeLemmas.{Working}
 
 all_left : {A : Type 0} (P : A → Type 0) (xs ys : List A) → All P (xs ++ ys) → All P xs
 all_left P [] ys all = All-nil P
@@ -107,7 +106,7 @@ part_told {by} {journal} {report} worked =
     (all k none inside)
 
 parts_told : (work : Working) (from : ℕ) (parts : List PartReport) →
-    AllWorked work.films work.serving work.seed work.journal work.gate work.gate_after from parts →
+    AllWorked work from parts →
     All (IsReportIn work.journal) (all_reports parts)
 parts_told work from [] all = All-nil (IsReportIn work.journal)
 parts_told work from (part ∷ parts) all =

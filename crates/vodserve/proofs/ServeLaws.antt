@@ -20,9 +20,9 @@ use Rattle.vodserve.specs.Laws.{GivesEachBack, HasGivenBack, HasNoFault, HaveRun
 use Rattle.vodserve.specs.Run.{Ends, HasServed, Serves, World, streams_of}
 use Rattle.vodserve.specs.Served.{IsPrinted, IsServeTrouble}
 use Rattle.vodserve.specs.declared.run.Ended.{Ended}
-use Rattle.vodserve.specs.Worked.{AllWorked, AreLeft, HasBack, HasTooFew, HasWorked, IsOpenAs, IsOpenedOnce, HasParts, MayBeServed, opening_of, settings_of}
+use Rattle.vodserve.specs.Worked.{AllWorked, AreLeft, HasBack, HasTooFew, HasWorked, IsOpenAs, IsOpenedOnce, HasParts, MayBeServed, Working, opening_of, settings_of}
 use Rattle.vodserve.proofs.GateLemmas.{risen_some}
-use Rattle.vodserve.proofs.ServeLemmas.{loaded_accepted, worker_worked, ServingRun, Working}
+use Rattle.vodserve.proofs.ServeLemmas.{loaded_accepted, worker_worked, ServingRun}
 
 -- what keeps from serving, where nothing is refused and nothing failed, is want of memory
 pub kept_by_memory : {before after : World} {serving : Serving} (trouble : Trouble) →
@@ -280,7 +280,7 @@ part_back {before} {after} {by} {content} {report} worked found told =
 
 -- the worker of a number, from 0 on
 pub worker_of : (work : Working) (parts : List PartReport) →
-    AllWorked work.films work.serving work.seed work.journal work.gate work.gate_after 0 parts → (worker : ℕ)
+    AllWorked work 0 parts → (worker : ℕ)
     (none : PartReport) → worker < length parts →
     HasWorked work.serving (duty work.films (settings_of work.serving) work.seed worker) work.journal work.gate work.gate_after
     (slice_index_or parts worker none)

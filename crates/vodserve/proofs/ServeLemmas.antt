@@ -36,7 +36,7 @@ use Rattle.troubles.specs.declared.faults.Fault.{Fault}
 use Rattle.troubles.specs.declared.faults.Trouble.{Trouble}
 use Rattle.troubles.specs.declared.faults.Trouble.TheVariants.{Usage, Refused, StoreFault, SinkFault, NoMemory, GateFault, LinkFault}
 use Rattle.inputs.specs.Films.{IsHeldRefused}
-use Rattle.vodserve.specs.Worked.{AllWorked, AreLeft, AreLoaded, HasOne, HasTooFew, HasWorked, HaveWorked, IsHeld, IsOpenAs, IsOpenedOnce, MayBeServed, opening_of, settings_of}
+use Rattle.vodserve.specs.Worked.{AllWorked, AreLeft, AreLoaded, HasOne, HasTooFew, HasWorked, HaveWorked, IsHeld, IsOpenAs, IsOpenedOnce, MayBeServed, Working, opening_of, settings_of}
 use Rattle.vodserve.specs.Workers.{AreJoined, AreWorkers, HasFinished, IsMakeTrouble, report_of}
 use Rattle.vodserve.specs.Served.{HasOnlyOpened, IsFirstRefused, IsJournal, IsNewlyOpen, IsServeTrouble, IsWordNamed}
 use Rattle.vodserve.specs.declared.workers.Worker.{Worker}
@@ -221,10 +221,17 @@ pub have_worked : {G : Type 0} {told : G → Option Content} {faults : G → ℕ
     DoneWorkers G told faults hall films serving seed workers seat gate gate' → IsJournalOf seat entries →
     IsStationOf serving hall → length workers ≡ serving.listening.workers → IsOpenAs (opening_of serving) gate'.told →
     AreLeft (map report_of workers) end reports → HaveWorked films seed serving entries gate gate' end reports
-have_worked {seed} {serving} {workers} {seat} {entries} {gate} {gate'} {end} done whole of_words count open_as left = record {
+have_worked {films} {seed} {serving} {workers} {seat} {entries} {gate} {gate'} {end} done whole of_words count open_as left = record {
   parts = map report_of workers;
   count = length-map workers report_of ∙ count;
-  each = all_worked workers of_words all finished (record { back = back.back; counted = counted })
+  each = all_worked (record {
+    films = films;
+    serving = serving;
+    seed = seed;
+    journal = entries;
+    gate = gate;
+    gate_after = gate';
+  }) workers of_words all finished (record { back = back.back; counted = counted })
       (record {
         seen = seat.seen;
         front = back.seen;
@@ -238,20 +245,11 @@ have_worked {seed} {serving} {workers} {seat} {entries} {gate} {gate'} {end} don
   where
     open done use {all, finished, back, counted}
 
--- what workers serve: films, by a serving and its seed, with the journal and the gate before and after
-pub record Working : Type 0 where
-  pub films : List Stored
-  pub serving : Serving
-  pub seed : List ℕ
-  pub journal : List Entry
-  pub gate : Outlet
-  pub gate_after : Outlet
-
 -- the same from an earlier count of the gate's faults on
 worked_since : (work : Working) (before : Outlet) (from : ℕ) (parts : List PartReport) →
-    AllWorked work.films work.serving work.seed work.journal work.gate work.gate_after from parts →
+    AllWorked work from parts →
     before.faults ≤ work.gate.faults →
-    AllWorked work.films work.serving work.seed work.journal before work.gate_after from parts
+    AllWorked (record work { gate = before }) from parts
 worked_since work before from [] all low = tt
 worked_since work before from (part ∷ parts) all low = (
   record {
@@ -299,7 +297,7 @@ pub record InsideParts (parts : List PartReport) (k : ℕ) : Type 0 where
 
 -- the worker of a number
 pub worker_worked : (work : Working) (from : ℕ) (parts : List PartReport) →
-    AllWorked work.films work.serving work.seed work.journal work.gate work.gate_after from parts → (k : ℕ)
+    AllWorked work from parts → (k : ℕ)
     (here : InsideParts parts k) →
     HasWorked work.serving (duty work.films (settings_of work.serving) work.seed (from + k)) work.journal
     work.gate work.gate_after
@@ -321,7 +319,7 @@ worker_worked work from (part ∷ parts) all (suc k) here =
 
 -- a part that failed was counted
 fault_counted : {parts : List PartReport} (work : Working) →
-    AllWorked work.films work.serving work.seed work.journal work.gate work.gate_after 0 parts →
+    AllWorked work 0 parts →
     HasOne PartFault parts → HasRisen work.gate.faults work.gate_after.faults
 fault_counted {parts = []} work all one = absurd (omega (arith, one.inside))
 fault_counted {parts = part ∷ parts} work all one =

@@ -24,7 +24,7 @@ use Rattle.conn.specs.declared.reports.PartReport.{PartReport}
 use Rattle.conn.specs.declared.reports.PartEnd.{PartEnd}
 use Rattle.command_words.specs.Words.{Serving}
 use Rattle.conn.specs.declared.reports.PartEnd.TheVariants.{AllTaken, GateFault as PartFault, NoMemory}
-use Rattle.vodserve.specs.Worked.{AllWorked, AreLeft, HasBack, HasOne, HasWorked, IsWorse, all_reports, settings_of, terms_for}
+use Rattle.vodserve.specs.Worked.{AllWorked, AreLeft, HasBack, HasOne, HasWorked, IsWorse, Working, all_reports, settings_of, terms_for}
 use Rattle.vodserve.specs.Workers.{AreBack, AreJoined, AreOut, AreWorkers, HasFinished, IsWorker, joined_of, report_of}
 use Rattle.vodserve.specs.declared.workers.Worker.{Worker}
 
@@ -411,15 +411,14 @@ pub record WorkersBack (G : Type 0) (told : G → Option Content) (faults : G �
   pub back : AreBack told gate'.told from workers
   pub counted : All (λ worker. 0 < faults worker.part → HasRisen gate.faults gate'.faults) workers
 
-pub all_worked : {G : Type 0} {told : G → Option Content} {faults : G → ℕ} {films : List Stored} {serving : Serving}
-    {seed : List ℕ} {hall : StationState} {journal : List Entry} {gate gate' : Outlet} {from : ℕ}
-    (workers : List (Worker G)) → IsStationOf serving hall → AreWorkers told faults hall from workers →
-    All (HasFinished told faults films (settings_of serving) seed) workers →
-    WorkersBack G told faults gate gate' from workers → WorkersJournal G workers journal →
-    AllWorked films serving seed journal gate gate' from (map report_of workers)
-all_worked {seed} [] of_words all finished backs own = tt
-all_worked {told} {faults} {films} {serving} {seed} {hall} {journal} {gate} {gate'} {from} (worker ∷ workers)
-    of_words all finished backs own =
+pub all_worked : {G : Type 0} {told : G → Option Content} {faults : G → ℕ} {hall : StationState} {from : ℕ}
+    (work : Working) (workers : List (Worker G)) → IsStationOf work.serving hall →
+    AreWorkers told faults hall from workers →
+    All (HasFinished told faults work.films (settings_of work.serving) work.seed) workers →
+    WorkersBack G told faults work.gate work.gate_after from workers → WorkersJournal G workers work.journal →
+    AllWorked work from (map report_of workers)
+all_worked work [] of_words all finished backs own = tt
+all_worked {told} {faults} {hall} {from} work (worker ∷ workers) of_words all finished backs own =
     let Ends : Worker _ → Type 0 = HasFinished told faults films (settings_of serving) seed in
     let Saw : Worker _ → Type 0 = λ worker. IsPrefix worker.seat.seen seen in
     let Counts : Worker _ → Type 0 = λ worker. 0 < faults worker.part → HasRisen gate.faults gate'.faults in
@@ -433,8 +432,7 @@ all_worked {told} {faults} {films} {serving} {seed} {hall} {journal} {gate} {gat
           }) of_words all.1
           (All-head Ends worker workers finished) (subst (λ (n : ℕ). IfSome gate'.told (HasBack n (told worker.part))) (sym all.0)
           back.0) (All-head Counts worker workers counted)),
-      all_worked {told = told} {faults = faults} {films = films} {serving = serving} {seed = seed} {hall = hall}
-          {from = from + 1} workers of_words
+      all_worked {told = told} {faults = faults} {hall = hall} {from = from + 1} work workers of_words
           all.2 (All-tail Ends worker workers finished)
           (record { back = back.1; counted = All-tail Counts worker workers counted })
           (record {
@@ -445,5 +443,6 @@ all_worked {told} {faults} {films} {serving} {seed} {hall} {journal} {gate} {gat
           }),
     )
   where
+    open work use {films, serving, seed, journal, gate, gate_after as gate'}
     open backs use {back, counted}
     open own use {seen, front, whole, made}

@@ -112,13 +112,23 @@ pub record HasWorked (serving : Serving) (by : Duty) (journal : List Entry) (gat
   pub back : IfSome gate'.told (HasBack by.worker after.told)
   pub counted : 0 < after.faults → HasRisen gate.faults gate'.faults
 
+-- what workers serve: films, by a serving and its seed, with the journal and the gate before and
+-- after
+pub record Working : Type 0 where
+  pub films : List Stored
+  pub serving : Serving
+  pub seed : List ℕ
+  pub journal : List Entry
+  pub gate : Outlet
+  pub gate_after : Outlet
+
 -- workers whose numbers go on from one, with their reports
-abbrev pub AllWorked : List Stored → Serving → List ℕ → List Entry → Outlet → Outlet → ℕ →
-    List PartReport → Type 0
-AllWorked films serving seed journal gate gate' from [] = ⊤
-AllWorked films serving seed journal gate gate' from (report ∷ reports) =
-    HasWorked serving (duty films (settings_of serving) seed from) journal gate gate' report
-    × AllWorked films serving seed journal gate gate' (from + 1) reports
+abbrev pub AllWorked : Working → ℕ → List PartReport → Type 0
+AllWorked work from [] = ⊤
+AllWorked work from (report ∷ reports) =
+    HasWorked work.serving (duty work.films (settings_of work.serving) work.seed from) work.journal
+    work.gate work.gate_after report
+    × AllWorked work (from + 1) reports
 
 -- the reports of workers on their connections: those of the first one, then those of the next, and
 -- so on
@@ -154,7 +164,14 @@ pub record HaveWorked (films : List Stored) (seed : List ℕ) (serving : Serving
     (reports : List ConnReport) : Type 0 where
   pub parts : List PartReport
   pub count : length parts ≡ serving.listening.workers
-  pub each : AllWorked films serving seed journal gate gate' 0 parts
+  pub each : AllWorked (record {
+    films = films;
+    serving = serving;
+    seed = seed;
+    journal = journal;
+    gate = gate;
+    gate_after = gate';
+  }) 0 parts
   pub open_as : IsOpenAs (opening_of serving) gate'.told
   pub split : HasParts serving.listening.workers gate'.told
   pub left : AreLeft parts end reports
