@@ -1,21 +1,14 @@
 -- What a part more makes of what was said.
-use Rattle.std.proofs.Common.{◌≡◌, ℕ, ◌+◌, ◌≤◌, Bool, true, false, List, [], ◌++◌, length, take, Option, refl, sym, ap, ◌∙◌, arith, length-append, subst}
+use Rattle.std.proofs.Common.{◌≡◌, ℕ, ◌+◌, ◌≤◌, Bool, true, false, List, ◌++◌, length, take, Option, refl, sym, ap, ◌∙◌, arith, length-append, subst}
+use Rattle.std.proofs.Common.{Result, Ok, Err}
+use Rattle.std.specs.Prelude.{IsErrAnd, OnErr, OnOk, is_ok}
 use Rattle.std.proofs.lemmas.Bool.{true≢false}
 use Rattle.std.proofs.Math.Seq.{take-append-add}
 use Rattle.std.proofs.lemmas.List.{take-append-le}
-use Rattle.vod_base.specs.Outside.{HasRisen, told_more, IsFrontMore}
-use Rattle.vod_base.proofs.Telling.{told_more-append, told_more-nil}
+use Rattle.vod_base.specs.Outside.{HasRisen, IsFrontMore, told_more}
+use Rattle.vod_base.proofs.Telling.{told_more-append}
+use Rattle.vod_base.specs.declared.outside.SinkFault.{SinkFault}
 use Rattle.troubles.specs.Said.{IsSaid}
-
--- nothing was said yet
-pub said_nothing : (faults : ℕ) (told : Option (List ℕ)) → IsSaid faults faults told told [] true
-said_nothing faults told =
-    record {
-      count = omega arith;
-      all = λ _. sym (told_more-nil told);
-      risen = λ e. absurd (true≢false e);
-      front = λ e. absurd (true≢false e);
-    }
 
 -- nothing more is said after a fault
 pub said_no_more : {faults faults' : ℕ} {told told' : Option (List ℕ)} {text : List ℕ} (part : List ℕ) →
@@ -37,7 +30,7 @@ said_no_more {told} {told'} {text} part said =
     }
 
 -- a part more was written
-pub said_more : {faults faults' faults'' : ℕ} {told told' told'' : Option (List ℕ)} {text : List ℕ}
+said_more : {faults faults' faults'' : ℕ} {told told' told'' : Option (List ℕ)} {text : List ℕ}
     (part : List ℕ) → IsSaid faults faults' told told' text true →
     faults' ≤ faults'' → told'' ≡ told_more told' part → IsSaid faults faults'' told told'' (text ++ part) true
 said_more {told} {text} part said count wrote = record {
@@ -48,7 +41,7 @@ said_more {told} {text} part said count wrote = record {
 }
 
 -- a part more failed
-pub said_part : {faults faults' faults'' : ℕ} {told told' told'' : Option (List ℕ)} {text : List ℕ}
+said_part : {faults faults' faults'' : ℕ} {told told' told'' : Option (List ℕ)} {text : List ℕ}
     (part : List ℕ) → IsSaid faults faults' told told' text true →
     faults' ≤ faults'' → HasRisen faults' faults'' → IsFrontMore told' told'' part
     → IsSaid faults faults'' told told'' (text ++ part) false
@@ -71,3 +64,45 @@ pub said_as : {faults faults' : ℕ} {told told' : Option (List ℕ)} {text text
     IsSaid faults faults' told told' text ok → IsSaid faults faults' told told' text' ok
 said_as {faults = faults} {faults' = faults'} {told = told} {told' = told'} {ok = ok} e said =
     subst (λ (t : List ℕ). IsSaid faults faults' told told' t ok) e said
+
+-- a write said its bytes
+pub said_whole : {faults faults' : ℕ} {told told' : Option (List ℕ)} {part : List ℕ} → faults ≤ faults' →
+    told' ≡ told_more told part → IsSaid faults faults' told told' part true
+said_whole count whole = record {
+  count = count;
+  all = λ _. whole;
+  risen = λ e. absurd (true≢false e);
+  front = λ e. absurd (true≢false e);
+}
+
+-- or a fault left a front of them
+pub said_cut : {faults faults' : ℕ} {told told' : Option (List ℕ)} {part : List ℕ} → faults ≤ faults' →
+    HasRisen faults faults' → IsFrontMore told told' part → IsSaid faults faults' told told' part false
+said_cut count fault front = record {
+  count = count;
+  all = λ e. absurd (true≢false (sym e));
+  risen = λ _. fault;
+  front = λ _. front;
+}
+
+-- what a write said
+pub said_by : {faults faults' : ℕ} {told told' : Option (List ℕ)} {part : List ℕ}
+    (r : Result (Unit {0}) SinkFault) → faults ≤ faults' → OnErr r (HasRisen faults faults') → OnOk r (told' ≡ told_more told part) →
+    OnErr r (IsFrontMore told told' part) → IsSaid faults faults' told told' part (is_ok r)
+said_by (Ok done) count fault whole front = said_whole count whole
+said_by (Err lost) count fault whole front = said_cut count fault front
+
+-- a part more was said, or a front of it
+pub said_then : {faults faults' faults'' : ℕ} {told told' told'' : Option (List ℕ)} {text part : List ℕ} {whole : Bool} →
+    IsSaid faults faults' told told' text true → IsSaid faults' faults'' told' told'' part whole →
+    IsSaid faults faults'' told told'' (text ++ part) whole
+said_then {part = part} {whole = true} one other = said_more part one other.count (other.all refl)
+said_then {part = part} {whole = false} one other =
+    said_part part one other.count (other.risen refl) (other.front refl)
+
+-- a fault that is handed on cut it off
+pub said_lost : {faults faults' : ℕ} {told told' : Option (List ℕ)} {text : List ℕ} {lost : SinkFault}
+    (r : Result (Unit {0}) SinkFault) → IsErrAnd r (λ e. e ≡ lost) → IsSaid faults faults' told told' text false →
+    IsSaid faults faults' told told' text (is_ok r)
+said_lost (Ok done) is said = absurd is
+said_lost (Err lost) is said = said

@@ -79,10 +79,13 @@ fault_words TurnsSpent = words (codes "TurnsSpent") []
 abbrev pub fault_text : Fault → List ℕ
 fault_text fault = (fault_words fault).name ++ flat_map number_text (fault_words fault).numbers
 
+abbrev pub refusal_text : List ℕ → Fault → List ℕ
+refusal_text name fault =
+    codes "vodserve: " ++ name ++ codes ": " ++ fault_text fault ++ codes "\n"
+
 abbrev pub trouble_text : Trouble → List ℕ
 trouble_text Usage = codes "vodserve: usage\n"
-trouble_text (Refused name fault) =
-    codes "vodserve: " ++ name.now ++ codes ": " ++ fault_text fault ++ codes "\n"
+trouble_text (Refused name fault) = refusal_text name.now fault
 trouble_text (StoreFault name) = codes "vodserve: " ++ name.now ++ codes ": StoreFault\n"
 trouble_text SinkFault = codes "vodserve: SinkFault\n"
 trouble_text NoMemory = codes "vodserve: NoMemory\n"

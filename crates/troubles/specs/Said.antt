@@ -18,10 +18,3 @@ pub record IsSaid (faults faults' : ℕ) (told told' : Option (List ℕ)) (text 
   pub all : whole ≡ true → told' ≡ told_more told text
   pub risen : whole ≡ false → HasRisen faults faults'
   pub front : whole ≡ false → IsFrontMore told told' text
-
--- a part was written after what stood in a line, or the line went no further
-abbrev pub GoesOn : ℕ → ℕ → Option (List ℕ) → Option (List ℕ) → Bool → Bool → List ℕ → Type 0
-GoesOn faults faults' told told' going goes part =
-    (first : ℕ) (start : Option (List ℕ)) (text : List ℕ) →
-    IsSaid first faults start told text going →
-    IsSaid first faults' start told' (text ++ part) goes

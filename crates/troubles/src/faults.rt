@@ -4,7 +4,7 @@ use mpeg_scan::FilmFault;
 use std::alloc::{AllocError, AllocFailed};
 use sys_demux::SystemFault;
 use thiserror::Error;
-use vod_base::{GateFault, NoMemory};
+use vod_base::{GateFault, NoMemory, SinkFault};
 use wire_curve::CurveFault;
 
 /// Why an input is refused.
@@ -86,9 +86,9 @@ pub enum Trouble<'a> {
 
 impl From<NoMemory> for Trouble<'_> {
     ghost use Rattle.std.specs.Prelude.{◌≡◌};
-    ghost use Rattle.troubles.specs.declared.faults.Trouble.TheVariants.{NoMemory as TroubleNoMemory};
+    ghost use Rattle.troubles.specs.declared.faults.Trouble.TheVariants.{NoMemory as MemoryTrouble};
 
-    ghost from_gives = { λ _ trouble. trouble ≡ TroubleNoMemory };
+    ghost from_gives = { λ _ trouble. trouble ≡ MemoryTrouble };
 
     fn from(_fault: NoMemory) -> Self {
         Trouble::NoMemory
@@ -97,9 +97,9 @@ impl From<NoMemory> for Trouble<'_> {
 
 impl From<AllocError> for Trouble<'_> {
     ghost use Rattle.std.specs.Prelude.{◌≡◌};
-    ghost use Rattle.troubles.specs.declared.faults.Trouble.TheVariants.{NoMemory as TroubleNoMemory};
+    ghost use Rattle.troubles.specs.declared.faults.Trouble.TheVariants.{NoMemory as MemoryTrouble};
 
-    ghost from_gives = { λ _ trouble. trouble ≡ TroubleNoMemory };
+    ghost from_gives = { λ _ trouble. trouble ≡ MemoryTrouble };
 
     fn from(_error: AllocError) -> Self {
         Trouble::NoMemory
@@ -108,9 +108,9 @@ impl From<AllocError> for Trouble<'_> {
 
 impl<T: Drop> From<AllocFailed<T>> for Trouble<'_> {
     ghost use Rattle.std.specs.Prelude.{◌≡◌};
-    ghost use Rattle.troubles.specs.declared.faults.Trouble.TheVariants.{NoMemory as TroubleNoMemory};
+    ghost use Rattle.troubles.specs.declared.faults.Trouble.TheVariants.{NoMemory as MemoryTrouble};
 
-    ghost from_gives = { λ _ trouble. trouble ≡ TroubleNoMemory };
+    ghost from_gives = { λ _ trouble. trouble ≡ MemoryTrouble };
 
     fn from(_error: AllocFailed<T>) -> Self {
         Trouble::NoMemory
@@ -119,11 +119,22 @@ impl<T: Drop> From<AllocFailed<T>> for Trouble<'_> {
 
 impl From<GateFault> for Trouble<'_> {
     ghost use Rattle.std.specs.Prelude.{◌≡◌};
-    ghost use Rattle.troubles.specs.declared.faults.Trouble.TheVariants.{GateFault as TroubleGateFault};
+    ghost use Rattle.troubles.specs.declared.faults.Trouble.TheVariants.{GateFault as GateTrouble};
 
-    ghost from_gives = { λ _ trouble. trouble ≡ TroubleGateFault };
+    ghost from_gives = { λ _ trouble. trouble ≡ GateTrouble };
 
     fn from(_fault: GateFault) -> Self {
         Trouble::GateFault
+    }
+}
+
+impl From<SinkFault> for Trouble<'_> {
+    ghost use Rattle.std.specs.Prelude.{◌≡◌};
+    ghost use Rattle.troubles.specs.declared.faults.Trouble.TheVariants.{SinkFault as SinkTrouble};
+
+    ghost from_gives = { λ _ trouble. trouble ≡ SinkTrouble };
+
+    fn from(_fault: SinkFault) -> Self {
+        Trouble::SinkFault
     }
 }

@@ -8,7 +8,7 @@ mod statuses;
 mod words;
 
 pub use faults::{Fault, Trouble};
-pub use lines::{add, add_count, law_line_tells_trouble, say};
+pub use lines::{law_line_tells_trouble, say, say_count};
 pub use statuses::{law_status_tells_cause, status_of};
 
 #[cfg(test)]

@@ -28,22 +28,15 @@ pub(crate) fn print_served<O: Sink>(
         (served_text closed.now.book.entries (length closed.now.reports.items))
         closed.now.end result }
 {
-    let Ok(text) = served_text(alloc, &closed.book, closed.reports.len() as u64) else {
-        return Err(Trouble::NoMemory);
-    };
+    let text = served_text(alloc, &closed.book, closed.reports.len() as u64)?;
+    let written = out.write_all(&text);
     match closed.end {
-        PartEnd::NoMemory => {
-            let _ = out.write_all(&text);
-            Err(Trouble::NoMemory)
+        PartEnd::NoMemory => Err(Trouble::NoMemory),
+        PartEnd::GateFault => {
+            written?;
+            Err(Trouble::GateFault)
         }
-        PartEnd::GateFault => match out.write_all(&text) {
-            Ok(()) => Err(Trouble::GateFault),
-            Err(_) => Err(Trouble::SinkFault),
-        },
-        PartEnd::AllTaken => match out.write_all(&text) {
-            Ok(()) => Ok(()),
-            Err(_) => Err(Trouble::SinkFault),
-        },
+        PartEnd::AllTaken => Ok(written?),
     }
 }
 

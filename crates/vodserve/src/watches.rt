@@ -1,6 +1,7 @@
 //! The command `watch`.
 
-ghost use Rattle.std.specs.Prelude.{◌≡◌, ◌≤◌, true, IfSome, IfOk, OnErr, OnOk, option_map};
+ghost use Rattle.std.specs.Prelude.{◌≡◌, ◌≤◌, true, IfSome, IfOk, OnErr, OnOk, is_ok};
+ghost use Rattle.std.specs.Prelude.{option_map};
 ghost use Rattle.vod_base.specs.Names.{is_good_name};
 ghost use Rattle.vod_base.specs.Outside.{HasRisen};
 ghost use Rattle.vod_base.specs.Gates.{Failed, after_empty_take};
@@ -20,8 +21,8 @@ use crate::run::{Ended, end_with};
 use command_words::Watching;
 use rtsp_client::{WatchEnd, WatchFault, Watched, Wish, watch};
 use std::alloc::Global;
-use troubles::{Fault, Trouble, add, add_count};
-use vod_base::{Gate, GateFault, NoMemory, Opening, Sink};
+use troubles::{Fault, Trouble, say_count};
+use vod_base::{Gate, GateFault, NoMemory, Opening, Sink, SinkFault};
 
 /// Watches a film that a server plays: writes the film's bytes as they come, and says at the end
 /// what the meter of the client's buffer read.
@@ -85,20 +86,24 @@ fn wish_of(alloc: Global, watching: &Watching<'_>) -> Result<Wish, NoMemory>
 }
 
 /// Says what the meter of the client's buffer read.
-fn say_watched<E: Sink>(err: &mut E, watched: Watched) -> bool
+///
+/// # Errors
+///
+/// [`SinkFault`] where a write fails: then a front of the line stands there.
+fn say_watched<E: Sink>(err: &mut E, watched: Watched) -> Result<(), SinkFault>
     ensures said { IsSaid (E.faults err.old) (E.faults err.new) (E.written err.old)
-        (E.written err.new) (watched_text watched) result }
+        (E.written err.new) (watched_text watched) (is_ok result) }
     ensures short { IsShortWatched watched }
 {
-    let word = add(err, true, b"watched");
-    let units = add_count(err, word, "units", watched.units);
-    let bytes = add_count(err, units, "bytes", watched.bytes);
-    let frames = add_count(err, bytes, "frames", watched.frames);
-    let reports = add_count(err, frames, "reports", watched.reports);
-    let most = add_count(err, reports, "most", watched.most);
-    let over = add_count(err, most, "over", watched.over);
-    let under = add_count(err, over, "under", watched.under);
-    add(err, under, b"\n")
+    err.write_all(b"watched")?;
+    say_count(err, "units", watched.units)?;
+    say_count(err, "bytes", watched.bytes)?;
+    say_count(err, "frames", watched.frames)?;
+    say_count(err, "reports", watched.reports)?;
+    say_count(err, "most", watched.most)?;
+    say_count(err, "over", watched.over)?;
+    say_count(err, "under", watched.under)?;
+    err.write_all(b"\n")
 }
 
 /// Watches over the first connection of a part, or answers None where it gives none.

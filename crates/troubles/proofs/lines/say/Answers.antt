@@ -1,61 +1,47 @@
-use Rattle.std.proofs.Common.{◌∙◌, ◌++◌, [], ap, sym, List, ℕ}
-use Rattle.std.specs.Prelude.{codes}
-use Rattle.troubles.specs.Lines.{fault_text, trouble_text}
-use Rattle.troubles.proofs.SaidLemmas.{said_as, said_nothing}
+use Rattle.std.proofs.Common.{ap, sym, codes}
+use Rattle.troubles.specs.Lines.{trouble_text}
+use Rattle.troubles.proofs.SaidLemmas.{said_as, said_by, said_lost, said_no_more, said_then}
 use Rattle.troubles.proofs.lines.say.Goals as goal
 
 pub returns-in-Usage-clause-said : goal.returns-in-Usage-clause-said
 returns-in-Usage-clause-said g c =
     said_as (ap trouble_text (sym c.in-Usage.is))
-    (c.add.ensures (g.S.Sink.faults c.args.sink.now) (g.S.Sink.written c.args.sink.now) []
-    (said_nothing (g.S.Sink.faults c.args.sink.now) (g.S.Sink.written c.args.sink.now)))
+    (said_by c.write_all.result c.write_all.ensures.count c.write_all.ensures.fault
+    c.write_all.ensures.whole c.write_all.ensures.front)
 
 pub returns-in-SinkFault-clause-said : goal.returns-in-SinkFault-clause-said
 returns-in-SinkFault-clause-said g c =
     said_as (ap trouble_text (sym c.in-SinkFault.is))
-    (c.add-in-SinkFault.ensures (g.S.Sink.faults c.args.sink.now) (g.S.Sink.written c.args.sink.now) []
-    (said_nothing (g.S.Sink.faults c.args.sink.now) (g.S.Sink.written c.args.sink.now)))
+    (said_by c.write_all-in-SinkFault.result c.write_all-in-SinkFault.ensures.count c.write_all-in-SinkFault.ensures.fault
+    c.write_all-in-SinkFault.ensures.whole c.write_all-in-SinkFault.ensures.front)
 
 pub returns-in-NoMemory-clause-said : goal.returns-in-NoMemory-clause-said
 returns-in-NoMemory-clause-said g c =
     said_as (ap trouble_text (sym c.in-NoMemory.is))
-    (c.add-in-NoMemory.ensures (g.S.Sink.faults c.args.sink.now) (g.S.Sink.written c.args.sink.now) []
-    (said_nothing (g.S.Sink.faults c.args.sink.now) (g.S.Sink.written c.args.sink.now)))
+    (said_by c.write_all-in-NoMemory.result c.write_all-in-NoMemory.ensures.count c.write_all-in-NoMemory.ensures.fault
+    c.write_all-in-NoMemory.ensures.whole c.write_all-in-NoMemory.ensures.front)
 
 pub returns-in-GateFault-clause-said : goal.returns-in-GateFault-clause-said
 returns-in-GateFault-clause-said g c =
     said_as (ap trouble_text (sym c.in-GateFault.is))
-    (c.add-in-GateFault.ensures (g.S.Sink.faults c.args.sink.now) (g.S.Sink.written c.args.sink.now) []
-    (said_nothing (g.S.Sink.faults c.args.sink.now) (g.S.Sink.written c.args.sink.now)))
-
-pub returns-in-StoreFault-clause-said : goal.returns-in-StoreFault-clause-said
-returns-in-StoreFault-clause-said g c =
-    let program : List ℕ = codes "vodserve: " in
-    let named : List ℕ = program ++ c.as_bytes-in-StoreFault.result.now in
-    said_as (ap (λ (name : List ℕ). program ++ name ++ codes ": StoreFault\n")
-    c.as_bytes-in-StoreFault.ensures.value ∙ ap trouble_text (sym c.in-StoreFault.is))
-    (c.add-in-StoreFault.ensures (g.S.Sink.faults c.args.sink.now) (g.S.Sink.written c.args.sink.now) named
-    (c.add-named-in-StoreFault.ensures (g.S.Sink.faults c.args.sink.now) (g.S.Sink.written c.args.sink.now) program
-    (c.add-program-in-StoreFault.ensures (g.S.Sink.faults c.args.sink.now) (g.S.Sink.written c.args.sink.now) []
-    (said_nothing (g.S.Sink.faults c.args.sink.now) (g.S.Sink.written c.args.sink.now)))))
-
-pub returns-in-Refused-clause-said : goal.returns-in-Refused-clause-said
-returns-in-Refused-clause-said g c =
-    let program : List ℕ = codes "vodserve: " in
-    let named : List ℕ = program ++ c.as_bytes.result.now in
-    let colon : List ℕ = named ++ codes ": " in
-    let refused : List ℕ = colon ++ fault_text c.in-Refused.fault in
-    said_as (ap (λ (name : List ℕ). program ++ name ++ codes ": " ++ fault_text c.in-Refused.fault
-    ++ codes "\n") c.as_bytes.ensures.value ∙ ap trouble_text (sym c.in-Refused.is))
-    (c.add-in-Refused.ensures (g.S.Sink.faults c.args.sink.now) (g.S.Sink.written c.args.sink.now) refused
-    (c.add_fault-refused.ensures.said (g.S.Sink.faults c.args.sink.now) (g.S.Sink.written c.args.sink.now) colon
-    (c.add-colon.ensures (g.S.Sink.faults c.args.sink.now) (g.S.Sink.written c.args.sink.now) named
-    (c.add-named.ensures (g.S.Sink.faults c.args.sink.now) (g.S.Sink.written c.args.sink.now) program
-    (c.add-program.ensures (g.S.Sink.faults c.args.sink.now) (g.S.Sink.written c.args.sink.now) []
-    (said_nothing (g.S.Sink.faults c.args.sink.now) (g.S.Sink.written c.args.sink.now)))))))
+    (said_by c.write_all-in-GateFault.result c.write_all-in-GateFault.ensures.count c.write_all-in-GateFault.ensures.fault
+    c.write_all-in-GateFault.ensures.whole c.write_all-in-GateFault.ensures.front)
 
 pub returns-in-LinkFault-clause-said : goal.returns-in-LinkFault-clause-said
 returns-in-LinkFault-clause-said g c =
     said_as (ap trouble_text (sym c.in-LinkFault.is))
-    (c.add-in-LinkFault.ensures (g.S.Sink.faults c.args.sink.now) (g.S.Sink.written c.args.sink.now) []
-    (said_nothing (g.S.Sink.faults c.args.sink.now) (g.S.Sink.written c.args.sink.now)))
+    (said_by c.write_all-in-LinkFault.result c.write_all-in-LinkFault.ensures.count c.write_all-in-LinkFault.ensures.fault
+    c.write_all-in-LinkFault.ensures.whole c.write_all-in-LinkFault.ensures.front)
+
+pub returns-in_err-say_input-in-StoreFault-clause-said : goal.returns-in_err-say_input-in-StoreFault-clause-said
+returns-in_err-say_input-in-StoreFault-clause-said g c =
+    said_lost c.from_residual.result c.from_residual.ensures.1
+    (said_as (ap trouble_text (sym c.in-StoreFault.is))
+    (said_no_more (codes ": StoreFault\n") c.in_err-say_input-in-StoreFault.ensures))
+
+pub returns-in_ok-say_input-in-StoreFault-clause-said : goal.returns-in_ok-say_input-in-StoreFault-clause-said
+returns-in_ok-say_input-in-StoreFault-clause-said g c =
+    said_as (ap trouble_text (sym c.in-StoreFault.is))
+    (said_then c.in_ok-say_input-in-StoreFault.ensures
+    (said_by c.write_all-in-StoreFault.result c.write_all-in-StoreFault.ensures.count c.write_all-in-StoreFault.ensures.fault
+    c.write_all-in-StoreFault.ensures.whole c.write_all-in-StoreFault.ensures.front))

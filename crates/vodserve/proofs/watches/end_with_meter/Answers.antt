@@ -1,3 +1,4 @@
+use Rattle.std.specs.Prelude.{is_ok}
 use Rattle.vodserve.proofs.watches.end_with_meter.Goals as goal
 
 pub returns-clause-says : goal.returns-clause-says
@@ -5,6 +6,6 @@ returns-clause-says g c = record {
   status = c.with_status.ensures.status;
   no_plan = c.with_status.ensures.no_plan;
   short = c.say_watched.ensures.short;
-  whole = c.say_watched.result;
+  whole = is_ok c.say_watched.result;
   said = c.say_watched.ensures.said;
 }
