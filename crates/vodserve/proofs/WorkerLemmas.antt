@@ -45,7 +45,8 @@ worker_here : {G : Type 0} {told : G → Option Content} {faults : G → ℕ} {h
 worker_here from [] all i inside is = absurd (omega (arith, inside))
 worker_here {told} {faults} {hall} {worker} from (first ∷ workers) all zero inside is =
     let same : worker ≡ first = is in
-    (ap (λ (w : Worker _). w.number) same ∙ all.0 ∙ sym (add-zero from), subst (IsWorker told faults hall) (sym same) all.1)
+    let number : worker.number ≡ from + zero = ap (λ (w : Worker _). w.number) same ∙ all.0 ∙ sym (add-zero from) in
+    (number, subst (IsWorker told faults hall) (sym same) all.1)
 worker_here {worker} from (first ∷ workers) all (suc i) inside is =
     let here = worker_here {worker = worker} (from + 1) workers all.2 i (omega (arith, inside)) is in
     (omega (arith, here.0), here.1)

@@ -45,9 +45,10 @@ loop-worker-preserved g c =
     let inv = c.loop-worker.invariant in
     let done : List (Worker _) = c.loop-worker.yielded in
     let worker : Worker _ = c.in-Some.worker in
-    let turn = YieldsList-turn (YieldsList-from_vec {s = c.into_iter-worker-iterator.result} c.args.workers.items (search rules)
-    (search rules)) c.loop-worker.yielded c.loop-worker.worker-iterator c.loop-worker.yielded_by c.next.result c.next.new.self
-    c.in-Some.worker c.in-Some.is c.next.ensures.steps in
+    let turn = YieldsList-turn (YieldsList-from_vec {s = c.into_iter-worker-iterator.result}
+    c.args.workers.items (search rules) (search rules))
+    c.loop-worker.yielded c.loop-worker.worker-iterator c.loop-worker.yielded_by
+    c.next.result c.next.new.self c.in-Some.worker c.in-Some.is c.next.ensures.steps in
     let is = taken_worker {worker = worker} c.args.workers.items done c.requires.workers turn in
     record {
       joined = join_one inv.joined is.1 is.0 turn.0 (record {
@@ -79,26 +80,32 @@ loop-worker-preserved g c =
 
 pub join-requires-clause-other : goal.join-requires-clause-other
 join-requires-clause-other g c =
-    let turn = YieldsList-turn (YieldsList-from_vec {s = c.into_iter-worker-iterator.result} c.args.workers.items (search rules)
-    (search rules)) c.loop-worker.yielded c.loop-worker.worker-iterator c.loop-worker.yielded_by c.next.result c.next.new.self
-    c.in-Some.worker c.in-Some.is c.next.ensures.steps in
-    let is = taken_worker {worker = c.in-Some.worker} c.args.workers.items c.loop-worker.yielded c.requires.workers turn in
+    let turn = YieldsList-turn (YieldsList-from_vec {s = c.into_iter-worker-iterator.result}
+    c.args.workers.items (search rules) (search rules))
+    c.loop-worker.yielded c.loop-worker.worker-iterator c.loop-worker.yielded_by
+    c.next.result c.next.new.self c.in-Some.worker c.in-Some.is c.next.ensures.steps in
+    let is = taken_worker {worker = c.in-Some.worker} c.args.workers.items c.loop-worker.yielded
+    c.requires.workers turn in
     is.1.id
 
 pub join-requires-clause-not_first : goal.join-requires-clause-not_first
 join-requires-clause-not_first g c =
-    let turn = YieldsList-turn (YieldsList-from_vec {s = c.into_iter-worker-iterator.result} c.args.workers.items (search rules)
-    (search rules)) c.loop-worker.yielded c.loop-worker.worker-iterator c.loop-worker.yielded_by c.next.result c.next.new.self
-    c.in-Some.worker c.in-Some.is c.next.ensures.steps in
-    let is = taken_worker {worker = c.in-Some.worker} c.args.workers.items c.loop-worker.yielded c.requires.workers turn in
+    let turn = YieldsList-turn (YieldsList-from_vec {s = c.into_iter-worker-iterator.result}
+    c.args.workers.items (search rules) (search rules))
+    c.loop-worker.yielded c.loop-worker.worker-iterator c.loop-worker.yielded_by
+    c.next.result c.next.new.self c.in-Some.worker c.in-Some.is c.next.ensures.steps in
+    let is = taken_worker {worker = c.in-Some.worker} c.args.workers.items c.loop-worker.yielded
+    c.requires.workers turn in
     λ first. omega (arith, first, is.1.seat)
 
 pub rejoin-requires : goal.rejoin-requires
 rejoin-requires g c =
-    let turn = YieldsList-turn (YieldsList-from_vec {s = c.into_iter-worker-iterator.result} c.args.workers.items (search rules)
-    (search rules)) c.loop-worker.yielded c.loop-worker.worker-iterator c.loop-worker.yielded_by c.next.result c.next.new.self
-    c.in-Some.worker c.in-Some.is c.next.ensures.steps in
-    let is = taken_worker {worker = c.in-Some.worker} c.args.workers.items c.loop-worker.yielded c.requires.workers turn in
+    let turn = YieldsList-turn (YieldsList-from_vec {s = c.into_iter-worker-iterator.result}
+    c.args.workers.items (search rules) (search rules))
+    c.loop-worker.yielded c.loop-worker.worker-iterator c.loop-worker.yielded_by
+    c.next.result c.next.new.self c.in-Some.worker c.in-Some.is c.next.ensures.steps in
+    let is = taken_worker {worker = c.in-Some.worker} c.args.workers.items c.loop-worker.yielded
+    c.requires.workers turn in
     record {
       out = worker_out {worker = c.in-Some.worker} (length c.loop-worker.yielded) (length c.args.workers.items)
           (g.G.Gate.told c.loop-worker.gate) c.loop-worker.invariant.joined.out is turn.0;

@@ -13,6 +13,6 @@ invariant-loop-worker g l = record {
   opened : (opening : Opening) → IsOpenAs opening (g.G.Gate.told l.fn.gate) → IsOpenAs opening (g.G.Gate.told l.gate);
   since : IfSome (g.G.Gate.told l.gate) (IsNotOpened (g.G.Gate.told l.fn.gate));
   count : g.G.Gate.faults l.fn.gate ≤ g.G.Gate.faults l.gate;
-  counted : All (λ worker. 0 < g.G.Gate.faults worker.part → HasRisen (g.G.Gate.faults l.fn.gate) (g.G.Gate.faults l.gate))
-      l.yielded;
+  counted : All (λ worker. 0 < g.G.Gate.faults worker.part
+      → HasRisen (g.G.Gate.faults l.fn.gate) (g.G.Gate.faults l.gate)) l.yielded;
 }
