@@ -28,7 +28,7 @@ use Rattle.transcript.proofs.OnePlay.{IsOnePlay, Outlook, rounds-walk, setup-no-
 use Rattle.transcript.proofs.Promised.{rest-all}
 use Rattle.transcript.proofs.Replied.{replies_sent}
 use Rattle.transcript.proofs.Requests.{rounds_requests}
-use Rattle.transcript.proofs.TwoReplies.{two-first}
+use Rattle.transcript.proofs.TwoReplies.{AreReplies, two-first}
 use Rattle.transcript.proofs.Waiting.{Beginning, IsWaiting}
 use Rattle.transcript.proofs.Wished.{IsWished}
 
@@ -109,7 +109,8 @@ requests-of {wish} {stored} {course} asked =
     ) in
     let all : setup_text wish ++ (play_text wish session ++ teardown_text wish session) ≡ joined (all_texts b) =
     ap (λ l. setup_text wish ++ (play_text wish session ++ l)) (sym (append-nil (teardown_text wish session))) in
-    let its = requests-front course (all_texts b) found (subst (IsFront (rounds_input course.rounds)) all asked.heard) in
+    let heard = subst (IsFront (rounds_input course.rounds)) all asked.heard in
+    let its = requests-front course (all_texts b) found heard in
     requests-asked b (rounds_requests course.rounds) its.0 its.1 (λ none.
     let first = first_stage course.films course.settings course.words in
     let empty = rounds-none first course.last course.rounds course.follows (first-waits asked).stands none in
@@ -128,7 +129,7 @@ outlook_of asked its = record {
 one-play : {wish : Wish} {stored : Stored} {course : Course} (asked : IsAskedFor wish stored course)
     → IsOnePlay (beginning_of asked) (outlook_of asked (requests-of asked)) 0 1 (slots_from 0 course.rounds)
 one-play {wish} {stored} {course} asked =
-    rounds-walk (first_stage course.films course.settings course.words) course.last course.rounds course.follows 0
+    rounds-walk (first_stage course.films course.settings course.words) course.last course.rounds course.follows
     (setup_text wish ∷ []) (record {
       waits = first-waits asked;
       heard = refl;
@@ -154,7 +155,8 @@ whole-total : {wish : Wish} {stored : Stored} {identity : Identity} {play : Film
     → IsWholePlay wish stored identity play
     → length (framed_bytes (film_blocks stored identity)) ≡ play.keep
 whole-total {wish} {stored} {identity} {play} whole =
-    let keeps = sending-keeps (stored_sizes stored) (playback_of wish stored) (whole_run stored) play.plan whole.sending in
+    let keeps = sending-keeps (stored_sizes stored) (playback_of wish stored) (whole_run stored) play.plan
+    whole.sending in
     omega (arith, keeps.bytes, ap sum (rest-all stored), run-total stored.film identity, whole.keep)
 
 pub asked-played : {wish : Wish} {stored : Stored} {course : Course} (asked : IsAskedFor wish stored course)
@@ -169,8 +171,16 @@ asked-played {wish} {stored} {course} asked =
     let S : List FilmPlay → Type 0 = λ ps. AreSentAt now ps slots (course_texts course) in
     let sent = subst S plays
     (replies_sent course.films course.settings course.words course.rounds course.last course.follows) in
-    let two = two-first play now (length (framed_bytes (film_blocks stored one.wished.identity))) slots (course_texts course)
-    one.wished.before (whole-total whole) one.before asked.due sent asked.messages in (
+    let total = length (framed_bytes (film_blocks stored one.wished.identity)) in
+    let replies : AreReplies play now total slots (course_texts course) = record {
+      begins = one.wished.before;
+      total_is = whole-total whole;
+      before = one.before;
+      due = asked.due;
+      sent = sent;
+      messages = asked.messages;
+    } in
+    let two = two-first slots (course_texts course) replies in (
       record {
         identity = one.wished.identity;
         play = play;

@@ -27,41 +27,56 @@ no-plays-rest [] b are = are
 no-plays-rest (message ∷ a) b are = no-plays-rest a b are.1
 
 -- what a request that was answered begins: nothing, or the play that it asked for
-turn-none : (old new : Standing) (asked : Awaited) (outcome : Outcome)
+turn-none : {old new : Standing} (asked : Awaited) (outcome : Outcome)
     → ((begins : Begins old asked outcome new) → ⊥) → TurnsAs old asked outcome new
     → (askings : List Asking) → plays_begun asked outcome askings ≡ []
-turn-none old new asked outcome never (Stays same after still) = still.none
-turn-none old new asked outcome never (Starts after begins) = absurd (never begins)
-turn-none old new asked outcome never (Ends after halts) = halts.none
+turn-none asked outcome never (Stays same after still) = still.none
+turn-none asked outcome never (Starts after begins) = absurd (never begins)
+turn-none asked outcome never (Ends after halts) = halts.none
 
 pub no-play-begins : {old : Stage} {message : List ℕ} {outcome : Outcome} {parts : List Part} {new : Stage}
     (replied : IsReplied old message outcome parts new) → Stands old.session → IsNoPlay message
     → (askings : List Asking) → plays_begun replied.heard.asking.awaited outcome askings ≡ []
 no-play-begins {old} {message} {outcome} replied stands none =
     let heard = replied.heard in
-    turn-none old.session replied.answered heard.asking.awaited outcome
-    (λ begins. let its = play_heard old.session message heard.ask heard.asking begins.prepared stands.rest begins.asked_is heard.hears in
+    turn-none {old = old.session} {new = replied.answered} heard.asking.awaited outcome
+    (λ begins.
+    let its = play_heard old.session message heard.ask heard.asking begins.prepared stands.rest begins.asked_is
+    heard.hears in
     none its.request its.is_request its.method)
     (turns_as old.session message outcome replied.answered heard stands.rest)
 
+-- neither what is taken up asks for a play, nor does one begin after it
+pub record HasNoPlays (old : Stage) (takings : List Taking) (more : List Asking) : Type 0 where
+  pub stands : Stands old.session
+  pub requests : AreNoPlays (takings_requests takings)
+  pub none : plays_of more ≡ []
+
 pub takings-none : (old new : Stage) (takings : List Taking) (takes : TakesAll old takings new) (more : List Asking)
-    → Stands old.session → AreNoPlays (takings_requests takings) → plays_of more ≡ []
-    → plays_of (takings_askings old takings new takes ++ more) ≡ []
-takings-none old new [] takes more stands are none = none
-takings-none old new (Passed n ∷ takings) takes more stands are none =
-    takings-none takes.0 new takings takes.1.1 more (taken_stands old takes.0 (Passed n) takes.1.0 stands) are none
-takings-none old new (Answered message outcome parts ∷ takings) takes more stands are none =
+    → HasNoPlays old takings more → plays_of (takings_askings old takings new takes ++ more) ≡ []
+takings-none old new [] takes more has = has.none
+takings-none old new (Passed n ∷ takings) takes more has =
+    takings-none takes.0 new takings takes.1.1 more (record {
+      stands = taken_stands old takes.0 (Passed n) takes.1.0 has.stands;
+      requests = has.requests;
+      none = has.none;
+    })
+takings-none old new (Answered message outcome parts ∷ takings) takes more has =
     let later = takings_askings takes.0 takings new takes.1.1 ++ more in
-    let begun = no-play-begins takes.1.0 stands are.0 later in
+    let begun = no-play-begins takes.1.0 has.stands has.requests.0 later in
     ap (λ l. l ++ plays_of later) begun
-    ∙ takings-none takes.0 new takings takes.1.1 more
-    (taken_stands old takes.0 (Answered message outcome parts) takes.1.0 stands) are.1 none
+    ∙ takings-none takes.0 new takings takes.1.1 more (record {
+      stands = taken_stands old takes.0 (Answered message outcome parts) takes.1.0 has.stands;
+      requests = has.requests.1;
+      none = has.none;
+    })
 
 pub no-plays-front : (a b : List (List ℕ)) → AreNoPlays (a ++ b) → AreNoPlays a
 no-plays-front [] b are = tt
 no-plays-front (message ∷ a) b are = (are.0, no-plays-front a b are.1)
 
-pub takes-stands : (old new : Stage) (takings : List Taking) → TakesAll old takings new → Stands old.session → Stands new.session
+pub takes-stands : (old new : Stage) (takings : List Taking) → TakesAll old takings new → Stands old.session
+    → Stands new.session
 takes-stands old new [] takes stands = subst (λ (s : Stage). Stands s.session) (sym takes) stands
 takes-stands old new (taking ∷ takings) takes stands =
     takes-stands takes.0 new takings takes.1.1 (taken_stands old takes.0 taking takes.1.0 stands)
@@ -78,8 +93,12 @@ rounds-none old new (round ∷ rounds) follows stands are =
     let opened = opened_stands old follows.0 round runs stands in
     let more = askings_of follows.0 rounds new follows.1.1 in
     let later = takings_askings runs.opened round.takings follows.0 runs.takes ++ more in
+    let mid = takes-stands runs.opened follows.0 round.takings runs.takes opened in
+    let front = takings_requests round.takings in
+    let none = rounds-none follows.0 new rounds follows.1.1 mid (no-plays-rest front (rounds_requests rounds) are) in
     ap (λ l. l ++ plays_of later) (event-none runs later)
-    ∙ takings-none runs.opened follows.0 round.takings runs.takes more opened
-    (no-plays-front (takings_requests round.takings) (rounds_requests rounds) are)
-    (rounds-none follows.0 new rounds follows.1.1 (takes-stands runs.opened follows.0 round.takings runs.takes opened)
-    (no-plays-rest (takings_requests round.takings) (rounds_requests rounds) are))
+    ∙ takings-none runs.opened follows.0 round.takings runs.takes more (record {
+      stands = opened;
+      requests = no-plays-front front (rounds_requests rounds) are;
+      none = none;
+    })

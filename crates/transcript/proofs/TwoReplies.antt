@@ -37,15 +37,23 @@ never-unsent {slot} play now before late unsent =
     let below : due_by now (play ∷ []) < 0 = unsent 0 (first-boundary play before) (omega (arith, none)) in
     omega (arith, below)
 
--- the replies once the film was due
-after-film : (play : FilmPlay) (now total : ℕ) (slots : List ℕ) (texts : List PlacedText) → total ≡ play.keep
-    → IsDueBy play slots → AreSentAt now (play ∷ []) slots texts → AreMessages texts → AreAfter total texts
-after-film play now total slots [] is due sent messages = tt
-after-film play now total [] (placed ∷ texts) is due sent messages = absurd sent
-after-film play now total (slot ∷ slots) (placed ∷ texts) is due sent messages =
-    let after : due_by slot (play ∷ []) ≤ placed.place = sent.0.next.after in
-    let all : due_of slot play ≡ play.keep = due.0 in
-    (omega (arith, after, all, is), messages.0, after-film play now total slots texts is due.1 sent.1 messages.1)
+-- replies to requests that were taken up once the film was due
+record AreOnceDue (play : FilmPlay) (now : ℕ) (slots : List ℕ) (texts : List PlacedText) : Type 0 where
+  due : IsDueBy play slots
+  sent : AreSentAt now (play ∷ []) slots texts
+  messages : AreMessages texts
+
+-- they stand after it
+after-film : {play : FilmPlay} {now total : ℕ} (slots : List ℕ) (texts : List PlacedText) → total ≡ play.keep
+    → AreOnceDue play now slots texts → AreAfter total texts
+after-film slots [] total_is replies = tt
+after-film [] (placed ∷ texts) total_is replies = absurd replies.sent
+after-film {play} {now} {total} (slot ∷ slots) (placed ∷ texts) total_is replies =
+    let after : due_by slot (play ∷ []) ≤ placed.place = replies.sent.0.next.after in
+    let all : due_of slot play ≡ play.keep = replies.due.0 in
+    let rest : AreOnceDue play now slots texts =
+    record { due = replies.due.1; sent = replies.sent.1; messages = replies.messages.1 } in
+    (omega (arith, after, all, total_is), replies.messages.0, after-film slots texts total_is rest)
 
 -- two replies in front, and the others after the film
 pub record AreTwoFirst (total : ℕ) (texts : List PlacedText) : Type 0 where
@@ -57,24 +65,34 @@ pub record AreTwoFirst (total : ℕ) (texts : List PlacedText) : Type 0 where
   pub second_is : IsMessage second
   pub after : AreAfter total later
 
-pub two-first : (play : FilmPlay) (now total : ℕ) (slots : List ℕ) (texts : List PlacedText) → play.before ≡ 0
-    → total ≡ play.keep → AreBefore 2 play.start slots → IsDueBy play (drop 2 slots)
-    → AreSentAt now (play ∷ []) slots texts → AreMessages texts → AreTwoFirst total texts
-two-first play now total [] texts from is before due sent messages = absurd before
-two-first play now total (one ∷ []) texts from is before due sent messages = absurd before.1
-two-first play now total (one ∷ two ∷ slots) [] from is before due sent messages =
-    absurd (never-unsent play now from before.0 sent.0)
-two-first play now total (one ∷ two ∷ slots) (first ∷ []) from is before due sent messages =
-    absurd (never-unsent play now from before.1.0 sent.1.0)
-two-first play now total (one ∷ two ∷ slots) (first ∷ second ∷ later) from is before due sent messages =
-    let at_first = sent-first {play = play} from before.0 sent.0 in
-    let at_second = sent-first {play = play} from before.1.0 sent.1.0 in
+-- replies of a course with one play, two of them to requests before it
+pub record AreReplies (play : FilmPlay) (now total : ℕ) (slots : List ℕ) (texts : List PlacedText) : Type 0 where
+  pub begins : play.before ≡ 0
+  pub total_is : total ≡ play.keep
+  pub before : AreBefore 2 play.start slots
+  pub due : IsDueBy play (drop 2 slots)
+  pub sent : AreSentAt now (play ∷ []) slots texts
+  pub messages : AreMessages texts
+
+pub two-first : {play : FilmPlay} {now total : ℕ} (slots : List ℕ) (texts : List PlacedText)
+    → AreReplies play now total slots texts → AreTwoFirst total texts
+two-first [] texts replies = absurd replies.before
+two-first (one ∷ []) texts replies = absurd replies.before.1
+two-first {play} {now} (one ∷ two ∷ slots) [] replies =
+    absurd (never-unsent play now replies.begins replies.before.0 replies.sent.0)
+two-first {play} {now} (one ∷ two ∷ slots) (first ∷ []) replies =
+    absurd (never-unsent play now replies.begins replies.before.1.0 replies.sent.1.0)
+two-first {play} {now} {total} (one ∷ two ∷ slots) (first ∷ second ∷ later) replies =
+    let at_first = sent-first {play = play} replies.begins replies.before.0 replies.sent.0 in
+    let at_second = sent-first {play = play} replies.begins replies.before.1.0 replies.sent.1.0 in
+    let rest : AreOnceDue play now slots later =
+    record { due = replies.due; sent = replies.sent.1.1; messages = replies.messages.1.1 } in
     record {
       first = first.text;
       second = second.text;
       later = later;
       texts_are = ap (λ t. t ∷ second ∷ later) at_first ∙ ap (λ t. placed_text 0 first.text ∷ t ∷ later) at_second;
-      first_is = messages.0;
-      second_is = messages.1.0;
-      after = after-film play now total slots later is due sent.1.1 messages.1.1;
+      first_is = replies.messages.0;
+      second_is = replies.messages.1.0;
+      after = after-film slots later replies.total_is rest;
     }

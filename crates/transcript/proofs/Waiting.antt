@@ -1,4 +1,5 @@
--- A connection that is asked for SETUP alone, before PLAY, plays nothing; where SETUP was answered 200 it settled what was wished.
+-- A connection that is asked for SETUP alone, before PLAY, plays nothing; where SETUP was answered 200 it settled what
+-- was wished.
 use Rattle.std.specs.Prelude.{⊤}
 use Rattle.std.proofs.Common.{◌≡◌, ℕ, ◌<◌, ◌^◌, if◌then◌else◌, Bool, true, false, List, ◌++◌, None, codes, refl, sym, ap, subst, ◌∙◌}
 use Rattle.std.proofs.lemmas.Bool.{true≢false}
@@ -20,7 +21,8 @@ use Rattle.session.specs.Films.{Names}
 use Rattle.session.specs.Sendings.{after_play, after_slot, can_reply, is_sending, is_taken, sent_reply, sent_slot}
 use Rattle.session.specs.Standings.{NoAnswer, Standing, awaited_answer_of}
 use Rattle.session.specs.Steps.{after_stop}
-use Rattle.conn.specs.Rounds.{Comes, Round, Runs}
+use Rattle.conn.proofs.Occasions.{EventCome}
+use Rattle.conn.specs.Rounds.{Round, Runs}
 use Rattle.conn.specs.Turns.{Answered, Entered, IsAskAnswered, IsFinished, Offered, Outcome, Part, Stage, Takes, Unasked, WasFull}
 use Rattle.transcript.proofs.Filming.{Stands, opened_stands, taken_stands}
 use Rattle.transcript.proofs.SettledSetups.{IsSettled, settled-by, setup-is}
@@ -64,7 +66,8 @@ record IsHeardOn (old new : Standing) : Type 0 where
   awaited : new.awaited ≡ old.awaited
 
 heard-on : (old : Standing) (slot : ℕ) (taken sending : Bool) → sending ≡ false
-    → IsHeardOn old (if taken then (if sending then after_play (sent_slot old slot) else record old { heard = slot }) else old)
+    → IsHeardOn old
+    (if taken then (if sending then after_play (sent_slot old slot) else record old { heard = slot }) else old)
 heard-on old slot true false is = record { films = refl; settings = refl; state = refl; awaited = refl }
 heard-on old slot true true is = absurd (true≢false is)
 heard-on old slot false sending is = record { films = refl; settings = refl; state = refl; awaited = refl }
@@ -75,35 +78,37 @@ finished-same s (Entered placed) new is = absurd is
 finished-same s (WasFull more entries open_plays) new is = absurd is
 finished-same s (Offered at_slot note) new is = absurd is
 
-comes-same : (old opened : Stage) (event : Doing) (due : List Part) (halt : Outcome) → Comes old event due halt opened
+comes-same : (old opened : Stage) (event : Doing) (come : EventCome old event opened)
     → old.session.awaited ≡ Nothing → is_sending old.session.state ≡ false → IsHeardOn old.session opened.session
-comes-same old opened (HeardBytes bytes) due halt comes rest idle =
-    let same : opened.session ≡ old.session = ap (λ (s : Stage). s.session) comes.3 in
+comes-same old opened (HeardBytes bytes) come rest idle =
+    let same : opened.session ≡ old.session = ap (λ (s : Stage). s.session) come.comes.3 in
     record {
       films = ap (λ (s : Standing). s.films) same;
       settings = ap (λ (s : Standing). s.settings) same;
       state = ap (λ (s : Standing). s.state) same;
       awaited = ap (λ (s : Standing). s.awaited) same;
     }
-comes-same old opened (HeardSlot slot) due halt comes rest idle =
+comes-same old opened (HeardSlot slot) come rest idle =
     let s = after_slot old.session slot in
     let on = heard-on old.session slot (is_taken old.session slot) (is_sending old.session.state) idle in
-    let F : Awaited → Type 0 = λ a. IsFinished (awaited_answer_of a) s halt opened.session in
+    let F : Awaited → Type 0 = λ a. IsFinished (awaited_answer_of a) s come.halt opened.session in
     let same : opened.session ≡ s =
-    finished-same s halt opened.session (subst F (on.awaited ∙ rest) comes.1.finished) in
+    finished-same s come.halt opened.session (subst F (on.awaited ∙ rest) come.comes.1.finished) in
     record {
       films = ap (λ (x : Standing). x.films) same ∙ on.films;
       settings = ap (λ (x : Standing). x.settings) same ∙ on.settings;
       state = ap (λ (x : Standing). x.state) same ∙ on.state;
       awaited = ap (λ (x : Standing). x.awaited) same ∙ on.awaited;
     }
-comes-same old opened HeardEnd due halt comes rest idle = absurd comes
-comes-same old opened (Sent byte) due halt comes rest idle = absurd comes
+comes-same old opened HeardEnd come rest idle = absurd come.comes
+comes-same old opened (Sent byte) come rest idle = absurd come.comes
 
-pub opened-waits : {b : Beginning} {old new : Stage} {round : Round} (runs : Runs old round new) → IsWaiting b old.session
-    → IsWaiting b runs.opened.session
+pub opened-waits : {b : Beginning} {old new : Stage} {round : Round} (runs : Runs old round new)
+    → IsWaiting b old.session → IsWaiting b runs.opened.session
 opened-waits {b} {old} {new} {round} runs waits =
-    let on = comes-same old runs.opened round.event round.due round.halt runs.comes waits.stands.rest
+    let come : EventCome old round.event runs.opened =
+    record { due = round.due; halt = round.halt; comes = runs.comes } in
+    let on = comes-same old runs.opened round.event come waits.stands.rest
     (unsending b.wish b.films old.session.state waits.unbegun) in
     record {
       stands = opened_stands old new round runs waits.stands;
@@ -173,7 +178,8 @@ pub answered-waits : {b : Beginning} {old new : Stage} {message : List ℕ} {out
     → IsWaiting b new.session
 answered-waits {b} {old} {new} {message} {outcome} {parts} takes is waits =
     let heard = takes.heard in
-    let S : List ℕ → Type 0 = λ m. IsSetupRequest m (film_url b.wish ++ codes "/video") (request_head (setup_parts b.wish)) in
+    let S : List ℕ → Type 0 = λ m.
+    IsSetupRequest m (film_url b.wish ++ codes "/video") (request_head (setup_parts b.wish)) in
     let setup = setup_heard old.session message (film_url b.wish ++ codes "/video") (request_head (setup_parts b.wish))
     heard.ask heard.asking (subst S (sym is) (setup-is b.wish b.wished b.port)) heard.hears in
     let still = setup-waits waits setup in

@@ -19,12 +19,23 @@ use Rattle.transcript.proofs.Reading.{all_of}
 use Rattle.transcript.proofs.Readings.{AreFed, IsFed}
 use Rattle.transcript.proofs.Watching.{kept-promise, told-course}
 
-pub watched-whole : (wish : Wish) (stored : Stored) (course : Course) (watched : Watched) (heard : List Doing) (out : List ℕ)
-    → IsWish wish → (played : IsPlayed wish stored course)
-    → (client : HasCourse wish (Done watched) (Some []) (Some heard) (Some []) (Some out))
-    → IsCarried (rounds_doings course.rounds) heard played.play.start (first_slot client.mid.history)
-    → HasWatchedWhole wish stored watched out
-watched-whole wish stored course watched heard out wished played client carried =
+-- a client watched to the end what a course played, over a link that carried it slot by slot
+pub record IsWatched (wish : Wish) (stored : Stored) (watched : Watched) (out : List ℕ) : Type 0 where
+  pub course : Course
+  pub heard : List Doing
+  pub wished : IsWish wish
+  pub played : IsPlayed wish stored course
+  pub client : HasCourse wish (Done watched) (Some []) (Some heard) (Some []) (Some out)
+  pub carried : IsCarried (rounds_doings course.rounds) heard played.play.start (first_slot client.mid.history)
+
+pub watched-whole : (wish : Wish) (stored : Stored) (watched : Watched) (out : List ℕ)
+    → IsWatched wish stored watched out → HasWatchedWhole wish stored watched out
+watched-whole wish stored watched out is =
+    let course = is.course in
+    let heard = is.heard in
+    let played = is.played in
+    let client = is.client in
+    let carried = is.carried in
     let x = stream_of wish stored course played in
     let told = told-course wish watched heard out client in
     let begin = first_slot client.mid.history in
@@ -38,9 +49,13 @@ watched-whole wish stored course watched heard out wished played client carried 
     (fed played
     (carried.each its.0 its.1.0 slot (its.1.1.0 ∙ ap (λ e. its.0 ++ e ∷ its.1.0) event) after_begin)) in
     let kept = kept-promise front.count (record {
-      wished = wished;
+      wished = is.wished;
       timed = played.whole.sending.can_play.playback_is.some_picture_units;
       film_is = film-in wish stored course played;
     })
-    client.runs told.all (sym told.heard_is ∙ front.is) feeds in
-    (kept.over_none, kept.under_none, kept.most_fits, λ first at_first last at_last. kept.film_back first last at_first at_last)
+    client.runs told.all (sym told.heard_is ∙ front.is) feeds in (
+      kept.over_none,
+      kept.under_none,
+      kept.most_fits,
+      λ first at_first last at_last. kept.film_back first last at_first at_last,
+    )

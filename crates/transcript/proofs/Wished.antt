@@ -5,7 +5,6 @@ use Rattle.film_frames.specs.Runs.{run_of, run_pieces}
 use Rattle.film_run.specs.declared.plans.Playback.{Playback}
 use Rattle.film_run.specs.declared.runs.Run.{Run}
 use Rattle.film_run.specs.Laws.{IsSending}
-use Rattle.film_run.specs.Plans.{CanPlay, IsPlanOf}
 use Rattle.film_run.specs.Units.{stored_sizes}
 use Rattle.mpeg_scan.specs.Codes.{read_after}
 use Rattle.mpeg_scan.specs.Rates.{picture_time}
@@ -54,18 +53,23 @@ some-time stored =
     let rate = film-rate (read_after [] film.bytes.items) film.grammar.accepted in
     (time_bounds film.rate (omega (arith, film.grammar.rate, rate.0)) (omega (arith, film.grammar.rate, rate.1))).0
 
-sending-for : {setup : Setup} {run : Run} {plan own : List Segment} (b : Beginning) (settings : Settings) (stored : Stored)
-    → run ≡ whole_run stored → IsSettled b.wish b.films setup → settings.slot_units ≡ b.wish.slot_units → own ≡ plan
-    → CanPlay (stored_sizes stored) (session_playback stored.film settings setup) run
-    → IsPlanOf (stored_sizes stored) (session_playback stored.film settings setup) run plan
-    → IsSending (stored_sizes stored) (playback_of b.wish stored) (whole_run stored) own
-sending-for {setup} {run} {plan} {own} b settings stored whole settled slots same can_play plan_is =
-    let S : Playback → Run → List Segment → Type 0 = λ p r l. IsSending (stored_sizes stored) p r l in
-    let playback = playback-same (session_playback stored.film settings setup) (playback_of b.wish stored) refl slots
-    settled.buffer settled.delay in
-    subst (S (playback_of b.wish stored) (whole_run stored)) (sym same)
-    (subst (λ r. S (playback_of b.wish stored) r plan) whole
-    (subst (λ p. S p run plan) playback (record { can_play = can_play; plan_is = plan_is })))
+-- a session planned a run for the client, which is the whole film
+record IsPlannedFor (b : Beginning) (settings : Settings) (stored : Stored) (plan : List Segment) : Type 0 where
+  setup : Setup
+  run : Run
+  settled : IsSettled b.wish b.films setup
+  slot_units : settings.slot_units ≡ b.wish.slot_units
+  run_is : run ≡ whole_run stored
+  sending : IsSending (stored_sizes stored) (session_playback stored.film settings setup) run plan
+
+sending-for : (b : Beginning) (settings : Settings) (stored : Stored) (plan : List Segment)
+    → IsPlannedFor b settings stored plan
+    → IsSending (stored_sizes stored) (playback_of b.wish stored) (whole_run stored) plan
+sending-for b settings stored plan planned =
+    let S : Playback → Run → Type 0 = λ p r. IsSending (stored_sizes stored) p r plan in
+    let playback = playback-same (session_playback stored.film settings planned.setup) (playback_of b.wish stored) refl
+    planned.slot_units planned.settled.buffer planned.settled.delay in
+    subst (S (playback_of b.wish stored)) planned.run_is (subst (λ p. S p planned.run) playback planned.sending)
 
 pub wished-play : {b : Beginning} {old : Standing} {message : List ℕ} {prepared : Prepared} {play : FilmPlay}
     → IsWaiting b old → message ≡ play_text b.wish b.session → IsPlayHeard old message prepared
@@ -84,24 +88,33 @@ wished-play {b} {old} {message} {prepared} {play} waits is heard plan before pie
     let range : header_value heard.request.head.now (codes "Range") ≡ Some (codes "npt=0-") =
     ap (λ h. header_value h (codes "Range")) same.head_is ∙ range-is b.wish b.session b.wished b.port b.session_is in
     let P : Option Run → Option (List ℕ) → Type 0 = λ p r. IsPlannedRun old stored setup p r planned in
-    let planned_is = subst (P None) range (subst (λ p. P p (header_value heard.request.head.now (codes "Range"))) begun.0
-    heard.planned_is) in
+    let asked_range = header_value heard.request.head.now (codes "Range") in
+    let planned_is = subst (P None) range (subst (λ p. P p asked_range) begun.0 heard.planned_is) in
     let run : planned.run ≡ whole_run stored =
     planned_is.run_is ∙ asked-whole stored planned_is.wanted (some-time stored) planned_is.asked in
     let prepared_is = heard.prepared_is in
     let identity = identity_of old.source setup planned.counts in
+    let at = subst (λ films. IsFilmAt films setup.film stored) waits.films_are heard.planned_is.at in
+    let plan_is : play.plan ≡ planned.plan = plan ∙ ap (λ (p : Prepared). p.plan) prepared_is in
+    let planned_for : IsPlannedFor b old.settings stored planned.plan = record {
+      setup = setup;
+      run = planned.run;
+      settled = settled;
+      slot_units = ap (λ (s : Settings). s.slot_units) waits.settings_are ∙ b.slot_units;
+      run_is = run;
+      sending = record { can_play = planned_is.can_play; plan_is = planned_is.plan_is };
+    } in
     record {
       number = setup.film;
       stored = stored;
-      at = subst (λ films. IsFilmAt films setup.film stored) waits.films_are heard.planned_is.at;
-      name_is = settled.film stored (subst (λ films. IsFilmAt films setup.film stored) waits.films_are heard.planned_is.at);
+      at = at;
+      name_is = settled.film stored at;
       identity = identity;
       media = settled.media;
       control = settled.control;
       pieces = pieces ∙ (ap (λ (p : Prepared). run_pieces p.frames) prepared_is
           ∙ ap (λ (r : Run). run_pieces (run_of stored.film r.first_unit r.end_unit identity)) run);
       before = before ∙ (ap (λ (p : Prepared). p.run.sent) prepared_is ∙ ap (λ (r : Run). r.sent) run);
-      sending = sending-for b old.settings stored run settled
-          (ap (λ (s : Settings). s.slot_units) waits.settings_are ∙ b.slot_units)
-          (plan ∙ ap (λ (p : Prepared). p.plan) prepared_is) planned_is.can_play planned_is.plan_is;
+      sending = subst (IsSending (stored_sizes stored) (playback_of b.wish stored) (whole_run stored)) (sym plan_is)
+          (sending-for b old.settings stored planned.plan planned_for);
     }

@@ -8,11 +8,26 @@ use Rattle.transcript.proofs.WatchedWhole.{watched-whole}
 use Rattle.transcript.proofs.watched.law_watched_whole.Goals as goal
 
 pub returns-clause-played : goal.returns-clause-played
-returns-clause-played c = watched-whole
+returns-clause-played c = λ wish stored course watched heard out wished played client carried.
+    watched-whole wish stored watched out (record {
+      course = course;
+      heard = heard;
+      wished = wished;
+      played = played;
+      client = client;
+      carried = carried;
+    })
 
 pub returns-clause-asked : goal.returns-clause-asked
 returns-clause-asked c = λ wish stored course watched heard out asked client carried.
     let played = asked-played asked in
     let C : FilmPlay → Type 0 = λ play.
     IsCarried (rounds_doings course.rounds) heard play.start (first_slot client.mid.history) in
-    watched-whole wish stored course watched heard out asked.wished played.0 client (subst C (sym played.1) carried)
+    watched-whole wish stored watched out (record {
+      course = course;
+      heard = heard;
+      wished = asked.wished;
+      played = played.0;
+      client = client;
+      carried = subst C (sym played.1) carried;
+    })
