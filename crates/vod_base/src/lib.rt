@@ -33,7 +33,7 @@ pub use laws::{
     law_blanks, law_bytes_of_sends, law_file_name, law_first_file, law_line_text, law_number_read,
     law_trim,
 };
-pub use limits::number_within;
+pub use limits::{MAX_BYTES, MAX_DELAY, MAX_FILM_PICTURES, MAX_SLOTS, number_within};
 pub use lines::{Line, line_end};
 pub use links::{Heard, LATEST_SLOT, Link};
 pub use memory_gates::{MemoryGate, MemoryPart};

@@ -1,10 +1,22 @@
-//! Numbers within limits.
+//! The limits that several crates keep, and numbers within limits.
 
 ghost use Rattle.std.specs.Prelude.{◌≡◌, ℕ, ◌≤◌, IfSome, MatchOption};
 ghost use Rattle.vod_base.specs.Numbers.{number_of};
 ghost use Rattle.vod_base.specs.Limits.{WritesNumber, in_range};
 
 use crate::numbers::read_number;
+
+/// The most slots of a film's curves and of its plan.
+pub const MAX_SLOTS: u64 = 1_000_000;
+
+/// The most bytes of a plan, of a client's buffer and of a slot of a link.
+pub const MAX_BYTES: u64 = 1 << 42;
+
+/// The longest start delay: the most slots before the first picture is used.
+pub const MAX_DELAY: u64 = 10_000;
+
+/// The most pictures of a film.
+pub const MAX_FILM_PICTURES: u32 = 4_194_304;
 
 /// The number from `least` to `most` that the text writes in decimal digits, leading zeros allowed.
 /// None exactly where it writes no such number.
