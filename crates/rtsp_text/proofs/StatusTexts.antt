@@ -85,7 +85,7 @@ whole_status {text} {version} {rest} {digits} {code} first second version_is is 
 }
 
 -- a status line has one code and one phrase
-line_once : {text : List ℕ} {c : ℕ} {r : List ℕ} {d : ℕ} {s : List ℕ} → IsStatusLine text c r
+pub line_once : {text : List ℕ} {c : ℕ} {r : List ℕ} {d : ℕ} {s : List ℕ} → IsStatusLine text c r
     → IsStatusLine text d s → (c ≡ d) × (r ≡ s)
 line_once {text} {c} {r} {s} a b =
     let first : IsSplitAtFirst 32 text (codes "RTSP/1.0") (a.digits ++ 32 ∷ r) =
