@@ -3,11 +3,7 @@
 ghost use Rattle.std.specs.Prelude.{◌≡◌, ℕ, ◌+◌, ◌<◌, ◌≤◌, ◌↔◌, IsTrue, length, slice_index};
 ghost use Rattle.wire_curve.specs.Sound.{IsSound};
 
-/// The most slots that a plan may have.
-pub(crate) const MAX_SLOTS: u64 = 1_000_000;
-
-/// The most bytes of a film, and of a client's buffer.
-pub(crate) const MAX_BYTES: u64 = 1 << 42;
+use vod_base::{MAX_BYTES, MAX_SLOTS};
 
 /// Two curves over the slots of a plan, by the bytes sent in all at the end of each slot.
 ///

@@ -11,18 +11,13 @@ ghost use Rattle.wire_curve.specs.Uses.{AreUses, IsFaultOfUses, AreCurvesOfUses,
 ghost use Rattle.wire_curve.specs.Uses.{IsUpperOfUses};
 ghost use Rattle.wire_curve.specs.Refusal.{IsAccepted, IsOverfull, HasFault, IsRefused};
 
-use crate::curves::{Curves, MAX_BYTES, MAX_SLOTS};
+use crate::curves::Curves;
 use std::alloc::{AllocError, Global};
 use thiserror::Error;
+use vod_base::{MAX_BYTES, MAX_DELAY, MAX_FILM_PICTURES, MAX_SLOTS};
 
 /// The longest time of a picture and of a slot, in units of 1/360,000 second.
 const MAX_UNITS: u32 = 360_000;
-
-/// The most slots before the first picture is used.
-const MAX_DELAY: u64 = 10_000;
-
-/// The most pictures of a film.
-const MAX_PICTURES: usize = 4_194_304;
 
 /// When pictures are used and what the client can hold.
 ///
@@ -75,7 +70,7 @@ impl Timing {
             && self.picture_units <= MAX_UNITS
             && 1 <= self.slot_units
             && self.slot_units <= MAX_UNITS
-            && sizes.len() <= MAX_PICTURES
+            && sizes.len() <= MAX_FILM_PICTURES as usize
             && self.delay <= MAX_DELAY
             && 1 <= self.buffer
             && self.buffer <= MAX_BYTES
