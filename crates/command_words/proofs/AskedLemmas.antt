@@ -19,17 +19,16 @@ use Rattle.command_words.specs.Settings.{number_or, one_name, one_number, values
 use Rattle.command_words.specs.Capacities.{IsFront, capacity_of, flat_steps, may_follow}
 use Rattle.command_words.specs.Capacities.{one_capacity, part_more, stands_after, step_more}
 use Rattle.command_words.specs.Capacities.{step_of, steps_of}
-use Rattle.command_words.specs.Keys.{film_given, cert_given, script_given, buffer_given}
-use Rattle.command_words.specs.Keys.{delay_given, slot_given, capacity_given, journal_given}
-use Rattle.command_words.specs.Keys.{port_given, workers_given, connections_given, seed_given}
-use Rattle.command_words.specs.Keys.{pictures_given, plays_given, one_kind, one_bind}
+use Rattle.command_words.specs.Keys.{film_given, buffer_given}
+use Rattle.command_words.specs.Keys.{delay_given, slot_given, journal_given}
+use Rattle.command_words.specs.Keys.{port_given}
 use Rattle.command_words.specs.Commands.{command_named, is_word_of}
 use Rattle.command_words.specs.declared.commands.Command.{Command}
 use Rattle.command_words.specs.declared.commands.Command.TheVariants.{Plan, Check, Scan, Make, Day, Fair, Serve, Watch}
 use Rattle.command_words.specs.Words.{Source, trace_source, film_source, Viewer, Serving, ScriptRun}
-use Rattle.command_words.specs.Words.{Watching, Order, help, version, plan_of, check_of, scan_of}
-use Rattle.command_words.specs.Words.{make_of, day_of, fair_of, serve_of, watch_of, are_films}
-use Rattle.command_words.specs.Words.{command_order, lone_order, source_of, source_given}
+use Rattle.command_words.specs.Words.{Watching, Order, help, version, plan_of, scan_of}
+use Rattle.command_words.specs.Words.{day_of, fair_of, serve_of, watch_of}
+use Rattle.command_words.specs.Words.{command_order, lone_order, source_of}
 use Rattle.command_words.specs.Words.{viewer_given, script_run_given, fair_run_given}
 use Rattle.command_words.specs.Words.{listening_given, pace_given, serving_given, watching_given}
 use Rattle.command_words.specs.Words.{order_given, meaning}
@@ -99,7 +98,8 @@ one_read steps step read may =
     let small = and_parts (nat_le step.from (2 ^ 62)) (nat_le step.bytes (2 ^ 42)) rest.1 in
     record {
       front = front_more steps step read.front may;
-      early = All-push (λ (s : CapacityStep). s.from ≤ 2 ^ 62) steps step read.early (leb-true step.from (2 ^ 62) small.0);
+      early = All-push (λ (s : CapacityStep). s.from ≤ 2 ^ 62) steps step read.early
+          (leb-true step.from (2 ^ 62) small.0);
     }
 
 some_read : (steps : List CapacityStep) → AreRead steps → 1 ≤ length steps → IsCapacity steps
@@ -113,7 +113,8 @@ none_after (part ∷ parts) steps e = none_after parts steps e
 -- the step of a part that others follow
 part_found : (front : List CapacityStep) (o : Option CapacityStep) (parts : List (List ℕ)) (steps : List CapacityStep) →
     fold part_more (step_more front o) parts ≡ Some steps →
-    (step : CapacityStep) × (may_follow front step ≡ true) × (fold part_more (Some (front ++ step ∷ [])) parts ≡ Some steps)
+    (step : CapacityStep) × (may_follow front step ≡ true)
+    × (fold part_more (Some (front ++ step ∷ [])) parts ≡ Some steps)
 part_found front None parts steps e = absurd (none_after parts steps e)
 part_found front (Some step) parts steps e = by (may_follow front step) refl e
   where
@@ -155,7 +156,8 @@ text_capacity text steps e = by (nat_lt (position_or_len (λ b. b == 58) text) (
         let bytes = last_step_found flat_steps (in_range 1 (2 ^ 42) (number_of text)) steps e in
         subst IsCapacity bytes.2 (flat_capacity bytes.0 (between_found 1 (2 ^ 42) bytes.0 (number_of text) bytes.1).1)
 
-capacity_asked : (steps : List CapacityStep) (values : List (List ℕ)) → one_capacity values ≡ Some steps → IsCapacity steps
+capacity_asked : (steps : List CapacityStep) (values : List (List ℕ)) → one_capacity values ≡ Some steps
+    → IsCapacity steps
 capacity_asked steps [] e = subst IsCapacity (same_Some (flat_steps 50000) steps e) (flat_capacity 50000 (omega arith))
 capacity_asked steps (value ∷ []) e = text_capacity value steps e
 capacity_asked steps (value ∷ other ∷ others) e = absurd (none-some _ e)

@@ -48,7 +48,8 @@ old_step : (steps : List CapacityStep) (step : CapacityStep) (i : ℕ) → i < l
     → step_at (steps ++ step ∷ []) i ≡ step_at steps i
 old_step steps step i inside = get_or-append steps (step ∷ []) no_step i inside
 
-new_step : (steps : List CapacityStep) (step : CapacityStep) (i : ℕ) → i ≡ length steps → step_at (steps ++ step ∷ []) i ≡ step
+new_step : (steps : List CapacityStep) (step : CapacityStep) (i : ℕ) → i ≡ length steps
+    → step_at (steps ++ step ∷ []) i ≡ step
 new_step steps step i last = ap (step_at (steps ++ step ∷ [])) last ∙ get_or-append_seam steps step [] no_step
 
 first_more : (steps : List CapacityStep) (step : CapacityStep) → IsFront steps → MayFollow steps step
@@ -109,8 +110,8 @@ none_front = record {
 }
 
 -- with a step more there are some
-pub some_more : {more : List CapacityStep} (steps : List CapacityStep) (step : Option CapacityStep) → step_more steps step ≡ Some more
-    → 1 ≤ length more
+pub some_more : {more : List CapacityStep} (steps : List CapacityStep) (step : Option CapacityStep)
+    → step_more steps step ≡ Some more → 1 ≤ length more
 some_more steps None e = absurd (cc)
 some_more {more} steps (Some step) e = by (may_follow steps step) e
   where

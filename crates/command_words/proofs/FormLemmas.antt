@@ -4,30 +4,28 @@ use Rattle.std.proofs.Common.{length, sym, ap, ◌∙◌, arith, Option, Some, N
 use Rattle.std.proofs.Common.{refl, codes, if◌then◌else◌, nat_lt, get_or, inl, inr}
 use Rattle.std.specs.List.{after_first, before_first, list_all, position_or_len}
 use Rattle.std.specs.Option.{is_some, option_and_then}
-use Rattle.std.specs.Prelude.{option_map}
 use Rattle.std.specs.Str.{bytes_eq}
 use Rattle.std.proofs.lemmas.Bool.{and_parts, cases_Bool, cond-false, cond-true, eqb-true, ltb-true}
 use Rattle.std.proofs.lemmas.List.Elements.{All-cons, All-from_recursion, All-nil}
 use Rattle.std.proofs.lemmas.List.Folds.{Any-from_list_any}
 use Rattle.std.proofs.lemmas.List.Sums.{passes_at_first, split_at_first}
 use Rattle.std.proofs.lemmas.Slice.Eq.{bytes_eq-Decides}
-use Rattle.std.proofs.lemmas.Option.{none-some, same_Some}
+use Rattle.std.proofs.lemmas.Option.{none-some}
 use Rattle.slot_calendar.specs.declared.profiles.CapacityStep.{CapacityStep}
 use Rattle.command_words.specs.Settings.{number_or, one_name, one_number, setting_value, values_of}
 use Rattle.command_words.specs.Capacities.{one_capacity}
-use Rattle.command_words.specs.Keys.{film_given, cert_given, script_given, buffer_given}
-use Rattle.command_words.specs.Keys.{delay_given, slot_given, capacity_given, journal_given}
-use Rattle.command_words.specs.Keys.{port_given, workers_given, connections_given, seed_given}
-use Rattle.command_words.specs.Keys.{pictures_given, plays_given, one_kind, one_bind}
+use Rattle.command_words.specs.Keys.{film_given, buffer_given}
+use Rattle.command_words.specs.Keys.{delay_given}
+use Rattle.command_words.specs.Keys.{one_kind, one_bind}
 use Rattle.command_words.specs.Commands.{command_named, is_word_of, keys_of}
 use Rattle.command_words.specs.declared.commands.Command.{Command}
 use Rattle.command_words.specs.declared.commands.Command.TheVariants.{Plan, Check, Scan, Make, Day, Fair, Serve, Watch}
 use Rattle.command_words.specs.Forms.{HasFilms, HasSource, HaveForm, HaveMeaning, IsOneSource}
 use Rattle.command_words.specs.Forms.{IsSettingOf, most_times, needed_keys, times}
 use Rattle.command_words.specs.Spelling.{AreApart, word_of}
-use Rattle.command_words.specs.Words.{Source, Viewer, Order, help, version, plan_of, check_of}
-use Rattle.command_words.specs.Words.{scan_of, day_of, fair_of, serve_of, watch_of, are_films}
-use Rattle.command_words.specs.Words.{command_order, lone_order, source_of, source_given}
+use Rattle.command_words.specs.Words.{Source, Viewer, Order, help, version, plan_of}
+use Rattle.command_words.specs.Words.{scan_of, day_of, fair_of, serve_of, watch_of}
+use Rattle.command_words.specs.Words.{command_order, lone_order, source_of}
 use Rattle.command_words.specs.Words.{viewer_given, script_run_given, fair_run_given}
 use Rattle.command_words.specs.Words.{listening_given, pace_given, serving_given, watching_given}
 use Rattle.command_words.specs.Words.{order_given, meaning}
@@ -56,7 +54,8 @@ one_of_name name [] e = absurd (none-some _ e)
 one_of_name name (value ∷ []) e = refl
 one_of_name name (value ∷ other ∷ others) e = absurd (none-some _ e)
 
-few_of_capacity : (steps : List CapacityStep) (values : List (List ℕ)) → one_capacity values ≡ Some steps → length values ≤ 1
+few_of_capacity : (steps : List CapacityStep) (values : List (List ℕ)) → one_capacity values ≡ Some steps
+    → length values ≤ 1
 few_of_capacity steps [] e = omega arith
 few_of_capacity steps (value ∷ []) e = omega arith
 few_of_capacity steps (value ∷ other ∷ others) e = absurd (none-some _ e)

@@ -8,6 +8,7 @@ use Rattle.command_words.specs.Keys.{film_given, cert_given, script_given, buffe
 use Rattle.command_words.specs.Keys.{capacity_given, journal_given, port_given, workers_given, connections_given}
 use Rattle.command_words.specs.Keys.{seed_given, pictures_given, plays_given, one_kind, one_bind}
 use Rattle.command_words.specs.Words.{Viewer, Serving, ScriptRun, Watching, Order, check_of, make_of, are_films}
+use Rattle.command_words.specs.Words.{from_two, from_three, from_four}
 use Rattle.command_words.specs.Words.{source_given, viewer_given, check_given, make_given}
 use Rattle.command_words.specs.Words.{script_run_given, fair_run_given, listening_given, pace_given, serving_given}
 use Rattle.command_words.specs.Words.{watching_given}
@@ -33,6 +34,47 @@ pub test_passes : {A : Type 0} (t : Bool) (o : Option A) (a : A) → (if t then 
 test_passes true o a e = (refl, e)
 test_passes false o a e = absurd (none-some _ e)
 
+-- what was read of two, three and four values that make one
+pub record AreTwoFound {A B C : Type 0} (make : A → B → C) (first : Option A) (second : Option B) (c : C)
+    : Type 0 where
+  pub one : A
+  pub two : B
+  pub one_is : first ≡ Some one
+  pub two_is : second ≡ Some two
+  pub made : make one two ≡ c
+
+pub two_found : {A B C : Type 0} {make : A → B → C} {first : Option A} {second : Option B} {c : C}
+    → from_two make first second ≡ Some c → AreTwoFound make first second c
+two_found {make} {first} {second} {c} e =
+    let one = step_found (λ a. option_map (make a) second) first c e in
+    let two = last_step_found (make one.0) second c one.2 in
+    record { one = one.0; two = two.0; one_is = one.1; two_is = two.1; made = two.2 }
+
+pub record AreThreeFound {A B C D : Type 0} (make : A → B → C → D) (first : Option A) (second : Option B)
+    (third : Option C) (d : D) : Type 0 where
+  pub one : A
+  pub one_is : first ≡ Some one
+  pub rest : AreTwoFound (make one) second third d
+
+pub three_found : {A B C D : Type 0} {make : A → B → C → D} {first : Option A} {second : Option B} {third : Option C}
+    {d : D} → from_three make first second third ≡ Some d → AreThreeFound make first second third d
+three_found {make} {first} {second} {third} {d} e =
+    let one = step_found (λ a. from_two (make a) second third) first d e in
+    record { one = one.0; one_is = one.1; rest = two_found one.2 }
+
+pub record AreFourFound {A B C D E : Type 0} (make : A → B → C → D → E) (first : Option A) (second : Option B)
+    (third : Option C) (fourth : Option D) (e : E) : Type 0 where
+  pub one : A
+  pub one_is : first ≡ Some one
+  pub rest : AreThreeFound (make one) second third fourth e
+
+pub four_found : {A B C D E : Type 0} {make : A → B → C → D → E} {first : Option A} {second : Option B}
+    {third : Option C} {fourth : Option D} {made : E}
+    → from_four make first second third fourth ≡ Some made → AreFourFound make first second third fourth made
+four_found {make} {first} {second} {third} {fourth} {made} e =
+    let one = step_found (λ a. from_three (make a) second third fourth) first made e in
+    record { one = one.0; one_is = one.1; rest = three_found one.2 }
+
 -- ---- each group
 pub record IsViewerRead (words : List (List ℕ)) (viewer : Viewer) : Type 0 where
   pub source : source_given words ≡ Some viewer.source
@@ -42,10 +84,9 @@ pub record IsViewerRead (words : List (List ℕ)) (viewer : Viewer) : Type 0 whe
 pub viewer_keys : (words : List (List ℕ)) (viewer : Viewer) → viewer_given words ≡ Some viewer
     → IsViewerRead words viewer
 viewer_keys words viewer e =
-    let source = step_found _ (source_given words) viewer e in
-    let buffer = step_found _ (buffer_given words) viewer source.2 in
-    let delay = last_step_found _ (delay_given words) viewer buffer.2 in
-    subst (IsViewerRead words) delay.2 (record { source = source.1; buffer = buffer.1; delay = delay.1 })
+    let found = three_found e in
+    subst (IsViewerRead words) found.rest.made
+    (record { source = found.one_is; buffer = found.rest.one_is; delay = found.rest.two_is })
 
 pub record IsPaceRead (words : List (List ℕ)) (pace : Pace) : Type 0 where
   pub buffer : buffer_given words ≡ Some pace.buffer
@@ -54,10 +95,9 @@ pub record IsPaceRead (words : List (List ℕ)) (pace : Pace) : Type 0 where
 
 pub pace_keys : (words : List (List ℕ)) (pace : Pace) → pace_given words ≡ Some pace → IsPaceRead words pace
 pace_keys words pace e =
-    let buffer = step_found _ (buffer_given words) pace e in
-    let delay = step_found _ (delay_given words) pace buffer.2 in
-    let slot = last_step_found _ (slot_given words) pace delay.2 in
-    subst (IsPaceRead words) slot.2 (record { buffer = buffer.1; delay = delay.1; slot = slot.1 })
+    let found = three_found e in
+    subst (IsPaceRead words) found.rest.made
+    (record { buffer = found.one_is; delay = found.rest.one_is; slot = found.rest.two_is })
 
 pub record IsListeningRead (words : List (List ℕ)) (listening : Listening) : Type 0 where
   pub port : port_given words ≡ Some listening.port
@@ -68,15 +108,13 @@ pub record IsListeningRead (words : List (List ℕ)) (listening : Listening) : T
 pub listening_keys : (words : List (List ℕ)) (listening : Listening) → listening_given words ≡ Some listening
     → IsListeningRead words listening
 listening_keys words listening e =
-    let port = step_found _ (port_given words) listening e in
-    let bind = step_found _ (one_bind (values_of (codes "bind") words)) listening port.2 in
-    let workers = step_found _ (workers_given words) listening bind.2 in
-    let connections = last_step_found _ (connections_given words) listening workers.2 in
-    subst (IsListeningRead words) connections.2 (record {
-      port = port.1;
-      bind = bind.1;
-      workers = workers.1;
-      connections = connections.1;
+    let found = four_found e in
+    let last = found.rest.rest in
+    subst (IsListeningRead words) last.made (record {
+      port = found.one_is;
+      bind = found.rest.one_is;
+      workers = last.one_is;
+      connections = last.two_is;
     })
 
 pub record IsScriptRunRead (words : List (List ℕ)) (run : ScriptRun) : Type 0 where
@@ -88,15 +126,13 @@ pub record IsScriptRunRead (words : List (List ℕ)) (run : ScriptRun) : Type 0 
 pub script_run_keys : (words : List (List ℕ)) (run : ScriptRun) → script_run_given words ≡ Some run
     → IsScriptRunRead words run
 script_run_keys words run e =
-    let script = step_found _ (script_given words) run e in
-    let capacity = step_found _ (capacity_given words) run script.2 in
-    let journal = step_found _ (journal_given words) run capacity.2 in
-    let slot = last_step_found _ (slot_given words) run journal.2 in
-    subst (IsScriptRunRead words) slot.2 (record {
-      script = script.1;
-      capacity = capacity.1;
-      journal = journal.1;
-      slot = slot.1;
+    let found = four_found e in
+    let last = found.rest.rest in
+    subst (IsScriptRunRead words) last.made (record {
+      script = found.one_is;
+      capacity = found.rest.one_is;
+      journal = last.one_is;
+      slot = last.two_is;
     })
 
 pub record IsFairRunRead (words : List (List ℕ)) (run : FairRun) : Type 0 where
@@ -106,10 +142,9 @@ pub record IsFairRunRead (words : List (List ℕ)) (run : FairRun) : Type 0 wher
 
 pub fair_run_keys : (words : List (List ℕ)) (run : FairRun) → fair_run_given words ≡ Some run → IsFairRunRead words run
 fair_run_keys words run e =
-    let seed = step_found _ (seed_given words) run e in
-    let plays = step_found _ (plays_given words) run seed.2 in
-    let capacity = last_step_found _ (capacity_given words) run plays.2 in
-    subst (IsFairRunRead words) capacity.2 (record { seed = seed.1; plays = plays.1; capacity = capacity.1 })
+    let found = three_found e in
+    subst (IsFairRunRead words) found.rest.made
+    (record { seed = found.one_is; plays = found.rest.one_is; capacity = found.rest.two_is })
 
 pub record IsServingRead (words : List (List ℕ)) (serving : Serving) : Type 0 where
   pub films_pass : are_films (values_of (codes "film") words) ≡ true
@@ -123,17 +158,15 @@ pub serving_keys : (words : List (List ℕ)) (serving : Serving) → serving_giv
     → IsServingRead words serving
 serving_keys words serving e =
     let films = test_passes (are_films (values_of (codes "film") words)) _ serving e in
-    let capacity = step_found _ (capacity_given words) serving films.1 in
-    let journal = step_found _ (journal_given words) serving capacity.2 in
-    let listening = step_found _ (listening_given words) serving journal.2 in
-    let pace = last_step_found _ (pace_given words) serving listening.2 in
-    subst (IsServingRead words) pace.2 (record {
+    let found = four_found films.1 in
+    let last = found.rest.rest in
+    subst (IsServingRead words) last.made (record {
       films_pass = films.0;
       films_are = refl;
-      capacity = capacity.1;
-      journal = journal.1;
-      listening = listening.1;
-      pace = pace.1;
+      capacity = found.one_is;
+      journal = found.rest.one_is;
+      listening = last.one_is;
+      pace = last.two_is;
     })
 
 pub record IsWatchingRead (words : List (List ℕ)) (watching : Watching) : Type 0 where
@@ -144,10 +177,9 @@ pub record IsWatchingRead (words : List (List ℕ)) (watching : Watching) : Type
 pub watching_keys : (words : List (List ℕ)) (watching : Watching) → watching_given words ≡ Some watching
     → IsWatchingRead words watching
 watching_keys words watching e =
-    let film = step_found _ (film_given words) watching e in
-    let port = step_found _ (port_given words) watching film.2 in
-    let pace = last_step_found _ (pace_given words) watching port.2 in
-    subst (IsWatchingRead words) pace.2 (record { film = film.1; port = port.1; pace = pace.1 })
+    let found = three_found e in
+    subst (IsWatchingRead words) found.rest.made
+    (record { film = found.one_is; port = found.rest.one_is; pace = found.rest.two_is })
 
 -- ---- two commands
 pub record IsCheckRead (words : List (List ℕ)) (order : Order) : Type 0 where
@@ -159,9 +191,13 @@ pub record IsCheckRead (words : List (List ℕ)) (order : Order) : Type 0 where
 
 pub check_keys : (words : List (List ℕ)) (order : Order) → check_given words ≡ Some order → IsCheckRead words order
 check_keys words order e =
-    let viewer = step_found _ (viewer_given words) order e in
-    let cert = last_step_found (check_of viewer.0) (cert_given words) order viewer.2 in
-    record { viewer = viewer.0; cert = cert.0; order_is = cert.2; viewer_is = viewer.1; cert_is = cert.1 }
+    let found = two_found {make = check_of} e in record {
+      viewer = found.one;
+      cert = found.two;
+      order_is = found.made;
+      viewer_is = found.one_is;
+      cert_is = found.two_is;
+    }
 
 pub record IsMakeRead (words : List (List ℕ)) (order : Order) : Type 0 where
   pub kind : Made
@@ -174,15 +210,12 @@ pub record IsMakeRead (words : List (List ℕ)) (order : Order) : Type 0 where
 
 pub make_keys : (words : List (List ℕ)) (order : Order) → make_given words ≡ Some order → IsMakeRead words order
 make_keys words order e =
-    let kind = step_found _ (one_kind (values_of (codes "kind") words)) order e in
-    let seed = step_found _ (seed_given words) order kind.2 in
-    let pictures = last_step_found (make_of kind.0 seed.0) (pictures_given words) order seed.2 in
-    record {
-      kind = kind.0;
-      seed = seed.0;
-      pictures = pictures.0;
-      order_is = pictures.2;
-      kind_is = kind.1;
-      seed_is = seed.1;
-      pictures_are = pictures.1;
+    let found = three_found {make = make_of} e in record {
+      kind = found.one;
+      seed = found.rest.one;
+      pictures = found.rest.two;
+      order_is = found.rest.made;
+      kind_is = found.one_is;
+      seed_is = found.rest.one_is;
+      pictures_are = found.rest.two_is;
     }

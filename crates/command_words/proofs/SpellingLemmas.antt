@@ -126,8 +126,8 @@ step_one step short =
     (decimal_has_no 44 step.bytes refl short.bytes)
 
 -- the step that stands after others in a capacity may follow them
-step_may : (front : List CapacityStep) (step : CapacityStep) (rest : List CapacityStep) → IsCapacity (front ++ step ∷ rest)
-    → may_follow front step ≡ true
+step_may : (front : List CapacityStep) (step : CapacityStep) (rest : List CapacityStep)
+    → IsCapacity (front ++ step ∷ rest) → may_follow front step ≡ true
 step_may front step rest capacity =
     let profile = capacity.0 in
     let long = length-append front (step ∷ rest) in
@@ -143,8 +143,9 @@ step_may front step rest capacity =
     (and_from (stands_after front step.from) (nat_le step.from (2 ^ 62) && nat_le step.bytes (2 ^ 42)) stands
     (and_from (nat_le step.from (2 ^ 62)) (nat_le step.bytes (2 ^ 42)) late small))
   where
-    stands_here : (front : List CapacityStep) (step : CapacityStep) (rest : List CapacityStep) → IsCapacity (front ++ step ∷ rest) →
-        step_at (front ++ step ∷ rest) (length front) ≡ step → stands_after front step.from ≡ true
+    stands_here : (front : List CapacityStep) (step : CapacityStep) (rest : List CapacityStep)
+        → IsCapacity (front ++ step ∷ rest) → step_at (front ++ step ∷ rest) (length front) ≡ step
+        → stands_after front step.from ≡ true
     stands_here [] step rest capacity here = eq-eqb step.from 0 capacity.0.first
     stands_here (s ∷ front) step rest capacity here =
         let steps = s ∷ front in
@@ -171,8 +172,8 @@ step_taken front step rest capacity short =
     ∙ ap (λ (b : Bool). if b then Some (front ++ step ∷ []) else None) (step_may front step rest capacity)
 
 -- the numbers of a capacity's step are short
-short_step : (front : List CapacityStep) (step : CapacityStep) (rest : List CapacityStep) → IsCapacity (front ++ step ∷ rest)
-    → IsShort step
+short_step : (front : List CapacityStep) (step : CapacityStep) (rest : List CapacityStep)
+    → IsCapacity (front ++ step ∷ rest) → IsShort step
 short_step front step rest capacity =
     let long = length-append front (step ∷ rest) in
     let here : step_at (front ++ step ∷ rest) (length front) ≡ step = get_or-append_seam front step rest no_step in
@@ -188,8 +189,9 @@ moved : (front : List CapacityStep) (step : CapacityStep) (rest : List CapacityS
 moved front step rest = append_assoc front (step ∷ []) rest
 
 -- written steps are read back, after those in front of them
-pub steps_back : (front : List CapacityStep) (step : CapacityStep) (rest : List CapacityStep) → IsCapacity (front ++ step ∷ rest) →
-    fold part_more (Some front) (slice_split (λ b. b == 44) (steps_text (step ∷ rest))) ≡ Some (front ++ step ∷ rest)
+pub steps_back : (front : List CapacityStep) (step : CapacityStep) (rest : List CapacityStep)
+    → IsCapacity (front ++ step ∷ rest)
+    → fold part_more (Some front) (slice_split (λ b. b == 44) (steps_text (step ∷ rest))) ≡ Some (front ++ step ∷ rest)
 steps_back front step [] capacity =
     let short = short_step front step [] capacity in
     ap (fold part_more (Some front))

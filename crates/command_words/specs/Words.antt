@@ -65,12 +65,23 @@ pub data Order : Type 0 where
   serve_of : Serving → Order
   watch_of : Watching → Order
 
+-- what values make, where each of them was read
+abbrev pub from_two : {A B C : Type 0} → (A → B → C) → Option A → Option B → Option C
+from_two make first second = option_and_then (λ one. option_map (make one) second) first
+
+abbrev pub from_three : {A B C D : Type 0}
+    → (A → B → C → D) → Option A → Option B → Option C → Option D
+from_three make first second third = option_and_then (λ one. from_two (make one) second third) first
+
+abbrev pub from_four : {A B C D E : Type 0}
+    → (A → B → C → D → E) → Option A → Option B → Option C → Option D → Option E
+from_four make first second third fourth =
+    option_and_then (λ one. from_three (make one) second third fourth) first
+
 -- exactly one of `trace` and `film`; `slot` with `film` alone
 abbrev pub source_of : List (List ℕ) → List (List ℕ) → List (List ℕ) → Option Source
 source_of [] films slots =
-    option_and_then (λ name.
-    option_map (λ slot.
-    film_source name slot) (number_or 14400 360 360000 slots)) (one_name films)
+    from_two film_source (one_name films) (number_or 14400 360 360000 slots)
 source_of (trace ∷ traces) [] [] = option_map trace_source (one_name (trace ∷ traces))
 source_of (trace ∷ traces) [] (slot ∷ slots) = None
 source_of (trace ∷ traces) (film ∷ films) slots = None
@@ -82,45 +93,27 @@ source_given words =
 
 abbrev pub viewer_given : List (List ℕ) → Option Viewer
 viewer_given words =
-    option_and_then (λ source.
-    option_and_then (λ buffer.
-    option_map (λ delay. record { source = source; buffer = buffer; delay = delay })
-    (delay_given words))
-    (buffer_given words))
-    (source_given words)
+    from_three (λ source buffer delay. record { source = source; buffer = buffer; delay = delay })
+    (source_given words) (buffer_given words) (delay_given words)
 
 abbrev pub check_given : List (List ℕ) → Option Order
-check_given words = option_and_then (λ viewer.
-    option_map (λ cert. check_of viewer cert) (cert_given words)) (viewer_given words)
+check_given words = from_two check_of (viewer_given words) (cert_given words)
 
 abbrev pub make_given : List (List ℕ) → Option Order
 make_given words =
-    option_and_then (λ kind.
-    option_and_then (λ seed. option_map (λ pictures. make_of kind seed pictures)
-    (pictures_given words))
-    (seed_given words))
-    (one_kind (values_of (codes "kind") words))
+    from_three make_of
+    (one_kind (values_of (codes "kind") words)) (seed_given words) (pictures_given words)
 
 abbrev pub script_run_given : List (List ℕ) → Option ScriptRun
 script_run_given words =
-    option_and_then (λ script.
-    option_and_then (λ capacity.
-    option_and_then (λ journal.
-    option_map (λ slot.
+    from_four (λ script capacity journal slot.
     record { script = script; capacity = capacity; journal = journal; slot = slot })
-    (slot_given words))
-    (journal_given words))
-    (capacity_given words))
-    (script_given words)
+    (script_given words) (capacity_given words) (journal_given words) (slot_given words)
 
 abbrev pub fair_run_given : List (List ℕ) → Option FairRun
 fair_run_given words =
-    option_and_then (λ seed.
-    option_and_then (λ plays.
-    option_map (λ capacity. record { seed = seed; plays = plays; capacity = capacity })
-    (capacity_given words))
-    (plays_given words))
-    (seed_given words)
+    from_three (λ seed plays capacity. record { seed = seed; plays = plays; capacity = capacity })
+    (seed_given words) (plays_given words) (capacity_given words)
 
 -- no name stands twice
 abbrev pub are_distinct : List (List ℕ) → Bool
@@ -137,33 +130,21 @@ are_films names = nat_le 1 (length names) && (nat_le (length names) 64 && are_na
 
 abbrev pub listening_given : List (List ℕ) → Option Listening
 listening_given words =
-    option_and_then (λ port.
-    option_and_then (λ all.
-    option_and_then (λ workers.
-    option_map (λ connections.
+    from_four (λ port all workers connections.
     record { port = port; all = all; workers = workers; connections = connections })
-    (connections_given words))
-    (workers_given words))
-    (one_bind (values_of (codes "bind") words)))
-    (port_given words)
+    (port_given words) (one_bind (values_of (codes "bind") words))
+    (workers_given words) (connections_given words)
 
 abbrev pub pace_given : List (List ℕ) → Option Pace
 pace_given words =
-    option_and_then (λ buffer.
-    option_and_then (λ delay.
-    option_map (λ slot. record { buffer = buffer; delay = delay; slot = slot })
-    (slot_given words))
-    (delay_given words))
-    (buffer_given words)
+    from_three (λ buffer delay slot. record { buffer = buffer; delay = delay; slot = slot })
+    (buffer_given words) (delay_given words) (slot_given words)
 
 -- `film` from 1 to 64 times
 abbrev pub serving_given : List (List ℕ) → Option Serving
 serving_given words =
     if are_films (values_of (codes "film") words)
-    then option_and_then (λ capacity.
-    option_and_then (λ journal.
-    option_and_then (λ listening.
-    option_map (λ pace.
+    then from_four (λ capacity journal listening pace.
     record {
       films = values_of (codes "film") words;
       capacity = capacity;
@@ -171,20 +152,13 @@ serving_given words =
       listening = listening;
       pace = pace;
     })
-    (pace_given words))
-    (listening_given words))
-    (journal_given words))
-    (capacity_given words)
+    (capacity_given words) (journal_given words) (listening_given words) (pace_given words)
     else None
 
 abbrev pub watching_given : List (List ℕ) → Option Watching
 watching_given words =
-    option_and_then (λ film.
-    option_and_then (λ port.
-    option_map (λ pace. record { film = film; port = port; pace = pace })
-    (pace_given words))
-    (port_given words))
-    (film_given words)
+    from_three (λ film port pace. record { film = film; port = port; pace = pace })
+    (film_given words) (port_given words) (pace_given words)
 
 -- what the settings of a command ask for
 abbrev pub order_given : Command → List (List ℕ) → Option Order

@@ -18,6 +18,7 @@ use crate::capacities::one_capacity;
 use crate::orders::Made;
 use crate::settings::{Given, find_given, number_or, one_name, one_number};
 use crate::steps::Steps;
+use vod_base::{MAX_BYTES, MAX_DELAY};
 
 /// The one film.
 pub(crate) fn film_given<'a>(words: &'a [String]) -> Option<&'a str>
@@ -48,7 +49,7 @@ pub(crate) fn buffer_given(words: &[String]) -> Option<u64>
     ensures buffer { result ≡ buffer_given (texts words.now) }
     ensures range { IfSome result MayBeBuffer }
 {
-    number_or(words, "buffer", 1_048_576, 1, 1 << 42)
+    number_or(words, "buffer", 1_048_576, 1, MAX_BYTES)
 }
 
 /// A start delay, in slots.
@@ -56,7 +57,7 @@ pub(crate) fn delay_given(words: &[String]) -> Option<u64>
     ensures delay { result ≡ delay_given (texts words.now) }
     ensures range { IfSome result MayBeDelay }
 {
-    number_or(words, "startup", 25, 0, 10_000)
+    number_or(words, "startup", 25, 0, MAX_DELAY)
 }
 
 /// The length of a slot, in 1/360,000 second.

@@ -37,8 +37,8 @@ fn reads_a_server(rt: HostRuntime) -> Result<(), Fail> {
             1,
         ),
         (
-            "serve port=1 film=b bind=all capacity=0:0,7:10,4611686018427387904:5 film=a workers=256 connections=3 \
-             buffer=9 startup=0 slot=360 journal=2",
+            "serve port=1 film=b bind=all capacity=0:0,7:10,4611686018427387904:5 film=a \
+             workers=256 connections=3 buffer=9 startup=0 slot=360 journal=2",
             [1, 256, 3, 9, 0, 360, 2],
             true,
             3,
