@@ -1,5 +1,7 @@
 -- Numbers in text: what the decimal form of a number is made of, and that it is the only one without leading zeros.
-use Rattle.std.proofs.Common.{◌≡◌, ◌≢◌, ◌<◌, ◌≤◌, ◌+◌, ◌^◌, ℕ, Bool, true, false, List, [], ◌∷◌, ◌++◌, All, length, slice_index, decimal, codes, take, drop, nat_eq, MatchOption, Option, Some, None, inl, inr, arith, refl, sym, ap, ◌∙◌}
+use Rattle.std.proofs.Common.{◌≡◌, ◌≢◌, ◌<◌, ◌≤◌, ◌+◌, ◌^◌, ℕ, Bool, true, false, List, [], ◌∷◌, ◌++◌, All, length}
+use Rattle.std.proofs.Common.{slice_index, decimal, codes, take, drop, nat_eq, MatchOption, Option, Some, None, inl}
+use Rattle.std.proofs.Common.{inr, arith, refl, sym, ap, ◌∙◌}
 use Rattle.std.specs.Int.{IsInRange}
 use Rattle.std.specs.Cmp.Lexicographic.{pointwise, same_text, other_text}
 use Rattle.std.proofs.lemmas.Bool.{cases_lt, both_ways}

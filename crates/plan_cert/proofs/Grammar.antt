@@ -1,5 +1,7 @@
 -- Reading a text line by line, against its lines as a whole.
-use Rattle.std.proofs.Common.{◌≡◌, ◌≢◌, ◌<◌, ◌+◌, ◌⊎◌, ℕ, true, false, not, ◌==◌, List, [], ◌∷◌, ◌++◌, All, length, get_or, drop, decimal, codes, flat_map, inl, inr, arith, refl, sym, ap, subst, ◌∙◌, ne_eqb, below_more, add-zero}
+use Rattle.std.proofs.Common.{◌≡◌, ◌≢◌, ◌<◌, ◌+◌, ◌⊎◌, ℕ, true, false, not, ◌==◌, List, [], ◌∷◌, ◌++◌, All, length}
+use Rattle.std.proofs.Common.{get_or, drop, decimal, codes, flat_map, inl, inr, arith, refl, sym, ap, subst, ◌∙◌}
+use Rattle.std.proofs.Common.{ne_eqb, below_more, add-zero}
 use Rattle.std.specs.List.{list_all}
 use Rattle.std.proofs.lemmas.Bool.{cases_Bool, cond-true, cond-false}
 use Rattle.std.proofs.lemmas.List.{append-nil, append_assoc, drop-drop, length-drop, get_or-drop}
@@ -9,7 +11,8 @@ use Rattle.vod_base.specs.Splits.{IsSplitAtFirst}
 use Rattle.vod_base.proofs.FirstBytes.{none_is}
 use Rattle.plan_cert.specs.declared.Segment.{Segment}
 use Rattle.plan_cert.specs.Text.{segment_words, segment_line, cert_head}
-use Rattle.plan_cert.specs.Reading.{Lines, with_front, lines_of, line_at, IsNumberLine, IsSegmentLine, MayStand, MayEnd, BreaksAt, IsAfterEnd, HasRead}
+use Rattle.plan_cert.specs.Reading.{Lines, with_front, lines_of, line_at, IsNumberLine, IsSegmentLine, MayStand}
+use Rattle.plan_cert.specs.Reading.{MayEnd, BreaksAt, IsAfterEnd, HasRead}
 use Rattle.plan_cert.specs.Reading.MayStand.{Title, Slots, Bytes, SegmentLine}
 
 -- a text that begins with a whole line

@@ -1,8 +1,11 @@
 -- A certificate is the text of one list of segments, and has no bad line.
-use Rattle.std.proofs.Common.{◌≡◌, ◌≢◌, ◌<◌, ◌≤◌, ◌+◌, ◌^◌, ℕ, zero, suc, List, [], ◌∷◌, ◌++◌, All, length, get_or, drop, map, decimal, codes, flat_map, Result, Ok, Err, MatchResult, IfOk, IfErr, inl, inr, arith, refl, sym, ap, subst, ◌∙◌}
+use Rattle.std.proofs.Common.{◌≡◌, ◌≢◌, ◌<◌, ◌≤◌, ◌+◌, ◌^◌, ℕ, zero, suc, List, [], ◌∷◌, ◌++◌, All, length, get_or}
+use Rattle.std.proofs.Common.{drop, map, decimal, codes, flat_map, Result, Ok, Err, MatchResult, IfOk, IfErr, inl}
+use Rattle.std.proofs.Common.{inr, arith, refl, sym, ap, subst, ◌∙◌}
 use Rattle.std.proofs.lemmas.Bool.{cases_lt}
 use Rattle.std.proofs.lemmas.Fmt.{decimal_injective}
-use Rattle.std.proofs.lemmas.List.{append_assoc, append_cancel_left, append_cancel_right, length-append, length-map, get_or_append_left, get_or-map, get_or_at}
+use Rattle.std.proofs.lemmas.List.{append_assoc, append_cancel_left, append_cancel_right, length-append, length-map}
+use Rattle.std.proofs.lemmas.List.{get_or_append_left, get_or-map, get_or_at}
 use Rattle.std.proofs.lemmas.List.Elements.{All-head, All-tail, All-append, All-get_or}
 use Rattle.plan_cert.specs.declared.Segment.{Segment}
 use Rattle.plan_cert.specs.declared.reading.CertText.{CertText}
@@ -10,7 +13,8 @@ use Rattle.plan_cert.specs.declared.reading.CertRefused.{CertRefused}
 use Rattle.plan_cert.specs.declared.reading.CertRefused.TheVariants.{BadCert, NoMemory}
 use Rattle.plan_cert.specs.Slots.{total_slots, total_bytes}
 use Rattle.plan_cert.specs.Text.{segment_words, segment_line, cert_head}
-use Rattle.plan_cert.specs.Reading.{Lines, lines_of, line_at, MayStand, BreaksAt, IsAfterEnd, AreSmall, IsCertificate, IsBadLine, IsRefused}
+use Rattle.plan_cert.specs.Reading.{Lines, lines_of, line_at, MayStand, BreaksAt, IsAfterEnd, AreSmall, IsCertificate}
+use Rattle.plan_cert.specs.Reading.{IsBadLine, IsRefused}
 use Rattle.plan_cert.specs.Reading.MayStand.{Title, Slots, Bytes, SegmentLine}
 use Rattle.vod_base.proofs.FirstBytes.{none_is, split_once}
 use Rattle.plan_cert.proofs.Decimals.{not_in_decimal}

@@ -1,5 +1,6 @@
 -- Running sums of a plan's slots.
-use Rattle.std.proofs.Common.{slice_index, slice_index_or, ◌≡◌, ◌<◌, ◌≤◌, ◌+◌, ◌-◌, ◌*◌, ◌/◌, ℕ, zero, suc, List, [], ◌∷◌, ◌++◌, All, length, take, map, sum, arith, refl, sym, ap, ◌∙◌, subst, add-one}
+use Rattle.std.proofs.Common.{slice_index, slice_index_or, ◌≡◌, ◌<◌, ◌≤◌, ◌+◌, ◌-◌, ◌*◌, ◌/◌, ℕ, zero, suc, List, []}
+use Rattle.std.proofs.Common.{◌∷◌, ◌++◌, All, length, take, map, sum, arith, refl, sym, ap, ◌∙◌, subst, add-one}
 use Rattle.std.specs.List.{range_with_len}
 use Rattle.std.proofs.Math.Nat.{zero-mul, zero-div, mul-div_cancel_left}
 use Rattle.std.proofs.Math.Seq.{take-append-add}

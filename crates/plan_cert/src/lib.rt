@@ -13,7 +13,7 @@ mod sums;
 pub use certs::write_cert;
 pub use cursors::PlanCursor;
 pub use laws::{law_excess, law_running_sum, law_slots, law_text};
-pub use plans::{MAX_BYTES, MAX_SLOTS, Plan};
+pub use plans::Plan;
 pub use reading::{CertRefused, CertText, read_cert};
 pub use sums::{has_bytes, has_slots};
 

@@ -8,7 +8,7 @@ use crate::Segment;
 use crate::segments::{Passed, slot_after, sum_after};
 use crate::sums::{total_bytes, total_slots};
 use std::marker::Model;
-use vod_base::NoMemory;
+use vod_base::{MAX_BYTES, MAX_SLOTS, NoMemory};
 
 /// A list of segments that a server can follow: none is empty, and together they have at most
 /// 1,000,000 slots and at most 2^42 bytes. Its slots are those of its segments, one after the
@@ -34,12 +34,6 @@ impl Model for Plan {
 
     ghost invariant = { λ p. HasSums p.segments.items p.slots p.bytes };
 }
-
-/// The most slots of a plan.
-pub const MAX_SLOTS: u64 = 1_000_000;
-
-/// The most bytes of a plan.
-pub const MAX_BYTES: u64 = 1 << 42;
 
 impl Plan {
     /// Whether these segments make a plan: none is empty, and they have at most [`MAX_SLOTS`] slots

@@ -12,7 +12,7 @@ use crate::Segment;
 use crate::sums::{has_bytes, has_slots};
 use std::alloc::{AllocFailed, Global};
 use thiserror::Error;
-use vod_base::{read_number, split_at_first};
+use vod_base::{MAX_BYTES, MAX_SLOTS, read_number, split_at_first};
 
 /// What a certificate says.
 #[derive(Debug, PartialEq, Eq, Drop)]
@@ -48,11 +48,11 @@ impl<T: Drop> From<AllocFailed<T>> for CertRefused {
     }
 }
 
-/// The most segments of a certificate.
-const MAX_SEGMENTS: u64 = 1_000_000;
+/// The most segments of a certificate: as many as a plan has slots, since none of its is empty.
+const MAX_SEGMENTS: u64 = MAX_SLOTS;
 
 /// The greatest number of a certificate.
-const MAX_NUMBER: u64 = 1 << 42;
+const MAX_NUMBER: u64 = MAX_BYTES;
 
 /// Reads a certificate: the text that [`crate::write_cert`] gives of a plan, and of any segments
 /// with numbers up to 2^42, at most 1,000,000 of them. Such a text is read as its own segments, or

@@ -4,6 +4,7 @@ use super::*;
 use std::alloc::{AllocError, Global};
 use std::process::Abort;
 use std::test::Fail;
+use vod_base::{MAX_BYTES, MAX_SLOTS};
 
 /// Segments, given as pairs of slots and bytes.
 fn segments_of(alloc: Global, pairs: &[(u64, u64)]) -> Result<Vec<Segment>, AllocError> {

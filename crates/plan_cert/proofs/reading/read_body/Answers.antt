@@ -1,11 +1,13 @@
 use Rattle.std.proofs.lemmas.Grind.{common_steps}
-use Rattle.std.proofs.Common.{◌≡◌, ◌≢◌, ◌<◌, ◌≤◌, ◌+◌, ◌^◌, ◌++◌, [], ◌∷◌, length, arith, ap, subst, ◌∙◌, inl, inr, eq-eqb}
+use Rattle.std.proofs.Common.{◌≡◌, ◌≢◌, ◌<◌, ◌≤◌, ◌+◌, ◌^◌, ◌++◌, [], ◌∷◌, length, arith, ap, subst, ◌∙◌, inl, inr}
+use Rattle.std.proofs.Common.{eq-eqb}
 use Rattle.std.proofs.lemmas.Bool.{both_ways}
 use Rattle.std.proofs.lemmas.List.{length_push}
 use Rattle.std.proofs.lemmas.List.Elements.{All-push}
 use Rattle.plan_cert.specs.Reading.{HasRead, MayEnd}
 use Rattle.plan_cert.specs.Reading.MayStand.{SegmentLine}
-use Rattle.plan_cert.proofs.Grammar.{read_more, breaks_missing, breaks_here, goes_after_end, not_segment, not_one_more, segment_text}
+use Rattle.plan_cert.proofs.Grammar.{read_more, breaks_missing, breaks_here, goes_after_end, not_segment}
+use Rattle.plan_cert.proofs.Grammar.{not_one_more, segment_text}
 use Rattle.plan_cert.proofs.reading.read_body.Goals as goal
 
 pub returns-in_default-clause-refused : goal.returns-in_default-clause-refused

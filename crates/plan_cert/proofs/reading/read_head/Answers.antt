@@ -2,7 +2,8 @@ use Rattle.std.proofs.Common.{arith, refl, inl}
 use Rattle.std.proofs.lemmas.Bool.{both_ways}
 use Rattle.plan_cert.specs.Reading.{HasRead}
 use Rattle.plan_cert.specs.Reading.MayStand.{Title, Slots, Bytes}
-use Rattle.plan_cert.proofs.Grammar.{read_none, read_more, breaks_missing, breaks_here, not_title, not_slots, not_bytes, head_text}
+use Rattle.plan_cert.proofs.Grammar.{read_none, read_more, breaks_missing, breaks_here, not_title, not_slots}
+use Rattle.plan_cert.proofs.Grammar.{not_bytes, head_text}
 use Rattle.plan_cert.proofs.reading.read_head.Goals as goal
 
 pub returns-in_default : goal.returns-in_default
