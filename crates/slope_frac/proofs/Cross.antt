@@ -1,6 +1,7 @@
 -- Cross products of three slopes.
 use Rattle.std.proofs.Common.{◌<◌, ◌≤◌, ◌*◌, ℕ, zero, suc, arith}
-use Rattle.std.proofs.Math.Nat.{mul-le-mul_right, mul-lt-mul_of_pos_right, lt_of_mul-lt-mul_right, le_of_mul-le-mul_right, le_of_lt, le_of_eq}
+use Rattle.std.proofs.Math.Nat.{mul-le-mul_right, mul-lt-mul_of_pos_right, lt_of_mul-lt-mul_right}
+use Rattle.std.proofs.Math.Nat.{le_of_mul-le-mul_right, le_of_lt, le_of_eq}
 use Rattle.slope_frac.specs.declared.Slope.{Slope}
 use Rattle.slope_frac.specs.Order.{IsBelow, IsLevel}
 

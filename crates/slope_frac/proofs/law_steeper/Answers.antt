@@ -1,5 +1,6 @@
 use Rattle.std.proofs.Common.{◌≡◌, ◌*◌, ◌<◌, ap, arith}
-use Rattle.std.proofs.Math.Nat.{mul-lt-mul_of_pos_right, mul-lt-mul_of_pos_left, lt_of_mul-lt-mul_right, lt_of_mul-lt-mul_left}
+use Rattle.std.proofs.Math.Nat.{mul-lt-mul_of_pos_right, mul-lt-mul_of_pos_left, lt_of_mul-lt-mul_right}
+use Rattle.std.proofs.Math.Nat.{lt_of_mul-lt-mul_left}
 use Rattle.slope_frac.proofs.law_steeper.Goals as goal
 
 pub returns-clause-bytes : goal.returns-clause-bytes
