@@ -8,7 +8,8 @@ use Rattle.taut_plan.specs.declared.points.Side.TheVariants.{Lower, Upper}
 use Rattle.taut_plan.specs.Slopes.{IsWithin, IsInside, other_side}
 use Rattle.taut_plan.specs.Chain.{on_curve, IsChain}
 use Rattle.taut_plan.specs.Funnel.{KeepsApart, IsCrossing, IsUncrossed}
-use Rattle.taut_plan.proofs.SlopeLaws.{Seen, SeenCorner, within_within, inside_within, within_itself, inside_weaker, inside_not_within, turns_apart}
+use Rattle.taut_plan.proofs.SlopeLaws.{Seen, SeenCorner, within_within, inside_within, within_itself, inside_weaker}
+use Rattle.taut_plan.proofs.SlopeLaws.{inside_not_within, turns_apart}
 
 -- on the other side the order is turned
 pub other_within : (side : Side) (o a b : Point) → IsWithin (other_side side) o a b → IsWithin side o b a

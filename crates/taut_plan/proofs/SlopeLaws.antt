@@ -4,15 +4,22 @@ use Rattle.std.proofs.Math.Nat.{mul-le-mul_left, mul-lt-mul_of_pos_left, le_of_m
 use Rattle.taut_plan.specs.declared.points.Point.{Point}
 use Rattle.taut_plan.specs.declared.points.Side.{Side}
 use Rattle.taut_plan.specs.declared.points.Side.TheVariants.{Lower, Upper}
-use Rattle.taut_plan.specs.Slopes.{slope_le, slope_lt, IsWithin, IsInside}
+use Rattle.taut_plan.specs.Slopes.{IsWithin, IsInside}
 
--- from a height, a rise to point a is at most as steep as one to point b; places are offsets here
+-- the two sides of the comparison of a rise from height v to point a, and one to point b; places are offsets here
+abbrev of_flatter : ℕ → Point → Point → ℕ
+of_flatter v a b = b.place * a.height + a.place * v
+
+abbrev of_steeper : ℕ → Point → Point → ℕ
+of_steeper v a b = b.place * v + a.place * b.height
+
+-- from a height, a rise to point a is at most as steep as one to point b
 abbrev IsFlatAs : ℕ → Point → Point → Type 0
-IsFlatAs v a b = slope_le v a.place a.height b.place b.height
+IsFlatAs v a b = of_flatter v a b ≤ of_steeper v a b
 
 -- it is flatter
 abbrev IsFlatter : ℕ → Point → Point → Type 0
-IsFlatter v a b = slope_lt v a.place a.height b.place b.height
+IsFlatter v a b = of_flatter v a b < of_steeper v a b
 
 -- three points ahead of a height, by their offsets
 record Ahead : Type 0 where
@@ -21,50 +28,36 @@ record Ahead : Type 0 where
   pub second : Point
   pub third : Point
 
+-- what the three comparisons have to do with one another
+three_slopes : (seen : Ahead)
+    → seen.third.place * of_flatter seen.height seen.first seen.second
+    + seen.first.place * of_flatter seen.height seen.second seen.third
+    + seen.second.place * of_steeper seen.height seen.first seen.third
+    ≡ seen.third.place * of_steeper seen.height seen.first seen.second
+    + seen.first.place * of_steeper seen.height seen.second seen.third
+    + seen.second.place * of_flatter seen.height seen.first seen.third
+three_slopes seen = omega arith
+
 le_le : (seen : Ahead) → 0 < seen.second.place → IsFlatAs seen.height seen.first seen.second
     → IsFlatAs seen.height seen.second seen.third → IsFlatAs seen.height seen.first seen.third
 le_le seen pos a b =
-    let one : r * (p * y + i * v) ≤ r * (p * v + i * h) = mul-le-mul_left r a in
-    let two : i * (r * h + p * v) ≤ i * (r * v + p * z) = mul-le-mul_left i b in
-    let all : p * (r * y + i * v) ≤ p * (r * v + i * z) = omega (arith, one, two) in
-    le_of_mul-le-mul_left all pos
-  where
-    open seen use {
-      height as v,
-      first.{place as i, height as y},
-      second.{place as p, height as h},
-      third.{place as r, height as z},
-    }
+    let one = mul-le-mul_left seen.third.place a in
+    let two = mul-le-mul_left seen.first.place b in
+    le_of_mul-le-mul_left (omega (arith, one, two, three_slopes seen)) pos
 
 le_lt : (seen : Ahead) → 0 < seen.first.place → IsFlatAs seen.height seen.first seen.second
     → IsFlatter seen.height seen.second seen.third → IsFlatter seen.height seen.first seen.third
 le_lt seen pos a b =
-    let one : r * (p * y + i * v) ≤ r * (p * v + i * h) = mul-le-mul_left r a in
-    let two : i * (r * h + p * v) < i * (r * v + p * z) = mul-lt-mul_of_pos_left b pos in
-    let all : p * (r * y + i * v) < p * (r * v + i * z) = omega (arith, one, two) in
-    lt_of_mul-lt-mul_left p all
-  where
-    open seen use {
-      height as v,
-      first.{place as i, height as y},
-      second.{place as p, height as h},
-      third.{place as r, height as z},
-    }
+    let one = mul-le-mul_left seen.third.place a in
+    let two = mul-lt-mul_of_pos_left b pos in
+    lt_of_mul-lt-mul_left seen.second.place (omega (arith, one, two, three_slopes seen))
 
 lt_le : (seen : Ahead) → 0 < seen.third.place → IsFlatter seen.height seen.first seen.second
     → IsFlatAs seen.height seen.second seen.third → IsFlatter seen.height seen.first seen.third
 lt_le seen pos a b =
-    let one : r * (p * y + i * v) < r * (p * v + i * h) = mul-lt-mul_of_pos_left a pos in
-    let two : i * (r * h + p * v) ≤ i * (r * v + p * z) = mul-le-mul_left i b in
-    let all : p * (r * y + i * v) < p * (r * v + i * z) = omega (arith, one, two) in
-    lt_of_mul-lt-mul_left p all
-  where
-    open seen use {
-      height as v,
-      first.{place as i, height as y},
-      second.{place as p, height as h},
-      third.{place as r, height as z},
-    }
+    let one = mul-lt-mul_of_pos_left a pos in
+    let two = mul-le-mul_left seen.first.place b in
+    lt_of_mul-lt-mul_left seen.second.place (omega (arith, one, two, three_slopes seen))
 
 -- a point ahead of a height by its offset, and two more by their offsets from that point
 record Turn : Type 0 where
@@ -77,55 +70,41 @@ record Turn : Type 0 where
 abbrev beyond : Point → Point → Point
 beyond corner p = record { place = corner.place + p.place; height = p.height }
 
+-- what the slopes of the points from the height have to do with those from the corner
+turn_slopes : (turn : Turn)
+    → turn.other.place * of_flatter turn.height (beyond turn.corner turn.one) turn.corner
+    + turn.corner.place * of_flatter turn.corner.height turn.other turn.one
+    + turn.one.place * of_steeper turn.height (beyond turn.corner turn.other) turn.corner
+    ≡ turn.other.place * of_steeper turn.height (beyond turn.corner turn.one) turn.corner
+    + turn.corner.place * of_steeper turn.corner.height turn.other turn.one
+    + turn.one.place * of_flatter turn.height (beyond turn.corner turn.other) turn.corner
+turn_slopes turn = omega arith
+
 -- Where the one point stands below the ray to the corner, and the other one below the ray from the corner to it, the
 -- other one stands below the ray to the corner.
 falls_on : (turn : Turn) → 0 < turn.corner.place → 0 < turn.other.place
     → IsFlatter turn.height (beyond turn.corner turn.one) turn.corner → IsFlatter turn.corner.height turn.other turn.one
     → IsFlatter turn.height (beyond turn.corner turn.other) turn.corner
 falls_on turn pos some a b =
-    let one : t * (p * y + (p + x) * v) < t * (p * v + (p + x) * h) = mul-lt-mul_of_pos_left a some in
-    let two : p * (x * z + t * h) < p * (x * h + t * y) = mul-lt-mul_of_pos_left b pos in
-    let all : x * (p * z + (p + t) * v) < x * (p * v + (p + t) * h) = omega (arith, one, two) in
-    lt_of_mul-lt-mul_left x all
-  where
-    open turn use {
-      height as v,
-      corner.{place as p, height as h},
-      one.{place as x, height as y},
-      other.{place as t, height as z},
-    }
+    let one = mul-lt-mul_of_pos_left a some in
+    let two = mul-lt-mul_of_pos_left b pos in
+    lt_of_mul-lt-mul_left turn.one.place (omega (arith, one, two, turn_slopes turn))
 
 rises_on : (turn : Turn) → 0 < turn.corner.place → 0 < turn.other.place
     → IsFlatter turn.height turn.corner (beyond turn.corner turn.one) → IsFlatter turn.corner.height turn.one turn.other
     → IsFlatter turn.height turn.corner (beyond turn.corner turn.other)
 rises_on turn pos some a b =
-    let one : t * ((p + x) * h + p * v) < t * ((p + x) * v + p * y) = mul-lt-mul_of_pos_left a some in
-    let two : p * (t * y + x * h) < p * (t * h + x * z) = mul-lt-mul_of_pos_left b pos in
-    let all : x * ((p + t) * h + p * v) < x * ((p + t) * v + p * z) = omega (arith, one, two) in
-    lt_of_mul-lt-mul_left x all
-  where
-    open turn use {
-      height as v,
-      corner.{place as p, height as h},
-      one.{place as x, height as y},
-      other.{place as t, height as z},
-    }
+    let one = mul-lt-mul_of_pos_left a some in
+    let two = mul-lt-mul_of_pos_left b pos in
+    lt_of_mul-lt-mul_left turn.one.place (omega (arith, one, two, turn_slopes turn))
 
 -- Seen from the corner, one that stood at or below the ray to it is flatter than one that stood at or above.
 turns_at : (turn : Turn) → 0 < turn.corner.place → IsFlatAs turn.height (beyond turn.corner turn.one) turn.corner
     → IsFlatAs turn.height turn.corner (beyond turn.corner turn.other) → IsFlatAs turn.corner.height turn.one turn.other
 turns_at turn pos a b =
-    let one : t * (p * y + (p + j) * v) ≤ t * (p * v + (p + j) * h) = mul-le-mul_left t a in
-    let two : j * ((p + t) * h + p * v) ≤ j * ((p + t) * v + p * z) = mul-le-mul_left j b in
-    let all : p * (t * y + j * h) ≤ p * (t * h + j * z) = omega (arith, one, two) in
-    le_of_mul-le-mul_left all pos
-  where
-    open turn use {
-      height as v,
-      corner.{place as p, height as h},
-      one.{place as j, height as y},
-      other.{place as t, height as z},
-    }
+    let one = mul-le-mul_left turn.other.place a in
+    let two = mul-le-mul_left turn.one.place b in
+    le_of_mul-le-mul_left (omega (arith, one, two, turn_slopes turn)) pos
 
 -- The same laws over points
 abbrev offset : Point → Point → Point

@@ -12,6 +12,7 @@ use std::alloc::{AllocError, Global};
 pub(crate) struct Path {
     /// The last corner, or the start.
     pub(crate) apex: Point,
+    /// The segments up to it, in order.
     pub(crate) segments: Vec<Segment>,
 }
 

@@ -14,14 +14,18 @@ use wire_curve::Curves;
 /// start.
 #[derive(Clone, Copy)]
 pub(crate) struct Point {
+    /// In slots from the start.
     pub(crate) place: u64,
+    /// In bytes sent in all.
     pub(crate) height: u64,
 }
 
 /// One of the two curves.
 #[derive(Clone, Copy)]
 pub(crate) enum Side {
+    /// What must have been sent.
     Lower,
+    /// What may have been sent.
     Upper,
 }
 
