@@ -1,5 +1,6 @@
 -- The curves by the first pictures that a client has used.
-use Rattle.std.proofs.Common.{◌≡◌, ℕ, ◌+◌, ◌-◌, ◌*◌, ◌/◌, ◌<◌, ◌≤◌, ◌↔◌, List, length, take, get_or, sum, sum_by, ltb, cond, refl, sym, subst, ap, arith, zero, suc, inl, inr}
+use Rattle.std.proofs.Common.{◌≡◌, ℕ, ◌+◌, ◌-◌, ◌*◌, ◌/◌, ◌<◌, ◌≤◌, ◌↔◌, List, length, take, get_or, sum, sum_by, ltb}
+use Rattle.std.proofs.Common.{cond, refl, sym, subst, ap, arith, zero, suc, inl, inr}
 use Rattle.std.specs.List.{range_with_len}
 use Rattle.std.proofs.lemmas.Bool.{cases_lt}
 use Rattle.std.proofs.lemmas.Bool.Decides.{nat_tests}

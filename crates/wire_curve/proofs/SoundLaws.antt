@@ -7,7 +7,8 @@ use Rattle.wire_curve.specs.Sound.{IsSound}
 use Rattle.wire_curve.specs.FilmCurves.{used_before, total_of, slot_count, up_at, IsWithinLimits, AreFilmCurves}
 use Rattle.wire_curve.specs.Refusal.{IsAccepted}
 use Rattle.wire_curve.specs.Uses.{AreUses, used_by, AreCurvesOfUses}
-use Rattle.wire_curve.proofs.UseLaws.{used_before-none, used_before-more, used_before-all, used_before_rises, used_by-is}
+use Rattle.wire_curve.proofs.UseLaws.{used_before-none, used_before-more, used_before-all, used_before_rises}
+use Rattle.wire_curve.proofs.UseLaws.{used_by-is}
 
 -- the uses of all slots are all that is left to use
 pub sum_of_uses : (sizes : List ℕ) (timing : Timing) (uses : List ℕ) → IsWithinLimits sizes timing

@@ -1,5 +1,7 @@
 -- What pictures use in each slot: adding up one picture after another, and the running sums over the slots.
-use Rattle.std.proofs.Common.{◌≡◌, ℕ, ◌+◌, ◌*◌, ◌-◌, ◌/◌, ◌<◌, ◌≤◌, ◌≢◌, Bool, true, false, cond, eqb, ltb, List, length, take, set, get_or, sum, sum_by, refl, sym, ◌∙◌, subst, inl, inr, add-one, arith, zero, suc}
+use Rattle.std.proofs.Common.{◌≡◌, ℕ, ◌+◌, ◌*◌, ◌-◌, ◌/◌, ◌<◌, ◌≤◌, ◌≢◌, Bool, true, false, cond, eqb, ltb, List}
+use Rattle.std.proofs.Common.{length, take, set, get_or, sum, sum_by, refl, sym, ◌∙◌, subst, inl, inr, add-one, arith}
+use Rattle.std.proofs.Common.{zero, suc}
 use Rattle.std.specs.List.{range_with_len}
 use Rattle.std.proofs.Math.Nat.{le_refl, le_trans, mul-le-mul_right, div-mul-le_self}
 use Rattle.std.proofs.lemmas.Nat.{le-div}
@@ -10,7 +12,8 @@ use Rattle.std.proofs.lemmas.List.Sums.{sum_by_more}
 use Rattle.wire_curve.specs.declared.film.Timing.{Timing}
 use Rattle.wire_curve.specs.FilmCurves.{due_slot, used_before, bytes_used_in, total_of, slot_count}
 use Rattle.wire_curve.specs.Uses.{AreUses, used_by}
-use Rattle.wire_curve.proofs.Sums.{sum_by-range_more, sum_by-range-add, sum_by-range-le, sum_by-range-zero, sum_by-range-take, sum_by-range-all}
+use Rattle.wire_curve.proofs.Sums.{sum_by-range_more, sum_by-range-add, sum_by-range-le, sum_by-range-zero}
+use Rattle.wire_curve.proofs.Sums.{sum_by-range-take, sum_by-range-all}
 
 -- a later picture is used no earlier
 pub due_rises : (timing : Timing) (j k : ℕ) → 1 ≤ timing.slot_units → j ≤ k → due_slot timing j ≤ due_slot timing k
