@@ -7,7 +7,7 @@ use Rattle.taut_plan.specs.declared.points.Side.{Side}
 use Rattle.taut_plan.specs.declared.points.Side.TheVariants.{Lower, Upper}
 use Rattle.taut_plan.specs.Slopes.{IsWithin, IsInside, other_side}
 use Rattle.taut_plan.specs.Chain.{on_curve, IsChain}
-use Rattle.taut_plan.specs.Funnel.{KeepsApart, IsCrossing, IsUncrossed}
+use Rattle.taut_plan.specs.Funnel.{Sight, sight_of, KeepsApart, IsCrossing, IsUncrossed}
 use Rattle.taut_plan.proofs.SlopeLaws.{Seen, SeenCorner, within_within, inside_within, within_itself, inside_weaker}
 use Rattle.taut_plan.proofs.SlopeLaws.{inside_not_within, turns_apart}
 
@@ -40,21 +40,21 @@ ordered_within Upper o a b same le =
     rw e (omega (arith, up))
 
 -- What a crossing says of the corner b, the front of the other chain.
-pub record IsCorner (side : Side) (curve other : ℕ → ℕ) (t s : ℕ) (o b : Point) : Type 0 where
-  pub later : o.place < b.place
-  pub near : b.place ≤ s
-  pub before_new : b.place < t
+pub record IsCorner (side : Side) (curve other : ℕ → ℕ) (sight : Sight) (b : Point) : Type 0 where
+  pub later : sight.apex.place < b.place
+  pub near : b.place ≤ sight.other_reach
+  pub before_new : b.place < sight.reach
   pub on : b.height ≡ other b.place
-  pub own_within : (i : ℕ) → o.place < i → i < t → IsWithin side o (on_curve curve i) b
-  pub others_beyond : (j : ℕ) → o.place < j → j ≤ b.place → IsWithin side o b (on_curve other j)
-  pub others_after : (j : ℕ) → b.place < j → j ≤ s → IsInside side o b (on_curve other j)
-  pub crossed : IsInside side o b (on_curve curve t)
+  pub own_within : (i : ℕ) → sight.apex.place < i → i < sight.reach → IsWithin side sight.apex (on_curve curve i) b
+  pub others_beyond : (j : ℕ) → sight.apex.place < j → j ≤ b.place → IsWithin side sight.apex b (on_curve other j)
+  pub others_after : (j : ℕ) → b.place < j → j ≤ sight.other_reach → IsInside side sight.apex b (on_curve other j)
+  pub crossed : IsInside side sight.apex b (on_curve curve sight.reach)
 
 pub corner_of : {side : Side} {curve other : ℕ → ℕ} {t s : ℕ} {o : Point} {own : List Point} {b : Point}
     {rest : List Point}
-    → IsCrossing side curve other t s o own (b ∷ rest) → IsOrdered side (curve t) (other t)
+    → IsCrossing side curve other (sight_of t s o) own (b ∷ rest) → IsOrdered side (curve t) (other t)
     → IsInside side o b (on_curve curve t)
-    → IsCorner side curve other t s o b
+    → IsCorner side curve other (sight_of t s o) b
 corner_of {side} {curve} {other} {t} {s} {o} {b} state ordered crossed =
     let edge = state.others.0 in
     let later = edge.later in
@@ -84,7 +84,7 @@ corner_of {side} {curve} {other} {t} {s} {o} {b} state ordered crossed =
 
 -- the chain with the new point is that point alone, and stays so
 own_moves : {side : Side} {curve other : ℕ → ℕ} {t s : ℕ} {o b : Point} (own : List Point)
-    → IsChain side curve t o own → IsCorner side curve other t s o b → IsChain side curve t b own
+    → IsChain side curve t o own → IsCorner side curve other (sight_of t s o) b → IsChain side curve t b own
 own_moves {other} {s} [] at_end corner = let one = corner.later in let two =
     corner.before_new in absurd (omega (arith, at_end, one, two))
 own_moves {side} {curve} {other} {t} {s} {o} {b} (p ∷ rest) chain corner =
@@ -134,8 +134,8 @@ own_moves {side} {curve} {other} {t} {s} {o} {b} (p ∷ rest) chain corner =
 -- the corner becomes the point that the chains begin at
 pub crossing_moves : {side : Side} {curve other : ℕ → ℕ} {t s : ℕ} {o : Point} {own : List Point} {b : Point}
     {rest : List Point}
-    → IsCrossing side curve other t s o own (b ∷ rest) → IsCorner side curve other t s o b
-    → IsCrossing side curve other t s b own rest
+    → IsCrossing side curve other (sight_of t s o) own (b ∷ rest) → IsCorner side curve other (sight_of t s o) b
+    → IsCrossing side curve other (sight_of t s b) own rest
 crossing_moves {side} {curve} {other} {s} {o} {own} {b} state corner =
     let first = corner.later in
     record {
@@ -162,7 +162,7 @@ crossing_moves {side} {curve} {other} {s} {o} {own} {b} state corner =
 
 -- The new point stands within the other chain: so the curves stand apart with it.
 uncrossed_within : {side : Side} {curve other : ℕ → ℕ} {t s : ℕ} {o : Point} {own others : List Point}
-    → IsCrossing side curve other t s o own others
+    → IsCrossing side curve other (sight_of t s o) own others
     → IsUncrossed side o others (on_curve curve t) → (j : ℕ) → o.place < j → j ≤ s
     → IsWithin side o (on_curve curve t) (on_curve other j)
 uncrossed_within {s} {others = []} state un j after upto = absurd (omega (arith, state.others, after, upto))
@@ -179,8 +179,8 @@ uncrossed_within {side} {curve} {other} {t} {o} {others = b ∷ rest} state un j
     ])
 
 pub apart_again : {side : Side} {curve other : ℕ → ℕ} {t s : ℕ} {o : Point} {own others : List Point}
-    → IsCrossing side curve other t s o own others
-    → IsUncrossed side o others (on_curve curve t) → KeepsApart side curve other (t + 1) s o
+    → IsCrossing side curve other (sight_of t s o) own others
+    → IsUncrossed side o others (on_curve curve t) → KeepsApart side curve other (sight_of (t + 1) s o)
 apart_again {side} {curve} {other} {t} {s} {o} {own} state un = record {
   apart = λ i j i_after i_before j_after j_upto.
       elim (cases_lt i t) [

@@ -12,7 +12,7 @@ use Rattle.taut_plan.specs.declared.points.Side.{Side}
 use Rattle.taut_plan.specs.declared.points.Side.TheVariants.{Lower, Upper}
 use Rattle.taut_plan.specs.Slopes.{slope_le, slope_lt, IsWithin, IsInside, other_side}
 use Rattle.taut_plan.specs.Chain.{on_curve}
-use Rattle.taut_plan.specs.Funnel.{IsBand, KeepsApart, curve_on}
+use Rattle.taut_plan.specs.Funnel.{IsBand, KeepsApart, curve_on, sight_of}
 use Rattle.taut_plan.specs.Path.{GoesOn, IsPath, IsTautPath, segment_to}
 use Rattle.taut_plan.proofs.BendLaws.{IsCorner}
 use Rattle.taut_plan.proofs.PathLaws.{IsRise, IsFall, goes_on_rise, goes_on_fall}
@@ -125,7 +125,7 @@ segment_stays {lo} {hi} {o} {b} keeps =
     }
 
 -- a corner of the upper chain
-pub rise_of_corner : {lo hi : ℕ → ℕ} {t s : ℕ} {o b : Point} → IsCorner Lower lo hi t s o b → t ≤ s + 1
+pub rise_of_corner : {lo hi : ℕ → ℕ} {t s : ℕ} {o b : Point} → IsCorner Lower lo hi (sight_of t s o) b → t ≤ s + 1
     → lo o.place ≤ o.height → o.height ≤ hi o.place
     → o.height ≤ b.height → lo t ≤ hi t → IsRise lo hi o.place o.height (segment_to o b)
 rise_of_corner {lo} {hi} {t} {s} {o} {b} corner newest above below up ordered =
@@ -163,7 +163,7 @@ rise_of_corner {lo} {hi} {t} {s} {o} {b} corner newest above below up ordered =
     }
 
 -- a corner of the lower chain
-pub fall_of_corner : {lo hi : ℕ → ℕ} {t s : ℕ} {o b : Point} → IsCorner Upper hi lo t s o b → t ≤ s + 1
+pub fall_of_corner : {lo hi : ℕ → ℕ} {t s : ℕ} {o b : Point} → IsCorner Upper hi lo (sight_of t s o) b → t ≤ s + 1
     → lo o.place ≤ o.height → o.height ≤ hi o.place
     → o.height ≤ b.height → lo t ≤ hi t → IsFall lo hi o.place o.height (segment_to o b)
 fall_of_corner {lo} {hi} {t} {s} {o} {b} corner newest above below up ordered =
@@ -218,7 +218,7 @@ pub record IsNewPlace (n t s : ℕ) (o : Point) : Type 0 where
 -- the line never falls to a corner
 pub corner_rises : {side : Side} {lo hi : ℕ → ℕ} {from n t s : ℕ} {o b : Point} → IsBand lo hi from n
     → IsNewPlace n t s o → o.height ≤ hi o.place
-    → IsCorner side (curve_on lo hi side) (curve_on lo hi (other_side side)) t s o b → o.height ≤ b.height
+    → IsCorner side (curve_on lo hi side) (curve_on lo hi (other_side side)) (sight_of t s o) b → o.height ≤ b.height
 corner_rises {side = Lower} {lo} {from} {s} {o} {b} band new below corner =
     let later = corner.later in
     let near = corner.near in
@@ -234,7 +234,7 @@ corner_rises {side = Upper} {lo} {hi} {from} {t} {s} {o} {b} band new below corn
 -- the path goes on to a corner
 pub path_bends : {side : Side} {lo hi : ℕ → ℕ} {from n t s : ℕ} {o b : Point} {segments : List Segment}
     → IsBand lo hi from n → IsNewPlace n t s o → IsPath lo hi from o segments
-    → IsCorner side (curve_on lo hi side) (curve_on lo hi (other_side side)) t s o b
+    → IsCorner side (curve_on lo hi side) (curve_on lo hi (other_side side)) (sight_of t s o) b
     → IsPath lo hi from b (segments ++ segment_to o b ∷ [])
 path_bends {side} {lo} {hi} {from} {n} {t} {s} {o} {b} {segments} band new path corner =
     let later = corner.later in
@@ -253,30 +253,32 @@ path_bends {side} {lo} {hi} {from} {n} {t} {s} {o} {b} {segments} band new path 
       below = stands_below side lo hi band new corner;
       goes_on = subst (λ p. GoesOn lo hi from p b.height (segments ++ segment_to o b ∷ [])) place
           (subst (λ h. GoesOn lo hi from (o.place + (b.place - o.place)) h (segments ++ segment_to o b ∷ [])) height
-          (goes side lo hi path (band.ordered t new.fits) up corner));
+          (goes side path (band.ordered t new.fits) up corner));
     }
   where
     stands_above : (side : Side) (lo hi : ℕ → ℕ) → IsBand lo hi from n → IsNewPlace n t s o
-        → IsCorner side (curve_on lo hi side) (curve_on lo hi (other_side side)) t s o b → lo b.place ≤ b.height
+        → IsCorner side (curve_on lo hi side) (curve_on lo hi (other_side side)) (sight_of t s o) b
+        → lo b.place ≤ b.height
     stands_above Lower lo hi band new corner =
         let near = corner.near in let on = corner.on in let le =
         band.ordered b.place (omega (arith, near, new.not_past, new.fits)) in omega (arith, on, le)
     stands_above Upper lo hi band new corner = let on = corner.on in omega (arith, on)
 
     stands_below : (side : Side) (lo hi : ℕ → ℕ) → IsBand lo hi from n → IsNewPlace n t s o
-        → IsCorner side (curve_on lo hi side) (curve_on lo hi (other_side side)) t s o b → b.height ≤ hi b.place
+        → IsCorner side (curve_on lo hi side) (curve_on lo hi (other_side side)) (sight_of t s o) b
+        → b.height ≤ hi b.place
     stands_below Lower lo hi band new corner = let on = corner.on in omega (arith, on)
     stands_below Upper lo hi band new corner =
         let near = corner.near in let on = corner.on in let le =
         band.ordered b.place (omega (arith, near, new.not_past, new.fits)) in omega (arith, on, le)
 
-    goes : (side : Side) (lo hi : ℕ → ℕ) → IsPath lo hi from o segments → lo t ≤ hi t → o.height ≤ b.height
-        → IsCorner side (curve_on lo hi side) (curve_on lo hi (other_side side)) t s o b
+    goes : (side : Side) {lo hi : ℕ → ℕ} → IsPath lo hi from o segments → lo t ≤ hi t → o.height ≤ b.height
+        → IsCorner side (curve_on lo hi side) (curve_on lo hi (other_side side)) (sight_of t s o) b
         → GoesOn lo hi from (o.place + (b.place - o.place)) (o.height + (b.height - o.height))
         (segments ++ segment_to o b ∷ [])
-    goes Lower lo hi path ordered up corner =
+    goes Lower path ordered up corner =
         goes_on_rise path.goes_on (rise_of_corner corner new.newest path.above path.below up ordered)
-    goes Upper lo hi path ordered up corner =
+    goes Upper path ordered up corner =
         goes_on_fall path.goes_on (fall_of_corner corner new.newest path.above path.below up ordered)
 
 pub path_rises : {lo hi : ℕ → ℕ} {from n : ℕ} {o : Point} {segments : List Segment} → IsBand lo hi from n
@@ -289,7 +291,8 @@ path_rises {lo} {from} {n} {o} band past path =
 -- the segments with the last one, to where the curves meet
 pub path_ends : {lo hi : ℕ → ℕ} {from n : ℕ} {o : Point} {segments : List Segment} → IsBand lo hi from n
     → o.place < n → IsPath lo hi from o segments
-    → KeepsApart Upper hi lo (n + 1) n o → IsTautPath lo hi from n (segments ++ segment_to o (on_curve hi n) ∷ [])
+    → KeepsApart Upper hi lo (sight_of (n + 1) n o)
+    → IsTautPath lo hi from n (segments ++ segment_to o (on_curve hi n) ∷ [])
 path_ends {lo} {hi} {from} {n} {o} {segments} band past path keeps =
     let up = band.high_rises o.place n (omega (arith, past)) (omega arith) in
     let below = path.below in

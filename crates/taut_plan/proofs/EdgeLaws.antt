@@ -83,13 +83,13 @@ join_step {side} {o} {old} {point} curve s is open_ ready =
       | inl none ↦
           subst (λ c. IsChain side curve (s + 1) o (c ++ on_curve curve (s + 1) ∷ [])) (sym none)
           (open_joins_alone side curve s o (subst (IsOpen side curve s o) none open_))
-      | inr held ↦ join_held side curve s o old point is open_ held
+      | inr held ↦ join_held curve s is open_ held
     ])
   where
-    join_held : (side : Side) (curve : ℕ → ℕ) (s : ℕ) (o : Point) (old : List Point) (point : Point)
+    join_held : {side : Side} {o : Point} {old : List Point} {point : Point} (curve : ℕ → ℕ) (s : ℕ)
         → point ≡ on_curve curve (s + 1) → IsOpen side curve s o old
         → IsHeld side o old point → IsChain side curve (s + 1) o (old ++ on_curve curve (s + 1) ∷ [])
-    join_held side curve s o old point is open_ held =
+    join_held {side} {o} {point} curve s is open_ held =
         let edge = held.edge in
         let inside : IsInside side (last_point o edge.front) (on_curve curve (s + 1)) held.second =
         subst (λ p. IsInside side (last_point o edge.front) p held.second) is

@@ -11,7 +11,7 @@ use Rattle.taut_plan.specs.declared.points.Side.{Side}
 use Rattle.taut_plan.specs.declared.points.Side.TheVariants.{Lower, Upper}
 use Rattle.taut_plan.specs.Slopes.{IsWithin, IsInside, other_side}
 use Rattle.taut_plan.specs.Chain.{on_curve, IsChain, last_point}
-use Rattle.taut_plan.specs.Funnel.{IsBand, IsCrossing, IsCrossed, IsFunnel, curve_on, others_known}
+use Rattle.taut_plan.specs.Funnel.{IsBand, IsCrossing, IsCrossed, IsFunnel, curve_on, others_known, sight_of}
 use Rattle.taut_plan.specs.Path.{IsPath, segment_to}
 use Rattle.taut_plan.proofs.BandLaws.{band_of_sound}
 use Rattle.taut_plan.proofs.ChainLaws.{IsOpen, chain_opens, open_pops, open_joins_alone, open_joins}
@@ -75,13 +75,13 @@ record IsExtended (side : Side) (lo hi : ℕ → ℕ) (from t s : ℕ) : Type 0 
   own : List Point
   others : List Point
   path : IsPath lo hi from apex segments
-  funnel : IsFunnel side (curve_on lo hi side) (curve_on lo hi (other_side side)) t s apex own others
+  funnel : IsFunnel side (curve_on lo hi side) (curve_on lo hi (other_side side)) (sight_of t s apex) own others
   after : apex.place < t
 
 crosses : {side : Side} {lo hi : ℕ → ℕ} {from n t s : ℕ} {o : Point} {segments : List Segment}
     {own others : List Point}
     → IsBand lo hi from n → t ≤ n → IsPath lo hi from o segments
-    → IsCrossing side (curve_on lo hi side) (curve_on lo hi (other_side side)) t s o own others
+    → IsCrossing side (curve_on lo hi side) (curve_on lo hi (other_side side)) (sight_of t s o) own others
     → IsExtended side lo hi from t s
 crosses {lo} {from} {s} {o} {segments} {own} {others = []} band fits path state = record {
   apex = o;
@@ -118,7 +118,8 @@ crosses {side} {lo} {hi} {from} {n} {t} {s} {o} {segments} {own} {others = corne
 extends : {side : Side} {lo hi : ℕ → ℕ} {from n slot : ℕ} {o : Point} {segments : List Segment}
     {own others : List Point}
     → IsBand lo hi from n → slot + 1 ≤ n → IsPath lo hi from o segments
-    → IsFunnel side (curve_on lo hi side) (curve_on lo hi (other_side side)) slot (others_known side slot) o own others
+    → IsFunnel side (curve_on lo hi side) (curve_on lo hi (other_side side))
+    (sight_of slot (others_known side slot) o) own others
     → IsExtended side lo hi from (slot + 1) (others_known side slot)
 extends {side} {lo} {hi} {from} {slot} {o} {own} band fits path funnel =
     let curve = curve_on lo hi side in
@@ -134,7 +135,7 @@ record IsReached (lo hi : ℕ → ℕ) (from slot : ℕ) : Type 0 where
   lower : List Point
   upper : List Point
   path : IsPath lo hi from apex segments
-  funnel : IsFunnel Lower lo hi slot slot apex lower upper
+  funnel : IsFunnel Lower lo hi (sight_of slot slot apex) lower upper
   after : 0 < slot → apex.place < slot
 
 starts : (lo hi : ℕ → ℕ) (from n : ℕ) → IsBand lo hi from n → IsReached lo hi from 0

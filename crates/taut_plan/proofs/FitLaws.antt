@@ -7,7 +7,7 @@ use Rattle.taut_plan.specs.declared.points.Side.{Side}
 use Rattle.taut_plan.specs.declared.points.Side.TheVariants.{Lower, Upper}
 use Rattle.taut_plan.specs.Slopes.{Fits}
 use Rattle.taut_plan.specs.Chain.{on_curve, IsFurthest, last_point, EdgesFit}
-use Rattle.taut_plan.specs.Funnel.{IsCrossing, FirstFits, curve_on}
+use Rattle.taut_plan.specs.Funnel.{IsCrossing, FirstFits, curve_on, sight_of}
 use Rattle.taut_plan.proofs.BandLaws.{band_of_sound}
 use Rattle.taut_plan.proofs.ChainLaws.{IsOpen}
 
@@ -83,8 +83,8 @@ pub record BothFit (curve other : ℕ → ℕ) (n : ℕ) : Type 0 where
   pub others : (j : ℕ) → j ≤ n → Fits (on_curve other j)
 
 pub first_fits : {side : Side} {curve other : ℕ → ℕ} {n t s : ℕ} {o : Point} {own others : List Point} {point : Point}
-    → point ≡ on_curve curve t → IsCrossing side curve other t s o own others → t ≤ n → Fits o → BothFit curve other n
-    → FirstFits o others point
+    → point ≡ on_curve curve t → IsCrossing side curve other (sight_of t s o) own others → t ≤ n → Fits o
+    → BothFit curve other n → FirstFits o others point
 first_fits {other} {s} {others = []} {point} is state fits o_fits all = tt
 first_fits {other} {t} {s} {others = b ∷ rest} {point} is state fits o_fits all = record {
   begins = o_fits;

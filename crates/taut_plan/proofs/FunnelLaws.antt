@@ -7,6 +7,7 @@ use Rattle.taut_plan.specs.declared.points.Side.TheVariants.{Lower, Upper}
 use Rattle.taut_plan.specs.Slopes.{IsWithin, IsInside, other_side}
 use Rattle.taut_plan.specs.Chain.{on_curve, IsChain}
 use Rattle.taut_plan.specs.Funnel.{IsBand, IsCrossing, IsCrossed, IsUncrossed, IsFunnel, curve_on, others_known}
+use Rattle.taut_plan.specs.Funnel.{sight_of}
 use Rattle.taut_plan.specs.Path.{IsPath, segment_to}
 use Rattle.taut_plan.proofs.BendLaws.{IsOrdered, corner_of, crossing_moves, apart_again}
 use Rattle.taut_plan.proofs.CornerLaws.{IsNewPlace, corner_rises, path_bends}
@@ -27,8 +28,9 @@ chain_beyond side curve t o (p ∷ rest) chain =
     let near = chain.0.near in omega (arith, later, near)
 
 pub crossing_starts : {side : Side} {curve other : ℕ → ℕ} {slot : ℕ} {o : Point} {own joined others : List Point}
-    → IsFunnel side curve other slot (others_known side slot) o own others → IsChain side curve (slot + 1) o joined
-    → IsCrossing side curve other (slot + 1) (others_known side slot) o joined others
+    → IsFunnel side curve other (sight_of slot (others_known side slot) o) own others
+    → IsChain side curve (slot + 1) o joined
+    → IsCrossing side curve other (sight_of (slot + 1) (others_known side slot) o) joined others
 crossing_starts {side} {curve} {other} {slot} {o} {own} {others} funnel chain = record {
   newest = let le = known_least side slot in omega (arith, le);
   not_past = known_most side slot;
@@ -49,7 +51,8 @@ pub record IsBent (side : Side) (lo hi : ℕ → ℕ) (from t s : ℕ) (o corner
   pub later : o.place ≤ corner.place
   pub higher : o.height ≤ corner.height
   pub path : IsPath lo hi from corner (segments ++ segment_to o corner ∷ [])
-  pub crossing : IsCrossing side (curve_on lo hi side) (curve_on lo hi (other_side side)) t s corner own others
+  pub crossing : IsCrossing side (curve_on lo hi side) (curve_on lo hi (other_side side)) (sight_of t s corner)
+      own others
 
 -- the new point, of the curve's place t, stands outside of the other chain's first edge, whose end leaves that chain
 pub record GivesWay (side : Side) (curve : ℕ → ℕ) (n t : ℕ) (o corner : Point) (others left : List Point) : Type 0 where
@@ -62,16 +65,17 @@ pub record GivesWay (side : Side) (curve : ℕ → ℕ) (n t : ℕ) (o corner : 
 pub bends_at : {side : Side} {lo hi : ℕ → ℕ} {from n t s : ℕ} {o corner : Point} {segments : List Segment}
     {own others left : List Point}
     → IsBand lo hi from n → IsPath lo hi from o segments
-    → IsCrossing side (curve_on lo hi side) (curve_on lo hi (other_side side)) t s o own others
+    → IsCrossing side (curve_on lo hi side) (curve_on lo hi (other_side side)) (sight_of t s o) own others
     → GivesWay side (curve_on lo hi side) n t o corner others left
     → IsBent side lo hi from t s o corner segments own left
 bends_at {side} {lo} {hi} {from} {n} {t} {s} {o} {corner} {own} {left} band path state way =
     let crossed = way.crossed in
     let new : IsNewPlace n t s o =
     record { fits = way.fits; newest = state.newest; not_past = state.not_past; beyond = state.beyond } in
-    let state' : IsCrossing side (curve_on lo hi side) (curve_on lo hi (other_side side)) t s o own
+    let state' : IsCrossing side (curve_on lo hi side) (curve_on lo hi (other_side side)) (sight_of t s o) own
     (corner ∷ crossed.rest) =
-    subst (IsCrossing side (curve_on lo hi side) (curve_on lo hi (other_side side)) t s o own) crossed.is state in
+    subst (IsCrossing side (curve_on lo hi side) (curve_on lo hi (other_side side)) (sight_of t s o) own) crossed.is
+    state in
     let out : IsInside side o corner (on_curve (curve_on lo hi side) t) =
     subst (λ p. IsInside side o corner p) way.point_is crossed.crossed in
     let there = corner_of state' (ordered_on side lo hi t (band.ordered t way.fits)) out in
@@ -81,15 +85,16 @@ bends_at {side} {lo} {hi} {from} {n} {t} {s} {o} {corner} {own} {left} band path
       later = omega (arith, later);
       higher = corner_rises band new path.below there;
       path = path_bends band new path there;
-      crossing = subst (IsCrossing side (curve_on lo hi side) (curve_on lo hi (other_side side)) t s corner own) (sym e)
+      crossing = subst
+          (IsCrossing side (curve_on lo hi side) (curve_on lo hi (other_side side)) (sight_of t s corner) own) (sym e)
           (crossing_moves state' there);
     }
 
 pub crossing_ends : {side : Side} {curve other : ℕ → ℕ} {t s : ℕ} {o : Point} {own others : List Point}
     {point : Point}
     → point ≡ on_curve curve t
-    → IsCrossing side curve other t s o own others → IsUncrossed side o others point
-    → IsFunnel side curve other t s o own others
+    → IsCrossing side curve other (sight_of t s o) own others → IsUncrossed side o others point
+    → IsFunnel side curve other (sight_of t s o) own others
 crossing_ends {side} {other} {s} {o} {own} {others} {point} is state un = record {
   own = state.own;
   others = state.others;
@@ -107,8 +112,8 @@ other_twice Lower curve t o chain h = h
 other_twice Upper curve t o chain h = h
 
 pub funnel_turns : {side : Side} {curve other : ℕ → ℕ} {t s : ℕ} {o : Point} {own others : List Point}
-    → IsFunnel side curve other t s o own others
-    → IsFunnel (other_side side) other curve s t o others own
+    → IsFunnel side curve other (sight_of t s o) own others
+    → IsFunnel (other_side side) other curve (sight_of s t o) others own
 funnel_turns {side} {curve} {other} {t} {s} {o} {own} {others} funnel = record {
   own = funnel.others;
   others = other_twice side curve t o own funnel.own;

@@ -10,7 +10,7 @@ use Rattle.cert_check.proofs.TautForms.{bound_end, closed_of_sound, taut_from_ru
 use Rattle.taut_plan.specs.declared.points.Point.{Point}
 use Rattle.taut_plan.specs.declared.points.Side.TheVariants.{Lower}
 use Rattle.taut_plan.specs.Chain.{on_curve}
-use Rattle.taut_plan.specs.Funnel.{IsBand, IsFunnel}
+use Rattle.taut_plan.specs.Funnel.{IsBand, IsFunnel, sight_of}
 use Rattle.taut_plan.specs.Path.{IsPath, IsTautPath, segment_to}
 use Rattle.taut_plan.proofs.CornerLaws.{path_rises, path_ends}
 use Rattle.taut_plan.proofs.FunnelLaws.{funnel_turns}
@@ -23,12 +23,12 @@ pub record IsEnding (lo hi : ℕ → ℕ) (from n : ℕ) (o point : Point) (segm
 pub ends_at : {lo hi : ℕ → ℕ} {from n slot : ℕ} {o : Point} {segments : List Segment} {lower upper : List Point}
     {point : Point}
     → IsBand lo hi from n → slot ≡ n
-    → IsPath lo hi from o segments → IsFunnel Lower lo hi slot slot o lower upper → o.place < slot
+    → IsPath lo hi from o segments → IsFunnel Lower lo hi (sight_of slot slot o) lower upper → o.place < slot
     → point ≡ on_curve hi n → IsEnding lo hi from n o point segments
 ends_at {lo} {hi} {from} {n} {slot} {o} {segments} {lower} {upper} {point} band same path funnel past is =
     let past' : o.place < n = omega (arith, same, past) in
-    let funnel' : IsFunnel Lower lo hi n n o lower upper =
-    subst (λ t. IsFunnel Lower lo hi t t o lower upper) same funnel in
+    let funnel' : IsFunnel Lower lo hi (sight_of n n o) lower upper =
+    subst (λ t. IsFunnel Lower lo hi (sight_of t t o) lower upper) same funnel in
     let turned = funnel_turns funnel' in
     record {
       higher = subst (λ (p : Point). o.height ≤ p.height) (sym is) (path_rises band past' path);

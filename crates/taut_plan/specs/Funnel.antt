@@ -23,22 +23,33 @@ pub record IsBand (lo hi : ℕ → ℕ) (from n : ℕ) : Type 0 where
   pub high_rises : (i j : ℕ) → i ≤ j → j ≤ n → hi i ≤ hi j
   pub meet : lo n ≡ hi n
 
--- seen from o, each place of the one curve from o to before t stands within each place of the other
--- curve from o up to s
-pub record KeepsApart (side : Side) (curve other : ℕ → ℕ) (t s : ℕ) (o : Point) : Type 0 where
-  pub apart : (i j : ℕ) → o.place < i → i < t → o.place < j → j ≤ s
-      → IsWithin side o (on_curve curve i) (on_curve other j)
+-- from which apex the curves are seen, and up to which place each of them: that of the side that is
+-- spoken of, and the other one
+pub record Sight : Type 0 where
+  pub apex : Point
+  pub reach : ℕ
+  pub other_reach : ℕ
 
--- While the point of place t gives the other chain its corners: the one chain has that point, and
--- the other one ends at s, which is t or t - 1.
-pub record IsCrossing (side : Side) (curve other : ℕ → ℕ) (t s : ℕ) (o : Point)
+abbrev pub sight_of : ℕ → ℕ → Point → Sight
+sight_of t s o = record { apex = o; reach = t; other_reach = s }
+
+-- seen from the apex, each place of the one curve after it and before that curve's reach stands
+-- within each place of the other curve after it and up to the other reach
+pub record KeepsApart (side : Side) (curve other : ℕ → ℕ) (sight : Sight) : Type 0 where
+  pub apart : (i j : ℕ) → sight.apex.place < i → i < sight.reach
+      → sight.apex.place < j → j ≤ sight.other_reach
+      → IsWithin side sight.apex (on_curve curve i) (on_curve other j)
+
+-- While the point of the one curve's reach gives the other chain its corners: the one chain has
+-- that point, and the other one ends at the same place or one place before.
+pub record IsCrossing (side : Side) (curve other : ℕ → ℕ) (sight : Sight)
     (own_chain other_chain : List Point) : Type 0 where
-  pub newest : t ≤ s + 1
-  pub not_past : s ≤ t
-  pub beyond : o.place < t
-  pub own : IsChain side curve t o own_chain
-  pub others : IsChain (other_side side) other s o other_chain
-  pub apart : KeepsApart side curve other t s o
+  pub newest : sight.reach ≤ sight.other_reach + 1
+  pub not_past : sight.other_reach ≤ sight.reach
+  pub beyond : sight.apex.place < sight.reach
+  pub own : IsChain side curve sight.reach sight.apex own_chain
+  pub others : IsChain (other_side side) other sight.other_reach sight.apex other_chain
+  pub apart : KeepsApart side curve other sight
 
 -- the front of the other chain, where the point stands outside of it
 pub record IsCrossed (side : Side) (o : Point) (chain : List Point) (point corner : Point)
@@ -61,12 +72,14 @@ abbrev pub FirstFits : Point → List Point → Point → Type 0
 FirstFits o [] point = Unit {0}
 FirstFits o (first ∷ rest) point = AllFit o first point
 
--- The whole funnel, seen from one side: that side's chain reaches to place t, the other one to s.
-pub record IsFunnel (side : Side) (curve other : ℕ → ℕ) (t s : ℕ) (o : Point)
+-- The whole funnel, seen from one side: each chain goes up to its curve's reach, and the curves
+-- stand apart, the one at its reach too.
+pub record IsFunnel (side : Side) (curve other : ℕ → ℕ) (sight : Sight)
     (own_chain other_chain : List Point) : Type 0 where
-  pub own : IsChain side curve t o own_chain
-  pub others : IsChain (other_side side) other s o other_chain
-  pub keeps : KeepsApart side curve other (t + 1) s o
+  pub own : IsChain side curve sight.reach sight.apex own_chain
+  pub others : IsChain (other_side side) other sight.other_reach sight.apex other_chain
+  pub keeps : KeepsApart side curve other
+      (sight_of (sight.reach + 1) sight.other_reach sight.apex)
 
 -- how far the other curve is read, where a side takes in a slot: the lower one goes first
 abbrev pub others_known : Side → ℕ → ℕ

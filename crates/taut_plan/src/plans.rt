@@ -7,7 +7,7 @@ ghost use Rattle.cert_check.specs.Fault.{IsTaut};
 ghost use Rattle.cert_check.specs.Best.{IsBestPlan};
 ghost use Rattle.taut_plan.specs.Slopes.{other_side};
 ghost use Rattle.taut_plan.specs.Funnel.{IsFunnel, IsCrossed, IsUncrossed, FirstIsBetween};
-ghost use Rattle.taut_plan.specs.Funnel.{FirstFits, others_known};
+ghost use Rattle.taut_plan.specs.Funnel.{FirstFits, others_known, sight_of};
 ghost use Rattle.taut_plan.specs.Path.{IsPath, IsTautPath};
 ghost use Rattle.taut_plan.specs.Sides.{lower_of, upper_of, side_of};
 
@@ -73,12 +73,12 @@ fn extend(
     requires path { IsPath (lower_of curves.now) (upper_of curves.now) curves.now.from
         path.old.apex path.old.segments.items }
     requires funnel { IsFunnel side (side_of curves.now side) (side_of curves.now (other_side side))
-        slot (others_known side slot) path.old.apex own.old others.old }
+        (sight_of slot (others_known side slot) path.old.apex) own.old others.old }
     ensures path { OnOk result (IsPath (lower_of curves.now) (upper_of curves.now) curves.now.from
         path.new.apex path.new.segments.items) }
     ensures funnel { OnOk result
         (IsFunnel side (side_of curves.now side) (side_of curves.now (other_side side))
-        (slot + 1) (others_known side slot) path.new.apex own.new others.new) }
+        (sight_of (slot + 1) (others_known side slot) path.new.apex) own.new others.new) }
     ensures beyond { OnOk result (path.new.apex.place ≤ slot) }
 {
     let point = join(curves, side, path.apex, own, slot)?;

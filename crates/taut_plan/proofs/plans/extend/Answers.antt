@@ -1,6 +1,6 @@
 use Rattle.std.proofs.Common.{◌+◌, ◌≤◌, length, arith, sym, subst}
 use Rattle.taut_plan.specs.Slopes.{other_side}
-use Rattle.taut_plan.specs.Funnel.{IsCrossing, others_known}
+use Rattle.taut_plan.specs.Funnel.{IsCrossing, others_known, sight_of}
 use Rattle.taut_plan.specs.Path.{IsPath}
 use Rattle.taut_plan.specs.Sides.{lower_of, upper_of, side_of}
 use Rattle.taut_plan.proofs.BandLaws.{band_of_sound}
@@ -71,7 +71,8 @@ loop-corner-preserved c =
           (subst (λ segments. IsPath (lower_of curves) (upper_of curves) curves.from corner segments)
           (sym c.in_ok-bend_at.ensures.segments) bent.path);
       crossing = subst (λ o. IsCrossing c.args.side (side_of curves c.args.side)
-          (side_of curves (other_side c.args.side)) (c.args.slot + 1) known o c.join.new.chain c.pop_first.new.self)
+          (side_of curves (other_side c.args.side)) (sight_of (c.args.slot + 1) known o) c.join.new.chain
+          c.pop_first.new.self)
           (sym c.in_ok-bend_at.ensures.apex) bent.crossing;
     }
 
