@@ -185,32 +185,46 @@ not_one_more k line over (Slots n i number) = omega (arith, i)
 not_one_more k line over (Bytes n i number) = omega (arith, i)
 not_one_more k line over (SegmentLine s i few segment) = omega (arith, over, few)
 
--- a text by the three lines of its head: where each is cut off, and what it is
-pub record IsHeadOf (text title rest slots_line rest2 bytes_line rest3 : List ℕ) (slots bytes : ℕ) : Type 0 where
-  pub title_cut : text ≡ title ++ 10 ∷ rest
+-- a text by the three lines of its head: where each is cut off, what it is, and the text after the last
+pub record IsHeadOf (text : List ℕ) (slots bytes : ℕ) (after : List ℕ) : Type 0 where
+  pub title : List ℕ
+  pub after_title : List ℕ
+  pub slots_line : List ℕ
+  pub after_slots : List ℕ
+  pub bytes_line : List ℕ
+  pub title_cut : text ≡ title ++ 10 ∷ after_title
   pub title_is : title ≡ codes "smooth 1"
-  pub slots_cut : rest ≡ slots_line ++ 10 ∷ rest2
+  pub slots_cut : after_title ≡ slots_line ++ 10 ∷ after_slots
   pub slots_is : slots_line ≡ codes "slots " ++ decimal slots
-  pub bytes_cut : rest2 ≡ bytes_line ++ 10 ∷ rest3
+  pub bytes_cut : after_slots ≡ bytes_line ++ 10 ∷ after
   pub bytes_is : bytes_line ≡ codes "bytes " ++ decimal bytes
 
 -- the text of the head, put together from its lines
-pub head_text : {text title rest slots_line rest2 bytes_line : List ℕ} (rest3 : List ℕ) (slots bytes : ℕ)
-    → IsHeadOf text title rest slots_line rest2 bytes_line rest3 slots bytes → text ≡ cert_head slots bytes ++ rest3
-head_text {text} {rest} {rest2} rest3 slots bytes given =
-    let third : rest2 ≡ (codes "bytes " ++ decimal bytes) ++ 10 ∷ rest3 = cut3 ∙ ap (λ l. l ++ 10 ∷ rest3) bytes_is in
-    let second : rest ≡ (codes "slots " ++ decimal slots) ++ 10 ∷ ((codes "bytes " ++ decimal bytes) ++ 10 ∷ rest3) =
-    cut2 ∙ ap (λ l. l ++ 10 ∷ rest2) slots_is ∙ ap (λ r. (codes "slots " ++ decimal slots) ++ 10 ∷ r) third in
+pub head_text : {text : List ℕ} (slots bytes : ℕ) (after : List ℕ) → IsHeadOf text slots bytes after
+    → text ≡ cert_head slots bytes ++ after
+head_text {text} slots bytes after given =
+    let third : after_slots ≡ (codes "bytes " ++ decimal bytes) ++ 10 ∷ after = cut3 ∙ ap (λ l. l ++ 10 ∷ after) bytes_is in
+    let second : after_title ≡ (codes "slots " ++ decimal slots) ++ 10 ∷ ((codes "bytes " ++ decimal bytes) ++ 10 ∷ after) =
+    cut2 ∙ ap (λ l. l ++ 10 ∷ after_slots) slots_is ∙ ap (λ r. (codes "slots " ++ decimal slots) ++ 10 ∷ r) third in
     let first : text
     ≡ codes "smooth 1" ++ 10 ∷ ((codes "slots " ++ decimal slots) ++ 10
-    ∷ ((codes "bytes " ++ decimal bytes) ++ 10 ∷ rest3)) =
-    cut1 ∙ ap (λ l. l ++ 10 ∷ rest) title_is ∙ ap (λ r. codes "smooth 1" ++ 10 ∷ r) second in
+    ∷ ((codes "bytes " ++ decimal bytes) ++ 10 ∷ after)) =
+    cut1 ∙ ap (λ l. l ++ 10 ∷ after_title) title_is ∙ ap (λ r. codes "smooth 1" ++ 10 ∷ r) second in
     let joined : codes "smooth 1" ++ 10
-    ∷ ((codes "slots " ++ decimal slots) ++ 10 ∷ ((codes "bytes " ++ decimal bytes) ++ 10 ∷ rest3))
-    ≡ cert_head slots bytes ++ rest3 = simp append_assoc in
+    ∷ ((codes "slots " ++ decimal slots) ++ 10 ∷ ((codes "bytes " ++ decimal bytes) ++ 10 ∷ after))
+    ≡ cert_head slots bytes ++ after = simp append_assoc in
     first ∙ joined
   where
-    open given use {title_cut as cut1, title_is, slots_cut as cut2, slots_is, bytes_cut as cut3, bytes_is}
+    open given use {
+      after_title,
+      after_slots,
+      title_cut as cut1,
+      title_is,
+      slots_cut as cut2,
+      slots_is,
+      bytes_cut as cut3,
+      bytes_is,
+    }
 
 -- one more segment's line
 pub segment_text : {text rest line : List ℕ} (after : List ℕ) (segments : List Segment) (s : Segment) →

@@ -70,7 +70,12 @@ lines-certificate slots bytes segments small_slots small_bytes small =
     let third = (codes "bytes " ++ decimal bytes) ++ 10 ∷ body in
     let second = (codes "slots " ++ decimal slots) ++ 10 ∷ third in
     let shape : codes "smooth 1" ++ 10 ∷ second ≡ cert_head slots bytes ++ body =
-    head_text body slots bytes (record {
+    head_text slots bytes body (record {
+      title = codes "smooth 1";
+      after_title = second;
+      slots_line = codes "slots " ++ decimal slots;
+      after_slots = third;
+      bytes_line = codes "bytes " ++ decimal bytes;
       title_cut = refl;
       title_is = refl;
       slots_cut = refl;

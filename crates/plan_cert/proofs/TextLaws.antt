@@ -38,7 +38,12 @@ text_lines segments =
     append_assoc (cert_head (total_slots segments) (total_bytes segments)) (flat_map segment_line segments)
     (codes "end\n")
     ∙ ap (λ l. cert_head (total_slots segments) (total_bytes segments) ++ l) (body_lines segments) in
-    whole ∙ sym (head_text body (total_slots segments) (total_bytes segments) (record {
+    whole ∙ sym (head_text (total_slots segments) (total_bytes segments) body (record {
+      title = codes "smooth 1";
+      after_title = second;
+      slots_line = slots;
+      after_slots = third;
+      bytes_line = bytes;
       title_cut = refl;
       title_is = refl;
       slots_cut = append_assoc slots (codes "\n") third;

@@ -83,8 +83,13 @@ returns c =
     record {
       small_slots = c.in-Some-number_after.ensures.small;
       small_bytes = c.in-Some-number_after-2.ensures.small;
-      text_is = head_text c.in-Some-split_at_first-2.rest.now c.in-Some-number_after.slots
-          c.in-Some-number_after-2.bytes (record {
+      text_is = head_text c.in-Some-number_after.slots c.in-Some-number_after-2.bytes
+          c.in-Some-split_at_first-2.rest.now (record {
+            title = _;
+            after_title = _;
+            slots_line = _;
+            after_slots = _;
+            bytes_line = _;
             title_cut = c.in-Some.ensures.parts;
             title_is = c.is_text.ensures.0 c.if-not-is_text.false;
             slots_cut = c.in-Some-split_at_first.ensures.parts;
