@@ -29,13 +29,13 @@ AreFilmCurves-of_uses {sizes} {timing} {uses} {total} are is of = record {
   up_slots = of.up_slots ∙ are.slots;
   low_is = λ t lt. of.low_is t (omega (arith, are.slots))
       ∙ ap (max timing.sent) (used_by-is sizes timing uses are (t + 1) (omega arith));
-  up_is = λ t lt. of.up_is t (omega (arith, are.slots)) ∙ up_same sizes timing uses total are is t (omega arith);
+  up_is = λ t lt. of.up_is t (omega (arith, are.slots)) ∙ up_same are is t (omega arith);
 }
   where
-    up_same : (sizes : List ℕ) (timing : Timing) (uses : List ℕ) (total : ℕ) → AreUses sizes timing uses
+    up_same : {sizes : List ℕ} {timing : Timing} {uses : List ℕ} {total : ℕ} → AreUses sizes timing uses
         → total ≡ total_of sizes timing → (t : ℕ) → t ≤ slot_count sizes timing
         → min total (used_by timing uses t + timing.buffer) ≡ up_at sizes timing t
-    up_same sizes timing uses total are is t le =
+    up_same {sizes} {timing} {uses} are is t le =
         let by = used_by-is sizes timing uses are t le in
         omega (arith, is, by)
 
