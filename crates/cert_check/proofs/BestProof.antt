@@ -1,5 +1,6 @@
 -- A taut list of segments is best: the parts put together.
-use Rattle.std.proofs.Common.{◌≡◌, ◌<◌, ◌≤◌, ◌+◌, ◌-◌, ◌*◌, ◌/◌, ◌%◌, ℕ, Result, Ok, Err, MatchResult, OnOk, List, [], ◌∷◌, All, length, take, sum, slice_index, inl, inr, arith, sym, ap, subst, ◌∙◌}
+use Rattle.std.proofs.Common.{◌≡◌, ◌<◌, ◌≤◌, ◌+◌, ◌-◌, ◌*◌, ◌/◌, ◌%◌, ℕ, Result, Ok, Err, MatchResult, OnOk, List, []}
+use Rattle.std.proofs.Common.{◌∷◌, All, length, take, sum, slice_index, inl, inr, arith, sym, ap, subst, ◌∙◌}
 use Rattle.std.proofs.Math.Nat.{mul-le-mul_left, one-mul}
 use Rattle.std.proofs.lemmas.Nat.{div-add-mod', mod_below}
 use Rattle.std.proofs.lemmas.Bool.{cases_lt}
@@ -18,7 +19,8 @@ use Rattle.cert_check.proofs.SlotExcess.{line_over, over-plan_slots}
 use Rattle.cert_check.proofs.LeastExcess.{KeepsBetween, least}
 use Rattle.cert_check.proofs.LineKeeps.{KeepsAt, line_keeps}
 use Rattle.cert_check.proofs.OneList.{one_list}
-use Rattle.cert_check.proofs.TautForms.{AreClosed, bound_after, slots_are, runs_from_taut, ends_from_taut, line_from_taut}
+use Rattle.cert_check.proofs.TautForms.{AreClosed, bound_after, slots_are, runs_from_taut, ends_from_taut}
+use Rattle.cert_check.proofs.TautForms.{line_from_taut}
 
 -- a segment that stays between curves has slots
 pub no_empties : (lo hi : ℕ → ℕ) (k v : ℕ) (segments : List Segment) → RunsTaut lo hi k v segments

@@ -1,7 +1,8 @@
 -- A taut line goes over each whole threshold by no more than any list of numbers that keeps between the same curves.
 -- One induction over the segments. A segment is hot where its slope is above the threshold p, else cold. A change from
 -- hot to cold stands on the lower curve, one from cold to hot on the upper one.
-use Rattle.std.proofs.Common.{◌≡◌, ◌<◌, ◌≤◌, ◌+◌, ◌-◌, ◌*◌, ℕ, List, [], ◌∷◌, ◌++◌, inl, inr, length, take, drop, sum, arith, sym, ap, subst, ◌∙◌, add-zero}
+use Rattle.std.proofs.Common.{◌≡◌, ◌<◌, ◌≤◌, ◌+◌, ◌-◌, ◌*◌, ℕ, List, [], ◌∷◌, ◌++◌, inl, inr, length, take, drop, sum}
+use Rattle.std.proofs.Common.{arith, sym, ap, subst, ◌∙◌, add-zero}
 use Rattle.std.proofs.Math.Nat.{mul-le-mul_right}
 use Rattle.std.proofs.Math.Seq.{take-append-add}
 use Rattle.std.proofs.lemmas.Bool.{cases_lt}

@@ -2,9 +2,11 @@
 use Rattle.std.proofs.Common.{◌≡◌, ◌<◌, ℕ, List, arith, unwrap_or}
 use Rattle.plan_cert.specs.declared.Segment.{Segment}
 use Rattle.cert_check.specs.declared.CertFault.{CertFault}
-use Rattle.cert_check.specs.declared.CertFault.TheVariants.{EmptySegment, WrongLength, WrongTotal, BelowLow, AboveUp, EqualSlopes, RiseOffUpper, FallOffLower}
+use Rattle.cert_check.specs.declared.CertFault.TheVariants.{EmptySegment, WrongLength, WrongTotal, BelowLow, AboveUp}
+use Rattle.cert_check.specs.declared.CertFault.TheVariants.{EqualSlopes, RiseOffUpper, FallOffLower}
 use Rattle.cert_check.specs.First.{IsFirst}
-use Rattle.cert_check.specs.Fault.{IsEmptyAt, IsEqualAt, IsRiseOffUpper, IsFallOffLower, IsThere, kind_of, fault_number, IsFirstFault}
+use Rattle.cert_check.specs.Fault.{IsEmptyAt, IsEqualAt, IsRiseOffUpper, IsFallOffLower, IsThere, kind_of}
+use Rattle.cert_check.specs.Fault.{fault_number, IsFirstFault}
 use Rattle.cert_check.specs.Whole.{AddsUp, StaysWithin}
 
 not_empty : {from : ℕ} {low up : List ℕ} {segments : List Segment} → AddsUp from low up segments → {i : ℕ}

@@ -1,5 +1,6 @@
 -- Taut as eight absent faults, and taut as a run over the segments: each follows from the other.
-use Rattle.std.proofs.Common.{◌≡◌, ◌↔◌, ◌<◌, ◌≤◌, ◌+◌, ◌-◌, ◌*◌, ℕ, zero, suc, List, [], ◌∷◌, inl, inr, length, take, arith, sym, ap, subst, ◌∙◌, add-zero, add-one}
+use Rattle.std.proofs.Common.{◌≡◌, ◌↔◌, ◌<◌, ◌≤◌, ◌+◌, ◌-◌, ◌*◌, ℕ, zero, suc, List, [], ◌∷◌, inl, inr, length, take}
+use Rattle.std.proofs.Common.{arith, sym, ap, subst, ◌∙◌, add-zero, add-one}
 use Rattle.std.proofs.Math.Nat.{le_of_mul-le-mul_right, mul-le-mul_right}
 use Rattle.std.proofs.lemmas.Bool.{cases_lt, cases_order}
 use Rattle.std.proofs.lemmas.List.Sums.{sum_by-cons}

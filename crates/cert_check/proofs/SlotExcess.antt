@@ -1,5 +1,6 @@
 -- The slots of a segment go over a whole threshold by as much as its exact line does.
-use Rattle.std.proofs.Common.{◌≡◌, ◌<◌, ◌≤◌, ◌+◌, ◌-◌, ◌*◌, ◌/◌, ℕ, zero, suc, List, [], ◌∷◌, ◌++◌, All, map, sum, sum_by, arith, refl, ap, subst, ◌∙◌, inl, inr, add-one}
+use Rattle.std.proofs.Common.{◌≡◌, ◌<◌, ◌≤◌, ◌+◌, ◌-◌, ◌*◌, ◌/◌, ℕ, zero, suc, List, [], ◌∷◌, ◌++◌, All, map, sum}
+use Rattle.std.proofs.Common.{sum_by, arith, refl, ap, subst, ◌∙◌, inl, inr, add-one}
 use Rattle.std.specs.List.{range_with_len}
 use Rattle.std.proofs.Math.Nat.{div-mul-le_self, lt-div-mul-add, mul-le-mul_left}
 use Rattle.std.proofs.lemmas.Bool.{cases_lt}

@@ -11,7 +11,7 @@ pub bounds-up-place : goal.bounds-up-place
 bounds-up-place c =
     let xs = c.args.segments.now in
     let i = c.loop-i.i in
-    omega (arith, ends_within xs i (omega arith), c.requires.some i (omega arith), c.as_slice-up.ensures.value)
+    omega (arith, ends_within xs i (omega arith), c.requires.some i (omega arith))
 
 pub loop-i-preserved : goal.loop-i-preserved
 loop-i-preserved c =
