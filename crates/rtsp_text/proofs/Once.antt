@@ -7,7 +7,7 @@ use Rattle.std.proofs.lemmas.List.{take_at, drop_at, length-drop, get_or-drop, d
 use Rattle.std.proofs.lemmas.List.Elements.{All-from_get_or}
 use Rattle.std.proofs.lemmas.Option.{none-some, same_Some}
 use Rattle.interleave.proofs.Unique.{head_once}
-use Rattle.rtsp_text.specs.Lines.{header_lines}
+use Rattle.rtsp_text.specs.Lines.{header_lines, IsSplit}
 use Rattle.rtsp_text.specs.Grammar.{IsRequestLine, IsHeaderLine}
 use Rattle.rtsp_text.specs.Requests.{HasVersion, IsRequest, IsFirstBad, IsFault}
 use Rattle.rtsp_text.specs.declared.requests.RequestFault.{RequestFault}
@@ -74,33 +74,45 @@ no_fault {message} (BadHeader n) r f = no_bad (header_lines message) n r.headers
 no_fault {sequence} NoSequenceNumber r f = none-some sequence (sym f.2 ∙ r.sequence_is)
 no_fault BadLength r f = f.3 r.length_is
 
--- a request has one list of parts
-pub record AreSameParts (m u : List ℕ) (s : ℕ) (h b m' u' : List ℕ) (s' : ℕ) (h' b' : List ℕ) : Type 0 where
-  pub method_is : m ≡ m'
-  pub url_is : u ≡ u'
-  pub sequence_is : s ≡ s'
-  pub head_is : h ≡ h'
-  pub body_is : b ≡ b'
+-- a message has one head and one body
+pub split_once : {message h b h' b' : List ℕ} → IsSplit message h b → IsSplit message h' b' → (h ≡ h') × (b ≡ b')
+split_once {message} {h} {b} {h'} {b'} x y =
+    let len : length h ≡ length h' = head_once message (length h) (length h') x.is_head y.is_head in (
+      sym (take_at h b (length h) refl) ∙ ap (take (length h)) (sym x.parts) ∙ ap (λ n. take n message) len
+          ∙ ap (take (length h')) y.parts ∙ take_at h' b' (length h') refl,
+      sym (drop_at h b (length h) refl) ∙ ap (drop (length h)) (sym x.parts) ∙ ap (λ n. drop n message) len
+          ∙ ap (drop (length h')) y.parts ∙ drop_at h' b' (length h') refl,
+    )
 
+-- what is read of a request
+pub record Asked : Type 0 where
+  pub method : List ℕ
+  pub url : List ℕ
+  pub sequence : ℕ
+  pub head : List ℕ
+  pub body : List ℕ
+
+pub record AreSameParts (one other : Asked) : Type 0 where
+  pub method_is : one.method ≡ other.method
+  pub url_is : one.url ≡ other.url
+  pub sequence_is : one.sequence ≡ other.sequence
+  pub head_is : one.head ≡ other.head
+  pub body_is : one.body ≡ other.body
+
+-- a request has one list of parts
 pub request_once : {message m u : List ℕ} {s : ℕ} {h b m' u' : List ℕ} {s' : ℕ} {h' b' : List ℕ}
-    → IsRequest message m u s h b →
-    IsRequest message m' u' s' h' b' →
-    AreSameParts m u s h b m' u' s' h' b'
-request_once {message} {s} {h} {b} {s'} {h'} {b'} x y =
+    → IsRequest message m u s h b → IsRequest message m' u' s' h' b'
+    → AreSameParts (record { method = m; url = u; sequence = s; head = h; body = b })
+    (record { method = m'; url = u'; sequence = s'; head = h'; body = b' })
+request_once {s} {s'} x y =
     let line = line_once x.line y.line in
-    let len : length h ≡ length h' = head_once message (length h) (length h') x.split.is_head y.split.is_head in
-    let front : h ≡ h' =
-    sym (take_at h b (length h) refl) ∙ ap (take (length h)) (sym x.split.parts) ∙ ap (λ n. take n message) len
-    ∙ ap (take (length h')) y.split.parts ∙ take_at h' b' (length h') refl in
-    let after : b ≡ b' =
-    sym (drop_at h b (length h) refl) ∙ ap (drop (length h)) (sym x.split.parts) ∙ ap (λ n. drop n message) len
-    ∙ ap (drop (length h')) y.split.parts ∙ drop_at h' b' (length h') refl in
+    let split = split_once x.split y.split in
     record {
       method_is = line.method_is;
       url_is = line.url_is;
       sequence_is = same_Some s s' (sym x.sequence_is ∙ y.sequence_is);
-      head_is = front;
-      body_is = after;
+      head_is = split.0;
+      body_is = split.1;
     }
 
 -- from what an answer says to the answer

@@ -1,19 +1,18 @@
 -- A status line, from where it is cut.
 use Rattle.std.proofs.Common.{◌≡◌, ◌≢◌, ℕ, ◌^◌, ◌<◌, ◌&&◌, ◌==◌, true, not, nat_lt, List, ◌∷◌, ◌++◌, codes, length}
-use Rattle.std.proofs.Common.{get_or, take, drop, Some, None, refl, sym, ap, ◌∙◌, arith, lt-ltb}
+use Rattle.std.proofs.Common.{get_or, Some, None, refl, sym, ap, ◌∙◌, arith, lt-ltb}
 use Rattle.std.specs.List.{list_all}
 use Rattle.std.specs.Char.{is_ascii_digit}
 use Rattle.std.specs.Str.Parse.{digits_value}
 use Rattle.std.proofs.lemmas.Bool.{and_parts, and_from, cond-true}
-use Rattle.std.proofs.lemmas.List.{take_at, drop_at}
 use Rattle.std.proofs.lemmas.Str.Parse.{digits_value_short}
 use Rattle.std.proofs.lemmas.Option.{none-some}
 use Rattle.vod_base.specs.Numbers.{is_decimal, number_of}
 use Rattle.vod_base.specs.Splits.{IsSplitAtFirst}
-use Rattle.interleave.proofs.Unique.{head_once}
 use Rattle.rtsp_text.specs.StatusLines.{IsCode, IsStatusLine, IsReply}
 use Rattle.rtsp_text.proofs.Cuts.{cut_once, cut_none, all_other}
 use Rattle.rtsp_text.proofs.Numbers.{number_read}
+use Rattle.rtsp_text.proofs.Once.{split_once}
 use Rattle.vod_base.proofs.Digits.{decimal_numerals}
 
 code_small : (text : List ℕ) → length text ≡ 3 → is_decimal text ≡ true → digits_value 10 text < 10 ^ 3
@@ -93,23 +92,25 @@ line_once {text} {c} {r} {s} a b =
     let same = status_parts first (digits_cut a.digits r c a.is_code) b in
     (a.is_code.code_is ∙ ap (digits_value 10) same.digits_are ∙ sym b.is_code.code_is, same.phrase_is)
 
--- a reply has one list of parts
-pub record AreSameReply (c : ℕ) (r h b : List ℕ) (c' : ℕ) (r' h' b' : List ℕ) : Type 0 where
-  pub code_is : c ≡ c'
-  pub phrase_is : r ≡ r'
-  pub head_is : h ≡ h'
-  pub body_is : b ≡ b'
+-- what is read of a reply
+pub record Answered : Type 0 where
+  pub code : ℕ
+  pub phrase : List ℕ
+  pub head : List ℕ
+  pub body : List ℕ
 
+pub record AreSameReply (one other : Answered) : Type 0 where
+  pub code_is : one.code ≡ other.code
+  pub phrase_is : one.phrase ≡ other.phrase
+  pub head_is : one.head ≡ other.head
+  pub body_is : one.body ≡ other.body
+
+-- a reply has one list of parts
 pub reply_once : {message : List ℕ} {c : ℕ} {r h b : List ℕ} {c' : ℕ} {r' h' b' : List ℕ}
-    → IsReply message c r h b → IsReply message c' r' h' b' → AreSameReply c r h b c' r' h' b'
-reply_once {message} {c} {r} {h} {b} {h'} {b'} x y =
+    → IsReply message c r h b → IsReply message c' r' h' b'
+    → AreSameReply (record { code = c; phrase = r; head = h; body = b })
+    (record { code = c'; phrase = r'; head = h'; body = b' })
+reply_once x y =
     let line = line_once x.line y.line in
-    let len : length h ≡ length h' = head_once message (length h) (length h') x.split.is_head y.split.is_head in
-    record {
-      code_is = line.0;
-      phrase_is = line.1;
-      head_is = sym (take_at h b (length h) refl) ∙ ap (take (length h)) (sym x.split.parts)
-          ∙ ap (λ n. take n message) len ∙ ap (take (length h')) y.split.parts ∙ take_at h' b' (length h') refl;
-      body_is = sym (drop_at h b (length h) refl) ∙ ap (drop (length h)) (sym x.split.parts)
-          ∙ ap (λ n. drop n message) len ∙ ap (drop (length h')) y.split.parts ∙ drop_at h' b' (length h') refl;
-    }
+    let split = split_once x.split y.split in
+    record { code_is = line.0; phrase_is = line.1; head_is = split.0; body_is = split.1 }
