@@ -1,4 +1,4 @@
--- The RTSP URLs that a request line may have are those that are read.
+-- Where the path of an RTSP URL begins, and that the URLs which a request line may have are those that are read.
 use Rattle.std.proofs.Common.{◌≡◌, ◌≢◌, ℕ, ◌+◌, ◌-◌, ◌<◌, ◌≤◌, ◌==◌, not, List, ◌++◌, length, take, drop, get_or}
 use Rattle.std.proofs.Common.{refl, sym, ◌∙◌, ap, subst, arith, true, false, codes, inl, inr, ◌⊎◌}
 use Rattle.std.specs.List.{list_all}
@@ -8,8 +8,9 @@ use Rattle.std.proofs.lemmas.List.{get_or-drop, get_or_append_left, get_or-appen
 use Rattle.std.proofs.lemmas.List.Folds.{list_all_at}
 use Rattle.rtsp_text.specs.Grammar.{is_url_byte, IsRtspUrl, IsUrl}
 use Rattle.rtsp_text.proofs.Words.{rtsp_url}
-use Rattle.rtsp_fields.specs.Parts.{in_lower_case}
+use Rattle.rtsp_fields.specs.Parts.{Begins, IsPartEnd, in_lower_case}
 use Rattle.rtsp_fields.specs.Urls.{IsAbsoluteUrl}
+use Rattle.rtsp_fields.proofs.Places.{end_once}
 
 -- an authority has no `/`
 authority_byte : (authority : List ℕ) (k : ℕ) → list_all (λ byte. not (byte == 47)) authority ≡ true
@@ -26,8 +27,14 @@ byte_after : {url : List ℕ} {n : ℕ} (front rest : List ℕ) (k : ℕ) → ur
 byte_after {url} {n} front rest k parts size after =
     ap (λ l. get_or l k 0) parts ∙ get_or-append_right front rest n k 0 size after
 
-rtsp_is_read : (url : List ℕ) → list_all is_url_byte url ≡ true → IsRtspUrl url → (path : ℕ) × IsAbsoluteUrl url path
-rtsp_is_read url bytes u =
+-- an RTSP URL by its places: the authority has one or more bytes from place 7 on, and ends at `path`
+pub record IsCutAt (url : List ℕ) (path : ℕ) : Type 0 where
+  pub scheme : Begins (codes "rtsp://") (in_lower_case url)
+  pub authority : 7 < path
+  pub end : IsPartEnd 47 url 7 path
+
+cut_of : (url : List ℕ) → IsRtspUrl url → (path : ℕ) × IsCutAt url path
+cut_of url u =
     let seven : length u.scheme ≡ 7 = sym (length-map u.scheme to_ascii_lowercase) ∙ ap length u.scheme_is in
     let front : take 7 url ≡ u.scheme = ap (take 7) u.parts ∙ take_at u.scheme (u.authority ++ u.path) 7 seven in
     let size : length url ≡ 7 + length u.authority + length u.path =
@@ -40,7 +47,6 @@ rtsp_is_read url bytes u =
     ) in (
       7 + length u.authority,
       record {
-        bytes = bytes;
         scheme = take-map to_ascii_lowercase 7 url ∙ ap in_lower_case front ∙ u.scheme_is;
         authority = omega (arith, u.some);
         end = record {
@@ -63,8 +69,14 @@ rtsp_is_read url bytes u =
       },
     )
 
-read_is_rtsp : (url : List ℕ) (path : ℕ) → IsAbsoluteUrl url path → IsRtspUrl url
-read_is_rtsp url path u =
+-- an RTSP URL is cut at one place
+pub absolute_cut : {url : List ℕ} {path : ℕ} → IsAbsoluteUrl url path → IsCutAt url path
+absolute_cut {url} u =
+    let cut = cut_of url u.is_rtsp in
+    subst (IsCutAt url) (end_once cut.1.end u.end) cut.1
+
+pub cut_is_rtsp : (url : List ℕ) (path : ℕ) → IsCutAt url path → IsRtspUrl url
+cut_is_rtsp url path u =
     let rest : length (drop 7 url) ≡ length url - 7 = length-drop 7 url in
     rtsp_url url (take 7 url) (drop 7 url) (sym (take-append-drop 7 url))
     (record {
@@ -75,16 +87,22 @@ read_is_rtsp url path u =
           (sym (get_or-drop 7 url 0 0) ∙ slash);
     })
 
--- `*` is no absolute URL
-star_is_none : (url : List ℕ) (path : ℕ) → IsAbsoluteUrl url path → url ≢ codes "*"
-star_is_none url path u = λ star. omega (arith, ap length star, u.authority, u.end.within)
+pub absolute_url : {url : List ℕ} {path : ℕ} → list_all is_url_byte url ≡ true → IsCutAt url path
+    → IsAbsoluteUrl url path
+absolute_url {url} {path} bytes cut = record { bytes = bytes; is_rtsp = cut_is_rtsp url path cut; end = cut.end }
 
 pub asked_is_read : (url : List ℕ) → IsUrl url → url ≢ codes "*" → (path : ℕ) × IsAbsoluteUrl url path
 asked_is_read url asked other = go asked.form
   where
     go : ((url ≡ codes "*") ⊎ IsRtspUrl url) → (path : ℕ) × IsAbsoluteUrl url path
     go (inl star) = absurd (other star)
-    go (inr u) = rtsp_is_read url asked.bytes u
+    go (inr u) =
+        let cut = cut_of url u in (cut.0, record { bytes = asked.bytes; is_rtsp = u; end = cut.1.end })
 
+-- `*` is no RTSP URL
 pub read_is_asked : (url : List ℕ) (path : ℕ) → IsAbsoluteUrl url path → IsUrl url × (url ≢ codes "*")
-read_is_asked url path u = (record { bytes = u.bytes; form = inr (read_is_rtsp url path u) }, star_is_none url path u)
+read_is_asked url path u =
+    let cut = absolute_cut u in (
+      record { bytes = u.bytes; form = inr u.is_rtsp },
+      λ star. omega (arith, ap length star, cut.authority, cut.end.within),
+    )

@@ -1,17 +1,15 @@
 -- RTSP URLs (RFC 2326 section 3.2), and the film that a URL's path names.
-use Rattle.std.specs.Prelude.{◌≡◌, ℕ, ◌<◌, ◌⊎◌, List, [], codes, true, length, slice_index}
+use Rattle.std.specs.Prelude.{◌≡◌, ℕ, ◌⊎◌, List, [], codes, true, length, slice_index}
 use Rattle.std.specs.Prelude.{slice_range, Option, MatchOption}
 use Rattle.std.specs.List.{list_all}
 use Rattle.vod_base.specs.Names.{is_good_name}
-use Rattle.rtsp_text.specs.Grammar.{is_url_byte}
-use Rattle.rtsp_fields.specs.Parts.{IsPartEnd, Begins, in_lower_case}
+use Rattle.rtsp_text.specs.Grammar.{is_url_byte, IsRtspUrl}
+use Rattle.rtsp_fields.specs.Parts.{IsPartEnd}
 
--- `rtsp://` in any case, an authority of one or more bytes without `/`, and nothing or a path that
--- begins with `/`, all of them printable bytes other than the space; the authority ends at `path`
+-- an RTSP URL of printable bytes other than the space, whose authority ends at `path`
 pub record IsAbsoluteUrl (url : List ℕ) (path : ℕ) : Type 0 where
   pub bytes : list_all is_url_byte url ≡ true
-  pub scheme : Begins (codes "rtsp://") (in_lower_case url)
-  pub authority : length (codes "rtsp://") < path
+  pub is_rtsp : IsRtspUrl url
   pub end : IsPartEnd 47 url (length (codes "rtsp://")) path
 
 -- the name of a film's one stream, with `/` after it or not

@@ -3,7 +3,7 @@
 ghost use Rattle.std.specs.Prelude.{ℕ, ◌^◌, MatchOption};
 ghost use Rattle.vod_base.specs.Limits.{WritesNumber};
 
-use vod_base::number_within;
+use vod_base::{MAX_BYTES, MAX_DELAY, number_within};
 
 /// The value of `x-Buffer`: the client's buffer, from 1 to 2^42 bytes.
 ///
@@ -12,7 +12,7 @@ pub fn read_buffer(value: &[u8]) -> Option<u64>
     ensures { MatchOption result ((n : ℕ) →
         ¬ WritesNumber 1 (2 ^ 42) value.now n) (WritesNumber 1 (2 ^ 42) value.now) }
 {
-    number_within(value, 1, 1 << 42)
+    number_within(value, 1, MAX_BYTES)
 }
 
 /// The value of `x-Startup`: the slots that pass before the first picture is used, from 0 to
@@ -23,7 +23,7 @@ pub fn read_delay(value: &[u8]) -> Option<u64>
     ensures { MatchOption result ((n : ℕ) →
         ¬ WritesNumber 0 10000 value.now n) (WritesNumber 0 10000 value.now) }
 {
-    number_within(value, 0, 10_000)
+    number_within(value, 0, MAX_DELAY)
 }
 
 /// The value of `x-Wait`: how many slots later than the first one a play may start, from 0 to 255.

@@ -23,6 +23,7 @@ use Rattle.rtsp_fields.specs.Ranges.{IsSpan}
 use Rattle.rtsp_fields.specs.Times.{IsTime}
 use Rattle.rtsp_fields.specs.Urls.{IsRead, IsTail, NamesFilm}
 use Rattle.rtsp_fields.specs.declared.ranges.Origin.TheVariants.{At}
+use Rattle.rtsp_fields.proofs.Asked.{absolute_cut, absolute_url}
 use Rattle.rtsp_fields.proofs.Described.{description_is}
 use Rattle.vod_base.proofs.Digits.{decimal_numerals}
 use Rattle.rtsp_fields.proofs.Paths.{film_path}
@@ -188,7 +189,7 @@ authority_of url authority name is =
     omega (arith, length-take (is.path - 7) (drop 7 url), length-drop 7 url, end.within, end.after) in
     let long : length authority ≡ is.path - 7 = ap length is.authority_is ∙ size in
     record {
-      some = let more = is.is_url.authority in omega (arith, long, more);
+      some = let more = (absolute_cut is.is_url).authority in omega (arith, long, more);
       prints = ap (list_all is_url_byte) is.authority_is
           ∙ all-take is_url_byte (is.path - 7) (drop 7 url) (all-drop is_url_byte 7 url is.is_url.bytes);
       no_slash = λ k inside slash.
@@ -218,26 +219,25 @@ film_url authority name tail is good is_tail =
     ∙ take_all (length url - (7 + length authority)) path (omega (arith, size)) in
     record {
       path = 7 + length authority;
-      is_url = record {
-        bytes = prints-append (codes "rtsp://") (authority ++ path) refl
-            (prints-append authority path is.prints
-            (prints-append (47 ∷ name) tail (all_print_after name bytes.1) (tail_prints tail is_tail)));
-        scheme = refl;
-        authority = let some = is.some in omega (arith, some);
-        end = record {
-          after = omega arith;
-          within = omega (arith, size);
-          none = λ k after below slash.
-              let inside : k - 7 < length authority = omega (arith, after, below) in
-              is.no_slash (k - 7) inside
-              (sym (get_or_append_left authority path 0 (k - 7) inside)
-              ∙ sym (get_or-append_right (codes "rtsp://") (authority ++ path) 7 k 0 refl after) ∙ slash);
-          ends = λ inside.
-              get_or-append_right (codes "rtsp://") (authority ++ path) 7 (7 + length authority) 0 refl (omega arith)
-              ∙ get_or-append_right authority path (length authority) (7 + length authority - 7) 0 refl (omega arith)
-              ∙ ap (λ k. get_or path k 0) (let none : 7 + length authority - 7 - length authority ≡ 0 = omega arith in none);
-        };
-      };
+      is_url = absolute_url (prints-append (codes "rtsp://") (authority ++ path) refl
+          (prints-append authority path is.prints
+          (prints-append (47 ∷ name) tail (all_print_after name bytes.1) (tail_prints tail is_tail)))) (record {
+            scheme = refl;
+            authority = let some = is.some in omega (arith, some);
+            end = record {
+              after = omega arith;
+              within = omega (arith, size);
+              none = λ k after below slash.
+                  let inside : k - 7 < length authority = omega (arith, after, below) in
+                  is.no_slash (k - 7) inside
+                  (sym (get_or_append_left authority path 0 (k - 7) inside)
+                  ∙ sym (get_or-append_right (codes "rtsp://") (authority ++ path) 7 k 0 refl after) ∙ slash);
+              ends = λ inside.
+                  get_or-append_right (codes "rtsp://") (authority ++ path) 7 (7 + length authority) 0 refl (omega arith)
+                  ∙ get_or-append_right authority path (length authority) (7 + length authority - 7) 0 refl (omega arith)
+                  ∙ ap (λ k. get_or path k 0) (let none : 7 + length authority - 7 - length authority ≡ 0 = omega arith in none);
+            };
+          });
       authority_is = sym (take_at authority path (7 + length authority - 7) (omega arith));
       name_is = subst (λ (p : List ℕ). NamesFilm p name) (sym rest) (film_path name tail good is_tail);
     }

@@ -12,7 +12,8 @@ loop-alternative-init c =
 
 pub returns-in-Some-read_alternative : goal.returns-in-Some-read_alternative
 returns-in-Some-read_alternative c =
-    transport_found c.next.new.self c.loop-alternative.invariant c.in-Some.ensures.steps c.in-Some-read_alternative.ensures
+    transport_found c.next.new.self c.loop-alternative.invariant c.in-Some.ensures.steps
+    c.in-Some-read_alternative.ensures
 
 pub loop-alternative-preserved : goal.loop-alternative-preserved
 loop-alternative-preserved c =

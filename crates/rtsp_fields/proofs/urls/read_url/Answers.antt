@@ -1,9 +1,24 @@
-use Rattle.std.proofs.Common.{◌-◌, drop, take, sym, ◌∙◌}
+use Rattle.std.proofs.Common.{◌-◌, drop, take, refl, sym, ◌∙◌, arith}
 use Rattle.rtsp_text.specs.Grammar.{is_url_byte}
 use Rattle.rtsp_text.proofs.Inside.{all-take, all-drop}
 use Rattle.rtsp_text.proofs.OneLines.{one_line-url}
-use Rattle.rtsp_fields.proofs.Names.{line_of_name}
+use Rattle.rtsp_fields.proofs.Asked.{absolute_url}
+use Rattle.rtsp_fields.proofs.Names.{line_of_name, name_behind}
 use Rattle.rtsp_fields.proofs.urls.read_url.Goals as goal
+
+pub returns-clause-read : goal.returns-clause-read
+returns-clause-read c =
+    let path = c.part_end-path.ensures in
+    record {
+      path = c.part_end-path.result;
+      is_url = absolute_url (sym c.has_url_bytes.ensures ∙ c.if-not-has_url_bytes.false) (record {
+        scheme = c.starts_with.ensures.0 c.if-not-starts_with.false;
+        authority = omega (arith, path.after, c.if-path-eq7.false);
+        end = path;
+      });
+      authority_is = refl;
+      name_is = name_behind c.film_name.result _ c.film_name.ensures;
+    }
 
 pub returns-clause-authority_line : goal.returns-clause-authority_line
 returns-clause-authority_line c =
