@@ -46,7 +46,7 @@ open-three : (c : Code) → c.kind ≡ 0xb3 → OpenOf (c ∷ [])
 open-three c is =
     subst (λ m. Open (c ∷ []) (record {
       from = c.place;
-      head_end = cond (is_slice m && eqb 0 0) c.place 0;
+      head_end = cond (is_slice m && eqb 0 0) c.place (cond (is_head m) 0 0);
       slices = cond (is_head m) 0 (cond (is_slice m) (0 + 1) 0);
       picture = cond (eqb m 0) (Some (header_of c)) None;
       sequence = cond (eqb m 0xb3) true false;

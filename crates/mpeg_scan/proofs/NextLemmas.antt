@@ -7,7 +7,7 @@ use Rattle.std.proofs.lemmas.Bool.{false≢true, or_parts, true≢false}
 use Rattle.mpeg_scan.specs.declared.codes.Code.{Code}
 use Rattle.mpeg_scan.specs.declared.faults.FilmFault.TheVariants.{Mpeg2, NoSequence, SystemCode}
 use Rattle.mpeg_scan.specs.declared.tallies.Header.{Header}
-use Rattle.mpeg_scan.specs.declared.tallies.Tally.{Tally}
+use Rattle.mpeg_scan.specs.Tallies.{Tally}
 use Rattle.mpeg_scan.specs.Codes.{note}
 use Rattle.mpeg_scan.specs.Faults.{code_fault, count_fault, first_refusal, first_slice_fault}
 use Rattle.mpeg_scan.specs.Faults.{kind_fault, second_fault}

@@ -287,7 +287,7 @@ other-code {c} {past} {u} below other no_slice open_ =
 
 picture-head : {t0 t3 t8 : Bool} {past : List Code} {u : Latest} {o : Option Header} (c : Code) → u.picture ≡ o
     → Open past u → Kinds t0 t3 t8 false c.kind → Below c past → is_some o ≡ false
-    → PictureIs (c ∷ past) u.from u.head_end 0 (cond t0 (Some (header_of c)) o)
+    → PictureIs (c ∷ past) u.from 0 0 (cond t0 (Some (header_of c)) o)
 picture-head {o = Some h} c e open_ kinds below none = absurd (true≢false none)
 picture-head {t0 = true} {past} {u} {o = None} c e open_ kinds below none =
     let after : u.from ≤ c.place = omega (arith, below u.from open_.begins.0 open_.begins.1.0) in
@@ -322,6 +322,7 @@ set-first false grp e = e
 more-head : {t0 t3 t8 : Bool} {c : Code} {past : List Code} {u : Latest} → Below c past
     → Kinds t0 t3 t8 false c.kind → IsHeadKind c.kind → u.slices ≡ 0 → is_some u.picture ≡ false → Open past u
     → Open (c ∷ past) (record u {
+      head_end = 0;
       slices = 0;
       picture = cond t0 (Some (header_of c)) u.picture;
       sequence = cond t3 true u.sequence;
@@ -369,6 +370,7 @@ new-unit : {t0 t3 t8 : Bool} {c : Code} {past : List Code} {u : Latest} → Belo
     → Kinds t0 t3 t8 false c.kind → IsHeadKind c.kind → Open past u
     → Open (c ∷ past) (record u {
       from = c.place;
+      head_end = 0;
       slices = 0;
       picture = cond t0 (Some (header_of c)) None;
       sequence = cond t3 true false;
@@ -383,7 +385,7 @@ new-unit {t3} {t8} {c} {past} {u} below kinds head open_ =
       order = λ some. absurd (omega (arith, some));
       some = λ some. absurd (omega (arith, some));
       sliced = λ some. absurd (omega (arith, some));
-      picture_is = picture-begun c past u.head_end below kinds.zero_is kinds.is_zero;
+      picture_is = picture-begun c past 0 below kinds.zero_is kinds.is_zero;
       seq_there = begun-flag t3 c past 0xb3 kinds.three_is;
       seq_set = flag-set c past c.place kinds.is_three (nothing-there c past 0xb3 below);
       grp_there = begun-group t8 c past kinds.eight_is;
@@ -449,7 +451,7 @@ pub step-open : {t0 t3 t8 s q e : Bool} {c : Code} {past : List Code} {u : Lates
     → Open past u
     → Open (c ∷ past) (record {
       from = cond ((t0 || (t3 || t8)) && q) c.place u.from;
-      head_end = cond (s && e) c.place u.head_end;
+      head_end = cond (s && e) c.place (cond (t0 || (t3 || t8)) 0 u.head_end);
       slices = cond (t0 || (t3 || t8)) 0 (cond s (u.slices + 1) u.slices);
       picture = cond t0 (Some (header_of c)) (cond ((t0 || (t3 || t8)) && q) None u.picture);
       sequence = cond t3 true (cond ((t0 || (t3 || t8)) && q) false u.sequence);

@@ -11,7 +11,7 @@ use Rattle.mpeg_scan.specs.declared.codes.Prefix.TheVariants.{Nothing, Zero, Zer
 use Rattle.mpeg_scan.specs.declared.faults.FilmFault.{FilmFault}
 use Rattle.mpeg_scan.specs.declared.faults.FilmFault.TheVariants.{NoSequence}
 use Rattle.mpeg_scan.specs.declared.progress.Progress.{Progress}
-use Rattle.mpeg_scan.specs.declared.tallies.Tally.{Tally}
+use Rattle.mpeg_scan.specs.Tallies.{Tally}
 use Rattle.mpeg_scan.specs.Codes.{after_one, after_zero, is_whole, next_prefix, note}
 use Rattle.mpeg_scan.specs.Words.{is_head, is_slice}
 use Rattle.mpeg_scan.specs.Faults.{last_fault, open_fault, code_fault}
@@ -106,18 +106,22 @@ pub record SliceTaken (t : Tally) (latest : Option Code) (tally : Tally) (place 
   pub tally_is : t ≡ tally_with latest tally
   pub slice : is_slice kind ≡ true
 
+-- it isn't the film's first code
+pub slice-begun : {t tally : Tally} {latest : Option Code} {place kind : ℕ} → SliceTaken t latest tally place kind
+    → t.begun ≡ true
+slice-begun {t} {tally} {latest} {place} {kind} taken =
+    let other = ne_eqb kind 0xb3 (λ is. absurd (omega (arith, (slice-kind kind taken.slice).1))) in
+    ap (λ (v : Tally). v.begun) taken.tally_is
+    ∙ code-begun (tally_with latest tally) place kind (code_judgement-code latest tally place kind taken.judged) other
+
 -- a unit's first slice: the head before it has 1 to 1,380 bytes
 pub head-some : {t tally : Tally} {latest : Option Code} {place kind : ℕ} → SliceTaken t latest tally place kind
     → HasRoom (tally_with latest tally) place → t.unit < place
 head-some {t} {tally} {latest} {place} {kind} taken room =
-    let unit : t.unit ≡ (tally_with latest tally).unit = ap (λ (v : Tally). v.unit) taken.tally_is in
-    omega (
-      arith,
-      unit,
-      room.unit (code-begun (tally_with latest tally) place kind
-          (code_judgement-code latest tally place kind taken.judged)
-          (ne_eqb kind 0xb3 (λ is. absurd (omega (arith, (slice-kind kind taken.slice).1))))),
-    )
+    let now = tally_with latest tally in
+    let unit : t.unit ≡ now.unit = ap (λ (v : Tally). v.unit) taken.tally_is in
+    let begun : t.begun ≡ now.begun = ap (λ (v : Tally). v.begun) taken.tally_is in
+    omega (arith, unit, room.unit (sym begun ∙ slice-begun taken))
 
 pub head-short : {t tally : Tally} {latest : Option Code} {place kind : ℕ}
     → SliceTaken t latest tally place kind → t.slices ≡ 0 → place ≤ t.unit + 1380
@@ -173,7 +177,7 @@ unit-by {q = true} false unit short at before = omega (arith, short, at, before 
 unit-by {q = false} h unit short at before = omega (arith, short, at)
 
 slice-by : {s : Bool} {place n l fed : ℕ} (h : Bool) (slice : ℕ) → PrefixAfter s l → place + 3 ≤ fed
-    → (0 < n → slice + 4 ≤ place) → 0 < cond h 0 (cond s (n + 1) n) → cond s place slice + 4 ≤ fed + 1 - l
+    → (0 < n → slice + 4 ≤ place) → 0 < cond h 0 (cond s (n + 1) n) → cond s place (cond h 0 slice) + 4 ≤ fed + 1 - l
 slice-by {s = true} h slice prefix at before some = omega (arith, prefix.none refl, at)
 slice-by {s = false} true slice prefix at before some = absurd (omega (arith, some))
 slice-by {s = false} false slice prefix at before some = omega (arith, prefix.short, at, before some)

@@ -50,7 +50,8 @@ record IsCounted (e q : Bool) (n : ℕ) : Type 0 where
 raw-slices : {s h e q : Bool} {n : ℕ} {places : List ℕ} (here : CodeEnds) (before : List ℕ) → (s ≡ true → h ≡ false)
     → IsCounted e q n → before ++ cond e [] (here.slice ∷ []) ≡ places
     → (before ++ slices_in (raw_calls s h q e here))
-    ++ pending (cond h 0 (cond s (n + 1) n)) (cond s here.place here.slice) ≡ cond s (places ++ here.place ∷ []) places
+    ++ pending (cond h 0 (cond s (n + 1) n)) (cond s here.place (cond h 0 here.slice))
+    ≡ cond s (places ++ here.place ∷ []) places
 raw-slices {s = true} {h = true} here before apart counted is = absurd (true≢false (apart refl))
 raw-slices {s = true} {h = false} {e = true} {n} here before apart counted is =
     ap (λ l. (before ++ []) ++ l) (pending-some (n + 1) here.place (omega arith)) ∙ ap (λ l. l ++ here.place ∷ []) is

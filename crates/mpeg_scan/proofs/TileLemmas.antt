@@ -9,7 +9,7 @@ use Rattle.mpeg_scan.specs.declared.codes.Code.{Code}
 use Rattle.mpeg_scan.specs.declared.faults.FilmFault.TheVariants.{SystemCode, Mpeg2}
 use Rattle.mpeg_scan.specs.declared.faults.FilmFault.TheVariants.{NoSequence, HeadTooLong}
 use Rattle.mpeg_scan.specs.declared.tallies.Header.{Header}
-use Rattle.mpeg_scan.specs.declared.tallies.Tally.{Tally}
+use Rattle.mpeg_scan.specs.Tallies.{Tally}
 use Rattle.mpeg_scan.specs.declared.units.Unit.{Unit as PictureUnit}
 use Rattle.mpeg_scan.specs.Codes.{latest_prefix, codes_of}
 use Rattle.mpeg_scan.specs.Words.{is_head, is_slice, tally_of, slice_count, latest_unit, head_end_of}
@@ -105,7 +105,7 @@ raw-step : {s h : Bool} {n head_end : ℕ} {here : CodeEnds} → MayStand s h n 
     → (n ≡ 0) ⊎ ((m : ℕ) × (n ≡ m + 1))
     → parts_after (Some (part_by n here.unit head_end here.slice)) (raw_calls s h (ltb 0 n) (eqb n 0) here)
     ≡ Some (part_by (cond h 0 (cond s (n + 1) n)) (cond (h && ltb 0 n) here.place here.unit)
-    (cond (s && eqb n 0) here.place head_end) (cond s here.place here.slice))
+    (cond (s && eqb n 0) here.place (cond h 0 head_end)) (cond s here.place (cond h 0 here.slice)))
 raw-step {s = true} {h = true} may count = absurd (true≢false (may.apart refl))
 raw-step {s = true} {h = false} {n} {head_end} {here} may (inl none) =
     ap (λ (p : Part). parts_after (Some p)
@@ -136,8 +136,8 @@ raw-step {s = false} {h = true} {n} {head_end} {here} may (inl none) =
     (part_by-none n unit head_end slice none)
     ∙ ap (λ b. parts_after (Some (between unit)) (cond b (slice_call slice place ∷ unit_call u ∷ []) []))
     (le-ltb 0 n (omega arith))
-    ∙ sym (ap (λ b. Some (part_by 0 (cond b place unit) head_end slice)) (le-ltb 0 n (omega arith))
-    ∙ ap (λ (p : Part). Some p) (part_by-none 0 unit head_end slice refl))
+    ∙ sym (ap (λ b. Some (part_by 0 (cond b place unit) 0 0)) (le-ltb 0 n (omega arith))
+    ∙ ap (λ (p : Part). Some p) (part_by-none 0 unit 0 0 refl))
   where
     open here use {unit, slice, place, ended as u}
 raw-step {s = false} {h = true} {n} {head_end} {here} may (inr some) =
@@ -147,8 +147,8 @@ raw-step {s = false} {h = true} {n} {head_end} {here} may (inr some) =
     (cond b (slice_call slice place ∷ unit_call u ∷ []) [])) (lt-ltb 0 n (omega (arith, some.1)))
     ∙ takes-slice unit head_end slice some.0 (unit_call u ∷ []) (may.spaced (omega (arith, some.1)))
     ∙ takes-unit some.0 may.ends some.1
-    ∙ sym (ap (λ b. Some (part_by 0 (cond b place unit) head_end slice)) (lt-ltb 0 n (omega (arith, some.1)))
-    ∙ ap (λ (p : Part). Some p) (part_by-none 0 place head_end slice refl))
+    ∙ sym (ap (λ b. Some (part_by 0 (cond b place unit) 0 0)) (lt-ltb 0 n (omega (arith, some.1)))
+    ∙ ap (λ (p : Part). Some p) (part_by-none 0 place 0 0 refl))
   where
     open here use {unit, slice, place, ended as u}
 raw-step {s = false} {h = false} may count = refl
@@ -235,12 +235,12 @@ first-kind false false false place e = absurd (cc)
 first-step : (place kind : ℕ) → kind ≡ 0xb3
     → parts_after (Some (between place)) (calls_at (tally_of []) place kind)
     ≡ Some (part_by (cond (is_head kind) 0 (cond (is_slice kind) (0 + 1) 0)) place
-    (cond (is_slice kind && eqb 0 0) place 0) (cond (is_slice kind) place 0))
+    (cond (is_slice kind && eqb 0 0) place (cond (is_head kind) 0 0)) (cond (is_slice kind) place (cond (is_head kind) 0 0)))
 unfolding calls_at part_by
 first-step place kind is =
     subst (λ k. parts_after (Some (between place)) (calls_at (tally_of []) place k)
     ≡ Some (part_by (cond (is_head k) 0 (cond (is_slice k) (0 + 1) 0)) place
-    (cond (is_slice k && eqb 0 0) place 0) (cond (is_slice k) place 0))) (sym is) refl
+    (cond (is_slice k && eqb 0 0) place (cond (is_head k) 0 0)) (cond (is_slice k) place (cond (is_head k) 0 0)))) (sym is) refl
 
 pub calls-nil : calls_of [] ≡ []
 unfolding calls_of

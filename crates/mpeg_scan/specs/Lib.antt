@@ -1,6 +1,8 @@
 pub mod HeaderBytes
 pub mod Codes
+pub mod Tallies
 pub mod Words
+pub mod TallyFields
 pub mod Faults
 pub mod Calls
 pub mod Steps

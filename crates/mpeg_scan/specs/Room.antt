@@ -7,7 +7,7 @@ use Rattle.mpeg_scan.specs.declared.codes.Code.{Code}
 use Rattle.mpeg_scan.specs.declared.codes.Prefix.{Prefix}
 use Rattle.mpeg_scan.specs.declared.codes.Prefix.TheVariants.{Nothing, Zero, Zeros, Whole}
 use Rattle.mpeg_scan.specs.declared.progress.Progress.{Progress}
-use Rattle.mpeg_scan.specs.declared.tallies.Tally.{Tally}
+use Rattle.mpeg_scan.specs.Tallies.{Tally}
 use Rattle.mpeg_scan.specs.Words.{is_head, is_slice}
 use Rattle.mpeg_scan.specs.Steps.{tally_with}
 
@@ -55,4 +55,4 @@ AwaitsSlice Ready t = 0 < t.slices → Ready t.slice
 abbrev pub AwaitsSliceAfter : (ℕ → Type 0) → Tally → ℕ → ℕ → Type 0
 AwaitsSliceAfter Ready t place kind =
     0 < (if is_head kind then 0 else (if is_slice kind then t.slices + 1 else t.slices))
-    → Ready (if is_slice kind then place else t.slice)
+    → Ready (if is_slice kind then place else (if is_head kind then 0 else t.slice))

@@ -5,7 +5,7 @@ use Rattle.mpeg_scan.specs.declared.codes.Code.{Code}
 use Rattle.mpeg_scan.specs.declared.faults.FilmFault.{FilmFault}
 use Rattle.mpeg_scan.specs.declared.progress.Progress.{Progress}
 use Rattle.mpeg_scan.specs.declared.tallies.Header.{Header}
-use Rattle.mpeg_scan.specs.declared.tallies.Tally.{Tally}
+use Rattle.mpeg_scan.specs.Tallies.{Tally}
 use Rattle.mpeg_scan.specs.Words.{is_head, is_slice, rate_after, header_of}
 use Rattle.mpeg_scan.specs.Faults.{first_refusal, header_fault, code_fault, last_fault}
 
@@ -36,10 +36,13 @@ abbrev pub next_all_slices : Tally → Code → ℕ
 next_all_slices t c = if is_slice c.kind then t.all_slices + 1 else t.all_slices
 
 abbrev pub next_head_end : Tally → Code → ℕ
-next_head_end t c = if is_slice c.kind && t.slices == 0 then c.place else t.head_end
+next_head_end t c =
+    if is_slice c.kind && t.slices == 0 then c.place
+    else (if is_head c.kind then 0 else t.head_end)
 
 abbrev pub next_slice : Tally → Code → ℕ
-next_slice t c = if is_slice c.kind then c.place else t.slice
+next_slice t c =
+    if is_slice c.kind then c.place else (if is_head c.kind then 0 else t.slice)
 
 abbrev pub next_has_sequence : Tally → Code → Bool
 next_has_sequence t c =

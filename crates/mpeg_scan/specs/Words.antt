@@ -6,7 +6,7 @@ use Rattle.std.specs.Prelude.{[], ◌∷◌, Option, Some, None, if◌then◌els
 use Rattle.std.specs.Prelude.{slice_index, unwrap_or}
 use Rattle.mpeg_scan.specs.declared.codes.Code.{Code}
 use Rattle.mpeg_scan.specs.declared.tallies.Header.{Header}
-use Rattle.mpeg_scan.specs.declared.tallies.Tally.{Tally}
+use Rattle.mpeg_scan.specs.Tallies.{Tally}
 use Rattle.mpeg_scan.specs.declared.units.Kind.{Kind}
 use Rattle.mpeg_scan.specs.declared.units.Kind.TheVariants.{I, P, B, D}
 
@@ -54,16 +54,18 @@ film_slice_count [] = 0
 film_slice_count (c ∷ past) =
     if is_slice c.kind then film_slice_count past + 1 else film_slice_count past
 
--- the place of the latest unit's first slice
+-- the place of the latest unit's first slice, or 0 where it has none
 abbrev pub head_end_of : List Code → ℕ
 head_end_of [] = 0
 head_end_of (c ∷ past) =
-    if is_slice c.kind && slice_count past == 0 then c.place else head_end_of past
+    if is_slice c.kind && slice_count past == 0 then c.place
+    else (if is_head c.kind then 0 else head_end_of past)
 
--- the place of the latest slice
+-- the place of its latest slice, or 0 where it has none
 abbrev pub latest_slice : List Code → ℕ
 latest_slice [] = 0
-latest_slice (c ∷ past) = if is_slice c.kind then c.place else latest_slice past
+latest_slice (c ∷ past) =
+    if is_slice c.kind then c.place else (if is_head c.kind then 0 else latest_slice past)
 
 -- whether the latest unit has a sequence header
 abbrev pub has_sequence : List Code → Bool

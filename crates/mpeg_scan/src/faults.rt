@@ -1,10 +1,11 @@
 //! Why a film is refused, judged by its start codes one after another.
 
-ghost use Rattle.std.specs.Prelude.{◌≡◌, ◌≤◌};
+ghost use Rattle.std.specs.Prelude.{◌≡◌, ◌≤◌, true};
 ghost use Rattle.mpeg_scan.specs.Faults.{header_fault, kind_fault, second_fault, first_slice_fault};
 ghost use Rattle.mpeg_scan.specs.Faults.{count_fault, code_fault, last_fault, picture_fault};
 ghost use Rattle.mpeg_scan.specs.Faults.{differs, rate_fault};
 ghost use Rattle.mpeg_scan.specs.Room.{HasRoom};
+ghost use Rattle.mpeg_scan.specs.Words.{is_slice};
 
 use crate::codes::Code;
 use crate::tallies::{
@@ -139,15 +140,13 @@ pub(crate) fn code_fault(tally: &Tally, place: u64, kind: u8) -> Option<FilmFaul
 pub(crate) fn last_fault(tally: &Tally) -> Option<FilmFault>
     ensures { result ≡ last_fault tally.now }
 {
-    if !tally.begun {
-        Some(FilmFault::NoSequence)
-    } else if 0 < tally.slices {
-        None
-    } else {
-        match tally.picture {
-            None => Some(FilmFault::HeadWithoutPicture(tally.unit)),
-            Some(picture) => Some(FilmFault::PictureWithoutSlices(picture.place)),
-        }
+    let Some(unit) = tally.unit else {
+        return Some(FilmFault::NoSequence);
+    };
+    match (unit.slices, unit.picture) {
+        (Some(_), _) => None,
+        (None, None) => Some(FilmFault::HeadWithoutPicture(unit.from)),
+        (None, Some(picture)) => Some(FilmFault::PictureWithoutSlices(picture.place)),
     }
 }
 
@@ -199,7 +198,7 @@ fn kind_fault(tally: &Tally, place: u64, kind: u8) -> Option<FilmFault>
         Some(FilmFault::SystemCode(place))
     } else if kind == EXTENSION {
         Some(FilmFault::Mpeg2(place))
-    } else if !tally.begun && kind != SEQUENCE {
+    } else if tally.unit.is_none() && kind != SEQUENCE {
         Some(FilmFault::NoSequence)
     } else {
         None
@@ -210,8 +209,9 @@ fn kind_fault(tally: &Tally, place: u64, kind: u8) -> Option<FilmFault>
 fn second_fault(tally: &Tally, kind: u8) -> Option<FilmFault>
     ensures { result ≡ second_fault tally.now kind }
 {
-    if is_head(kind) && tally.slices == 0 {
-        Some(FilmFault::PictureWithoutSlices(tally.picture?.place))
+    let unit = tally.unit?;
+    if is_head(kind) && unit.slices.is_none() {
+        Some(FilmFault::PictureWithoutSlices(unit.picture?.place))
     } else {
         None
     }
@@ -219,20 +219,17 @@ fn second_fault(tally: &Tally, kind: u8) -> Option<FilmFault>
 
 /// The refusal of the first slice of a unit by the head before it: without a picture, or too long.
 fn first_slice_fault(tally: &Tally, place: u64, kind: u8) -> Option<FilmFault>
-    requires { tally.now.unit ≤ place }
+    requires begun { is_slice kind ≡ true → tally.now.begun ≡ true }
+    requires from { tally.now.unit ≤ place }
     ensures { result ≡ first_slice_fault tally.now place kind }
 {
-    if is_slice(kind) && tally.slices == 0 {
-        match tally.picture {
-            None => Some(FilmFault::HeadWithoutPicture(tally.unit)),
-            Some(_) => {
-                if MAX_UNIT_HEAD_BYTES < place - tally.unit {
-                    Some(FilmFault::HeadTooLong(tally.unit))
-                } else {
-                    None
-                }
-            }
-        }
+    let unit = tally.unit?;
+    if !is_slice(kind) || unit.slices.is_some() {
+        None
+    } else if unit.picture.is_none() {
+        Some(FilmFault::HeadWithoutPicture(unit.from))
+    } else if MAX_UNIT_HEAD_BYTES < place - unit.from {
+        Some(FilmFault::HeadTooLong(unit.from))
     } else {
         None
     }

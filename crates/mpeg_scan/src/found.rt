@@ -59,7 +59,9 @@ pub(crate) fn tell_unit<F: Found>(tally: &Tally, to: u64, found: &mut F) -> Resu
     ensures { OnOk result ((calls : List Call) → F.heard found.old calls →
         F.heard found.new (calls ++ unit_end tally.now to)) }
 {
-    found.slice(tally.slice, to)?;
+    let unit = tally.unit.unwrap();
+    let slices = unit.slices.unwrap();
+    found.slice(slices.last, to)?;
     found.unit(unit_at(tally, to))
 }
 
@@ -71,6 +73,7 @@ pub(crate) fn tell<F: Found>(
     kind: u8,
     found: &mut F,
 ) -> Result<(), NoMemory>
+    requires begun { is_slice kind ≡ true → tally.now.begun ≡ true }
     requires head { is_slice kind ≡ true → tally.now.slices ≡ 0 → tally.now.unit < place }
     requires short { is_slice kind ≡ true → tally.now.slices ≡ 0 → place ≤ tally.now.unit + 1380 }
     requires room { HasRoom tally.now place }
@@ -80,37 +83,38 @@ pub(crate) fn tell<F: Found>(
     ensures heard { OnOk result ((calls : List Call) → F.heard found.old calls →
         F.heard found.new (calls ++ calls_at tally.now place kind)) }
 {
-    if is_slice(kind) {
-        if tally.slices == 0 {
-            found.head(tally.unit, place)
-        } else {
-            found.slice(tally.slice, place)
-        }
-    } else if is_head(kind) && 0 < tally.slices {
-        tell_unit(tally, place, found)
-    } else {
-        Ok(())
+    let Some(unit) = tally.unit else {
+        return Ok(());
+    };
+    match unit.slices {
+        None if is_slice(kind) => found.head(unit.from, place),
+        Some(slices) if is_slice(kind) => found.slice(slices.last, place),
+        Some(_) if is_head(kind) => tell_unit(tally, place, found),
+        _ => Ok(()),
     }
 }
 
 /// The latest unit, where it ends at `to`.
 fn unit_at(tally: &Tally, to: u64) -> Unit
     requires picture { IsSome tally.now.picture }
+    requires some { 0 < tally.now.slices }
     requires slices { tally.now.slices ≤ tally.now.all_slices }
     ensures { result ≡ unit_at tally.now to }
 {
-    let picture = tally.picture.unwrap();
+    let unit = tally.unit.unwrap();
+    let picture = unit.picture.unwrap();
+    let slices = unit.slices.unwrap();
     Unit {
-        from: tally.unit,
-        head_end: tally.head_end,
+        from: unit.from,
+        head_end: slices.first,
         to,
-        first_slice: tally.all_slices - tally.slices,
-        slices: tally.slices,
+        first_slice: tally.all_slices - slices.count,
+        slices: slices.count,
         temporal: picture.temporal,
         presentation: u64::from(tally.before_group) + u64::from(picture.temporal),
         kind: picture.kind,
         vectors: picture.vectors,
-        has_sequence: tally.has_sequence,
-        starts_group: tally.starts_group,
+        has_sequence: unit.has_sequence,
+        starts_group: unit.starts_group,
     }
 }

@@ -3,13 +3,14 @@
 ghost use Rattle.std.specs.Prelude.{◌≡◌, ◌^◌, ◌≤◌, ℕ, List, []};
 ghost use Rattle.mpeg_scan.specs.Room.{HasCounts};
 ghost use Rattle.mpeg_scan.specs.Words.{header_of, is_head, is_slice, rate_code, tally_of, type_of};
-ghost use Rattle.mpeg_scan.specs.Steps.{next, next_all_slices, next_before_group, next_begins};
-ghost use Rattle.mpeg_scan.specs.Steps.{next_has_sequence, next_head_end, next_picture};
-ghost use Rattle.mpeg_scan.specs.Steps.{next_pictures, next_rate, next_slice, next_slices};
-ghost use Rattle.mpeg_scan.specs.Steps.{next_starts_group, next_unit};
+ghost use Rattle.mpeg_scan.specs.Steps.{next, next_all_slices, next_before_group, next_pictures};
+ghost use Rattle.mpeg_scan.specs.Steps.{next_rate};
+ghost use Rattle.mpeg_scan.specs.TallyFields.{count_of, ends_unit, new_unit, slices_with, unit_after};
+ghost use Rattle.mpeg_scan.specs.TallyFields.{unit_or_none, unit_with};
 
 use crate::codes::Code;
 use crate::units::Kind;
+use std::marker::Model;
 
 /// The kind of a picture's start code (ISO/IEC 11172-2, table 2-D.1).
 pub(crate) const PICTURE: u8 = 0x00;
@@ -92,33 +93,138 @@ impl Header {
     }
 }
 
-/// What the start codes so far say of the latest unit, and of the units before it.
+/// The slices of a unit so far, of which there is one at least.
+#[derive(Clone, Copy)]
+pub(crate) struct Slices {
+    /// The place of the first.
+    pub(crate) first: u64,
+    /// The place of the last.
+    pub(crate) last: u64,
+    /// How many there are.
+    pub(crate) count: u64,
+}
+
+impl Slices {
+    /// Those of `before`, and one more at `place`.
+    fn with(before: Option<Slices>, place: u64) -> Slices
+        requires { count_of before ≤ 2 ^ 41 }
+        ensures { result ≡ slices_with before place }
+    {
+        match before {
+            None => Slices {
+                first: place,
+                last: place,
+                count: 1,
+            },
+            Some(slices) => Slices {
+                last: place,
+                count: slices.count + 1,
+                ..slices
+            },
+        }
+    }
+}
+
+/// What the start codes so far say of a unit.
+#[derive(Clone, Copy)]
+pub(crate) struct UnitTally {
+    /// The place of its first start code.
+    pub(crate) from: u64,
+    /// Its picture's header, once that code was read.
+    pub(crate) picture: Option<Header>,
+    /// Its slices, once the first was read.
+    pub(crate) slices: Option<Slices>,
+    /// Whether a sequence header stands in its head.
+    pub(crate) has_sequence: bool,
+    /// Whether it starts a group.
+    pub(crate) starts_group: bool,
+}
+
+impl UnitTally {
+    /// One that begins at `place`, without the code that stands there.
+    fn new(place: u64, starts_group: bool) -> UnitTally
+        ensures { result ≡ new_unit place starts_group }
+    {
+        UnitTally {
+            from: place,
+            picture: None,
+            slices: None,
+            has_sequence: false,
+            starts_group,
+        }
+    }
+
+    /// Whether a code of this kind ends it: the first of a head after a slice.
+    fn ends_at(&self, kind: u8) -> bool
+        ensures { result ≡ ends_unit self.now kind }
+    {
+        is_head(kind) && self.slices.is_some()
+    }
+
+    /// The same with one code more, which doesn't end it.
+    fn with(&self, code: &Code) -> UnitTally
+        requires { count_of self.now.slices ≤ 2 ^ 41 }
+        ensures { result ≡ unit_with self.now code.now }
+    {
+        UnitTally {
+            from: self.from,
+            picture: if code.kind == PICTURE {
+                Some(Header::of_picture(code))
+            } else {
+                self.picture
+            },
+            slices: if is_slice(code.kind) {
+                Some(Slices::with(self.slices, code.place))
+            } else {
+                self.slices
+            },
+            has_sequence: code.kind == SEQUENCE || self.has_sequence,
+            starts_group: code.kind == GROUP || self.starts_group,
+        }
+    }
+
+    /// The unit of a code that comes after those of `latest`: that one, or the next. The film's
+    /// first unit starts a group.
+    fn after(latest: Option<UnitTally>, code: &Code) -> UnitTally
+        requires { count_of (unit_or_none latest).slices ≤ 2 ^ 41 }
+        ensures { result ≡ unit_after latest code.now }
+    {
+        match latest {
+            Some(unit) if !unit.ends_at(code.kind) => unit.with(code),
+            _ => UnitTally::new(code.place, latest.is_none()).with(code),
+        }
+    }
+}
+
+/// What the start codes so far say of the film and of its latest unit.
 #[derive(Clone, Copy)]
 pub(crate) struct Tally {
-    /// Whether a code was read.
-    pub(crate) begun: bool,
     /// The rate code of the film's first sequence header.
     pub(crate) rate: Option<u8>,
-    /// The place of the latest unit.
-    pub(crate) unit: u64,
-    /// Its picture's header.
-    pub(crate) picture: Option<Header>,
     /// How many pictures the film has.
     pub(crate) pictures: u32,
     /// How many of them come before the latest group.
     pub(crate) before_group: u32,
-    /// How many slices the latest unit has.
-    pub(crate) slices: u64,
     /// How many slices the film has.
     pub(crate) all_slices: u64,
-    /// The place of the latest unit's first slice.
-    pub(crate) head_end: u64,
-    /// The place of the latest slice.
-    pub(crate) slice: u64,
-    /// Whether a sequence header stands in the latest unit's head.
-    pub(crate) has_sequence: bool,
-    /// Whether the latest unit starts a group.
-    pub(crate) starts_group: bool,
+    /// The latest unit, once a code was read.
+    pub(crate) unit: Option<UnitTally>,
+}
+
+impl Model for Tally {
+    ghost use Rattle.mpeg_scan.specs.Tallies.{Tally};
+
+    ghost Value = { Tally };
+
+    ghost use Rattle.mpeg_scan.specs.TallyFields.{IsTally, fields_back, fields_of, words_of};
+
+    ghost view = { words_of };
+
+    ghost invariant = { IsTally };
+
+    ghost inverse = { fields_of };
+
+    ghost inverse_ok = { fields_back };
 }
 
 impl Tally {
@@ -127,18 +233,11 @@ impl Tally {
         ensures { result ≡ tally_of [] }
     {
         Tally {
-            begun: false,
             rate: None,
-            unit: 0,
-            picture: None,
             pictures: 0,
             before_group: 0,
-            slices: 0,
             all_slices: 0,
-            head_end: 0,
-            slice: 0,
-            has_sequence: false,
-            starts_group: false,
+            unit: None,
         }
     }
 
@@ -149,26 +248,12 @@ impl Tally {
         ensures { result ≡ next self.now code.now }
     {
         Tally {
-            begun: true,
             rate: self.next_rate(code),
-            unit: self.next_unit(code),
-            picture: self.next_picture(code),
             pictures: self.next_pictures(code),
             before_group: self.next_before_group(code),
-            slices: self.next_slices(code),
             all_slices: self.next_all_slices(code),
-            head_end: self.next_head_end(code),
-            slice: self.next_slice(code),
-            has_sequence: self.next_has_sequence(code),
-            starts_group: self.next_starts_group(code),
+            unit: Some(UnitTally::after(self.unit, code)),
         }
-    }
-
-    /// Whether a code of this kind begins a unit.
-    fn begins_unit(&self, kind: u8) -> bool
-        ensures { result ≡ next_begins self.now kind }
-    {
-        !self.begun || (is_head(kind) && 0 < self.slices)
     }
 
     /// The film's rate code with one code more.
@@ -178,30 +263,6 @@ impl Tally {
         match self.rate {
             None if code.kind == SEQUENCE => Some(rate_code(code)),
             rate => rate,
-        }
-    }
-
-    /// The place of the latest unit with one code more.
-    fn next_unit(&self, code: &Code) -> u64
-        ensures { result ≡ next_unit self.now code.now }
-    {
-        if self.begins_unit(code.kind) {
-            code.place
-        } else {
-            self.unit
-        }
-    }
-
-    /// The header of the latest unit's picture with one code more.
-    fn next_picture(&self, code: &Code) -> Option<Header>
-        ensures { result ≡ next_picture self.now code.now }
-    {
-        if code.kind == PICTURE {
-            Some(Header::of_picture(code))
-        } else if self.begins_unit(code.kind) {
-            None
-        } else {
-            self.picture
         }
     }
 
@@ -228,20 +289,6 @@ impl Tally {
         }
     }
 
-    /// The slices of the latest unit with one code more.
-    fn next_slices(&self, code: &Code) -> u64
-        requires { self.now.slices ≤ 2 ^ 41 }
-        ensures { result ≡ next_slices self.now code.now }
-    {
-        if is_head(code.kind) {
-            0
-        } else if is_slice(code.kind) {
-            self.slices + 1
-        } else {
-            self.slices
-        }
-    }
-
     /// The slices of the film with one code more.
     fn next_all_slices(&self, code: &Code) -> u64
         requires { self.now.all_slices ≤ 2 ^ 41 }
@@ -252,41 +299,5 @@ impl Tally {
         } else {
             self.all_slices
         }
-    }
-
-    /// The place of the latest unit's first slice with one code more.
-    fn next_head_end(&self, code: &Code) -> u64
-        ensures { result ≡ next_head_end self.now code.now }
-    {
-        if is_slice(code.kind) && self.slices == 0 {
-            code.place
-        } else {
-            self.head_end
-        }
-    }
-
-    /// The place of the latest slice with one code more.
-    fn next_slice(&self, code: &Code) -> u64
-        ensures { result ≡ next_slice self.now code.now }
-    {
-        if is_slice(code.kind) {
-            code.place
-        } else {
-            self.slice
-        }
-    }
-
-    /// Whether a sequence header stands in the latest unit's head, with one code more.
-    fn next_has_sequence(&self, code: &Code) -> bool
-        ensures { result ≡ next_has_sequence self.now code.now }
-    {
-        code.kind == SEQUENCE || (!self.begins_unit(code.kind) && self.has_sequence)
-    }
-
-    /// Whether the latest unit starts a group, with one code more.
-    fn next_starts_group(&self, code: &Code) -> bool
-        ensures { result ≡ next_starts_group self.now code.now }
-    {
-        code.kind == GROUP || !self.begun || (!self.begins_unit(code.kind) && self.starts_group)
     }
 }

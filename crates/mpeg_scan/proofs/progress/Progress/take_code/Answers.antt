@@ -1,5 +1,11 @@
-use Rattle.mpeg_scan.proofs.RoomLemmas.{SliceTaken, head-short, head-some}
+use Rattle.mpeg_scan.proofs.RoomLemmas.{SliceTaken, head-short, head-some, slice-begun}
 use Rattle.mpeg_scan.proofs.progress.Progress.take_code.Goals as goal
+
+pub tell-requires-clause-begun : goal.tell-requires-clause-begun
+tell-requires-clause-begun g c = λ slice.
+    let taken : SliceTaken c.in_ok-tally.tally c.args.self.now.latest c.args.self.now.tally c.args.place c.args.kind =
+    record { judged = c.in_ok-tally.ensures.0; tally_is = c.in_ok-tally.ensures.1; slice = slice } in
+    slice-begun taken
 
 pub tell-requires-clause-head : goal.tell-requires-clause-head
 tell-requires-clause-head g c = λ slice none.

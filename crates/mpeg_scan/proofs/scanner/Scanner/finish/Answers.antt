@@ -3,7 +3,7 @@ use Rattle.std.proofs.lemmas.Option.{none-some, same_Some}
 use Rattle.std.specs.Option.{unwrap_or}
 use Rattle.std.specs.Result.{result_ok}
 use Rattle.mpeg_scan.specs.declared.scanner.Ending.{Ending}
-use Rattle.mpeg_scan.specs.declared.tallies.Tally.{Tally}
+use Rattle.mpeg_scan.specs.Tallies.{Tally}
 use Rattle.mpeg_scan.proofs.CountLemmas.{film-numbered}
 use Rattle.mpeg_scan.proofs.GrammarLemmas.{film-grammatical}
 use Rattle.mpeg_scan.proofs.RoomLemmas.{end-ready, end-room}
@@ -50,7 +50,8 @@ pub returns-clause-ended : goal.returns-clause-ended
 returns-clause-ended g c =
     λ r kept. let h = c.in_ok-tally.ensures.accepted r kept.progress in (
       h.0,
-      ap (λ (rate : Option ℕ). unwrap_or rate 0) (sym c.unwrap.ensures) ∙ ap (λ (t : Tally). unwrap_or t.rate 0) h.1,
+      ap (λ (rate : Option ℕ). unwrap_or rate 0) (sym c.unwrap.ensures)
+          ∙ ap (λ (t : Tally). unwrap_or t.rate 0) (c.tally.view_is ∙ h.1),
       kept.progress.fed,
     )
 
