@@ -23,7 +23,7 @@ pub open_none : HasNoCode Nothing []
 unfolding latest_prefix
 open_none = record { none = codes-none; prefix_is = refl }
 
--- a byte that isn't the kind of a code
+-- a byte that isn't the value of a start code
 pub open_more : {prefix next : Prefix} {seen : List ℕ} (byte : ℕ) → HasNoCode prefix seen → is_whole prefix ≡ false →
     next ≡ next_prefix prefix byte → HasNoCode next (seen ++ byte ∷ [])
 open_more {next} {seen} byte so_far part is =
@@ -52,9 +52,9 @@ older-more r x pack has =
     let noted : note_latest (codes_of r) x ≡ note has.code x ∷ has.older = ap (λ (l : List Code). note_latest l x) has.are in
     elim (cases_Bool (is_whole (latest_prefix r))) [
       | inl e ↦ record {
-        code = record { place = length r - 3; kind = x; header = [] };
+        code = record { place = length r - 3; value = x; header = [] };
         older = note has.code x ∷ has.older;
-        are = codes-code x r e ∙ ap (λ (l : List Code). (record { place = length r - 3; kind = x; header = [] }) ∷ l) noted;
+        are = codes-code x r e ∙ ap (λ (l : List Code). (record { place = length r - 3; value = x; header = [] }) ∷ l) noted;
         pack_is = pack-note has.code has.older x ∙ has.pack_is;
       }
       | inr e ↦ record {
@@ -69,17 +69,17 @@ pack-stays : (more r : List ℕ) (pack : Option ℕ) → HasOlder r pack → pac
 pack-stays [] r pack has = ap pack_of has.are ∙ has.pack_is
 pack-stays (x ∷ more) r pack has = pack-stays more (x ∷ r) pack (older-more r x pack has)
 
--- a byte that is the kind of the first code
+-- a byte that is the value of the first code
 first_code : (prefix : Prefix) (seen : List ℕ) (byte : ℕ) → HasNoCode prefix seen → prefix ≡ Whole →
     HasOlder (byte ∷ read_after [] seen) (cond (eqb byte 0xba) (Some (length seen - 3)) None)
 first_code prefix seen byte so_far whole =
     let is : is_whole (latest_prefix (read_after [] seen)) ≡ true = ap is_whole (sym so_far.prefix_is ∙ whole) in
     let long : length (read_after [] seen) ≡ length seen = length-read seen [] ∙ omega arith in
     record {
-      code = record { place = length (read_after [] seen) - 3; kind = byte; header = [] };
+      code = record { place = length (read_after [] seen) - 3; value = byte; header = [] };
       older = [];
       are = codes-code byte (read_after [] seen) is
-          ∙ ap (λ (l : List Code). (record { place = length (read_after [] seen) - 3; kind = byte; header = [] })
+          ∙ ap (λ (l : List Code). (record { place = length (read_after [] seen) - 3; value = byte; header = [] })
           ∷ note_latest l byte) so_far.none;
       pack_is = ap (λ n. cond (eqb byte 0xba) (Some (n - 3)) None) long;
     }

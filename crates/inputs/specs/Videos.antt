@@ -19,7 +19,7 @@ use Rattle.troubles.specs.declared.faults.Fault.TheVariants.{Film, System}
 -- of a pack
 abbrev pub pack_of : List Code → Option ℕ
 pack_of [] = None
-pack_of (code ∷ []) = if code.kind == 0xba then Some code.place else None
+pack_of (code ∷ []) = if code.value == 0xba then Some code.place else None
 pack_of (code ∷ (older ∷ codes)) = pack_of (older ∷ codes)
 
 -- where in a file a system stream begins

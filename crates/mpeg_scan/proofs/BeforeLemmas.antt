@@ -11,77 +11,77 @@ use Rattle.mpeg_scan.specs.Words.{begins_unit, header_of, is_head, is_slice, lat
 use Rattle.mpeg_scan.specs.Words.{latest_unit}
 use Rattle.mpeg_scan.specs.Places.{HasCode}
 use Rattle.mpeg_scan.specs.Refusals.{BeginsUnit, IsItsPicture, IsLatest, IsOpenHead, IsPicture}
-use Rattle.mpeg_scan.specs.Standard.{AnyKind, IsFirstCode, IsHeadKind, IsSliceKind, NoneIn}
+use Rattle.mpeg_scan.specs.Standard.{AnyValue, IsFirstCode, IsHeadValue, IsSliceValue, NoneIn}
 use Rattle.mpeg_scan.specs.Standard.{StandsThere}
 use Rattle.mpeg_scan.proofs.TileLemmas.{slice-apart}
 use Rattle.mpeg_scan.proofs.SpaceLemmas.{Spaced, all-below}
 
 -- these are the codes that stand before a place
 pub record Knows (Has : ℕ → ℕ → Type 0) (past : List Code) (at : ℕ) : Type 0 where
-  pub there : (place kind : ℕ) → HasCode place kind past → Has place kind
-  pub below : (place kind : ℕ) → HasCode place kind past → place < at
-  pub back : (place kind : ℕ) → Has place kind → place < at → HasCode place kind past
+  pub there : (place value : ℕ) → HasCode place value past → Has place value
+  pub below : (place value : ℕ) → HasCode place value past → place < at
+  pub back : (place value : ℕ) → Has place value → place < at → HasCode place value past
 
-older-back : (c : Code) (past : List Code) (place kind : ℕ) → place < c.place →
-    HasCode place kind (c ∷ past) → HasCode place kind past
-older-back c past place kind before (inl new) = absurd (omega (arith, new.0, before))
-older-back c past place kind before (inr old) = old
+older-back : (c : Code) (past : List Code) (place value : ℕ) → place < c.place →
+    HasCode place value (c ∷ past) → HasCode place value past
+older-back c past place value before (inl new) = absurd (omega (arith, new.0, before))
+older-back c past place value before (inr old) = old
 
 pub older : (Has : ℕ → ℕ → Type 0) (c : Code) (past : List Code) (at : ℕ) →
     Knows Has (c ∷ past) at → Spaced (c ∷ past) → Knows Has past c.place
 older Has c past at k spaced = record {
-  there = λ place kind has. k.there place kind (inr has);
+  there = λ place value has. k.there place value (inr has);
   below = all-below past spaced.1 spaced.0;
-  back = λ place kind has before.
-      older-back c past place kind before
-      (k.back place kind has (omega (arith, before, k.below c.place c.kind (inl (refl, refl)))));
+  back = λ place value has before.
+      older-back c past place value before
+      (k.back place value has (omega (arith, before, k.below c.place c.value (inl (refl, refl)))));
 }
 
 pub has-new : (Has : ℕ → ℕ → Type 0) (c : Code) (past : List Code) (at : ℕ) →
-    Knows Has (c ∷ past) at → Has c.place c.kind
-has-new Has c past at k = k.there c.place c.kind (inl (refl, refl))
+    Knows Has (c ∷ past) at → Has c.place c.value
+has-new Has c past at k = k.there c.place c.value (inl (refl, refl))
 
 pub new-below : (Has : ℕ → ℕ → Type 0) (c : Code) (past : List Code) (at : ℕ) →
     Knows Has (c ∷ past) at → c.place < at
-new-below Has c past at k = k.below c.place c.kind (inl (refl, refl))
+new-below Has c past at k = k.below c.place c.value (inl (refl, refl))
 
 -- a code before the place is the latest, or stands before that
-pub data Where (Has : ℕ → ℕ → Type 0) (c : Code) (place kind : ℕ) : Type 0 where
-  here : c.place ≡ place → c.kind ≡ kind → Where Has c place kind
-  earlier : place < c.place → Where Has c place kind
+pub data Where (Has : ℕ → ℕ → Type 0) (c : Code) (place value : ℕ) : Type 0 where
+  here : c.place ≡ place → c.value ≡ value → Where Has c place value
+  earlier : place < c.place → Where Has c place value
 
-where-by : {Has : ℕ → ℕ → Type 0} {c : Code} {place kind : ℕ} (past : List Code) →
-    Spaced (c ∷ past) → HasCode place kind (c ∷ past) → Where Has c place kind
+where-by : {Has : ℕ → ℕ → Type 0} {c : Code} {place value : ℕ} (past : List Code) →
+    Spaced (c ∷ past) → HasCode place value (c ∷ past) → Where Has c place value
 where-by {Has} {c} {place} past spaced (inl new) = here new.0 new.1
-where-by {Has} {c} {place} {kind} past spaced (inr old) =
-    earlier (all-below past spaced.1 spaced.0 place kind old)
+where-by {Has} {c} {place} {value} past spaced (inr old) =
+    earlier (all-below past spaced.1 spaced.0 place value old)
 
 pub where-is : {Has : ℕ → ℕ → Type 0} {c : Code} {past : List Code} {at : ℕ} →
-    Knows Has (c ∷ past) at → Spaced (c ∷ past) → {place kind : ℕ} → Has place kind → place < at →
-    Where Has c place kind
-where-is {Has} {c} {past} {at} k spaced {place} {kind} has before =
-    where-by past spaced (k.back place kind has before)
+    Knows Has (c ∷ past) at → Spaced (c ∷ past) → {place value : ℕ} → Has place value → place < at →
+    Where Has c place value
+where-is {Has} {c} {past} {at} k spaced {place} {value} has before =
+    where-by past spaced (k.back place value has before)
 
 -- none in front of the latest code, and that one isn't such: none
-pub none-with : {Has : ℕ → ℕ → Type 0} {c : Code} {past : List Code} {at from : ℕ} {OfKind : ℕ → Type 0} →
-    Knows Has (c ∷ past) at → Spaced (c ∷ past) → (OfKind c.kind → ⊥) →
-    NoneIn Has from c.place OfKind → NoneIn Has from at OfKind
-none-with {Has} {c} {at} {from} {OfKind} k spaced other none place kind has after before is =
+pub none-with : {Has : ℕ → ℕ → Type 0} {c : Code} {past : List Code} {at from : ℕ} {OfValue : ℕ → Type 0} →
+    Knows Has (c ∷ past) at → Spaced (c ∷ past) → (OfValue c.value → ⊥) →
+    NoneIn Has from c.place OfValue → NoneIn Has from at OfValue
+none-with {Has} {c} {at} {from} {OfValue} k spaced other none place value has after before is =
     elim (where-is k spaced has before) [
-      | here e m ↦ other (subst OfKind (sym m) is)
-      | earlier below ↦ none place kind has after below is
+      | here e m ↦ other (subst OfValue (sym m) is)
+      | earlier below ↦ none place value has after below is
     ]
 
 -- the same from the latest code on
-none-from : {Has : ℕ → ℕ → Type 0} {c : Code} {past : List Code} {at : ℕ} (OfKind : ℕ → Type 0) →
-    Knows Has (c ∷ past) at → Spaced (c ∷ past) → (OfKind c.kind → ⊥) → NoneIn Has c.place at OfKind
-none-from {Has} {c} {at} OfKind k spaced other =
-    none-with k spaced other (λ place kind has after before is.
+none-from : {Has : ℕ → ℕ → Type 0} {c : Code} {past : List Code} {at : ℕ} (OfValue : ℕ → Type 0) →
+    Knows Has (c ∷ past) at → Spaced (c ∷ past) → (OfValue c.value → ⊥) → NoneIn Has c.place at OfValue
+none-from {Has} {c} {at} OfValue k spaced other =
+    none-with k spaced other (λ place value has after before is.
     absurd (omega (arith, after, before)))
 
-pub none-after : {Has : ℕ → ℕ → Type 0} {c : Code} {past : List Code} {at : ℕ} (OfKind : ℕ → Type 0)
-    → Knows Has (c ∷ past) at → Spaced (c ∷ past) → NoneIn Has (c.place + 1) at OfKind
-none-after {Has} {c} {at} OfKind k spaced place kind has after before is =
+pub none-after : {Has : ℕ → ℕ → Type 0} {c : Code} {past : List Code} {at : ℕ} (OfValue : ℕ → Type 0)
+    → Knows Has (c ∷ past) at → Spaced (c ∷ past) → NoneIn Has (c.place + 1) at OfValue
+none-after {Has} {c} {at} OfValue k spaced place value has after before is =
     elim (where-is k spaced has before) [
       | here e m ↦ absurd (omega (arith, e, after))
       | earlier below ↦ absurd (omega (arith, below, after))
@@ -90,34 +90,34 @@ none-after {Has} {c} {at} OfKind k spaced place kind has after before is =
 -- ---- the latest code
 
 pub latest-new : (Has : ℕ → ℕ → Type 0) (c : Code) (past : List Code) (at : ℕ) →
-    Knows Has (c ∷ past) at → Spaced (c ∷ past) → IsLatest Has c.place c.kind at
+    Knows Has (c ∷ past) at → Spaced (c ∷ past) → IsLatest Has c.place c.value at
 latest-new Has c past at k spaced = record {
   code = has-new Has c past at k;
   before = new-below Has c past at k;
-  last = none-after AnyKind k spaced;
+  last = none-after AnyValue k spaced;
 }
 
-pub latest-is : {Has : ℕ → ℕ → Type 0} {c : Code} {past : List Code} {at place kind : ℕ} →
-    Knows Has (c ∷ past) at → Spaced (c ∷ past) → IsLatest Has place kind at → (c.place ≡ place)
-    × (c.kind ≡ kind)
+pub latest-is : {Has : ℕ → ℕ → Type 0} {c : Code} {past : List Code} {at place value : ℕ} →
+    Knows Has (c ∷ past) at → Spaced (c ∷ past) → IsLatest Has place value at → (c.place ≡ place)
+    × (c.value ≡ value)
 latest-is {Has} {c} {past} {at} {place} k spaced l =
     elim (where-is k spaced l.code l.before) [
       | here e m ↦ (e, m)
       | earlier below ↦ absurd
-          (l.last c.place c.kind (has-new Has c past at k) (omega (arith, below))
+          (l.last c.place c.value (has-new Has c past at k) (omega (arith, below))
           (new-below Has c past at k) tt)
     ]
 
--- ---- kinds
+-- ---- values
 
-pub slice-kind : (kind : ℕ) → is_slice kind ≡ true → IsSliceKind kind
-slice-kind kind e = let parts =
-    and_parts (leb 1 kind) (leb kind 0xaf) e in
-    (leb-true 1 kind parts.0, leb-true kind 0xaf parts.1)
+pub slice-value : (value : ℕ) → is_slice value ≡ true → IsSliceValue value
+slice-value value e = let parts =
+    and_parts (leb 1 value) (leb value 0xaf) e in
+    (leb-true 1 value parts.0, leb-true value 0xaf parts.1)
 
-pub kind-slice : (kind : ℕ) → IsSliceKind kind → is_slice kind ≡ true
-kind-slice kind is =
-    and_from (leb 1 kind) (leb kind 0xaf) (le-leb 1 kind is.0) (le-leb kind 0xaf is.1)
+pub value-slice : (value : ℕ) → IsSliceValue value → is_slice value ≡ true
+value-slice value is =
+    and_from (leb 1 value) (leb value 0xaf) (le-leb 1 value is.0) (le-leb value 0xaf is.1)
 
 head-by : {a b c : Bool} {A B C : Type 0} → (a ≡ true → A) → (b ≡ true → B) → (c ≡ true → C) →
     (a || (b || c)) ≡ true → A ⊎ (B ⊎ C)
@@ -126,47 +126,47 @@ head-by {a = false} {b = true} {c} {B} one two three e = inr (inl (two refl))
 head-by {a = false} {b = false} {c = true} {B} one two three e = inr (inr (three refl))
 head-by {a = false} {b = false} {c = false} {B} one two three e = absurd (false≢true e)
 
-pub head-kind : (kind : ℕ) → is_head kind ≡ true → IsHeadKind kind
-head-kind kind e = head-by (eqb-true kind 0) (eqb-true kind 0xb3) (eqb-true kind 0xb8) e
+pub head-value : (value : ℕ) → is_head value ≡ true → IsHeadValue value
+head-value value e = head-by (eqb-true value 0) (eqb-true value 0xb3) (eqb-true value 0xb8) e
 
-pub kind-head : (kind : ℕ) → IsHeadKind kind → is_head kind ≡ true
-kind-head kind (inl e) = ap is_head e
-kind-head kind (inr (inl e)) = ap is_head e
-kind-head kind (inr (inr e)) = ap is_head e
+pub value-head : (value : ℕ) → IsHeadValue value → is_head value ≡ true
+value-head value (inl e) = ap is_head e
+value-head value (inr (inl e)) = ap is_head e
+value-head value (inr (inr e)) = ap is_head e
 
-pub no-slice : (kind : ℕ) → is_slice kind ≡ false → IsSliceKind kind → ⊥
-no-slice kind e is = false≢true (sym e ∙ kind-slice kind is)
+pub no-slice : (value : ℕ) → is_slice value ≡ false → IsSliceValue value → ⊥
+no-slice value e is = false≢true (sym e ∙ value-slice value is)
 
-pub no-head : (kind : ℕ) → is_head kind ≡ false → IsHeadKind kind → ⊥
-no-head kind e is = false≢true (sym e ∙ kind-head kind is)
+pub no-head : (value : ℕ) → is_head value ≡ false → IsHeadValue value → ⊥
+no-head value e is = false≢true (sym e ∙ value-head value is)
 
-head-no-slice : (kind : ℕ) → is_head kind ≡ true → IsSliceKind kind → ⊥
-head-no-slice kind e is = true≢false (sym e ∙ slice-apart kind (kind-slice kind is))
+head-no-slice : (value : ℕ) → is_head value ≡ true → IsSliceValue value → ⊥
+head-no-slice value e is = true≢false (sym e ∙ slice-apart value (value-slice value is))
 
 -- ---- a slice, after which no head stands
 
 pub record HasSlice (Has : ℕ → ℕ → Type 0) (at : ℕ) : Type 0 where
   pub place : ℕ
-  pub code : StandsThere Has place IsSliceKind
+  pub code : StandsThere Has place IsSliceValue
   pub before : place < at
-  pub none : NoneIn Has place at IsHeadKind
+  pub none : NoneIn Has place at IsHeadValue
 
 slice-by : {h s : Bool} {Has : ℕ → ℕ → Type 0} {c : Code} {past : List Code} {at n : ℕ} →
-    is_head c.kind ≡ h → is_slice c.kind ≡ s → Knows Has (c ∷ past) at → Spaced (c ∷ past)
+    is_head c.value ≡ h → is_slice c.value ≡ s → Knows Has (c ∷ past) at → Spaced (c ∷ past)
     → (0 < n → HasSlice Has c.place) → 0 < cond h 0 (cond s (n + 1) n) → HasSlice Has at
 slice-by {h = true} {s} {Has} {c} {at} head slice k spaced before some = absurd (omega (arith, some))
 slice-by {h = false} {s = true} {Has} {c} {past} {at} head slice k spaced before some = record {
   place = c.place;
-  code = (c.kind, (has-new Has c past at k, slice-kind c.kind slice));
+  code = (c.value, (has-new Has c past at k, slice-value c.value slice));
   before = new-below Has c past at k;
-  none = none-from IsHeadKind k spaced (no-head c.kind head);
+  none = none-from IsHeadValue k spaced (no-head c.value head);
 }
 slice-by {h = false} {s = false} {Has} {c} {past} {at} head slice k spaced before some =
     let it = before some in record {
       place = it.place;
       code = it.code;
       before = omega (arith, it.before, new-below Has c past at k);
-      none = none-with k spaced (no-head c.kind head) it.none;
+      none = none-with k spaced (no-head c.value head) it.none;
     }
 
 pub slice-there : (Has : ℕ → ℕ → Type 0) (past : List Code) (at : ℕ) → Knows Has past at →
@@ -192,14 +192,14 @@ not-open Has unit at s o = elim (cases_lt s.place unit) [
 ]
 
 -- no slice stands in front of a head that is open, after the head before it
-not-between : {Has : ℕ → ℕ → Type 0} {u v s : ℕ} → u < v → s < u → NoneIn Has s v IsHeadKind →
-    StandsThere Has s IsSliceKind → BeginsUnit Has u → ⊥
+not-between : {Has : ℕ → ℕ → Type 0} {u v s : ℕ} → u < v → s < u → NoneIn Has s v IsHeadValue →
+    StandsThere Has s IsSliceValue → BeginsUnit Has u → ⊥
 not-between {Has} {s} less far none slice (inl first) =
     absurd (omega (arith, far, first.1 s slice.0 slice.1.0))
 not-between {Has} {u} {s} less far none slice (inr it) =
     none u it.0.0 it.0.1.0 (omega (arith, far)) less it.0.1.1
 
-begins-stands : (Has : ℕ → ℕ → Type 0) (u : ℕ) → BeginsUnit Has u → StandsThere Has u AnyKind
+begins-stands : (Has : ℕ → ℕ → Type 0) (u : ℕ) → BeginsUnit Has u → StandsThere Has u AnyValue
 begins-stands Has u (inl first) = first.0
 begins-stands Has u (inr it) = (it.0.0, (it.0.1.0, tt))
 
@@ -232,7 +232,7 @@ none-left false false n e is = (refl, e)
 
 -- a code that isn't a slice keeps a head open
 open-with : {Has : ℕ → ℕ → Type 0} {c : Code} {past : List Code} {at unit : ℕ} →
-    Knows Has (c ∷ past) at → Spaced (c ∷ past) → (IsSliceKind c.kind → ⊥) →
+    Knows Has (c ∷ past) at → Spaced (c ∷ past) → (IsSliceValue c.value → ⊥) →
     IsOpenHead Has unit c.place → IsOpenHead Has unit at
 open-with {Has} {c} {past} {at} k spaced other o = record {
   begins = o.begins;
@@ -240,28 +240,28 @@ open-with {Has} {c} {past} {at} k spaced other o = record {
   no_slice = none-with k spaced other o.no_slice;
 }
 
-not-slice-by : {h s : Bool} {kind : ℕ} (n : ℕ) → is_head kind ≡ h → is_slice kind ≡ s →
-    cond h 0 (cond s (n + 1) n) ≡ 0 → IsSliceKind kind → ⊥
-not-slice-by {h = true} {s} {kind} n head slice e = head-no-slice kind head
-not-slice-by {h = false} {s} {kind} n head slice e = no-slice kind (slice ∙ (none-left false s n e refl).0)
+not-slice-by : {h s : Bool} {value : ℕ} (n : ℕ) → is_head value ≡ h → is_slice value ≡ s →
+    cond h 0 (cond s (n + 1) n) ≡ 0 → IsSliceValue value → ⊥
+not-slice-by {h = true} {s} {value} n head slice e = head-no-slice value head
+not-slice-by {h = false} {s} {value} n head slice e = no-slice value (slice ∙ (none-left false s n e refl).0)
 
 -- a code that begins a unit
 open-new : {Has : ℕ → ℕ → Type 0} {c : Code} {past : List Code} {at : ℕ} → Knows Has (c ∷ past) at →
-    Spaced (c ∷ past) → (IsSliceKind c.kind → ⊥) → BeginsUnit Has c.place →
+    Spaced (c ∷ past) → (IsSliceValue c.value → ⊥) → BeginsUnit Has c.place →
     IsOpenHead Has c.place at
 open-new {Has} {c} {past} {at} k spaced other begins = record {
   begins = begins;
   before = new-below Has c past at k;
-  no_slice = none-from IsSliceKind k spaced other;
+  no_slice = none-from IsSliceValue k spaced other;
 }
 
 -- the first code
 firsts : (Has : ℕ → ℕ → Type 0) (c : Code) (at : ℕ) → Knows Has (c ∷ []) at →
     IsFirstCode Has c.place
-firsts Has c at k place kind has = elim (cases_lt place c.place) [
+firsts Has c at k place value has = elim (cases_lt place c.place) [
   | inl before ↦ absurd
-      (older-back c [] place kind before
-      (k.back place kind has (omega (arith, before, new-below Has c [] at k))))
+      (older-back c [] place value before
+      (k.back place value has (omega (arith, before, new-below Has c [] at k))))
   | inr after ↦ after
 ]
 
@@ -273,22 +273,22 @@ left-zero true s n e b = elim (cases_lt 0 n) [
 left-zero false s n e b = (none-left false s n e refl).1
 
 open-by : {b : Bool} {Has : ℕ → ℕ → Type 0} {c : Code} {past : List Code} {at unit : ℕ} →
-    (is_head c.kind && ltb 0 (slice_count past)) ≡ b → Knows Has (c ∷ past) at → Spaced (c ∷ past) →
+    (is_head c.value && ltb 0 (slice_count past)) ≡ b → Knows Has (c ∷ past) at → Spaced (c ∷ past) →
     slice_count (c ∷ past) ≡ 0
     → (slice_count past ≡ 0 → IsOpenHead Has unit c.place) → IsOpenHead Has (cond b c.place unit) at
 open-by {b = true} {Has} {c} {past} {at} e k spaced none before =
-    let parts = and_parts (is_head c.kind) (ltb 0 (slice_count past)) e in
+    let parts = and_parts (is_head c.value) (ltb 0 (slice_count past)) e in
     let s = slice-there Has past c.place (older Has c past at k spaced) spaced.1
     (ltb-true 0 (slice_count past) parts.1) in
-    open-new k spaced (head-no-slice c.kind parts.0)
+    open-new k spaced (head-no-slice c.value parts.0)
     (inr (
-      (c.kind, (has-new Has c past at k, head-kind c.kind parts.0)),
+      (c.value, (has-new Has c past at k, head-value c.value parts.0)),
       (s.place, ((s.code, s.before), s.none)),
     ))
 open-by {b = false} {Has} {c} {past} {at} e k spaced none before =
     open-with k spaced
     (not-slice-by (slice_count past) refl refl none)
-    (before (left-zero (is_head c.kind) (is_slice c.kind) (slice_count past) none e))
+    (before (left-zero (is_head c.value) (is_slice c.value) (slice_count past) none e))
 
 pub open-head : {Has : ℕ → ℕ → Type 0} {c : Code} {past : List Code} {at : ℕ} →
     Knows Has (c ∷ past) at → Spaced (c ∷ past) → slice_count (c ∷ past) ≡ 0 →
@@ -296,7 +296,7 @@ pub open-head : {Has : ℕ → ℕ → Type 0} {c : Code} {past : List Code} {at
 open-head {Has} {c} {past = []} {at} k spaced none =
     open-new k spaced
     (not-slice-by 0 refl refl none)
-    (inl ((c.kind, (has-new Has c [] at k, tt)), firsts Has c at k))
+    (inl ((c.value, (has-new Has c [] at k, tt)), firsts Has c at k))
 open-head {Has} {c} {past = d ∷ past} {at} k spaced none =
     open-by refl k spaced none
     (λ zero_is. open-head (older Has c (d ∷ past) at k spaced) spaced.1 zero_is)
@@ -308,7 +308,7 @@ PictureThere Has unit at None = NoneIn Has unit at IsPicture
 PictureThere Has unit at (Some h) = IsItsPicture Has unit h.place at
 
 picture-with : {Has : ℕ → ℕ → Type 0} {c : Code} {past : List Code} {at : ℕ} (unit : ℕ) (o : Option Header) →
-    Knows Has (c ∷ past) at → Spaced (c ∷ past) → (c.kind ≡ 0 → ⊥) →
+    Knows Has (c ∷ past) at → Spaced (c ∷ past) → (c.value ≡ 0 → ⊥) →
     PictureThere Has unit c.place o → PictureThere Has unit at o
 picture-with {Has} {c} {at} unit None k spaced other none =
     none-with k spaced other none
@@ -320,27 +320,27 @@ picture-with {Has} {c} {past} {at} unit (Some h) k spaced other p = record {
 }
 
 picture-by : {z b : Bool} {Has : ℕ → ℕ → Type 0} {c : Code} {past : List Code} {at unit : ℕ}
-    (o : Option Header) → eqb c.kind 0 ≡ z →
+    (o : Option Header) → eqb c.value 0 ≡ z →
     Knows Has (c ∷ past) at → Spaced (c ∷ past)
     → (b ≡ false → PictureThere Has unit c.place o) → (b ≡ false → unit ≤ c.place) →
     PictureThere Has (cond b c.place unit) at (cond z (Some (header_of c)) (cond b None o))
 picture-by {z = true} {b = true} {Has} {c} {past} {at} o is k spaced before low = record {
-  code = subst (λ m. Has c.place m) (eqb-true c.kind 0 is) (has-new Has c past at k);
+  code = subst (λ m. Has c.place m) (eqb-true c.value 0 is) (has-new Has c past at k);
   after = omega arith;
   before = new-below Has c past at k;
   last = none-after IsPicture k spaced;
 }
 picture-by {z = true} {b = false} {Has} {c} {past} {at} o is k spaced before low = record {
-  code = subst (λ m. Has c.place m) (eqb-true c.kind 0 is) (has-new Has c past at k);
+  code = subst (λ m. Has c.place m) (eqb-true c.value 0 is) (has-new Has c past at k);
   after = low refl;
   before = new-below Has c past at k;
   last = none-after IsPicture k spaced;
 }
 picture-by {z = false} {b = true} {Has} {c} {at} o is k spaced before low =
-    none-from IsPicture k spaced (λ e. false≢true (sym is ∙ eq-eqb c.kind 0 e))
+    none-from IsPicture k spaced (λ e. false≢true (sym is ∙ eq-eqb c.value 0 e))
 picture-by {z = false} {b = false} {Has} {c} {at} {unit} o is k spaced before low =
     picture-with unit o k spaced (λ e.
-    false≢true (sym is ∙ eq-eqb c.kind 0 e)) (before refl)
+    false≢true (sym is ∙ eq-eqb c.value 0 e)) (before refl)
 
 unit-below-by : (b : Bool) (m n at : ℕ) → m < at → n < at → cond b m n < at
 unit-below-by true m n at one other = one
@@ -363,7 +363,7 @@ pub picture-there : (Has : ℕ → ℕ → Type 0) (c : Code) (past : List Code)
     Knows Has (c ∷ past) at → Spaced (c ∷ past) →
     PictureThere Has (latest_unit (c ∷ past)) at (latest_picture (c ∷ past))
 picture-there Has c [] at k spaced =
-    picture-by {z = eqb c.kind 0} {b = true} {Has = Has} {c = c} {past = []} {at = at}
+    picture-by {z = eqb c.value 0} {b = true} {Has = Has} {c = c} {past = []} {at = at}
     {unit = 0} None refl k spaced (λ e. absurd (true≢false e)) (λ e. absurd (true≢false e))
 picture-there Has c (d ∷ past) at k spaced =
     let k' = older Has c (d ∷ past) at k spaced in

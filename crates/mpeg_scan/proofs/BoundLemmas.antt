@@ -42,15 +42,15 @@ sequence-judged true f g is e = e
 sequence-judged false f g is e = absurd (true≢false (sym is))
 
 -- the rate of the first sequence header, once its header is judged
-judged-first : (c : Code) (end : ℕ) → c.kind ≡ 0xb3 → header_fault None c end ≡ None → IsRate (rate_of (c ∷ []))
+judged-first : (c : Code) (end : ℕ) → c.value ≡ 0xb3 → header_fault None c end ≡ None → IsRate (rate_of (c ∷ []))
 judged-first c end is e =
-    let test : eqb c.kind 0xb3 ≡ true = eq-eqb c.kind 0xb3 is in
+    let test : eqb c.value 0xb3 ≡ true = eq-eqb c.value 0xb3 is in
     let judged =
     some-cond-none (ltb (end - c.place) 12) (ShortHeader c.place) (rate_fault None c)
-    (sequence-judged (eqb c.kind 0xb3)
+    (sequence-judged (eqb c.value 0xb3)
     (cond (ltb (end - c.place) 12) (Some (ShortHeader c.place)) (rate_fault None c))
-    (cond (eqb c.kind 0xb8) (cond (ltb (end - c.place) 8) (Some (ShortHeader c.place)) None)
-    (cond (eqb c.kind 0) (picture_fault c end) None)) test e) in
+    (cond (eqb c.value 0xb8) (cond (ltb (end - c.place) 8) (Some (ShortHeader c.place)) None)
+    (cond (eqb c.value 0) (picture_fault c end) None)) test e) in
     subst (λ b. IsRate (unwrap_or (cond b (Some (rate_code c)) None) 0)) (sym test) (judged-rate c judged.1)
 
 later-rate : (c : Code) (rate : Option ℕ) → IsRate (unwrap_or rate 0) → IsRate (unwrap_or (rate_after rate c) 0)
@@ -60,9 +60,9 @@ later-rate c (Some rate) is = is
 pub older-judged : (c : Code) (past : List Code) → first_fault (c ∷ past) ≡ None → latest_fault past c.place ≡ None
 unfolding first_fault fault_at
 older-judged c past e =
-    otherwise-first (latest_fault past c.place) (code_fault (tally_of past) c.place c.kind)
+    otherwise-first (latest_fault past c.place) (code_fault (tally_of past) c.place c.value)
     (otherwise-second (first_fault past)
-    (first_refusal (latest_fault past c.place) (code_fault (tally_of past) c.place c.kind)) e)
+    (first_refusal (latest_fault past c.place) (code_fault (tally_of past) c.place c.value)) e)
 
 pub codes-rate : (c : Code) (past : List Code) (end : ℕ) → first_fault (c ∷ past) ≡ None
     → latest_fault (c ∷ past) end ≡ None → IsRate (rate_of (c ∷ past))

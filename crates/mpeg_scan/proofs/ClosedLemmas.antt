@@ -15,7 +15,7 @@ use Rattle.mpeg_scan.specs.Calls.{Call, head_call, slice_call, calls_at, no_head
 use Rattle.mpeg_scan.specs.Calls.{unit_at, unit_end}
 use Rattle.mpeg_scan.specs.Films.{units_in}
 use Rattle.mpeg_scan.specs.Places.{HasCode}
-use Rattle.mpeg_scan.specs.Standard.{Counts, HasPicture, IsFirstCode, IsHeadKind, IsSliceKind}
+use Rattle.mpeg_scan.specs.Standard.{Counts, HasPicture, IsFirstCode, IsHeadValue, IsSliceValue}
 use Rattle.mpeg_scan.specs.Standard.{NoneIn, StandsIn, StandsThere, UnitIs}
 use Rattle.mpeg_scan.proofs.StepLemmas.{accepted-older, code-accepted, otherwise-second, positive}
 use Rattle.mpeg_scan.proofs.StepLemmas.{calls-cons}
@@ -26,7 +26,7 @@ use Rattle.mpeg_scan.proofs.CountLemmas.{empty-count, first-some, second-accepte
 use Rattle.mpeg_scan.proofs.FilmLemmas.{units_in-append}
 use Rattle.mpeg_scan.proofs.OpenLemmas.{Below, Firsts, Latest, Member, Open, Pictured, first-code}
 use Rattle.mpeg_scan.proofs.OpenLemmas.{member-has, step-open}
-use Rattle.mpeg_scan.proofs.KindLemmas.{kinds-of}
+use Rattle.mpeg_scan.proofs.ValueLemmas.{values-of}
 use Rattle.mpeg_scan.proofs.BeforeLemmas.{Knows}
 use Rattle.mpeg_scan.proofs.SinceLemmas.{all-slices, counts-same, few-slices, own-slices}
 
@@ -42,7 +42,7 @@ OpenOf past = Open past (record {
   group = starts_group past;
 })
 
-open-three : (c : Code) → c.kind ≡ 0xb3 → OpenOf (c ∷ [])
+open-three : (c : Code) → c.value ≡ 0xb3 → OpenOf (c ∷ [])
 open-three c is =
     subst (λ m. Open (c ∷ []) (record {
       from = c.place;
@@ -64,10 +64,10 @@ open-codes c (d ∷ past) accepted spaced =
     let n = slice_count older in
     let fault = code-accepted c older accepted in
     step-open
-    (kinds-of c.kind) (all-below older spaced.1 spaced.0)
+    (values-of c.value) (all-below older spaced.1 spaced.0)
     (record { some = ltb-true 0 n; none = empty-count n; zero_is = eqb-true n 0; more = positive n })
-    (λ head none. second-none t c.kind (second-accepted t c.place c.kind fault) head none)
-    (λ slice none. first-some t c.place c.kind (first_slice-accepted t c.place c.kind fault) slice none)
+    (λ head none. second-none t c.value (second-accepted t c.place c.value fault) head none)
+    (λ slice none. first-some t c.place c.value (first_slice-accepted t c.place c.value fault) slice none)
     (open-codes d past (accepted-older c older accepted) spaced.1)
 
 -- ---- a unit that has ended
@@ -76,14 +76,14 @@ open-codes c (d ∷ past) accepted spaced =
 pub record CodeFields (past : List Code) (place : ℕ) (unit : PictureUnit) : Type 0 where
   pub code : Code
   pub member : Member code past
-  pub zero_is : code.kind ≡ 0
+  pub zero_is : code.value ≡ 0
   pub place_is : code.place ≡ place
   pub temporal : unit.temporal ≡ temporal_of code
   pub kind : unit.kind ≡ kind_of (type_of code)
   pub vectors : unit.vectors ≡ vectors_of code
 
 abbrev pub Has : List Code → ℕ → ℕ → Type 0
-Has past place kind = HasCode place kind past
+Has past place value = HasCode place value past
 
 pub record Closed (past : List Code) (unit : PictureUnit) : Type 0 where
   pub unit_is : UnitIs (Has past) (CodeFields past) unit
@@ -100,15 +100,15 @@ close-picture : {past : List Code} {unit : PictureUnit} {n : ℕ} {h : Header} �
     → Pictured past unit.from unit.head_end n h → HasPicture (Has past) (CodeFields past) unit
 close-picture {past} {h} some header is = record {
   place = is.code.place;
-  code = subst (λ k. HasCode is.code.place k past) is.kind (member-has is.code past is.member);
+  code = subst (λ k. HasCode is.code.place k past) is.value (member-has is.code past is.member);
   after = is.after;
   before = is.before some;
   only = λ other has after before. is.only other has after;
-  last = λ place kind has after before head. is.last place kind has after head;
+  last = λ place value has after before head. is.last place value has after head;
   fields = record {
     code = is.code;
     member = is.member;
-    zero_is = is.kind;
+    zero_is = is.value;
     place_is = refl;
     temporal = header.temporal ∙ ap (λ (v : Header). v.temporal) is.header;
     kind = header.kind ∙ ap (λ (v : Header). v.kind) is.header;
@@ -127,11 +127,11 @@ latest_by unit n o = record {
   group = unit.starts_group;
 }
 
-in-head : {past : List Code} {n place kind : ℕ} {o : Option Header} (unit : PictureUnit)
-    → Open past (latest_by unit n o) → 0 < n → HasCode place kind past → IsHeadKind kind → place < unit.head_end
-in-head {place} {kind} unit open_ some has head = elim (cases_lt place unit.head_end) [
+in-head : {past : List Code} {n place value : ℕ} {o : Option Header} (unit : PictureUnit)
+    → Open past (latest_by unit n o) → 0 < n → HasCode place value past → IsHeadValue value → place < unit.head_end
+in-head {place} {value} unit open_ some has head = elim (cases_lt place unit.head_end) [
   | inl before ↦ before
-  | inr after ↦ absurd (open_.sliced some place kind has after head)
+  | inr after ↦ absurd (open_.sliced some place value has after head)
 ]
 
 group-closed : {past : List Code} {n : ℕ} {o : Option Header} (unit : PictureUnit)
@@ -156,9 +156,9 @@ group-open past unit n o open_ (inr it) = open_.grp_set it.place it.code it.afte
 close-by : {past : List Code} {unit : PictureUnit} {n : ℕ} {o : Option Header}
     → Open past (latest_by unit n o) → 0 < n
     → HasHeader unit (unwrap_or o no_header)
-    → ((place kind : ℕ) → HasCode place kind past → place < unit.to)
-    → Counts (Has past) IsSliceKind unit.head_end unit.to unit.slices
-    → Counts (Has past) IsSliceKind 0 unit.to (unit.first_slice + unit.slices) → Closed past unit
+    → ((place value : ℕ) → HasCode place value past → place < unit.to)
+    → Counts (Has past) IsSliceValue unit.head_end unit.to unit.slices
+    → Counts (Has past) IsSliceValue 0 unit.to (unit.first_slice + unit.slices) → Closed past unit
 close-by {o = None} open_ some header below own all = absurd (false≢true (open_.some some))
 close-by {past} {unit} {n} {o = Some h} open_ some header below own all = record {
   unit_is = record {
@@ -192,8 +192,8 @@ close-by {past} {unit} {n} {o = Some h} open_ some header below own all = record
 
 -- the slices after the latest head are those from its first slice on
 own-first : {past : List Code} {to from place : ℕ} → OpenOf past → 0 < slice_count past
-    → ((place kind : ℕ) → HasCode place kind past → place < to) → NoneIn (Has past) from to IsHeadKind
-    → StandsThere (Has past) place IsSliceKind → from ≤ place → head_end_of past ≤ place
+    → ((place value : ℕ) → HasCode place value past → place < to) → NoneIn (Has past) from to IsHeadValue
+    → StandsThere (Has past) place IsSliceValue → from ≤ place → head_end_of past ≤ place
 own-first {past} {from} {place} open_ some below none slice far = elim (cases_lt place (head_end_of past)) [
   | inl less ↦ elim (cases_lt (latest_unit past) from) [
     | inl after ↦ absurd (open_.head some place slice.0 slice.1.0 (omega (arith, after, far)) less slice.1.1)
@@ -206,39 +206,39 @@ own-first {past} {from} {place} open_ some below none slice far = elim (cases_lt
 ]
 
 close : (past : List Code) (to : ℕ) → OpenOf past → Spaced past → 0 < slice_count past
-    → ((place kind : ℕ) → HasCode place kind past → place < to) → Closed past (unit_at (tally_of past) to)
+    → ((place value : ℕ) → HasCode place value past → place < to) → Closed past (unit_at (tally_of past) to)
 close past to open_ spaced some below =
     let k : Knows (Has past) past to =
-    record { there = λ place kind has. has; below = below; back = λ place kind has before. has } in
+    record { there = λ place value has. has; below = below; back = λ place value has before. has } in
     let count : film_slice_count past ≡ film_slice_count past - slice_count past + slice_count past =
     omega (arith, few-slices past) in
     let header : HasHeader (unit_at (tally_of past) to) (unwrap_or (latest_picture past) no_header) =
     record { temporal = refl; kind = refl; vectors = refl } in
     close-by open_ some header below
-    (own-slices k spaced (λ place kind has after before is. open_.sliced some place kind has after is)
+    (own-slices k spaced (λ place value has after before is. open_.sliced some place value has after is)
     (λ from none place slice far before. own-first open_ some below none slice far))
-    (subst (λ n. Counts (Has past) IsSliceKind 0 to n) count (all-slices (Has past) past to k spaced))
+    (subst (λ n. Counts (Has past) IsSliceValue 0 to n) count (all-slices (Has past) past to k spaced))
 
 -- ---- it stays so as codes come
 
-none-grows : {from to : ℕ} {OfKind : ℕ → Type 0} (c : Code) (past : List Code) → to ≤ c.place
-    → NoneIn (Has past) from to OfKind → NoneIn (Has (c ∷ past)) from to OfKind
-none-grows {from} c past far none place kind (inl new) after before is = omega (arith, new.0, far, before)
-none-grows {from} c past far none place kind (inr old) after before is = none place kind old after before is
+none-grows : {from to : ℕ} {OfValue : ℕ → Type 0} (c : Code) (past : List Code) → to ≤ c.place
+    → NoneIn (Has past) from to OfValue → NoneIn (Has (c ∷ past)) from to OfValue
+none-grows {from} c past far none place value (inl new) after before is = omega (arith, new.0, far, before)
+none-grows {from} c past far none place value (inr old) after before is = none place value old after before is
 
-stands-grows : (c : Code) (past : List Code) (from to kind : ℕ) → StandsIn (Has past) from to kind
-    → StandsIn (Has (c ∷ past)) from to kind
-stands-grows c past from to kind it =
+stands-grows : (c : Code) (past : List Code) (from to value : ℕ) → StandsIn (Has past) from to value
+    → StandsIn (Has (c ∷ past)) from to value
+stands-grows c past from to value it =
     record { place = it.place; code = inr it.code; after = it.after; before = it.before }
 
-shrinks-by : {from to kind place : ℕ} (c : Code) (past : List Code) → to ≤ c.place
-    → HasCode place kind (c ∷ past) → from ≤ place → place < to → StandsIn (Has past) from to kind
+shrinks-by : {from to value place : ℕ} (c : Code) (past : List Code) → to ≤ c.place
+    → HasCode place value (c ∷ past) → from ≤ place → place < to → StandsIn (Has past) from to value
 shrinks-by {from} {place} c past far (inl new) after before = absurd (omega (arith, new.0, far, before))
 shrinks-by {from} {place} c past far (inr old) after before =
     record { place = place; code = old; after = after; before = before }
 
-stands-shrinks : {from to kind : ℕ} (c : Code) (past : List Code) → to ≤ c.place
-    → StandsIn (Has (c ∷ past)) from to kind → StandsIn (Has past) from to kind
+stands-shrinks : {from to value : ℕ} (c : Code) (past : List Code) → to ≤ c.place
+    → StandsIn (Has (c ∷ past)) from to value → StandsIn (Has past) from to value
 stands-shrinks {from} c past far it = shrinks-by c past far it.code it.after it.before
 
 -- the only picture between these places
@@ -252,8 +252,8 @@ only-grows c past from to far only other (inr old) after before = only other old
 
 firsts-grow : (c : Code) (past : List Code) (from : ℕ) → from ≤ c.place → IsFirstCode (Has past) from
     → IsFirstCode (Has (c ∷ past)) from
-firsts-grow c past from far firsts place kind (inl new) = omega (arith, new.0, far)
-firsts-grow c past from far firsts place kind (inr old) = firsts place kind old
+firsts-grow c past from far firsts place value (inl new) = omega (arith, new.0, far)
+firsts-grow c past from far firsts place value (inr old) = firsts place value old
 
 group-grows : (c : Code) (past : List Code) (from to : ℕ) → from ≤ c.place
     → IsFirstCode (Has past) from ⊎ StandsIn (Has past) from to 0xb8
@@ -264,18 +264,18 @@ group-grows c past from to far (inr it) = inr (stands-grows c past from to 0xb8 
 group-shrinks : (c : Code) (past : List Code) (from to : ℕ) → to ≤ c.place
     → IsFirstCode (Has (c ∷ past)) from ⊎ StandsIn (Has (c ∷ past)) from to 0xb8
     → IsFirstCode (Has past) from ⊎ StandsIn (Has past) from to 0xb8
-group-shrinks c past from to far (inl firsts) = inl (λ place kind has. firsts place kind (inr has))
+group-shrinks c past from to far (inl firsts) = inl (λ place value has. firsts place value (inr has))
 group-shrinks c past from to far (inr it) = inr (stands-shrinks c past far it)
 
-counts-back : {place kind : ℕ} (c : Code) (past : List Code) (to : ℕ) → to ≤ c.place → place < to
-    → HasCode place kind (c ∷ past) → HasCode place kind past
+counts-back : {place value : ℕ} (c : Code) (past : List Code) (to : ℕ) → to ≤ c.place → place < to
+    → HasCode place value (c ∷ past) → HasCode place value past
 counts-back {place} c past to far before (inl new) = absurd (omega (arith, new.0, far, before))
 counts-back {place} c past to far before (inr old) = old
 
 counts-grow : {from to count : ℕ} (c : Code) (past : List Code) → to ≤ c.place
-    → Counts (Has past) IsSliceKind from to count → Counts (Has (c ∷ past)) IsSliceKind from to count
+    → Counts (Has past) IsSliceValue from to count → Counts (Has (c ∷ past)) IsSliceValue from to count
 counts-grow {from} {to} c past far =
-    counts-same (λ place kind before has. inr has) (λ place kind before has. counts-back c past to far before has)
+    counts-same (λ place value before has. inr has) (λ place value before has. counts-back c past to far before has)
 
 closed-grows : (c : Code) (past : List Code) (unit : PictureUnit) → unit.to ≤ c.place → Closed past unit
     → Closed (c ∷ past) unit
@@ -366,21 +366,21 @@ closed-call {s = false} {h = true} {q = false} {c} e here apart closed = tt
 closed-call {s = false} {h = false} {c} e here apart closed = tt
 
 closed-step : (c d : Code) (past : List Code) → OpenOf (d ∷ past) → Spaced (d ∷ past) → Below c (d ∷ past)
-    → AllClosed (c ∷ (d ∷ past)) c.place (units_in (calls_at (tally_of (d ∷ past)) c.place c.kind))
+    → AllClosed (c ∷ (d ∷ past)) c.place (units_in (calls_at (tally_of (d ∷ past)) c.place c.value))
 unfolding calls_at
 closed-step c d past open_ spaced below =
     let older : List Code = d ∷ past in
     let t = tally_of older in
     let unit = unit_at t c.place in
-    closed-call (eqb (slice_count older) 0) (ends_at t c.place) (slice-apart c.kind)
+    closed-call (eqb (slice_count older) 0) (ends_at t c.place) (slice-apart c.value)
     (λ head some. (
       closed-grows c older unit (omega arith)
           (close older c.place open_ spaced (ltb-true 0 (slice_count older) some) below),
       omega arith,
     ))
 
-closed-first : (c : Code) → c.kind ≡ 0xb3
-    → AllClosed (c ∷ []) c.place (units_in (calls_at (tally_of []) c.place c.kind))
+closed-first : (c : Code) → c.value ≡ 0xb3
+    → AllClosed (c ∷ []) c.place (units_in (calls_at (tally_of []) c.place c.value))
 unfolding calls_at
 closed-first c is =
     subst (λ m. AllClosed (c ∷ []) c.place
@@ -391,18 +391,18 @@ calls-closed : (c : Code) (past : List Code) → first_fault (c ∷ past) ≡ No
     → AllClosed (c ∷ past) c.place (units_in (calls_of (c ∷ past)))
 calls-closed c [] accepted spaced =
     subst (λ (l : List Call). AllClosed (c ∷ []) c.place (units_in l))
-    (sym (calls-cons c [] ∙ ap (λ (l : List Call). l ++ calls_at (tally_of []) c.place c.kind) calls-nil))
+    (sym (calls-cons c [] ∙ ap (λ (l : List Call). l ++ calls_at (tally_of []) c.place c.value) calls-nil))
     (closed-first c (first-is c accepted))
 calls-closed c (d ∷ past) accepted spaced =
     let older : List Code = d ∷ past in
-    let calls = calls_at (tally_of older) c.place c.kind in
+    let calls = calls_at (tally_of older) c.place c.value in
     let below = all-below older spaced.1 spaced.0 in
     let before = calls-closed d past (accepted-older c older accepted) spaced.1 in
     subst (λ (l : List PictureUnit). AllClosed (c ∷ older) c.place l)
     (sym (ap units_in (calls-cons c older) ∙ units_in-append (calls_of older) calls))
     (all-append (c ∷ older) c.place (units_in (calls_of older)) (units_in calls)
     (all-grow c older d.place (units_in (calls_of older))
-    (omega (arith, below d.place d.kind (inl (refl, refl)))) before)
+    (omega (arith, below d.place d.value (inl (refl, refl)))) before)
     (closed-step c d past (open-codes d past (accepted-older c older accepted) spaced.1) spaced.1 below))
 
 pub whole-closed : (past : List Code) (n : ℕ) → first_fault past ≡ None → end_fault past n ≡ None → Spaced past
@@ -419,4 +419,4 @@ whole-closed (c ∷ past) n accepted ended spaced after =
     (sym (units_in-append (calls_of all) (unit_end (tally_of all) n)))
     (all-append all n (units_in (calls_of all)) (units_in (unit_end (tally_of all) n))
     (all-later all c.place n (units_in (calls_of all))
-    (omega (arith, below c.place c.kind (inl (refl, refl)))) (calls-closed c past accepted spaced)) last)
+    (omega (arith, below c.place c.value (inl (refl, refl)))) (calls-closed c past accepted spaced)) last)

@@ -14,7 +14,7 @@ use Rattle.mpeg_scan.specs.declared.units.Unit.{Unit as PictureUnit}
 use Rattle.mpeg_scan.specs.Codes.{codes_of}
 use Rattle.mpeg_scan.specs.Words.{is_head, is_slice, tally_of, slice_count, film_slice_count, latest_picture}
 use Rattle.mpeg_scan.specs.Words.{picture_count, before_group_of, starts_group, header_of, latest_slice}
-use Rattle.mpeg_scan.specs.Faults.{first_refusal, kind_fault, second_fault, first_slice_fault}
+use Rattle.mpeg_scan.specs.Faults.{first_refusal, value_fault, second_fault, first_slice_fault}
 use Rattle.mpeg_scan.specs.Faults.{count_fault, code_fault, head_fault, left_without_slices}
 use Rattle.mpeg_scan.specs.Faults.{first_fault, end_fault, last_fault, latest_fault, refusal_of}
 use Rattle.mpeg_scan.specs.Calls.{Call, head_call, slice_call, unit_call, unit_at, unit_end}
@@ -269,25 +269,25 @@ a-picture : (t : Tally) (place : ℕ) (o : Option Header) → head_fault t place
 a-picture t place None e = absurd (cc)
 a-picture t place (Some p) e = refl
 
-pub second-none : (t : Tally) (kind : ℕ) → second_fault t kind ≡ None → is_head kind ≡ true → t.slices ≡ 0
+pub second-none : (t : Tally) (value : ℕ) → second_fault t value ≡ None → is_head value ≡ true → t.slices ≡ 0
     → is_some t.picture ≡ false
-second-none t kind e head none =
+second-none t value e head none =
     no-picture t.picture
-    (sym (cond-true (is_head kind && eqb t.slices 0) (option_map left_without_slices t.picture) None
-    (and_from (is_head kind) (eqb t.slices 0) head (eq-eqb t.slices 0 none))) ∙ e)
+    (sym (cond-true (is_head value && eqb t.slices 0) (option_map left_without_slices t.picture) None
+    (and_from (is_head value) (eqb t.slices 0) head (eq-eqb t.slices 0 none))) ∙ e)
 
-pub first-some : (t : Tally) (place kind : ℕ) → first_slice_fault t place kind ≡ None → is_slice kind ≡ true
+pub first-some : (t : Tally) (place value : ℕ) → first_slice_fault t place value ≡ None → is_slice value ≡ true
     → t.slices ≡ 0 → is_some t.picture ≡ true
-first-some t place kind e slice none =
+first-some t place value e slice none =
     a-picture t place t.picture
-    (sym (cond-true (is_slice kind && eqb t.slices 0) (head_fault t place t.picture) None
-    (and_from (is_slice kind) (eqb t.slices 0) slice (eq-eqb t.slices 0 none))) ∙ e)
+    (sym (cond-true (is_slice value && eqb t.slices 0) (head_fault t place t.picture) None
+    (and_from (is_slice value) (eqb t.slices 0) slice (eq-eqb t.slices 0 none))) ∙ e)
 
-pub second-accepted : (t : Tally) (place kind : ℕ) → code_fault t place kind ≡ None → second_fault t kind ≡ None
-second-accepted t place kind e =
-    otherwise-first (second_fault t kind) (first_refusal (first_slice_fault t place kind) (count_fault t place kind))
-    (otherwise-second (kind_fault t place kind)
-    (first_refusal (second_fault t kind) (first_refusal (first_slice_fault t place kind) (count_fault t place kind))) e)
+pub second-accepted : (t : Tally) (place value : ℕ) → code_fault t place value ≡ None → second_fault t value ≡ None
+second-accepted t place value e =
+    otherwise-first (second_fault t value) (first_refusal (first_slice_fault t place value) (count_fault t place value))
+    (otherwise-second (value_fault t place value)
+    (first_refusal (second_fault t value) (first_refusal (first_slice_fault t place value) (count_fault t place value))) e)
 
 -- what these codes sum up to
 abbrev sums_of : List Code → Sums
@@ -303,22 +303,22 @@ sums_of past = record {
 pub empty-count : (n : ℕ) → ltb 0 n ≡ false → n ≡ 0
 empty-count n h = let none = ltb-false 0 n h in omega arith
 
-pub code-fits : (c d : Code) (past : List Code) → code_fault (tally_of (d ∷ past)) c.place c.kind ≡ None
-    → CodeFits (is_slice c.kind) (is_head c.kind) (ltb 0 (slice_count (d ∷ past))) (is_some (latest_picture (d ∷ past)))
+pub code-fits : (c d : Code) (past : List Code) → code_fault (tally_of (d ∷ past)) c.place c.value ≡ None
+    → CodeFits (is_slice c.value) (is_head c.value) (ltb 0 (slice_count (d ∷ past))) (is_some (latest_picture (d ∷ past)))
 code-fits c d past e =
     let t = tally_of (d ∷ past) in
     record {
-      apart = slice-apart c.kind;
-      alone = λ head bare. second-none t c.kind (second-accepted t c.place c.kind e) head
+      apart = slice-apart c.value;
+      alone = λ head bare. second-none t c.value (second-accepted t c.place c.value e) head
           (empty-count (slice_count (d ∷ past)) bare);
       with_picture =
-          λ slice bare. first-some t c.place c.kind (first_slice-accepted t c.place c.kind e) slice
+          λ slice bare. first-some t c.place c.value (first_slice-accepted t c.place c.value e) slice
           (empty-count (slice_count (d ∷ past)) bare);
     }
 
 code-count : (c d : Code) (past : List Code) (k : Count)
-    → code_fault (tally_of (d ∷ past)) c.place c.kind ≡ None → Agrees (sums_of (d ∷ past)) k
-    → Counted k (calls_at (tally_of (d ∷ past)) c.place c.kind) (sums_of (c ∷ (d ∷ past)))
+    → code_fault (tally_of (d ∷ past)) c.place c.value ≡ None → Agrees (sums_of (d ∷ past)) k
+    → Counted k (calls_at (tally_of (d ∷ past)) c.place c.value) (sums_of (c ∷ (d ∷ past)))
 unfolding calls_at
 code-count c d past k e agrees =
     let older : List Code = d ∷ past in
@@ -327,44 +327,44 @@ code-count c d past k e agrees =
     let q = ltb 0 n in
     let u = unit_at t c.place in
     let s : Sums = sums_of (c ∷ older) in
-    let code : NextCode (eqb c.kind 0) (eqb c.kind 0xb3) (eqb c.kind 0xb8) (is_slice c.kind) q (sums_of older) =
+    let code : NextCode (eqb c.value 0) (eqb c.value 0xb3) (eqb c.value 0xb8) (is_slice c.value) q (sums_of older) =
     record {
       fits = code-fits c d past e;
-      other = λ group. ap (λ m. eqb m 0) (eqb-true c.kind 0xb8 group);
+      other = λ group. ap (λ m. eqb m 0) (eqb-true c.value 0xb8 group);
       some = ltb-true 0 n;
       none = empty-count n;
     } in
     let next : IsNext u (sums_of older) = record { first = refl; slices = refl; group = refl; shown = refl } in
     let raw = raw-count (ends_at t c.place) agrees code next in
     let calls : List Call =
-    cond (is_slice c.kind) (cond (not q) (head_call t.unit c.place ∷ []) (slice_call t.slice c.place ∷ []))
-    (cond (is_head c.kind && q) (slice_call t.slice c.place ∷ unit_call u ∷ []) []) in
-    let rest : Bool = cond (is_head c.kind && q) false (starts_group older) in
+    cond (is_slice c.value) (cond (not q) (head_call t.unit c.place ∷ []) (slice_call t.slice c.place ∷ []))
+    (cond (is_head c.value && q) (slice_call t.slice c.place ∷ unit_call u ∷ []) []) in
+    let rest : Bool = cond (is_head c.value && q) false (starts_group older) in
     let with_picture =
-    subst (λ b. Counted k calls (record s { pictured = b; starts = cond (eqb c.kind 0xb8) true rest }))
-    (sym (some-cond (eqb c.kind 0) (is_head c.kind && q) (header_of c) (latest_picture older))) raw in
+    subst (λ b. Counted k calls (record s { pictured = b; starts = cond (eqb c.value 0xb8) true rest }))
+    (sym (some-cond (eqb c.value 0) (is_head c.value && q) (header_of c) (latest_picture older))) raw in
     let with_starts =
-    subst (λ b. Counted k calls (record s { starts = cond b true rest })) (sym (or-false (eqb c.kind 0xb8)))
+    subst (λ b. Counted k calls (record s { starts = cond b true rest })) (sym (or-false (eqb c.value 0xb8)))
     with_picture in
     subst (λ b. Counted k
-    (cond (is_slice c.kind) (cond b (head_call t.unit c.place ∷ []) (slice_call t.slice c.place ∷ []))
-    (cond (is_head c.kind && q) (slice_call t.slice c.place ∷ unit_call u ∷ []) [])) s)
+    (cond (is_slice c.value) (cond b (head_call t.unit c.place ∷ []) (slice_call t.slice c.place ∷ []))
+    (cond (is_head c.value && q) (slice_call t.slice c.place ∷ unit_call u ∷ []) [])) s)
     (sym (none-or-some n)) with_starts
 
--- the sums of one code of a kind
+-- the sums of one code of a value
 abbrev first_sums : Code → ℕ → Sums
-first_sums c kind = record {
-  pictures = cond (eqb kind 0) (0 + 1) 0;
-  all = cond (is_slice kind) (0 + 1) 0;
-  slices = cond (is_head kind) 0 (cond (is_slice kind) (0 + 1) 0);
-  before = cond (eqb kind 0xb8) 0 0;
+first_sums c value = record {
+  pictures = cond (eqb value 0) (0 + 1) 0;
+  all = cond (is_slice value) (0 + 1) 0;
+  slices = cond (is_head value) 0 (cond (is_slice value) (0 + 1) 0);
+  before = cond (eqb value 0xb8) 0 0;
   pictured =
-      is_some (cond (eqb kind 0) (Some (header_of c)) (cond (true || (is_head kind && ltb 0 0)) None None));
-  starts = cond (eqb kind 0xb8 || true) true (cond (true || (is_head kind && ltb 0 0)) false false);
+      is_some (cond (eqb value 0) (Some (header_of c)) (cond (true || (is_head value && ltb 0 0)) None None));
+  starts = cond (eqb value 0xb8 || true) true (cond (true || (is_head value && ltb 0 0)) false false);
 }
 
-first-count : (c : Code) → c.kind ≡ 0xb3
-    → Counted no_count (calls_at (tally_of []) c.place c.kind) (sums_of (c ∷ []))
+first-count : (c : Code) → c.value ≡ 0xb3
+    → Counted no_count (calls_at (tally_of []) c.place c.value) (sums_of (c ∷ []))
 unfolding calls_at
 first-count c is =
     subst (λ m. Counted no_count
@@ -398,14 +398,14 @@ calls-counted : (c : Code) (past : List Code) → first_fault (c ∷ past) ≡ N
 calls-counted c [] accepted =
     let start = first-count c (first-is c accepted) in
     subst (λ (l : List Call). Counted no_count l (sums_of (c ∷ [])))
-    (sym (calls-cons c [] ∙ ap (λ (l : List Call). l ++ calls_at (tally_of []) c.place c.kind) calls-nil)) start
+    (sym (calls-cons c [] ∙ ap (λ (l : List Call). l ++ calls_at (tally_of []) c.place c.value) calls-nil)) start
 calls-counted c (d ∷ past) accepted =
     let before = calls-counted d past (accepted-older c (d ∷ past) accepted) in
     let more = code-count c d past before.count (code-accepted c (d ∷ past) accepted) before.agrees in record {
       count = more.count;
       count_is = ap (counts_after (Some no_count)) (calls-cons c (d ∷ past))
-          ∙ counts-append (Some no_count) (calls_of (d ∷ past)) (calls_at (tally_of (d ∷ past)) c.place c.kind)
-          ∙ ap (λ (o : Option Count). counts_after o (calls_at (tally_of (d ∷ past)) c.place c.kind)) before.count_is
+          ∙ counts-append (Some no_count) (calls_of (d ∷ past)) (calls_at (tally_of (d ∷ past)) c.place c.value)
+          ∙ ap (λ (o : Option Count). counts_after o (calls_at (tally_of (d ∷ past)) c.place c.value)) before.count_is
           ∙ more.count_is;
       agrees = more.agrees;
     }

@@ -17,7 +17,7 @@ use Rattle.mpeg_scan.specs.Calls.{unit_end}
 use Rattle.mpeg_scan.specs.Films.{IsFilm, units_in}
 use Rattle.mpeg_scan.specs.Tiles.{first_of}
 use Rattle.mpeg_scan.specs.Places.{HasCode, StandsAt}
-use Rattle.mpeg_scan.specs.Standard.{AnyKind, IsFirstCode, StandsThere}
+use Rattle.mpeg_scan.specs.Standard.{AnyValue, IsFirstCode, StandsThere}
 use Rattle.mpeg_scan.specs.Layout.{AreChained, BeginsSequence}
 use Rattle.mpeg_scan.proofs.StepLemmas.{accepted-older, otherwise-first, otherwise-second}
 use Rattle.mpeg_scan.proofs.StepLemmas.{calls-cons}
@@ -84,20 +84,20 @@ head-other true b c e = absurd (true≢false e)
 head-other false true c e = absurd (true≢false e)
 head-other false false c e = e
 
-slice-other : (kind : ℕ) → is_slice kind ≡ true → eqb kind 0xb8 ≡ false
-slice-other kind slice = head-other (eqb kind 0) (eqb kind 0xb3) (eqb kind 0xb8) (slice-apart kind slice)
+slice-other : (value : ℕ) → is_slice value ≡ true → eqb value 0xb8 ≡ false
+slice-other value slice = head-other (eqb value 0) (eqb value 0xb3) (eqb value 0xb8) (slice-apart value slice)
 
 first-step : (c d : Code) (past : List Code) (units : List PictureUnit) → FirstStarts units (starts_group (d ∷ past))
-    → FirstStarts (units ++ units_in (calls_at (tally_of (d ∷ past)) c.place c.kind)) (starts_group (c ∷ (d ∷ past)))
+    → FirstStarts (units ++ units_in (calls_at (tally_of (d ∷ past)) c.place c.value)) (starts_group (c ∷ (d ∷ past)))
 unfolding calls_at
 first-step c d past units first =
     let older : List Code = d ∷ past in
     let t = tally_of older in
-    let apart : SliceApart (is_slice c.kind) (is_head c.kind) (eqb c.kind 0xb8) =
-    record { no_head = slice-apart c.kind; no_group = slice-other c.kind } in
+    let apart : SliceApart (is_slice c.value) (is_head c.value) (eqb c.value 0xb8) =
+    record { no_head = slice-apart c.value; no_group = slice-other c.value } in
     raw-first (ltb 0 (slice_count older)) (eqb (slice_count older) 0) units (ends_at t c.place) apart first
 
-first-code : (c : Code) → c.kind ≡ 0xb3 → FirstStarts (units_in (calls_at (tally_of []) c.place c.kind))
+first-code : (c : Code) → c.value ≡ 0xb3 → FirstStarts (units_in (calls_at (tally_of []) c.place c.value))
     (starts_group (c ∷ []))
 unfolding calls_at
 first-code c is =
@@ -110,10 +110,10 @@ calls-first : (c : Code) (past : List Code) → first_fault (c ∷ past) ≡ Non
     → FirstStarts (units_in (calls_of (c ∷ past))) (starts_group (c ∷ past))
 calls-first c [] accepted =
     subst (λ (l : List Call). FirstStarts (units_in l) (starts_group (c ∷ [])))
-    (sym (calls-cons c [] ∙ ap (λ (l : List Call). l ++ calls_at (tally_of []) c.place c.kind) calls-nil))
+    (sym (calls-cons c [] ∙ ap (λ (l : List Call). l ++ calls_at (tally_of []) c.place c.value) calls-nil))
     (first-code c (first-is c accepted))
 calls-first c (d ∷ past) accepted =
-    let calls = calls_at (tally_of (d ∷ past)) c.place c.kind in
+    let calls = calls_at (tally_of (d ∷ past)) c.place c.value in
     subst (λ (l : List PictureUnit). FirstStarts l (starts_group (c ∷ (d ∷ past))))
     (sym (ap units_in (calls-cons c (d ∷ past)) ∙ units_in-append (calls_of (d ∷ past)) calls))
     (first-step c d past (units_in (calls_of (d ∷ past))) (calls-first d past (accepted-older c (d ∷ past) accepted)))
@@ -178,74 +178,74 @@ unfolding first_in
 first_in-place c [] = refl
 first_in-place c (d ∷ past) = first_in-place d past
 
-pub first_in-has : (c : Code) (past : List Code) → HasCode (first_in c past).place (first_in c past).kind (c ∷ past)
+pub first_in-has : (c : Code) (past : List Code) → HasCode (first_in c past).place (first_in c past).value (c ∷ past)
 unfolding first_in
 first_in-has c [] = inl (refl, refl)
 first_in-has c (d ∷ past) = inr (first_in-has d past)
 
-pub first-least : (c : Code) (past : List Code) (place kind : ℕ) → Spaced (c ∷ past)
-    → HasCode place kind (c ∷ past) → (first_in c past).place ≤ place
+pub first-least : (c : Code) (past : List Code) (place value : ℕ) → Spaced (c ∷ past)
+    → HasCode place value (c ∷ past) → (first_in c past).place ≤ place
 unfolding first_in
-first-least c [] place kind spaced (inl new) = omega (arith, new.0)
-first-least c [] place kind spaced (inr old) = absurd old
-first-least c (d ∷ past) place kind spaced (inl new) =
+first-least c [] place value spaced (inl new) = omega (arith, new.0)
+first-least c [] place value spaced (inr old) = absurd old
+first-least c (d ∷ past) place value spaced (inl new) =
     omega (
       arith,
       new.0,
-      first-least d past d.place d.kind spaced.1 (inl (refl, refl)),
-      all-below (d ∷ past) spaced.1 spaced.0 d.place d.kind (inl (refl, refl)),
+      first-least d past d.place d.value spaced.1 (inl (refl, refl)),
+      all-below (d ∷ past) spaced.1 spaced.0 d.place d.value (inl (refl, refl)),
     )
-first-least c (d ∷ past) place kind spaced (inr old) = first-least d past place kind spaced.1 old
+first-least c (d ∷ past) place value spaced (inr old) = first-least d past place value spaced.1 old
 
-pub first_in-kind : (c : Code) (past : List Code) → first_fault (c ∷ past) ≡ None → (first_in c past).kind ≡ 0xb3
+pub first_in-value : (c : Code) (past : List Code) → first_fault (c ∷ past) ≡ None → (first_in c past).value ≡ 0xb3
 unfolding first_in
-first_in-kind c [] accepted = first-is c accepted
-first_in-kind c (d ∷ past) accepted = first_in-kind d past (accepted-older c (d ∷ past) accepted)
+first_in-value c [] accepted = first-is c accepted
+first_in-value c (d ∷ past) accepted = first_in-value d past (accepted-older c (d ∷ past) accepted)
 
 pub first_in-rate : (c : Code) (past : List Code) → first_fault (c ∷ past) ≡ None
     → first_rate (c ∷ past) ≡ Some (rate_code (first_in c past))
 unfolding first_in
 first_in-rate c [] accepted =
-    ap (λ b. cond b (Some (rate_code c)) None) (eq-eqb c.kind 0xb3 (first-is c accepted))
+    ap (λ b. cond b (Some (rate_code c)) None) (eq-eqb c.value 0xb3 (first-is c accepted))
 first_in-rate c (d ∷ past) accepted =
     ap (λ (rate : Option ℕ). rate_after rate c) (first_in-rate d past (accepted-older c (d ∷ past) accepted))
 
-long-header : (rate : Option ℕ) (c : Code) (end : ℕ) → c.kind ≡ 0xb3 → header_fault rate c end ≡ None
+long-header : (rate : Option ℕ) (c : Code) (end : ℕ) → c.value ≡ 0xb3 → header_fault rate c end ≡ None
     → c.place + 12 ≤ end
 long-header rate c end is e =
-    let test : eqb c.kind 0xb3 ≡ true = eq-eqb c.kind 0xb3 is in
+    let test : eqb c.value 0xb3 ≡ true = eq-eqb c.value 0xb3 is in
     let judged =
     some-cond-none (ltb (end - c.place) 12) (ShortHeader c.place) (rate_fault rate c)
-    (sequence-judged (eqb c.kind 0xb3)
+    (sequence-judged (eqb c.value 0xb3)
     (cond (ltb (end - c.place) 12) (Some (ShortHeader c.place)) (rate_fault rate c))
-    (cond (eqb c.kind 0xb8) (cond (ltb (end - c.place) 8) (Some (ShortHeader c.place)) None)
-    (cond (eqb c.kind 0) (picture_fault c end) None)) test e) in
+    (cond (eqb c.value 0xb8) (cond (ltb (end - c.place) 8) (Some (ShortHeader c.place)) None)
+    (cond (eqb c.value 0) (picture_fault c end) None)) test e) in
     omega (arith, ltb-false (end - c.place) 12 judged.0)
 
 first-there : (bytes : List ℕ) (past : List Code) → codes_of (read_after [] bytes) ≡ past → Spaced past
     → end_fault past (length (read_after [] bytes)) ≡ None
-    → StandsThere (StandsAt bytes) (first_of past) AnyKind × IsFirstCode (StandsAt bytes) (first_of past)
+    → StandsThere (StandsAt bytes) (first_of past) AnyValue × IsFirstCode (StandsAt bytes) (first_of past)
 unfolding end_fault
 first-there bytes [] codes spaced ended = absurd (omega (arith, ended-none (tally_of []) ended))
 first-there bytes (c ∷ past) codes spaced ended =
     let f = first_in c past in
-    subst (λ p. StandsThere (StandsAt bytes) p AnyKind × IsFirstCode (StandsAt bytes) p) (sym (first_in-place c past)) (
+    subst (λ p. StandsThere (StandsAt bytes) p AnyValue × IsFirstCode (StandsAt bytes) p) (sym (first_in-place c past)) (
       (
-        f.kind,
+        f.value,
         (
-          (codes-stand bytes f.place f.kind).0
-              (subst (λ (l : List Code). HasCode f.place f.kind l) (sym codes) (first_in-has c past)),
+          (codes-stand bytes f.place f.value).0
+              (subst (λ (l : List Code). HasCode f.place f.value l) (sym codes) (first_in-has c past)),
           tt,
         ),
       ),
-      λ place kind has. first-least c past place kind spaced
-          (subst (λ (l : List Code). HasCode place kind l) codes ((codes-stand bytes place kind).1 has)),
+      λ place value has. first-least c past place value spaced
+          (subst (λ (l : List Code). HasCode place value l) codes ((codes-stand bytes place value).1 has)),
     )
 
 -- the first unit begins at the first code
 pub film-first : (bytes : List ℕ) (rate : ℕ) (units : List PictureUnit) (starts : List ℕ)
     → IsFilm bytes rate units starts
-    → StandsThere (StandsAt bytes) (first_of (codes_of (read_after [] bytes))) AnyKind
+    → StandsThere (StandsAt bytes) (first_of (codes_of (read_after [] bytes))) AnyValue
     × IsFirstCode (StandsAt bytes) (first_of (codes_of (read_after [] bytes)))
 film-first bytes rate units starts film =
     let r = read_after [] bytes in
@@ -306,7 +306,7 @@ codes-begin bytes (c ∷ past) codes accepted ended headers =
     let place : first_of (c ∷ past) ≡ f.place = first_in-place c past in
     let has : HasCode f.place 0xb3 (codes_of r) =
     subst (λ (l : List Code). HasCode f.place 0xb3 l) (sym codes)
-    (subst (λ k. HasCode f.place k (c ∷ past)) (first_in-kind c past accepted) (first_in-has c past)) in
+    (subst (λ k. HasCode f.place k (c ∷ past)) (first_in-value c past accepted) (first_in-has c past)) in
     let same : Same bytes r = record { byte = at-bytes bytes; long = long } in
     let byte : get_or f.header 3 0 ≡ get_or bytes (f.place + 4 + 3) 0 =
     header-byte 3 same (omega arith) (omega (arith, header.long)) header.is in

@@ -20,7 +20,7 @@ use Rattle.mpeg_scan.proofs.CountLemmas.{CodeFits, code-fits, some-cond}
 abbrev pub phase_by : Bool → Bool → Phase
 phase_by q has = cond q in_slices (cond has after_picture in_head)
 
--- a code after these, by the tests on its kind
+-- a code after these, by the tests on its value
 abbrev pub raw_next : Phase → Bool → Bool → Bool → Option Phase
 raw_next nowhere t0 h s = None
 raw_next in_head t0 h s = cond t0 (Some after_picture) (cond s None (Some in_head))
@@ -28,11 +28,11 @@ raw_next after_picture t0 h s = cond h None (cond s (Some in_slices) (Some after
 raw_next in_slices t0 h s = cond t0 (Some after_picture) (cond h (Some in_head) (Some in_slices))
 
 -- next_phase at a phase that isn't the first, by those tests
-next-raw : (q has : Bool) (kind : ℕ)
-    → next_phase (phase_by q has) kind ≡ raw_next (phase_by q has) (eqb kind 0) (is_head kind) (is_slice kind)
-next-raw true has kind = refl
-next-raw false true kind = refl
-next-raw false false kind = refl
+next-raw : (q has : Bool) (value : ℕ)
+    → next_phase (phase_by q has) value ≡ raw_next (phase_by q has) (eqb value 0) (is_head value) (is_slice value)
+next-raw true has value = refl
+next-raw false true value = refl
+next-raw false false value = refl
 
 raw-phase : {s q has : Bool} (t0 x : Bool) (n : ℕ) → ltb 0 n ≡ q → CodeFits s (t0 || x) q has
     → raw_next (phase_by q has) t0 (t0 || x) s
@@ -57,19 +57,19 @@ raw-phase {s = false} {q = false} {has = false} false false n is fits = ap (λ b
 abbrev pub phase_of : List Code → Phase
 phase_of past = phase_by (ltb 0 (slice_count past)) (is_some (latest_picture past))
 
-phase-step : (c d : Code) (past : List Code) → code_fault (tally_of (d ∷ past)) c.place c.kind ≡ None
-    → next_phase (phase_of (d ∷ past)) c.kind ≡ Some (phase_of (c ∷ (d ∷ past)))
+phase-step : (c d : Code) (past : List Code) → code_fault (tally_of (d ∷ past)) c.place c.value ≡ None
+    → next_phase (phase_of (d ∷ past)) c.value ≡ Some (phase_of (c ∷ (d ∷ past)))
 phase-step c d past e =
     let older : List Code = d ∷ past in
     let t = tally_of older in
     let n = slice_count older in
     let q = ltb 0 n in
-    next-raw q (is_some (latest_picture older)) c.kind
-    ∙ raw-phase (eqb c.kind 0) (eqb c.kind 0xb3 || eqb c.kind 0xb8) n refl (code-fits c d past e)
+    next-raw q (is_some (latest_picture older)) c.value
+    ∙ raw-phase (eqb c.value 0) (eqb c.value 0xb3 || eqb c.value 0xb8) n refl (code-fits c d past e)
     ∙ ap (λ b. Some (phase_by (ltb 0 (slice_count (c ∷ older))) b))
-    (sym (some-cond (eqb c.kind 0) (is_head c.kind && q) (header_of c) (latest_picture older)))
+    (sym (some-cond (eqb c.value 0) (is_head c.value && q) (header_of c) (latest_picture older)))
 
-first-phase : (c : Code) → c.kind ≡ 0xb3 → next_phase nowhere c.kind ≡ Some (phase_of (c ∷ []))
+first-phase : (c : Code) → c.value ≡ 0xb3 → next_phase nowhere c.value ≡ Some (phase_of (c ∷ []))
 first-phase c is =
     subst (λ m. next_phase nowhere m
     ≡ Some (phase_by (ltb 0 (cond (is_head m) 0 (cond (is_slice m) (0 + 1) 0)))
@@ -79,7 +79,7 @@ phase-is : (c : Code) (past : List Code) → first_fault (c ∷ past) ≡ None
     → phase_after (c ∷ past) ≡ Some (phase_of (c ∷ past))
 phase-is c [] accepted = first-phase c (first-is c accepted)
 phase-is c (d ∷ past) accepted =
-    ap (λ (o : Option Phase). then_phase o c.kind) (phase-is d past (accepted-older c (d ∷ past) accepted))
+    ap (λ (o : Option Phase). then_phase o c.value) (phase-is d past (accepted-older c (d ∷ past) accepted))
     ∙ phase-step c d past (code-accepted c (d ∷ past) accepted)
 
 whole-phase : (past : List Code) (n : ℕ) → first_fault past ≡ None → end_fault past n ≡ None

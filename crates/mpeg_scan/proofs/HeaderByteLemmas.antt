@@ -18,7 +18,7 @@ pub record HeaderIs (r : List ℕ) (stop : ℕ) (c : Code) : Type 0 where
   pub count : length c.header ≡ min 5 (stop - (c.place + 4))
   pub each : (k : ℕ) → k < length c.header → get_or c.header k 0 ≡ at r (c.place + 4 + k)
 
--- those of the latest code go as far as this place, and each other one's to the kind of the code after it
+-- those of the latest code go as far as this place, and each other one's to the value of the code after it
 abbrev pub HeadersAre : List ℕ → ℕ → List Code → Type 0
 HeadersAre r stop [] = Unit {0}
 HeadersAre r stop (c ∷ past) = HeaderIs r stop c × HeadersAre r (c.place + 4) past
@@ -85,7 +85,7 @@ pub codes-headers : (r : List ℕ) → HeadersAre r (length r) (codes_of r)
 codes-headers [] = subst (λ (l : List Code). HeadersAre [] 0 l) (sym codes-none) tt
 codes-headers (x ∷ r) = elim (cases_Bool (is_whole (latest_prefix r))) [
   | inl e ↦ (let ends = (whole-prefixed r e).ends in
-      let new : Code = record { place = length r - 3; kind = x; header = [] } in
+      let new : Code = record { place = length r - 3; value = x; header = [] } in
       let stop : suc (length r) ≡ new.place + 4 = omega (arith, ends) in
       let one : HeaderIs (x ∷ r) (suc (length r)) new =
       record {

@@ -15,9 +15,9 @@ use Rattle.mpeg_scan.specs.Faults.{rate_fault}
 use Rattle.mpeg_scan.specs.Refusals.{HeaderRefusal, IsBadRate, IsBadType, IsLatest, IsOtherRate}
 use Rattle.mpeg_scan.specs.Refusals.{IsSequence, IsShortHeader, Otherwise, has_vectors}
 use Rattle.mpeg_scan.specs.Refusals.{header_bytes, picture_rate}
-use Rattle.mpeg_scan.specs.Standard.{IsHeadKind, NoneIn, picture_coding_type}
+use Rattle.mpeg_scan.specs.Standard.{IsHeadValue, NoneIn, picture_coding_type}
 use Rattle.mpeg_scan.proofs.BoundLemmas.{older-judged}
-use Rattle.mpeg_scan.proofs.FirstLemmas.{AreJudged, first_in, first_in-has, first_in-kind}
+use Rattle.mpeg_scan.proofs.FirstLemmas.{AreJudged, first_in, first_in-has, first_in-value}
 use Rattle.mpeg_scan.proofs.FirstLemmas.{first_in-rate, first_in-header, first-least}
 use Rattle.mpeg_scan.proofs.StepLemmas.{accepted-older}
 use Rattle.mpeg_scan.proofs.HeaderByteLemmas.{Same, HeaderIs, HeadersAre, header-byte}
@@ -138,64 +138,64 @@ pub record Header (Has : ℕ → ℕ →
   pub fits : Fits bytes at c
   pub rate_is : RateIs Has bytes c.place rate
 
-kind-is : {Has : ℕ → ℕ → Type 0} {bytes : List ℕ} {c : Code} {past : List Code} {at : ℕ} {rate : Option ℕ}
-    {place kind : ℕ} →
-    Header Has bytes c past at rate → IsLatest Has place kind at → (c.place ≡ place)
-    × (c.kind ≡ kind)
-kind-is {Has} {c} {at} {place} h l =
+value-is : {Has : ℕ → ℕ → Type 0} {bytes : List ℕ} {c : Code} {past : List Code} {at : ℕ} {rate : Option ℕ}
+    {place value : ℕ} →
+    Header Has bytes c past at rate → IsLatest Has place value at → (c.place ≡ place)
+    × (c.value ≡ value)
+value-is {Has} {c} {at} {place} h l =
     latest-is h.knows h.spaced l
 
-latest-kind : {Has : ℕ → ℕ → Type 0} {bytes : List ℕ} {c : Code} {past : List Code} {at : ℕ} {rate : Option ℕ}
-    {kind : ℕ} →
-    Header Has bytes c past at rate → c.kind ≡ kind → IsLatest Has c.place kind at
-latest-kind {Has} {c} {past} {at} h is =
+latest-value : {Has : ℕ → ℕ → Type 0} {bytes : List ℕ} {c : Code} {past : List Code} {at : ℕ} {rate : Option ℕ}
+    {value : ℕ} →
+    Header Has bytes c past at rate → c.value ≡ value → IsLatest Has c.place value at
+latest-value {Has} {c} {past} {at} h is =
     subst (λ k. IsLatest Has c.place k at) is (latest-new Has c past at h.knows h.spaced)
 
 no-rate : {Has : ℕ → ℕ → Type 0} {bytes : List ℕ} {c : Code} {past : List Code} {at : ℕ} {rate : Option ℕ} →
-    Header Has bytes c past at rate → (c.kind ≡ 0xb3 → ⊥) → (f : FilmFault) →
+    Header Has bytes c past at rate → (c.value ≡ 0xb3 → ⊥) → (f : FilmFault) →
     IsBadRate Has bytes at f → ⊥
 no-rate {Has} {c} {at} h other f p =
-    other (kind-is h p.latest).1
+    other (value-is h p.latest).1
 
 no-type : {Has : ℕ → ℕ → Type 0} {bytes : List ℕ} {c : Code} {past : List Code} {at : ℕ} {rate : Option ℕ} →
-    Header Has bytes c past at rate → (c.kind ≡ 0 → ⊥) → (f : FilmFault) →
+    Header Has bytes c past at rate → (c.value ≡ 0 → ⊥) → (f : FilmFault) →
     IsBadType Has bytes at f → ⊥
 no-type {Has} {c} {at} h other f p =
-    other (kind-is h p.latest).1
+    other (value-is h p.latest).1
 
 -- the fewest bytes of a header
 short-new : {Has : ℕ → ℕ → Type 0} {bytes : List ℕ} {c : Code} {past : List Code} {at : ℕ} {rate : Option ℕ}
-    {kind : ℕ} →
-    Header Has bytes c past at rate → c.kind ≡ kind → IsHeadKind kind →
-    at < c.place + header_bytes bytes c.place kind →
+    {value : ℕ} →
+    Header Has bytes c past at rate → c.value ≡ value → IsHeadValue value →
+    at < c.place + header_bytes bytes c.place value →
     IsShortHeader Has bytes at (ShortHeader c.place)
-short-new {Has} {c} {at} {kind} h is head short = record {
+short-new {Has} {c} {at} {value} h is head short = record {
   place = c.place;
-  kind = kind;
-  latest = latest-kind h is;
+  value = value;
+  latest = latest-value h is;
   head = head;
   short = short;
   is = refl;
 }
 
 record ShortHere (bytes : List ℕ) (c : Code) (at : ℕ) (f : FilmFault) : Type 0 where
-  short : at < c.place + header_bytes bytes c.place c.kind
+  short : at < c.place + header_bytes bytes c.place c.value
   is : f ≡ ShortHeader c.place
 
 short-here : {Has : ℕ → ℕ → Type 0} {bytes : List ℕ} {c : Code} {past : List Code} {at : ℕ} {rate : Option ℕ} →
     Header Has bytes c past at rate → (f : FilmFault) → IsShortHeader Has bytes at f →
     ShortHere bytes c at f
 short-here {Has} {bytes} {c} {at} h f p =
-    let same = kind-is h p.latest in record {
+    let same = value-is h p.latest in record {
       short = subst (λ k.
           at < c.place
           + header_bytes bytes c.place k) (sym same.1) (subst (λ v.
-          at < v + header_bytes bytes v p.kind) (sym same.0) p.short);
+          at < v + header_bytes bytes v p.value) (sym same.0) p.short);
       is = p.is ∙ ap ShortHeader (sym same.0);
     }
 
-short-at : {bytes : List ℕ} {c : Code} {at kind : ℕ} {f : FilmFault} → c.kind ≡ kind →
-    ShortHere bytes c at f → at < c.place + header_bytes bytes c.place kind
+short-at : {bytes : List ℕ} {c : Code} {at value : ℕ} {f : FilmFault} → c.value ≡ value →
+    ShortHere bytes c at f → at < c.place + header_bytes bytes c.place value
 short-at {bytes} {c} {at} is s =
     subst (λ k. at < c.place + header_bytes bytes c.place k) is s.short
 
@@ -203,20 +203,20 @@ abbrev Refused : (ℕ → ℕ → Type 0) → List ℕ → ℕ → Option FilmFa
 Refused Has bytes at o = Decides (HeaderRefusal Has bytes at) o
 
 sequence-decides : {Has : ℕ → ℕ → Type 0} {bytes : List ℕ} {c : Code} {past : List Code} {at : ℕ} {rate : Option ℕ} →
-    Header Has bytes c past at rate → c.kind ≡ 0xb3
+    Header Has bytes c past at rate → c.value ≡ 0xb3
     → Refused Has bytes at
     (cond (ltb (at - c.place) 12) (Some (ShortHeader c.place)) (rate_fault rate c))
 sequence-decides {Has} {bytes} {c} {past} {at} {rate} h is =
     let short = short-here h in
     both-cond {P = IsShortHeader Has bytes at} {Q = Otherwise (IsBadRate Has bytes at) (IsBadType Has bytes at)}
     {b = ltb (at - c.place) 12} {h = ShortHeader c.place} {o = rate_fault rate c}
-    (λ e. short-new {Has = Has} {bytes = bytes} {c = c} {past = past} {at = at} {rate = rate} {kind = 0xb3} h is
+    (λ e. short-new {Has = Has} {bytes = bytes} {c = c} {past = past} {at = at} {rate = rate} {value = 0xb3} h is
     (inr (inl refl))
     (omega (arith, ltb-true (at - c.place) 12 e)))
     (λ g p. (
       lt-ltb (at - c.place) 12 (omega (
         arith,
-        short-at {bytes = bytes} {c = c} {at = at} {kind = 0xb3} {f = g} is
+        short-at {bytes = bytes} {c = c} {at = at} {value = 0xb3} {f = g} is
             (short g p),
       )),
       (short g p).is,
@@ -228,14 +228,14 @@ sequence-decides {Has} {bytes} {c} {past} {at} {rate} h is =
     || (ltb 8 (rate_code c) || differs rate (rate_code c))) (BadRate c.place (rate_code c))
     (λ t. record {
       place = c.place;
-      latest = latest-kind {Has = Has} {bytes = bytes} {c = c} {past = past} {at = at} {rate = rate} {kind = 0xb3} h is;
+      latest = latest-value {Has = Has} {bytes = bytes} {c = c} {past = past} {at = at} {rate = rate} {value = 0xb3} h is;
       bad = bad-rate {Has = Has} {bytes = bytes} {place = c.place} {rate = rate} {its = rate_code c} its h.rate_is
           (rate-parts (eqb (rate_code c) 0) (ltb 8 (rate_code c)) (differs rate (rate_code c)) t);
       is = ap (BadRate c.place) its;
     })
     (λ g p. let same =
-    kind-is {Has = Has} {bytes = bytes} {c = c} {past = past} {at = at} {rate = rate} {place = p.place}
-    {kind = 0xb3} h p.latest in (
+    value-is {Has = Has} {bytes = bytes} {c = c} {past = past} {at = at} {rate = rate} {place = p.place}
+    {value = 0xb3} h p.latest in (
       rate-whole (eqb (rate_code c) 0) (ltb 8 (rate_code c)) (differs rate (rate_code c))
           (rate-bad {Has = Has} {bytes = bytes} {place = c.place} {rate = rate} {its = rate_code c} its h.rate_is
           (subst (λ v. (picture_rate bytes v ≡ 0)
@@ -246,19 +246,19 @@ sequence-decides {Has} {bytes} {c} {past} {at} {rate} h is =
     (no-type h (λ e. absurd (omega (arith, e, is)))))
 
 group-decides : {Has : ℕ → ℕ → Type 0} {bytes : List ℕ} {c : Code} {past : List Code} {at : ℕ} {rate : Option ℕ} →
-    Header Has bytes c past at rate → c.kind ≡ 0xb8
+    Header Has bytes c past at rate → c.value ≡ 0xb8
     → Refused Has bytes at (cond (ltb (at - c.place) 8) (Some (ShortHeader c.place)) None)
 group-decides {Has} {bytes} {c} {past} {at} {rate} h is =
     let short = short-here h in
     both-cond {P = IsShortHeader Has bytes at} {Q = Otherwise (IsBadRate Has bytes at) (IsBadType Has bytes at)}
     {b = ltb (at - c.place) 8} {h = ShortHeader c.place} {o = None}
-    (λ e. short-new {Has = Has} {bytes = bytes} {c = c} {past = past} {at = at} {rate = rate} {kind = 0xb8} h is
+    (λ e. short-new {Has = Has} {bytes = bytes} {c = c} {past = past} {at = at} {rate = rate} {value = 0xb8} h is
     (inr (inr refl))
     (omega (arith, ltb-true (at - c.place) 8 e)))
     (λ g p. (
       lt-ltb (at - c.place) 8 (omega (
         arith,
-        short-at {bytes = bytes} {c = c} {at = at} {kind = 0xb8} {f = g} is
+        short-at {bytes = bytes} {c = c} {at = at} {value = 0xb8} {f = g} is
             (short g p),
       )),
       (short g p).is,
@@ -288,11 +288,11 @@ type-bad true t e (inl none) =
 type-bad true t e (inr many) =
     absurd (omega (arith, many, leb-true t 4 (and_parts (leb 1 t) (leb t 4) e).1))
 
-no-kind : (kind : ℕ) → eqb kind 0xb3 ≡ false → eqb kind 0xb8 ≡ false → eqb kind 0 ≡ false →
-    IsHeadKind kind → ⊥
-no-kind kind a b z (inl e) = true≢false (sym (eq-eqb kind 0 e) ∙ z)
-no-kind kind a b z (inr (inl e)) = true≢false (sym (eq-eqb kind 0xb3 e) ∙ a)
-no-kind kind a b z (inr (inr e)) = true≢false (sym (eq-eqb kind 0xb8 e) ∙ b)
+no-value : (value : ℕ) → eqb value 0xb3 ≡ false → eqb value 0xb8 ≡ false → eqb value 0 ≡ false →
+    IsHeadValue value → ⊥
+no-value value a b z (inl e) = true≢false (sym (eq-eqb value 0 e) ∙ z)
+no-value value a b z (inr (inl e)) = true≢false (sym (eq-eqb value 0xb3 e) ∙ a)
+no-value value a b z (inr (inr e)) = true≢false (sym (eq-eqb value 0xb8 e) ∙ b)
 
 flip : (b : Bool) (f : FilmFault) → cond (not b) (Some f) None ≡ cond b None (Some f)
 flip true f = refl
@@ -335,7 +335,7 @@ less-room true place at e = omega (arith, e)
 less-room false place at e = omega (arith, e)
 
 picture-decides : {Has : ℕ → ℕ → Type 0} {bytes : List ℕ} {c : Code} {past : List Code} {at : ℕ} {rate : Option ℕ} →
-    Header Has bytes c past at rate → c.kind ≡ 0 → Refused Has bytes at (picture_fault c at)
+    Header Has bytes c past at rate → c.value ≡ 0 → Refused Has bytes at (picture_fault c at)
 picture-decides {Has} {bytes} {c} {at} h is =
     let short = short-here h in
     let d = at - c.place in
@@ -363,11 +363,11 @@ picture-decides {Has} {bytes} {c} {at} h is =
     (decide Kind (not good) (BadType c.place)
     (λ n. record {
       place = c.place;
-      latest = latest-kind h is;
+      latest = latest-value h is;
       bad = subst (λ v. (v ≡ 0) ⊎ (4 < v)) (same far) (type-good t (not-true good n));
       is = refl;
     })
-    (λ g p. let here = kind-is h p.latest in (
+    (λ g p. let here = value-is h p.latest in (
       not_from_false good (type-bad good t refl (subst (λ v. (v ≡ 0)
           ⊎ (4 < v)) (sym (same far)) (subst (λ v. (picture_coding_type bytes v ≡ 0)
           ⊎ (4 < picture_coding_type bytes v)) (sym here.0) p.bad))),
@@ -377,38 +377,38 @@ picture-decides {Has} {bytes} {c} {at} h is =
 -- ---- any header
 
 other-decides : {Has : ℕ → ℕ → Type 0} {bytes : List ℕ} {c : Code} {past : List Code} {at : ℕ} {rate : Option ℕ} →
-    Header Has bytes c past at rate → (IsHeadKind c.kind → ⊥) → (f : FilmFault) →
+    Header Has bytes c past at rate → (IsHeadValue c.value → ⊥) → (f : FilmFault) →
     HeaderRefusal Has bytes at f → ⊥
 other-decides {Has} {bytes} {c} {at} h other =
     neither (IsShortHeader Has bytes at)
     (Otherwise (IsBadRate Has bytes at) (IsBadType Has bytes at))
-    (λ f p. other (subst IsHeadKind
-    (sym (kind-is h p.latest).1) p.head))
+    (λ f p. other (subst IsHeadValue
+    (sym (value-is h p.latest).1) p.head))
     (neither (IsBadRate Has bytes at) (IsBadType Has bytes at)
     (no-rate h (λ e.
     other (inr (inl e)))) (no-type h (λ e. other (inl e))))
 
-kinds-decide : {three eight zero_is : Bool} {Has : ℕ → ℕ → Type 0} {bytes : List ℕ} {c : Code} {past : List Code}
-    {at : ℕ} {rate : Option ℕ} → eqb c.kind 0xb3 ≡ three →
-    eqb c.kind 0xb8 ≡ eight → eqb c.kind 0 ≡ zero_is → Header Has bytes c past at rate
+values-decide : {three eight zero_is : Bool} {Has : ℕ → ℕ → Type 0} {bytes : List ℕ} {c : Code} {past : List Code}
+    {at : ℕ} {rate : Option ℕ} → eqb c.value 0xb3 ≡ three →
+    eqb c.value 0xb8 ≡ eight → eqb c.value 0 ≡ zero_is → Header Has bytes c past at rate
     → Refused Has bytes at
     (cond three (cond (ltb (at - c.place) 12) (Some (ShortHeader c.place)) (rate_fault rate c))
     (cond eight (cond (ltb (at - c.place) 8) (Some (ShortHeader c.place)) None)
     (cond zero_is (picture_fault c at) None)))
-kinds-decide {three = true} {c} a b z h =
-    sequence-decides h (eqb-true c.kind 0xb3 a)
-kinds-decide {three = false} {eight = true} {c} a b z h =
-    group-decides h (eqb-true c.kind 0xb8 b)
-kinds-decide {three = false} {eight = false} {zero_is = true} {Has} {c} {at} a b z h =
-    picture-decides h (eqb-true c.kind 0 z)
-kinds-decide {three = false} {eight = false} {zero_is = false} {Has} {bytes} {c} {at} a b z h =
+values-decide {three = true} {c} a b z h =
+    sequence-decides h (eqb-true c.value 0xb3 a)
+values-decide {three = false} {eight = true} {c} a b z h =
+    group-decides h (eqb-true c.value 0xb8 b)
+values-decide {three = false} {eight = false} {zero_is = true} {Has} {c} {at} a b z h =
+    picture-decides h (eqb-true c.value 0 z)
+values-decide {three = false} {eight = false} {zero_is = false} {Has} {bytes} {c} {at} a b z h =
     none-of (HeaderRefusal Has bytes at)
-    (other-decides h (no-kind c.kind a b z))
+    (other-decides h (no-value c.value a b z))
 
 pub header-decides : {Has : ℕ → ℕ → Type 0} {bytes : List ℕ} {c : Code} {past : List Code} {at : ℕ} {rate : Option ℕ} →
     Header Has bytes c past at rate → Refused Has bytes at (header_fault rate c at)
 header-decides {Has} {c} {at} h =
-    kinds-decide
+    values-decide
     refl refl refl h
 
 -- ---- the header before a place
@@ -422,7 +422,7 @@ rate-known : {Has : ℕ → ℕ → Type 0} {bytes r : List ℕ} {past : List Co
     Knows Has past at → Spaced past → HeadersAre r (at + 4) past → first_fault past ≡ None →
     latest_fault past at ≡ None → RateIs Has bytes at (first_rate past)
 rate-known {Has} {r} {past = []} {at} same k spaced headers accepted judged =
-    no_rate refl (λ place kind has after before is. absurd (k.back place kind has before))
+    no_rate refl (λ place value has after before is. absurd (k.back place value has before))
 rate-known {Has} {bytes} {r} {past = c ∷ past} {at} same k spaced headers accepted judged =
     let first = first_in c past in
     let has = first_in-has c past in
@@ -432,15 +432,15 @@ rate-known {Has} {bytes} {r} {past = c ∷ past} {at} same k spaced headers acce
     its_rate (record {
       first = first.place;
       code = subst (λ m.
-          Has first.place m) (first_in-kind c past accepted) (k.there first.place first.kind has);
-      none = λ place kind code after before is.
+          Has first.place m) (first_in-value c past accepted) (k.there first.place first.value has);
+      none = λ place value code after before is.
           omega (
             arith,
             before,
-            first-least c past place kind spaced
-                (k.back place kind code (omega (arith, before, k.below first.place first.kind has))),
+            first-least c past place value spaced
+                (k.back place value code (omega (arith, before, k.below first.place first.value has))),
           );
-      before = k.below first.place first.kind has;
+      before = k.below first.place first.value has;
       is = first_in-rate c past accepted ∙ ap Some (rate-fits bytes header.stop first
           (header-fits same header.is (omega arith))
           (omega (arith, header.long)));
@@ -453,7 +453,7 @@ latest-decides {Has} {bytes} {r} {past = []} {at} {stop} same k spaced headers f
     none-of (HeaderRefusal Has bytes at)
     (neither (IsShortHeader Has bytes at)
     (Otherwise (IsBadRate Has bytes at) (IsBadType Has bytes at))
-    (λ f p. k.back p.place p.kind p.latest.code p.latest.before)
+    (λ f p. k.back p.place p.value p.latest.code p.latest.before)
     (neither (IsBadRate Has bytes at) (IsBadType Has bytes at) (λ f p.
     k.back p.place 0xb3 p.latest.code p.latest.before) (λ f p.
     k.back p.place 0 p.latest.code p.latest.before)))

@@ -13,7 +13,7 @@ mod HeaderByteLemmas
 pub mod FirstLemmas
 mod NextLemmas
 mod RoomLemmas
-mod KindLemmas
+mod ValueLemmas
 mod OpenLemmas
 mod ClosedLemmas
 mod StandardLemmas

@@ -10,7 +10,7 @@ use Rattle.mpeg_scan.specs.declared.tallies.Header.{Header}
 use Rattle.mpeg_scan.specs.Tallies.{Tally}
 use Rattle.mpeg_scan.specs.Codes.{note}
 use Rattle.mpeg_scan.specs.Faults.{code_fault, count_fault, first_refusal, first_slice_fault}
-use Rattle.mpeg_scan.specs.Faults.{kind_fault, second_fault}
+use Rattle.mpeg_scan.specs.Faults.{value_fault, second_fault}
 use Rattle.mpeg_scan.specs.Room.{HasCounts, HasRoom, HasRoomWith}
 use Rattle.mpeg_scan.specs.Steps.{next, next_begins, next_picture, next_rate, next_slices}
 use Rattle.mpeg_scan.specs.Words.{header_of, is_head, is_slice, rate_after, rate_code}
@@ -54,7 +54,7 @@ some-cond true x y o some = refl
 some-cond false x y o some = some
 
 some-rate : (rate : Option ℕ) (c : Code) (x : ℕ) → IsSome (rate_after rate c) → IsSome (rate_after rate (note c x))
-some-rate None c x some = some-cond (eqb c.kind 0xb3) (rate_code c) (rate_code (note c x)) None some
+some-rate None c x some = some-cond (eqb c.value 0xb3) (rate_code c) (rate_code (note c x)) None some
 some-rate (Some rate) c x some = refl
 
 room-noted : {p : ℕ} (c : Code) (t : Tally) (x : ℕ) → HasRoom (next t c) p → HasRoom (next t (note c x)) p
@@ -63,8 +63,8 @@ room-noted c t x room = record {
   from = room.from;
   unit = room.unit;
   slice = room.slice;
-  picture = λ some. some-cond (eqb c.kind 0) (header_of c) (header_of (note c x))
-      (cond (next_begins t c.kind) None t.picture) (room.picture some);
+  picture = λ some. some-cond (eqb c.value 0) (header_of c) (header_of (note c x))
+      (cond (next_begins t c.value) None t.picture) (room.picture some);
   rate = λ begun. some-rate t.rate c x (room.rate begun);
   counts = record {
     pictures = room.counts.pictures;
@@ -97,13 +97,13 @@ begun-by {q = false} {k = true} false false place other e = absurd (true≢false
 begun-by {q = false} {k = false} false false place other e = absurd (cc)
 
 -- only a sequence header comes first
-pub code-begun : (t : Tally) (place kind : ℕ) → code_fault t place kind ≡ None → eqb kind 0xb3 ≡ false
+pub code-begun : (t : Tally) (place value : ℕ) → code_fault t place value ≡ None → eqb value 0xb3 ≡ false
     → t.begun ≡ true
-code-begun t place kind e other =
-    begun-by (leb 0xb9 kind) (eqb kind 0xb5) place other
-    (otherwise-first (kind_fault t place kind)
-    (first_refusal (second_fault t kind)
-    (first_refusal (first_slice_fault t place kind) (count_fault t place kind))) e)
+code-begun t place value e other =
+    begun-by (leb 0xb9 value) (eqb value 0xb5) place other
+    (otherwise-first (value_fault t place value)
+    (first_refusal (second_fault t value)
+    (first_refusal (first_slice_fault t place value) (count_fault t place value))) e)
 
 group-by : (b z : Bool) (pictures group : ℕ) → group ≤ pictures
     → cond b pictures group ≤ cond z (pictures + 1) pictures
@@ -121,15 +121,15 @@ all-by : {all p q : ℕ} (s : Bool) → all ≤ p → p + 1 ≤ q → cond s (al
 all-by true few far = omega (arith, few, far)
 all-by false few far = omega (arith, few, far)
 
-pub counts-next : {q : ℕ} (t : Tally) (c : Code) → code_fault t c.place c.kind ≡ None → HasCounts t c.place
+pub counts-next : {q : ℕ} (t : Tally) (c : Code) → code_fault t c.place c.value ≡ None → HasCounts t c.place
     → c.place + 1 ≤ q → HasCounts (next t c) q
 unfolding next
 counts-next t c e counts far = record {
-  pictures = counted {p = t.pictures} (eqb c.kind 0) (leb 1024 (t.pictures - t.before_group)) c.place refl
-      (count-accepted t c.place c.kind e) counts.pictures;
-  group = group-by (eqb c.kind 0xb8) (eqb c.kind 0) t.pictures t.before_group counts.group;
-  slices = slices-by (is_head c.kind) (is_slice c.kind) t.slices t.all_slices counts.slices;
-  all = all-by (is_slice c.kind) counts.all far;
+  pictures = counted {p = t.pictures} (eqb c.value 0) (leb 1024 (t.pictures - t.before_group)) c.place refl
+      (count-accepted t c.place c.value e) counts.pictures;
+  group = group-by (eqb c.value 0xb8) (eqb c.value 0) t.pictures t.before_group counts.group;
+  slices = slices-by (is_head c.value) (is_slice c.value) t.slices t.all_slices counts.slices;
+  all = all-by (is_slice c.value) counts.all far;
 }
 
 -- what is known of the picture of a unit of n slices at a code that isn't refused: z, h, s: it is a picture, a
@@ -150,25 +150,25 @@ picture-by {z = false} {h = false} {s = true} {q = true} {n = zero} header o kno
 picture-by {z = false} {h = false} {s = true} {q = true} {n = suc m} header o known some = known.later (omega arith)
 picture-by {z = false} {h = false} {s = false} {q = true} header o known some = known.later some
 
-pub picture-next : (t : Tally) (c : Code) → code_fault t c.place c.kind ≡ None → (0 < t.slices → IsSome t.picture)
+pub picture-next : (t : Tally) (c : Code) → code_fault t c.place c.value ≡ None → (0 < t.slices → IsSome t.picture)
     → 0 < next_slices t c → IsSome (next_picture t c)
 picture-next t c e before some =
-    let rest = eqb c.kind 0xb3 || eqb c.kind 0xb8 in
-    let known : KnowsPicture (eqb c.kind 0) (is_head c.kind) (is_slice c.kind) t.begun t.slices t.picture = record {
-      head = λ other. (or_parts (eqb c.kind 0) rest other).0;
-      begun = λ other. code-begun t c.place c.kind e
-          (or_parts (eqb c.kind 0xb3) (eqb c.kind 0xb8) (or_parts (eqb c.kind 0) rest other).1).0;
-      first = λ slice none. first-some t c.place c.kind (first_slice-accepted t c.place c.kind e) slice none;
+    let rest = eqb c.value 0xb3 || eqb c.value 0xb8 in
+    let known : KnowsPicture (eqb c.value 0) (is_head c.value) (is_slice c.value) t.begun t.slices t.picture = record {
+      head = λ other. (or_parts (eqb c.value 0) rest other).0;
+      begun = λ other. code-begun t c.place c.value e
+          (or_parts (eqb c.value 0xb3) (eqb c.value 0xb8) (or_parts (eqb c.value 0) rest other).1).0;
+      first = λ slice none. first-some t c.place c.value (first_slice-accepted t c.place c.value e) slice none;
       later = before;
     } in
     picture-by (header_of c) t.picture known some
 
-rate-by : {b begun : Bool} (rate : Option ℕ) (c : Code) → eqb c.kind 0xb3 ≡ b → (b ≡ false → begun ≡ true)
+rate-by : {b begun : Bool} (rate : Option ℕ) (c : Code) → eqb c.value 0xb3 ≡ b → (b ≡ false → begun ≡ true)
     → (begun ≡ true → IsSome rate) → IsSome (rate_after rate c)
 rate-by {b = true} None c is begun before = ap (λ e. is_some (cond e (Some (rate_code c)) None)) is
 rate-by {b = false} None c is begun before = absurd (false≢true (before (begun refl)))
 rate-by (Some rate) c is begun before = refl
 
-pub rate-next : (t : Tally) (c : Code) → code_fault t c.place c.kind ≡ None → (t.begun ≡ true → IsSome t.rate)
+pub rate-next : (t : Tally) (c : Code) → code_fault t c.place c.value ≡ None → (t.begun ≡ true → IsSome t.rate)
     → IsSome (next_rate t c)
-rate-next t c e before = rate-by t.rate c refl (λ other. code-begun t c.place c.kind e other) before
+rate-next t c e before = rate-by t.rate c refl (λ other. code-begun t c.place c.value e other) before

@@ -11,8 +11,8 @@ use Rattle.mpeg_scan.specs.Codes.{codes_of, read_after}
 use Rattle.mpeg_scan.specs.Films.{IsFilm}
 use Rattle.mpeg_scan.specs.Layout.{AreChained}
 use Rattle.mpeg_scan.specs.Places.{StandsAt}
-use Rattle.mpeg_scan.specs.Standard.{AnyKind, ArePresented, AreUnitsOf, Counts, HasFields}
-use Rattle.mpeg_scan.specs.Standard.{IsFirstCode, IsHeadKind, IsSliceKind, IsUnitOf, StandsIn}
+use Rattle.mpeg_scan.specs.Standard.{AnyValue, ArePresented, AreUnitsOf, Counts, HasFields}
+use Rattle.mpeg_scan.specs.Standard.{IsFirstCode, IsHeadValue, IsSliceValue, IsUnitOf, StandsIn}
 use Rattle.mpeg_scan.specs.Standard.{StandsThere, type_number, vector_fields}
 use Rattle.mpeg_scan.specs.Tiles.{first_of}
 use Rattle.mpeg_scan.proofs.FirstLemmas.{film-first}
@@ -74,8 +74,8 @@ kind-back D = refl
 kind-same : (k l : Kind) → type_number k ≡ type_number l → k ≡ l
 kind-same k l e = sym (kind-back k) ∙ ap kind_of e ∙ kind-back l
 
-count-same : {Has : ℕ → ℕ → Type 0} {OfKind : ℕ → Type 0} {from to m n : ℕ} →
-    Counts Has OfKind from to m → Counts Has OfKind from to n → m ≡ n
+count-same : {Has : ℕ → ℕ → Type 0} {OfValue : ℕ → Type 0} {from to m n : ℕ} →
+    Counts Has OfValue from to m → Counts Has OfValue from to n → m ≡ n
 count-same {Has} {from} {m} c d =
     omega (arith, d.most c.places c.are, c.long, c.most d.places d.are, d.long)
 
@@ -100,7 +100,7 @@ head-same bytes u v one other from = elim (cases_lt u.head_end v.head_end) [
 
 -- a unit ends at a code of a head, or at the film's end
 abbrev Ends : List ℕ → ℕ → Type 0
-Ends bytes to = (to ≡ length bytes) ⊎ StandsThere (StandsAt bytes) to IsHeadKind
+Ends bytes to = (to ≡ length bytes) ⊎ StandsThere (StandsAt bytes) to IsHeadValue
 
 -- a unit of the bytes that ends where it may
 record IsUnitWithin (bytes : List ℕ) (u : PictureUnit) : Type 0 where
@@ -125,8 +125,8 @@ end-same {u} {v} one other head = elim (cases_lt u.to v.to) [
   ]
 ]
 
-stands-same : {bytes : List ℕ} {from to at end kind : ℕ} → from ≡ at → to ≡ end →
-    StandsIn (StandsAt bytes) from to kind → StandsIn (StandsAt bytes) at end kind
+stands-same : {bytes : List ℕ} {from to at end value : ℕ} → from ≡ at → to ≡ end →
+    StandsIn (StandsAt bytes) from to value → StandsIn (StandsAt bytes) at end value
 stands-same {from} {at} {end} from_is to_is it = record {
   place = it.place;
   code = it.code;
@@ -180,10 +180,10 @@ units-same {bytes} {number} {group} {u} {v} left right from =
     (other.group.0 e))) in
     let slices : u.slices ≡
     v.slices = count-same (subst (λ p.
-    Counts Has IsSliceKind v.head_end p u.slices) to (subst (λ p.
-    Counts Has IsSliceKind p u.to u.slices) head one.own)) other.own in
+    Counts Has IsSliceValue v.head_end p u.slices) to (subst (λ p.
+    Counts Has IsSliceValue p u.to u.slices) head one.own)) other.own in
     let all = count-same (subst (λ p.
-    Counts Has IsSliceKind 0 p (u.first_slice + u.slices)) to one.all) other.all in
+    Counts Has IsSliceValue 0 p (u.first_slice + u.slices)) to one.all) other.all in
     let first : u.first_slice ≡ v.first_slice = omega (arith, all, slices) in
     let presentation : u.presentation ≡
     v.presentation =
@@ -226,7 +226,7 @@ chain-ends : (bytes : List ℕ) (to : ℕ) (us : List PictureUnit) → All bytes
     AreChained to us (length bytes) → Ends bytes to
 chain-ends bytes to [] all chained = inl chained
 chain-ends bytes to (u ∷ us) all chained =
-    inr (subst (λ p. StandsThere (StandsAt bytes) p IsHeadKind) chained.0 all.0.begins)
+    inr (subst (λ p. StandsThere (StandsAt bytes) p IsHeadValue) chained.0 all.0.begins)
 
 not-at-end : (bytes : List ℕ) (from : ℕ) (u : PictureUnit) → IsUnitOf bytes u → u.from ≡ from →
     from ≡ length bytes → ⊥
@@ -269,8 +269,8 @@ lists-same {bytes} {number} {group} {us = u ∷ us} {vs = v ∷ vs} one other =
     AreFrom bytes w.to (number + 1) (cond w.starts_group number group) us) e (rest_units one)) (rest_units other) in
     ap (λ (w : PictureUnit). w ∷ us) e ∙ ap (λ (l : List PictureUnit). v ∷ l) rest
 
-one-first : {bytes : List ℕ} {p q : ℕ} → StandsThere (StandsAt bytes) p AnyKind →
-    IsFirstCode (StandsAt bytes) p → StandsThere (StandsAt bytes) q AnyKind →
+one-first : {bytes : List ℕ} {p q : ℕ} → StandsThere (StandsAt bytes) p AnyValue →
+    IsFirstCode (StandsAt bytes) p → StandsThere (StandsAt bytes) q AnyValue →
     IsFirstCode (StandsAt bytes) q → p ≡ q
 one-first {p} {q} here first there also =
     omega (arith, first q there.0 there.1.0, also p here.0 here.1.0)

@@ -166,9 +166,9 @@ older-has x r i k h = elim (cases_Bool (is_whole (latest_prefix r))) [
 ]
 
 new-has : (x : ℕ) (r : List ℕ) (i k : ℕ) → Prefixed r i → x ≡ k → HasCode i k (codes_of (x ∷ r))
-new-has x r i k p kind =
+new-has x r i k p value =
     let place : length r - 3 ≡ i = omega (arith, p.ends) in
-    subst (λ (l : List Code). HasCode i k l) (sym (codes-code x r (prefixed-whole r i p))) (inl (place, kind))
+    subst (λ (l : List Code). HasCode i k l) (sym (codes-code x r (prefixed-whole r i p))) (inl (place, value))
 
 stands-has : (r : List ℕ) (i k : ℕ) → Stands r i k → HasCode i k (codes_of r)
 stands-has [] i k s = absurd (omega (arith, s.fits))

@@ -111,7 +111,7 @@ skipped-kept {s} {r} xs n bound nonzero quiet kept =
 fault-stays-code : (c : Code) (past : List Code) (f : FilmFault) → first_fault past ≡ Some f
     → first_fault (c ∷ past) ≡ Some f
 unfolding first_fault
-fault-stays-code c past f is = ap (λ (o : Option FilmFault). first_refusal o (fault_at past c.place c.kind)) is
+fault-stays-code c past f is = ap (λ (o : Option FilmFault). first_refusal o (fault_at past c.place c.value)) is
 
 fault-stays-byte : (x : ℕ) (r : List ℕ) (f : FilmFault) → first_fault (codes_of r) ≡ Some f
     → first_fault (codes_of (x ∷ r)) ≡ Some f

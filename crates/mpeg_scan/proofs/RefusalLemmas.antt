@@ -15,36 +15,36 @@ use Rattle.mpeg_scan.specs.declared.tallies.Header.{Header}
 use Rattle.mpeg_scan.specs.Words.{before_group_of, is_head, is_none_yet, is_slice, latest_picture}
 use Rattle.mpeg_scan.specs.Words.{picture_count, slice_count, tally_of, latest_unit}
 use Rattle.mpeg_scan.specs.Faults.{code_fault, count_fault, fault_at, first_fault}
-use Rattle.mpeg_scan.specs.Faults.{first_slice_fault, head_fault, kind_fault, latest_fault}
+use Rattle.mpeg_scan.specs.Faults.{first_slice_fault, head_fault, value_fault, latest_fault}
 use Rattle.mpeg_scan.specs.Faults.{left_without_slices, first_refusal, second_fault}
 use Rattle.mpeg_scan.specs.Places.{HasCode}
 use Rattle.mpeg_scan.specs.Refusals.{BeginsUnit, CodeRefusal, CountRefusal, HasPictures}
 use Rattle.mpeg_scan.specs.Refusals.{HeaderRefusal, IsExtension, IsItsPicture, IsLongFilm}
-use Rattle.mpeg_scan.specs.Refusals.{IsLongGroup, IsLongHead, IsOpenHead, IsSystemCode, KindRefusal}
+use Rattle.mpeg_scan.specs.Refusals.{IsLongGroup, IsLongHead, IsOpenHead, IsSystemCode, ValueRefusal}
 use Rattle.mpeg_scan.specs.Refusals.{LacksPicture, LacksSequence, LacksSlices, Otherwise}
 use Rattle.mpeg_scan.specs.Refusals.{SecondRefusal, SliceRefusal}
-use Rattle.mpeg_scan.specs.Standard.{IsFirstCode, IsHeadKind, IsSliceKind, StandsThere}
+use Rattle.mpeg_scan.specs.Standard.{IsFirstCode, IsHeadValue, IsSliceValue, StandsThere}
 use Rattle.mpeg_scan.proofs.StepLemmas.{positive}
 use Rattle.mpeg_scan.proofs.HeaderByteLemmas.{Same, HeadersAre}
 use Rattle.mpeg_scan.proofs.SpaceLemmas.{Spaced}
 use Rattle.std.proofs.lemmas.Option.{same_Some}
 use Rattle.mpeg_scan.proofs.DecideLemmas.{Decides, both, both-cond, decide, decide-if, decide-with}
 use Rattle.mpeg_scan.proofs.DecideLemmas.{neither, no-more, none-of, only-second}
-use Rattle.mpeg_scan.proofs.BeforeLemmas.{Knows, PictureThere, head-kind, no-head, no-slice}
+use Rattle.mpeg_scan.proofs.BeforeLemmas.{Knows, PictureThere, head-value, no-head, no-slice}
 use Rattle.mpeg_scan.proofs.BeforeLemmas.{not-open, one-head, one-picture, open-head, picture-there}
-use Rattle.mpeg_scan.proofs.BeforeLemmas.{slice-kind, slice-there, has-new, new-below}
+use Rattle.mpeg_scan.proofs.BeforeLemmas.{slice-value, slice-there, has-new, new-below}
 use Rattle.mpeg_scan.proofs.SinceLemmas.{codes-from, codes-since, group-tests, most-since}
 use Rattle.mpeg_scan.proofs.SinceLemmas.{picture-tests, since-all, since-group}
 use Rattle.mpeg_scan.proofs.HeaderLemmas.{latest-decides}
 
--- a code of a kind stands at a place, and the codes before it are these
-pub record AtCode (Has : ℕ → ℕ → Type 0) (past : List Code) (at kind : ℕ) : Type 0 where
+-- a code of a value stands at a place, and the codes before it are these
+pub record AtCode (Has : ℕ → ℕ → Type 0) (past : List Code) (at value : ℕ) : Type 0 where
   pub knows : Knows Has past at
   pub spaced : Spaced past
-  pub code : Has at kind
-  pub one : (other : ℕ) → Has at other → other ≡ kind
+  pub code : Has at value
+  pub one : (other : ℕ) → Has at other → other ≡ value
 
--- ---- its kind
+-- ---- its value
 
 no-codes : (past : List Code) (a : Bool) → (not (not (is_none_yet past)) && a) ≡ true → past ≡ []
 no-codes [] a e = refl
@@ -52,9 +52,9 @@ no-codes (d ∷ past) a e = absurd (false≢true e)
 
 first-of-none : (Has : ℕ → ℕ → Type 0) (past : List Code) (at : ℕ) → Knows Has past at → past ≡ [] →
     IsFirstCode Has at
-first-of-none Has past at k none place kind has = elim (cases_lt place at) [
+first-of-none Has past at k none place value has = elim (cases_lt place at) [
   | inl before ↦ absurd
-      (subst (λ (l : List Code). HasCode place kind l) none (k.back place kind has before))
+      (subst (λ (l : List Code). HasCode place value l) none (k.back place value has before))
   | inr after ↦ after
 ]
 
@@ -63,33 +63,33 @@ none-of-first : (Has : ℕ → ℕ → Type 0) (past : List Code) (at : ℕ) →
 none-of-first Has [] at k first = refl
 none-of-first Has (d ∷ past) at k first =
     absurd (omega
-    (arith, first d.place d.kind (has-new Has d past at k), new-below Has d past at k))
+    (arith, first d.place d.value (has-new Has d past at k), new-below Has d past at k))
 
 twice : (b : Bool) → b ≡ true → not (not b) ≡ true
 twice true e = refl
 twice false e = absurd (false≢true e)
 
-kind-decides : (Has : ℕ → ℕ → Type 0) (past : List Code) (at kind : ℕ) → AtCode Has past at kind →
-    Decides (KindRefusal Has at) (kind_fault (tally_of past) at kind)
-kind-decides Has past at kind c =
+value-decides : (Has : ℕ → ℕ → Type 0) (past : List Code) (at value : ℕ) → AtCode Has past at value →
+    Decides (ValueRefusal Has at) (value_fault (tally_of past) at value)
+value-decides Has past at value c =
     let System = IsSystemCode Has at in
     let Extension = IsExtension Has at in
     let Lacks = LacksSequence Has at in
     let first = not (not (is_none_yet past)) in
-    let three = eqb kind 0xb3 in
+    let three = eqb value 0xb3 in
     let rest = cond (first && not three) (Some NoSequence) None in
     both-cond
-    (λ e. ((kind, (c.code, leb-true 0xb9 kind e)), refl))
-    (λ g p. (le-leb 0xb9 kind (subst (λ k. 0xb9 ≤ k) (c.one p.0.0 p.0.1.0) p.0.1.1), p.1))
+    (λ e. ((value, (c.code, leb-true 0xb9 value e)), refl))
+    (λ g p. (le-leb 0xb9 value (subst (λ k. 0xb9 ≤ k) (c.one p.0.0 p.0.1.0) p.0.1.1), p.1))
     (λ _. both-cond
-    (λ e. (subst (λ k. Has at k) (eqb-true kind 0xb5 e) c.code, refl))
-    (λ g p. (eq-eqb kind 0xb5 (sym (c.one 0xb5 p.0)), p.1))
+    (λ e. (subst (λ k. Has at k) (eqb-true value 0xb5 e) c.code, refl))
+    (λ g p. (eq-eqb value 0xb5 (sym (c.one 0xb5 p.0)), p.1))
     (λ _. decide Lacks (first && not three) NoSequence
     (λ e. (
       (
         first-of-none Has past at c.knows (no-codes past (not three) e),
         λ has.
-            eqb-false kind 0xb3 (not-true three (and_parts first (not three) e).1)
+            eqb-false value 0xb3 (not-true three (and_parts first (not three) e).1)
             (sym (c.one 0xb3 has)),
       ),
       refl,
@@ -97,7 +97,7 @@ kind-decides Has past at kind c =
     (λ g p. (
       and_from first (not three)
           (twice (is_none_yet past) (none-of-first Has past at c.knows p.0.0))
-          (not_from_false three (ne_eqb kind 0xb3 (λ is.
+          (not_from_false three (ne_eqb value 0xb3 (λ is.
           p.0.1 (subst (λ k. Has at k) is c.code)))),
       p.1,
     ))))
@@ -150,17 +150,17 @@ slices-decide Has (d ∷ past) at k spaced none =
     picture-slices Has at (latest_unit (d ∷ past)) (latest_picture (d ∷ past))
     (open-head k spaced none) (picture-there Has d past at k spaced)
 
-second-decides : (Has : ℕ → ℕ → Type 0) (past : List Code) (at kind : ℕ) → AtCode Has past at kind →
-    Decides (SecondRefusal Has at) (second_fault (tally_of past) kind)
-second-decides Has past at kind c =
-    decide-if (SecondRefusal Has at) (is_head kind
+second-decides : (Has : ℕ → ℕ → Type 0) (past : List Code) (at value : ℕ) → AtCode Has past at value →
+    Decides (SecondRefusal Has at) (second_fault (tally_of past) value)
+second-decides Has past at value c =
+    decide-if (SecondRefusal Has at) (is_head value
     && eqb (slice_count past) 0) (option_map left_without_slices (latest_picture past))
-    (λ e. let parts = and_parts (is_head kind) (eqb (slice_count past) 0) e in
-    decide-with (StandsThere Has at IsHeadKind) (LacksSlices Has at)
-    (option_map left_without_slices (latest_picture past)) (kind, (c.code, head-kind kind parts.0))
+    (λ e. let parts = and_parts (is_head value) (eqb (slice_count past) 0) e in
+    decide-with (StandsThere Has at IsHeadValue) (LacksSlices Has at)
+    (option_map left_without_slices (latest_picture past)) (value, (c.code, head-value value parts.0))
     (slices-decide Has past at c.knows c.spaced (eqb-true (slice_count past) 0 parts.1)))
-    (λ e f p. elim (and_cases (is_head kind) (eqb (slice_count past) 0) e) [
-      | inl other ↦ no-head kind other (subst IsHeadKind (c.one p.0.0 p.0.1.0) p.0.1.1)
+    (λ e f p. elim (and_cases (is_head value) (eqb (slice_count past) 0) e) [
+      | inl other ↦ no-head value other (subst IsHeadValue (c.one p.0.0 p.0.1.0) p.0.1.1)
       | inr some ↦ slices-left c.knows c.spaced some p.1.open_head
     ])
 
@@ -216,12 +216,12 @@ lacks-none Has at never =
     neither (LacksPicture Has at) (IsLongHead Has at) (λ f p. never p.unit p.open_head) (λ f p.
     never p.unit p.open_head)
 
-not-both : {Has : ℕ → ℕ → Type 0} {at kind : ℕ} → AtCode Has [] at kind →
-    kind_fault (tally_of []) at kind ≡ None → is_slice kind ≡ true → IsFirstCode Has at → ⊥
-not-both {Has} {at} {kind} c none slice first =
-    let is = slice-kind kind slice in
-    no-more (KindRefusal Has at) (kind_fault (tally_of []) at kind)
-    (kind-decides Has [] at kind c) none NoSequence
+not-both : {Has : ℕ → ℕ → Type 0} {at value : ℕ} → AtCode Has [] at value →
+    value_fault (tally_of []) at value ≡ None → is_slice value ≡ true → IsFirstCode Has at → ⊥
+not-both {Has} {at} {value} c none slice first =
+    let is = slice-value value slice in
+    no-more (ValueRefusal Has at) (value_fault (tally_of []) at value)
+    (value-decides Has [] at value c) none NoSequence
     (inr (
       (λ g p. let other = c.one p.0.0 p.0.1.0 in omega (arith, is.1, other, p.0.1.1)),
       inr (
@@ -230,33 +230,33 @@ not-both {Has} {at} {kind} c none slice first =
       ),
     ))
 
-three-first : (Has : ℕ → ℕ → Type 0) (at kind : ℕ) → AtCode Has [] at kind →
-    kind_fault (tally_of []) at kind ≡ None → is_slice kind ≡ true → ⊥
-three-first Has at kind c none slice =
+three-first : (Has : ℕ → ℕ → Type 0) (at value : ℕ) → AtCode Has [] at value →
+    value_fault (tally_of []) at value ≡ None → is_slice value ≡ true → ⊥
+three-first Has at value c none slice =
     let first : IsFirstCode Has at = first-of-none Has [] at c.knows refl in
     not-both c none slice first
 
-slice-decides : (Has : ℕ → ℕ → Type 0) (past : List Code) (at kind : ℕ) → AtCode Has past at kind →
-    kind_fault (tally_of past) at kind ≡ None →
-    Decides (SliceRefusal Has at) (first_slice_fault (tally_of past) at kind)
-slice-decides Has [] at kind c none =
-    decide-if (SliceRefusal Has at) (is_slice kind && eqb 0 0) (head_fault (tally_of []) at None)
-    (λ e. absurd (three-first Has at kind c none (and_parts (is_slice kind) (eqb 0 0) e).0))
+slice-decides : (Has : ℕ → ℕ → Type 0) (past : List Code) (at value : ℕ) → AtCode Has past at value →
+    value_fault (tally_of past) at value ≡ None →
+    Decides (SliceRefusal Has at) (first_slice_fault (tally_of past) at value)
+slice-decides Has [] at value c none =
+    decide-if (SliceRefusal Has at) (is_slice value && eqb 0 0) (head_fault (tally_of []) at None)
+    (λ e. absurd (three-first Has at value c none (and_parts (is_slice value) (eqb 0 0) e).0))
     (λ e f p. lacks-none Has at (λ unit o. begins-after Has at unit c.knows o) f p.1)
-slice-decides Has (d ∷ past) at kind c none =
+slice-decides Has (d ∷ past) at value c none =
     let all : List Code = d ∷ past in
     let o = latest_picture all in
-    decide-if (SliceRefusal Has at) (is_slice kind
+    decide-if (SliceRefusal Has at) (is_slice value
     && eqb (slice_count all) 0) (head_fault (tally_of all) at o)
-    (λ e. let parts = and_parts (is_slice kind) (eqb (slice_count all) 0) e in
-    decide-with (StandsThere Has at IsSliceKind)
+    (λ e. let parts = and_parts (is_slice value) (eqb (slice_count all) 0) e in
+    decide-with (StandsThere Has at IsSliceValue)
     (Otherwise (LacksPicture Has at) (IsLongHead Has at)) (head_fault (tally_of all) at o)
-    (kind, (c.code, slice-kind kind parts.0))
+    (value, (c.code, slice-value value parts.0))
     (head-decides all o refl
     (open-head c.knows c.spaced (eqb-true (slice_count all) 0 parts.1))
     (picture-there Has d past at c.knows c.spaced)))
-    (λ e f p. elim (and_cases (is_slice kind) (eqb (slice_count all) 0) e) [
-      | inl other ↦ no-slice kind other (subst IsSliceKind (c.one p.0.0 p.0.1.0) p.0.1.1)
+    (λ e f p. elim (and_cases (is_slice value) (eqb (slice_count all) 0) e) [
+      | inl other ↦ no-slice value other (subst IsSliceValue (c.one p.0.0 p.0.1.0) p.0.1.1)
       | inr some ↦ lacks-none Has at (λ unit o.
           slices-left c.knows c.spaced some o) f p.1
     ])
@@ -281,8 +281,8 @@ group-test Has past at k spaced e =
           ),
         ),
       );
-      none = λ place kind has after before is.
-          it.none place kind has after before (eq-eqb kind 0xb8 is);
+      none = λ place value has after before is.
+          it.none place value has after before (eq-eqb value 0xb8 is);
       is = refl;
     }
 
@@ -292,8 +292,8 @@ test-group : {Has : ℕ → ℕ → Type 0} {past : List Code} {at : ℕ} {f : F
 test-group {Has} {past} {at} k spaced p =
     let most = most-since p.pictures.0
     group-tests k spaced p.pictures.1.0
-    (λ place kind has after before is.
-    p.none place kind has after before (eqb-true kind 0xb8 is)) in
+    (λ place value has after before is.
+    p.none place value has after before (eqb-true value 0xb8 is)) in
     le-leb 1024 (picture_count past - before_group_of past)
     (omega (arith, most, since-group past, p.pictures.1.1))
 
@@ -315,48 +315,48 @@ test-film : (Has : ℕ → ℕ → Type 0) (past : List Code) (at : ℕ) → Kno
 test-film Has past at k spaced p =
     let most = most-since p.0
     picture-tests k spaced p.1.0
-    (λ place kind has after before is. false≢true is) in
+    (λ place value has after before is. false≢true is) in
     le-leb 4194304 (picture_count past) (omega (arith, most, since-all past, p.1.1))
 
-count-decides : (Has : ℕ → ℕ → Type 0) (past : List Code) (at kind : ℕ) → AtCode Has past at kind →
-    Decides (CountRefusal Has at) (count_fault (tally_of past) at kind)
-count-decides Has past at kind c =
+count-decides : (Has : ℕ → ℕ → Type 0) (past : List Code) (at value : ℕ) → AtCode Has past at value →
+    Decides (CountRefusal Has at) (count_fault (tally_of past) at value)
+count-decides Has past at value c =
     let many = leb 4194304 (picture_count past) in
     let full = leb 1024 (picture_count past - before_group_of past) in
     let o = cond full (Some (GroupTooLong at)) (cond many (Some TooLong) None) in
-    decide-if (CountRefusal Has at) (eqb kind 0) o
+    decide-if (CountRefusal Has at) (eqb value 0) o
     (λ e. decide-with (Has at 0) (Otherwise (IsLongGroup Has at) (IsLongFilm Has at)) o (subst (λ k.
-    Has at k) (eqb-true kind 0 e) c.code)
+    Has at k) (eqb-true value 0 e) c.code)
     (both-cond
     (λ t. group-test Has past at c.knows c.spaced t)
     (λ g p. (test-group c.knows c.spaced p, p.is))
     (λ _. decide (IsLongFilm Has at) many TooLong (λ t.
     (film-test Has past at c.knows c.spaced t, refl)) (λ g p.
     (test-film Has past at c.knows c.spaced p.0, p.1)))))
-    (λ e f p. eqb-false kind 0 e (sym (c.one 0 p.0)))
+    (λ e f p. eqb-false value 0 e (sym (c.one 0 p.0)))
 
 -- ---- a code
 
-pub code-decides : {Has : ℕ → ℕ → Type 0} {bytes r : List ℕ} {past : List Code} {at kind : ℕ} →
-    Same bytes r → AtCode Has past at kind → HeadersAre r (at + 4) past → first_fault past ≡ None →
-    Decides (CodeRefusal Has bytes at) (fault_at past at kind)
+pub code-decides : {Has : ℕ → ℕ → Type 0} {bytes r : List ℕ} {past : List Code} {at value : ℕ} →
+    Same bytes r → AtCode Has past at value → HeadersAre r (at + 4) past → first_fault past ≡ None →
+    Decides (CodeRefusal Has bytes at) (fault_at past at value)
 unfolding fault_at
-code-decides {Has} {bytes} {past} {at} {kind} same c headers accepted =
+code-decides {Has} {bytes} {past} {at} {value} same c headers accepted =
     let t = tally_of past in
     both (HeaderRefusal Has bytes at)
-    (Otherwise (KindRefusal Has at)
+    (Otherwise (ValueRefusal Has at)
     (Otherwise (SecondRefusal Has at) (Otherwise (SliceRefusal Has at) (CountRefusal Has at))))
-    (latest_fault past at) (code_fault t at kind)
+    (latest_fault past at) (code_fault t at value)
     (latest-decides same c.knows c.spaced headers (omega arith) accepted)
-    (λ _. both (KindRefusal Has at)
+    (λ _. both (ValueRefusal Has at)
     (Otherwise (SecondRefusal Has at) (Otherwise (SliceRefusal Has at) (CountRefusal Has at)))
-    (kind_fault t at kind)
-    (first_refusal (second_fault t kind)
-    (first_refusal (first_slice_fault t at kind) (count_fault t at kind)))
-    (kind-decides Has past at kind c)
+    (value_fault t at value)
+    (first_refusal (second_fault t value)
+    (first_refusal (first_slice_fault t at value) (count_fault t at value)))
+    (value-decides Has past at value c)
     (λ none. both (SecondRefusal Has at) (Otherwise (SliceRefusal Has at) (CountRefusal Has at))
-    (second_fault t kind) (first_refusal (first_slice_fault t at kind) (count_fault t at kind))
-    (second-decides Has past at kind c)
-    (λ _. both (SliceRefusal Has at) (CountRefusal Has at) (first_slice_fault t at kind)
-    (count_fault t at kind) (slice-decides Has past at kind c none) (λ _.
-    count-decides Has past at kind c))))
+    (second_fault t value) (first_refusal (first_slice_fault t at value) (count_fault t at value))
+    (second-decides Has past at value c)
+    (λ _. both (SliceRefusal Has at) (CountRefusal Has at) (first_slice_fault t at value)
+    (count_fault t at value) (slice-decides Has past at value c none) (λ _.
+    count-decides Has past at value c))))

@@ -15,7 +15,7 @@ use Rattle.mpeg_scan.specs.Places.{StandsAt}
 use Rattle.mpeg_scan.specs.Refusals.{CodeRefusal, EndRefusal, FirstRefusal, HeaderRefusal}
 use Rattle.mpeg_scan.specs.Refusals.{IsOpenHead, IsRefusedFor, LacksCodes, LacksPicture}
 use Rattle.mpeg_scan.specs.Refusals.{LacksSlices, Otherwise}
-use Rattle.mpeg_scan.specs.Standard.{AnyKind, StandsThere}
+use Rattle.mpeg_scan.specs.Standard.{AnyValue, StandsThere}
 use Rattle.mpeg_scan.proofs.FilmLemmas.{length-read}
 use Rattle.mpeg_scan.proofs.StepLemmas.{accepted-older, otherwise-second}
 use Rattle.mpeg_scan.proofs.PlaceLemmas.{at-bytes, codes-stand}
@@ -34,7 +34,7 @@ use Rattle.mpeg_scan.proofs.RefusalLemmas.{AtCode, begins-after, code-decides, p
 record Film (Has : ℕ → ℕ →
     Type 0) (bytes r : List ℕ) (past : List Code) (end stop : ℕ) : Type 0 where
   same : Same bytes r
-  single : (place kind other : ℕ) → Has place kind → Has place other → other ≡ kind
+  single : (place value other : ℕ) → Has place value → Has place other → other ≡ value
   knows : Knows Has past end
   spaced : Spaced past
   headers : HeadersAre r stop past
@@ -54,20 +54,20 @@ film-older {Has} {r} {c} {past} {end} {stop} film = record {
 -- the latest code is judged
 latest-code : {Has : ℕ → ℕ → Type 0} {bytes r : List ℕ} {c : Code} {past : List Code} {end stop : ℕ} →
     Film Has bytes r (c ∷ past) end stop → first_fault past ≡ None →
-    Decides (CodeRefusal Has bytes c.place) (fault_at past c.place c.kind)
+    Decides (CodeRefusal Has bytes c.place) (fault_at past c.place c.value)
 latest-code {Has} {bytes} {r} {c} {past} {end} {stop} film accepted =
     let code = has-new Has c past end film.knows in
-    let at_code : AtCode Has past c.place c.kind = record {
+    let at_code : AtCode Has past c.place c.value = record {
       knows = older Has c past end film.knows film.spaced;
       spaced = film.spaced.1;
       code = code;
-      one = λ other has. film.single c.place c.kind other code has;
+      one = λ other has. film.single c.place c.value other code has;
     } in
     code-decides film.same at_code film.headers.1 accepted
 
 -- where none of them is refused, none is
 abbrev Clear : (ℕ → ℕ → Type 0) → List ℕ → ℕ → Type 0
-Clear Has bytes end = (other : ℕ) → StandsThere Has other AnyKind → other < end → (g : FilmFault) →
+Clear Has bytes end = (other : ℕ) → StandsThere Has other AnyValue → other < end → (g : FilmFault) →
     CodeRefusal Has bytes other g → ⊥
 
 all-clear : {Has : ℕ → ℕ → Type 0} {bytes r : List ℕ} {past : List Code} {end stop : ℕ} →
@@ -78,9 +78,9 @@ all-clear {past = []} film accepted other code before g refused =
 all-clear {Has} {bytes} {past = c ∷ past} film accepted other code before g refused =
     let before_that = accepted-older c past accepted in
     elim (where-is film.knows film.spaced code.1.0 before) [
-      | here e m ↦ no-more (CodeRefusal Has bytes c.place) (fault_at past c.place c.kind)
+      | here e m ↦ no-more (CodeRefusal Has bytes c.place) (fault_at past c.place c.value)
           (latest-code film before_that)
-          (otherwise-second (first_fault past) (fault_at past c.place c.kind) accepted) g
+          (otherwise-second (first_fault past) (fault_at past c.place c.value) accepted) g
           (subst (λ v. CodeRefusal Has bytes v g) (sym e) refused)
       | earlier far ↦ all-clear {past = past} (film-older film) before_that other code far g refused
     ]
@@ -88,7 +88,7 @@ all-clear {Has} {bytes} {past = c ∷ past} film accepted other code before g re
 -- the first of the codes before a place that is refused
 record FirstBefore (Has : ℕ → ℕ → Type 0) (bytes : List ℕ) (end : ℕ) (f : FilmFault) : Type 0 where
   at : ℕ
-  code : StandsThere Has at AnyKind
+  code : StandsThere Has at AnyValue
   before : at < end
   refused : CodeRefusal Has bytes at f
   first : Clear Has bytes at
@@ -102,7 +102,7 @@ first-step : {o b : Option FilmFault} {Has : ℕ → ℕ → Type 0} {bytes r : 
 first-step {o = None} {Has} {bytes} {r} {c} {past} {end} {stop} film one new clear f = (
   λ e. record {
     at = c.place;
-    code = (c.kind, (has-new Has c past end film.knows, tt));
+    code = (c.value, (has-new Has c past end film.knows, tt));
     before = new-below Has c past end film.knows;
     refused = (new refl f).0 e;
     first = clear refl;
@@ -187,7 +187,7 @@ unfinished {b = false} {Has} {c} {past} {end} some k spaced =
     (picture-there Has c past end k spaced)
 
 last-decides : (Has : ℕ → ℕ → Type 0) (past : List Code) (end : ℕ) → Knows Has past end →
-    Spaced past → ((place kind : ℕ) → Has place kind → place < end)
+    Spaced past → ((place value : ℕ) → Has place value → place < end)
     → Decides (Otherwise (LacksCodes Has) (Otherwise (LacksSlices Has end) (LacksPicture Has end)))
     (last_fault (tally_of past))
 last-decides Has [] end k spaced all =
@@ -195,8 +195,8 @@ last-decides Has [] end k spaced all =
     (Some NoSequence)
     (λ f. (
       λ e. (
-        (λ place kind has.
-            k.back place kind has (all place kind has)),
+        (λ place value has.
+            k.back place value has (all place value has)),
         sym (same_Some NoSequence f e),
       ),
       λ p. ap Some (sym p.1),
@@ -207,11 +207,11 @@ last-decides Has [] end k spaced all =
 last-decides Has (c ∷ past) end k spaced all =
     only-second (LacksCodes Has) (Otherwise (LacksSlices Has end) (LacksPicture Has end))
     (last_fault (tally_of (c ∷ past)))
-    (λ f p. p.0 c.place c.kind (has-new Has c past end k))
+    (λ f p. p.0 c.place c.value (has-new Has c past end k))
     (unfinished refl k spaced)
 
 end-decides : {Has : ℕ → ℕ → Type 0} {bytes r : List ℕ} {past : List Code} {end stop : ℕ} →
-    Film Has bytes r past end stop → ((place kind : ℕ) → Has place kind → place < end) →
+    Film Has bytes r past end stop → ((place value : ℕ) → Has place value → place < end) →
     first_fault past ≡ None
     → Decides (EndRefusal Has bytes end) (end_fault past end)
 unfolding end_fault
@@ -226,7 +226,7 @@ end-decides {Has} {bytes} {past} {end} film all accepted =
 -- ---- a film
 
 first-anywhere : (Has : ℕ → ℕ → Type 0) (bytes : List ℕ) (end : ℕ) (o : Option FilmFault) →
-    ((place kind : ℕ) → Has place kind → place < end) → Decides (FirstBefore Has bytes end) o →
+    ((place value : ℕ) → Has place value → place < end) → Decides (FirstBefore Has bytes end) o →
     Decides (FirstRefusal Has bytes) o
 first-anywhere Has bytes end o all is f = (
   λ e. let it = (is f).0 e in record {
@@ -244,13 +244,13 @@ first-anywhere Has bytes end o all is f = (
   }),
 )
 
-one-kind : (bytes : List ℕ) (place kind other : ℕ) → StandsAt bytes place kind →
-    StandsAt bytes place other → other ≡ kind
-one-kind bytes place kind other one two = sym two.fourth ∙ one.fourth
+one-value : (bytes : List ℕ) (place value other : ℕ) → StandsAt bytes place value →
+    StandsAt bytes place other → other ≡ value
+one-value bytes place value other one two = sym two.fourth ∙ one.fourth
 
-code-below : (bytes : List ℕ) (n place kind : ℕ) → n ≡ length bytes → StandsAt bytes place kind →
+code-below : (bytes : List ℕ) (n place value : ℕ) → n ≡ length bytes → StandsAt bytes place value →
     place < n
-code-below bytes n place kind long has = omega (arith, has.fits, long)
+code-below bytes n place value long has = omega (arith, has.fits, long)
 
 codes-decide : (bytes : List ℕ) →
     Decides (Otherwise (FirstRefusal (StandsAt bytes) bytes)
@@ -264,15 +264,15 @@ codes-decide bytes =
     let Has = StandsAt bytes in
     let long : n ≡ length bytes = length-read bytes [] ∙ omega arith in
     let placed = placed-codes r in
-    let all = λ (place kind : ℕ)
-    (has : StandsAt bytes place kind). code-below bytes n place kind long has in
+    let all = λ (place value : ℕ)
+    (has : StandsAt bytes place value). code-below bytes n place value long has in
     let film : Film Has bytes r past n n = record {
       same = record { byte = at-bytes bytes; long = long };
-      single = one-kind bytes;
+      single = one-value bytes;
       knows = record {
-        there = λ place kind has. (codes-stand bytes place kind).0 has;
+        there = λ place value has. (codes-stand bytes place value).0 has;
         below = all-below past placed.spaced (room-after past (latest_prefix r) n placed.room);
-        back = λ place kind has before. (codes-stand bytes place kind).1 has;
+        back = λ place value has before. (codes-stand bytes place value).1 has;
       };
       spaced = placed.spaced;
       headers = codes-headers r;

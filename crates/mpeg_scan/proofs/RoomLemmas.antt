@@ -22,7 +22,7 @@ use Rattle.mpeg_scan.specs.Steps.{end_judgement, code_judgement, latest_header_f
 use Rattle.mpeg_scan.specs.Steps.{next_begins, tally_now, tally_with}
 use Rattle.mpeg_scan.proofs.NextLemmas.{code-begun, counts-more, counts-next, picture-next}
 use Rattle.mpeg_scan.proofs.NextLemmas.{rate-next, with-more, with-noted}
-use Rattle.mpeg_scan.proofs.BeforeLemmas.{slice-kind}
+use Rattle.mpeg_scan.proofs.BeforeLemmas.{slice-value}
 use Rattle.mpeg_scan.proofs.SpaceLemmas.{whole-is}
 use Rattle.mpeg_scan.proofs.StepLemmas.{otherwise-second}
 use Rattle.mpeg_scan.proofs.TileLemmas.{ended-none, first_slice-accepted, first_slice-head}
@@ -61,7 +61,7 @@ length-by false false p = omega arith
 length-next : (p : Prefix) (x : ℕ) → prefix_length (next_prefix p x) ≤ prefix_length p + 1
 length-next p x = length-by (eqb x 1) (eqb x 0) p
 
--- a byte that isn't the kind of a code
+-- a byte that isn't the value of a code
 pub noted-ahead : (s n : Progress) (x : ℕ) → n ≡ scan_with_byte s x → IsAhead s → IsAhead n
 noted-ahead s n x is room =
     let more = length-next s.prefix x in
@@ -94,46 +94,46 @@ room-before {s} x whole is room =
 
 -- ---- what a code that isn't refused says
 
-pub code_judgement-code : (latest : Option Code) (tally : Tally) (place kind : ℕ)
-    → code_judgement latest tally place kind ≡ None → code_fault (tally_with latest tally) place kind ≡ None
+pub code_judgement-code : (latest : Option Code) (tally : Tally) (place value : ℕ)
+    → code_judgement latest tally place value ≡ None → code_fault (tally_with latest tally) place value ≡ None
 unfolding code_judgement
-code_judgement-code latest tally place kind e =
-    otherwise-second (latest_header_fault latest tally.rate place) (code_fault (tally_with latest tally) place kind) e
+code_judgement-code latest tally place value e =
+    otherwise-second (latest_header_fault latest tally.rate place) (code_fault (tally_with latest tally) place value) e
 
 -- a slice's code that isn't refused, and the tally with the code before it
-pub record SliceTaken (t : Tally) (latest : Option Code) (tally : Tally) (place kind : ℕ) : Type 0 where
-  pub judged : code_judgement latest tally place kind ≡ None
+pub record SliceTaken (t : Tally) (latest : Option Code) (tally : Tally) (place value : ℕ) : Type 0 where
+  pub judged : code_judgement latest tally place value ≡ None
   pub tally_is : t ≡ tally_with latest tally
-  pub slice : is_slice kind ≡ true
+  pub slice : is_slice value ≡ true
 
 -- it isn't the film's first code
-pub slice-begun : {t tally : Tally} {latest : Option Code} {place kind : ℕ} → SliceTaken t latest tally place kind
+pub slice-begun : {t tally : Tally} {latest : Option Code} {place value : ℕ} → SliceTaken t latest tally place value
     → t.begun ≡ true
-slice-begun {t} {tally} {latest} {place} {kind} taken =
-    let other = ne_eqb kind 0xb3 (λ is. absurd (omega (arith, (slice-kind kind taken.slice).1))) in
+slice-begun {t} {tally} {latest} {place} {value} taken =
+    let other = ne_eqb value 0xb3 (λ is. absurd (omega (arith, (slice-value value taken.slice).1))) in
     ap (λ (v : Tally). v.begun) taken.tally_is
-    ∙ code-begun (tally_with latest tally) place kind (code_judgement-code latest tally place kind taken.judged) other
+    ∙ code-begun (tally_with latest tally) place value (code_judgement-code latest tally place value taken.judged) other
 
 -- a unit's first slice: the head before it has 1 to 1,380 bytes
-pub head-some : {t tally : Tally} {latest : Option Code} {place kind : ℕ} → SliceTaken t latest tally place kind
+pub head-some : {t tally : Tally} {latest : Option Code} {place value : ℕ} → SliceTaken t latest tally place value
     → HasRoom (tally_with latest tally) place → t.unit < place
-head-some {t} {tally} {latest} {place} {kind} taken room =
+head-some {t} {tally} {latest} {place} {value} taken room =
     let now = tally_with latest tally in
     let unit : t.unit ≡ now.unit = ap (λ (v : Tally). v.unit) taken.tally_is in
     let begun : t.begun ≡ now.begun = ap (λ (v : Tally). v.begun) taken.tally_is in
     omega (arith, unit, room.unit (sym begun ∙ slice-begun taken))
 
-pub head-short : {t tally : Tally} {latest : Option Code} {place kind : ℕ}
-    → SliceTaken t latest tally place kind → t.slices ≡ 0 → place ≤ t.unit + 1380
-head-short {t} {tally} {latest} {place} {kind} taken none =
+pub head-short : {t tally : Tally} {latest : Option Code} {place value : ℕ}
+    → SliceTaken t latest tally place value → t.slices ≡ 0 → place ≤ t.unit + 1380
+head-short {t} {tally} {latest} {place} {value} taken none =
     let now = tally_with latest tally in
     let unit : t.unit ≡ now.unit = ap (λ (v : Tally). v.unit) taken.tally_is in
     let slices : t.slices ≡ now.slices = ap (λ (v : Tally). v.slices) taken.tally_is in
     omega (
       arith,
       unit,
-      first_slice-head now place kind
-          (first_slice-accepted now place kind (code_judgement-code latest tally place kind taken.judged))
+      first_slice-head now place value
+          (first_slice-accepted now place value (code_judgement-code latest tally place value taken.judged))
           taken.slice (sym slices ∙ none),
     )
 
@@ -144,26 +144,26 @@ length-of true b = omega arith
 length-of false true = omega arith
 length-of false false = omega arith
 
-length-kind : (kind : ℕ) → prefix_length (next_prefix Whole kind) ≤ 1
-length-kind kind = length-of (eqb kind 1) (eqb kind 0)
+length-value : (value : ℕ) → prefix_length (next_prefix Whole value) ≤ 1
+length-value value = length-of (eqb value 1) (eqb value 0)
 
 length-no_zero : (a b : Bool) → b ≡ false → prefix_length (cond a Nothing (cond b Zero Nothing)) ≡ 0
 length-no_zero true b e = refl
 length-no_zero false true e = absurd (true≢false e)
 length-no_zero false false e = refl
 
-length-slice : (kind : ℕ) → is_slice kind ≡ true → prefix_length (next_prefix Whole kind) ≡ 0
-length-slice kind slice =
-    let other = ne_eqb kind 0 (λ none. absurd (omega (arith, (slice-kind kind slice).0))) in
-    length-no_zero (eqb kind 1) (eqb kind 0) other
+length-slice : (value : ℕ) → is_slice value ≡ true → prefix_length (next_prefix Whole value) ≡ 0
+length-slice value slice =
+    let other = ne_eqb value 0 (λ none. absurd (omega (arith, (slice-value value slice).0))) in
+    length-no_zero (eqb value 1) (eqb value 0) other
 
--- the prefix that a code's kind begins: at most a byte, and none where it is a slice
+-- the prefix that a code's value begins: at most a byte, and none where it is a slice
 record PrefixAfter (s : Bool) (l : ℕ) : Type 0 where
   short : l ≤ 1
   none : s ≡ true → l ≡ 0
 
-prefix-after : (kind : ℕ) → PrefixAfter (is_slice kind) (prefix_length (next_prefix Whole kind))
-prefix-after kind = record { short = length-kind kind; none = length-slice kind }
+prefix-after : (value : ℕ) → PrefixAfter (is_slice value) (prefix_length (next_prefix Whole value))
+prefix-after value = record { short = length-value value; none = length-slice value }
 
 from-by : {place l fed : ℕ} (b : Bool) (unit : ℕ) → l ≤ 1 → place + 3 ≤ fed → unit ≤ place
     → cond b place unit ≤ fed + 1 - l
@@ -182,20 +182,20 @@ slice-by {s = true} h slice prefix at before some = omega (arith, prefix.none re
 slice-by {s = false} true slice prefix at before some = absurd (omega (arith, some))
 slice-by {s = false} false slice prefix at before some = omega (arith, prefix.short, at, before some)
 
-code-room : {t : Tally} {place fed : ℕ} (kind : ℕ) → place + 3 ≤ fed → HasRoom t place → code_fault t place kind ≡ None
-    → HasRoomWith (Some (record { place = place; kind = kind; header = [] })) t
-    (fed + 1 - prefix_length (next_prefix Whole kind))
+code-room : {t : Tally} {place fed : ℕ} (value : ℕ) → place + 3 ≤ fed → HasRoom t place → code_fault t place value ≡ None
+    → HasRoomWith (Some (record { place = place; value = value; header = [] })) t
+    (fed + 1 - prefix_length (next_prefix Whole value))
 unfolding next
-code-room {t} {place} {fed} kind at room e =
-    let c : Code = record { place = place; kind = kind; header = [] } in
-    let short = length-kind kind in
-    let far : place + 1 ≤ fed + 1 - prefix_length (next_prefix Whole kind) = omega (arith, short, at) in record {
+code-room {t} {place} {fed} value at room e =
+    let c : Code = record { place = place; value = value; header = [] } in
+    let short = length-value value in
+    let far : place + 1 ≤ fed + 1 - prefix_length (next_prefix Whole value) = omega (arith, short, at) in record {
       code = λ d is. omega (arith, far, ap (λ (v : Code). v.place) (same_Some c d is));
       older = counts-more room.counts (omega (arith, far));
       now = record {
-        from = from-by (next_begins t kind) t.unit short at room.from;
-        unit = λ begun. unit-by (is_head kind && ltb 0 t.slices) t.unit short at room.unit;
-        slice = λ some. slice-by {n = t.slices} (is_head kind) t.slice (prefix-after kind) at room.slice some;
+        from = from-by (next_begins t value) t.unit short at room.from;
+        unit = λ begun. unit-by (is_head value && ltb 0 t.slices) t.unit short at room.unit;
+        slice = λ some. slice-by {n = t.slices} (is_head value) t.slice (prefix-after value) at room.slice some;
         picture = λ some. picture-next t c e room.picture some;
         rate = λ begun. rate-next t c e room.rate;
         counts = counts-next t c e room.counts far;
@@ -214,7 +214,7 @@ coded-ahead {s} {n} {m} x whole noted judged is room =
     let made = code-room {t = tally_now n} {place = place} {fed = s.fed} x (omega (arith, three, room.read))
     (room-before x whole noted room).now (code_judgement-code n.latest n.tally place x judged) in
     subst (λ (v : Progress). IsAhead v) (sym is) (record {
-      read = omega (arith, fed, length, length-kind x);
+      read = omega (arith, fed, length, length-value x);
       room = with-more made (omega (arith, fed, length));
     })
 

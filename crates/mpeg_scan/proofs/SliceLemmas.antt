@@ -13,7 +13,7 @@ use Rattle.mpeg_scan.specs.Faults.{end_fault, first_fault, last_fault, latest_fa
 use Rattle.mpeg_scan.specs.Calls.{calls_at, calls_of, unit_end}
 use Rattle.mpeg_scan.specs.Films.{IsFilm, slices_in}
 use Rattle.mpeg_scan.specs.Places.{HasCode, StandsAt}
-use Rattle.mpeg_scan.specs.Standard.{IsAmong, IsSliceKind, StandsThere, slice_places}
+use Rattle.mpeg_scan.specs.Standard.{IsAmong, IsSliceValue, StandsThere, slice_places}
 use Rattle.mpeg_scan.proofs.StepLemmas.{otherwise-second, calls-cons}
 use Rattle.mpeg_scan.proofs.StepLemmas.{accepted-whole}
 use Rattle.mpeg_scan.proofs.TileLemmas.{CodeEnds, ended-none, raw_calls, slice-apart}
@@ -71,20 +71,20 @@ raw-slices {s = false} {h = false} {e} here before apart counted is =
 
 step-slices : (c : Code) (past : List Code)
     → slices_in (calls_of past) ++ pending (slice_count past) (latest_slice past) ≡ slice_places past
-    → (slices_in (calls_of past) ++ slices_in (calls_at (tally_of past) c.place c.kind))
+    → (slices_in (calls_of past) ++ slices_in (calls_at (tally_of past) c.place c.value))
     ++ pending (slice_count (c ∷ past)) (latest_slice (c ∷ past)) ≡ slice_places (c ∷ past)
 unfolding calls_at
 step-slices c past is =
     let n = slice_count past in
     let counted : IsCounted (eqb n 0) (ltb 0 n) n = record { is = refl; none = none-count n; some = some-count n } in
-    raw-slices (ends_at (tally_of past) c.place) (slices_in (calls_of past)) (slice-apart c.kind) counted is
+    raw-slices (ends_at (tally_of past) c.place) (slices_in (calls_of past)) (slice-apart c.value) counted is
 
 calls-slices : (past : List Code) → slices_in (calls_of past) ++ pending (slice_count past)
     (latest_slice past) ≡ slice_places past
 calls-slices [] = ap (λ l. slices_in l ++ []) calls-nil
 calls-slices (c ∷ past) =
     ap (λ l. l ++ pending (slice_count (c ∷ past)) (latest_slice (c ∷ past)))
-    (ap slices_in (calls-cons c past) ∙ slices_in-append (calls_of past) (calls_at (tally_of past) c.place c.kind))
+    (ap slices_in (calls-cons c past) ∙ slices_in-append (calls_of past) (calls_at (tally_of past) c.place c.value))
     ∙ step-slices c past (calls-slices past)
 
 whole-slices : (past : List Code) (n : ℕ) → end_fault past n ≡ None
@@ -123,23 +123,23 @@ among-parts place last (x ∷ xs) (inr r) = elim (among-parts place last xs r) [
   | inr e ↦ inr e
 ]
 
-slice-kind : (kind : ℕ) → is_slice kind ≡ true → IsSliceKind kind
-slice-kind kind e =
-    let parts = and_parts (leb 1 kind) (leb kind 0xaf) e in (leb-true 1 kind parts.0, leb-true kind 0xaf parts.1)
+slice-value : (value : ℕ) → is_slice value ≡ true → IsSliceValue value
+slice-value value e =
+    let parts = and_parts (leb 1 value) (leb value 0xaf) e in (leb-true 1 value parts.0, leb-true value 0xaf parts.1)
 
-kind-slice : (kind : ℕ) → IsSliceKind kind → is_slice kind ≡ true
-kind-slice kind is = and_from (leb 1 kind) (leb kind 0xaf) (le-leb 1 kind is.0) (le-leb kind 0xaf is.1)
+value-slice : (value : ℕ) → IsSliceValue value → is_slice value ≡ true
+value-slice value is = and_from (leb 1 value) (leb value 0xaf) (le-leb 1 value is.0) (le-leb value 0xaf is.1)
 
 abbrev ThereIn : List Code → ℕ → Type 0
-ThereIn past place = (kind : ℕ) × (HasCode place kind past × IsSliceKind kind)
+ThereIn past place = (value : ℕ) × (HasCode place value past × IsSliceValue value)
 
-there-by : {b : Bool} {place : ℕ} (c : Code) (past : List Code) (places : List ℕ) → is_slice c.kind ≡ b
+there-by : {b : Bool} {place : ℕ} (c : Code) (past : List Code) (places : List ℕ) → is_slice c.value ≡ b
     → (IsAmong place places → ThereIn past place)
     → IsAmong place (cond b (places ++ c.place ∷ []) places) → ThereIn (c ∷ past) place
 there-by {b = false} {place} c past places is older among = let it = older among in (it.0, (inr it.1.0, it.1.1))
 there-by {b = true} {place} c past places is older among = elim (among-parts place c.place places among) [
   | inl a ↦ let it = older a in (it.0, (inr it.1.0, it.1.1))
-  | inr e ↦ (c.kind, (inl (e, refl), slice-kind c.kind is))
+  | inr e ↦ (c.value, (inl (e, refl), slice-value c.value is))
 ]
 
 among-there : (past : List Code) (place : ℕ) → IsAmong place (slice_places past) → ThereIn past place
@@ -151,19 +151,19 @@ older-among : (b : Bool) (place last : ℕ) (places : List ℕ) → IsAmong plac
 older-among true place last places among = among-left place places (last ∷ []) among
 older-among false place last places among = among
 
-there-among : (past : List Code) (place kind : ℕ) → HasCode place kind past → IsSliceKind kind
+there-among : (past : List Code) (place value : ℕ) → HasCode place value past → IsSliceValue value
     → IsAmong place (slice_places past)
-there-among [] place kind has is = absurd has
-there-among (c ∷ past) place kind (inl new) is =
-    let slice : is_slice c.kind ≡ true = ap is_slice new.1 ∙ kind-slice kind is in
+there-among [] place value has is = absurd has
+there-among (c ∷ past) place value (inl new) is =
+    let slice : is_slice c.value ≡ true = ap is_slice new.1 ∙ value-slice value is in
     subst (λ b. IsAmong place (cond b (slice_places past ++ c.place ∷ []) (slice_places past))) (sym slice)
     (among-last place c.place (slice_places past) new.0)
-there-among (c ∷ past) place kind (inr old) is =
-    older-among (is_slice c.kind) place c.place (slice_places past) (there-among past place kind old is)
+there-among (c ∷ past) place value (inr old) is =
+    older-among (is_slice c.value) place c.place (slice_places past) (there-among past place value old is)
 
 pub film-slice_codes : (bytes : List ℕ) (rate : ℕ) (units : List PictureUnit) (starts : List ℕ)
     → IsFilm bytes rate units starts → (place : ℕ)
-    → IsAmong place starts ↔ StandsThere (StandsAt bytes) place IsSliceKind
+    → IsAmong place starts ↔ StandsThere (StandsAt bytes) place IsSliceValue
 film-slice_codes bytes rate units starts film place =
     let past = codes_of (read_after [] bytes) in
     let same = film-slices bytes rate units starts film in (

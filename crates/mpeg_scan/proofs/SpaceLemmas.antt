@@ -1,4 +1,4 @@
--- The start codes of bytes stand apart: each has at least 4 bytes, or 3 where its kind is 0, which
+-- The start codes of bytes stand apart: each has at least 4 bytes, or 3 where its value is 0, which
 -- may begin the next prefix.
 use Rattle.std.proofs.Common.{ℕ, suc, Bool, true, false, cond, eqb, leb, ◌+◌, ◌-◌, ◌<◌, ◌≤◌, ◌≡◌}
 use Rattle.std.proofs.Common.{List, [], ◌∷◌, length, sym, ◌∙◌, ap, refl, subst, inl, inr, arith}
@@ -17,7 +17,7 @@ use Rattle.mpeg_scan.specs.Room.{prefix_length}
 -- ---- how far codes stand apart
 
 abbrev pub span : Code → ℕ
-span d = cond (eqb d.kind 0) 3 4
+span d = cond (eqb d.value 0) 3 4
 
 abbrev pub After : ℕ → List Code → Type 0
 After at [] = Unit {0}
@@ -32,12 +32,12 @@ three true = omega arith
 three false = omega arith
 
 -- their places rise
-pub all-below : {at : ℕ} (past : List Code) → Spaced past → After at past → (place kind : ℕ)
-    → HasCode place kind past → place < at
-all-below {at} [] spaced after place kind has = absurd has
-all-below {at} (d ∷ past) spaced after place kind (inl new) = omega (arith, three (eqb d.kind 0), after, new.0)
-all-below {at} (d ∷ past) spaced after place kind (inr old) =
-    omega (arith, three (eqb d.kind 0), after, all-below {at = d.place} past spaced.1 spaced.0 place kind old)
+pub all-below : {at : ℕ} (past : List Code) → Spaced past → After at past → (place value : ℕ)
+    → HasCode place value past → place < at
+all-below {at} [] spaced after place value has = absurd has
+all-below {at} (d ∷ past) spaced after place value (inl new) = omega (arith, three (eqb d.value 0), after, new.0)
+all-below {at} (d ∷ past) spaced after place value (inr old) =
+    omega (arith, three (eqb d.value 0), after, all-below {at = d.place} past spaced.1 spaced.0 place value old)
 
 either-before : (b : Bool) (m n at : ℕ) → m + 3 ≤ at → n + 3 ≤ at → cond b m n + 3 ≤ at
 either-before true m n at h i = h
@@ -45,16 +45,16 @@ either-before false m n at h i = i
 
 pub unit-before : (d : Code) (past : List Code) (at : ℕ) → Spaced (d ∷ past) → After at (d ∷ past)
     → latest_unit (d ∷ past) + 3 ≤ at
-unit-before d [] at spaced after = omega (arith, three (eqb d.kind 0), after)
+unit-before d [] at spaced after = omega (arith, three (eqb d.value 0), after)
 unit-before d (e ∷ past) at spaced after =
     either-before (begins_unit d (e ∷ past)) d.place (latest_unit (e ∷ past)) at
-    (omega (arith, three (eqb d.kind 0), after))
-    (omega (arith, three (eqb d.kind 0), after, unit-before e past d.place spaced.1 spaced.0))
+    (omega (arith, three (eqb d.value 0), after))
+    (omega (arith, three (eqb d.value 0), after, unit-before e past d.place spaced.1 spaced.0))
 
-span-slice : (d : Code) → is_slice d.kind ≡ true → span d ≡ 4
+span-slice : (d : Code) → is_slice d.value ≡ true → span d ≡ 4
 span-slice d slice =
-    let low : 1 ≤ d.kind = leb-true 1 d.kind (and_parts (leb 1 d.kind) (leb d.kind 0xaf) slice).0 in
-    ap (λ b. cond b 3 4) (ne_eqb d.kind 0 (λ none. absurd (omega arith)))
+    let low : 1 ≤ d.value = leb-true 1 d.value (and_parts (leb 1 d.value) (leb d.value 0xaf) slice).0 in
+    ap (λ b. cond b 3 4) (ne_eqb d.value 0 (λ none. absurd (omega arith)))
 
 slice-case : {s : Bool} {n at : ℕ} (h : Bool) (p q : ℕ) → (s ≡ true → p + 4 ≤ at) → (0 < n → q + 4 ≤ at)
     → 0 < cond h 0 (cond s (n + 1) n) → cond s p (cond h 0 q) + 4 ≤ at
@@ -66,9 +66,9 @@ pub slice-before : (past : List Code) (at : ℕ) → Spaced past → After at pa
     → latest_slice past + 4 ≤ at
 slice-before [] at spaced after some = absurd (omega arith)
 slice-before (d ∷ past) at spaced after some =
-    slice-case {s = is_slice d.kind} {n = slice_count past} {at = at} (is_head d.kind) d.place (latest_slice past)
+    slice-case {s = is_slice d.value} {n = slice_count past} {at = at} (is_head d.value) d.place (latest_slice past)
     (λ slice. omega (arith, span-slice d slice, after))
-    (λ more. omega (arith, three (eqb d.kind 0), after, slice-before past d.place spaced.1 spaced.0 more)) some
+    (λ more. omega (arith, three (eqb d.value 0), after, slice-before past d.place spaced.1 spaced.0 more)) some
 
 -- ---- the codes of bytes stand apart
 
@@ -80,7 +80,7 @@ need b Whole = cond b 6 7
 
 abbrev pub Room : List Code → Prefix → ℕ → Type 0
 Room [] p n = prefix_length p ≤ n
-Room (d ∷ past) p n = d.place + need (eqb d.kind 0) p ≤ n
+Room (d ∷ past) p n = d.place + need (eqb d.value 0) p ≤ n
 
 next-need : (b1 b0 b : Bool) (p : Prefix) → is_whole p ≡ false
     → need b (cond b1 (after_one p) (cond b0 (after_zero p) Nothing)) ≤ suc (need b p)
@@ -121,10 +121,10 @@ room-byte : (past : List Code) (p : Prefix) (n x : ℕ) → is_whole p ≡ false
     → Room (note_latest past x) (next_prefix p x) (suc n)
 room-byte [] p n x plain room = next-length (eqb x 1) (eqb x 0) p n plain room
 room-byte (d ∷ past) p n x plain room =
-    let before : d.place + need (eqb d.kind 0) p ≤ n = room in
+    let before : d.place + need (eqb d.value 0) p ≤ n = room in
     let after : d.place
-    + need (eqb d.kind 0) (cond (eqb x 1) (after_one p) (cond (eqb x 0) (after_zero p) Nothing)) ≤ suc n =
-    omega (arith, before, next-need (eqb x 1) (eqb x 0) (eqb d.kind 0) p plain) in
+    + need (eqb d.value 0) (cond (eqb x 1) (after_one p) (cond (eqb x 0) (after_zero p) Nothing)) ≤ suc n =
+    omega (arith, before, next-need (eqb x 1) (eqb x 0) (eqb d.value 0) p plain) in
     after
 
 spaced-note : (past : List Code) (x : ℕ) → Spaced past → Spaced (note_latest past x)
@@ -143,7 +143,7 @@ apart-code false k n room = (omega arith, omega arith)
 
 after-code : (past : List Code) (n x : ℕ) → Room past Whole n → After (n - 3) (note_latest past x) × (3 ≤ n)
 after-code [] n x room = (tt, room)
-after-code (d ∷ past) n x room = apart-code (eqb d.kind 0) d.place n room
+after-code (d ∷ past) n x room = apart-code (eqb d.value 0) d.place n room
 
 first-need : (b1 b0 : Bool) → need b0 (cond b1 Nothing (cond b0 Zero Nothing)) ≤ 4
 first-need true b0 = omega arith
@@ -160,7 +160,7 @@ placed-plain past p n x plain placed =
     record { spaced = spaced-note past x placed.spaced; room = room-byte past p n x plain placed.room }
 
 placed-code : (past : List Code) (n x : ℕ) → Placed past Whole n
-    → Placed (record { place = n - 3; kind = x; header = [] } ∷ note_latest past x) (next_prefix Whole x) (suc n)
+    → Placed (record { place = n - 3; value = x; header = [] } ∷ note_latest past x) (next_prefix Whole x) (suc n)
 placed-code past n x placed =
     let after = after-code past n x placed.room in record {
       spaced = (after.0, spaced-note past x placed.spaced);
@@ -182,7 +182,7 @@ placed-codes (x ∷ r) =
           subst (λ (past : List Code). Placed past (latest_prefix (x ∷ r)) (suc (length r)))
           (sym (codes-code x r e))
           (subst (λ (p : Prefix). Placed
-          (record { place = length r - 3; kind = x; header = [] } ∷ note_latest (codes_of r) x) p
+          (record { place = length r - 3; value = x; header = [] } ∷ note_latest (codes_of r) x) p
           (suc (length r)))
           (sym (matched-more x r ∙ ap (λ (p : Prefix). next_prefix p x) (whole-is (latest_prefix r) e)))
           (placed-code (codes_of r) (length r) x at_whole)))
@@ -204,4 +204,4 @@ need-span false Whole = omega arith
 
 pub room-after : (past : List Code) (p : Prefix) (n : ℕ) → Room past p n → After n past
 room-after [] p n room = tt
-room-after (d ∷ past) p n room = omega (arith, need-span (eqb d.kind 0) p)
+room-after (d ∷ past) p n room = omega (arith, need-span (eqb d.value 0) p)

@@ -72,13 +72,13 @@ nine-by : (a b : Bool) → (a && b) ≡ false → a ≡ true → b ≡ false
 nine-by true b none is = none
 nine-by false b none is = absurd (false≢true is)
 
-picture-long : (rate : Option ℕ) (c : Code) (end : ℕ) → c.kind ≡ 0 → header_fault rate c end ≡ None → PictureLong c end
+picture-long : (rate : Option ℕ) (c : Code) (end : ℕ) → c.value ≡ 0 → header_fault rate c end ≡ None → PictureLong c end
 picture-long rate c end is e =
     let judged =
     picture-judged (cond (ltb (end - c.place) 12) (Some (ShortHeader c.place)) (rate_fault rate c))
     (cond (ltb (end - c.place) 8) (Some (ShortHeader c.place)) None)
-    (ne_eqb c.kind 0xb3 (λ k. absurd (omega (arith, is, k))))
-    (ne_eqb c.kind 0xb8 (λ k. absurd (omega (arith, is, k)))) (eq-eqb c.kind 0 is) e in
+    (ne_eqb c.value 0xb3 (λ k. absurd (omega (arith, is, k))))
+    (ne_eqb c.value 0xb8 (λ k. absurd (omega (arith, is, k)))) (eq-eqb c.value 0 is) e in
     let parts = some-cond-none
     (ltb (end - c.place) 8 || ((eqb (type_of c) 2 || eqb (type_of c) 3) && ltb (end - c.place) 9))
     (ShortHeader c.place) (cond (leb 1 (type_of c) && leb (type_of c) 4) None (Some (BadType c.place))) judged in
@@ -174,40 +174,40 @@ fields-fit {place} bytes f header =
     }
 
 -- a unit over these codes is one over the bytes
-none-bytes : {bytes : List ℕ} {from to : ℕ} {OfKind : ℕ → Type 0} (past : List Code)
-    → ((place kind : ℕ) → HasCode place kind past ↔ StandsAt bytes place kind)
-    → NoneIn (Has past) from to OfKind → NoneIn (StandsAt bytes) from to OfKind
-none-bytes {from} past both none place kind has after before is =
-    none place kind ((both place kind).1 has) after before is
+none-bytes : {bytes : List ℕ} {from to : ℕ} {OfValue : ℕ → Type 0} (past : List Code)
+    → ((place value : ℕ) → HasCode place value past ↔ StandsAt bytes place value)
+    → NoneIn (Has past) from to OfValue → NoneIn (StandsAt bytes) from to OfValue
+none-bytes {from} past both none place value has after before is =
+    none place value ((both place value).1 has) after before is
 
 stands-bytes : {bytes : List ℕ} {from to k : ℕ} (past : List Code)
-    → ((place kind : ℕ) → HasCode place kind past ↔ StandsAt bytes place kind) → StandsIn (Has past) from to k
+    → ((place value : ℕ) → HasCode place value past ↔ StandsAt bytes place value) → StandsIn (Has past) from to k
     → StandsIn (StandsAt bytes) from to k
 stands-bytes {from} {k} past both it =
     record { place = it.place; code = (both it.place k).0 it.code; after = it.after; before = it.before }
 
 stands-codes : {bytes : List ℕ} {from to k : ℕ} (past : List Code)
-    → ((place kind : ℕ) → HasCode place kind past ↔ StandsAt bytes place kind)
+    → ((place value : ℕ) → HasCode place value past ↔ StandsAt bytes place value)
     → StandsIn (StandsAt bytes) from to k → StandsIn (Has past) from to k
 stands-codes {from} {k} past both it =
     record { place = it.place; code = (both it.place k).1 it.code; after = it.after; before = it.before }
 
 group-bytes : (bytes : List ℕ) (past : List Code) (from to : ℕ)
-    → ((place kind : ℕ) → HasCode place kind past ↔ StandsAt bytes place kind)
+    → ((place value : ℕ) → HasCode place value past ↔ StandsAt bytes place value)
     → IsFirstCode (Has past) from ⊎ StandsIn (Has past) from to 0xb8
     → IsFirstCode (StandsAt bytes) from ⊎ StandsIn (StandsAt bytes) from to 0xb8
-group-bytes bytes past from to both (inl firsts) = inl (λ place kind has. firsts place kind ((both place kind).1 has))
+group-bytes bytes past from to both (inl firsts) = inl (λ place value has. firsts place value ((both place value).1 has))
 group-bytes bytes past from to both (inr it) = inr (stands-bytes past both it)
 
 group-codes : (bytes : List ℕ) (past : List Code) (from to : ℕ)
-    → ((place kind : ℕ) → HasCode place kind past ↔ StandsAt bytes place kind)
+    → ((place value : ℕ) → HasCode place value past ↔ StandsAt bytes place value)
     → IsFirstCode (StandsAt bytes) from ⊎ StandsIn (StandsAt bytes) from to 0xb8
     → IsFirstCode (Has past) from ⊎ StandsIn (Has past) from to 0xb8
-group-codes bytes past from to both (inl firsts) = inl (λ place kind has. firsts place kind ((both place kind).0 has))
+group-codes bytes past from to both (inl firsts) = inl (λ place value has. firsts place value ((both place value).0 has))
 group-codes bytes past from to both (inr it) = inr (stands-codes past both it)
 
 unit-bytes : (bytes : List ℕ) (past : List Code) (unit : PictureUnit)
-    → ((place kind : ℕ) → HasCode place kind past ↔ StandsAt bytes place kind) → AreHeaders (read_after [] bytes) past
+    → ((place value : ℕ) → HasCode place value past ↔ StandsAt bytes place value) → AreHeaders (read_after [] bytes) past
     → Closed past unit → IsUnitOf bytes unit
 unit-bytes bytes past unit both headers closed =
     let u = closed.unit_is in
@@ -218,10 +218,10 @@ unit-bytes bytes past unit both headers closed =
       head = none-bytes past both u.head;
       head_ends = (u.head_ends.0, ((both unit.head_end u.head_ends.0).0 u.head_ends.1.0, u.head_ends.1.1));
       rest = u.rest;
-      own = counts-same (λ place kind before has. (both place kind).0 has)
-          (λ place kind before has. (both place kind).1 has) u.own;
-      all = counts-same (λ place kind before has. (both place kind).0 has)
-          (λ place kind before has. (both place kind).1 has) u.all;
+      own = counts-same (λ place value before has. (both place value).0 has)
+          (λ place value before has. (both place value).1 has) u.own;
+      all = counts-same (λ place value before has. (both place value).0 has)
+          (λ place value before has. (both place value).1 has) u.all;
       slices = none-bytes past both u.slices;
       picture = record {
         place = p.place;

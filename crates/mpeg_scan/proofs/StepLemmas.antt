@@ -13,7 +13,7 @@ use Rattle.mpeg_scan.specs.declared.progress.Progress.{Progress}
 use Rattle.mpeg_scan.specs.Tallies.{Tally}
 use Rattle.mpeg_scan.specs.Codes.{latest_prefix, next_prefix, is_whole, note, note_latest, codes_of}
 use Rattle.mpeg_scan.specs.Words.{tally_of, picture_count, before_group_of}
-use Rattle.mpeg_scan.specs.Faults.{first_refusal, latest_fault, kind_fault, second_fault}
+use Rattle.mpeg_scan.specs.Faults.{first_refusal, latest_fault, value_fault, second_fault}
 use Rattle.mpeg_scan.specs.Faults.{first_slice_fault, count_fault, code_fault, fault_at}
 use Rattle.mpeg_scan.specs.Faults.{first_fault, end_fault, last_fault, refusal_of}
 use Rattle.mpeg_scan.specs.Calls.{Call, calls_at, calls_of}
@@ -41,14 +41,14 @@ pub codes-plain : (x : ℕ) (r : List ℕ) → is_whole (latest_prefix r) ≡ fa
     → codes_of (x ∷ r) ≡ note_latest (codes_of r) x
 unfolding codes_of
 codes-plain x r e =
-    let new : List Code = record { place = length r - 3; kind = x; header = [] } ∷ note_latest (codes_of r) x in
+    let new : List Code = record { place = length r - 3; value = x; header = [] } ∷ note_latest (codes_of r) x in
     cond-false (is_whole (latest_prefix r)) new (note_latest (codes_of r) x) e
 
 pub codes-code : (x : ℕ) (r : List ℕ) → is_whole (latest_prefix r) ≡ true
-    → codes_of (x ∷ r) ≡ record { place = length r - 3; kind = x; header = [] } ∷ note_latest (codes_of r) x
+    → codes_of (x ∷ r) ≡ record { place = length r - 3; value = x; header = [] } ∷ note_latest (codes_of r) x
 unfolding codes_of
 codes-code x r e =
-    let new : List Code = record { place = length r - 3; kind = x; header = [] } ∷ note_latest (codes_of r) x in
+    let new : List Code = record { place = length r - 3; value = x; header = [] } ∷ note_latest (codes_of r) x in
     cond-true (is_whole (latest_prefix r)) new (note_latest (codes_of r) x) e
 
 pub latest-note : (past : List Code) (x : ℕ)
@@ -86,27 +86,27 @@ otherwise-second (Some f) g e = absurd (cc)
 
 pub accepted-older : (c : Code) (past : List Code) → first_fault (c ∷ past) ≡ None → first_fault past ≡ None
 unfolding first_fault
-accepted-older c past e = otherwise-first (first_fault past) (fault_at past c.place c.kind) e
+accepted-older c past e = otherwise-first (first_fault past) (fault_at past c.place c.value) e
 
 -- a code of an accepted list is refused by none of its points
 pub code-accepted : (c : Code) (past : List Code) → first_fault (c ∷ past) ≡ None
-    → code_fault (tally_of past) c.place c.kind ≡ None
+    → code_fault (tally_of past) c.place c.value ≡ None
 unfolding first_fault fault_at
 code-accepted c past e =
     let t = tally_of past in
     let at_code =
-    otherwise-second (first_fault past) (first_refusal (latest_fault past c.place) (code_fault t c.place c.kind)) e in
-    otherwise-second (latest_fault past c.place) (code_fault t c.place c.kind) at_code
+    otherwise-second (first_fault past) (first_refusal (latest_fault past c.place) (code_fault t c.place c.value)) e in
+    otherwise-second (latest_fault past c.place) (code_fault t c.place c.value) at_code
 
-pub count-accepted : (t : Tally) (place kind : ℕ) → code_fault t place kind ≡ None
-    → count_fault t place kind ≡ None
-count-accepted t place kind e =
-    let first = first_slice_fault t place kind in
-    let count = count_fault t place kind in
+pub count-accepted : (t : Tally) (place value : ℕ) → code_fault t place value ≡ None
+    → count_fault t place value ≡ None
+count-accepted t place value e =
+    let first = first_slice_fault t place value in
+    let count = count_fault t place value in
     otherwise-second first count
-    (otherwise-second (second_fault t kind) (first_refusal first count)
-    (otherwise-second (kind_fault t place kind)
-    (first_refusal (second_fault t kind) (first_refusal first count)) e))
+    (otherwise-second (second_fault t value) (first_refusal first count)
+    (otherwise-second (value_fault t place value)
+    (first_refusal (second_fault t value) (first_refusal first count)) e))
 
 pub counted : {q : Bool} {p : ℕ} (b g : Bool) (place : ℕ) → leb 4194304 p ≡ q
     → cond b (cond g (Some (GroupTooLong place)) (cond q (Some TooLong) None)) None ≡ None → p ≤ 4194304
@@ -119,8 +119,8 @@ counted {q = false} {p} true false place test none bound = omega (arith, leb-fal
 pub pictures-bound : (past : List Code) → first_fault past ≡ None → picture_count past ≤ 4194304
 pictures-bound [] e = omega arith
 pictures-bound (c ∷ past) e =
-    counted {p = picture_count past} (eqb c.kind 0) (leb 1024 (picture_count past - before_group_of past)) c.place
-    refl (count-accepted (tally_of past) c.place c.kind (code-accepted c past e))
+    counted {p = picture_count past} (eqb c.value 0) (leb 1024 (picture_count past - before_group_of past)) c.place
+    refl (count-accepted (tally_of past) c.place c.value (code-accepted c past e))
     (pictures-bound past (accepted-older c past e))
 
 -- ---- the tally with the latest code
@@ -134,12 +134,12 @@ pub tally_now-is : (past : List Code) → tally_with (latest_of past) (tally_of 
 tally_now-is [] = refl
 tally_now-is (c ∷ past) = next-tally past c
 
-pub code_judgement-is : (past : List Code) (place kind : ℕ)
-    → code_judgement (latest_of past) (tally_of (older_of past)) place kind ≡ fault_at past place kind
+pub code_judgement-is : (past : List Code) (place value : ℕ)
+    → code_judgement (latest_of past) (tally_of (older_of past)) place value ≡ fault_at past place value
 unfolding code_judgement fault_at
-code_judgement-is [] place kind = refl
-code_judgement-is (c ∷ past) place kind =
-    ap (λ (t : Tally). first_refusal (latest_fault (c ∷ past) place) (code_fault t place kind)) (next-tally past c)
+code_judgement-is [] place value = refl
+code_judgement-is (c ∷ past) place value =
+    ap (λ (t : Tally). first_refusal (latest_fault (c ∷ past) place) (code_fault t place value)) (next-tally past c)
 
 -- ---- a byte
 
@@ -161,15 +161,15 @@ fed-plain s r x kept plain =
     }
 
 -- what the scanner judges a code by, once its byte is noted
-pub code_judgement-next : {s : Progress} {r : List ℕ} (x place kind : ℕ) → HasRead s r
-    → code_judgement (scan_with_byte s x).latest s.tally place kind ≡ fault_at (note_latest (codes_of r) x) place kind
-code_judgement-next {s} {r} x place kind kept =
+pub code_judgement-next : {s : Progress} {r : List ℕ} (x place value : ℕ) → HasRead s r
+    → code_judgement (scan_with_byte s x).latest s.tally place value ≡ fault_at (note_latest (codes_of r) x) place value
+code_judgement-next {s} {r} x place value kept =
     let past = note_latest (codes_of r) x in
-    ap (λ (l : Option Code). code_judgement l s.tally place kind)
+    ap (λ (l : Option Code). code_judgement l s.tally place value)
     (ap (option_map (λ c. note c x)) kept.latest ∙ sym (latest-note (codes_of r) x))
-    ∙ ap (λ (t : Tally). code_judgement (latest_of past) t place kind)
+    ∙ ap (λ (t : Tally). code_judgement (latest_of past) t place value)
     (kept.tally ∙ ap tally_of (sym (older-note (codes_of r) x)))
-    ∙ code_judgement-is past place kind
+    ∙ code_judgement-is past place value
 
 pub tally-noted : (s : Progress) (r : List ℕ) (x : ℕ) → HasRead s r
     → tally_with (scan_with_byte s x).latest s.tally ≡ tally_of (note_latest (codes_of r) x)
@@ -180,11 +180,11 @@ tally-noted s r x kept =
     ∙ ap (λ (t : Tally). tally_with (latest_of past) t) (kept.tally ∙ ap tally_of (sym (older-note (codes_of r) x)))
     ∙ tally_now-is past
 
-first_fault-code : (past : List Code) (place kind : ℕ) → first_fault past ≡ None
-    → first_fault (record { place = place; kind = kind; header = [] } ∷ past) ≡ fault_at past place kind
+first_fault-code : (past : List Code) (place value : ℕ) → first_fault past ≡ None
+    → first_fault (record { place = place; value = value; header = [] } ∷ past) ≡ fault_at past place value
 unfolding first_fault
-first_fault-code past place kind accepted =
-    ap (λ (f : Option FilmFault). first_refusal f (fault_at past place kind)) accepted
+first_fault-code past place value accepted =
+    ap (λ (f : Option FilmFault). first_refusal f (fault_at past place value)) accepted
 
 -- the refusal at a code, and that there is none
 pub first_fault-at : (s : Progress) (r : List ℕ) (x : ℕ) → HasRead s r
@@ -205,14 +205,14 @@ fed-code {s} {r} {x} kept whole none =
       fed = omega (arith, kept.fed);
       prefix = ap (λ p. next_prefix p x) kept.prefix ∙ sym (matched-more x r);
       latest =
-          ap (λ n. latest_of (record { place = n - 3; kind = x; header = [] } ∷ past)) kept.fed
+          ap (λ n. latest_of (record { place = n - 3; value = x; header = [] } ∷ past)) kept.fed
           ∙ ap latest_of (sym codes);
       tally = tally-noted s r x kept ∙ ap (λ (l : List Code). tally_of (older_of l)) (sym codes);
       accepted = first_fault-at s r x kept whole ∙ none;
     }
 
 pub calls-cons : (c : Code) (past : List Code)
-    → calls_of (c ∷ past) ≡ calls_of past ++ calls_at (tally_of past) c.place c.kind
+    → calls_of (c ∷ past) ≡ calls_of past ++ calls_at (tally_of past) c.place c.value
 unfolding calls_of
 calls-cons c past = refl
 
@@ -227,7 +227,7 @@ pub calls-at_code : (s : Progress) (r : List ℕ) (x : ℕ) → HasRead s r
     ≡ calls_of (codes_of r) ++ calls_at (tally_with (scan_with_byte s x).latest s.tally) (s.fed - 3) x
 calls-at_code s r x kept whole =
     let past = note_latest (codes_of r) x in
-    ap calls_of (codes-code x r whole) ∙ calls-cons (record { place = length r - 3; kind = x; header = [] }) past
+    ap calls_of (codes-code x r whole) ∙ calls-cons (record { place = length r - 3; value = x; header = [] }) past
     ∙ ap (λ (l : List Call). l ++ calls_at (tally_of past) (length r - 3) x) (calls-note (codes_of r) x)
     ∙ ap (λ (t : Tally). calls_of (codes_of r) ++ calls_at t (length r - 3) x) (sym (tally-noted s r x kept))
     ∙ ap (λ n. calls_of (codes_of r) ++ calls_at (tally_with (scan_with_byte s x).latest s.tally) (n - 3) x)

@@ -14,7 +14,7 @@ use Rattle.mpeg_scan.specs.declared.units.Unit.{Unit as PictureUnit}
 use Rattle.mpeg_scan.specs.Codes.{latest_prefix, codes_of}
 use Rattle.mpeg_scan.specs.Words.{is_head, is_slice, tally_of, slice_count, latest_unit, head_end_of}
 use Rattle.mpeg_scan.specs.Words.{latest_slice}
-use Rattle.mpeg_scan.specs.Faults.{first_refusal, latest_fault, kind_fault, second_fault}
+use Rattle.mpeg_scan.specs.Faults.{first_refusal, latest_fault, value_fault, second_fault}
 use Rattle.mpeg_scan.specs.Faults.{first_slice_fault, count_fault, code_fault, head_fault}
 use Rattle.mpeg_scan.specs.Faults.{open_fault, last_fault, first_fault, end_fault, refusal_of}
 use Rattle.mpeg_scan.specs.Calls.{Call, head_call, slice_call, unit_call, unit_at, unit_end}
@@ -168,14 +168,14 @@ parts-append (Some part) (call ∷ a) b = parts-append (next_part part call) a b
 abbrev pub part_of : List Code → Part
 part_of past = part_by (slice_count past) (latest_unit past) (head_end_of past) (latest_slice past)
 
-pub slice-apart : (kind : ℕ) → is_slice kind ≡ true → is_head kind ≡ false
-slice-apart kind slice =
-    let parts = and_parts (leb 1 kind) (leb kind 0xaf) slice in
-    let low : 1 ≤ kind = leb-true 1 kind parts.0 in
-    let high : kind ≤ 0xaf = leb-true kind 0xaf parts.1 in
-    ap (λ b. b || (eqb kind 0xb3 || eqb kind 0xb8)) (ne_eqb kind 0 (λ e. absurd (omega arith)))
-    ∙ ap (λ b. b || eqb kind 0xb8) (ne_eqb kind 0xb3 (λ e. absurd (omega arith)))
-    ∙ ne_eqb kind 0xb8 (λ e. absurd (omega arith))
+pub slice-apart : (value : ℕ) → is_slice value ≡ true → is_head value ≡ false
+slice-apart value slice =
+    let parts = and_parts (leb 1 value) (leb value 0xaf) slice in
+    let low : 1 ≤ value = leb-true 1 value parts.0 in
+    let high : value ≤ 0xaf = leb-true value 0xaf parts.1 in
+    ap (λ b. b || (eqb value 0xb3 || eqb value 0xb8)) (ne_eqb value 0 (λ e. absurd (omega arith)))
+    ∙ ap (λ b. b || eqb value 0xb8) (ne_eqb value 0xb3 (λ e. absurd (omega arith)))
+    ∙ ne_eqb value 0xb8 (λ e. absurd (omega arith))
 
 count-cases : (n : ℕ) → (n ≡ 0) ⊎ ((m : ℕ) × (n ≡ m + 1))
 count-cases zero = inl refl
@@ -186,58 +186,58 @@ head-short t place None e = absurd (cc)
 head-short t place (Some p) e =
     ltb-false 1380 (place - t.unit) (some-cond-none (ltb 1380 (place - t.unit)) (HeadTooLong t.unit) None e).0
 
-pub first_slice-head : (t : Tally) (place kind : ℕ) → first_slice_fault t place kind ≡ None
-    → is_slice kind ≡ true → t.slices ≡ 0 → place - t.unit ≤ 1380
-first_slice-head t place kind e slice none =
+pub first_slice-head : (t : Tally) (place value : ℕ) → first_slice_fault t place value ≡ None
+    → is_slice value ≡ true → t.slices ≡ 0 → place - t.unit ≤ 1380
+first_slice-head t place value e slice none =
     head-short t place t.picture
-    (sym (cond-true (is_slice kind && eqb t.slices 0) (head_fault t place t.picture) None
-    (and_from (is_slice kind) (eqb t.slices 0) slice (eq-eqb t.slices 0 none))) ∙ e)
+    (sym (cond-true (is_slice value && eqb t.slices 0) (head_fault t place t.picture) None
+    (and_from (is_slice value) (eqb t.slices 0) slice (eq-eqb t.slices 0 none))) ∙ e)
 
 -- what a code that isn't refused tells
-pub first_slice-accepted : (t : Tally) (place kind : ℕ) → code_fault t place kind ≡ None
-    → first_slice_fault t place kind ≡ None
-first_slice-accepted t place kind e =
-    let rest = otherwise-second (kind_fault t place kind)
-    (first_refusal (second_fault t kind) (first_refusal (first_slice_fault t place kind)
-    (count_fault t place kind))) e in
-    let last = otherwise-second (second_fault t kind)
-    (first_refusal (first_slice_fault t place kind) (count_fault t place kind)) rest in
-    otherwise-first (first_slice_fault t place kind) (count_fault t place kind) last
+pub first_slice-accepted : (t : Tally) (place value : ℕ) → code_fault t place value ≡ None
+    → first_slice_fault t place value ≡ None
+first_slice-accepted t place value e =
+    let rest = otherwise-second (value_fault t place value)
+    (first_refusal (second_fault t value) (first_refusal (first_slice_fault t place value)
+    (count_fault t place value))) e in
+    let last = otherwise-second (second_fault t value)
+    (first_refusal (first_slice_fault t place value) (count_fault t place value)) rest in
+    otherwise-first (first_slice_fault t place value) (count_fault t place value) last
 
-code-step : (c d : Code) (past : List Code) → code_fault (tally_of (d ∷ past)) c.place c.kind ≡ None
+code-step : (c d : Code) (past : List Code) → code_fault (tally_of (d ∷ past)) c.place c.value ≡ None
     → Spaced (c ∷ (d ∷ past))
-    → parts_after (Some (part_of (d ∷ past))) (calls_at (tally_of (d ∷ past)) c.place c.kind) ≡ Some
+    → parts_after (Some (part_of (d ∷ past))) (calls_at (tally_of (d ∷ past)) c.place c.value) ≡ Some
     (part_of (c ∷ (d ∷ past)))
 unfolding calls_at
 code-step c d past e spaced =
     let older : List Code = d ∷ past in
-    let may : MayStand (is_slice c.kind) (is_head c.kind) (slice_count older) (head_end_of older)
+    let may : MayStand (is_slice c.value) (is_head c.value) (slice_count older) (head_end_of older)
     (ends_at (tally_of older) c.place) = record {
-      apart = slice-apart c.kind;
+      apart = slice-apart c.value;
       head = λ slice none. (
         omega (arith, unit-before d past c.place spaced.1 spaced.0),
-        first_slice-head (tally_of older) c.place c.kind
-            (first_slice-accepted (tally_of older) c.place c.kind e) slice none,
+        first_slice-head (tally_of older) c.place c.value
+            (first_slice-accepted (tally_of older) c.place c.value e) slice none,
       );
       spaced = slice-before older c.place spaced.1 spaced.0;
       ends = record { from = refl; head = refl; to = refl; slices = refl };
     } in
     raw-step may (count-cases (slice_count older))
 
-first-kind : (a b q : Bool) (place : ℕ)
+first-value : (a b q : Bool) (place : ℕ)
     → cond a (Some (SystemCode place)) (cond b (Some (Mpeg2 place)) (cond (not q) (Some NoSequence) None)) ≡ None
     → q ≡ true
-first-kind true b q place e = absurd (cc)
-first-kind false true q place e = absurd (cc)
-first-kind false false true place e = refl
-first-kind false false false place e = absurd (cc)
+first-value true b q place e = absurd (cc)
+first-value false true q place e = absurd (cc)
+first-value false false true place e = refl
+first-value false false false place e = absurd (cc)
 
-first-step : (place kind : ℕ) → kind ≡ 0xb3
-    → parts_after (Some (between place)) (calls_at (tally_of []) place kind)
-    ≡ Some (part_by (cond (is_head kind) 0 (cond (is_slice kind) (0 + 1) 0)) place
-    (cond (is_slice kind && eqb 0 0) place (cond (is_head kind) 0 0)) (cond (is_slice kind) place (cond (is_head kind) 0 0)))
+first-step : (place value : ℕ) → value ≡ 0xb3
+    → parts_after (Some (between place)) (calls_at (tally_of []) place value)
+    ≡ Some (part_by (cond (is_head value) 0 (cond (is_slice value) (0 + 1) 0)) place
+    (cond (is_slice value && eqb 0 0) place (cond (is_head value) 0 0)) (cond (is_slice value) place (cond (is_head value) 0 0)))
 unfolding calls_at part_by
-first-step place kind is =
+first-step place value is =
     subst (λ k. parts_after (Some (between place)) (calls_at (tally_of []) place k)
     ≡ Some (part_by (cond (is_head k) 0 (cond (is_slice k) (0 + 1) 0)) place
     (cond (is_slice k && eqb 0 0) place (cond (is_head k) 0 0)) (cond (is_slice k) place (cond (is_head k) 0 0)))) (sym is) refl
@@ -247,26 +247,26 @@ unfolding calls_of
 calls-nil = refl
 
 -- the first code is a sequence header's
-pub first-is : (c : Code) → first_fault (c ∷ []) ≡ None → c.kind ≡ 0xb3
+pub first-is : (c : Code) → first_fault (c ∷ []) ≡ None → c.value ≡ 0xb3
 first-is c accepted =
-    let kind = first-kind (leb 0xb9 c.kind) (eqb c.kind 0xb5) (eqb c.kind 0xb3) c.place
-    (otherwise-first (kind_fault (tally_of []) c.place c.kind)
-    (first_refusal (second_fault (tally_of []) c.kind)
-    (first_refusal (first_slice_fault (tally_of []) c.place c.kind)
-    (count_fault (tally_of []) c.place c.kind))) (code-accepted c [] accepted)) in
-    eqb-true c.kind 0xb3 kind
+    let value = first-value (leb 0xb9 c.value) (eqb c.value 0xb5) (eqb c.value 0xb3) c.place
+    (otherwise-first (value_fault (tally_of []) c.place c.value)
+    (first_refusal (second_fault (tally_of []) c.value)
+    (first_refusal (first_slice_fault (tally_of []) c.place c.value)
+    (count_fault (tally_of []) c.place c.value))) (code-accepted c [] accepted)) in
+    eqb-true c.value 0xb3 value
 
 pub calls-parts : (c : Code) (past : List Code) → first_fault (c ∷ past) ≡ None → Spaced (c ∷ past)
     → parts_after (Some (between (first_of (c ∷ past)))) (calls_of (c ∷ past)) ≡ Some (part_of (c ∷ past))
 calls-parts c [] accepted spaced =
     ap (parts_after (Some (between c.place)))
-    (calls-cons c [] ∙ ap (λ (l : List Call). l ++ calls_at (tally_of []) c.place c.kind) calls-nil)
-    ∙ first-step c.place c.kind (first-is c accepted)
+    (calls-cons c [] ∙ ap (λ (l : List Call). l ++ calls_at (tally_of []) c.place c.value) calls-nil)
+    ∙ first-step c.place c.value (first-is c accepted)
 calls-parts c (d ∷ past) accepted spaced =
     let start : Option Part = Some (between (first_of (d ∷ past))) in
     ap (parts_after start) (calls-cons c (d ∷ past))
-    ∙ parts-append start (calls_of (d ∷ past)) (calls_at (tally_of (d ∷ past)) c.place c.kind)
-    ∙ ap (λ (o : Option Part). parts_after o (calls_at (tally_of (d ∷ past)) c.place c.kind))
+    ∙ parts-append start (calls_of (d ∷ past)) (calls_at (tally_of (d ∷ past)) c.place c.value)
+    ∙ ap (λ (o : Option Part). parts_after o (calls_at (tally_of (d ∷ past)) c.place c.value))
     (calls-parts d past (accepted-older c (d ∷ past) accepted) spaced.1)
     ∙ code-step c d past (code-accepted c (d ∷ past) accepted) spaced
 

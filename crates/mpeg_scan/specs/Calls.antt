@@ -44,15 +44,15 @@ unit_end t to = slice_call t.slice to ∷ unit_call (unit_at t to) ∷ []
 
 -- what ends at a code: at a slice the head or slice before it, at a head code the unit
 unfoldable pub calls_at : Tally → ℕ → ℕ → List Call
-calls_at t place kind =
-    if is_slice kind
+calls_at t place value =
+    if is_slice value
     then (if t.slices == 0 then head_call t.unit place ∷ [] else slice_call t.slice place ∷ [])
-    else (if is_head kind && nat_lt 0 t.slices then unit_end t place else [])
+    else (if is_head value && nat_lt 0 t.slices then unit_end t place else [])
 
 -- what ends at the codes of a film, which are given the latest first
 unfoldable pub calls_of : List Code → List Call
 calls_of [] = []
-calls_of (c ∷ past) = calls_of past ++ calls_at (tally_of past) c.place c.kind
+calls_of (c ∷ past) = calls_of past ++ calls_at (tally_of past) c.place c.value
 
 -- what a whole film has, its bytes given the latest first
 abbrev pub all_calls : List ℕ → List Call

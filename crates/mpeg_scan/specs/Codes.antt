@@ -53,11 +53,11 @@ abbrev pub note_latest : List Code → ℕ → List Code
 note_latest [] x = []
 note_latest (c ∷ past) x = note c x ∷ past
 
--- the start codes, the latest first: each byte before which 00 00 01 stands is the kind of a code,
+-- the start codes, the latest first: each byte before which 00 00 01 stands is the value of a code,
 -- whose place is that of these three
 unfoldable pub codes_of : List ℕ → List Code
 codes_of [] = []
 codes_of (x ∷ r) =
     if is_whole (latest_prefix r)
-    then record { place = length r - 3; kind = x; header = [] } ∷ note_latest (codes_of r) x
+    then record { place = length r - 3; value = x; header = [] } ∷ note_latest (codes_of r) x
     else note_latest (codes_of r) x

@@ -42,11 +42,11 @@ picture_fault c end =
 -- the header of the code c, where the next code, or the film's end, stands at `end`
 abbrev pub header_fault : Option ℕ → Code → ℕ → Option FilmFault
 header_fault rate c end =
-    if c.kind == 0xb3
+    if c.value == 0xb3
     then (if nat_lt (end - c.place) 12 then Some (ShortHeader c.place) else rate_fault rate c)
-    else (if c.kind == 0xb8
+    else (if c.value == 0xb8
     then (if nat_lt (end - c.place) 8 then Some (ShortHeader c.place) else None)
-    else (if c.kind == 0 then picture_fault c end else None))
+    else (if c.value == 0 then picture_fault c end else None))
 
 -- the header of the latest code
 abbrev pub latest_fault : List Code → ℕ → Option FilmFault
@@ -54,19 +54,19 @@ latest_fault [] end = None
 latest_fault (c ∷ past) end = header_fault (first_rate past) c end
 
 -- a code that no film of this standard has, or that can't be the first
-abbrev pub kind_fault : Tally → ℕ → ℕ → Option FilmFault
-kind_fault t place kind =
-    if nat_le 0xb9 kind then Some (SystemCode place)
-    else (if kind == 0xb5 then Some (Mpeg2 place)
-    else (if not t.begun && not (kind == 0xb3) then Some NoSequence else None))
+abbrev pub value_fault : Tally → ℕ → ℕ → Option FilmFault
+value_fault t place value =
+    if nat_le 0xb9 value then Some (SystemCode place)
+    else (if value == 0xb5 then Some (Mpeg2 place)
+    else (if not t.begun && not (value == 0xb3) then Some NoSequence else None))
 
 abbrev pub left_without_slices : Header → FilmFault
 left_without_slices p = PictureWithoutSlices p.place
 
 -- a code of a head after the picture of the same head
 abbrev pub second_fault : Tally → ℕ → Option FilmFault
-second_fault t kind =
-    if is_head kind && t.slices == 0 then option_map left_without_slices t.picture else None
+second_fault t value =
+    if is_head value && t.slices == 0 then option_map left_without_slices t.picture else None
 
 -- a unit's first slice: the head before it has a picture, and at most 1,380 bytes
 abbrev pub head_fault : Tally → ℕ → Option Header → Option FilmFault
@@ -75,32 +75,32 @@ head_fault t place (Some p) =
     if nat_lt 1380 (place - t.unit) then Some (HeadTooLong t.unit) else None
 
 abbrev pub first_slice_fault : Tally → ℕ → ℕ → Option FilmFault
-first_slice_fault t place kind =
-    if is_slice kind && t.slices == 0 then head_fault t place t.picture else None
+first_slice_fault t place value =
+    if is_slice value && t.slices == 0 then head_fault t place t.picture else None
 
 -- a picture: at most 1,024 in a group, and 4,194,304 in the film
 abbrev pub count_fault : Tally → ℕ → ℕ → Option FilmFault
-count_fault t place kind =
-    if kind == 0 then (if nat_le 1024 (t.pictures - t.before_group) then Some (GroupTooLong place)
+count_fault t place value =
+    if value == 0 then (if nat_le 1024 (t.pictures - t.before_group) then Some (GroupTooLong place)
     else (if nat_le 4194304 t.pictures then Some TooLong else None))
     else None
 
 -- these four at a code after the codes of a tally
 abbrev pub code_fault : Tally → ℕ → ℕ → Option FilmFault
-code_fault t place kind =
-    first_refusal (kind_fault t place kind)
-    (first_refusal (second_fault t kind)
-    (first_refusal (first_slice_fault t place kind) (count_fault t place kind)))
+code_fault t place value =
+    first_refusal (value_fault t place value)
+    (first_refusal (second_fault t value)
+    (first_refusal (first_slice_fault t place value) (count_fault t place value)))
 
 -- the refusal at a code after those in past
 unfoldable pub fault_at : List Code → ℕ → ℕ → Option FilmFault
-fault_at past place kind =
-    first_refusal (latest_fault past place) (code_fault (tally_of past) place kind)
+fault_at past place value =
+    first_refusal (latest_fault past place) (code_fault (tally_of past) place value)
 
 -- the first refusal at a code
 unfoldable pub first_fault : List Code → Option FilmFault
 first_fault [] = None
-first_fault (c ∷ past) = first_refusal (first_fault past) (fault_at past c.place c.kind)
+first_fault (c ∷ past) = first_refusal (first_fault past) (fault_at past c.place c.value)
 
 -- a head without slices at the film's end
 abbrev pub open_fault : Tally → Option Header → FilmFault

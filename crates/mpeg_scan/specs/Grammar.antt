@@ -14,23 +14,23 @@ pub data Phase : Type 0 where
 
 -- the phase after a code, where one may stand
 abbrev pub next_phase : Phase → ℕ → Option Phase
-next_phase nowhere kind = if kind == 0xb3 then Some in_head else None
-next_phase in_head kind =
-    if kind == 0 then Some after_picture else (if is_slice kind then None else Some in_head)
-next_phase after_picture kind =
-    if is_head kind then None else (if is_slice kind then Some in_slices else Some after_picture)
-next_phase in_slices kind =
-    if kind == 0 then Some after_picture
-    else (if is_head kind then Some in_head else Some in_slices)
+next_phase nowhere value = if value == 0xb3 then Some in_head else None
+next_phase in_head value =
+    if value == 0 then Some after_picture else (if is_slice value then None else Some in_head)
+next_phase after_picture value =
+    if is_head value then None else (if is_slice value then Some in_slices else Some after_picture)
+next_phase in_slices value =
+    if value == 0 then Some after_picture
+    else (if is_head value then Some in_head else Some in_slices)
 
 abbrev pub then_phase : Option Phase → ℕ → Option Phase
-then_phase None kind = None
-then_phase (Some p) kind = next_phase p kind
+then_phase None value = None
+then_phase (Some p) value = next_phase p value
 
 -- the phase after codes, which are given the latest first
 abbrev pub phase_after : List Code → Option Phase
 phase_after [] = Some nowhere
-phase_after (c ∷ past) = then_phase (phase_after past) c.kind
+phase_after (c ∷ past) = then_phase (phase_after past) c.value
 
 -- each code of a film may stand where it does, and its last unit has a slice
 abbrev pub IsGrammatical : List ℕ → Type 0

@@ -1,7 +1,7 @@
 -- The refusals of a film in the words of ISO/IEC 11172-2, over the start codes that stand in its
 -- bytes, and these bytes. Each start code is judged in its turn, and the film's end last: a refusal
 -- speaks of the codes before a place `at`, where the code stands that is judged, or the film ends.
--- A word takes `Has`: that a code of a kind stands at a place.
+-- A word takes `Has`: that a code of a value stands at a place.
 use Rattle.std.specs.Prelude.{ℕ, ◌+◌, ◌%◌, ◌^◌, ◌==◌, ◌<◌, ◌≤◌, ◌≡◌, ◌⊎◌, ◌||◌, Bool, List}
 use Rattle.std.specs.Prelude.{length, if◌then◌else◌}
 use Rattle.std.specs.Prelude.{slice_index}
@@ -12,7 +12,7 @@ use Rattle.mpeg_scan.specs.declared.faults.FilmFault.TheVariants.{BadType, Pictu
 use Rattle.mpeg_scan.specs.declared.faults.FilmFault.TheVariants.{HeadTooLong, GroupTooLong}
 use Rattle.mpeg_scan.specs.declared.faults.FilmFault.TheVariants.{TooLong, HeadWithoutPicture}
 use Rattle.mpeg_scan.specs.Places.{StandsAt}
-use Rattle.mpeg_scan.specs.Standard.{AnyKind, AreCodes, IsFirstCode, IsHeadKind, IsSliceKind}
+use Rattle.mpeg_scan.specs.Standard.{AnyValue, AreCodes, IsFirstCode, IsHeadValue, IsSliceValue}
 use Rattle.mpeg_scan.specs.Standard.{NoneIn, StandsThere, picture_coding_type}
 
 -- ---- the order of refusals
@@ -24,38 +24,38 @@ Otherwise P Q f = P f ⊎ (((g : FilmFault) → P g → ⊥) × Q f)
 -- ---- codes before a place
 
 abbrev pub IsPicture : ℕ → Type 0
-IsPicture kind = kind ≡ 0
+IsPicture value = value ≡ 0
 
 abbrev pub IsSequence : ℕ → Type 0
-IsSequence kind = kind ≡ 0xb3
+IsSequence value = value ≡ 0xb3
 
 abbrev pub IsGroup : ℕ → Type 0
-IsGroup kind = kind ≡ 0xb8
+IsGroup value = value ≡ 0xb8
 
 -- the last code before a place
-pub record IsLatest (Has : ℕ → ℕ → Type 0) (place kind at : ℕ) : Type 0 where
-  pub code : Has place kind
+pub record IsLatest (Has : ℕ → ℕ → Type 0) (place value at : ℕ) : Type 0 where
+  pub code : Has place value
   pub before : place < at
-  pub last : NoneIn Has (place + 1) at AnyKind
+  pub last : NoneIn Has (place + 1) at AnyValue
 
 -- a slice code stands before, and no code of a head after it
 abbrev pub FollowsSlice : (ℕ → ℕ → Type 0) → ℕ → Type 0
 FollowsSlice Has place =
     (slice : ℕ)
-    × ((StandsThere Has slice IsSliceKind × (slice < place)) × NoneIn Has slice place IsHeadKind)
+    × ((StandsThere Has slice IsSliceValue × (slice < place)) × NoneIn Has slice place IsHeadValue)
 
 -- a unit begins at the first code, and at each code of a head that is the first of these after a
 -- slice code
 abbrev pub BeginsUnit : (ℕ → ℕ → Type 0) → ℕ → Type 0
 BeginsUnit Has place =
-    (StandsThere Has place AnyKind × IsFirstCode Has place)
-    ⊎ (StandsThere Has place IsHeadKind × FollowsSlice Has place)
+    (StandsThere Has place AnyValue × IsFirstCode Has place)
+    ⊎ (StandsThere Has place IsHeadValue × FollowsSlice Has place)
 
 -- the unit that begins at this place has no slice yet
 pub record IsOpenHead (Has : ℕ → ℕ → Type 0) (unit at : ℕ) : Type 0 where
   pub begins : BeginsUnit Has unit
   pub before : unit < at
-  pub no_slice : NoneIn Has unit at IsSliceKind
+  pub no_slice : NoneIn Has unit at IsSliceValue
 
 -- the picture, or the last of them, in the head of the unit that begins at a place
 pub record IsItsPicture (Has : ℕ → ℕ → Type 0) (unit place at : ℕ) : Type 0 where
@@ -81,18 +81,18 @@ has_vectors coding_type = coding_type == 2 || coding_type == 3
 
 -- the bytes of a header with its code: those of a P or B picture have one more
 abbrev pub header_bytes : List ℕ → ℕ → ℕ → ℕ
-header_bytes bytes place kind =
-    if kind == 0xb3 then 12
-    else (if kind == 0xb8 then 8
+header_bytes bytes place value =
+    if value == 0xb3 then 12
+    else (if value == 0xb8 then 8
     else (if has_vectors (picture_coding_type bytes place) then 9 else 8))
 
 pub record IsShortHeader (Has : ℕ → ℕ → Type 0) (bytes : List ℕ) (at : ℕ) (f : FilmFault)
     : Type 0 where
   pub place : ℕ
-  pub kind : ℕ
-  pub latest : IsLatest Has place kind at
-  pub head : IsHeadKind kind
-  pub short : at < place + header_bytes bytes place kind
+  pub value : ℕ
+  pub latest : IsLatest Has place value at
+  pub head : IsHeadValue value
+  pub short : at < place + header_bytes bytes place value
   pub is : f ≡ ShortHeader place
 
 -- another rate than that of the film's first sequence header
@@ -121,10 +121,10 @@ HeaderRefusal Has bytes at =
     Otherwise (IsShortHeader Has bytes at)
     (Otherwise (IsBadRate Has bytes at) (IsBadType Has bytes at))
 
--- ---- 2. the code's kind
+-- ---- 2. the code's value
 
 abbrev pub IsSystemCode : (ℕ → ℕ → Type 0) → ℕ → FilmFault → Type 0
-IsSystemCode Has at f = StandsThere Has at (λ kind. 0xb9 ≤ kind) × (f ≡ SystemCode at)
+IsSystemCode Has at f = StandsThere Has at (λ value. 0xb9 ≤ value) × (f ≡ SystemCode at)
 
 -- an extension
 abbrev pub IsExtension : (ℕ → ℕ → Type 0) → ℕ → FilmFault → Type 0
@@ -134,8 +134,8 @@ IsExtension Has at f = Has at 0xb5 × (f ≡ Mpeg2 at)
 abbrev pub LacksSequence : (ℕ → ℕ → Type 0) → ℕ → FilmFault → Type 0
 LacksSequence Has at f = (IsFirstCode Has at × (Has at 0xb3 → ⊥)) × (f ≡ NoSequence)
 
-abbrev pub KindRefusal : (ℕ → ℕ → Type 0) → ℕ → FilmFault → Type 0
-KindRefusal Has at =
+abbrev pub ValueRefusal : (ℕ → ℕ → Type 0) → ℕ → FilmFault → Type 0
+ValueRefusal Has at =
     Otherwise (IsSystemCode Has at) (Otherwise (IsExtension Has at) (LacksSequence Has at))
 
 -- ---- 3. a head's second picture, or another of its codes after the picture
@@ -149,7 +149,7 @@ pub record LacksSlices (Has : ℕ → ℕ → Type 0) (at : ℕ) (f : FilmFault)
   pub is : f ≡ PictureWithoutSlices place
 
 abbrev pub SecondRefusal : (ℕ → ℕ → Type 0) → ℕ → FilmFault → Type 0
-SecondRefusal Has at f = StandsThere Has at IsHeadKind × LacksSlices Has at f
+SecondRefusal Has at f = StandsThere Has at IsHeadValue × LacksSlices Has at f
 
 -- ---- 4. a unit's first slice
 
@@ -169,7 +169,7 @@ pub record IsLongHead (Has : ℕ → ℕ → Type 0) (at : ℕ) (f : FilmFault) 
 
 abbrev pub SliceRefusal : (ℕ → ℕ → Type 0) → ℕ → FilmFault → Type 0
 SliceRefusal Has at f =
-    StandsThere Has at IsSliceKind × Otherwise (LacksPicture Has at) (IsLongHead Has at) f
+    StandsThere Has at IsSliceValue × Otherwise (LacksPicture Has at) (IsLongHead Has at) f
 
 -- ---- 5. the number of pictures
 
@@ -192,12 +192,12 @@ CountRefusal Has at f = Has at 0 × Otherwise (IsLongGroup Has at) (IsLongFilm H
 -- the first of these five at the code that stands at a place
 abbrev pub CodeRefusal : (ℕ → ℕ → Type 0) → List ℕ → ℕ → FilmFault → Type 0
 CodeRefusal Has bytes at =
-    Otherwise (HeaderRefusal Has bytes at) (Otherwise (KindRefusal Has at)
+    Otherwise (HeaderRefusal Has bytes at) (Otherwise (ValueRefusal Has at)
     (Otherwise (SecondRefusal Has at) (Otherwise (SliceRefusal Has at) (CountRefusal Has at))))
 
 -- no code stands anywhere
 abbrev pub LacksCodes : (ℕ → ℕ → Type 0) → FilmFault → Type 0
-LacksCodes Has f = ((place kind : ℕ) → Has place kind → ⊥) × (f ≡ NoSequence)
+LacksCodes Has f = ((place value : ℕ) → Has place value → ⊥) × (f ≡ NoSequence)
 
 -- at the film's end: the last header, and a last unit without slices
 abbrev pub EndRefusal : (ℕ → ℕ → Type 0) → List ℕ → ℕ → FilmFault → Type 0
@@ -208,9 +208,9 @@ EndRefusal Has bytes end =
 -- a code is refused, and none before it
 pub record FirstRefusal (Has : ℕ → ℕ → Type 0) (bytes : List ℕ) (f : FilmFault) : Type 0 where
   pub at : ℕ
-  pub code : StandsThere Has at AnyKind
+  pub code : StandsThere Has at AnyValue
   pub refused : CodeRefusal Has bytes at f
-  pub first : (other : ℕ) → StandsThere Has other AnyKind → other < at
+  pub first : (other : ℕ) → StandsThere Has other AnyValue → other < at
       → (g : FilmFault) → CodeRefusal Has bytes other g → ⊥
 
 abbrev pub IsEmptyFilm : List ℕ → FilmFault → Type 0

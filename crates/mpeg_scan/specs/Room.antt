@@ -53,6 +53,6 @@ AwaitsSlice Ready t = 0 < t.slices → Ready t.slice
 
 -- the same after a code
 abbrev pub AwaitsSliceAfter : (ℕ → Type 0) → Tally → ℕ → ℕ → Type 0
-AwaitsSliceAfter Ready t place kind =
-    0 < (if is_head kind then 0 else (if is_slice kind then t.slices + 1 else t.slices))
-    → Ready (if is_slice kind then place else (if is_head kind then 0 else t.slice))
+AwaitsSliceAfter Ready t place value =
+    0 < (if is_head value then 0 else (if is_slice value then t.slices + 1 else t.slices))
+    → Ready (if is_slice value then place else (if is_head value then 0 else t.slice))

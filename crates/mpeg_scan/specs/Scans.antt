@@ -25,7 +25,7 @@ pub record HasScannedBytes (s : Scanner) (r : List ℕ) : Type 0 where
   pub progress : HasRead s.progress r
   pub unrefused : s.refused ≡ None
 
--- a byte that isn't the kind of a code
+-- a byte that isn't the value of a code
 abbrev pub scan_with_byte : Progress → ℕ → Progress
 scan_with_byte s x = record s {
   fed = s.fed + 1;
@@ -35,8 +35,8 @@ scan_with_byte s x = record s {
 
 -- a code
 abbrev pub scan_with_code : Progress → ℕ → ℕ → Progress
-scan_with_code s place kind = record s {
-  latest = Some (record { place = place; kind = kind; header = [] });
+scan_with_code s place value = record s {
+  latest = Some (record { place = place; value = value; header = [] });
   tally = tally_with s.latest s.tally;
 }
 

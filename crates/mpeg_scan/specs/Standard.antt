@@ -1,5 +1,5 @@
 -- The units of a film in the words of ISO/IEC 11172-2, over the start codes that stand in its bytes
--- and nothing else. A word of it takes `Has`: that a code of a kind stands at a place.
+-- and nothing else. A word of it takes `Has`: that a code of a value stands at a place.
 use Rattle.std.specs.Prelude.{ℕ, ◌+◌, ◌*◌, ◌/◌, ◌%◌, ◌<◌, ◌≤◌, ◌≡◌, ◌⊎◌, ◌↔◌, true, if◌then◌else◌}
 use Rattle.std.specs.Prelude.{List, [], ◌∷◌, ◌++◌, length, slice_index}
 use Rattle.mpeg_scan.specs.declared.codes.Code.{Code}
@@ -10,52 +10,52 @@ use Rattle.mpeg_scan.specs.Layout.{AreChained, OfUnit}
 use Rattle.mpeg_scan.specs.Places.{HasCode, StandsAt}
 use Rattle.mpeg_scan.specs.Words.{is_slice}
 
--- ---- kinds of start codes (table 2-D.1)
+-- ---- values of start codes (table 2-D.1)
 
 -- of a picture header, a sequence header or a group header
-abbrev pub IsHeadKind : ℕ → Type 0
-IsHeadKind kind = (kind ≡ 0) ⊎ ((kind ≡ 0xb3) ⊎ (kind ≡ 0xb8))
+abbrev pub IsHeadValue : ℕ → Type 0
+IsHeadValue value = (value ≡ 0) ⊎ ((value ≡ 0xb3) ⊎ (value ≡ 0xb8))
 
-abbrev pub IsSliceKind : ℕ → Type 0
-IsSliceKind kind = (1 ≤ kind) × (kind ≤ 0xaf)
+abbrev pub IsSliceValue : ℕ → Type 0
+IsSliceValue value = (1 ≤ value) × (value ≤ 0xaf)
 
-abbrev pub AnyKind : ℕ → Type 0
-AnyKind kind = Unit {0}
+abbrev pub AnyValue : ℕ → Type 0
+AnyValue value = Unit {0}
 
--- a code of this kind stands from one place on before another
-pub record StandsIn (Has : ℕ → ℕ → Type 0) (from to kind : ℕ) : Type 0 where
+-- a code of this value stands from one place on before another
+pub record StandsIn (Has : ℕ → ℕ → Type 0) (from to value : ℕ) : Type 0 where
   pub place : ℕ
-  pub code : Has place kind
+  pub code : Has place value
   pub after : from ≤ place
   pub before : place < to
 
--- no code of such a kind stands there
+-- no code of such a value stands there
 abbrev pub NoneIn : (ℕ → ℕ → Type 0) → ℕ → ℕ → (ℕ → Type 0) → Type 0
-NoneIn Has from to OfKind =
-    (place kind : ℕ) → Has place kind → from ≤ place → place < to → OfKind kind → ⊥
+NoneIn Has from to OfValue =
+    (place value : ℕ) → Has place value → from ≤ place → place < to → OfValue value → ⊥
 
 -- no code at all stands before a place
 abbrev pub IsFirstCode : (ℕ → ℕ → Type 0) → ℕ → Type 0
-IsFirstCode Has from = (place kind : ℕ) → Has place kind → from ≤ place
+IsFirstCode Has from = (place value : ℕ) → Has place value → from ≤ place
 
--- a code of such a kind stands at a place
+-- a code of such a value stands at a place
 abbrev pub StandsThere : (ℕ → ℕ → Type 0) → ℕ → (ℕ → Type 0) → Type 0
-StandsThere Has place OfKind = (kind : ℕ) × (Has place kind × OfKind kind)
+StandsThere Has place OfValue = (value : ℕ) × (Has place value × OfValue value)
 
--- codes of such a kind from a place on before another, each before the one in front of it in the
+-- codes of such a value from a place on before another, each before the one in front of it in the
 -- list
 abbrev pub AreCodes : (ℕ → ℕ → Type 0) → (ℕ → Type 0) → ℕ → ℕ → List ℕ → Type 0
-AreCodes Has OfKind from to [] = Unit {0}
-AreCodes Has OfKind from to (place ∷ places) =
-    (StandsThere Has place OfKind × ((from ≤ place) × (place < to)))
-    × AreCodes Has OfKind from place places
+AreCodes Has OfValue from to [] = Unit {0}
+AreCodes Has OfValue from to (place ∷ places) =
+    (StandsThere Has place OfValue × ((from ≤ place) × (place < to)))
+    × AreCodes Has OfValue from place places
 
--- so many codes of such a kind stand there
-pub record Counts (Has : ℕ → ℕ → Type 0) (OfKind : ℕ → Type 0) (from to count : ℕ) : Type 0 where
+-- so many codes of such a value stand there
+pub record Counts (Has : ℕ → ℕ → Type 0) (OfValue : ℕ → Type 0) (from to count : ℕ) : Type 0 where
   pub places : List ℕ
-  pub are : AreCodes Has OfKind from to places
+  pub are : AreCodes Has OfValue from to places
   pub long : length places ≡ count
-  pub most : (others : List ℕ) → AreCodes Has OfKind from to others → length others ≤ count
+  pub most : (others : List ℕ) → AreCodes Has OfValue from to others → length others ≤ count
 
 -- ---- the fields of a picture header whose code stands at a place (2.4.2.5): temporal_reference 10
 -- bits, picture_coding_type 3, vbv_delay 16, full_pel_forward_vector 1, forward_f_code 3,
@@ -104,7 +104,7 @@ pub record HasPicture (Has : ℕ → ℕ → Type 0) (Fields : ℕ → PictureUn
   pub after : unit.from ≤ place
   pub before : place < unit.head_end
   pub only : (other : ℕ) → Has other 0 → unit.from ≤ other → other < unit.head_end → other ≡ place
-  pub last : NoneIn Has (place + 1) unit.head_end IsHeadKind
+  pub last : NoneIn Has (place + 1) unit.head_end IsHeadValue
   pub fields : Fields place unit
 
 -- a unit goes from a code of a head to its first slice code, and from there to the next code of a
@@ -112,13 +112,13 @@ pub record HasPicture (Has : ℕ → ℕ → Type 0) (Fields : ℕ → PictureUn
 -- before, and its own
 pub record UnitIs (Has : ℕ → ℕ → Type 0) (Fields : ℕ → PictureUnit → Type 0)
     (unit : PictureUnit) : Type 0 where
-  pub begins : StandsThere Has unit.from IsHeadKind
-  pub head : NoneIn Has unit.from unit.head_end IsSliceKind
-  pub head_ends : StandsThere Has unit.head_end IsSliceKind
+  pub begins : StandsThere Has unit.from IsHeadValue
+  pub head : NoneIn Has unit.from unit.head_end IsSliceValue
+  pub head_ends : StandsThere Has unit.head_end IsSliceValue
   pub rest : unit.head_end < unit.to
-  pub own : Counts Has IsSliceKind unit.head_end unit.to unit.slices
-  pub all : Counts Has IsSliceKind 0 unit.to (unit.first_slice + unit.slices)
-  pub slices : NoneIn Has unit.head_end unit.to IsHeadKind
+  pub own : Counts Has IsSliceValue unit.head_end unit.to unit.slices
+  pub all : Counts Has IsSliceValue 0 unit.to (unit.first_slice + unit.slices)
+  pub slices : NoneIn Has unit.head_end unit.to IsHeadValue
   pub picture : HasPicture Has Fields unit
   pub sequence : (unit.has_sequence ≡ true) ↔ StandsIn Has unit.from unit.head_end 0xb3
   pub group : (unit.starts_group ≡ true) ↔
@@ -143,7 +143,7 @@ ArePresented number group (unit ∷ units) =
 -- end, and each is one of these bytes
 pub record AreUnitsOf (bytes : List ℕ) (units : List PictureUnit) : Type 0 where
   pub from : ℕ
-  pub code : StandsThere (StandsAt bytes) from AnyKind
+  pub code : StandsThere (StandsAt bytes) from AnyValue
   pub first : IsFirstCode (StandsAt bytes) from
   pub chained : AreChained from units (length bytes)
   pub each : (k : ℕ) → OfUnit units k (λ u. IsUnitOf bytes u)
@@ -153,13 +153,13 @@ pub record AreUnitsOf (bytes : List ℕ) (units : List PictureUnit) : Type 0 whe
 abbrev pub AreFalling : List Code → Type 0
 AreFalling [] = Unit {0}
 AreFalling (c ∷ past) =
-    ((place kind : ℕ) → HasCode place kind past → place < c.place) × AreFalling past
+    ((place value : ℕ) → HasCode place value past → place < c.place) × AreFalling past
 
 -- the places of the slices among these codes, which are given the latest first; the places are
 -- given in their order
 abbrev pub slice_places : List Code → List ℕ
 slice_places [] = []
-slice_places (c ∷ past) = if is_slice c.kind
+slice_places (c ∷ past) = if is_slice c.value
     then slice_places past ++ c.place ∷ [] else slice_places past
 
 -- a place is among these

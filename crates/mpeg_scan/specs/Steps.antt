@@ -10,48 +10,48 @@ use Rattle.mpeg_scan.specs.Words.{is_head, is_slice, rate_after, header_of}
 use Rattle.mpeg_scan.specs.Faults.{first_refusal, header_fault, code_fault, last_fault}
 
 abbrev pub next_begins : Tally → ℕ → Bool
-next_begins t kind = not t.begun || (is_head kind && nat_lt 0 t.slices)
+next_begins t value = not t.begun || (is_head value && nat_lt 0 t.slices)
 
 abbrev pub next_rate : Tally → Code → Option ℕ
 next_rate t c = rate_after t.rate c
 
 abbrev pub next_unit : Tally → Code → ℕ
-next_unit t c = if next_begins t c.kind then c.place else t.unit
+next_unit t c = if next_begins t c.value then c.place else t.unit
 
 abbrev pub next_picture : Tally → Code → Option Header
 next_picture t c =
-    if c.kind == 0 then Some (header_of c) else (if next_begins t c.kind then None else t.picture)
+    if c.value == 0 then Some (header_of c) else (if next_begins t c.value then None else t.picture)
 
 abbrev pub next_pictures : Tally → Code → ℕ
-next_pictures t c = if c.kind == 0 then t.pictures + 1 else t.pictures
+next_pictures t c = if c.value == 0 then t.pictures + 1 else t.pictures
 
 abbrev pub next_before_group : Tally → Code → ℕ
-next_before_group t c = if c.kind == 0xb8 then t.pictures else t.before_group
+next_before_group t c = if c.value == 0xb8 then t.pictures else t.before_group
 
 abbrev pub next_slices : Tally → Code → ℕ
 next_slices t c =
-    if is_head c.kind then 0 else (if is_slice c.kind then t.slices + 1 else t.slices)
+    if is_head c.value then 0 else (if is_slice c.value then t.slices + 1 else t.slices)
 
 abbrev pub next_all_slices : Tally → Code → ℕ
-next_all_slices t c = if is_slice c.kind then t.all_slices + 1 else t.all_slices
+next_all_slices t c = if is_slice c.value then t.all_slices + 1 else t.all_slices
 
 abbrev pub next_head_end : Tally → Code → ℕ
 next_head_end t c =
-    if is_slice c.kind && t.slices == 0 then c.place
-    else (if is_head c.kind then 0 else t.head_end)
+    if is_slice c.value && t.slices == 0 then c.place
+    else (if is_head c.value then 0 else t.head_end)
 
 abbrev pub next_slice : Tally → Code → ℕ
 next_slice t c =
-    if is_slice c.kind then c.place else (if is_head c.kind then 0 else t.slice)
+    if is_slice c.value then c.place else (if is_head c.value then 0 else t.slice)
 
 abbrev pub next_has_sequence : Tally → Code → Bool
 next_has_sequence t c =
-    if c.kind == 0xb3 then true else (if next_begins t c.kind then false else t.has_sequence)
+    if c.value == 0xb3 then true else (if next_begins t c.value then false else t.has_sequence)
 
 abbrev pub next_starts_group : Tally → Code → Bool
 next_starts_group t c =
-    if c.kind == 0xb8 || not t.begun then true
-    else (if next_begins t c.kind then false else t.starts_group)
+    if c.value == 0xb8 || not t.begun then true
+    else (if next_begins t c.value then false else t.starts_group)
 
 -- the tally after a code
 unfoldable pub next : Tally → Code → Tally
@@ -85,9 +85,9 @@ latest_header_fault (Some c) rate end = header_fault rate c end
 
 -- the refusal at a code, from what the scanner keeps
 unfoldable pub code_judgement : Option Code → Tally → ℕ → ℕ → Option FilmFault
-code_judgement latest t place kind =
+code_judgement latest t place value =
     first_refusal (latest_header_fault latest t.rate place)
-    (code_fault (tally_with latest t) place kind)
+    (code_fault (tally_with latest t) place value)
 
 -- the refusal at the film's end, from what the scanner keeps
 unfoldable pub end_judgement : Option Code → Tally → ℕ → Option FilmFault
@@ -96,7 +96,7 @@ end_judgement latest t end =
 
 -- the same from what was read
 abbrev pub judgement : Progress → ℕ → ℕ → Option FilmFault
-judgement s place kind = code_judgement s.latest s.tally place kind
+judgement s place value = code_judgement s.latest s.tally place value
 
 abbrev pub last_judgement : Progress → Option FilmFault
 last_judgement s = end_judgement s.latest s.tally s.fed

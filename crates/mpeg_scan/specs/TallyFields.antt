@@ -1,4 +1,4 @@
--- How a tally is kept: the latest unit where there is one, and of it the slices where there are any.
+-- How a tally is kept: the latest unit where there is one, and its slices where it has any.
 use Rattle.std.specs.Prelude.{ℕ, ◌+◌, ◌==◌, ◌&&◌, ◌≡◌, Bool, true, false, Option, Some, None}
 use Rattle.std.specs.Prelude.{if◌then◌else◌, refl}
 use Rattle.std.proofs.Common.{ap}
@@ -87,14 +87,16 @@ fields_of t = record {
 }
 
 slices-back : (o : Option Slices) → AreCounted o
-    → slices_by (count_of o) (record { first = first_of o; last = last_of o; count = count_of o }) ≡ o
+    → slices_by (count_of o)
+    (record { first = first_of o; last = last_of o; count = count_of o }) ≡ o
 slices-back None some = refl
 slices-back (Some s) some = ap (λ (b : Bool). if b then None else Some s) some
 
 unit-back : (t : Inside) (o : Option UnitTally) → AreCounted (unit_or_none o).slices
     → (fields_of (words_with (record t { unit = o }) (unit_or_none o))).unit ≡ o
 unit-back t None some = refl
-unit-back t (Some u) some = ap (λ (o : Option Slices). Some (record u { slices = o })) (slices-back u.slices some)
+unit-back t (Some u) some =
+    ap (λ (o : Option Slices). Some (record u { slices = o })) (slices-back u.slices some)
 
 pub fields_back : (t : Inside) → IsTally t → fields_of (words_of t) ≡ t
 fields_back t is = ap (λ (o : Option UnitTally). record t { unit = o }) (unit-back t t.unit is)
@@ -108,17 +110,17 @@ slices_with (Some s) place = record s { last = place; count = s.count + 1 }
 abbrev pub unit_with : UnitTally → Code → UnitTally
 unit_with u c = record {
   from = u.from;
-  picture = if c.kind == 0 then Some (header_of c) else u.picture;
-  slices = if is_slice c.kind then Some (slices_with u.slices c.place) else u.slices;
-  has_sequence = if c.kind == 0xb3 then true else u.has_sequence;
-  starts_group = if c.kind == 0xb8 then true else u.starts_group;
+  picture = if c.value == 0 then Some (header_of c) else u.picture;
+  slices = if is_slice c.value then Some (slices_with u.slices c.place) else u.slices;
+  has_sequence = if c.value == 0xb3 then true else u.has_sequence;
+  starts_group = if c.value == 0xb8 then true else u.starts_group;
 }
 
 abbrev pub ends_unit : UnitTally → ℕ → Bool
-ends_unit u kind = is_head kind && is_some u.slices
+ends_unit u value = is_head value && is_some u.slices
 
 -- the unit of a code that comes after those of the latest unit
 abbrev pub unit_after : Option UnitTally → Code → UnitTally
 unit_after None c = unit_with (new_unit c.place true) c
 unit_after (Some u) c =
-    if ends_unit u c.kind then unit_with (new_unit c.place false) c else unit_with u c
+    if ends_unit u c.value then unit_with (new_unit c.place false) c else unit_with u c

@@ -1,6 +1,6 @@
 -- What the start codes of a film say of its latest unit and of the units before it. The codes are
--- given the latest first. A code of kind 00, B3 or B8 belongs to a head (ISO/IEC 11172-2, 2.4.2): a
--- unit begins at the first code, and at each such code that is the first after a slice.
+-- given the latest first. A code of value 00, B3 or B8 belongs to a head (ISO/IEC 11172-2, 2.4.2):
+-- a unit begins at the first code, and at each such code that is the first after a slice.
 use Rattle.std.specs.Prelude.{ℕ, ◌+◌, ◌*◌, ◌/◌, ◌%◌, ◌==◌, ◌&&◌, ◌||◌, Bool, true, false, not, List}
 use Rattle.std.specs.Prelude.{[], ◌∷◌, Option, Some, None, if◌then◌else◌, nat_lt, nat_le}
 use Rattle.std.specs.Prelude.{slice_index, unwrap_or}
@@ -14,24 +14,24 @@ abbrev pub is_none_yet : List Code → Bool
 is_none_yet [] = true
 is_none_yet (c ∷ past) = false
 
--- the kinds of a head: a picture, a sequence header, a group header
+-- the values of a head: a picture, a sequence header, a group header
 abbrev pub is_head : ℕ → Bool
-is_head kind = kind == 0 || (kind == 0xb3 || kind == 0xb8)
+is_head value = value == 0 || (value == 0xb3 || value == 0xb8)
 
--- the kinds of slices
+-- the values of slices
 abbrev pub is_slice : ℕ → Bool
-is_slice kind = nat_le 1 kind && nat_le kind 0xaf
+is_slice value = nat_le 1 value && nat_le value 0xaf
 
 -- the slices of the latest unit
 abbrev pub slice_count : List Code → ℕ
 slice_count [] = 0
 slice_count (c ∷ past) =
-    if is_head c.kind then 0
-    else (if is_slice c.kind then slice_count past + 1 else slice_count past)
+    if is_head c.value then 0
+    else (if is_slice c.value then slice_count past + 1 else slice_count past)
 
 -- whether the code c begins a unit after these
 abbrev pub begins_unit : Code → List Code → Bool
-begins_unit c past = is_none_yet past || (is_head c.kind && nat_lt 0 (slice_count past))
+begins_unit c past = is_none_yet past || (is_head c.value && nat_lt 0 (slice_count past))
 
 -- the place of the latest unit
 abbrev pub latest_unit : List Code → ℕ
@@ -41,43 +41,43 @@ latest_unit (c ∷ past) = if begins_unit c past then c.place else latest_unit p
 -- the pictures of the film
 abbrev pub picture_count : List Code → ℕ
 picture_count [] = 0
-picture_count (c ∷ past) = if c.kind == 0 then picture_count past + 1 else picture_count past
+picture_count (c ∷ past) = if c.value == 0 then picture_count past + 1 else picture_count past
 
 -- the pictures before the latest group: a group begins with the film and at each group header
 abbrev pub before_group_of : List Code → ℕ
 before_group_of [] = 0
-before_group_of (c ∷ past) = if c.kind == 0xb8 then picture_count past else before_group_of past
+before_group_of (c ∷ past) = if c.value == 0xb8 then picture_count past else before_group_of past
 
 -- the slices of the film
 abbrev pub film_slice_count : List Code → ℕ
 film_slice_count [] = 0
 film_slice_count (c ∷ past) =
-    if is_slice c.kind then film_slice_count past + 1 else film_slice_count past
+    if is_slice c.value then film_slice_count past + 1 else film_slice_count past
 
 -- the place of the latest unit's first slice, or 0 where it has none
 abbrev pub head_end_of : List Code → ℕ
 head_end_of [] = 0
 head_end_of (c ∷ past) =
-    if is_slice c.kind && slice_count past == 0 then c.place
-    else (if is_head c.kind then 0 else head_end_of past)
+    if is_slice c.value && slice_count past == 0 then c.place
+    else (if is_head c.value then 0 else head_end_of past)
 
 -- the place of its latest slice, or 0 where it has none
 abbrev pub latest_slice : List Code → ℕ
 latest_slice [] = 0
 latest_slice (c ∷ past) =
-    if is_slice c.kind then c.place else (if is_head c.kind then 0 else latest_slice past)
+    if is_slice c.value then c.place else (if is_head c.value then 0 else latest_slice past)
 
 -- whether the latest unit has a sequence header
 abbrev pub has_sequence : List Code → Bool
 has_sequence [] = false
 has_sequence (c ∷ past) =
-    if c.kind == 0xb3 then true else (if begins_unit c past then false else has_sequence past)
+    if c.value == 0xb3 then true else (if begins_unit c past then false else has_sequence past)
 
 -- whether the latest unit starts a group: it is the film's first, or has a group header
 abbrev pub starts_group : List Code → Bool
 starts_group [] = false
 starts_group (c ∷ past) =
-    if c.kind == 0xb8 || is_none_yet past then true
+    if c.value == 0xb8 || is_none_yet past then true
     else (if begins_unit c past then false else starts_group past)
 
 -- the picture rate code of a sequence header: the low four bits of its eighth byte
@@ -86,7 +86,7 @@ rate_code c = slice_index c.header 3 % 16
 
 -- the rate code of the first sequence header, with one code more
 abbrev pub rate_after : Option ℕ → Code → Option ℕ
-rate_after None c = if c.kind == 0xb3 then Some (rate_code c) else None
+rate_after None c = if c.value == 0xb3 then Some (rate_code c) else None
 rate_after (Some rate) c = Some rate
 
 -- the rate code of the first sequence header, where there is one
@@ -141,7 +141,7 @@ header_of c = record {
 abbrev pub latest_picture : List Code → Option Header
 latest_picture [] = None
 latest_picture (c ∷ past) =
-    if c.kind == 0 then Some (header_of c)
+    if c.value == 0 then Some (header_of c)
     else (if begins_unit c past then None else latest_picture past)
 
 -- all of these together

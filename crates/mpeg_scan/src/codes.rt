@@ -14,7 +14,7 @@ pub enum Prefix {
     Zero,
     /// Two zero bytes or more.
     Zeros,
-    /// All of it: the next byte is the kind of a code.
+    /// All of it: the next byte is the value of a start code.
     Whole,
 }
 
@@ -36,7 +36,7 @@ impl Prefix {
         }
     }
 
-    /// Whether the next byte is the kind of a code.
+    /// Whether the next byte is the value of a start code.
     pub fn is_whole(self) -> bool
         ensures { result ≡ is_whole self }
     {
@@ -56,8 +56,8 @@ impl Prefix {
 pub(crate) struct Code {
     /// The place of its prefix.
     pub(crate) place: u64,
-    /// The byte after the prefix.
-    pub(crate) kind: u8,
+    /// The byte after the prefix, its start code value (ISO/IEC 11172-2, table 2-D.1).
+    pub(crate) value: u8,
     /// The bytes after it, as far as they are kept.
     pub(crate) header: HeaderBytes,
 }

@@ -1,9 +1,9 @@
 //! Why a film is refused, judged by its start codes one after another.
 
 ghost use Rattle.std.specs.Prelude.{◌≡◌, ◌≤◌, true};
-ghost use Rattle.mpeg_scan.specs.Faults.{header_fault, kind_fault, second_fault, first_slice_fault};
-ghost use Rattle.mpeg_scan.specs.Faults.{count_fault, code_fault, last_fault, picture_fault};
-ghost use Rattle.mpeg_scan.specs.Faults.{differs, rate_fault};
+ghost use Rattle.mpeg_scan.specs.Faults.{header_fault, picture_fault, rate_fault, differs};
+ghost use Rattle.mpeg_scan.specs.Faults.{code_fault, value_fault, second_fault, first_slice_fault};
+ghost use Rattle.mpeg_scan.specs.Faults.{count_fault, last_fault};
 ghost use Rattle.mpeg_scan.specs.Room.{HasRoom};
 ghost use Rattle.mpeg_scan.specs.Words.{is_slice};
 
@@ -11,9 +11,9 @@ use crate::codes::Code;
 use crate::tallies::{
     EXTENSION, FIRST_SYSTEM, GROUP, PICTURE, SEQUENCE, Tally, is_head, is_slice, rate_code, type_of,
 };
-use crate::units::{MAX_FILM_PICTURES, MAX_GROUP_PICTURES, MAX_UNIT_HEAD_BYTES};
+use crate::units::{MAX_GROUP_PICTURES, MAX_UNIT_HEAD_BYTES};
 use thiserror::Error;
-use vod_base::NoMemory;
+use vod_base::{MAX_FILM_PICTURES, NoMemory};
 
 /// Why a film is refused. Places are those of start codes, in bytes from the film's first.
 #[derive(Clone, Copy, Debug, PartialEq, Eq, Error)]
@@ -106,19 +106,19 @@ pub(crate) fn header_fault(rate: Option<u8>, code: &Code, end: u64) -> Option<Fi
     ensures { result ≡ header_fault rate code.now end }
 {
     let length = end - code.place;
-    if code.kind == SEQUENCE {
+    if code.value == SEQUENCE {
         if length < SEQUENCE_HEADER {
             Some(FilmFault::ShortHeader(code.place))
         } else {
             rate_fault(rate, code)
         }
-    } else if code.kind == GROUP {
+    } else if code.value == GROUP {
         if length < GROUP_HEADER {
             Some(FilmFault::ShortHeader(code.place))
         } else {
             None
         }
-    } else if code.kind == PICTURE {
+    } else if code.value == PICTURE {
         picture_fault(code, end)
     } else {
         None
@@ -126,14 +126,14 @@ pub(crate) fn header_fault(rate: Option<u8>, code: &Code, end: u64) -> Option<Fi
 }
 
 /// The refusal of a code after those of `tally`, once the headers before it are judged.
-pub(crate) fn code_fault(tally: &Tally, place: u64, kind: u8) -> Option<FilmFault>
+pub(crate) fn code_fault(tally: &Tally, place: u64, value: u8) -> Option<FilmFault>
     requires { HasRoom tally.now place }
-    ensures { result ≡ code_fault tally.now place kind }
+    ensures { result ≡ code_fault tally.now place value }
 {
-    kind_fault(tally, place, kind)
-        .or_else(|| second_fault(tally, kind))
-        .or_else(|| first_slice_fault(tally, place, kind))
-        .or_else(|| count_fault(tally, place, kind))
+    value_fault(tally, place, value)
+        .or_else(|| second_fault(tally, value))
+        .or_else(|| first_slice_fault(tally, place, value))
+        .or_else(|| count_fault(tally, place, value))
 }
 
 /// The refusal at a film's end, once the headers are judged.
@@ -178,27 +178,29 @@ fn picture_fault(code: &Code, end: u64) -> Option<FilmFault>
     requires { code.now.place ≤ end }
     ensures { result ≡ picture_fault code.now end }
 {
-    let kind = type_of(code);
+    let coding_type = type_of(code);
     let length = end - code.place;
-    if length < PICTURE_HEADER || ((kind == 2 || kind == 3) && length < VECTORS_HEADER) {
+    if length < PICTURE_HEADER
+        || ((coding_type == 2 || coding_type == 3) && length < VECTORS_HEADER)
+    {
         Some(FilmFault::ShortHeader(code.place))
-    } else if 1 <= kind && kind <= 4 {
+    } else if 1 <= coding_type && coding_type <= 4 {
         None
     } else {
         Some(FilmFault::BadType(code.place))
     }
 }
 
-/// The refusal of a code by its kind: a system code, an extension, or another than a sequence
+/// The refusal of a code by its value: a system code, an extension, or another than a sequence
 /// header in front.
-fn kind_fault(tally: &Tally, place: u64, kind: u8) -> Option<FilmFault>
-    ensures { result ≡ kind_fault tally.now place kind }
+fn value_fault(tally: &Tally, place: u64, value: u8) -> Option<FilmFault>
+    ensures { result ≡ value_fault tally.now place value }
 {
-    if kind >= FIRST_SYSTEM {
+    if value >= FIRST_SYSTEM {
         Some(FilmFault::SystemCode(place))
-    } else if kind == EXTENSION {
+    } else if value == EXTENSION {
         Some(FilmFault::Mpeg2(place))
-    } else if tally.unit.is_none() && kind != SEQUENCE {
+    } else if tally.unit.is_none() && value != SEQUENCE {
         Some(FilmFault::NoSequence)
     } else {
         None
@@ -206,11 +208,11 @@ fn kind_fault(tally: &Tally, place: u64, kind: u8) -> Option<FilmFault>
 }
 
 /// The refusal of a code of a head after a picture that has no slice yet.
-fn second_fault(tally: &Tally, kind: u8) -> Option<FilmFault>
-    ensures { result ≡ second_fault tally.now kind }
+fn second_fault(tally: &Tally, value: u8) -> Option<FilmFault>
+    ensures { result ≡ second_fault tally.now value }
 {
     let unit = tally.unit?;
-    if is_head(kind) && unit.slices.is_none() {
+    if is_head(value) && unit.slices.is_none() {
         Some(FilmFault::PictureWithoutSlices(unit.picture?.place))
     } else {
         None
@@ -218,13 +220,13 @@ fn second_fault(tally: &Tally, kind: u8) -> Option<FilmFault>
 }
 
 /// The refusal of the first slice of a unit by the head before it: without a picture, or too long.
-fn first_slice_fault(tally: &Tally, place: u64, kind: u8) -> Option<FilmFault>
-    requires begun { is_slice kind ≡ true → tally.now.begun ≡ true }
+fn first_slice_fault(tally: &Tally, place: u64, value: u8) -> Option<FilmFault>
+    requires begun { is_slice value ≡ true → tally.now.begun ≡ true }
     requires from { tally.now.unit ≤ place }
-    ensures { result ≡ first_slice_fault tally.now place kind }
+    ensures { result ≡ first_slice_fault tally.now place value }
 {
     let unit = tally.unit?;
-    if !is_slice(kind) || unit.slices.is_some() {
+    if !is_slice(value) || unit.slices.is_some() {
         None
     } else if unit.picture.is_none() {
         Some(FilmFault::HeadWithoutPicture(unit.from))
@@ -236,11 +238,11 @@ fn first_slice_fault(tally: &Tally, place: u64, kind: u8) -> Option<FilmFault>
 }
 
 /// The refusal of one picture more in its group or film.
-fn count_fault(tally: &Tally, place: u64, kind: u8) -> Option<FilmFault>
+fn count_fault(tally: &Tally, place: u64, value: u8) -> Option<FilmFault>
     requires { tally.now.before_group ≤ tally.now.pictures }
-    ensures { result ≡ count_fault tally.now place kind }
+    ensures { result ≡ count_fault tally.now place value }
 {
-    if kind != PICTURE {
+    if value != PICTURE {
         None
     } else if tally.pictures - tally.before_group >= MAX_GROUP_PICTURES {
         Some(FilmFault::GroupTooLong(place))

@@ -70,26 +70,26 @@ pub(crate) fn tell_unit<F: Found>(tally: &Tally, to: u64, found: &mut F) -> Resu
 pub(crate) fn tell<F: Found>(
     tally: &Tally,
     place: u64,
-    kind: u8,
+    value: u8,
     found: &mut F,
 ) -> Result<(), NoMemory>
-    requires begun { is_slice kind ≡ true → tally.now.begun ≡ true }
-    requires head { is_slice kind ≡ true → tally.now.slices ≡ 0 → tally.now.unit < place }
-    requires short { is_slice kind ≡ true → tally.now.slices ≡ 0 → place ≤ tally.now.unit + 1380 }
+    requires begun { is_slice value ≡ true → tally.now.begun ≡ true }
+    requires head { is_slice value ≡ true → tally.now.slices ≡ 0 → tally.now.unit < place }
+    requires short { is_slice value ≡ true → tally.now.slices ≡ 0 → place ≤ tally.now.unit + 1380 }
     requires room { HasRoom tally.now place }
     requires within { place ≤ 2 ^ 40 }
     requires ready { AwaitsSlice (F.ready_at found.old) tally.now }
-    ensures ready { OnOk result (AwaitsSliceAfter (F.ready_at found.new) tally.now place kind) }
+    ensures ready { OnOk result (AwaitsSliceAfter (F.ready_at found.new) tally.now place value) }
     ensures heard { OnOk result ((calls : List Call) → F.heard found.old calls →
-        F.heard found.new (calls ++ calls_at tally.now place kind)) }
+        F.heard found.new (calls ++ calls_at tally.now place value)) }
 {
     let Some(unit) = tally.unit else {
         return Ok(());
     };
     match unit.slices {
-        None if is_slice(kind) => found.head(unit.from, place),
-        Some(slices) if is_slice(kind) => found.slice(slices.last, place),
-        Some(_) if is_head(kind) => tell_unit(tally, place, found),
+        None if is_slice(value) => found.head(unit.from, place),
+        Some(slices) if is_slice(value) => found.slice(slices.last, place),
+        Some(_) if is_head(value) => tell_unit(tally, place, found),
         _ => Ok(()),
     }
 }

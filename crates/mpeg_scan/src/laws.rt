@@ -12,7 +12,7 @@ ghost use Rattle.mpeg_scan.specs.Layout.{AreInFilm, BeginsSequence, IsLaid, OfUn
 ghost use Rattle.mpeg_scan.specs.Places.{HasCode, StandsAt};
 ghost use Rattle.mpeg_scan.specs.Rates.{AreStandardTimes, picture_time};
 ghost use Rattle.mpeg_scan.specs.Standard.{AreFalling, ArePresented, AreUnitsOf, IsAmong};
-ghost use Rattle.mpeg_scan.specs.Standard.{IsSliceKind, IsUnitOf};
+ghost use Rattle.mpeg_scan.specs.Standard.{IsSliceValue, IsUnitOf};
 ghost use Rattle.mpeg_scan.specs.Standard.{StandsThere, slice_places};
 ghost use Rattle.mpeg_scan.specs.Refusals.{IsRefusedFor};
 ghost use Rattle.mpeg_scan.specs.Tiles.{Tiles};
@@ -92,10 +92,10 @@ pub fn law_picture_rates()
 {}
 
 /// The start codes of a film's bytes are those that stand in them, each at its place: the bytes 00
-/// 00 01, and a kind.
+/// 00 01, and a value.
 pub fn law_start_codes()
-    ensures { (bytes : List ℕ) (place kind : ℕ) →
-        HasCode place kind (codes_of (read_after [] bytes)) ↔ StandsAt bytes place kind }
+    ensures { (bytes : List ℕ) (place value : ℕ) →
+        HasCode place value (codes_of (read_after [] bytes)) ↔ StandsAt bytes place value }
 {}
 
 /// The start codes of bytes are listed in their order, each once.
@@ -109,7 +109,7 @@ pub fn law_slices(film: &Film)
     ensures places { film.now.slice_starts.items ≡
         slice_places (codes_of (read_after [] film.now.bytes.items)) }
     ensures codes { (place : ℕ) → IsAmong place film.now.slice_starts.items
-        ↔ StandsThere (StandsAt film.now.bytes.items) place IsSliceKind }
+        ↔ StandsThere (StandsAt film.now.bytes.items) place IsSliceValue }
 {
     let _read = film.bytes.len();
 }

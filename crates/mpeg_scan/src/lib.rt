@@ -24,9 +24,9 @@ pub use laws::{
 };
 pub use scanner::{Ending, Scanner};
 pub use units::{
-    Kind, MAX_FILM_BYTES, MAX_FILM_PICTURES, MAX_GROUP_PICTURES, MAX_UNIT_HEAD_BYTES, Unit,
-    picture_time,
+    Kind, MAX_FILM_BYTES, MAX_GROUP_PICTURES, MAX_UNIT_HEAD_BYTES, Unit, picture_time,
 };
+pub use vod_base::MAX_FILM_PICTURES;
 
 #[cfg(test)]
 mod tests;

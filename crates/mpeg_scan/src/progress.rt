@@ -50,7 +50,7 @@ impl Progress {
         }
     }
 
-    /// A byte that isn't the kind of a code.
+    /// A byte that isn't the value of a code.
     fn note(&mut self, byte: u8)
         requires { self.old.fed < 2 ^ 41 }
         ensures { self.new ≡ scan_with_byte self.old byte }
@@ -84,18 +84,18 @@ impl Progress {
 
     /// Judges a code.
     #[tactic(auto, unfolding(crate::specs::Steps::code_judgement))]
-    fn judge(&self, place: u64, kind: u8) -> Result<Tally, FilmFault>
+    fn judge(&self, place: u64, value: u8) -> Result<Tally, FilmFault>
         requires room { HasRoomWith self.now.latest self.now.tally place }
         requires within { place ≤ 2 ^ 40 }
         ensures { MatchResult result
-            (λ t. (judgement self.now place kind ≡ None) × (t ≡ tally_now self.now))
-            (λ f. judgement self.now place kind ≡ Some f) }
+            (λ t. (judgement self.now place value ≡ None) × (t ≡ tally_now self.now))
+            (λ f. judgement self.now place value ≡ Some f) }
     {
         if let Some(fault) = self.header_fault(place) {
             return Err(fault);
         }
         let tally = self.tally_now();
-        match code_fault(&tally, place, kind) {
+        match code_fault(&tally, place, value) {
             None => Ok(tally),
             Some(fault) => Err(fault),
         }
@@ -105,30 +105,30 @@ impl Progress {
     fn take_code<F: Found>(
         &mut self,
         place: u64,
-        kind: u8,
+        value: u8,
         found: &mut F,
     ) -> Result<(), ScanRefused>
         requires room { HasRoomWith self.old.latest self.old.tally place }
         requires within { place ≤ 2 ^ 40 }
         requires ready { AwaitsSlice (F.ready_at found.old) (tally_now self.old) }
-        ensures taken { OnOk result ((judgement self.old place kind ≡ None)
-            × (self.new ≡ scan_with_code self.old place kind)) }
+        ensures taken { OnOk result ((judgement self.old place value ≡ None)
+            × (self.new ≡ scan_with_code self.old place value)) }
         ensures heard { OnOk result ((calls : List Call) → F.heard found.old calls
-            → F.heard found.new (calls ++ calls_at (tally_now self.old) place kind)) }
+            → F.heard found.new (calls ++ calls_at (tally_now self.old) place value)) }
         ensures fault { (f : FilmFault) → result ≡ Err (ScanRefused.Fault f) →
-            judgement self.old place kind ≡ Some f }
+            judgement self.old place value ≡ Some f }
         ensures unheard { (f : FilmFault) → result ≡ Err (ScanRefused.Fault f) →
             found.new ≡ found.old }
         ensures fed { self.new.fed ≡ self.old.fed }
         ensures ready { OnOk result
-            (AwaitsSliceAfter (F.ready_at found.new) (tally_now self.old) place kind) }
+            (AwaitsSliceAfter (F.ready_at found.new) (tally_now self.old) place value) }
     {
-        let tally = self.judge(place, kind)?;
-        tell(&tally, place, kind, found)?;
+        let tally = self.judge(place, value)?;
+        tell(&tally, place, value, found)?;
         self.tally = tally;
         self.latest = Some(Code {
             place,
-            kind,
+            value,
             header: HeaderBytes::new(),
         });
         Ok(())

@@ -5,43 +5,43 @@ ghost use Rattle.mpeg_scan.specs.Room.{HasCounts};
 ghost use Rattle.mpeg_scan.specs.Words.{header_of, is_head, is_slice, rate_code, tally_of, type_of};
 ghost use Rattle.mpeg_scan.specs.Steps.{next, next_all_slices, next_before_group, next_pictures};
 ghost use Rattle.mpeg_scan.specs.Steps.{next_rate};
-ghost use Rattle.mpeg_scan.specs.TallyFields.{count_of, ends_unit, new_unit, slices_with, unit_after};
-ghost use Rattle.mpeg_scan.specs.TallyFields.{unit_or_none, unit_with};
+ghost use Rattle.mpeg_scan.specs.TallyFields.{count_of, ends_unit, new_unit, slices_with};
+ghost use Rattle.mpeg_scan.specs.TallyFields.{unit_after, unit_or_none, unit_with};
 
 use crate::codes::Code;
 use crate::units::Kind;
 use std::marker::Model;
 
-/// The kind of a picture's start code (ISO/IEC 11172-2, table 2-D.1).
+/// The start code value of a picture (ISO/IEC 11172-2, table 2-D.1).
 pub(crate) const PICTURE: u8 = 0x00;
 
-/// The kind of a sequence header's start code.
+/// The start code value of a sequence header.
 pub(crate) const SEQUENCE: u8 = 0xb3;
 
-/// The kind of an extension's start code.
+/// The start code value of an extension.
 pub(crate) const EXTENSION: u8 = 0xb5;
 
-/// The kind of a group header's start code.
+/// The start code value of a group header.
 pub(crate) const GROUP: u8 = 0xb8;
 
-/// The least kind of a system start code; those above it are system start codes too.
+/// The least value of a system start code; those above it are system start codes too.
 pub(crate) const FIRST_SYSTEM: u8 = 0xb9;
 
-/// The greatest kind of a slice's start code; those from 1 to it are slices.
+/// The greatest start code value of a slice; those from 1 to it are slices.
 const LAST_SLICE: u8 = 0xaf;
 
-/// Whether a code of this kind begins a header of a head.
-pub(crate) fn is_head(kind: u8) -> bool
-    ensures { result ≡ is_head kind }
+/// Whether a code of this value begins a header of a head.
+pub(crate) fn is_head(value: u8) -> bool
+    ensures { result ≡ is_head value }
 {
-    kind == PICTURE || kind == SEQUENCE || kind == GROUP
+    value == PICTURE || value == SEQUENCE || value == GROUP
 }
 
-/// Whether a code of this kind begins a slice.
-pub(crate) fn is_slice(kind: u8) -> bool
-    ensures { result ≡ is_slice kind }
+/// Whether a code of this value begins a slice.
+pub(crate) fn is_slice(value: u8) -> bool
+    ensures { result ≡ is_slice value }
 {
-    1 <= kind && kind <= LAST_SLICE
+    1 <= value && value <= LAST_SLICE
 }
 
 /// The picture rate code of a sequence header.
@@ -154,11 +154,11 @@ impl UnitTally {
         }
     }
 
-    /// Whether a code of this kind ends it: the first of a head after a slice.
-    fn ends_at(&self, kind: u8) -> bool
-        ensures { result ≡ ends_unit self.now kind }
+    /// Whether a code of this value ends it: the first of a head after a slice.
+    fn ends_at(&self, value: u8) -> bool
+        ensures { result ≡ ends_unit self.now value }
     {
-        is_head(kind) && self.slices.is_some()
+        is_head(value) && self.slices.is_some()
     }
 
     /// The same with one code more, which doesn't end it.
@@ -168,18 +168,18 @@ impl UnitTally {
     {
         UnitTally {
             from: self.from,
-            picture: if code.kind == PICTURE {
+            picture: if code.value == PICTURE {
                 Some(Header::of_picture(code))
             } else {
                 self.picture
             },
-            slices: if is_slice(code.kind) {
+            slices: if is_slice(code.value) {
                 Some(Slices::with(self.slices, code.place))
             } else {
                 self.slices
             },
-            has_sequence: code.kind == SEQUENCE || self.has_sequence,
-            starts_group: code.kind == GROUP || self.starts_group,
+            has_sequence: code.value == SEQUENCE || self.has_sequence,
+            starts_group: code.value == GROUP || self.starts_group,
         }
     }
 
@@ -190,7 +190,7 @@ impl UnitTally {
         ensures { result ≡ unit_after latest code.now }
     {
         match latest {
-            Some(unit) if !unit.ends_at(code.kind) => unit.with(code),
+            Some(unit) if !unit.ends_at(code.value) => unit.with(code),
             _ => UnitTally::new(code.place, latest.is_none()).with(code),
         }
     }
@@ -261,7 +261,7 @@ impl Tally {
         ensures { result ≡ next_rate self.now code.now }
     {
         match self.rate {
-            None if code.kind == SEQUENCE => Some(rate_code(code)),
+            None if code.value == SEQUENCE => Some(rate_code(code)),
             rate => rate,
         }
     }
@@ -271,7 +271,7 @@ impl Tally {
         requires { self.now.pictures ≤ 4194304 }
         ensures { result ≡ next_pictures self.now code.now }
     {
-        if code.kind == PICTURE {
+        if code.value == PICTURE {
             self.pictures + 1
         } else {
             self.pictures
@@ -282,7 +282,7 @@ impl Tally {
     fn next_before_group(&self, code: &Code) -> u32
         ensures { result ≡ next_before_group self.now code.now }
     {
-        if code.kind == GROUP {
+        if code.value == GROUP {
             self.pictures
         } else {
             self.before_group
@@ -294,7 +294,7 @@ impl Tally {
         requires { self.now.all_slices ≤ 2 ^ 41 }
         ensures { result ≡ next_all_slices self.now code.now }
     {
-        if is_slice(code.kind) {
+        if is_slice(code.value) {
             self.all_slices + 1
         } else {
             self.all_slices

@@ -129,10 +129,10 @@ fn sequence_of(rate: u8) -> [u8; 12]
     ]
 }
 
-fn picture_of(kind: u8) -> [u8; 8]
-    requires { kind < 8 }
+fn picture_of(coding_type: u8) -> [u8; 8]
+    requires { coding_type < 8 }
 {
-    [0, 0, 1, 0, 0x00, 0x07 + 8 * kind, 0xff, 0xf8]
+    [0, 0, 1, 0, 0x00, 0x07 + 8 * coding_type, 0xff, 0xf8]
 }
 
 #[test]

@@ -14,9 +14,6 @@ pub const MAX_UNIT_HEAD_BYTES: u64 = 1380;
 /// The most pictures of a group: a temporal_reference has 10 bits (ISO/IEC 11172-2, 2.4.2.5).
 pub const MAX_GROUP_PICTURES: u32 = 1024;
 
-/// The most pictures of a film.
-pub const MAX_FILM_PICTURES: u32 = 4_194_304;
-
 /// The kind of a picture, its picture_coding_type (ISO/IEC 11172-2, 2.4.3.4).
 #[derive(Clone, Copy, Debug, PartialEq, Eq)]
 pub enum Kind {

@@ -1,7 +1,7 @@
 //! The films of a session, and what is sent of them.
 
 ghost use Rattle.std.specs.Prelude.{◌≡◌, ◌+◌, ◌*◌, ◌%◌, ◌^◌, ◌<◌, ◌≤◌, ℕ, true, length};
-ghost use Rattle.mpeg_scan.specs.declared.units.TheConstants.{MAX_FILM_PICTURES};
+ghost use Rattle.vod_base.specs.declared.limits.TheConstants.{MAX_FILM_PICTURES};
 ghost use Rattle.std.specs.Prelude.{string_bytes};
 ghost use Rattle.vod_base.specs.Names.{is_good_name};
 ghost use Rattle.film_frames.specs.Runs.{run_pieces};

@@ -1,7 +1,7 @@
 //! The replies, each from its status line to its body (RFC 2326 section 7).
 
 ghost use Rattle.session.specs.Replies.{code_of, refusal_fields, refusal_text, public_text};
-ghost use Rattle.mpeg_scan.specs.declared.units.TheConstants.{MAX_FILM_PICTURES};
+ghost use Rattle.vod_base.specs.declared.limits.TheConstants.{MAX_FILM_PICTURES};
 ghost use Rattle.session.specs.declared.texts.TheConstants.{ROOM};
 ghost use Rattle.session.specs.Replies.{describe_text, setup_text, session_text};
 ghost use Rattle.session.specs.Replies.{plain_text, play_fields, play_text, overflow_text};
