@@ -26,17 +26,32 @@ is-run-of f run view units =
     let count = run-count film f.first_unit f.end_unit f.identity run is in
     record { is = is; count = count.0; within = count.1; short = all-short film }
 
--- a sum over its first pieces, as over their bytes or frames, is that over its film's from the run's
--- first one on
-pub sum-from : {f : Inside} {run : FramedRun} {first : ℕ} (of : Piece → ℕ) (piece : ℕ) → IsRunOf f run
-    → piece ≤ length (pieces_in run) → first ≡ length (front_pieces f.stored.now.film f.first_unit)
-    → sum_by of (take (first + piece) (film_pieces f.stored.now.film))
-    ≡ sum_by of (take first (film_pieces f.stored.now.film)) + sum_by of (take piece (pieces_in run))
-sum-from {f} {first} of piece has within at =
+-- a piece of the run, or its end, by its number among its film's, where `first` is that of the run's first one: a
+-- sum over the pieces before it, as over their bytes or frames, is that over its film's from `first` on
+pub record InFilm (f : Inside) (run : FramedRun) (first piece : ℕ) : Type 0 where
+  pub start : first ≤ length (film_pieces f.stored.now.film)
+  pub number : first + piece ≤ length (film_pieces f.stored.now.film)
+  pub few : length (film_pieces f.stored.now.film) ≤ 2 ^ 42
+  pub sum : (of : Piece → ℕ) → sum_by of (take (first + piece) (film_pieces f.stored.now.film))
+      ≡ sum_by of (take first (film_pieces f.stored.now.film)) + sum_by of (take piece (pieces_in run))
+
+pub in-film : (f : Inside) {run : FramedRun} {first piece : ℕ}
+    → run_of f.stored.now.film f.first_unit f.end_unit f.identity ≡ run
+    → (f.first_unit < f.end_unit) × (f.end_unit ≤ length f.stored.now.film.units.items)
+    → first ≡ length (front_pieces f.stored.now.film f.first_unit) → piece ≤ length (pieces_in run)
+    → InFilm f run first piece
+in-film f {run} {first} {piece} view units at within =
     let film = f.stored.now.film in
-    let sum = sum-in-run of piece has.is within (ap (λ n. n + piece) at) in
-    let from = ap (λ n. sum_by of (take n (film_pieces film))) at in
-    omega (arith, sum, from)
+    let has = is-run-of f run view units in
+    record {
+      start = omega (arith, at, has.count, has.within);
+      number = omega (arith, at, within, has.count, has.within);
+      few = has.short;
+      sum = λ of.
+          let sum = sum-in-run of piece has.is within (ap (λ n. n + piece) at) in
+          let from = ap (λ n. sum_by of (take n (film_pieces film))) at in
+          omega (arith, sum, from);
+    }
 
 -- what comes before its first piece in its film, and all its bytes
 pub total-from : {f : Inside} {run : FramedRun} {first : ℕ} → IsRunOf f run
