@@ -287,7 +287,8 @@ pub second-accepted : (t : Tally) (place value : ℕ) → code_fault t place val
 second-accepted t place value e =
     otherwise-first (second_fault t value) (first_refusal (first_slice_fault t place value) (count_fault t place value))
     (otherwise-second (value_fault t place value)
-    (first_refusal (second_fault t value) (first_refusal (first_slice_fault t place value) (count_fault t place value))) e)
+    (first_refusal (second_fault t value)
+    (first_refusal (first_slice_fault t place value) (count_fault t place value))) e)
 
 -- what these codes sum up to
 abbrev sums_of : List Code → Sums
@@ -304,7 +305,8 @@ pub empty-count : (n : ℕ) → ltb 0 n ≡ false → n ≡ 0
 empty-count n h = let none = ltb-false 0 n h in omega arith
 
 pub code-fits : (c d : Code) (past : List Code) → code_fault (tally_of (d ∷ past)) c.place c.value ≡ None
-    → CodeFits (is_slice c.value) (is_head c.value) (ltb 0 (slice_count (d ∷ past))) (is_some (latest_picture (d ∷ past)))
+    → CodeFits (is_slice c.value) (is_head c.value) (ltb 0 (slice_count (d ∷ past)))
+    (is_some (latest_picture (d ∷ past)))
 code-fits c d past e =
     let t = tally_of (d ∷ past) in
     record {

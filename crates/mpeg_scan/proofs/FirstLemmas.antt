@@ -229,7 +229,8 @@ unfolding end_fault
 first-there bytes [] codes spaced ended = absurd (omega (arith, ended-none (tally_of []) ended))
 first-there bytes (c ∷ past) codes spaced ended =
     let f = first_in c past in
-    subst (λ p. StandsThere (StandsAt bytes) p AnyValue × IsFirstCode (StandsAt bytes) p) (sym (first_in-place c past)) (
+    subst (λ p. StandsThere (StandsAt bytes) p AnyValue × IsFirstCode (StandsAt bytes) p)
+    (sym (first_in-place c past)) (
       (
         f.value,
         (

@@ -228,7 +228,8 @@ sequence-decides {Has} {bytes} {c} {past} {at} {rate} h is =
     || (ltb 8 (rate_code c) || differs rate (rate_code c))) (BadRate c.place (rate_code c))
     (λ t. record {
       place = c.place;
-      latest = latest-value {Has = Has} {bytes = bytes} {c = c} {past = past} {at = at} {rate = rate} {value = 0xb3} h is;
+      latest = latest-value {Has = Has} {bytes = bytes} {c = c} {past = past} {at = at} {rate = rate}
+          {value = 0xb3} h is;
       bad = bad-rate {Has = Has} {bytes = bytes} {place = c.place} {rate = rate} {its = rate_code c} its h.rate_is
           (rate-parts (eqb (rate_code c) 0) (ltb 8 (rate_code c)) (differs rate (rate_code c)) t);
       is = ap (BadRate c.place) its;

@@ -211,7 +211,8 @@ head-other c past from head_end other none place value (inl new) after before is
     other (subst (λ k. IsSliceValue k) (sym new.1) is)
 head-other c past from head_end other none place value (inr old) after before is = none place value old after before is
 
-head-first : {from : ℕ} (c : Code) (past : List Code) → NoneFrom past from IsSliceValue → NoSlice (c ∷ past) from c.place
+head-first : {from : ℕ} (c : Code) (past : List Code) → NoneFrom past from IsSliceValue
+    → NoSlice (c ∷ past) from c.place
 head-first {from} c past none place value (inl new) after before is = omega (arith, new.0, before)
 head-first {from} c past none place value (inr old) after before is = none place value old after is
 

@@ -106,6 +106,11 @@ pub record SliceTaken (t : Tally) (latest : Option Code) (tally : Tally) (place 
   pub tally_is : t ≡ tally_with latest tally
   pub slice : is_slice value ≡ true
 
+pub slice-taken : {t tally : Tally} {latest : Option Code} {place value : ℕ}
+    → (code_judgement latest tally place value ≡ None) × (t ≡ tally_with latest tally) → is_slice value ≡ true
+    → SliceTaken t latest tally place value
+slice-taken taken slice = record { judged = taken.0; tally_is = taken.1; slice = slice }
+
 -- it isn't the film's first code
 pub slice-begun : {t tally : Tally} {latest : Option Code} {place value : ℕ} → SliceTaken t latest tally place value
     → t.begun ≡ true
@@ -182,7 +187,8 @@ slice-by {s = true} h slice prefix at before some = omega (arith, prefix.none re
 slice-by {s = false} true slice prefix at before some = absurd (omega (arith, some))
 slice-by {s = false} false slice prefix at before some = omega (arith, prefix.short, at, before some)
 
-code-room : {t : Tally} {place fed : ℕ} (value : ℕ) → place + 3 ≤ fed → HasRoom t place → code_fault t place value ≡ None
+code-room : {t : Tally} {place fed : ℕ} (value : ℕ) → place + 3 ≤ fed → HasRoom t place
+    → code_fault t place value ≡ None
     → HasRoomWith (Some (record { place = place; value = value; header = [] })) t
     (fed + 1 - prefix_length (next_prefix Whole value))
 unfolding next

@@ -196,19 +196,21 @@ group-bytes : (bytes : List ℕ) (past : List Code) (from to : ℕ)
     → ((place value : ℕ) → HasCode place value past ↔ StandsAt bytes place value)
     → IsFirstCode (Has past) from ⊎ StandsIn (Has past) from to 0xb8
     → IsFirstCode (StandsAt bytes) from ⊎ StandsIn (StandsAt bytes) from to 0xb8
-group-bytes bytes past from to both (inl firsts) = inl (λ place value has. firsts place value ((both place value).1 has))
+group-bytes bytes past from to both (inl firsts) =
+    inl (λ place value has. firsts place value ((both place value).1 has))
 group-bytes bytes past from to both (inr it) = inr (stands-bytes past both it)
 
 group-codes : (bytes : List ℕ) (past : List Code) (from to : ℕ)
     → ((place value : ℕ) → HasCode place value past ↔ StandsAt bytes place value)
     → IsFirstCode (StandsAt bytes) from ⊎ StandsIn (StandsAt bytes) from to 0xb8
     → IsFirstCode (Has past) from ⊎ StandsIn (Has past) from to 0xb8
-group-codes bytes past from to both (inl firsts) = inl (λ place value has. firsts place value ((both place value).0 has))
+group-codes bytes past from to both (inl firsts) =
+    inl (λ place value has. firsts place value ((both place value).0 has))
 group-codes bytes past from to both (inr it) = inr (stands-codes past both it)
 
 unit-bytes : (bytes : List ℕ) (past : List Code) (unit : PictureUnit)
-    → ((place value : ℕ) → HasCode place value past ↔ StandsAt bytes place value) → AreHeaders (read_after [] bytes) past
-    → Closed past unit → IsUnitOf bytes unit
+    → ((place value : ℕ) → HasCode place value past ↔ StandsAt bytes place value)
+    → AreHeaders (read_after [] bytes) past → Closed past unit → IsUnitOf bytes unit
 unit-bytes bytes past unit both headers closed =
     let u = closed.unit_is in
     let p = u.picture in

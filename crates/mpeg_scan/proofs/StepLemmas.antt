@@ -251,6 +251,10 @@ pub record CodeNoted (s n : Progress) (r : List ℕ) (x place : ℕ) : Type 0 wh
   pub place_is : place ≡ s.fed - 3
   pub kept : HasRead s r
 
+pub code-noted : {s n : Progress} {r : List ℕ} {x : ℕ} → true ≡ is_whole s.prefix → n ≡ scan_with_byte s x
+    → HasRead s r → CodeNoted s n r x (s.fed - 3)
+code-noted whole noted kept = record { whole = sym whole; noted = noted; place_is = refl; kept = kept }
+
 whole-before : {s n : Progress} {r : List ℕ} {x place : ℕ} → CodeNoted s n r x place → is_whole (latest_prefix r) ≡ true
 whole-before code = whole-read code.kept code.whole
 

@@ -235,12 +235,14 @@ first-value false false false place e = absurd (cc)
 first-step : (place value : ℕ) → value ≡ 0xb3
     → parts_after (Some (between place)) (calls_at (tally_of []) place value)
     ≡ Some (part_by (cond (is_head value) 0 (cond (is_slice value) (0 + 1) 0)) place
-    (cond (is_slice value && eqb 0 0) place (cond (is_head value) 0 0)) (cond (is_slice value) place (cond (is_head value) 0 0)))
+    (cond (is_slice value && eqb 0 0) place (cond (is_head value) 0 0))
+    (cond (is_slice value) place (cond (is_head value) 0 0)))
 unfolding calls_at part_by
 first-step place value is =
     subst (λ k. parts_after (Some (between place)) (calls_at (tally_of []) place k)
     ≡ Some (part_by (cond (is_head k) 0 (cond (is_slice k) (0 + 1) 0)) place
-    (cond (is_slice k && eqb 0 0) place (cond (is_head k) 0 0)) (cond (is_slice k) place (cond (is_head k) 0 0)))) (sym is) refl
+    (cond (is_slice k && eqb 0 0) place (cond (is_head k) 0 0))
+    (cond (is_slice k) place (cond (is_head k) 0 0)))) (sym is) refl
 
 pub calls-nil : calls_of [] ≡ []
 unfolding calls_of

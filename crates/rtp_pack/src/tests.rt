@@ -344,7 +344,8 @@ fn reports_units(rt: HostRuntime) -> Result<(), Fail> {
     let first = unit_report(&IDENTITY, PICTURE, &film.units[0], 0, 0);
     assert_eq!(rt;
         write_report(&first),
-        *b"\x80\xc8\0\x06\x01\x02\x03\x04\0\0\0\0\0\0\0\0\0\0\0\0\0\0\0\0\0\0\0\0\x81\xca\0\x04\x01\x02\x03\x04\x01\x08vodserve\0\0"
+        *b"\x80\xc8\0\x06\x01\x02\x03\x04\0\0\0\0\0\0\0\0\0\0\0\0\0\0\0\0\0\0\0\0\
+            \x81\xca\0\x04\x01\x02\x03\x04\x01\x08vodserve\0\0"
     );
     let later = unit_report(&IDENTITY, PICTURE, &UNIT, 7, 0x0102_0304);
     let want = Report {
@@ -357,7 +358,8 @@ fn reports_units(rt: HostRuntime) -> Result<(), Fail> {
     assert_eq!(rt; later, want);
     assert_eq!(rt;
         write_report(&want),
-        *b"\x80\xc8\0\x06\x01\x02\x03\x04\0\0\0\x04\xcc\xcc\xcc\xcc\0\x06\x97\x80\0\0\0\x07\x01\x02\x03\x04\x81\xca\0\x04\x01\x02\x03\x04\x01\x08vodserve\0\0"
+        *b"\x80\xc8\0\x06\x01\x02\x03\x04\0\0\0\x04\xcc\xcc\xcc\xcc\0\x06\x97\x80\0\0\0\x07\
+            \x01\x02\x03\x04\x81\xca\0\x04\x01\x02\x03\x04\x01\x08vodserve\0\0"
     );
     Ok(())
 }

@@ -8,8 +8,8 @@ use std::alloc::Global;
 use std::test::Fail;
 
 /// Film A: a sequence header, a group header, an I picture and one slice.
-const FILM: &[u8] =
-    b"\0\0\x01\xb3\x16\x01\x20\x13\xff\xff\xe0\xa0\0\0\x01\xb8\0\x08\0\x40\0\0\x01\0\0\x0f\xff\xf8\0\0\x01\x01\x12\x34";
+const FILM: &[u8] = b"\0\0\x01\xb3\x16\x01\x20\x13\xff\xff\xe0\xa0\
+    \0\0\x01\xb8\0\x08\0\x40\0\0\x01\0\0\x0f\xff\xf8\0\0\x01\x01\x12\x34";
 
 /// A pack header.
 const PACK: &[u8] = b"\0\0\x01\xba\x21\0\x01\0\x01\x80\0\x03";
@@ -81,7 +81,8 @@ fn refuses_streams(rt: HostRuntime) -> Result<(), Fail> {
         (b"\0\0\x01\xba\x44", SystemFault::NotPack(12)),
         (b"\0\0\x01\xe0\0\x04\x21", SystemFault::BadPacket(12)),
         (
-            b"\0\0\x01\xe0\0\x34\xff\xff\xff\xff\xff\xff\xff\xff\xff\xff\xff\xff\xff\xff\xff\xff\xff\x0f",
+            b"\0\0\x01\xe0\0\x34\xff\xff\xff\xff\xff\xff\xff\xff\xff\xff\xff\xff\xff\xff\xff\xff\
+                \xff\x0f",
             SystemFault::BadPacket(12),
         ),
     ];

@@ -10,10 +10,12 @@ overflow_add-first c =
     omega (arith, at.number, at.few)
 
 pub place-requires : goal.place-requires
-place-requires c = (in-film c.self.inside c.self.view_is c.self.invariant c.first_piece-first.ensures c.requires).number
+place-requires c =
+    (in-film c.self.inside c.self.view_is c.self.invariant c.first_piece-first.ensures c.requires).number
 
 pub place-requires-2 : goal.place-requires-2
-place-requires-2 c = (in-film c.self.inside c.self.view_is c.self.invariant c.first_piece-first.ensures c.requires).start
+place-requires-2 c =
+    (in-film c.self.inside c.self.view_is c.self.invariant c.first_piece-first.ensures c.requires).start
 
 pub overflow_sub-result : goal.overflow_sub-result
 overflow_sub-result c =

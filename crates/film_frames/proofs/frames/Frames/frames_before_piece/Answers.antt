@@ -9,10 +9,12 @@ overflow_add-first c =
     omega (arith, at.number, at.few)
 
 pub frames-requires : goal.frames-requires
-frames-requires c = (in-film c.self.inside c.self.view_is c.self.invariant c.first_piece-first.ensures c.requires).number
+frames-requires c =
+    (in-film c.self.inside c.self.view_is c.self.invariant c.first_piece-first.ensures c.requires).number
 
 pub frames-requires-2 : goal.frames-requires-2
-frames-requires-2 c = (in-film c.self.inside c.self.view_is c.self.invariant c.first_piece-first.ensures c.requires).start
+frames-requires-2 c =
+    (in-film c.self.inside c.self.view_is c.self.invariant c.first_piece-first.ensures c.requires).start
 
 pub overflow_sub-result : goal.overflow_sub-result
 overflow_sub-result c =

@@ -3,7 +3,7 @@ use Rattle.std.proofs.lemmas.Result.{on_ok_weaker}
 use Rattle.mpeg_scan.specs.Calls.{Call}
 use Rattle.mpeg_scan.proofs.RoomLemmas.{both-ok, coded-ahead, coded-awaits, noted-ahead}
 use Rattle.mpeg_scan.proofs.RoomLemmas.{noted-awaits, room-before}
-use Rattle.mpeg_scan.proofs.StepLemmas.{CodeNoted, taken-plain, taken-code, taken-fault}
+use Rattle.mpeg_scan.proofs.StepLemmas.{code-noted, taken-plain, taken-code, taken-fault}
 use Rattle.mpeg_scan.proofs.StepLemmas.{taken-calls, taken-none}
 use Rattle.mpeg_scan.proofs.progress.Progress.take_byte.Goals as goal
 
@@ -19,35 +19,20 @@ take_code-requires-clause-ready g c =
 pub returns-clause-kept : goal.returns-clause-kept
 returns-clause-kept g c =
     on_ok_weaker c.take_code.result (λ h r kept.
-    let code : CodeNoted c.args.self.now c.note-2.new.self r c.args.byte (c.args.self.now.fed - 3) = record {
-      whole = sym c.if-not-is_whole.ensures;
-      noted = c.note-2.ensures;
-      place_is = refl;
-      kept = kept;
-    } in
+    let code = code-noted c.if-not-is_whole.ensures c.note-2.ensures kept in
     taken-code code h) c.take_code.ensures.taken
 
 pub returns-clause-heard : goal.returns-clause-heard
 returns-clause-heard g c =
     on_ok_weaker c.take_code.result (λ h r calls kept heard.
-    let code : CodeNoted c.args.self.now c.note-2.new.self r c.args.byte (c.args.self.now.fed - 3) = record {
-      whole = sym c.if-not-is_whole.ensures;
-      noted = c.note-2.ensures;
-      place_is = refl;
-      kept = kept;
-    } in
+    let code = code-noted c.if-not-is_whole.ensures c.note-2.ensures kept in
     subst (λ (l : List Call). g.F.Found.heard c.take_code.new.found l) (taken-calls code calls) (h _ heard))
     c.take_code.ensures.heard
 
 pub returns-clause-fault : goal.returns-clause-fault
 returns-clause-fault g c =
     λ f is r kept.
-    let code : CodeNoted c.args.self.now c.note-2.new.self r c.args.byte (c.args.self.now.fed - 3) = record {
-      whole = sym c.if-not-is_whole.ensures;
-      noted = c.note-2.ensures;
-      place_is = refl;
-      kept = kept;
-    } in
+    let code = code-noted c.if-not-is_whole.ensures c.note-2.ensures kept in
     taken-fault code (c.take_code.ensures.fault f is)
 
 pub returns-clause-room : goal.returns-clause-room
