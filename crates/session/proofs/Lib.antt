@@ -31,3 +31,5 @@ mod Endings
 pub mod PlayHeard
 pub mod SetupHeard
 pub mod WholeAsked
+mod ReplyTexts
+mod WholeReplies

@@ -177,12 +177,12 @@ prints-append a b here there =
     list_all-append is_url_byte a b ∙ and_from (list_all is_url_byte a) (list_all is_url_byte b) here there
 
 -- what is known of an authority
-record IsAuthority (authority : List ℕ) : Type 0 where
+pub record IsAuthority (authority : List ℕ) : Type 0 where
   some : 0 < length authority
-  prints : list_all is_url_byte authority ≡ true
+  pub prints : list_all is_url_byte authority ≡ true
   no_slash : (k : ℕ) → k < length authority → get_or authority k 0 ≢ 47
 
-authority_of : (url authority : List ℕ) (name : Option (List ℕ)) → IsRead url authority name → IsAuthority authority
+pub authority_of : (url authority : List ℕ) (name : Option (List ℕ)) → IsRead url authority name → IsAuthority authority
 authority_of url authority name is =
     let end = is.is_url.end in
     let size : length (take (is.path - 7) (drop 7 url)) ≡ is.path - 7 =
@@ -246,7 +246,7 @@ film_url authority name tail is good is_tail =
     all_print_after n all = name_in_url n all
 
 -- a play's reply
-few_ms : (units unit time : ℕ) → unit ≤ units → units ≤ 4194304 → time ≤ 360000 → unit * time / 360 < 10 ^ 12
+pub few_ms : (units unit time : ℕ) → unit ≤ units → units ≤ 4194304 → time ≤ 360000 → unit * time / 360 < 10 ^ 12
 few_ms units unit time within few brief =
     let fits : unit ≤ 4194304 = omega (arith, within, few) in
     let most : unit * time ≤ 4194304 * 360000 = mul-le-mul fits brief in

@@ -24,3 +24,4 @@ pub mod PlayLaws
 pub mod LookLaws
 pub mod EndLaws
 pub mod PublicLaws
+pub mod WholeReplies

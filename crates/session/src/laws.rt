@@ -10,6 +10,7 @@ ghost use Rattle.session.specs.declared.asks.Ask.{Ask};
 ghost use Rattle.session.specs.declared.notes.Receipt.{Receipt};
 ghost use Rattle.session.specs.declared.plans.Planned.{Planned};
 ghost use Rattle.session.specs.declared.refusals.Refusal.{Refusal};
+ghost use Rattle.session.specs.declared.settings.Settings.{Settings};
 ghost use Rattle.session.specs.declared.states.Counts.{Counts};
 ghost use Rattle.session.specs.declared.states.Play.{Play as Played};
 ghost use Rattle.session.specs.declared.states.Setup.{Setup};
@@ -19,7 +20,7 @@ ghost use Rattle.session.specs.Films.{counts_after, identity_of, sending_of};
 ghost use Rattle.session.specs.Changes.{AsksOrLacks, AwaitsNoStop, CanBePlayed, ChangesState};
 ghost use Rattle.session.specs.Changes.{IsSameGround, RefusesNone};
 ghost use Rattle.session.specs.Hearings.{Hears, after_admission, after_full, after_halt};
-ghost use Rattle.session.specs.Hearings.{after_look, after_overflow};
+ghost use Rattle.session.specs.Hearings.{after_look, after_overflow, new_standing};
 ghost use Rattle.session.specs.Laws.{AsksNoHalt, GoesOn, InitStage, Is500, IsDropped, IsOneHearing};
 ghost use Rattle.session.specs.Laws.{IsWanting, LeavesNoted, LeavesOr, MayWantMemory, NeverLacks};
 ghost use Rattle.session.specs.Laws.{PlayingStage, PlaysOn, ReadyStage, Resumes, StaysOr};
@@ -32,6 +33,7 @@ ghost use Rattle.session.specs.Standings.{Standing, sequence_of};
 ghost use Rattle.session.specs.Telling.{IsDescribed, IsFilmTold, IsFullTold, IsLookTold};
 ghost use Rattle.session.specs.Telling.{IsOverflowTold, IsPlayTold, IsSetupTold, IsStartTold};
 ghost use Rattle.session.specs.Telling.{IsTellable, phrase_of};
+ghost use Rattle.session.specs.WholeReplies.{IsWellNamed, LeavesRoom, RepliesWhole};
 
 /// A reply other than 200 leaves all of the session but the reply (RFC 2326 section 7.1.1). So do
 /// 453 and 503, which tell what the station answered: only its receipt is noted, and no answer is
@@ -189,4 +191,18 @@ pub fn law_answers_told()
 /// The reply to an OPTIONS names the methods by which requests are judged (RFC 2326 section 10.1).
 pub fn law_methods_told()
     ensures { (sequence : ℕ) → IsPublicTold sequence (public_text sequence) }
+{}
+
+/// Each reply is a whole message, whose end its own bytes tell (RFC 2326 sections 4.4 and 7). A
+/// reply repeats the authority of its request's URL, or the option that the request requires; so
+/// the request's head is to be 512 bytes shorter than the longest that is taken. What else it needs
+/// is so of each session from its beginning on.
+pub fn law_reply_whole()
+    ensures begun { (films : List Stored) (settings : Settings) (words : List ℕ) → AreFilms films →
+        IsWellNamed (new_standing films settings words) }
+    ensures kept { (old new : Standing) (message : List ℕ) (ask : Ask) → Hears old message ask new →
+        IsWellNamed old → IsWellNamed new }
+    ensures whole { (old new : Standing) (message : List ℕ) (ask : Ask) →
+        Hears old message ask new →
+        IsWellNamed old → LeavesRoom message → RepliesWhole ask new }
 {}

@@ -30,7 +30,8 @@ pub use end_laws::{law_pause_leaves, law_teardown_ends};
 pub use laws::{
     law_answers_told, law_changes, law_film_told, law_methods_told, law_numbers_go_on,
     law_one_hearing, law_phrases, law_play_goes_on, law_play_is_asked, law_play_told,
-    law_refusal_leaves, law_resume_goes_on, law_setup_told, law_start_told, law_states,
+    law_refusal_leaves, law_reply_whole, law_resume_goes_on, law_setup_told, law_start_told,
+    law_states,
 };
 pub use look_laws::law_looks;
 pub use notes::{Notes, OfferNote, PlayNote, Receipt};
