@@ -33,3 +33,4 @@ pub mod SetupHeard
 pub mod WholeAsked
 mod ReplyTexts
 mod WholeReplies
+mod Words

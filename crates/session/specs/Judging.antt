@@ -228,6 +228,10 @@ fault_refusal (BadHeader line) = BadRequest
 fault_refusal NoSequenceNumber = BadRequest
 fault_refusal BadLength = BadRequest
 
+-- nothing, or one line end
+abbrev pub IsLineEnd : List ℕ → Type 0
+IsLineEnd bytes = (bytes ≡ []) ⊎ ((bytes ≡ codes "\n") ⊎ (bytes ≡ codes "\r\n"))
+
 -- a body is this word, with or without one line end after it
 abbrev pub IsWord : List ℕ → List ℕ → Type 0
 IsWord word body = (body ≡ word) ⊎ ((body ≡ word ++ codes "\n") ⊎ (body ≡ word ++ codes "\r\n"))

@@ -1,8 +1,8 @@
 //! The methods of RTSP that are spoken, and what a GET_PARAMETER asks for.
 
-ghost use Rattle.std.specs.Prelude.{◌≡◌, ◌≢◌, ◌↔◌, IsTrue, MatchOption, codes};
+ghost use Rattle.std.specs.Prelude.{◌≡◌, ◌≢◌, ◌↔◌, IsTrue, MatchOption};
 ghost use Rattle.session.specs.declared.methods.Method.{Method};
-ghost use Rattle.session.specs.Judging.{IsTopic, IsWord, name_of};
+ghost use Rattle.session.specs.Judging.{IsLineEnd, IsTopic, IsWord, name_of};
 
 /// A method of RTSP that is spoken (RFC 2326 section 10).
 #[derive(Clone, Copy)]
@@ -66,29 +66,28 @@ pub(crate) fn read_topic(body: &[u8]) -> Topic
 {
     if body.is_empty() {
         Topic::Nothing
-    } else if is_booked(body) {
+    } else if is_word(body, b"x-Booked") {
         Topic::Booked
-    } else if is_offer(body) {
+    } else if is_word(body, b"x-Offer") {
         Topic::Offer
     } else {
         Topic::Unknown
     }
 }
 
-/// Whether a body asks for what is booked: this word, with or without one line end after it.
-fn is_booked(body: &[u8]) -> bool
-    ensures { IsTrue result ↔ IsWord (codes "x-Booked") body.now }
+/// Whether a body is this word, with or without one line end after it.
+fn is_word(body: &[u8], word: &[u8]) -> bool
+    ensures { IsTrue result ↔ IsWord word.now body.now }
 {
-    body == b"x-Booked".as_slice()
-        || body == b"x-Booked\n".as_slice()
-        || body == b"x-Booked\r\n".as_slice()
+    match body.strip_prefix(word) {
+        Some(end) => is_line_end(end),
+        None => false,
+    }
 }
 
-/// Whether a body asks for an offer: this word, with or without one line end after it.
-fn is_offer(body: &[u8]) -> bool
-    ensures { IsTrue result ↔ IsWord (codes "x-Offer") body.now }
+/// Whether there is nothing, or one line end.
+fn is_line_end(bytes: &[u8]) -> bool
+    ensures { IsTrue result ↔ IsLineEnd bytes.now }
 {
-    body == b"x-Offer".as_slice()
-        || body == b"x-Offer\n".as_slice()
-        || body == b"x-Offer\r\n".as_slice()
+    matches!(bytes, [] | [b'\n'] | [b'\r', b'\n'])
 }
