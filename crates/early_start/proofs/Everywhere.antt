@@ -8,7 +8,8 @@ use Rattle.slot_calendar.proofs.Everywhere.{StandsWithin, overflow_everywhere, r
 use Rattle.early_start.specs.Offered.{CanStart, IsOffer, IsOfferIn, IsStart, IsStartIn, Offers}
 
 pub offer_everywhere : {calendar : Bookings} {plays : List Play} {segments : List Segment} {first : ℕ} {found : Offers}
-    → StandsWithin (capacity_at calendar.steps) calendar plays → calendar.first < first → IsOfferIn calendar segments first found
+    → StandsWithin (capacity_at calendar.steps) calendar plays → calendar.first < first
+    → IsOfferIn calendar segments first found
     → IsOffer 0 (booked_by plays) (capacity_at calendar.steps) segments first found
 offer_everywhere {calendar} {plays} {segments} {first} {found} its after offer = record {
   refusals = record {
@@ -21,6 +22,7 @@ offer_everywhere {calendar} {plays} {segments} {first} {found} its after offer =
 }
   where
     start_everywhere : (start : Option ℕ) → IsStartIn calendar segments first found.wait (length found.tried) start →
-        IsStart (CanStart 0 (booked_by plays) (capacity_at calendar.steps) segments) first found.wait (length found.tried) start
+        IsStart (CanStart 0 (booked_by plays) (capacity_at calendar.steps) segments) first found.wait
+        (length found.tried) start
     start_everywhere None is = is
     start_everywhere (Some start) is = (is.0, is.1, room_everywhere its (omega (arith, is.1, after)) is.2)

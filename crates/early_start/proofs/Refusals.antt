@@ -50,7 +50,8 @@ no_start : Tried
 no_start = record { start = 0; over = no_overflow }
 
 -- the plan fits at no start that was tried
-pub no_room_tried : {from : ℕ} {booked capacity : ℕ → ℕ} {segments : List Segment} {first : ℕ} {tried : List Tried} {start : ℕ}
+pub no_room_tried : {from : ℕ} {booked capacity : ℕ
+    → ℕ} {segments : List Segment} {first : ℕ} {tried : List Tried} {start : ℕ}
     → AreRefusals from booked capacity segments first tried → first ≤ start → start < first + length tried
     → CanStart from booked capacity segments start → ⊥
 no_room_tried {from} {booked} {capacity} {segments} {first} {tried} {start} all begun before room =
@@ -73,7 +74,8 @@ few_tried : {from : ℕ} {booked capacity : ℕ → ℕ} {segments : List Segmen
     IsOffer from booked capacity segments first found → length found.tried ≤ found.wait + 1
 few_tried {from} {booked} {capacity} {segments} {first} {found} offer = few found.start offer.start
   where
-    few : (start : Option ℕ) → IsStart (CanStart from booked capacity segments) first found.wait (length found.tried) start
+    few : (start : Option ℕ) → IsStart (CanStart from booked capacity segments) first found.wait
+        (length found.tried) start
         → length found.tried ≤ found.wait + 1
     few None is = omega (arith, is)
     few (Some s) is = omega (arith, is.0)

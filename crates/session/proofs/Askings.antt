@@ -53,7 +53,8 @@ ready_closed (Stopping own stop) setup ready = absurd ready
 
 -- what was prepared for a PLAY: the frames of a run that can be played, and its plan
 pub record PlayPrepared
-    (source : Source) (settings : Settings) (setup : Setup) (stored : Stored) (plan : List Segment) (prepared : Prepared)
+    (source : Source) (settings : Settings) (setup : Setup) (stored : Stored) (plan : List Segment)
+    (prepared : Prepared)
     : Type 0 where
   pub playable : IsPlayable stored source settings setup prepared.counts prepared.run plan
   pub frames : prepared.frames ≡ sending_of stored.film source setup prepared.counts prepared.run
@@ -64,11 +65,13 @@ pub record PlayPrepared
 
 -- a play that is asked for can be sent
 pub prepared_in : {source : Source} {settings : Settings} {setup : Setup} {stored : Stored} {plan : List Segment}
-    {prepared : Prepared} (films : List Stored) (state : State) → IsReadyIn state setup → IsFilmAt films setup.film stored
+    {prepared : Prepared} (films : List Stored) (state : State) → IsReadyIn state setup
+    → IsFilmAt films setup.film stored
     → PlayPrepared source settings setup stored plan prepared → IsPreparedIn films source settings state prepared
 prepared_in {source} {settings} {setup} {stored} {prepared} films state ready at given =
     let same : IsPlayable stored source settings setup prepared.counts prepared.run prepared.plan =
-    subst (λ (l : List Segment). IsPlayable stored source settings setup prepared.counts prepared.run l) (sym own) playable in
+    subst (λ (l : List Segment). IsPlayable stored source settings setup prepared.counts prepared.run l)
+    (sym own) playable in
     let boundary : IsBoundary (run_pieces prepared.frames) prepared.run.sent =
     subst (λ (s : FramedRun). IsBoundary (run_pieces s) prepared.run.sent) (sym frames) same.run_of.boundary in
     ready_in films state ready

@@ -31,7 +31,8 @@ stops_at {pieces} {end} before sent due given left =
     ap (boundary_from pieces) reached ∙ sym stays in
     omega arith
 
-pub stop_between : (slot : ℕ) (old new : Pacing) → IsPacing old → new ≡ after_step true slot old → 0 < new.due - new.sent
+pub stop_between : (slot : ℕ) (old new : Pacing) → IsPacing old → new ≡ after_step true slot old
+    → 0 < new.due - new.sent
     → stands_at_boundary new ≡ true
 stop_between slot old new is_old is left =
     let within : old.before + old.sent ≤ old.before + old.keep = omega (arith, is_old.sent, is_old.due) in
@@ -40,4 +41,5 @@ stop_between slot old new is_old is left =
     subst Stands (sym is)
     (λ more. eq-eqb (boundary_from old.pieces (old.before + min (due_by old slot) (next_boundary old)) - old.before)
     (min (due_by old slot) (next_boundary old))
-    (stops_at old.before old.sent (due_by old slot) (record { ends = is_old.ends; within = within; most = most }) more)) left
+    (stops_at old.before old.sent (due_by old slot)
+    (record { ends = is_old.ends; within = within; most = most }) more)) left

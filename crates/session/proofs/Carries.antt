@@ -40,7 +40,8 @@ playing_kept : {stored : Stored} {source : Source} {settings : Settings} {setup 
 playing_kept {stored} {source} {settings} {setup} {counts} {old} {new} kept run plan same = record {
   playable = subst (λ (r : Run). IsPlayable stored source settings setup counts r new.plan) (sym run)
       (subst (λ (l : List Segment). IsPlayable stored source settings setup counts old.run l) (sym plan) kept.playable);
-  pieces = same.pieces ∙ kept.pieces ∙ ap (λ (r : Run). run_pieces (sending_of stored.film source setup counts r)) (sym run);
+  pieces = same.pieces ∙ kept.pieces ∙ ap (λ (r : Run). run_pieces (sending_of stored.film source setup counts r))
+      (sym run);
 }
 
 pub state_kept : (ground : Ground) (old new : State)
@@ -119,7 +120,8 @@ pub awaited_settled : {lost : Bool} {old : State} (ground : Ground) (new : State
     → SteppedState lost old new → HaltsIfDone (after_stop new) awaited
     → IsAwaitedKept ground lost (after_stop new) awaited
 awaited_settled {lost} ground Init awaited step is =
-    awaited_kept {lost = lost} {old = Init} {new = Init} ground awaited (record { going = tt; carried = tt; even = tt }) is
+    awaited_kept {lost = lost} {old = Init} {new = Init} ground awaited
+    (record { going = tt; carried = tt; even = tt }) is
 awaited_settled {lost} ground (Ready s p) awaited step is =
     awaited_kept {lost = lost} {old = Ready s p} {new = Ready s p} ground awaited
     (record { going = tt; carried = (refl, refl); even = tt }) is
@@ -171,7 +173,8 @@ receipts_settled (Playing setup play) = refl
 receipts_settled (Stopping setup stop) = refl
 
 -- no receipt, note of a play or offer is to come of a halt
-pub finished_none : (state : State) (awaited : Awaited) → HaltsIfDone state awaited → coming_of awaited ≡ coming_of Nothing
+pub finished_none : (state : State) (awaited : Awaited) → HaltsIfDone state awaited
+    → coming_of awaited ≡ coming_of Nothing
 finished_none state Nothing is = refl
 finished_none state (Play prepared) is = absurd is
 finished_none state (Halt keep next) is = refl
@@ -179,7 +182,8 @@ finished_none state (Look sequence) is = absurd is
 finished_none state (Offer sequence) is = absurd is
 
 -- the reply to a request that stopped a play still waits
-pub stop_kept : (waits : Bool) (old new : State) → IsStopAnswered old waits → IsCarried old new → IsStopAnswered new waits
+pub stop_kept : (waits : Bool) (old new : State) → IsStopAnswered old waits → IsCarried old new
+    → IsStopAnswered new waits
 stop_kept waits old Init kept carried = tt
 stop_kept waits old (Ready s p) kept carried = tt
 stop_kept waits old (Playing s p) kept carried = tt

@@ -1,5 +1,6 @@
 -- What each request changes of a session.
-use Rattle.std.proofs.Common.{◌≡◌, ℕ, Bool, true, false, List, [], Option, Some, codes, Result, Ok, Err, refl, sym, ap, subst, inl, inr}
+use Rattle.std.proofs.Common.{◌≡◌, ℕ, Bool, true, false, List, [], Option, Some, codes, Result, Ok, Err, refl, sym, ap}
+use Rattle.std.proofs.Common.{subst, inl, inr}
 use Rattle.rtsp_text.specs.Fields.{header_value}
 use Rattle.rtsp_text.specs.declared.requests.Request.{Request}
 use Rattle.film_frames.specs.declared.stores.Stored.{Stored}
@@ -28,15 +29,24 @@ use Rattle.session.specs.Methods.{AsksPlayOr, IsRefused, IsReplied, Plays, Takes
 use Rattle.session.specs.Planning.{IsPlanned, IsPlannedRun}
 use Rattle.session.specs.Standings.{Standing}
 use Rattle.session.proofs.Playables.{of_film}
-use Rattle.session.proofs.Results.{ComesTo, Lacks, Refuses, Says, SettlesSetup, AsksForPlay, AsksForHalt, AsksForLook, AsksForOffer, comes_to, is_memory}
+use Rattle.session.proofs.Results.{ComesTo, Lacks, Refuses, Says, SettlesSetup, AsksForPlay, AsksForHalt, AsksForLook}
+use Rattle.session.proofs.Results.{AsksForOffer, comes_to, is_memory}
 
 abbrev pub Changes : Ask → Standing → Standing → Type 0
 Changes ask old new = IsSameGround old new × ChangesState ask old new
 
-replied_changes : (old : Standing) (text : List ℕ) (ask : Ask) (new : Standing) → IsReplied old text ask new → Changes ask old new
+replied_changes : (old : Standing) (text : List ℕ) (ask : Ask) (new : Standing) → IsReplied old text ask new
+    → Changes ask old new
 replied_changes old text ask new is =
     subst (λ a. Changes a old new) (sym is.0) (
-      subst (IsSameGround old) (sym is.1) (record { films = refl; settings = refl; source = refl; counts = refl; heard = refl; plays = refl }),
+      subst (IsSameGround old) (sym is.1) (record {
+        films = refl;
+        settings = refl;
+        source = refl;
+        counts = refl;
+        heard = refl;
+        plays = refl;
+      }),
       inl (ap (λ (s : Standing). s.state) is.1),
     )
 
@@ -69,17 +79,39 @@ comes_changes old new message ask (Lacks may is) = replied_changes old _ ask new
 comes_changes old new message ask (Refuses sequence refusal option other is) = replied_changes old _ ask new is
 comes_changes old new message ask (Says sequence fields body tearing by command is) =
     subst (λ a. Changes a old new) (sym command) (
-      subst (IsSameGround old) (sym is) (record { films = refl; settings = refl; source = refl; counts = refl; heard = refl; plays = refl }),
+      subst (IsSameGround old) (sym is) (record {
+        films = refl;
+        settings = refl;
+        source = refl;
+        counts = refl;
+        heard = refl;
+        plays = refl;
+      }),
       inl (ap (λ (s : Standing). s.state) is),
     )
 comes_changes old new message ask (SettlesSetup sequence setup init ranges command is) =
     subst (λ a. Changes a old new) (sym command) (
-      subst (IsSameGround old) (sym is) (record { films = refl; settings = refl; source = refl; counts = refl; heard = refl; plays = refl }),
+      subst (IsSameGround old) (sym is) (record {
+        films = refl;
+        settings = refl;
+        source = refl;
+        counts = refl;
+        heard = refl;
+        plays = refl;
+      }),
       inr (record { setup = setup; state = ap (λ (s : Standing). s.state) is; ranges = ranges }),
     )
-comes_changes old new message ask (AsksForPlay stored setup paused range planned sequence authority ready planned_is command is) =
+comes_changes old new message ask
+    (AsksForPlay stored setup paused range planned sequence authority ready planned_is command is) =
     subst (λ a. Changes a old new) (sym command) (
-      subst (IsSameGround old) (sym is) (record { films = refl; settings = refl; source = refl; counts = refl; heard = refl; plays = refl }),
+      subst (IsSameGround old) (sym is) (record {
+        films = refl;
+        settings = refl;
+        source = refl;
+        counts = refl;
+        heard = refl;
+        plays = refl;
+      }),
       (
         ap (λ (s : Standing). s.state) is,
         play_asked sequence authority ready planned_is is,
@@ -113,10 +145,12 @@ comes_changes old new message ask (AsksForOffer sequence wait planned asks) =
       ap (λ (s : Standing). s.state) asks.state,
     )
 
-pub hears_ground : (old new : Standing) (message : List ℕ) (ask : Ask) → Hears old message ask new → IsSameGround old new
+pub hears_ground : (old new : Standing) (message : List ℕ) (ask : Ask) → Hears old message ask new
+    → IsSameGround old new
 hears_ground old new message ask hears = (comes_changes old new message ask (comes_to old message ask new hears)).0
 
-pub hears_state : (old new : Standing) (message : List ℕ) (ask : Ask) → Hears old message ask new → ChangesState ask old new
+pub hears_state : (old new : Standing) (message : List ℕ) (ask : Ask) → Hears old message ask new
+    → ChangesState ask old new
 hears_state old new message ask hears = (comes_changes old new message ask (comes_to old message ask new hears)).1
 
 -- a PAUSE or a TEARDOWN waits for no halt but the one that it asks for
@@ -126,7 +160,8 @@ comes_unstopped free none (Lacks may is) = subst AwaitsNoStop (sym is.1) none
 comes_unstopped free none (Refuses sequence refusal option other is) = subst AwaitsNoStop (sym is.1) none
 comes_unstopped free none (Says sequence fields body tearing by command is) = subst AwaitsNoStop (sym is) none
 comes_unstopped free none (SettlesSetup sequence setup init ranges command is) = subst AwaitsNoStop (sym is) none
-comes_unstopped free none (AsksForPlay stored setup paused range planned sequence authority ready planned_is command is) =
+comes_unstopped free none
+    (AsksForPlay stored setup paused range planned sequence authority ready planned_is command is) =
     subst AwaitsNoStop (sym is) refl
 comes_unstopped free none (AsksForHalt sequence setup play next playing told by halts) =
     absurd (subst AsksNoHalt halts.command free)
@@ -139,7 +174,8 @@ hears_unstopped old new message ask hears free none = comes_unstopped free none 
 
 -- a PLAY to which no refusal applies
 no_refusal : {old : Standing} {request : Request} {setup : Setup} {paused : Option Run} {ask : Ask} {new : Standing}
-    (authority : List ℕ) (planned : Result Planned Refusal) → old.state ≡ Ready setup paused → IsGoodPlay old setup paused request
+    (authority : List ℕ) (planned : Result Planned Refusal) → old.state ≡ Ready setup paused
+    → IsGoodPlay old setup paused request
     → IsPlanned old setup paused (header_value request.head.now (codes "Range")) planned
     → AsksPlayOr old (play_call request.sequence authority setup) planned ask new → AsksOrLacks old ask new
 no_refusal {old} {request} {setup} {paused} {ask} {new} authority (Ok planned) ready good is (inl asks) =
@@ -196,6 +232,7 @@ hears_on_good {lost = false} {ask} {new} linked can (inr whole) =
     good_takes whole.hears.judgement can.ready (can.good whole.request whole.is_request)
     whole.hears.judged whole.hears.takes
 
-pub hears_good : (old new : Standing) (message : List ℕ) (ask : Ask) → Hears old message ask new → CanBePlayed old message
+pub hears_good : (old new : Standing) (message : List ℕ) (ask : Ask) → Hears old message ask new
+    → CanBePlayed old message
     → AsksOrLacks old ask new
 hears_good old new message ask hears can = hears_on_good can.linked can hears

@@ -1,5 +1,6 @@
 -- What a PAUSE and a TEARDOWN come to.
-use Rattle.std.proofs.Common.{◌≡◌, ℕ, ◌⊎◌, ◌&&◌, Bool, true, false, cond, List, [], ◌∷◌, Some, codes, Result, Ok, Err, refl, sym, ap, subst, ◌∙◌, inl, inr}
+use Rattle.std.proofs.Common.{◌≡◌, ℕ, ◌⊎◌, ◌&&◌, Bool, true, false, cond, List, [], ◌∷◌, Some, codes, Result, Ok, Err}
+use Rattle.std.proofs.Common.{refl, sym, ap, subst, ◌∙◌, inl, inr}
 use Rattle.pacer.specs.Pacings.{next_boundary}
 use Rattle.rtsp_text.specs.Replies.{value_named}
 use Rattle.rtsp_text.specs.declared.requests.Request.{Request}
@@ -30,16 +31,19 @@ use Rattle.session.specs.declared.methods.Method.{Method}
 use Rattle.session.specs.declared.methods.Method.TheVariants.{Pause, Teardown}
 use Rattle.session.specs.Judging.{IsJudged, IsReadAs, method_of, name_of, option_of}
 use Rattle.session.specs.Laws.{IsOfMethod, stage_of}
-use Rattle.session.specs.LookLaws.{Happening, Message, Admission, Overflow, Full, Halt, Look, Offer, Slot, Sending, AreAfter, IsAfter}
+use Rattle.session.specs.LookLaws.{Happening, Message, Admission, Overflow, Full, Halt, Look, Offer, Slot, Sending}
+use Rattle.session.specs.LookLaws.{AreAfter, IsAfter}
 use Rattle.session.specs.Methods.{AsksHalt, Ends, Pauses, PausesPlay, Takes, TearsDown}
 use Rattle.session.specs.PlayLaws.{IsDeclined}
 use Rattle.session.specs.Replies.{field, session_text}
-use Rattle.session.specs.Sendings.{after_play, is_between, is_done_in, is_sending, is_taken, next_of, sent_due, sent_in, sent_reply, sent_slot, stepped_in}
+use Rattle.session.specs.Sendings.{after_play, is_between, is_done_in, is_sending, is_taken, next_of, sent_due, sent_in}
+use Rattle.session.specs.Sendings.{sent_reply, sent_slot, stepped_in}
 use Rattle.session.specs.Standings.{Standing, is_playing_in}
 use Rattle.session.proofs.Grounds.{Beginning, TakenRequest}
 use Rattle.session.proofs.OneVerdict.{AreAlike, method_once, not_both}
 use Rattle.session.proofs.RangeInPlaying.{refused, same_request}
-use Rattle.session.proofs.Results.{ComesTo, Lacks, Refuses, Says, SettlesSetup, AsksForPlay, AsksForHalt, AsksForLook, AsksForOffer, comes_to}
+use Rattle.session.proofs.Results.{ComesTo, Lacks, Refuses, Says, SettlesSetup, AsksForPlay, AsksForHalt, AsksForLook}
+use Rattle.session.proofs.Results.{AsksForOffer, comes_to}
 
 -- ---- what each method comes to
 
@@ -55,7 +59,8 @@ torn_halt : {old : Standing} {sequence : ℕ} {setup : Setup} {play : Played} {a
     → old.state ≡ Playing setup play → AsksHalt old sequence setup play Torn ask new → IsTornDown old ask new
 torn_halt {old} {sequence} {ask} {new} playing asks = record {
   sequence = sequence;
-  told = subst (IsSessionTold sequence old.id) (sym (ap (λ (s : Standing). s.text) asks.state)) (session_told sequence old.id);
+  told = subst (IsSessionTold sequence old.id) (sym (ap (λ (s : Standing). s.text) asks.state))
+      (session_told sequence old.id);
   halts = subst (λ (s : State). HaltsPlay (stage_of s) ask) (sym playing) (asks.keep, asks.command);
   ends = subst (λ a. EndsSession a new) (sym asks.command)
       (λ place. ap (λ (s : Standing). (sent_reply (after_halt s place)).torn) asks.state);
@@ -66,7 +71,8 @@ torn_reply : (old : Standing) (sequence : ℕ) (ask : Ask) (new : Standing) → 
     → Ends old sequence ask new → IsTornDown old ask new
 torn_reply old sequence ask new halts ends = record {
   sequence = sequence;
-  told = subst (IsSessionTold sequence old.id) (sym (ap (λ (s : Standing). s.text) ends.1)) (session_told sequence old.id);
+  told = subst (IsSessionTold sequence old.id) (sym (ap (λ (s : Standing). s.text) ends.1))
+      (session_told sequence old.id);
   halts = subst (HaltsPlay (stage_of old.state)) (sym ends.0) halts;
   ends = subst (λ a. EndsSession a new) (sym ends.0) (ap (λ (s : Standing). (sent_reply s).torn) ends.1);
 }
@@ -120,9 +126,11 @@ DoesTask P method = (taken : TakenRequest) (task : Task) → method_of task ≡ 
     → Takes taken.old taken.request (Ok task) taken.ask taken.new → P taken.old taken.ask taken.new
 
 -- a request of a method is refused, or does what the method's task does
-does_task : (P : Standing → Ask → Standing → Type 0) (method : Method) → DoesTask P method → TakesMethod P (name_of method)
+does_task : (P : Standing → Ask → Standing → Type 0) (method : Method) → DoesTask P method → TakesMethod P
+    (name_of method)
 does_task P method does taken (Ok task) named judged takes =
-    inr (does taken task (method_once taken.request.method.now (method_of task) method judged.talk.spoken.named named) takes)
+    inr (does taken task (method_once taken.request.method.now
+    (method_of task) method judged.talk.spoken.named named) takes)
 does_task P method does taken (Err refusal) named judged takes =
     inl (refused (Some taken.request.sequence) refusal (option_of taken.request.head.now) takes)
 
@@ -192,20 +200,24 @@ takes_up P {task} does taken (Ok other) is again =
 takes_up P does taken (Err refusal) is again = absurd (not_both refusal again.alike is.judged again.judged)
 
 -- it does what its task does
-hears_up : (P : Standing → Ask → Standing → Type 0) {task : Task} → DoesTask P (method_of task) → {lost : Bool} {old : Standing}
-    {message : List ℕ} {ask : Ask} {new : Standing} → lost ≡ false → IsTakenUp old message task → HearsOn lost old message ask new
+hears_up : (P : Standing → Ask → Standing → Type 0) {task : Task} → DoesTask P (method_of task)
+    → {lost : Bool} {old : Standing}
+    {message : List ℕ} {ask : Ask} {new : Standing} → lost ≡ false → IsTakenUp old message task
+    → HearsOn lost old message ask new
     → P old ask new
 hears_up P does {lost = true} {ask} {new} linked is hears = absurd (let no : ⊥ = cc in no)
 hears_up P does {lost = false} {message} {ask} {new} linked is (inl fault) =
     absurd (no_fault fault.fault is.is_request fault.is_fault)
 hears_up P does {lost = false} {old} {message} {ask} {new} linked is (inr whole) =
-    takes_up P does (record { old = old; new = new; request = whole.request; ask = ask }) whole.hears.judgement is (record {
+    takes_up P does (record { old = old; new = new; request = whole.request; ask = ask }) whole.hears.judgement is
+    (record {
       alike = same_request message is.request whole.request is.is_request whole.is_request;
       judged = whole.hears.judged;
       takes = whole.hears.takes;
     })
 
-pub teardown_taken : (old new : Standing) (message : List ℕ) (ask : Ask) → CanBeTornDown old message → Hears old message ask new
+pub teardown_taken : (old new : Standing) (message : List ℕ) (ask : Ask) → CanBeTornDown old message
+    → Hears old message ask new
     → IsTornDown old ask new
 teardown_taken old new message ask can hears =
     hears_up IsTornDown {task = ToTeardown} tears_task {old = old} {message = message} {ask = ask} {new = new}
@@ -215,7 +227,8 @@ teardown_taken old new message ask can hears =
       judged = record { talk = can.good.talk; film = can.good.film; state = tt };
     }) hears
 
-pub pause_taken : (old new : Standing) (message : List ℕ) (ask : Ask) → CanBePaused old message → Hears old message ask new
+pub pause_taken : (old new : Standing) (message : List ℕ) (ask : Ask) → CanBePaused old message
+    → Hears old message ask new
     → IsPausedPlay old ask new
 pause_taken old new message ask can hears =
     hears_up IsPausedPlay {task = ToPause} pauses_task {old = old} {message = message} {ask = ask} {new = new}
@@ -240,7 +253,8 @@ record IsCalm (standing : Standing) : Type 0 where
   torn : standing.torn ≡ false
   awaited : is_ending standing.awaited ≡ false
 
-calm_by : (old new : Standing) → IsCalm old → new.tearing ≡ old.tearing → new.torn ≡ old.torn → is_ending new.awaited ≡ false
+calm_by : (old new : Standing) → IsCalm old → new.tearing ≡ old.tearing → new.torn ≡ old.torn
+    → is_ending new.awaited ≡ false
     → IsCalm new
 calm_by old new calm tearing torn awaited = record {
   tearing = tearing ∙ calm.tearing;
@@ -270,7 +284,8 @@ comes_calm old new message ask calm
 comes_calm old new message ask calm (AsksForHalt sequence setup play next playing told (inl not_torn) halts) =
     inr (calm_by old new calm (ap (λ (s : Standing). s.tearing) halts.state) (ap (λ (s : Standing). s.torn) halts.state)
     (ap (λ (s : Standing). is_ending s.awaited) halts.state ∙ not_torn))
-comes_calm old new message ask calm (AsksForHalt sequence setup play next playing told (inr teardown) halts) = inl teardown
+comes_calm old new message ask calm (AsksForHalt sequence setup play next playing told (inr teardown) halts) =
+    inl teardown
 comes_calm old new message ask calm (AsksForLook sequence look) =
     inr (calm_by old new calm (ap (λ (s : Standing). s.tearing) look.state) (ap (λ (s : Standing). s.torn) look.state)
     (ap (λ (s : Standing). is_ending s.awaited) look.state))
@@ -307,14 +322,16 @@ sent_calm false old calm = calm
 slot_calm : (taken sending : Bool) (old : Standing) (slot : ℕ) → IsCalm old
     → IsCalm (cond taken (cond sending (after_play (sent_slot old slot)) (record old { heard = slot })) old)
 slot_calm true true old slot calm =
-    play_calm (sent_slot old slot) (sent_calm (old.waits && is_between (stepped_in true slot old.state)) (sent_due old slot)
+    play_calm (sent_slot old slot) (sent_calm (old.waits && is_between (stepped_in true slot old.state))
+    (sent_due old slot)
     (record { tearing = calm.tearing; torn = calm.torn; awaited = calm.awaited }))
 slot_calm true false old slot calm = record { tearing = calm.tearing; torn = calm.torn; awaited = calm.awaited }
 slot_calm false sending old slot calm = calm
 
 happening_calm : (old : Standing) (happening : Happening) (new : Standing) → IsAfter old happening new → IsCalm old
     → IsTeardownHeard happening ⊎ IsCalm new
-happening_calm old (Message message ask) new is calm = comes_calm old new message ask calm (comes_to old message ask new is)
+happening_calm old (Message message ask) new is calm =
+    comes_calm old new message ask calm (comes_to old message ask new is)
 happening_calm old (Admission place start) new is calm =
     inr (subst IsCalm (sym is) (record { tearing = calm.tearing; torn = calm.torn; awaited = refl }))
 happening_calm old (Overflow place slot booked asked) new is calm =

@@ -79,5 +79,6 @@ pub front_both : {waits between : Bool} {mid new : Option (List Doing)} (old : O
     → IsFrontTold old new (if waits then sent.one ++ (if between then sent.text ++ sent.after else []) else sent.plain)
 front_both {waits = true} {between = true} {new} old sent waiting between told front =
     front_right old sent.one (sent.text ++ sent.after) told front
-front_both {waits = true} {between = false} {new} old sent waiting between told front = absurd (true≢false (sym between))
+front_both {waits = true} {between = false} {new} old sent waiting between told front =
+    absurd (true≢false (sym between))
 front_both {waits = false} {between} {new} old sent waiting is told front = absurd (true≢false (sym waiting))

@@ -18,7 +18,8 @@ use Rattle.session.proofs.Carries.{nothing_of}
 
 -- how the state is kept that a halt leaves
 pub halted_kept : {setup : Setup} {play : Played} (ground : Ground) (done : Counts) (next : Next)
-    → IsStateKept ground (Playing setup play) → IsNextIn ground.films ground.source ground.counts (Playing setup play) next
+    → IsStateKept ground (Playing setup play) → IsNextIn ground.films ground.source ground.counts
+    (Playing setup play) next
     → IsStateKept (record ground { counts = counts_next ground.counts done next }) (state_once_halted setup play next)
 halted_kept ground done Done kept left = (kept.0, tt)
 halted_kept ground done (Paused rest) kept left = (kept.0, kept.1.pacing, left)
@@ -36,7 +37,8 @@ halted_stop setup play Done waits = tt
 halted_stop setup play (Paused rest) waits = refl
 halted_stop setup play Torn waits = refl
 
-pub halted_closed : (setup : Setup) (play : Played) (next : Next) → open_receipts (state_once_halted setup play next) ≡ 0
+pub halted_closed : (setup : Setup) (play : Played) (next : Next) → open_receipts
+    (state_once_halted setup play next) ≡ 0
 halted_closed setup play Done = refl
 halted_closed setup play (Paused rest) = refl
 halted_closed setup play Torn = refl

@@ -10,12 +10,14 @@ use Rattle.session.specs.Laws.{AsksNoHalt, LeavesOr, PlaysOn}
 use Rattle.session.specs.Methods.{IsReplied}
 use Rattle.session.specs.Standings.{Standing, with_reply}
 use Rattle.session.proofs.Grounds.{HeardMessage}
-use Rattle.session.proofs.Results.{ComesTo, Lacks, Refuses, Says, SettlesSetup, AsksForPlay, AsksForHalt, AsksForLook, AsksForOffer, comes_to}
+use Rattle.session.proofs.Results.{ComesTo, Lacks, Refuses, Says, SettlesSetup, AsksForPlay, AsksForHalt, AsksForLook}
+use Rattle.session.proofs.Results.{AsksForOffer, comes_to}
 
 plays_on : (old new : Standing) → new.state ≡ old.state → new.heard ≡ old.heard → PlaysOn old new
 plays_on old new state heard = record { state = state; heard = heard }
 
-comes_plays : {old new : Standing} {message : List ℕ} {ask : Ask} {setup : Setup} {play : Played} → ComesTo old message ask new
+comes_plays : {old new : Standing} {message : List ℕ} {ask : Ask} {setup : Setup} {play : Played}
+    → ComesTo old message ask new
     → old.state ≡ Playing setup play → AsksNoHalt ask → PlaysOn old new
 comes_plays {old} {new} {ask} (Lacks may is) playing free =
     plays_on old new (ap (λ (s : Standing). s.state) is.1) (ap (λ (s : Standing). s.heard) is.1)
@@ -42,9 +44,11 @@ hears_plays heard setup play is free =
     comes_plays (comes_to heard.old heard.message heard.ask heard.new heard.hears) is free
 
 leaves : (old : Standing) (text : List ℕ) (ask : Ask) (new : Standing) → IsReplied old text ask new → LeavesOr old new
-leaves old text ask new is = inr (is.1 ∙ ap (λ (t : List ℕ). with_reply old t) (sym (ap (λ (s : Standing). s.text) is.1)))
+leaves old text ask new is =
+    inr (is.1 ∙ ap (λ (t : List ℕ). with_reply old t) (sym (ap (λ (s : Standing). s.text) is.1)))
 
-comes_leaves : (old new : Standing) (message : List ℕ) (ask : Ask) → ComesTo old message ask new → ask ≡ Reply → LeavesOr old new
+comes_leaves : (old new : Standing) (message : List ℕ) (ask : Ask) → ComesTo old message ask new → ask ≡ Reply
+    → LeavesOr old new
 comes_leaves old new message ask (Lacks may is) reply = leaves old _ ask new is
 comes_leaves old new message ask (Refuses sequence refusal option other is) reply = leaves old _ ask new is
 comes_leaves old new message ask (Says sequence fields body tearing by command is) reply =
@@ -56,7 +60,8 @@ comes_leaves old new message ask
     absurd (let no : ⊥ = cc (command, reply) in no)
 comes_leaves old new message ask (AsksForHalt sequence own going next was told by halts) reply =
     absurd (let no : ⊥ = cc (halts.command, reply) in no)
-comes_leaves old new message ask (AsksForLook sequence look) reply = absurd (let no : ⊥ = cc (look.command, reply) in no)
+comes_leaves old new message ask (AsksForLook sequence look) reply =
+    absurd (let no : ⊥ = cc (look.command, reply) in no)
 comes_leaves old new message ask (AsksForOffer sequence wait planned asks) reply =
     absurd (let no : ⊥ = cc (asks.command, reply) in no)
 

@@ -27,13 +27,15 @@ use Rattle.session.specs.LookLaws.{looks_asked, looks_in, looks_of}
 use Rattle.session.specs.Changes.{HasCode}
 use Rattle.session.specs.Methods.{Gets, IsRefused, Looks, Takes}
 use Rattle.session.specs.Replies.{refusal_text}
-use Rattle.session.specs.Sendings.{after_play, is_between, is_sending, is_taken, sent_due, sent_reply, sent_slot, stepped_in}
+use Rattle.session.specs.Sendings.{after_play, is_between, is_sending, is_taken, sent_due, sent_reply, sent_slot}
+use Rattle.session.specs.Sendings.{stepped_in}
 use Rattle.session.specs.Standings.{Standing}
 use Rattle.session.proofs.Grounds.{Beginning, HeardMessage, TakenRequest}
 use Rattle.session.proofs.OneReading.{topic_once}
 use Rattle.session.proofs.RangeInPlaying.{same_request}
 use Rattle.session.proofs.Refusing.{one_code, own_code, refusal_code}
-use Rattle.session.proofs.Results.{ComesTo, Lacks, Refuses, Says, SettlesSetup, AsksForPlay, AsksForHalt, AsksForLook, AsksForOffer, comes_to}
+use Rattle.session.proofs.Results.{ComesTo, Lacks, Refuses, Says, SettlesSetup, AsksForPlay, AsksForHalt, AsksForLook}
+use Rattle.session.proofs.Results.{AsksForOffer, comes_to}
 
 -- the room that a session has lost is that of the looks that were asked for
 abbrev Keeps : ℕ → Standing → Standing → Type 0
@@ -42,10 +44,12 @@ Keeps looks old new = old.looks_left ≤ new.looks_left + looks
 same_room : (old new : Standing) → new.looks_left ≡ old.looks_left → Keeps 0 old new
 same_room old new is = omega (arith, is)
 
-replies_room : (old new : Standing) (ask : Ask) → ask ≡ Reply → new.looks_left ≡ old.looks_left → Keeps (looks_in ask) old new
+replies_room : (old new : Standing) (ask : Ask) → ask ≡ Reply → new.looks_left ≡ old.looks_left → Keeps
+    (looks_in ask) old new
 replies_room old new ask reply is = subst (λ a. Keeps (looks_in a) old new) (sym reply) (same_room old new is)
 
-comes_room : (old new : Standing) (message : List ℕ) (ask : Ask) → ComesTo old message ask new → Keeps (looks_in ask) old new
+comes_room : (old new : Standing) (message : List ℕ) (ask : Ask) → ComesTo old message ask new → Keeps
+    (looks_in ask) old new
 comes_room old new message ask (Lacks may is) = replies_room old new ask is.0 (ap (λ (s : Standing). s.looks_left) is.1)
 comes_room old new message ask (Refuses sequence refusal option other is) =
     replies_room old new ask is.0 (ap (λ (s : Standing). s.looks_left) is.1)
@@ -53,7 +57,8 @@ comes_room old new message ask (Says sequence fields body tearing by command is)
     replies_room old new ask command (ap (λ (s : Standing). s.looks_left) is)
 comes_room old new message ask (SettlesSetup sequence setup init ranges command is) =
     replies_room old new ask command (ap (λ (s : Standing). s.looks_left) is)
-comes_room old new message ask (AsksForPlay stored setup paused range planned sequence authority ready planned_is command is) =
+comes_room old new message ask
+    (AsksForPlay stored setup paused range planned sequence authority ready planned_is command is) =
     subst (λ a. Keeps (looks_in a) old new) (sym command) (same_room old new (ap (λ (s : Standing). s.looks_left) is))
 comes_room old new message ask (AsksForHalt sequence setup play next playing told by halts) =
     subst (λ a. Keeps (looks_in a) old new) (sym halts.command)
@@ -70,7 +75,8 @@ sent_room true standing = refl
 sent_room false standing = refl
 
 slot_room : (taken sending : Bool) (old : Standing) (slot : ℕ)
-    → (cond taken (cond sending (after_play (sent_slot old slot)) (record old { heard = slot })) old).looks_left ≡ old.looks_left
+    → (cond taken (cond sending (after_play (sent_slot old slot))
+    (record old { heard = slot })) old).looks_left ≡ old.looks_left
 slot_room true true old slot = sent_room (old.waits && is_between (stepped_in true slot old.state)) (sent_due old slot)
 slot_room true false old slot = refl
 slot_room false sending old slot = refl
@@ -79,13 +85,15 @@ happening_room : (old : Standing) (happening : Happening) (new : Standing) → I
     → Keeps (looks_of happening) old new
 happening_room old (Message message ask) new is = comes_room old new message ask (comes_to old message ask new is)
 happening_room old (Admission place start) new is = same_room old new (ap (λ (s : Standing). s.looks_left) is)
-happening_room old (Overflow place slot booked asked) new is = same_room old new (ap (λ (s : Standing). s.looks_left) is)
+happening_room old (Overflow place slot booked asked) new is =
+    same_room old new (ap (λ (s : Standing). s.looks_left) is)
 happening_room old (Full entries open_plays) new is = same_room old new (ap (λ (s : Standing). s.looks_left) is)
 happening_room old (Halt place) new is = same_room old new (ap (λ (s : Standing). s.looks_left) is)
 happening_room old (Look place now at booked) new is = same_room old new (ap (λ (s : Standing). s.looks_left) is)
 happening_room old (Offer note) new is = same_room old new (ap (λ (s : Standing). s.looks_left) is)
 happening_room old (Slot slot) new is =
-    same_room old new (ap (λ (s : Standing). s.looks_left) is ∙ slot_room (is_taken old slot) (is_sending old.state) old slot)
+    same_room old new (ap (λ (s : Standing). s.looks_left) is ∙ slot_room (is_taken old slot)
+    (is_sending old.state) old slot)
 happening_room old Sending new is = same_room old new (ap (λ (s : Standing). s.looks_left) is)
 
 all_room : (happenings : List Happening) (old new : Standing) → AreAfter old happenings new
@@ -98,14 +106,16 @@ all_room (happening ∷ rest) old new is =
 
 -- ---- a message for what is booked
 
-booked_asks : (old new : Standing) (sequence : ℕ) (ask : Ask) → 0 < old.looks_left → Looks old sequence ask new → ¬ Is500 ask new
+booked_asks : (old new : Standing) (sequence : ℕ) (ask : Ask) → 0 < old.looks_left → Looks old sequence ask new
+    → ¬ Is500 ask new
 booked_asks old new sequence ask some (inl look) = λ lacks. subst (λ a. Is500 a new) look.command lacks
 booked_asks old new sequence ask some (inr short) = absurd (omega (arith, some, short.later))
 
 gets_booked : {topic : Topic} (taken : TakenRequest) → 0 < taken.old.looks_left → topic ≡ Booked
     → Gets taken.old taken.request topic taken.ask taken.new → ¬ Is500 taken.ask taken.new
 gets_booked {topic = NoTopic} taken some is gets = absurd (let no : ⊥ = cc in no)
-gets_booked {topic = Booked} taken some is gets = booked_asks taken.old taken.new taken.request.sequence taken.ask some gets
+gets_booked {topic = Booked} taken some is gets =
+    booked_asks taken.old taken.new taken.request.sequence taken.ask some gets
 gets_booked {topic = OfferTopic} taken some is gets = absurd (let no : ⊥ = cc in no)
 gets_booked {topic = Unknown} taken some is gets = absurd (let no : ⊥ = cc in no)
 
@@ -128,7 +138,8 @@ takes_booked : (taken : TakenRequest) (judgement : Result Task Refusal) → Book
     → IsJudged taken.old.films taken.old.id taken.old.state taken.request judgement
     → Takes taken.old taken.request judgement taken.ask taken.new → ¬ Is500 taken.ask taken.new
 takes_booked taken (Ok ToGetParameter) asked judged takes =
-    gets_booked taken asked.some (topic_once taken.request.body.now Booked takes.topic asked.body takes.is_topic) takes.gets
+    gets_booked taken asked.some
+    (topic_once taken.request.body.now Booked takes.topic asked.body takes.is_topic) takes.gets
 takes_booked taken (Ok ToOptions) asked judged takes =
     absurd (let no : ⊥ = cc (judged.talk.spoken.named, asked.method) in no)
 takes_booked taken (Ok (ToDescribe film)) asked judged takes =
@@ -147,7 +158,8 @@ takes_booked taken (Err refusal) asked judged takes =
   where
     open taken use {old, request}
 
-hears_booked : {lost : Bool} {old : Standing} {message : List ℕ} (new : Standing) (ask : Ask) → lost ≡ false → 0 < old.looks_left
+hears_booked : {lost : Bool} {old : Standing} {message : List ℕ} (new : Standing) (ask : Ask) → lost ≡ false
+    → 0 < old.looks_left
     → AsksBooked old message → HearsOn lost old message ask new → ¬ Is500 ask new
 hears_booked {lost = true} new ask linked some is hears = absurd (let no : ⊥ = cc in no)
 hears_booked {lost = false} {message} new ask linked some is (inl fault) =

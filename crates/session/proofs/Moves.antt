@@ -13,17 +13,20 @@ use Rattle.session.specs.Hearings.{Hears, after_admission, after_halt}
 use Rattle.session.specs.Laws.{InitStage, PlayingStage, ReadyStage, StaysOr, stage_of}
 use Rattle.session.specs.Sendings.{admitted_in, halted_in, next_of, state_once_halted}
 use Rattle.session.specs.Standings.{Standing}
-use Rattle.session.proofs.Results.{ComesTo, Lacks, Refuses, Says, SettlesSetup, AsksForPlay, AsksForHalt, AsksForLook, AsksForOffer, comes_to}
+use Rattle.session.proofs.Results.{ComesTo, Lacks, Refuses, Says, SettlesSetup, AsksForPlay, AsksForHalt, AsksForLook}
+use Rattle.session.proofs.Results.{AsksForOffer, comes_to}
 
 comes_moves : (old new : Standing) (message : List ℕ) (ask : Ask) → ComesTo old message ask new
     → StaysOr InitStage ReadyStage old new
 comes_moves old new message ask (Lacks may is) = inl (ap (λ (s : Standing). stage_of s.state) is.1)
-comes_moves old new message ask (Refuses sequence refusal option other is) = inl (ap (λ (s : Standing). stage_of s.state) is.1)
+comes_moves old new message ask (Refuses sequence refusal option other is) =
+    inl (ap (λ (s : Standing). stage_of s.state) is.1)
 comes_moves old new message ask (Says sequence fields body tearing by command is) =
     inl (ap (λ (s : Standing). stage_of s.state) is)
 comes_moves old new message ask (SettlesSetup sequence setup init ranges command is) =
     inr (record { begins = ap stage_of init; ends = ap (λ (s : Standing). stage_of s.state) is })
-comes_moves old new message ask (AsksForPlay stored setup paused range planned sequence authority ready planned_is command is) =
+comes_moves old new message ask
+    (AsksForPlay stored setup paused range planned sequence authority ready planned_is command is) =
     inl (ap (λ (s : Standing). stage_of s.state) is)
 comes_moves old new message ask (AsksForHalt sequence setup play next playing told by halts) =
     inl (ap (λ (s : Standing). stage_of s.state) halts.state ∙ sym (ap stage_of playing))
@@ -49,7 +52,8 @@ admitted_moves (Playing setup play) awaited place start = inl refl
 admitted_moves (Stopping setup stop) awaited place start = inl refl
 
 -- an admission moves Ready to Playing
-pub admission_moves : (old : Standing) (place start : ℕ) → StaysOr ReadyStage PlayingStage old (after_admission old place start)
+pub admission_moves : (old : Standing) (place start : ℕ) → StaysOr ReadyStage PlayingStage old
+    (after_admission old place start)
 admission_moves old place start =
     elim (admitted_moves old.state old.awaited place start) [
       | inl same ↦ inl same

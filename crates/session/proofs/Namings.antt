@@ -1,5 +1,6 @@
 -- A URL names at most one film of a server.
-use Rattle.std.proofs.Common.{◌≡◌, ℕ, ◌<◌, inl, inr, List, [], Some, None, length, get_or, sym, ap, subst, ◌∙◌, string_bytes, slice_range}
+use Rattle.std.proofs.Common.{◌≡◌, ℕ, ◌<◌, inl, inr, List, [], Some, None, length, get_or, sym, ap, subst, ◌∙◌}
+use Rattle.std.proofs.Common.{string_bytes, slice_range}
 use Rattle.std.proofs.lemmas.Bool.{cases_order}
 use Rattle.std.proofs.lemmas.List.{get_or-map}
 use Rattle.std.proofs.lemmas.Option.{get_or_from_slice_get, slice_get_within}
@@ -24,9 +25,11 @@ pub film_once : {films : List Stored} {name : List ℕ} {i j : ℕ} → AreFilms
     → IsFilmNamed films name j → i ≡ j
 film_once {films} {name} {i} {j} are one other =
     let below : i < j → ⊥ =
-    λ less. are.differ i j less (within films name j other) (name_at films name i one ∙ sym (name_at films name j other)) in
+    λ less. are.differ i j less (within films name j other)
+    (name_at films name i one ∙ sym (name_at films name j other)) in
     let above : j < i → ⊥ =
-    λ less. are.differ j i less (within films name i one) (name_at films name j other ∙ sym (name_at films name i one)) in
+    λ less. are.differ j i less (within films name i one)
+    (name_at films name j other ∙ sym (name_at films name i one)) in
     elim (cases_order i j)
     [ inl same ↦ same | inr differ ↦ elim differ [ inl less ↦ absurd (below less) | inr more ↦ absurd (above more) ] ]
 

@@ -1,5 +1,6 @@
 -- Numbers go on from what was sent before.
-use Rattle.std.proofs.Common.{◌≡◌, ℕ, ◌+◌, ◌*◌, ◌/◌, ◌%◌, List, Option, Some, None, add_comm, refl, sym, ap, subst, ◌∙◌, arith}
+use Rattle.std.proofs.Common.{◌≡◌, ℕ, ◌+◌, ◌*◌, ◌/◌, ◌%◌, List, Option, Some, None, add_comm, refl, sym, ap, subst, ◌∙◌}
+use Rattle.std.proofs.Common.{arith}
 use Rattle.std.proofs.Math.Nat.{add-mul-mod_self_left, mod-add-div}
 use Rattle.film_frames.specs.declared.stores.Stored.{Stored}
 use Rattle.film_frames.specs.Runs.{FramedRun, frames_before, octets_before}
@@ -44,7 +45,8 @@ identity_goes_on source setup counts sending bytes = record {
   octets = refl;
 }
 
-wanted_resumes : (film : Film) (paused : Run) (to : Option ℕ) (wanted : Wanted) → IsWanted film (Some paused) Now to wanted
+wanted_resumes : (film : Film) (paused : Run) (to : Option ℕ) (wanted : Wanted) → IsWanted film
+    (Some paused) Now to wanted
     → run_of wanted ≡ paused
 wanted_resumes film paused to (Resumed run) is = is
 wanted_resumes film paused to (New run) is = absurd is
@@ -58,7 +60,8 @@ pub resumes : (old : Standing) (stored : Stored) (setup : Setup) (paused : Run) 
     → IsPlannedRun old stored setup (Some paused) None planned → Resumes old paused planned
 resumes old stored setup paused planned is =
     let now : IsWanted stored.film (Some paused) Now None is.wanted =
-    subst (λ (s : Span). IsWanted stored.film (Some paused) s.from s.to is.wanted) is.asked.is_span is.asked.is_wanted in
+    subst (λ (s : Span). IsWanted stored.film
+    (Some paused) s.from s.to is.wanted) is.asked.is_span is.asked.is_wanted in
     record {
       run = is.run_is ∙ wanted_resumes stored.film paused None is.wanted now;
       counts = is.counts_is ∙ counts_resume stored.film old.source setup paused is.wanted now;

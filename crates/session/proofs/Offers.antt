@@ -36,8 +36,10 @@ use Rattle.session.specs.declared.states.State.{State}
 use Rattle.session.specs.declared.states.State.TheVariants.{Init, Ready, Playing, Stopping}
 use Rattle.session.specs.Hearings.{Hears, HearsOn, after_offer}
 use Rattle.session.specs.Judging.{IsJudged, IsReadAs, IsTopic}
-use Rattle.session.specs.Methods.{AsksOfferOr, AsksPlayOr, Gets, GetsOffer, HasWait, IsWaitOf, Looks, Pauses, Plays, IsSetUp, Takes, TearsDown, play_call}
-use Rattle.session.specs.OfferLaws.{IsLeastBuffer, IsLeastTold, IsOfferAsked, IsOfferRequest, IsOfferTold, IsWaitIn, found_line, tried_line}
+use Rattle.session.specs.Methods.{AsksOfferOr, AsksPlayOr, Gets, GetsOffer, HasWait, IsWaitOf, Looks, Pauses, Plays}
+use Rattle.session.specs.Methods.{IsSetUp, Takes, TearsDown, play_call}
+use Rattle.session.specs.OfferLaws.{IsLeastBuffer, IsLeastTold, IsOfferAsked, IsOfferRequest, IsOfferTold, IsWaitIn}
+use Rattle.session.specs.OfferLaws.{found_line, tried_line}
 use Rattle.session.specs.Planning.{HasNoPlan, IsPlanned}
 use Rattle.session.specs.Playing.{curve_refusal, playback_of, run_of}
 use Rattle.session.specs.Replies.{field, joined_parts, offer_body, over_line, refusal_text, start_line}
@@ -160,7 +162,8 @@ module _ (old : Standing) (message : List ℕ) (plan : List Segment) (offers : O
   takes request (Ok (ToPlay asked)) is judged its = absurd (no_play old.state request asked.authority.now its)
   takes request (Ok ToPause) is judged its = absurd (no_pause old.state request.sequence its)
   takes request (Ok ToTeardown) is judged its = absurd (no_teardown old.state request.sequence its)
-  takes request (Ok ToGetParameter) is judged its = gets request its.topic is judged.talk.spoken.named its.is_topic its.gets
+  takes request (Ok ToGetParameter) is judged its =
+      gets request its.topic is judged.talk.spoken.named its.is_topic its.gets
   takes request (Err refusal) is judged its = absurd (let no : ⊥ = cc (its.0) in no)
 
   hears_on_offer : (lost : Bool) → HearsOn lost old message (AskOffer plan offers) new → Asked
@@ -184,15 +187,18 @@ over_lines : (s a b c : List ℕ)
 over_lines s a b c =
     let end = codes "\r\n" in
     let third : (b ++ (codes " " ++ c)) ++ end ≡ b ++ (codes " " ++ (c ++ end)) = append_assoc b (codes " " ++ c) end in
-    let second : (a ++ (codes " " ++ (b ++ (codes " " ++ c)))) ++ end ≡ a ++ (codes " " ++ (b ++ (codes " " ++ (c ++ end)))) =
+    let second : (a ++ (codes " " ++ (b ++ (codes " " ++ c)))) ++ end ≡ a ++
+    (codes " " ++ (b ++ (codes " " ++ (c ++ end)))) =
     append_assoc a (codes " " ++ (b ++ (codes " " ++ c))) end ∙ ap (λ l. a ++ (codes " " ++ l)) third in
     let first : (s ++ (codes " " ++ (a ++ (codes " " ++ (b ++ (codes " " ++ c)))))) ++ end
     ≡ s ++ (codes " " ++ (a ++ (codes " " ++ (b ++ (codes " " ++ (c ++ end)))))) =
-    append_assoc s (codes " " ++ (a ++ (codes " " ++ (b ++ (codes " " ++ c))))) end ∙ ap (λ l. s ++ (codes " " ++ l)) second in
+    append_assoc s (codes " " ++ (a ++ (codes " " ++ (b ++ (codes " " ++ c))))) end ∙ ap
+    (λ l. s ++ (codes " " ++ l)) second in
     sym (ap (λ l. codes "x-Over: " ++ l) first)
 
 over_is : (tried : Tried) → over_line tried ≡ tried_line tried ++ codes "\r\n"
-over_is tried = over_lines (decimal tried.start) (decimal tried.over.slot) (decimal tried.over.booked) (decimal tried.over.asked)
+over_is tried =
+    over_lines (decimal tried.start) (decimal tried.over.slot) (decimal tried.over.booked) (decimal tried.over.asked)
 
 overs_are : (tried : List Tried)
     → flat_map over_line tried ≡ flat_map (λ (line : List ℕ). line ++ codes "\r\n") (map tried_line tried)
@@ -248,7 +254,8 @@ pub least_buffer : (old : Standing) (setup : Setup) (paused : Option Run) (range
     (timing_of (playback_of is.stored.film old.settings setup) (run_of is.wanted)) least
 least_buffer old setup paused range least is =
     least_of (rest_sizes (stored_sizes is.stored) (run_of is.wanted))
-    (timing_of (playback_of is.stored.film old.settings setup) (run_of is.wanted)) is.refused least is.no_curves is.refusal_is
+    (timing_of (playback_of is.stored.film old.settings setup)
+    (run_of is.wanted)) is.refused least is.no_curves is.refusal_is
 
 pub least_told : (sequence : Option ℕ) (least : ℕ) (option : List ℕ)
     → IsLeastTold sequence least (refusal_text sequence (Buffer least) option)

@@ -16,7 +16,8 @@ use Rattle.rtsp_text.proofs.Once.{fault_once, no_fault, request_once}
 use Rattle.session.specs.declared.asks.Ask.{Ask}
 use Rattle.session.specs.declared.asks.Ask.TheVariants.{Halt as AskHalt, Offer as AskOffer}
 use Rattle.session.specs.declared.methods.Method.{Method}
-use Rattle.session.specs.declared.methods.Method.TheVariants.{Options, Describe, Setup as SetupMethod, Play as PlayMethod, Pause, Teardown, GetParameter}
+use Rattle.session.specs.declared.methods.Method.TheVariants.{Options, Describe, Setup as SetupMethod}
+use Rattle.session.specs.declared.methods.Method.TheVariants.{Play as PlayMethod, Pause, Teardown, GetParameter}
 use Rattle.session.specs.declared.methods.Topic.{Topic}
 use Rattle.session.specs.declared.methods.Topic.TheVariants.{Nothing as NoTopic, Booked, Offer as OfferTopic, Unknown}
 use Rattle.session.specs.declared.plans.Planned.{Planned}
@@ -62,10 +63,12 @@ through_once None (Some n) same = absurd (omega (arith, same))
 through_once (Some n) None same = absurd (omega (arith, same))
 through_once (Some n) (Some m) same = ap (λ k. Some k) (let is : m ≡ n = omega (arith, same) in is)
 
-found_once : (one other : Offers) → other.wait ≡ one.wait → other.start ≡ one.start → other.tried ≡ one.tried → other ≡ one
+found_once : (one other : Offers) → other.wait ≡ one.wait → other.start ≡ one.start → other.tried ≡ one.tried
+    → other ≡ one
 found_once one other wait start tried =
     let F : ℕ → Option ℕ → List Tried → Offers = λ w s t. record { wait = w; start = s; tried = t } in
-    ap (λ w. F w other.start other.tried) wait ∙ ap (λ s. F one.wait s other.tried) start ∙ ap (λ t. F one.wait one.start t) tried
+    ap (λ w. F w other.start other.tried) wait ∙ ap (λ s. F one.wait s other.tried) start ∙ ap
+    (λ t. F one.wait one.start t) tried
 
 module _ (old : Standing) (message : List ℕ) (ask again : Ask) (one other : Standing) where
   abbrev Agree : Type 0
@@ -74,10 +77,12 @@ module _ (old : Standing) (message : List ℕ) (ask again : Ask) (one other : St
   same : again ≡ ask → other ≡ one → Agree
   same command session = inl (record { ask_is = command; session_is = session })
 
-  replied_once : (text text' : List ℕ) → text' ≡ text → IsReplied old text ask one → IsReplied old text' again other → Agree
+  replied_once : (text text' : List ℕ) → text' ≡ text → IsReplied old text ask one → IsReplied old text' again other
+      → Agree
   replied_once text text' alike is its = same (its.0 ∙ sym is.0) (its.1 ∙ ap (λ t. with_reply old t) alike ∙ sym is.1)
 
-  first_wants : (sequence : ℕ) → first_sequence message ≡ Some sequence → IsRefused old (Some sequence) Memory [] ask one → Agree
+  first_wants : (sequence : ℕ) → first_sequence message ≡ Some sequence → IsRefused old
+      (Some sequence) Memory [] ask one → Agree
   first_wants sequence number is = inr (inl (subst (λ s. IsRefused old s Memory [] ask one) (sym number) is))
 
   second_wants : (sequence : ℕ) → first_sequence message ≡ Some sequence
@@ -129,14 +134,16 @@ module _ (old : Standing) (message : List ℕ) (ask again : Ask) (one other : St
       let runs = left-one is.left_is left in
       halts_once {next = Paused is.left} {next' = Paused its.left} (ap (λ r. Paused r) runs) is.asks its.asks
 
-  pauses_once : (state : State) (sequence : ℕ) → Pauses state old sequence ask one → Pauses state old sequence again other → Agree
+  pauses_once : (state : State) (sequence : ℕ) → Pauses state old sequence ask one
+      → Pauses state old sequence again other → Agree
   pauses_once Init sequence is its = absurd is
   pauses_once (Ready setup paused) sequence is its = absurd is
   pauses_once (Playing setup play) sequence is its = pauses_play_once sequence setup play is its
   pauses_once (Stopping setup stop) sequence is its = absurd is
 
   asks_play_once : (sequence : ℕ) (authority : List ℕ) (setup : Setup) (planned : Planned)
-      → AsksPlay old sequence authority setup planned ask one → AsksPlay old sequence authority setup planned again other → Agree
+      → AsksPlay old sequence authority setup planned ask one
+      → AsksPlay old sequence authority setup planned again other → Agree
   asks_play_once sequence authority setup planned is its =
       let film = film_at_once old.films setup.film is.stored its.stored is.at its.at in
       same (its.command ∙ sym is.command)
@@ -156,13 +163,16 @@ module _ (old : Standing) (message : List ℕ) (ask again : Ask) (one other : St
 
   plays_ready_once : {sequence : ℕ} {a b : Result Planned Refusal} (authority : List ℕ) (setup : Setup)
       → first_sequence message ≡ Some sequence → (b ≡ a) ⊎ ((a ≡ Err Memory) ⊎ (b ≡ Err Memory))
-      → AsksPlayOr old (play_call sequence authority setup) a ask one → AsksPlayOr old (play_call sequence authority setup) b again other → Agree
+      → AsksPlayOr old (play_call sequence authority setup) a ask one → AsksPlayOr old
+      (play_call sequence authority setup) b again other → Agree
   plays_ready_once {sequence} {a} authority setup number (inl alike) is its =
-      play_or_once authority setup a number is (subst (λ p. AsksPlayOr old (play_call sequence authority setup) p again other) alike its)
+      play_or_once authority setup a number is
+      (subst (λ p. AsksPlayOr old (play_call sequence authority setup) p again other) alike its)
   plays_ready_once {sequence} authority setup number (inr (inl lacks)) is its =
       first_wants sequence number (subst (λ p. AsksPlayOr old (play_call sequence authority setup) p ask one) lacks is)
   plays_ready_once {sequence} authority setup number (inr (inr lacks)) is its =
-      second_wants sequence number (subst (λ p. AsksPlayOr old (play_call sequence authority setup) p again other) lacks its)
+      second_wants sequence number (subst (λ p. AsksPlayOr old
+      (play_call sequence authority setup) p again other) lacks its)
 
   looks_once : (sequence : ℕ) → first_sequence message ≡ Some sequence → Looks old sequence ask one
       → Looks old sequence again other → Agree
@@ -195,7 +205,8 @@ module _ (old : Standing) (message : List ℕ) (ask again : Ask) (one other : St
       second_wants sequence number (subst (λ p. AsksOfferOr old sequence wait p again other) lacks its)
 
   offers_in_once : {sequence wait : ℕ} {setup : Setup} {paused : Option Run} → first_sequence message ≡ Some sequence
-      → OffersReady old sequence wait setup paused ask one → OffersReady old sequence wait setup paused again other → Agree
+      → OffersReady old sequence wait setup paused ask one → OffersReady old sequence wait setup paused again other
+      → Agree
   offers_in_once {sequence} {wait} {setup} {paused} number is its =
       offers_ready_once {a = is.planned} {b = its.planned} wait number
       (planned_once old setup paused None is.planned its.planned is.is_planned its.is_planned) is.asks its.asks
@@ -262,9 +273,11 @@ module _ (old : Standing) (message : List ℕ) (ask again : Ask) (one other : St
   refused_alike : (refusal : Refusal) → IsRefused old (Some request.sequence) refusal [] ask one
       → IsRefused old (Some request'.sequence) refusal [] again other → Agreed
   refused_alike refusal is its =
-      replied_once old message ask again one other _ _ (ap (λ s. refusal_text (Some s) refusal []) alike.sequence) is its
+      replied_once old message ask again one other _ _
+      (ap (λ s. refusal_text (Some s) refusal []) alike.sequence) is its
 
-  gets_offer_once : (state : State) → GetsOffer state old request ask one → GetsOffer state old request' again other → Agreed
+  gets_offer_once : (state : State) → GetsOffer state old request ask one → GetsOffer state old request' again other
+      → Agreed
   gets_offer_once Init is its = refused_alike Session is its
   gets_offer_once (Ready setup paused) (inl is) (inl its) = refused_alike Parameter is.refused its.refused
   gets_offer_once (Ready setup paused) (inl is) (inr its) =
@@ -288,7 +301,8 @@ module _ (old : Standing) (message : List ℕ) (ask again : Ask) (one other : St
   gets_once OfferTopic is its = gets_offer_once old.state is its
   gets_once Unknown is its = refused_alike Parameter is its
 
-  by_once : AreFilms old.films → (method : Method) → By old method request ask one → By old method request' again other → Agreed
+  by_once : AreFilms old.films → (method : Method) → By old method request ask one → By old method request' again other
+      → Agreed
   by_once films Options is its = replied_once old message ask again one other _ _ (ap public_text alike.sequence) is its
   by_once films Describe is its =
       let names = names_once films is.1.1.0
@@ -304,7 +318,8 @@ module _ (old : Standing) (message : List ℕ) (ask again : Ask) (one other : St
   by_once films PlayMethod is its =
       let names = names_once films is.1.1.0
       (subst (λ u. Names old.films u its.0 its.1.0) alike.url its.1.1.0) in
-      plays_once old.state is.0 is.1.1.1 (subst (λ a. Plays old.state old request' a again other) names.authority its.1.1.1)
+      plays_once old.state is.0 is.1.1.1 (subst
+      (λ a. Plays old.state old request' a again other) names.authority its.1.1.1)
   by_once films Pause is its =
       pauses_once old message ask again one other old.state request.sequence is
       (subst (λ s. Pauses old.state old s again other) alike.sequence its)
@@ -339,7 +354,8 @@ module _ (old : Standing) (message : List ℕ) (ask again : Ask) (one other : St
       ∙ ap (λ r. refusal_text (Some request.sequence) r (option_of request'.head.now)) refusal
       ∙ ap (λ h. refusal_text (Some request.sequence) a (option_of h)) alike.head) is its
 
-whole_once : {old one other : Standing} {message : List ℕ} {ask again : Ask} → AreFilms old.films → HearsWhole old message ask one
+whole_once : {old one other : Standing} {message : List ℕ} {ask again : Ask} → AreFilms old.films
+    → HearsWhole old message ask one
     → HearsWhole old message again other → IsOneHearing old message ask one again other
 whole_once {old} {one} {other} {message} {ask} {again} films is its =
     let a = is.request in
@@ -355,11 +371,14 @@ whole_once {old} {one} {other} {message} {ask} {again} films is its =
     (record { films = films; judged = is.hears.judged; judged_again = its.hears.judged })
     is.hears.takes its.hears.takes
 
-hears_on_once : {one other : Standing} {ask again : Ask} (lost : Bool) (old : Standing) (message : List ℕ) → AreFilms old.films
-    → HearsOn lost old message ask one → HearsOn lost old message again other → IsOneHearing old message ask one again other
+hears_on_once : {one other : Standing} {ask again : Ask} (lost : Bool) (old : Standing) (message : List ℕ)
+    → AreFilms old.films
+    → HearsOn lost old message ask one → HearsOn lost old message again other
+    → IsOneHearing old message ask one again other
 hears_on_once {one} {other} {ask} true old message films is its = inr (inl is)
 hears_on_once {one} {other} {ask} {again} false old message films (inl is) (inl its) =
-    replied_once old message ask again one other _ _ (ap (λ f. refusal_text (first_sequence message) (fault_refusal f) [])
+    replied_once old message ask again one other _ _
+    (ap (λ f. refusal_text (first_sequence message) (fault_refusal f) [])
     (fault_once message its.fault is.fault its.is_fault is.is_fault)) is.refused its.refused
 hears_on_once {one} {other} {ask} false old message films (inl is) (inr its) =
     let r = its.request in

@@ -1,5 +1,6 @@
 -- A PLAY asks for one run and one plan.
-use Rattle.std.proofs.Common.{◌≡◌, ℕ, ◌≤◌, ◌⊎◌, List, Option, Some, None, Result, Ok, Err, refl, sym, ap, subst, ◌∙◌, inl, inr, arith}
+use Rattle.std.proofs.Common.{◌≡◌, ℕ, ◌≤◌, ◌⊎◌, List, Option, Some, None, Result, Ok, Err, refl, sym, ap, subst, ◌∙◌}
+use Rattle.std.proofs.Common.{inl, inr, arith}
 use Rattle.mpeg_scan.specs.declared.units.Unit.{Unit as PictureUnit}
 use Rattle.mpeg_scan.specs.declared.films.Film.{Film}
 use Rattle.plan_cert.specs.declared.Segment.{Segment}
@@ -28,7 +29,8 @@ use Rattle.session.specs.declared.wanted.Wanted.{Wanted}
 use Rattle.session.specs.declared.wanted.Wanted.TheVariants.{Resumed, New}
 use Rattle.session.specs.Films.{IsFilmAt}
 use Rattle.session.specs.Planning.{HasNoPlan, HasNoRun, IsPlanned, IsPlannedRun}
-use Rattle.session.specs.Playing.{IsAskedRun, IsNoRange, IsWanted, WantsNothing, counts_for, curve_refusal, playback_of, run_of}
+use Rattle.session.specs.Playing.{IsAskedRun, IsNoRange, IsWanted, WantsNothing, counts_for, curve_refusal, playback_of}
+use Rattle.session.specs.Playing.{run_of}
 use Rattle.session.specs.Standings.{Standing}
 use Rattle.session.proofs.Playables.{span_of_once}
 
@@ -56,7 +58,8 @@ group_from_least {j} is its =
       ]
     ]
 
-end_once : {k j : ℕ} (units : List PictureUnit) (picture : ℕ) (to : Option ℕ) (after : ℕ) → IsEnd units picture to after k
+end_once : {k j : ℕ} (units : List PictureUnit) (picture : ℕ) (to : Option ℕ) (after : ℕ)
+    → IsEnd units picture to after k
     → IsEnd units picture to after j → j ≡ k
 end_once units picture None after is its = its ∙ sym is
 end_once units picture (Some time) after is its =
@@ -64,7 +67,8 @@ end_once units picture (Some time) after is its =
     let above = group_from_least its is in
     omega (arith, below, above)
 
-new_run_once : {sizes : List ℕ} {first end : ℕ} {one other : Run} → IsNewRun sizes first end one → IsNewRun sizes first end other
+new_run_once : {sizes : List ℕ} {first end : ℕ} {one other : Run} → IsNewRun sizes first end one
+    → IsNewRun sizes first end other
     → other ≡ one
 new_run_once {first} {end} {one} {other} is its =
     let R : ℕ → ℕ → ℕ → ℕ → ℕ → Run =
@@ -86,7 +90,8 @@ asked_once {film} {from} {to} {one} {other} is its =
     let end = end_once units time to one.first_unit is.ends
     (subst (λ n. IsEnd units time to n other.end_unit) first its.ends) in
     new_run_once is.new
-    (subst (λ n. IsNewRun sizes one.first_unit n other) end (subst (λ n. IsNewRun sizes n other.end_unit other) first its.new))
+    (subst (λ n. IsNewRun sizes one.first_unit n other) end
+    (subst (λ n. IsNewRun sizes n other.end_unit other) first its.new))
 
 wanted_once : {one other : Wanted} (film : Film) (paused : Option Run) (from : Origin) (to : Option ℕ)
     → IsWanted film paused from to one
@@ -94,7 +99,8 @@ wanted_once : {one other : Wanted} (film : Film) (paused : Option Run) (from : O
 wanted_once {one = Resumed run} {other} film None Now to is its = absurd is
 wanted_once {one = New run} {other = Resumed other} film None Now to is its = absurd its
 wanted_once {one = New run} {other = New other} film None Now to is its = ap (λ r. New r) (asked_once is its)
-wanted_once {one = Resumed run} {other = Resumed other} film (Some paused) Now to is its = ap (λ r. Resumed r) (its ∙ sym is)
+wanted_once {one = Resumed run} {other = Resumed other} film (Some paused) Now to is its =
+    ap (λ r. Resumed r) (its ∙ sym is)
 wanted_once {one = Resumed run} {other = New other} film (Some paused) Now to is its = absurd its
 wanted_once {one = New run} {other} film (Some paused) Now to is its = absurd is
 wanted_once {one = Resumed run} {other} film None (At time) to is its = absurd is
@@ -102,7 +108,8 @@ wanted_once {one = New run} {other = Resumed other} film None (At time) to is it
 wanted_once {one = New run} {other = New other} film None (At time) to is its = ap (λ r. New r) (asked_once is its)
 wanted_once {one = Resumed run} {other} film (Some paused) (At time) to is its = absurd is
 wanted_once {one = New run} {other = Resumed other} film (Some paused) (At time) to is its = absurd its
-wanted_once {one = New run} {other = New other} film (Some paused) (At time) to is its = ap (λ r. New r) (asked_once is its)
+wanted_once {one = New run} {other = New other} film (Some paused) (At time) to is its =
+    ap (λ r. New r) (asked_once is its)
 
 asked_run_once : {film : Film} {paused : Option Run} {range : Option (List ℕ)} {one other : Wanted}
     → IsAskedRun film paused range one
@@ -123,13 +130,15 @@ wants_some film None (At time) to (New run) is none = is.some none
 wants_some film (Some paused) (At time) to (Resumed run) is none = is
 wants_some film (Some paused) (At time) to (New run) is none = is.some none
 
-asks_some : (film : Film) (paused : Option Run) (range : Option (List ℕ)) (wanted : Wanted) → IsAskedRun film paused range wanted
+asks_some : (film : Film) (paused : Option Run) (range : Option (List ℕ)) (wanted : Wanted)
+    → IsAskedRun film paused range wanted
     → IsNoRange film paused range → ⊥
 asks_some film paused range wanted is none =
     wants_some film paused is.span.from is.span.to wanted is.is_wanted (none is.span is.is_span)
 
 -- why a run has no plan: one cause, or want of memory
-least_once : {sizes : List ℕ} {timing : Timing} {slot used least slot' used' least' : ℕ} → IsOverfull sizes timing slot used least
+least_once : {sizes : List ℕ} {timing : Timing} {slot used least slot' used' least' : ℕ}
+    → IsOverfull sizes timing slot used least
     → IsOverfull sizes timing slot' used' least' → least' ≤ least
 least_once {slot} is its =
     let most = is.greatest its.reached.0 its.reached.1 in
@@ -137,7 +146,8 @@ least_once {slot} is its =
     omega (arith, most, reached)
 
 abbrev Refuses : CurveRefused → CurveRefused → Type 0
-Refuses one other = (curve_refusal other ≡ curve_refusal one) ⊎ ((curve_refusal one ≡ Memory) ⊎ (curve_refusal other ≡ Memory))
+Refuses one other =
+    (curve_refusal other ≡ curve_refusal one) ⊎ ((curve_refusal one ≡ Memory) ⊎ (curve_refusal other ≡ Memory))
 
 curves_once : (sizes : List ℕ) (timing : Timing) (one other : CurveRefused) → IsRefused sizes timing one
     → IsRefused sizes timing other
@@ -159,7 +169,8 @@ curves_once sizes timing (Fault (BufferTooSmall slot used least)) (Fault (TooMan
 curves_once sizes timing (Fault (BufferTooSmall slot used least)) (Fault (BufferTooSmall slot' used' least')) is its =
     let below = least_once is.2 its.2 in
     let above = least_once its.2 is.2 in
-    inl (ap (λ n. curve_refusal (Fault (BufferTooSmall 0 0 n))) (let same : least' ≡ least = omega (arith, below, above) in same))
+    inl (ap (λ n. curve_refusal (Fault (BufferTooSmall 0 0 n)))
+    (let same : least' ≡ least = omega (arith, below, above) in same))
 
 accepted_once : (sizes : List ℕ) (timing : Timing) (refused : CurveRefused) → IsAccepted sizes timing
     → IsRefused sizes timing refused
@@ -191,10 +202,12 @@ module _ (old : Standing) (setup : Setup) (paused : Option Run) (range : Option 
       sending-one sizes playback one.run one.plan (record { can_play = is.can_play; plan_is = is.plan_is })
       other.plan (subst (λ (r : Run). IsPlanOf sizes playback r other.plan) run its.plan_is) in
       let P : Run → Counts → List Segment → Planned = λ r c p. record { run = r; counts = c; plan = p } in
-      ap (λ r. P r other.counts other.plan) run ∙ ap (λ c. P one.run c other.plan) counts ∙ ap (λ p. P one.run one.counts p) plan
+      ap (λ r. P r other.counts other.plan) run ∙ ap (λ c. P one.run c other.plan) counts ∙ ap
+      (λ p. P one.run one.counts p) plan
 
   -- a plan, and none
-  plan_or_none : (stored : Stored) (planned : Planned) (refusal : Refusal) → IsPlannedRun old stored setup paused range planned
+  plan_or_none : (stored : Stored) (planned : Planned) (refusal : Refusal)
+      → IsPlannedRun old stored setup paused range planned
       → HasNoRun old setup paused range refusal ⊎ HasNoPlan old setup paused range refusal → refusal ≡ Memory
   plan_or_none stored planned refusal is (inl none) =
       let film = film_at_once old.films setup.film stored none.stored is.at none.at in
@@ -224,7 +237,8 @@ module _ (old : Standing) (setup : Setup) (paused : Option Run) (range : Option 
       let none = subst (λ (r : Run). IsRefused (rest_sizes (stored_sizes is.stored) r)
       (timing_of (playback_of is.stored.film old.settings setup) r) that.refused) wanted own in
       elim (curves_once (rest_sizes (stored_sizes is.stored) (run_of is.wanted))
-      (timing_of (playback_of is.stored.film old.settings setup) (run_of is.wanted)) is.refused that.refused is.no_curves none) [
+      (timing_of (playback_of is.stored.film old.settings setup)
+      (run_of is.wanted)) is.refused that.refused is.no_curves none) [
         | inl same ↦ inl (that.refusal_is ∙ same ∙ sym is.refusal_is)
         | inr lacks ↦ elim lacks [
           | inl first ↦ inr (inl (is.refusal_is ∙ first))
@@ -257,5 +271,9 @@ module _ (old : Standing) (setup : Setup) (paused : Option Run) (range : Option 
       elim (refused_once one other is its) [
         | inl same ↦ inl (ap (λ r. Err r) same)
         | inr lacks ↦
-            elim lacks [ inl first ↦ inr (inl (ap (λ r. Err r) first)) | inr second ↦ inr (inr (ap (λ r. Err r) second)) ]
+            elim lacks [
+              | inl first ↦ inr (inl (ap (λ r. Err r) first))
+              | inr second ↦ inr
+                  (inr (ap (λ r. Err r) second))
+            ]
       ]

@@ -52,10 +52,12 @@ setup_once {settings} {head} {film} {one} {other} is its =
 
 -- a SETUP that is refused
 data Unread (settings : Settings) (head : List ℕ) (refusal : Refusal) : Type 0 where
-  NoChannels : refusal ≡ Transport → ((channels : Channels) → ¬ HasChannels head channels) → Unread settings head refusal
+  NoChannels : refusal ≡ Transport → ((channels : Channels) → ¬ HasChannels head channels)
+      → Unread settings head refusal
   NoMeaning : refusal ≡ Parameter → HasNoMeaning settings head → Unread settings head refusal
 
-unread : (settings : Settings) (head : List ℕ) (film : ℕ) (refusal : Refusal) → IsSetupRead settings head film (Err refusal)
+unread : (settings : Settings) (head : List ℕ) (film : ℕ) (refusal : Refusal) → IsSetupRead settings head film
+    (Err refusal)
     → Unread settings head refusal
 unread settings head film BadRequest is = absurd is
 unread settings head film Version is = absurd is
@@ -73,14 +75,17 @@ unread settings head film Memory is = absurd is
 unread_once : (settings : Settings) (head : List ℕ) (one other : Refusal) → Unread settings head one
     → Unread settings head other → other ≡ one
 unread_once settings head one other (NoChannels is none) (NoChannels its free) = its ∙ sym is
-unread_once settings head one other (NoChannels is none) (NoMeaning its bad) = absurd (none bad.channels.0 bad.channels.1)
-unread_once settings head one other (NoMeaning is bad) (NoChannels its none) = absurd (none bad.channels.0 bad.channels.1)
+unread_once settings head one other (NoChannels is none) (NoMeaning its bad) =
+    absurd (none bad.channels.0 bad.channels.1)
+unread_once settings head one other (NoMeaning is bad) (NoChannels its none) =
+    absurd (none bad.channels.0 bad.channels.1)
 unread_once settings head one other (NoMeaning is bad) (NoMeaning its worse) = its ∙ sym is
 
 not_unread : {settings : Settings} {head : List ℕ} {film : ℕ} {setup : Setup} {refusal : Refusal}
     → AsksForSetup settings head film setup
     → Unread settings head refusal → ⊥
-not_unread {head} {setup} is (NoChannels its none) = none (record { media = setup.media; control = setup.control }) is.channels
+not_unread {head} {setup} is (NoChannels its none) =
+    none (record { media = setup.media; control = setup.control }) is.channels
 not_unread {head} {setup} is (NoMeaning its none) =
     elim none.none [ inl buffer ↦ buffer setup.buffer is.buffer | inr delay ↦ delay setup.delay is.delay ]
 
@@ -93,7 +98,8 @@ read_once {one = Ok one} {other = Err other} settings head film is its =
 read_once {one = Err one} {other = Ok other} settings head film is its =
     absurd (not_unread its (unread settings head film one is))
 read_once {one = Err one} {other = Err other} settings head film is its =
-    ap (λ r. Err r) (unread_once settings head one other (unread settings head film one is) (unread settings head film other its))
+    ap (λ r. Err r) (unread_once settings head one other (unread settings head film one is)
+    (unread settings head film other its))
 
 -- what a body asks for
 abbrev third : List ℕ → ℕ
@@ -141,7 +147,8 @@ pub record AreSameNames (one other : List ℕ) (film number : ℕ) : Type 0 wher
   pub authority : other ≡ one
   pub film_is : number ≡ film
 
-pub names_once : {films : List Stored} {url one other : List ℕ} {film number : ℕ} → AreFilms films → Names films url one film
+pub names_once : {films : List Stored} {url one other : List ℕ} {film number : ℕ} → AreFilms films
+    → Names films url one film
     → Names films url other number → AreSameNames one other film number
 names_once {url} {one} {other} {number} are is its =
     let path = end_once its.read.is_url.end is.read.is_url.end in
@@ -151,7 +158,8 @@ names_once {url} {one} {other} {number} are is its =
     }
 
 -- the number of a request is the first of its head
-first_of_values : (values : List (List ℕ)) (sequence : ℕ) → option_and_then number_of (slice_get values 0) ≡ Some sequence
+first_of_values : (values : List (List ℕ)) (sequence : ℕ) → option_and_then number_of
+    (slice_get values 0) ≡ Some sequence
     → slice_get (filter_map number_of values) 0 ≡ Some sequence
 first_of_values [] sequence is = is
 first_of_values (value ∷ values) sequence is = rw is refl
@@ -159,7 +167,8 @@ first_of_values (value ∷ values) sequence is = rw is refl
 pub first_sequence_is : (message : List ℕ) (sequence : ℕ) → sequence_number message ≡ Some sequence
     → first_sequence message ≡ Some sequence
 unfolding first_number first_value
-first_sequence_is message sequence is = first_of_values (filter_map (value_in (codes "CSeq")) (header_lines message)) sequence is
+first_sequence_is message sequence is =
+    first_of_values (filter_map (value_in (codes "CSeq")) (header_lines message)) sequence is
 
 -- how many slots may be waited
 pub wait_once : (value : Option (List ℕ)) (one other : ℕ) → IsWaitOf value one → IsWaitOf value other → other ≡ one

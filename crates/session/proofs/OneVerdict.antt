@@ -8,7 +8,8 @@ use Rattle.film_frames.specs.declared.stores.Stored.{Stored}
 use Rattle.rtsp_text.specs.Fields.{header_value}
 use Rattle.rtsp_text.specs.declared.requests.Request.{Request}
 use Rattle.session.specs.declared.methods.Method.{Method}
-use Rattle.session.specs.declared.methods.Method.TheVariants.{Options, Describe, Setup, Play, Pause, Teardown, GetParameter}
+use Rattle.session.specs.declared.methods.Method.TheVariants.{Options, Describe, Setup, Play, Pause, Teardown}
+use Rattle.session.specs.declared.methods.Method.TheVariants.{GetParameter}
 use Rattle.session.specs.declared.states.State.{State as Stage}
 use Rattle.session.specs.declared.refusals.Refusal.{Refusal}
 use Rattle.session.specs.declared.refusals.Refusal.TheVariants.{BadRequest, Version}
@@ -111,7 +112,11 @@ module _ (films : List Stored) (id : List ℕ) (stage : Stage) (name url head : 
       elim (cases_order n m) [
         | inl same ↦ same
         | inr differ ↦
-            elim differ [ inl less ↦ absurd (is.at (its.before n less)) | inr more ↦ absurd (its.at (is.before m more)) ]
+            elim differ [
+              | inl less ↦ absurd (is.at (its.before n less))
+              | inr more ↦ absurd
+                  (its.at (is.before m more))
+            ]
       ]
 
   before_0 : (k : ℕ) → k < 0 → Passes k
@@ -182,12 +187,14 @@ stops films id stage request (Err Session) is =
     record {
       before = before_2 films id stage request.method.now request.url.now request.head.now
           (is.method, is.spoken.named) is.spoken.free;
-      at = λ own. is.session (subst Fits (method_once request.method.now own.0 is.method own.1.0 is.spoken.named) own.1.1);
+      at = λ own. is.session
+          (subst Fits (method_once request.method.now own.0 is.method own.1.0 is.spoken.named) own.1.1);
     }
 stops films id stage request (Err Film) is =
     let spoken = is.talk.spoken in
     record {
-      before = before_3 films id stage request.method.now request.url.now request.head.now (is.method, spoken.named) spoken.free
+      before = before_3 films id stage request.method.now request.url.now request.head.now
+          (is.method, spoken.named) spoken.free
           (is.method, (spoken.named, is.talk.session));
       at = λ has.
           let same = method_once request.method.now has.0 is.method has.1.0 spoken.named in
@@ -200,9 +207,11 @@ stops films id stage request (Err State) is =
     let spoken = is.talk.spoken in
     let Fits : Method → Type 0 = λ m. HasTime films id stage request.method.now request.url.now request.head.now m in
     record {
-      before = before_4 films id stage request.method.now request.url.now request.head.now (is.method, spoken.named) spoken.free
+      before = before_4 films id stage request.method.now request.url.now request.head.now
+          (is.method, spoken.named) spoken.free
           (is.method, (spoken.named, is.talk.session)) (is.method, (spoken.named, inr is.film));
-      at = λ timely. is.state (subst Fits (method_once request.method.now timely.0 is.method timely.1.0 spoken.named) timely.1.1);
+      at = λ timely. is.state
+          (subst Fits (method_once request.method.now timely.0 is.method timely.1.0 spoken.named) timely.1.1);
     }
 stops films id stage request (Err Transport) is = absurd is
 stops films id stage request (Err Parameter) is = absurd is
@@ -259,8 +268,10 @@ same_rank : {request other : Request} {films : List Stored} {id : List ℕ} {sta
     (verdicts : TwoVerdicts request other films id stage) → rank verdicts.a ≡ rank verdicts.b
 same_rank {request} {other} {films} {id} {stage} verdicts =
     let stop = stops films id stage other b its in
-    let by_name = subst (λ (n : List ℕ). StopsAt films id stage n other.url.now other.head.now (rank b)) alike.method stop in
-    let by_url = subst (λ (u : List ℕ). StopsAt films id stage request.method.now u other.head.now (rank b)) alike.url by_name in
+    let by_name = subst (λ (n : List ℕ). StopsAt films id stage n other.url.now other.head.now
+    (rank b)) alike.method stop in
+    let by_url = subst (λ (u : List ℕ). StopsAt films id stage request.method.now u other.head.now
+    (rank b)) alike.url by_name in
     let by_head =
     subst (λ (h : List ℕ). StopsAt films id stage request.method.now request.url.now h (rank b)) alike.head by_url in
     stops_once films id stage request.method.now request.url.now request.head.now (rank a) (rank b)
@@ -278,7 +289,8 @@ refusal_once {request} {other} {a} {b} films id stage alike is its =
 
 pub not_both : {films : List Stored} {id : List ℕ} {stage : Stage} {request other : Request} {task : Task}
     (refusal : Refusal)
-    → AreAlike request other → IsJudged films id stage request (Ok task) → IsJudged films id stage other (Err refusal) → ⊥
+    → AreAlike request other → IsJudged films id stage request (Ok task) → IsJudged films id stage other (Err refusal)
+    → ⊥
 not_both {films} {id} {stage} {request} {other} {task} refusal alike is its =
     let verdicts : TwoVerdicts request other films id stage =
     record { a = Ok task; b = Err refusal; alike = alike; is = is; its = its } in

@@ -67,7 +67,8 @@ module _ (p : Pacing) (keep : ℕ) (halted : HaltedPacing p keep) where
       elim (cases_lt last (total_slots p.plan)) [
         | inl less ↦ less
         | inr more ↦
-            let all : total_bytes p.plan ≡ sum_through p.plan last = sum_through-past p.plan last pacing.plan (omega arith) in
+            let all : total_bytes p.plan ≡ sum_through p.plan last = sum_through-past p.plan last pacing.plan
+            (omega arith) in
             absurd (not_done (omega arith) (omega arith))
       ] in
       (inside, omega arith, omega arith)
@@ -118,8 +119,10 @@ left_boundary {stored} {source} {setup} {counts} {play} {keep} {left} is playing
     let place : p.before + keep ≡ left.sent = ap (λ n. n + keep) is.before ∙ sym left_is.sent_is in
     let same : p.pieces ≡ run_pieces (sending_of stored.film source setup counts left) =
     playing.pieces
-    ∙ ap (λ n. run_pieces (run_of stored.film n play.run.end_unit (identity_of source setup counts))) (sym left_is.first_is)
-    ∙ ap (λ n. run_pieces (run_of stored.film left.first_unit n (identity_of source setup counts))) (sym left_is.end_is) in
+    ∙ ap (λ n. run_pieces (run_of stored.film n play.run.end_unit (identity_of source setup counts)))
+    (sym left_is.first_is)
+    ∙ ap (λ n. run_pieces (run_of stored.film left.first_unit n (identity_of source setup counts)))
+    (sym left_is.end_is) in
     subst (λ (n : ℕ). IsBoundary (run_pieces (sending_of stored.film source setup counts left)) n) place
     (subst (λ (all : List (List ℕ)). IsBoundary all (p.before + keep)) same boundary)
 

@@ -26,7 +26,8 @@ use Rattle.session.specs.declared.states.State.{State}
 use Rattle.session.specs.declared.states.State.TheVariants.{Init, Ready, Playing, Stopping}
 use Rattle.session.specs.Films.{IsFilmAt, counts_after, identity_of, sending_of}
 use Rattle.session.specs.Changes.{IsPlayAsked}
-use Rattle.session.specs.Hearings.{after_admission, after_halt, counts_of, counts_done, counts_next, halted_counts, is_answered}
+use Rattle.session.specs.Hearings.{after_admission, after_halt, counts_of, counts_done, counts_next, halted_counts}
+use Rattle.session.specs.Hearings.{is_answered}
 use Rattle.session.specs.Laws.{GoesOn}
 use Rattle.session.specs.Methods.{prepared_of}
 use Rattle.session.specs.PlayLaws.{HasCountedAll, IsNoted, IsSentAsAsked, KeepsToBoundary}
@@ -36,7 +37,8 @@ use Rattle.session.specs.Standings.{HaltAnswer, Standing, awaited_answer_of}
 use Rattle.session.proofs.Carries.{nothing_of}
 use Rattle.session.proofs.Grounds.{HeardMessage, PlayInHand}
 use Rattle.session.proofs.Numbers.{identity_goes_on}
-use Rattle.session.proofs.Results.{ComesTo, Lacks, Refuses, Says, SettlesSetup, AsksForPlay, AsksForHalt, AsksForLook, AsksForOffer, comes_to}
+use Rattle.session.proofs.Results.{ComesTo, Lacks, Refuses, Says, SettlesSetup, AsksForPlay, AsksForHalt, AsksForLook}
+use Rattle.session.proofs.Results.{AsksForOffer, comes_to}
 
 -- ---- where a halt cuts
 
@@ -70,12 +72,14 @@ comes_halts {new} (Says sequence fields body tearing by command is) playing paci
     absurd (let no : ⊥ = cc (command) in no)
 comes_halts {new} (SettlesSetup sequence own init ranges command is) playing pacing =
     absurd (let no : ⊥ = cc (command) in no)
-comes_halts {new} (AsksForPlay stored own paused range planned sequence authority ready planned_is command is) playing pacing =
+comes_halts {new}
+    (AsksForPlay stored own paused range planned sequence authority ready planned_is command is) playing pacing =
     absurd (let no : ⊥ = cc (command) in no)
 comes_halts {new} {keep} {play} (AsksForHalt sequence own other next was told by halts) playing pacing =
     let same : play ≡ other = same_play playing was in
     let asked : keep ≡ halts.keep = cc (halts.command) in
-    let kept : keep ≡ next_boundary play.pacer = asked ∙ halts.keep_is ∙ ap (λ (p : Played). next_boundary p.pacer) (sym same) in
+    let kept : keep ≡ next_boundary play.pacer = asked ∙ halts.keep_is ∙ ap (λ (p : Played). next_boundary p.pacer)
+    (sym same) in
     subst (λ n. KeepsToBoundary play n) (sym kept) (kept_at play pacing)
 comes_halts {new} (AsksForLook sequence look) playing pacing = absurd (let no : ⊥ = cc (look.command) in no)
 comes_halts {new} (AsksForOffer sequence wait planned asks) playing pacing =
@@ -127,16 +131,19 @@ run_counted {stored} old place hand none at all =
     let its = identity_goes_on old.source setup old.counts sending end in
     let goes = subst (λ (c : Counts). GoesOn (identity_of old.source setup old.counts) (identity_of old.source setup c)
     (frames_before sending end) (octets_before sending end)) (sym counts) its in
-    subst (λ n. GoesOn (identity_of old.source setup old.counts) (identity_of old.source setup (halted_counts old old.state))
+    subst (λ n. GoesOn (identity_of old.source setup old.counts)
+    (identity_of old.source setup (halted_counts old old.state))
     n (octets_in (pieces_in sending))) (ap frames_in (all_sent sending))
-    (subst (λ n. GoesOn (identity_of old.source setup old.counts) (identity_of old.source setup (halted_counts old old.state))
+    (subst (λ n. GoesOn (identity_of old.source setup old.counts)
+    (identity_of old.source setup (halted_counts old old.state))
     (frames_before sending end) n) (ap octets_in (all_sent sending)) goes)
   where
     open hand use {setup, play, playing}
 
 -- ---- the note of a play
 
-kept_asked : (awaited : Awaited) (due keep : ℕ) → awaited_answer_of awaited ≡ HaltAnswer keep → kept_of awaited due ≡ keep
+kept_asked : (awaited : Awaited) (due keep : ℕ) → awaited_answer_of awaited ≡ HaltAnswer keep
+    → kept_of awaited due ≡ keep
 kept_asked Nothing due keep is = absurd (let no : ⊥ = cc in no)
 kept_asked (Play prepared) due keep is = absurd (let no : ⊥ = cc in no)
 kept_asked (Halt other next) due keep is = cc

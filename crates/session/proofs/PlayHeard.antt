@@ -1,5 +1,6 @@
 -- A session asks the station for a play where it heard a PLAY in Ready, and nowhere else.
-use Rattle.std.proofs.Common.{◌≡◌, ℕ, Bool, true, false, List, Option, Result, Ok, Err, codes, refl, sym, ap, ◌∙◌, inl, inr}
+use Rattle.std.proofs.Common.{◌≡◌, ℕ, Bool, true, false, List, Option, Result, Ok, Err, codes, refl, sym, ap, ◌∙◌, inl}
+use Rattle.std.proofs.Common.{inr}
 use Rattle.film_frames.specs.declared.stores.Stored.{Stored}
 use Rattle.film_run.specs.declared.runs.Run.{Run}
 use Rattle.rtsp_text.specs.Fields.{header_value}
@@ -24,7 +25,8 @@ use Rattle.session.specs.declared.states.State.{State}
 use Rattle.session.specs.declared.states.State.TheVariants.{Init, Ready, Playing, Stopping}
 use Rattle.session.specs.Hearings.{Hears, HearsOn}
 use Rattle.session.specs.Judging.{IsJudged, IsReadAs}
-use Rattle.session.specs.Methods.{AsksOfferOr, AsksPlayOr, Gets, GetsOffer, IsSetUp, Looks, Pauses, Plays, Takes, TearsDown, play_call, prepared_of}
+use Rattle.session.specs.Methods.{AsksOfferOr, AsksPlayOr, Gets, GetsOffer, IsSetUp, Looks, Pauses, Plays, Takes}
+use Rattle.session.specs.Methods.{TearsDown, play_call, prepared_of}
 use Rattle.session.specs.Planning.{IsPlanned, IsPlannedRun}
 use Rattle.session.specs.Standings.{Standing, with_reply}
 use Rattle.session.proofs.Playables.{of_film}
@@ -88,8 +90,10 @@ module _ (old : Standing) (message : List ℕ) (ask : Ask) (new : Standing) (pre
   looks_at sequence (inl look) = looks sequence (ap (λ (s : Standing). s.awaited) look.state)
   looks_at sequence (inr short) = replies _ short.refused.1
 
-  offers_to : (sequence wait : ℕ) (planned : Result Planned Refusal) → AsksOfferOr old sequence wait planned ask new → Heard
-  offers_to sequence wait (Ok planned) (inl asks_offer) = offers sequence (ap (λ (s : Standing). s.awaited) asks_offer.state)
+  offers_to : (sequence wait : ℕ) (planned : Result Planned Refusal) → AsksOfferOr old sequence wait planned ask new
+      → Heard
+  offers_to sequence wait (Ok planned) (inl asks_offer) =
+      offers sequence (ap (λ (s : Standing). s.awaited) asks_offer.state)
   offers_to sequence wait (Ok planned) (inr refused) = replies _ refused.1
   offers_to sequence wait (Err refusal) refused = replies _ refused.1
 

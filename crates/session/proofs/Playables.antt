@@ -18,7 +18,8 @@ use Rattle.session.specs.declared.wanted.Wanted.{Wanted}
 use Rattle.session.specs.declared.wanted.Wanted.TheVariants.{Resumed, New}
 
 -- one film has one number
-pub of_film : (films : List Stored) (number : ℕ) (stored : Stored) (P : Stored → Type 0) → IsFilmAt films number stored → P stored
+pub of_film : (films : List Stored) (number : ℕ) (stored : Stored) (P : Stored → Type 0) → IsFilmAt films number stored
+    → P stored
     → OfFilm films number P
 of_film films number stored P at holds other is =
     let same : stored ≡ other = cc in
@@ -74,8 +75,10 @@ pub record ReadRange : Type 0 where
   pub is_span : IsSpanOf range span
 
 pub asked_in : (film : Film) (paused : Option Run) → (read : ReadRange) (wanted : Option Wanted)
-    → MatchOption wanted (WantsNothing film paused read.span.from read.span.to) (IsWanted film paused read.span.from read.span.to)
+    → MatchOption wanted (WantsNothing film paused read.span.from read.span.to)
+    (IsWanted film paused read.span.from read.span.to)
     → MatchOption wanted (IsNoRange film paused read.range) (IsAskedRun film paused read.range)
 asked_in film paused read None none = λ other same.
-    subst (λ (s : Span). WantsNothing film paused s.from s.to) (span_of_once read.range read.span other read.is_span same) none
+    subst (λ (s : Span). WantsNothing film paused s.from s.to)
+    (span_of_once read.range read.span other read.is_span same) none
 asked_in film paused read (Some wanted) asked = record { span = read.span; is_span = read.is_span; is_wanted = asked }

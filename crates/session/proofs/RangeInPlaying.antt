@@ -1,5 +1,6 @@
 -- A PLAY with a Range in Playing is refused.
-use Rattle.std.proofs.Common.{◌≡◌, ℕ, Bool, true, false, List, [], Option, Some, is_some, codes, Result, Ok, Err, sym, ap, subst, ◌∙◌, inl, inr, arith}
+use Rattle.std.proofs.Common.{◌≡◌, ℕ, Bool, true, false, List, [], Option, Some, is_some, codes, Result, Ok, Err, sym}
+use Rattle.std.proofs.Common.{ap, subst, ◌∙◌, inl, inr, arith}
 use Rattle.film_frames.specs.declared.stores.Stored.{Stored}
 use Rattle.rtsp_text.specs.Fields.{header_value}
 use Rattle.rtsp_text.specs.declared.requests.Request.{Request}
@@ -36,17 +37,24 @@ pub record IsRanged (stage : State) (request : Request) : Type 0 where
   pub range : is_some (header_value request.head.now (codes "Range")) ≡ true
   pub playing : is_playing_in stage ≡ true
 
-never_taken : {films : List Stored} {id : List ℕ} {stage : State} {request : Request} {task : Task} → IsRanged stage request
+never_taken : {films : List Stored} {id : List ℕ} {stage : State} {request : Request} {task : Task}
+    → IsRanged stage request
     → IsJudged films id stage request (Ok task) → ⊥
 never_taken {id} {stage} {task = ToPlay asked} ranged judged =
     let none = judged.state ranged.playing in
     let no : ⊥ = cc (none, ranged.range) in no
-never_taken {id} {stage} {task = ToOptions} ranged judged = let no : ⊥ = cc (judged.talk.spoken.named, ranged.method) in no
-never_taken {id} {stage} {task = ToDescribe asked} ranged judged = let no : ⊥ = cc (judged.talk.spoken.named, ranged.method) in no
-never_taken {id} {stage} {task = ToSetup film} ranged judged = let no : ⊥ = cc (judged.talk.spoken.named, ranged.method) in no
-never_taken {id} {stage} {task = ToPause} ranged judged = let no : ⊥ = cc (judged.talk.spoken.named, ranged.method) in no
-never_taken {id} {stage} {task = ToTeardown} ranged judged = let no : ⊥ = cc (judged.talk.spoken.named, ranged.method) in no
-never_taken {id} {stage} {task = ToGetParameter} ranged judged = let no : ⊥ = cc (judged.talk.spoken.named, ranged.method) in no
+never_taken {id} {stage} {task = ToOptions} ranged judged =
+    let no : ⊥ = cc (judged.talk.spoken.named, ranged.method) in no
+never_taken {id} {stage} {task = ToDescribe asked} ranged judged =
+    let no : ⊥ = cc (judged.talk.spoken.named, ranged.method) in no
+never_taken {id} {stage} {task = ToSetup film} ranged judged =
+    let no : ⊥ = cc (judged.talk.spoken.named, ranged.method) in no
+never_taken {id} {stage} {task = ToPause} ranged judged =
+    let no : ⊥ = cc (judged.talk.spoken.named, ranged.method) in no
+never_taken {id} {stage} {task = ToTeardown} ranged judged =
+    let no : ⊥ = cc (judged.talk.spoken.named, ranged.method) in no
+never_taken {id} {stage} {task = ToGetParameter} ranged judged =
+    let no : ⊥ = cc (judged.talk.spoken.named, ranged.method) in no
 
 -- no refusal has the code 200
 not_ok : (refusal : Refusal) → code_of refusal ≡ 200 → ⊥
@@ -90,7 +98,8 @@ same_request message request other is its =
       body = parts.body_is;
     }
 
-ranged_as : (stage : State) (request other : Request) → AreAlike request other → IsRanged stage request → IsRanged stage other
+ranged_as : (stage : State) (request other : Request) → AreAlike request other → IsRanged stage request
+    → IsRanged stage other
 ranged_as stage request other alike is = record {
   method = alike.method ∙ is.method;
   range = ap (λ (h : List ℕ). is_some (header_value h (codes "Range"))) alike.head ∙ is.range;
@@ -150,10 +159,13 @@ takes_455 {old} {request} {other} (Err refusal) ask new play judged takes =
     } in
     let same : refusal ≡ NotNow = refusal_once old.films old.id old.state play.alike own judged in
     let text : new.text ≡ refusal_text (Some other.sequence) NotNow (option_of other.head.now) =
-    ap (λ (s : Standing). s.text) takes.1 ∙ ap (λ r. refusal_text (Some other.sequence) r (option_of other.head.now)) same in
-    subst (λ (t : List ℕ). HasCode 455 t) (sym text) (refusal_code (Some other.sequence) NotNow (option_of other.head.now))
+    ap (λ (s : Standing). s.text) takes.1 ∙ ap
+    (λ r. refusal_text (Some other.sequence) r (option_of other.head.now)) same in
+    subst (λ (t : List ℕ). HasCode 455 t) (sym text)
+    (refusal_code (Some other.sequence) NotNow (option_of other.head.now))
 
-hears_455 : {lost : Bool} {old : Standing} {message : List ℕ} {request : Request} (ask : Ask) (new : Standing) → lost ≡ false
+hears_455 : {lost : Bool} {old : Standing} {message : List ℕ} {request : Request} (ask : Ask) (new : Standing)
+    → lost ≡ false
     → HasRangeInPlaying old message request → IsElseGood PlayMethod old request
     → HearsOn lost old message ask new → HasCode 455 new.text
 hears_455 {lost = true} ask new linked is good hears = absurd (let no : ⊥ = cc in no)

@@ -4,7 +4,8 @@ use Rattle.std.proofs.lemmas.Fmt.{decimal_injective}
 use Rattle.std.specs.Fmt.{digits}
 use Rattle.rtsp_text.specs.Replies.{Field, reply_front, reply_text, status_line}
 use Rattle.session.specs.declared.asks.Ask.{Ask}
-use Rattle.session.specs.declared.asks.Ask.TheVariants.{Reply, Play as AskPlay, Halt as AskHalt, Look as AskLook, Offer as AskOffer}
+use Rattle.session.specs.declared.asks.Ask.TheVariants.{Reply, Play as AskPlay, Halt as AskHalt, Look as AskLook}
+use Rattle.session.specs.declared.asks.Ask.TheVariants.{Offer as AskOffer}
 use Rattle.session.specs.declared.refusals.Refusal.{Refusal}
 use Rattle.session.specs.declared.refusals.Refusal.TheVariants.{BadRequest, Version, Method}
 use Rattle.session.specs.declared.refusals.Refusal.TheVariants.{Option as Required, Session, Film}
@@ -15,17 +16,21 @@ use Rattle.session.specs.Hearings.{Hears}
 use Rattle.session.specs.Laws.{Is500, IsWanting, MayWantMemory, NeverLacks}
 use Rattle.session.specs.Replies.{code_of, refusal_text}
 use Rattle.session.specs.Standings.{Standing}
-use Rattle.session.proofs.Results.{ComesTo, Lacks, Refuses, Says, SettlesSetup, AsksForPlay, AsksForHalt, AsksForLook, AsksForOffer, comes_to}
+use Rattle.session.proofs.Results.{ComesTo, Lacks, Refuses, Says, SettlesSetup, AsksForPlay, AsksForHalt, AsksForLook}
+use Rattle.session.proofs.Results.{AsksForOffer, comes_to}
 
 -- a reply has one code
 pub one_code : {c d : ℕ} (text : List ℕ) → c < 1000 → d < 1000 → HasCode c text → HasCode d text → c ≡ d
-one_code {c} {d} text small short is its = decimal_injective c d (omega (arith, small)) (omega (arith, short)) (sym is ∙ its)
+one_code {c} {d} text small short is its =
+    decimal_injective c d (omega (arith, small)) (omega (arith, short)) (sym is ∙ its)
 
-ok_code : (sequence : Option ℕ) (fields : List Field) (rest : List ℕ) → HasCode 200 (reply_front 200 sequence fields ++ rest)
+ok_code : (sequence : Option ℕ) (fields : List Field) (rest : List ℕ) → HasCode 200
+    (reply_front 200 sequence fields ++ rest)
 unfolding reply_front status_line digits
 ok_code sequence fields rest = refl
 
-ok_text_code : (sequence : Option ℕ) (fields : List Field) (body : List ℕ) → HasCode 200 (reply_text 200 sequence fields body)
+ok_text_code : (sequence : Option ℕ) (fields : List Field) (body : List ℕ) → HasCode 200
+    (reply_text 200 sequence fields body)
 unfolding reply_text reply_front status_line digits
 ok_text_code sequence fields body = refl
 
@@ -131,7 +136,13 @@ own_code Range =
       memory = λ is. absurd (omega (arith, is));
     }
 own_code Memory =
-    record { small = omega arith; no_overflow = λ is. omega (arith, is); not_full = λ is. omega (arith, is); memory = λ is. refl }
+    record {
+      small = omega arith;
+      no_overflow = λ is. omega (arith, is);
+      not_full = λ is. omega (arith, is);
+      memory =
+          λ is. refl;
+    }
 
 plain : (text : List ℕ) → HasCode 200 text → IsNoRefusal text
 plain text ok = record {
@@ -139,13 +150,16 @@ plain text ok = record {
   not_full = λ is. let same = one_code text (omega arith) (omega arith) ok is in omega (arith, same);
 }
 
-pub ok_plain : (sequence : Option ℕ) (fields : List Field) (body : List ℕ) → IsNoRefusal (reply_text 200 sequence fields body)
+pub ok_plain : (sequence : Option ℕ) (fields : List Field) (body : List ℕ) → IsNoRefusal
+    (reply_text 200 sequence fields body)
 ok_plain sequence fields body = plain (reply_text 200 sequence fields body) (ok_text_code sequence fields body)
 
-plain_front : (sequence : Option ℕ) (fields : List Field) (rest : List ℕ) → IsNoRefusal (reply_front 200 sequence fields ++ rest)
+plain_front : (sequence : Option ℕ) (fields : List Field) (rest : List ℕ) → IsNoRefusal
+    (reply_front 200 sequence fields ++ rest)
 plain_front sequence fields rest = plain (reply_front 200 sequence fields ++ rest) (ok_code sequence fields rest)
 
-refusal_plain : (sequence : Option ℕ) (refusal : Refusal) (option : List ℕ) → IsNoRefusal (refusal_text sequence refusal option)
+refusal_plain : (sequence : Option ℕ) (refusal : Refusal) (option : List ℕ) → IsNoRefusal
+    (refusal_text sequence refusal option)
 refusal_plain sequence refusal option =
     let text = refusal_text sequence refusal option in
     let own = own_code refusal in
@@ -167,7 +181,8 @@ found_text sequence fields body = record {
       omega (arith, same);
 }
 
-found_front : (sequence : Option ℕ) (fields : List Field) (rest : List ℕ) → IsFound (reply_front 200 sequence fields ++ rest)
+found_front : (sequence : Option ℕ) (fields : List Field) (rest : List ℕ) → IsFound
+    (reply_front 200 sequence fields ++ rest)
 found_front sequence fields rest = record {
   found = λ is.
       let text = reply_front 200 sequence fields ++ rest in
@@ -178,7 +193,8 @@ found_front sequence fields rest = record {
 -- what is shown of a reply's text
 of_text : {text : List ℕ} {ask : Ask} (old new : Standing) → ask ≡ Reply → new.text ≡ text → IsNoRefusal text
     → RefusesNone ask new
-of_text {text} {ask} old new reply is refuses = subst (λ a. RefusesNone a new) (sym reply) (subst IsNoRefusal (sym is) refuses)
+of_text {text} {ask} old new reply is refuses =
+    subst (λ a. RefusesNone a new) (sym reply) (subst IsNoRefusal (sym is) refuses)
 
 comes_text : (old new : Standing) (message : List ℕ) (ask : Ask) → ComesTo old message ask new → RefusesNone ask new
 comes_text old new message ask (Lacks may is) =
@@ -189,7 +205,8 @@ comes_text old new message ask (Says sequence fields body tearing by command is)
     of_text old new command (ap (λ (s : Standing). s.text) is) (ok_plain (Some sequence) fields body)
 comes_text old new message ask (SettlesSetup sequence setup init ranges command is) =
     of_text old new command (ap (λ (s : Standing). s.text) is) (ok_plain (Some sequence) _ [])
-comes_text old new message ask (AsksForPlay stored setup paused range planned sequence authority ready planned_is command is) =
+comes_text old new message ask
+    (AsksForPlay stored setup paused range planned sequence authority ready planned_is command is) =
     subst (λ a. RefusesNone a new) (sym command)
     (λ rest. subst (λ (t : List ℕ). IsNoRefusal (t ++ rest)) (sym (ap (λ (s : Standing). s.text) is))
     (plain_front (Some sequence) _ rest))
@@ -197,7 +214,8 @@ comes_text old new message ask (AsksForHalt sequence setup play next playing tol
     subst (λ a. RefusesNone a new) (sym halts.command)
     (subst IsNoRefusal (sym (ap (λ (s : Standing). s.text) halts.state)) (ok_plain (Some sequence) _ []))
 comes_text old new message ask (AsksForLook sequence look) = subst (λ a. RefusesNone a new) (sym look.command) tt
-comes_text old new message ask (AsksForOffer sequence wait planned asks) = subst (λ a. RefusesNone a new) (sym asks.command) tt
+comes_text old new message ask (AsksForOffer sequence wait planned asks) =
+    subst (λ a. RefusesNone a new) (sym asks.command) tt
 
 pub hears_text : (old new : Standing) (message : List ℕ) (ask : Ask) → Hears old message ask new → RefusesNone ask new
 hears_text old new message ask hears = comes_text old new message ask (comes_to old message ask new hears)
@@ -212,10 +230,12 @@ comes_500 old new message (Refuses sequence refusal option other is) code =
     let its = subst (λ (t : List ℕ). HasCode 500 t) (ap (λ (s : Standing). s.text) is.1) code in
     absurd (other (own.memory (one_code text own.small (omega arith) (refusal_code sequence refusal option) its)))
 comes_500 old new message (Says sequence fields body tearing by command is) code =
-    absurd ((subst IsFound (sym (ap (λ (s : Standing). s.text) is)) (found_text (Some sequence) fields body)).found code)
+    absurd ((subst IsFound (sym (ap (λ (s : Standing). s.text) is))
+    (found_text (Some sequence) fields body)).found code)
 comes_500 old new message (SettlesSetup sequence setup init ranges command is) code =
     absurd ((subst IsFound (sym (ap (λ (s : Standing). s.text) is)) (found_text (Some sequence) _ [])).found code)
-comes_500 old new message (AsksForPlay stored setup paused range planned sequence authority ready planned_is command is) code =
+comes_500 old new message
+    (AsksForPlay stored setup paused range planned sequence authority ready planned_is command is) code =
     absurd (let no : ⊥ = cc in no)
 comes_500 old new message (AsksForHalt sequence setup play next playing told by halts) code =
     absurd (let no : ⊥ = cc (halts.command) in no)
@@ -242,10 +262,12 @@ hears_may old new message ask hears code = (hears_wanting old new message ask he
 comes_never : (old new : Standing) (message : List ℕ) (ask : Ask) → ComesTo old message ask new → NeverLacks ask new
 comes_never old new message ask (Lacks may is) = subst (λ a. NeverLacks a new) (sym is.0) tt
 comes_never old new message ask (Refuses sequence refusal option other is) = subst (λ a. NeverLacks a new) (sym is.0) tt
-comes_never old new message ask (Says sequence fields body tearing by command is) = subst (λ a. NeverLacks a new) (sym command) tt
+comes_never old new message ask (Says sequence fields body tearing by command is) =
+    subst (λ a. NeverLacks a new) (sym command) tt
 comes_never old new message ask (SettlesSetup sequence setup init ranges command is) =
     subst (λ a. NeverLacks a new) (sym command) tt
-comes_never old new message ask (AsksForPlay stored setup paused range planned sequence authority ready planned_is command is) =
+comes_never old new message ask
+    (AsksForPlay stored setup paused range planned sequence authority ready planned_is command is) =
     subst (λ a. NeverLacks a new) (sym command)
     (λ rest. (subst (λ (t : List ℕ). IsFound (t ++ rest)) (sym (ap (λ (s : Standing). s.text) is))
     (found_front (Some sequence) _ rest)).found)
@@ -253,7 +275,8 @@ comes_never old new message ask (AsksForHalt sequence setup play next playing to
     subst (λ a. NeverLacks a new) (sym halts.command)
     (subst IsFound (sym (ap (λ (s : Standing). s.text) halts.state)) (found_text (Some sequence) _ [])).found
 comes_never old new message ask (AsksForLook sequence look) = subst (λ a. NeverLacks a new) (sym look.command) tt
-comes_never old new message ask (AsksForOffer sequence wait planned asks) = subst (λ a. NeverLacks a new) (sym asks.command) tt
+comes_never old new message ask (AsksForOffer sequence wait planned asks) =
+    subst (λ a. NeverLacks a new) (sym asks.command) tt
 
 pub hears_never : (old new : Standing) (message : List ℕ) (ask : Ask) → Hears old message ask new → NeverLacks ask new
 hears_never old new message ask hears = comes_never old new message ask (comes_to old message ask new hears)

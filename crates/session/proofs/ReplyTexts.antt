@@ -62,7 +62,8 @@ printed-decimal n small = record {
 pub printed-seconds : (ms : ℕ) → ms < 2 ^ 64 → IsPrinted 81 (seconds_text ms)
 printed-seconds ms small =
     let point : IsPrinted 1 (codes ".") = record { short = omega arith; prints = refl } in
-    printed-append (printed-append (printed-append (printed-append (printed-decimal (ms / 1000) (omega (arith, small))) point)
+    printed-append (printed-append (printed-append
+    (printed-append (printed-decimal (ms / 1000) (omega (arith, small))) point)
     (printed-decimal (ms / 100 % 10) (omega arith)))
     (printed-decimal (ms / 10 % 10) (omega arith)))
     (printed-decimal (ms % 10) (omega arith))
@@ -85,7 +86,8 @@ printed-hex (byte ∷ bytes) are =
       short = omega (arith, rest.short);
       prints = and_from (is_url_byte (get_or lower_digits (byte / 16) 0))
           (list_all is_url_byte (get_or lower_digits (byte % 16) 0 ∷ encode_lower bytes)) high
-          (and_from (is_url_byte (get_or lower_digits (byte % 16) 0)) (list_all is_url_byte (encode_lower bytes)) low rest.prints);
+          (and_from (is_url_byte (get_or lower_digits (byte % 16) 0))
+          (list_all is_url_byte (encode_lower bytes)) low rest.prints);
     }
 
 pub printed-w32 : (n : ℕ) → IsPrinted 8 (encode_lower (to_be_bytes w32 n))
@@ -93,8 +95,16 @@ printed-w32 n = printed-hex (to_be_bytes w32 n) (omega arith, (omega arith, (ome
 
 pub printed-w64 : (n : ℕ) → IsPrinted 16 (encode_lower (to_be_bytes w64 n))
 printed-w64 n =
-    printed-hex (to_be_bytes w64 n)
-    (omega arith, (omega arith, (omega arith, (omega arith, (omega arith, (omega arith, (omega arith, (omega arith, tt))))))))
+    printed-hex (to_be_bytes w64 n) (
+      omega arith,
+      (
+        omega arith,
+        (
+          omega arith,
+          (omega arith, (omega arith, (omega arith, (omega arith, (omega arith, tt))))),
+        ),
+      ),
+    )
 
 -- a text that neither begins nor ends with a blank has none around it
 bare_front : (text : List ℕ) → (0 < length text → is_blank (get_or text 0 0) ≡ false) → without_front_blanks text ≡ text

@@ -9,7 +9,8 @@ use Rattle.rtsp_text.specs.Fields.{first_sequence, header_value}
 use Rattle.rtsp_text.specs.Replies.{Field, reply_text}
 use Rattle.rtsp_text.specs.declared.requests.Request.{Request}
 use Rattle.rtsp_text.specs.declared.requests.RequestFault.{RequestFault}
-use Rattle.rtsp_text.specs.declared.requests.RequestFault.TheVariants.{BadLine, BadVersion, BadHeader, NoSequenceNumber, BadLength}
+use Rattle.rtsp_text.specs.declared.requests.RequestFault.TheVariants.{BadLine, BadVersion, BadHeader, NoSequenceNumber}
+use Rattle.rtsp_text.specs.declared.requests.RequestFault.TheVariants.{BadLength}
 use Rattle.session.specs.declared.asks.Ask.{Ask}
 use Rattle.session.specs.declared.asks.Ask.TheVariants.{Reply, Play as AskPlay}
 use Rattle.session.specs.declared.methods.Topic.{Topic}
@@ -74,7 +75,8 @@ pub data ComesTo (old : Standing) (message : List ℕ) (ask : Ask) (new : Standi
         text = play_front old stored setup planned sequence authority;
       } → ComesTo old message ask new
   AsksForHalt : (sequence : ℕ) (setup : Setup) (play : Played) (next : Next) → old.state ≡ Playing setup play
-      → is_answered next ≡ true → (is_torn next ≡ false) ⊎ IsTeardown message → AsksHalt old sequence setup play next ask new
+      → is_answered next ≡ true → (is_torn next ≡ false) ⊎ IsTeardown message
+      → AsksHalt old sequence setup play next ask new
       → ComesTo old message ask new
   AsksForLook : (sequence : ℕ) → AsksLook old sequence ask new → ComesTo old message ask new
   AsksForOffer : (sequence wait : ℕ) (planned : Planned) → AsksOffer old sequence wait planned ask new
@@ -111,7 +113,8 @@ chosen : {own least most n : ℕ} (value : Option (List ℕ)) → IsChosen value
 chosen {least} {most} None is low high = subst (IsIn least most) (sym is) (record { above = low; below = high })
 chosen (Some value) is low high = record { above = is.above; below = is.below }
 
-setup_ranges : {settings : Settings} {head : List ℕ} {film films : ℕ} {setup : Setup} → AsksForSetup settings head film setup
+setup_ranges : {settings : Settings} {head : List ℕ} {film films : ℕ} {setup : Setup}
+    → AsksForSetup settings head film setup
     → film < films → AreSettings settings → IsSetup films setup
 setup_ranges {head} {film} {films} asks within good =
     let buffer = chosen _ asks.buffer good.some_buffer good.most_buffer in
@@ -167,7 +170,8 @@ module _ (old : Standing) (message : List ℕ) (ask : Ask) (new : Standing) wher
       → IsRefused old (Some sequence) refusal [] ask new → Comes
   refuses sequence refusal number may is =
       elim (is_memory refusal) [
-        | inl memory ↦ lacks sequence number (may memory) (subst (λ r. IsRefused old (Some sequence) r [] ask new) memory is)
+        | inl memory ↦ lacks sequence number (may memory)
+            (subst (λ r. IsRefused old (Some sequence) r [] ask new) memory is)
         | inr other ↦ Refuses (Some sequence) refusal [] other is
       ]
 
@@ -183,7 +187,14 @@ module _ (old : Standing) (message : List ℕ) (ask : Ask) (new : Standing) wher
   looks_to request heard booked (inl look) = AsksForLook request.sequence look
   looks_to request heard booked (inr short) =
       lacks request.sequence heard.number (inr (inr (inr (record {
-        look = record { request = request; linked = heard.linked; is_request = heard.read; method = heard.method; body = booked };
+        look = record {
+          request = request;
+          linked = heard.linked;
+          is_request = heard.read;
+          method = heard.method;
+          body =
+              booked;
+        };
         none = short.later;
       })))) short.refused
 
@@ -206,8 +217,10 @@ module _ (old : Standing) (message : List ℕ) (ask : Ask) (new : Standing) wher
         ready = ready_in setup paused same;
         offer = record { is_request = heard.read; method = heard.method; body = offer };
       })))) offers.offers.asks
-  gets_offer_to (Playing setup play) request heard offer same is = Refuses (Some request.sequence) NotNow [] (λ memory. cc) is
-  gets_offer_to (Stopping setup stop) request heard offer same is = Refuses (Some request.sequence) NotNow [] (λ memory. cc) is
+  gets_offer_to (Playing setup play) request heard offer same is =
+      Refuses (Some request.sequence) NotNow [] (λ memory. cc) is
+  gets_offer_to (Stopping setup stop) request heard offer same is =
+      Refuses (Some request.sequence) NotNow [] (λ memory. cc) is
 
   gets_to : (request : Request) (topic : Topic) → ParameterHeard old message request → IsTopic request.body.now topic
       → Gets old request topic ask new → Comes
@@ -226,19 +239,26 @@ module _ (old : Standing) (message : List ℕ) (ask : Ask) (new : Standing) wher
 
   may_play : PlayHeard old message → MayWantMemory old message
   may_play heard =
-      inr (inl (record { setup = heard.setup; ready = ready_in heard.setup heard.paused heard.ready; play = heard.play }))
+      inr (inl (record {
+        setup = heard.setup;
+        ready = ready_in heard.setup heard.paused heard.ready;
+        play =
+            heard.play;
+      }))
 
   asks_play_to : (heard : PlayHeard old message) (planned : Result Planned Refusal)
       → IsPlanned old heard.setup heard.paused heard.range planned
       → AsksPlayOr old (play_call heard.sequence heard.authority heard.setup) planned ask new → Comes
   asks_play_to heard (Ok planned) is (inl asks) =
       AsksForPlay asks.stored setup paused range planned sequence authority ready
-      (of_film old.films setup.film is.0 (λ s. IsPlannedRun old s setup paused range planned) is.1.at is.1 asks.stored asks.at)
+      (of_film old.films setup.film is.0 (λ s.
+      IsPlannedRun old s setup paused range planned) is.1.at is.1 asks.stored asks.at)
       asks.command asks.state
     where
       open heard use {sequence, authority, setup, paused, range, ready}
   asks_play_to heard (Ok planned) is (inr refused) = lacks heard.sequence heard.number (may_play heard) refused
-  asks_play_to heard (Err refusal) is refused = refuses heard.sequence refusal heard.number (λ memory. may_play heard) refused
+  asks_play_to heard (Err refusal) is refused =
+      refuses heard.sequence refusal heard.number (λ memory. may_play heard) refused
 
   plays_to : (state : State) (request : Request) (authority : List ℕ) → first_sequence message ≡ Some request.sequence
       → IsOfMethod (codes "PLAY") message → old.state ≡ state → Plays state old request authority ask new → Comes
@@ -260,7 +280,8 @@ module _ (old : Standing) (message : List ℕ) (ask : Ask) (new : Standing) wher
   pauses_to : (state : State) (sequence : ℕ) → old.state ≡ state → Pauses state old sequence ask new → Comes
   pauses_to Init sequence same is = absurd is
   pauses_to (Ready setup paused) sequence same is = absurd is
-  pauses_to (Playing setup play) sequence same is = AsksForHalt sequence setup play (Paused is.left) same refl (inl refl) is.asks
+  pauses_to (Playing setup play) sequence same is =
+      AsksForHalt sequence setup play (Paused is.left) same refl (inl refl) is.asks
   pauses_to (Stopping setup stop) sequence same is = absurd is
 
   tears_to : (state : State) (sequence : ℕ) → IsTeardown message → old.state ≡ state
@@ -290,7 +311,13 @@ module _ (old : Standing) (message : List ℕ) (ask : Ask) (new : Standing) wher
       (record { request = request; is_request = read; method_is = judged.talk.spoken.named }) refl takes
   takes_to request (Ok ToGetParameter) linked read number judged takes =
       gets_to request takes.topic
-      (record { linked = linked; read = read; method = judged.talk.spoken.named; number = number }) takes.is_topic takes.gets
+      (record {
+        linked = linked;
+        read = read;
+        method = judged.talk.spoken.named;
+        number =
+            number;
+      }) takes.is_topic takes.gets
   takes_to request (Err refusal) linked read number judged takes =
       elim (is_memory refusal) [
         | inl memory ↦

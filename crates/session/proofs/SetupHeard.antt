@@ -1,5 +1,6 @@
 -- What a SETUP that is heard comes to: it is refused, or the session is Ready with what it asks for.
-use Rattle.std.proofs.Common.{◌≡◌, ℕ, Bool, true, false, List, None, Result, Ok, Err, codes, sym, subst, inl, inr, ap, ◌∙◌, arith, get_or}
+use Rattle.std.proofs.Common.{◌≡◌, ℕ, Bool, true, false, List, None, Result, Ok, Err, codes, sym, subst, inl, inr, ap}
+use Rattle.std.proofs.Common.{◌∙◌, arith, get_or}
 use Rattle.rtsp_text.specs.Requests.{IsRequest}
 use Rattle.rtsp_text.specs.declared.requests.Request.{Request}
 use Rattle.rtsp_text.proofs.Once.{request_once}
@@ -42,7 +43,8 @@ first_byte name = get_or name 0 0
 otherwise : {name : List ℕ} (byte : ℕ) → name ≡ codes "SETUP" → first_byte name ≡ byte → (83 ≡ byte → ⊥) → ⊥
 otherwise byte is first differs = differs (sym (ap first_byte is) ∙ first)
 
-module _ (old : Standing) (message url head : List ℕ) (ask : Ask) (new : Standing) (is : IsSetupRequest message url head) where
+module _ (old : Standing) (message url head : List ℕ) (ask : Ask) (new : Standing)
+    (is : IsSetupRequest message url head) where
   abbrev Heard : Type 0
   Heard = SetupHeard old url head ask new
 

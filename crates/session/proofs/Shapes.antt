@@ -5,7 +5,8 @@ use Rattle.early_start.specs.Offered.{Offers}
 use Rattle.film_run.specs.declared.runs.Run.{Run}
 use Rattle.pacer.specs.Pacings.{next_boundary}
 use Rattle.session.specs.declared.asks.Ask.{Ask}
-use Rattle.session.specs.declared.asks.Ask.TheVariants.{Reply, Play as AskPlay, Halt as AskHalt, Look as AskLook, Offer as AskOffer}
+use Rattle.session.specs.declared.asks.Ask.TheVariants.{Reply, Play as AskPlay, Halt as AskHalt, Look as AskLook}
+use Rattle.session.specs.declared.asks.Ask.TheVariants.{Offer as AskOffer}
 use Rattle.session.specs.declared.states.Awaited.TheVariants.{Play, Halt, Look, Offer}
 use Rattle.session.specs.declared.states.Next.{Next}
 use Rattle.session.specs.declared.states.Play.{Play as Played}
@@ -15,7 +16,8 @@ use Rattle.session.specs.declared.states.State.TheVariants.{Init, Ready, Playing
 use Rattle.session.specs.Hearings.{Hears, is_answered}
 use Rattle.session.specs.Methods.{prepared_of}
 use Rattle.session.specs.Standings.{Standing}
-use Rattle.session.proofs.Results.{ComesTo, Lacks, Refuses, Says, SettlesSetup, AsksForPlay, AsksForHalt, AsksForLook, AsksForOffer, comes_to}
+use Rattle.session.proofs.Results.{ComesTo, Lacks, Refuses, Says, SettlesSetup, AsksForPlay, AsksForHalt, AsksForLook}
+use Rattle.session.proofs.Results.{AsksForOffer, comes_to}
 
 -- what was asked of the station, and the session then
 pub data HearsAs (old : Standing) (ask : Ask) (new : Standing) : Type 0 where
@@ -23,7 +25,8 @@ pub data HearsAs (old : Standing) (ask : Ask) (new : Standing) : Type 0 where
       → new ≡ record old { text = text; waits = true; tearing = tearing } → HearsAs old ask new
   SetsUp : (text : List ℕ) (setup : Setup) → old.state ≡ Init → ask ≡ Reply
       → new ≡ record old { text = text; waits = true; state = Ready setup None } → HearsAs old ask new
-  AsksPlay : (setup : Setup) (paused : Option Run) (prepared : Prepared) (text : List ℕ) → old.state ≡ Ready setup paused
+  AsksPlay : (setup : Setup) (paused : Option Run) (prepared : Prepared) (text : List ℕ)
+      → old.state ≡ Ready setup paused
       → ask ≡ AskPlay prepared.plan → new ≡ record old { awaited = Play prepared; text = text } → HearsAs old ask new
   Stops : (setup : Setup) (play : Played) (keep : ℕ) (next : Next) (text : List ℕ) → old.state ≡ Playing setup play
       → is_answered next ≡ true → keep ≡ next_boundary play.pacer → ask ≡ AskHalt keep
@@ -39,12 +42,14 @@ pub data HearsAs (old : Standing) (ask : Ask) (new : Standing) : Type 0 where
       → new ≡ record old { awaited = Offer sequence }
       → HearsAs old ask new
 
-comes_as : (old : Standing) (message : List ℕ) (ask : Ask) (new : Standing) → ComesTo old message ask new → HearsAs old ask new
+comes_as : (old : Standing) (message : List ℕ) (ask : Ask) (new : Standing) → ComesTo old message ask new
+    → HearsAs old ask new
 comes_as old message ask new (Lacks may is) = Replies _ old.tearing is.0 is.1
 comes_as old message ask new (Refuses sequence refusal option other is) = Replies _ old.tearing is.0 is.1
 comes_as old message ask new (Says sequence fields body tearing by command is) = Replies _ tearing command is
 comes_as old message ask new (SettlesSetup sequence setup init ranges command is) = SetsUp _ setup init command is
-comes_as old message ask new (AsksForPlay stored setup paused range planned sequence authority ready planned_is command is) =
+comes_as old message ask new
+    (AsksForPlay stored setup paused range planned sequence authority ready planned_is command is) =
     AsksPlay setup paused (prepared_of old stored setup planned sequence) _ ready command is
 comes_as old message ask new (AsksForHalt sequence setup play next playing told by halts) =
     Stops setup play halts.keep next _ playing told halts.keep_is halts.command halts.state
@@ -52,5 +57,6 @@ comes_as old message ask new (AsksForLook sequence look) = AsksLook _ sequence l
 comes_as old message ask new (AsksForOffer sequence wait planned asks) =
     AsksOffer planned.plan asks.offers sequence asks.command asks.state
 
-pub hears_as : (old : Standing) (message : List ℕ) (ask : Ask) (new : Standing) → Hears old message ask new → HearsAs old ask new
+pub hears_as : (old : Standing) (message : List ℕ) (ask : Ask) (new : Standing) → Hears old message ask new
+    → HearsAs old ask new
 hears_as old message ask new hears = comes_as old message ask new (comes_to old message ask new hears)

@@ -85,7 +85,8 @@ heard_of false standing = refl
 
 slot_heard : (taken sending : Bool) (old : Standing) (slot : ℕ) → taken ≡ true
     → (cond taken (cond sending (after_play (sent_slot old slot)) (record old { heard = slot })) old).heard ≡ slot
-slot_heard true true old slot is = heard_of (old.waits && is_between (stepped_in true slot old.state)) (sent_due old slot)
+slot_heard true true old slot is =
+    heard_of (old.waits && is_between (stepped_in true slot old.state)) (sent_due old slot)
 slot_heard true false old slot is = refl
 slot_heard false sending old slot is = absurd (let no : ⊥ = cc in no)
 
@@ -104,7 +105,8 @@ later_slot old slot later most =
 
 not_taken : (old : Standing) (slot : ℕ) → is_taken old slot ≡ false → after_slot old slot ≡ old
 not_taken old slot is =
-    ap (λ b. cond b (cond (is_sending old.state) (after_play (sent_slot old slot)) (record old { heard = slot })) old) is
+    ap (λ b. cond b (cond (is_sending old.state) (after_play (sent_slot old slot))
+    (record old { heard = slot })) old) is
 
 pub past_slot : (old : Standing) (slot : ℕ) → slot ≤ old.heard → after_slot old slot ≡ old
 past_slot old slot past = not_taken old slot (past_taken old.heard slot past)
@@ -120,7 +122,8 @@ is_whole passed sent keep some same = grind (arith, nat_tests)
 is_short : (passed sent keep : ℕ) → sent < keep → (ltb 0 passed && eqb sent keep) ≡ false
 is_short passed sent keep less = grind (arith, nat_tests)
 
-pub play_done : (old : Standing) (setup : Setup) (play : Played) → old.state ≡ Playing setup play → 0 < play.pacer.passed
+pub play_done : (old : Standing) (setup : Setup) (play : Played) → old.state ≡ Playing setup play
+    → 0 < play.pacer.passed
     → play.pacer.sent ≡ play.pacer.keep → awaited_answer (after_play old) ≡ HaltAnswer play.pacer.keep
 play_done old setup play playing some same =
     ap (λ s. awaited_answer_of (finished_in s old.awaited)) playing
@@ -133,4 +136,5 @@ pub play_goes : (old : Standing) (setup : Setup) (play : Played) → old.state �
     → after_play old ≡ old
 play_goes old setup play playing less =
     ap (λ a. record old { awaited = a }) (ap (λ s. finished_in s old.awaited) playing
-    ∙ ap (λ b. cond b (Halt play.pacer.sent Done) old.awaited) (is_short play.pacer.passed play.pacer.sent play.pacer.keep less))
+    ∙ ap (λ b. cond b (Halt play.pacer.sent Done) old.awaited)
+    (is_short play.pacer.passed play.pacer.sent play.pacer.keep less))

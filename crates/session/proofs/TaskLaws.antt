@@ -6,7 +6,8 @@ use Rattle.session.specs.Standings.{has_session_in}
 use Rattle.session.specs.Tasks.{IsAsked, IsTask, IsValid, NeedsSession}
 use Rattle.session.specs.Judging.{IsOnFilm, IsOwnTalk, IsTaken, IsTimely, task_for}
 use Rattle.session.specs.declared.methods.Method.{Method}
-use Rattle.session.specs.declared.methods.Method.TheVariants.{Options, Describe, Setup, Play, Pause, Teardown, GetParameter}
+use Rattle.session.specs.declared.methods.Method.TheVariants.{Options, Describe, Setup, Play, Pause, Teardown}
+use Rattle.session.specs.declared.methods.Method.TheVariants.{GetParameter}
 use Rattle.session.specs.declared.refusals.Asked.{Asked}
 use Rattle.session.specs.declared.states.State.{State as Stage}
 

@@ -47,7 +47,8 @@ use Rattle.session.specs.Hearings.{after_admission, after_full, after_look, afte
 use Rattle.session.specs.Methods.{Describes, IsSetUp, first_number, play_front}
 use Rattle.session.specs.PublicLaws.{IsPublicTold}
 use Rattle.session.specs.declared.states.State.TheVariants.{Ready}
-use Rattle.session.specs.Replies.{code_of, describe_text, field, joined_parts, look_body, play_fields, public_text, transport_value}
+use Rattle.session.specs.Replies.{code_of, describe_text, field, joined_parts, look_body, play_fields, public_text}
+use Rattle.session.specs.Replies.{transport_value}
 use Rattle.session.specs.Standings.{Standing, sequence_of}
 use Rattle.std.specs.Int.{w32, to_be_bytes}
 use Rattle.hex.specs.Hex.{encode_lower}
@@ -89,7 +90,8 @@ no_dash-decimal n small = all_other is_ascii_digit 45 refl (decimal n) (digits_d
 
 no_dash-seconds : (ms : ℕ) → ms < 10 ^ 12 → list_all (λ x. not (x == 45)) (seconds_text ms) ≡ true
 no_dash-seconds ms small =
-    no_dash-append (decimal (ms / 1000) ++ codes "." ++ decimal (ms / 100 % 10) ++ decimal (ms / 10 % 10)) (decimal (ms % 10))
+    no_dash-append (decimal (ms / 1000) ++ codes "." ++ decimal (ms / 100 % 10) ++ decimal (ms / 10 % 10))
+    (decimal (ms % 10))
     (no_dash-append (decimal (ms / 1000) ++ codes "." ++ decimal (ms / 100 % 10)) (decimal (ms / 10 % 10))
     (no_dash-append (decimal (ms / 1000) ++ codes ".") (decimal (ms / 100 % 10))
     (no_dash-append (decimal (ms / 1000)) (codes ".") (no_dash-decimal (ms / 1000) (omega (arith, small))) refl)
@@ -114,7 +116,8 @@ range_read {s} {e} {from} {to} free first last =
     let at : ℕ = 4 + length s in
     let front : slice_range text 4 (4 + length s) ≡ s = take_at s (45 ∷ e) (4 + length s - 4) (omega arith) in
     let whole : text ≡ (codes "npt=" ++ s ++ codes "-") ++ e =
-    ap (λ l. codes "npt=" ++ l) (sym (append_assoc s (codes "-") e)) ∙ sym (append_assoc (codes "npt=") (s ++ codes "-") e)
+    ap (λ l. codes "npt=" ++ l) (sym (append_assoc s (codes "-") e)) ∙ sym
+    (append_assoc (codes "npt=") (s ++ codes "-") e)
     ∙ ap (λ l. l ++ e) (sym (append_assoc (codes "npt=") s (codes "-"))) in
     let long : length (codes "npt=" ++ s ++ codes "-") ≡ 4 + length s + 1 =
     omega (arith, length-append (codes "npt=" ++ s) (codes "-"), length-append (codes "npt=") s) in
@@ -144,10 +147,12 @@ range_read {s} {e} {from} {to} free first last =
       to = subst (λ (t : List ℕ). IsTime t to) (sym rest) last;
     }
 
-pub span_told : (film : Film) (first end : ℕ) → milliseconds_at film first < 10 ^ 12 → milliseconds_at film end < 10 ^ 12
+pub span_told : (film : Film) (first end : ℕ) → milliseconds_at film first < 10 ^ 12
+    → milliseconds_at film end < 10 ^ 12
     → TellsSpan film first end
     (joined_parts
-    (codes "npt=" ∷ seconds_text (milliseconds_at film first) ∷ codes "-" ∷ seconds_text (milliseconds_at film end) ∷ []))
+    (codes "npt=" ∷ seconds_text (milliseconds_at film first) ∷ codes "-" ∷ seconds_text
+    (milliseconds_at film end) ∷ []))
 span_told film first end small short =
     let s = seconds_text (milliseconds_at film first) in
     let e = seconds_text (milliseconds_at film end) in
@@ -159,7 +164,11 @@ span_told film first end small short =
       from_is = ticks_360 (first * picture_time film.rate);
       to_is = ticks_360 (end * picture_time film.rate);
       read = subst (λ (t : List ℕ). IsSpan t
-          (record { from = At (milliseconds_at film first * 1000000); to = Some (milliseconds_at film end * 1000000) })) same
+          (record {
+            from = At (milliseconds_at film first * 1000000);
+            to = Some
+                (milliseconds_at film end * 1000000);
+          })) same
           (range_read (no_dash-seconds (milliseconds_at film first) small)
           (seconds_read (milliseconds_at film first) small) (seconds_read (milliseconds_at film end) short));
     }
@@ -235,7 +244,8 @@ film_url authority name tail is good is_tail =
               ends = λ inside.
                   get_or-append_right (codes "rtsp://") (authority ++ path) 7 (7 + length authority) 0 refl (omega arith)
                   ∙ get_or-append_right authority path (length authority) (7 + length authority - 7) 0 refl (omega arith)
-                  ∙ ap (λ k. get_or path k 0) (let none : 7 + length authority - 7 - length authority ≡ 0 = omega arith in none);
+                  ∙ ap (λ k. get_or path k 0) (let none : 7 + length authority - 7 - length authority ≡ 0 =
+              omega arith in none);
             };
           });
       authority_is = sym (take_at authority path (7 + length authority - 7) (omega arith));
@@ -253,10 +263,12 @@ few_ms units unit time within few brief =
     let small : unit * time / 360 * 360 ≤ unit * time = div-mul-le_self (unit * time) 360 in
     omega (arith, most, small)
 
-info_told : {stored : Stored} {authority : List ℕ} (old : Standing) (setup : Setup) (planned : Planned) → IsAuthority authority
+info_told : {stored : Stored} {authority : List ℕ} (old : Standing) (setup : Setup) (planned : Planned)
+    → IsAuthority authority
     → is_good_name (string_bytes stored.name) ≡ true
     → TellsInfo stored old.source authority
-    (planned.counts.frames + frames_before (sending_of stored.film old.source setup planned.counts planned.run) planned.run.sent)
+    (planned.counts.frames + frames_before
+    (sending_of stored.film old.source setup planned.counts planned.run) planned.run.sent)
     planned.run.from_unit
     (joined_parts (codes "url=rtsp://" ∷ authority ∷ codes "/" ∷ string_bytes stored.name ∷ codes "/video;seq="
     ∷ decimal (first_number old stored setup planned) ∷ codes ";rtptime="
@@ -286,7 +298,8 @@ info_told {stored} {authority} old setup planned is good =
 
     value : (a n q t : List ℕ)
         → joined_parts (codes "url=rtsp://" ∷ a ∷ codes "/" ∷ n ∷ codes "/video;seq=" ∷ q ∷ codes ";rtptime=" ∷ t ∷ [])
-        ≡ codes "url=" ++ (codes "rtsp://" ++ (a ++ (47 ∷ n ++ codes "/video"))) ++ codes ";seq=" ++ q ++ codes ";rtptime=" ++ t
+        ≡ codes "url=" ++ (codes "rtsp://" ++
+        (a ++ (47 ∷ n ++ codes "/video"))) ++ codes ";seq=" ++ q ++ codes ";rtptime=" ++ t
     value a n q t =
         let x = codes ";rtptime=" ++ t in
         let y = codes ";seq=" ++ (q ++ x) in
@@ -301,7 +314,8 @@ info_told {stored} {authority} old setup planned is good =
         ++ (a ++ (47 ∷ (n ++ (codes "/video;seq=" ++ (q ++ (codes ";rtptime=" ++ l))))))) (append-nil t)
         ∙ sym inner ∙ sym right
 
-pub play_told : (old : Standing) (stored : Stored) (setup : Setup) (planned : Planned) (sequence : ℕ) {authority : List ℕ}
+pub play_told : (old : Standing) (stored : Stored) (setup : Setup) (planned : Planned)
+    (sequence : ℕ) {authority : List ℕ}
     → IsTellable old stored setup planned authority
     → IsPlayTold old stored setup planned sequence authority (play_front old stored setup planned sequence authority)
 unfolding value_named
@@ -318,15 +332,18 @@ play_told old stored setup planned sequence {authority} is =
       text_is = refl;
       told = record {
         session = refl;
-        range = joined_parts (codes "npt=" ∷ seconds_text (milliseconds_at stored.film planned.run.from_unit) ∷ codes "-"
+        range = joined_parts (codes "npt=" ∷ seconds_text
+            (milliseconds_at stored.film planned.run.from_unit) ∷ codes "-"
             ∷ seconds_text (milliseconds_at stored.film planned.run.end_unit) ∷ []);
         range_is = refl;
         span = span_told stored.film planned.run.from_unit planned.run.end_unit
             (few_ms 4194304 planned.run.from_unit (picture_time stored.film.rate)
-            (let rest = run_is.rest in let within = run_is.within in omega (arith, rest, within, few)) (omega arith) brief)
+            (let rest = run_is.rest in let within = run_is.within in omega (arith, rest, within, few))
+            (omega arith) brief)
             (few_ms 4194304 planned.run.end_unit (picture_time stored.film.rate)
             (let within = run_is.within in omega (arith, within, few)) (omega arith) brief);
-        info = joined_parts (codes "url=rtsp://" ∷ authority ∷ codes "/" ∷ string_bytes stored.name ∷ codes "/video;seq="
+        info = joined_parts
+            (codes "url=rtsp://" ∷ authority ∷ codes "/" ∷ string_bytes stored.name ∷ codes "/video;seq="
             ∷ decimal (first_number old stored setup planned) ∷ codes ";rtptime="
             ∷ decimal (timestamp_at stored.film old.source planned.run.from_unit) ∷ []);
         info_is = refl;
@@ -360,7 +377,8 @@ film_text {url} {authority} {asked} {film} sequence name read good short =
     }
   where
     base_is : (a n : List ℕ)
-        → codes "rtsp://" ++ (a ++ (47 ∷ n ++ codes "/")) ≡ joined_parts (codes "rtsp://" ∷ a ∷ codes "/" ∷ n ∷ codes "/" ∷ [])
+        → codes "rtsp://" ++ (a ++ (47 ∷ n ++ codes "/")) ≡ joined_parts
+        (codes "rtsp://" ∷ a ∷ codes "/" ∷ n ∷ codes "/" ∷ [])
     base_is a n = refl
 
 pub film_told : {old new : Standing} {sequence number : ℕ} {url authority : List ℕ} {asked : Option (List ℕ)}
@@ -400,7 +418,8 @@ setup_told old new sequence setup counts is = record {
   text_is = ap (λ (s : Standing). s.text) is.1;
   session = refl;
   transport_is = refl;
-  value_is = ap (λ l. codes "RTP/AVP/TCP;unicast;interleaved=" ++ (decimal setup.media ++ (codes "-" ++ (decimal setup.control
+  value_is =
+      ap (λ l. codes "RTP/AVP/TCP;unicast;interleaved=" ++ (decimal setup.media ++ (codes "-" ++ (decimal setup.control
       ++ (codes ";ssrc=" ++ l))))) (append-nil (encode_lower (to_be_bytes w32 old.source.ssrc)));
 }
 
@@ -436,9 +455,11 @@ look_lines n a b =
     let slot : (codes "x-Slot" ++ (codes ": " ++ (a ++ codes "\r\n"))) ++ last
     ≡ codes "x-Slot: " ++ (a ++ (codes "\r\n" ++ last)) =
     ap (λ l. codes "x-Slot: " ++ l) (append_assoc a (codes "\r\n") last) in
-    let now : (codes "x-Now" ++ (codes ": " ++ (n ++ codes "\r\n"))) ++ (codes "x-Slot: " ++ (a ++ (codes "\r\n" ++ last)))
+    let now : (codes "x-Now" ++ (codes ": " ++ (n ++ codes "\r\n"))) ++
+    (codes "x-Slot: " ++ (a ++ (codes "\r\n" ++ last)))
     ≡ codes "x-Now: " ++ (n ++ (codes "\r\n" ++ (codes "x-Slot: " ++ (a ++ (codes "\r\n" ++ last))))) =
-    ap (λ l. codes "x-Now: " ++ l) (append_assoc n (codes "\r\n") (codes "x-Slot: " ++ (a ++ (codes "\r\n" ++ last)))) in
+    ap (λ l. codes "x-Now: " ++ l) (append_assoc n (codes "\r\n")
+    (codes "x-Slot: " ++ (a ++ (codes "\r\n" ++ last)))) in
     sym (ap (λ l. (codes "x-Now" ++ (codes ": " ++ (n ++ codes "\r\n"))) ++ l) slot ∙ now)
 
 pub look_told : (old : Standing) (place now at booked : ℕ)
@@ -466,6 +487,7 @@ public_told sequence = record {
 }
 
 -- the state after a SETUP
-pub setup_ready : (old new : Standing) (sequence : ℕ) (setup : Setup) (ask : Ask) → IsSetUp old sequence (Ok setup) ask new
+pub setup_ready : (old new : Standing) (sequence : ℕ) (setup : Setup) (ask : Ask) → IsSetUp old sequence
+    (Ok setup) ask new
     → new.state ≡ Ready setup None
 setup_ready old new sequence setup ask is = ap (λ (s : Standing). s.state) is.1

@@ -1,7 +1,9 @@
 -- Each reply of a session is a whole message.
 use Rattle.std.proofs.Common.{◌≡◌, ℕ, ◌+◌, ◌-◌, ◌*◌, ◌^◌, ◌<◌, ◌≤◌, ◌&&◌, ◌==◌, Bool, true, false, not, suc, zero}
-use Rattle.std.proofs.Common.{nat_lt, nat_le, List, [], ◌∷◌, ◌++◌, All, codes, cond, decimal, eqb, flat_map, get_or, le_refl, length}
-use Rattle.std.proofs.Common.{slice_index, string_bytes, sum, drop, Option, Some, None, Result, Ok, Err, refl, sym, ap, subst}
+use Rattle.std.proofs.Common.{nat_lt, nat_le, List, [], ◌∷◌, ◌++◌, All, codes, cond, decimal, eqb, flat_map, get_or}
+use Rattle.std.proofs.Common.{le_refl, length}
+use Rattle.std.proofs.Common.{slice_index, string_bytes, sum, drop, Option, Some, None, Result, Ok, Err, refl, sym, ap}
+use Rattle.std.proofs.Common.{subst}
 use Rattle.std.proofs.Common.{◌∙◌, arith, inl, inr}
 use Rattle.std.specs.Prelude.{IfSome}
 use Rattle.std.specs.List.{list_all}
@@ -41,7 +43,8 @@ use Rattle.rtsp_text.specs.Replies.{Field, field_line, is_code, phrase, reply_fr
 use Rattle.rtsp_text.specs.Spelled.{HasGivenLength}
 use Rattle.rtsp_text.specs.declared.requests.Request.{Request}
 use Rattle.rtsp_text.specs.declared.requests.RequestFault.{RequestFault}
-use Rattle.rtsp_text.specs.declared.requests.RequestFault.TheVariants.{BadLine, BadVersion, BadHeader, NoSequenceNumber, BadLength}
+use Rattle.rtsp_text.specs.declared.requests.RequestFault.TheVariants.{BadLine, BadVersion, BadHeader, NoSequenceNumber}
+use Rattle.rtsp_text.specs.declared.requests.RequestFault.TheVariants.{BadLength}
 use Rattle.rtsp_text.proofs.Bounds.{read_url}
 use Rattle.rtsp_text.proofs.FirstField.{first_tells, number_tells}
 use Rattle.rtsp_text.proofs.Inside.{value_inside}
@@ -77,12 +80,14 @@ use Rattle.session.specs.declared.states.State.TheVariants.{Init, Ready, Playing
 use Rattle.session.specs.Films.{IsFilmAt, length_ms, milliseconds_at, timestamp_at}
 use Rattle.session.specs.Hearings.{Hears, HearsOn, after_offer, new_standing, started_text}
 use Rattle.session.specs.Judging.{IsJudged, IsReadAs, fault_refusal, first_of, option_of, or_nothing}
-use Rattle.session.specs.Methods.{AsksHalt, AsksOfferOr, AsksPlay, AsksPlayOr, Ends, Gets, GetsOffer, IsRefused, IsReplied}
+use Rattle.session.specs.Methods.{AsksHalt, AsksOfferOr, AsksPlay, AsksPlayOr, Ends, Gets, GetsOffer, IsRefused}
+use Rattle.session.specs.Methods.{IsReplied}
 use Rattle.session.specs.Methods.{IsSetUp, Looks, Pauses, PlayCall, Plays, Takes, TearsDown, first_number, play_call}
 use Rattle.session.specs.Planning.{IsPlanned, IsPlannedRun}
 use Rattle.session.specs.Playing.{curve_refusal, playback_of, run_of}
 use Rattle.session.specs.Ranges.{AreFilms}
-use Rattle.session.specs.Replies.{code_of, describe_text, field, full_text, joined_parts, look_body, offer_body, over_line}
+use Rattle.session.specs.Replies.{code_of, describe_text, field, full_text, joined_parts, look_body, offer_body}
+use Rattle.session.specs.Replies.{over_line}
 use Rattle.session.specs.Replies.{overflow_text, parameters_text, plain_text, play_fields, public_text, refusal_fields}
 use Rattle.session.specs.Replies.{refusal_text, session_text, setup_text, start_line, start_text, transport_value}
 use Rattle.session.specs.Setups.{AreChannelsOf, IsSetupRead}
@@ -93,7 +98,8 @@ use Rattle.session.proofs.OneReading.{first_sequence_is}
 use Rattle.session.proofs.ReplyTexts.{AreWritten, IsPrinted, bare_between, plain-more, printed-append, printed-decimal}
 use Rattle.session.proofs.ReplyTexts.{printed-nil, printed-seconds, printed-w32, printed-w64, whole_of, written-more}
 use Rattle.session.proofs.ReplyTexts.{written-nil, written-within}
-use Rattle.session.proofs.Shapes.{AsksLook, AsksOffer, AsksPlay as AsksForPlay, HearsAs, Replies, SetsUp, Stops, hears_as}
+use Rattle.session.proofs.Shapes.{AsksLook, AsksOffer, AsksPlay as AsksForPlay, HearsAs, Replies, SetsUp, Stops}
+use Rattle.session.proofs.Shapes.{hears_as}
 use Rattle.session.proofs.Tellings.{authority_of, few_ms}
 
 -- how long parts are in all
@@ -108,18 +114,24 @@ length-joined (part ∷ parts) = omega (arith, length-append part (joined_parts 
 short-decimal : (n : ℕ) → n < 2 ^ 64 → length (decimal n) ≤ 20
 short-decimal n small = (printed-decimal n small).short
 
--- a reply of 200
-says_whole : {sequence : ℕ} {fields : List Field} (body : List ℕ) → sequence < 2 ^ 64 → AreWritten 16256 fields
-    → HasGivenLength fields body → length body ≤ 65536 → IsMessage (reply_text 200 (Some sequence) fields body)
-says_whole {sequence} {fields} body number written given small =
-    whole_of (record { code = 200; sequence = Some sequence; fields = fields; body = body }) (record {
-      known = refl;
-      phrase_short = omega arith;
+-- a reply of this code
+coded_whole : {sequence : ℕ} {fields : List Field} (code : ℕ) (body : List ℕ) → is_code code ≡ true → length
+    (phrase code) ≤ 30
+    → sequence < 2 ^ 64 → AreWritten 16256 fields → HasGivenLength fields body → length body ≤ 65536
+    → IsMessage (reply_text code (Some sequence) fields body)
+coded_whole {sequence} {fields} code body known short number written given small =
+    whole_of (record { code = code; sequence = Some sequence; fields = fields; body = body }) (record {
+      known = known;
+      phrase_short = short;
       number = number;
       written = written;
       given = given;
       small = small;
     })
+
+says_whole : {sequence : ℕ} {fields : List Field} (body : List ℕ) → sequence < 2 ^ 64 → AreWritten 16256 fields
+    → HasGivenLength fields body → length body ≤ 65536 → IsMessage (reply_text 200 (Some sequence) fields body)
+says_whole body number written given small = coded_whole 200 body refl (omega arith) number written given small
 
 public_whole : (sequence : ℕ) → sequence < 2 ^ 64 → IsMessage (public_text sequence)
 unfolding value_named
@@ -129,10 +141,12 @@ public_whole sequence number =
     says_whole [] number (written-within (omega arith)
     (plain-more (record { name_is = refl; one_line = refl; bare = refl }) most written-nil)) refl (omega arith)
 
-session_whole : (sequence : ℕ) (id : List ℕ) → sequence < 2 ^ 64 → IsPrinted 16 id → IsMessage (session_text sequence id)
+session_whole : (sequence : ℕ) (id : List ℕ) → sequence < 2 ^ 64 → IsPrinted 16 id → IsMessage
+    (session_text sequence id)
 unfolding value_named
 session_whole sequence id number printed =
-    says_whole [] number (written-within (omega arith) (written-more (codes "Session") refl printed written-nil)) refl (omega arith)
+    says_whole [] number (written-within (omega arith) (written-more (codes "Session") refl printed written-nil)) refl
+    (omega arith)
 
 plain_whole : (sequence : ℕ) → sequence < 2 ^ 64 → IsMessage (plain_text sequence)
 unfolding value_named
@@ -153,12 +167,14 @@ setup_whole : (sequence media control ssrc : ℕ) (id : List ℕ) → sequence <
     → IsPrinted 16 id → IsMessage (setup_text sequence media control ssrc id)
 unfolding value_named
 setup_whole sequence media control ssrc id number first second printed =
-    let front : IsPrinted 32 (codes "RTP/AVP/TCP;unicast;interleaved=") = record { short = omega arith; prints = refl } in
+    let front : IsPrinted 32 (codes "RTP/AVP/TCP;unicast;interleaved=") =
+    record { short = omega arith; prints = refl } in
     let dash : IsPrinted 1 (codes "-") = record { short = omega arith; prints = refl } in
     let source : IsPrinted 6 (codes ";ssrc=") = record { short = omega arith; prints = refl } in
     let transport : IsPrinted 87 (transport_value media control ssrc) =
     printed-append front (printed-append (printed-decimal media first) (printed-append dash
-    (printed-append (printed-decimal control second) (printed-append source (printed-append (printed-w32 ssrc) printed-nil))))) in
+    (printed-append (printed-decimal control second)
+    (printed-append source (printed-append (printed-w32 ssrc) printed-nil))))) in
     says_whole [] number (written-within (omega arith) (written-more (codes "Transport") refl transport
     (written-more (codes "Session") refl printed written-nil))) refl (omega arith)
 
@@ -180,7 +196,8 @@ good_at films number stored are at =
     (All-get_or IsGood films number stored (slice_get_within films number stored at) are.good)
 
 -- a picture takes at most a second
-brief_at : (times : List ℕ) (k : ℕ) → list_all (λ time. nat_le time 360000) times ≡ true → get_or times k 360000 ≤ 360000
+brief_at : (times : List ℕ) (k : ℕ) → list_all (λ time. nat_le time 360000) times ≡ true
+    → get_or times k 360000 ≤ 360000
 brief_at [] k all = le_refl 360000
 brief_at (time ∷ times) zero all =
     leb-true time 360000 (and_parts (nat_le time 360000) (list_all (λ t. nat_le t 360000) times) all).0
@@ -255,31 +272,38 @@ record IsRefusing (refusal : Refusal) (option : List ℕ) : Type 0 where
   written : AreWritten 16256 (refusal_fields refusal option)
   given : HasGivenLength (refusal_fields refusal option) []
 
+says_nothing : (refusal : Refusal) (option : List ℕ) → is_code (code_of refusal) ≡ true
+    → length (phrase (code_of refusal)) ≤ 30 → refusal_fields refusal option ≡ [] → IsRefusing refusal option
+unfolding value_named
+says_nothing refusal option known short none = record {
+  known = known;
+  phrase_short = short;
+  written = subst (AreWritten 16256) (sym none) (written-within (omega arith) written-nil);
+  given = subst (λ (fields : List Field). HasGivenLength fields []) (sym none) refl;
+}
+
 refusing : (refusal : Refusal) (option : List ℕ) → IsRepeated option → HasFitLeast refusal → IsRefusing refusal option
 unfolding value_named
-refusing BadRequest option repeats fits =
-    record { known = refl; phrase_short = omega arith; written = written-within (omega arith) written-nil; given = refl }
-refusing Version option repeats fits =
-    record { known = refl; phrase_short = omega arith; written = written-within (omega arith) written-nil; given = refl }
-refusing Method option repeats fits =
-    record { known = refl; phrase_short = omega arith; written = written-within (omega arith) written-nil; given = refl }
+refusing BadRequest option repeats fits = says_nothing BadRequest option refl (omega arith) refl
+refusing Version option repeats fits = says_nothing Version option refl (omega arith) refl
+refusing Method option repeats fits = says_nothing Method option refl (omega arith) refl
 refusing Required option repeats fits = record {
   known = refl;
   phrase_short = omega arith;
   written = written-within (omega arith)
-      (plain-more (record { name_is = refl; one_line = repeats.one_line; bare = repeats.bare }) repeats.short written-nil);
+      (plain-more (record {
+        name_is = refl;
+        one_line = repeats.one_line;
+        bare =
+            repeats.bare;
+      }) repeats.short written-nil);
   given = refl;
 }
-refusing Session option repeats fits =
-    record { known = refl; phrase_short = omega arith; written = written-within (omega arith) written-nil; given = refl }
-refusing NoFilm option repeats fits =
-    record { known = refl; phrase_short = omega arith; written = written-within (omega arith) written-nil; given = refl }
-refusing NotNow option repeats fits =
-    record { known = refl; phrase_short = omega arith; written = written-within (omega arith) written-nil; given = refl }
-refusing Transport option repeats fits =
-    record { known = refl; phrase_short = omega arith; written = written-within (omega arith) written-nil; given = refl }
-refusing Parameter option repeats fits =
-    record { known = refl; phrase_short = omega arith; written = written-within (omega arith) written-nil; given = refl }
+refusing Session option repeats fits = says_nothing Session option refl (omega arith) refl
+refusing NoFilm option repeats fits = says_nothing NoFilm option refl (omega arith) refl
+refusing NotNow option repeats fits = says_nothing NotNow option refl (omega arith) refl
+refusing Transport option repeats fits = says_nothing Transport option refl (omega arith) refl
+refusing Parameter option repeats fits = says_nothing Parameter option refl (omega arith) refl
 refusing (Buffer least) option repeats fits = record {
   known = refl;
   phrase_short = omega arith;
@@ -287,10 +311,8 @@ refusing (Buffer least) option repeats fits = record {
       (written-more (codes "x-Least-Buffer") refl (printed-decimal least (fits least refl)) written-nil);
   given = refl;
 }
-refusing Range option repeats fits =
-    record { known = refl; phrase_short = omega arith; written = written-within (omega arith) written-nil; given = refl }
-refusing Memory option repeats fits =
-    record { known = refl; phrase_short = omega arith; written = written-within (omega arith) written-nil; given = refl }
+refusing Range option repeats fits = says_nothing Range option refl (omega arith) refl
+refusing Memory option repeats fits = says_nothing Memory option refl (omega arith) refl
 
 refusal_whole : (sequence : Option ℕ) (refusal : Refusal) (option : List ℕ) → IfSome sequence (λ n. n < 2 ^ 64)
     → IsRepeated option → HasFitLeast refusal → IsMessage (refusal_text sequence refusal option)
@@ -377,7 +399,14 @@ curves_fit stored run timing (Fault (TooManySlots slots)) none least same = absu
 curves_fit stored run timing (Fault (BufferTooSmall slot used own)) none least same =
     let is : own ≡ least = cc in
     let reached = none.2.reached in
-    omega (arith, is, reached.2, used_fits (rest_sizes (stored_sizes stored) run) timing reached.0, rest_fits stored run)
+    omega (
+      arith,
+      is,
+      reached.2,
+      used_fits (rest_sizes
+          (stored_sizes stored) run) timing reached.0,
+      rest_fits stored run,
+    )
 curves_fit stored run timing NoMemory none least same = absurd (let no : ⊥ = cc in no)
 
 planned_fits : (old : Standing) (setup : Setup) (paused : Option Run) (range : Option (List ℕ)) (refusal : Refusal)
@@ -449,14 +478,7 @@ overflow_whole sequence slot booked asked number one two three =
     let fields = written-more (codes "x-Slot") refl (printed-decimal slot one)
     (written-more (codes "x-Booked") refl (printed-decimal booked two)
     (written-more (codes "x-Asked") refl (printed-decimal asked three) written-nil)) in
-    whole_of (record { code = 453; sequence = Some sequence; fields = _; body = [] }) (record {
-      known = refl;
-      phrase_short = omega arith;
-      number = number;
-      written = written-within (omega arith) fields;
-      given = refl;
-      small = omega arith;
-    })
+    coded_whole 453 [] refl (omega arith) number (written-within (omega arith) fields) refl (omega arith)
 
 full_whole : (sequence entries open_plays : ℕ) → sequence < 2 ^ 64 → entries < 2 ^ 64 → open_plays < 2 ^ 64
     → IsMessage (full_text sequence entries open_plays)
@@ -464,14 +486,7 @@ unfolding value_named
 full_whole sequence entries open_plays number one two =
     let fields = written-more (codes "x-Entries") refl (printed-decimal entries one)
     (written-more (codes "x-Open") refl (printed-decimal open_plays two) written-nil) in
-    whole_of (record { code = 503; sequence = Some sequence; fields = _; body = [] }) (record {
-      known = refl;
-      phrase_short = omega arith;
-      number = number;
-      written = written-within (omega arith) fields;
-      given = refl;
-      small = omega arith;
-    })
+    coded_whole 503 [] refl (omega arith) number (written-within (omega arith) fields) refl (omega arith)
 
 -- what a play's reply tells, in its ranges
 record PlayParts : Type 0 where
@@ -522,7 +537,8 @@ play_whole p slots small =
     subst IsMessage (sym text) (says_whole [] p.sequence_fits (written-within (omega arith) fields) refl (omega arith))
 
 -- the bodies of the replies to GET_PARAMETER
-look_short : (now at booked : ℕ) → now < 2 ^ 64 → at < 2 ^ 64 → booked < 2 ^ 64 → length (look_body now at booked) ≤ 65536
+look_short : (now at booked : ℕ) → now < 2 ^ 64 → at < 2 ^ 64 → booked < 2 ^ 64 → length
+    (look_body now at booked) ≤ 65536
 look_short now at booked one two three =
     omega (
       arith,
@@ -620,7 +636,8 @@ module _ (old : Standing) (message : List ℕ) (ask : Ask) (new : Standing) (nam
   looks sequence number (inr short) = refused_by sequence Memory number (λ least same. cc) short.refused
 
   asks_offer : (sequence wait : ℕ) (planned : Result Planned Refusal) (setup : Setup) (paused : Option Run)
-      → sequence < 2 ^ 64 → IsPlanned old setup paused None planned → AsksOfferOr old sequence wait planned ask new → Whole
+      → sequence < 2 ^ 64 → IsPlanned old setup paused None planned → AsksOfferOr old sequence wait planned ask new
+      → Whole
   asks_offer sequence wait (Ok planned) setup paused number is (inl asks) =
       subst (λ (a : Ask). RepliesWhole a new) (sym asks.command)
       (λ note are. subst (λ (s : Standing). IsMessage (after_offer s note).text) (sym asks.state)
@@ -630,7 +647,8 @@ module _ (old : Standing) (message : List ℕ) (ask : Ask) (new : Standing) (nam
   asks_offer sequence wait (Err refusal) setup paused number is refused_ =
       refused_by sequence refusal number (planned_fits old setup paused None refusal is) refused_
 
-  gets_offer : (state : State) (request : Request) → request.sequence < 2 ^ 64 → GetsOffer state old request ask new → Whole
+  gets_offer : (state : State) (request : Request) → request.sequence < 2 ^ 64 → GetsOffer state old request ask new
+      → Whole
   gets_offer Init request number is = refused_by request.sequence Session number (λ least same. cc) is
   gets_offer (Ready setup paused) request number (inl short) =
       refused_by request.sequence Parameter number (λ least same. cc) short.refused
@@ -672,13 +690,15 @@ module _ (old : Standing) (message : List ℕ) (ask : Ask) (new : Standing) (nam
         from_fits = time_fits film planned.run.from_unit first;
         to_fits = time_fits film planned.run.end_unit last;
         under = under;
-        named = name_printed (string_bytes asks.stored.name) (good_at old.films setup.film asks.stored named.films asks.at);
+        named = name_printed (string_bytes asks.stored.name)
+            (good_at old.films setup.film asks.stored named.films asks.at);
         number_fits = omega arith;
         time_fits = omega arith;
       } in
       subst (λ (a : Ask). RepliesWhole a new) (sym asks.command) (subst AnswersPlay (sym asks.state) (record {
         admission = λ place start small. play_whole parts (start - old.heard) (omega (arith, small));
-        overflow = λ place slot booked asked one two three. overflow_whole sequence slot booked asked number one two three;
+        overflow = λ place slot booked asked one two three.
+            overflow_whole sequence slot booked asked number one two three;
         full = λ entries open_plays one two. full_whole sequence entries open_plays number one two;
       }))
 
@@ -692,7 +712,8 @@ module _ (old : Standing) (message : List ℕ) (ask : Ask) (new : Standing) (nam
   asks_play_or call paused range (Err refusal) number under is refused_ =
       refused_by call.sequence refusal number (planned_fits old call.setup paused range refusal is) refused_
 
-  plays : (state : State) (request : Request) (authority : List ℕ) → request.sequence < 2 ^ 64 → IsPrinted 15872 authority
+  plays : (state : State) (request : Request) (authority : List ℕ) → request.sequence < 2 ^ 64
+      → IsPrinted 15872 authority
       → Plays state old request authority ask new → Whole
   plays Init request authority number under is = absurd is
   plays (Ready setup paused) request authority number under is =
@@ -730,12 +751,14 @@ module _ (old : Standing) (message : List ℕ) (ask : Ask) (new : Standing) (nam
       let ms = length_ms is.stored.film in
       replied (describe_text request.sequence asked.authority.now name ms)
       (describe_whole request.sequence asked.authority.now name ms number
-      (authority_printed request read judged.film.named.read short) (name_printed name (good_at old.films asked.film is.stored named.films is.at))
+      (authority_printed request read judged.film.named.read short)
+      (name_printed name (good_at old.films asked.film is.stored named.films is.at))
       (time_fits is.stored.film (length is.stored.film.units.items) (film_few is.stored.film))) is.reply
   takes request (Ok (ToSetup film)) read number short judged is =
       sets_up request.sequence film request.head.now is.read number is.is_read is.done
   takes request (Ok (ToPlay asked)) read number short judged is =
-      plays old.state request asked.authority.now number (authority_printed request read judged.film.named.read short) is
+      plays old.state request asked.authority.now number
+      (authority_printed request read judged.film.named.read short) is
   takes request (Ok ToPause) read number short judged is = pauses old.state request.sequence number is
   takes request (Ok ToTeardown) read number short judged is = tears_down old.state request.sequence number is
   takes request (Ok ToGetParameter) read number short judged is = gets request is.topic number is.gets

@@ -8,8 +8,10 @@ use Rattle.session.specs.Judging.{IsLineEnd, IsWord}
 end_of_word : {word body end : List ℕ} → body ≡ word ++ end → IsWord word body → IsLineEnd end
 end_of_word {word} {body} {end} is (inl bare) =
     inl (append_cancel_left word end [] (sym is ∙ bare ∙ sym (append-nil word)))
-end_of_word {word} {body} {end} is (inr (inl line)) = inr (inl (append_cancel_left word end (codes "\n") (sym is ∙ line)))
-end_of_word {word} {body} {end} is (inr (inr line)) = inr (inr (append_cancel_left word end (codes "\r\n") (sym is ∙ line)))
+end_of_word {word} {body} {end} is (inr (inl line)) =
+    inr (inl (append_cancel_left word end (codes "\n") (sym is ∙ line)))
+end_of_word {word} {body} {end} is (inr (inr line)) =
+    inr (inr (append_cancel_left word end (codes "\r\n") (sym is ∙ line)))
 
 word_of_end : {word body end : List ℕ} → body ≡ word ++ end → IsLineEnd end → IsWord word body
 word_of_end {word} is (inl none) = inl (is ∙ ap (λ l. word ++ l) none ∙ append-nil word)

@@ -5,7 +5,8 @@ use Rattle.early_start.proofs.search.Goals as goal
 
 pub loop-later-preserved : goal.loop-later-preserved
 loop-later-preserved c = (
-  ap length c.push_reserved.ensures.items ∙ length_push c.loop-later.tried.items _ ∙ ap (λ n. n + 1) c.loop-later.invariant.0,
+  ap length c.push_reserved.ensures.items ∙ length_push c.loop-later.tried.items _ ∙ ap
+      (λ n. n + 1) c.loop-later.invariant.0,
   rw c.push_reserved.ensures.items (refusals_more c.loop-later.invariant.1
       (ap (λ n. c.args.first + n) (sym c.loop-later.invariant.0)) c.in-Some.ensures),
   search rules,

@@ -15,7 +15,8 @@ returns-clause-good c =
 
 pub returns-clause-film : goal.returns-clause-film
 returns-clause-film c =
-    slice_get_read c.args.films.now (length c.args.films.now) c.args.film c.index-films-film.result refl c.requires.within
+    slice_get_read c.args.films.now
+    (length c.args.films.now) c.args.film c.index-films-film.result refl c.requires.within
     c.index-films-film.is
 
 pub returns-clause-sizes : goal.returns-clause-sizes

@@ -6,7 +6,8 @@ use Rattle.session.proofs.methods.is_word.Goals as goal
 
 pub returns-in-Some : goal.returns-in-Some
 returns-in-Some c =
-    let found = strip_prefix_is Decides-eqb c.args.body.now c.args.word.now (Some c.in-Some.end) c.in-Some.ensures.cases in
+    let found = strip_prefix_is Decides-eqb c.args.body.now c.args.word.now
+    (Some c.in-Some.end) c.in-Some.ensures.cases in
     word_found found c.is_line_end.ensures
 
 pub returns-in-None : goal.returns-in-None

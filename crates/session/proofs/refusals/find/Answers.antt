@@ -10,7 +10,8 @@ returns-then-eq-clause-found c = record {
   stored = c.index-films-number.result;
   at = slice_get_read c.args.films.now (length c.args.films.now) c.loop-number.number c.index-films-number.result refl
       c.loop-number-test.true c.index-films-number.is;
-  name_is = sym c.as_bytes.ensures.value ∙ same_text c.as_bytes.result.now c.args.name.now (sym c.if-eq.true ∙ c.eq.ensures);
+  name_is =
+      sym c.as_bytes.ensures.value ∙ same_text c.as_bytes.result.now c.args.name.now (sym c.if-eq.true ∙ c.eq.ensures);
 }
 
 pub loop-number-preserved : goal.loop-number-preserved
@@ -21,7 +22,8 @@ loop-number-preserved c =
     ∙ ap (λ (film : Stored). string_bytes film.name) (c.index-films-number.is
     ∙ get_or_from_slice_get c.args.films.now c.loop-number.number named.stored c.index-films-number.result named.at)
     ∙ named.name_is) in
-    below_more (λ k. IsFilmNamed c.args.films.now c.args.name.now k → ⊥) c.loop-number.number c.loop-number.invariant here
+    below_more (λ k. IsFilmNamed c.args.films.now c.args.name.now k
+    → ⊥) c.loop-number.number c.loop-number.invariant here
 
 pub returns-clause-found : goal.returns-clause-found
 returns-clause-found c film named =

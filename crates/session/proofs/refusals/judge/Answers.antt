@@ -16,7 +16,8 @@ returns-clause-judged c =
     let timely : IsTimely c.args.state.now c.args.request.now c.in_ok-method.method = search rules in
     subst (λ (task : Task). IsTaken c.args.films.now c.args.id.now c.args.state.now c.args.request.now task)
     (sym c.task_of.ensures)
-    (taken c.in_ok-asked.asked c.in_ok-method.ensures.talk (rw c.in_ok-asked.ensures.ok_part at c.own_film.ensures.film) timely)
+    (taken c.in_ok-asked.asked c.in_ok-method.ensures.talk
+    (rw c.in_ok-asked.ensures.ok_part at c.own_film.ensures.film) timely)
 
 pub returns-clause-task : goal.returns-clause-task
 returns-clause-task c =

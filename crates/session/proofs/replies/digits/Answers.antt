@@ -5,4 +5,5 @@ use Rattle.session.proofs.replies.digits.Goals as goal
 
 pub returns-clause-line : goal.returns-clause-line
 returns-clause-line c =
-    ap is_one_line (c.as_bytes.ensures.value ∙ c.format.ensures.text) ∙ one_line-decimal c.args.number c.ranges.number.fits
+    ap is_one_line (c.as_bytes.ensures.value ∙ c.format.ensures.text)
+    ∙ one_line-decimal c.args.number c.ranges.number.fits

@@ -1,4 +1,5 @@
-use Rattle.std.proofs.Common.{◌≡◌, ℕ, true, List, [], ◌∷◌, Some, ◌≤◌, length, take, codes, decimal, refl, sym, ap, ◌∙◌, arith}
+use Rattle.std.proofs.Common.{◌≡◌, ℕ, true, List, [], ◌∷◌, Some, ◌≤◌, length, take, codes, decimal, refl, sym, ap, ◌∙◌}
+use Rattle.std.proofs.Common.{arith}
 use Rattle.rtsp_text.specs.Replies.{reply_text}
 use Rattle.session.specs.Replies.{field, joined_parts}
 use Rattle.std.proofs.lemmas.List.{length-take-le}
@@ -24,7 +25,8 @@ returns c =
     let same : parts ≡ (codes "rtsp://" ∷ c.args.authority.now ∷ codes "/" ∷ c.args.name.now ∷ codes "/" ∷ []) =
     rw (c.as_slice.ensures, c.as_slice-2.ensures, c.as_bytes.ensures.value, c.as_slice-3.ensures) refl in
     let text = description_text c.args.name.now c.args.end_ms in
-    let written : take c.description-length.result c.description-length.new.into ≡ text = c.description-length.ensures.text in
+    let written : take c.description-length.result c.description-length.new.into ≡ text =
+    c.description-length.ensures.text in
     let within : c.description-length.result ≤ length c.description-length.new.into = omega arith in
     let count : c.description-length.result ≡ length text =
     sym (length-take-le c.description-length.result c.description-length.new.into within) ∙ ap length written in
@@ -35,9 +37,11 @@ returns c =
     (c.number_field.ensures.front 200 (Some c.args.sequence) (base parts ∷ kind ∷ [])
     (c.field.ensures.front 200 (Some c.args.sequence) (base parts ∷ [])
     (c.field_of.ensures.front 200 (Some c.args.sequence) [] (c.start.ensures.front c.clear.ensures))))
-    ∙ ap (λ (ps : List (List ℕ)). reply_text 200 (Some c.args.sequence) (base ps ∷ kind ∷ long c.description-length.result ∷ [])
+    ∙ ap (λ (ps : List (List ℕ)). reply_text 200 (Some c.args.sequence)
+    (base ps ∷ kind ∷ long c.description-length.result ∷ [])
     (take c.description-length.result c.description-length.new.into)) same
-    ∙ ap (λ (body : List ℕ). reply_text 200 (Some c.args.sequence) (base (codes "rtsp://" ∷ c.args.authority.now ∷ codes "/"
+    ∙ ap (λ (body : List ℕ). reply_text 200 (Some c.args.sequence)
+    (base (codes "rtsp://" ∷ c.args.authority.now ∷ codes "/"
     ∷ c.args.name.now ∷ codes "/" ∷ []) ∷ kind ∷ long c.description-length.result ∷ []) body) written
     ∙ ap (λ (n : ℕ). reply_text 200 (Some c.args.sequence) (base (codes "rtsp://" ∷ c.args.authority.now ∷ codes "/"
     ∷ c.args.name.now ∷ codes "/" ∷ []) ∷ kind ∷ long n ∷ []) text) count

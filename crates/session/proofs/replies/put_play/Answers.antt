@@ -11,7 +11,8 @@ returns-clause-text c =
     let info : List (List ℕ) =
     c.as_slice-3.result.now ∷ c.args.info.now.authority.now ∷ c.as_slice-4.result.now ∷ c.args.info.now.name.now
     ∷ c.as_slice-5.result.now ∷ c.digits.result.now ∷ c.as_slice-6.result.now ∷ c.digits-2.result.now ∷ [] in
-    let number : c.digits.result.now ≡ decimal c.args.info.now.sequence = c.digits.ensures.text ∙ ap decimal c.from.ensures in
+    let number : c.digits.result.now ≡ decimal c.args.info.now.sequence = c.digits.ensures.text
+    ∙ ap decimal c.from.ensures in
     let time : c.digits-2.result.now ≡ decimal c.args.info.now.timestamp =
     c.digits-2.ensures.text ∙ ap decimal c.from-2.ensures in
     let same_range : range ≡ (codes "npt=" ∷ seconds_text c.args.info.now.first_ms ∷ codes "-"

@@ -10,7 +10,8 @@ returns c =
     let parts : List (List ℕ) =
     c.as_slice.result.now ∷ c.digits.result.now ∷ c.as_slice-2.result.now ∷ c.digits-2.result.now ∷ c.as_slice-3.result.now
     ∷ c.as_slice-4.result.now ∷ [] in
-    let media : c.digits.result.now ≡ decimal c.args.setup.now.media = c.digits.ensures.text ∙ ap decimal c.from.ensures in
+    let media : c.digits.result.now ≡ decimal c.args.setup.now.media = c.digits.ensures.text
+    ∙ ap decimal c.from.ensures in
     let control : c.digits-2.result.now ≡ decimal c.args.setup.now.control =
     c.digits-2.ensures.text ∙ ap decimal c.from-2.ensures in
     let ssrc : c.as_slice-4.result.now ≡ encode_lower (to_be_bytes w32 c.args.ssrc) =

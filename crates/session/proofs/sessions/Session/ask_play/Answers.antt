@@ -26,7 +26,8 @@ put_play-requires-clause-name_line c =
 
 pub frames_of-frames-requires-clause-order : goal.frames_of-frames-requires-clause-order
 frames_of-frames-requires-clause-order c =
-    let at = subst (λ (s : Standing). IsFilmAt s.films c.args.setup.now.film c.stored_at-stored.result.now) c.self.view_is
+    let at = subst
+    (λ (s : Standing). IsFilmAt s.films c.args.setup.now.film c.stored_at-stored.result.now) c.self.view_is
     c.stored_at-stored.ensures.film in
     let run_is = (c.requires.run c.stored_at-stored.result.now at).run_of.run_is in
     omega (arith, run_is.order, run_is.rest)
@@ -98,7 +99,8 @@ returns-clause-exact c =
     let old = standing_of inside in
     let number : info.sequence ≡ first_number old stored setup planned =
     c.info_of-info.ensures.number
-    ∙ ap (λ (s : FramedRun). (identity_of inside.source setup (counts_after planned.counts s planned.run.sent)).sequence)
+    ∙ ap (λ (s : FramedRun). (identity_of inside.source setup
+    (counts_after planned.counts s planned.run.sent)).sequence)
     c.frames_of-frames.ensures.frames in
     let text : c.put_play.new.reply ≡ play_front old stored setup planned sequence authority =
     c.put_play.ensures.text
@@ -110,7 +112,8 @@ returns-clause-exact c =
       number,
       c.info_of-info.ensures.time,
     ) refl in
-    let new : FramedRun → List Segment → List Segment → List ℕ → List Receipt → List PlayNote → List OfferNote → Standing =
+    let new : FramedRun → List Segment → List Segment → List ℕ → List Receipt → List PlayNote → List OfferNote
+    → Standing =
     λ frames own paced reply receipts plays offers. record old {
       awaited = Play (record {
         run = planned.run;
@@ -132,7 +135,8 @@ returns-clause-exact c =
     let paced = c.in-Ok.paced in
     let log = c.plans_with_room.new.log in
     let lists = c.plans_with_room.ensures.lists in
-    rw c.set.ensures (subst (λ (s : Standing). AsksPlayOr s (play_call sequence authority setup) (Ok planned) (AskPlay plan)
+    rw c.set.ensures (subst (λ (s : Standing). AsksPlayOr s (play_call sequence authority setup) (Ok planned)
+    (AskPlay plan)
     (new c.frames_of-frames.result own paced c.put_play.new.reply log.receipts log.plays log.offers)) c.self.view_is
     (inl (record {
       stored = stored;
@@ -148,5 +152,6 @@ returns-clause-exact c =
           ∙ ap (λ (t : List ℕ). new sending plan plan t log.receipts log.plays log.offers) text
           ∙ ap (λ (r : List Receipt). new sending plan plan front r log.plays log.offers) lists.receipts
           ∙ ap (λ (p : List PlayNote). new sending plan plan front inside.log.receipts p log.offers) lists.plays
-          ∙ ap (λ (o : List OfferNote). new sending plan plan front inside.log.receipts inside.log.plays o) lists.offers;
+          ∙ ap (λ (o : List OfferNote).
+          new sending plan plan front inside.log.receipts inside.log.plays o) lists.offers;
     })))

@@ -45,7 +45,8 @@ invariant_of-self c =
     let one : awaited_plays inside.awaited ≡ 1 = ap awaited_plays awaited in
     let receipt_room : c.note.new.self.receipt_room ≡ inside.log.receipt_room - 1 =
     ap (λ (l : Logged). l.receipt_room) c.note.ensures in
-    let play_room : c.note.new.self.play_room ≡ inside.log.play_room = ap (λ (l : Logged). l.play_room) c.note.ensures in
+    let play_room : c.note.new.self.play_room ≡ inside.log.play_room = ap
+    (λ (l : Logged). l.play_room) c.note.ensures in
     rw (c.enter.ensures, c.play_of-play.ensures.play) (record {
       films = c.self.invariant.films;
       settings = c.self.invariant.settings;

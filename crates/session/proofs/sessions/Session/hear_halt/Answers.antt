@@ -59,9 +59,11 @@ invariant_of-self c =
       settings = c.self.invariant.settings;
       id = c.self.invariant.id;
       state = subst (λ (n : Counts). IsStateKept (record ground { counts = n }) state) (sym counted)
-          (subst (λ (s : State). IsStateKept (record ground { counts = counts_next inside.counts done next }) s) (sym is)
+          (subst (λ (s : State). IsStateKept (record ground { counts = counts_next inside.counts done next }) s)
+          (sym is)
           (halted_kept ground done next kept left));
-      awaited = subst (λ (a : Awaited). IsAwaitedKept (record ground { counts = counts }) inside.lost state a) (sym none)
+      awaited =
+          subst (λ (a : Awaited). IsAwaitedKept (record ground { counts = counts }) inside.lost state a) (sym none)
           (subst (λ (s : State). IsAwaitedKept (record ground { counts = counts }) inside.lost s Nothing) (sym is)
           (halted_rest (record ground { counts = counts }) inside.lost setup play next));
       stop = subst (IsStopAnswered state) (sym waits)

@@ -24,7 +24,14 @@ run_after-left-requires-clause-halt c =
     let play = c.in-Playing.play in
     let state : inside.state ≡ Playing setup play = sym c.in-Playing.ensures.value in
     let hear : CanHear (standing_of inside) = subst CanHear (sym c.self.view_is) c.requires.hear in
-    let hand : HeardInPlay inside = record { setup = setup; play = play; kept = c.self.invariant; state = state; hear = hear } in
+    let hand : HeardInPlay inside = record {
+      setup = setup;
+      play = play;
+      kept = c.self.invariant;
+      state = state;
+      hear =
+          hear;
+    } in
     halts_play c.last_slot-last.result (playing_in hand).1 (play_going hand) (record {
       state = c.ask_halt-keep.ensures.state;
       after = c.ask_halt-keep.ensures.boundary;
@@ -40,7 +47,14 @@ invariant_of-self c =
     let left = c.run_after-left.result in
     let state : inside.state ≡ Playing setup play = sym c.in-Playing.ensures.value in
     let hear : CanHear (standing_of inside) = subst CanHear (sym c.self.view_is) c.requires.hear in
-    let hand : HeardInPlay inside = record { setup = setup; play = play; kept = c.self.invariant; state = state; hear = hear } in
+    let hand : HeardInPlay inside = record {
+      setup = setup;
+      play = play;
+      kept = c.self.invariant;
+      state = state;
+      hear =
+          hear;
+    } in
     let kept = playing_in hand in
     let runs =
     left_runs
@@ -95,7 +109,8 @@ returns-clause-exact c =
       left = left;
       left_is = subst (λ (n : ℕ). IsLeft sizes (playback_of stored.film inside.settings setup) play.run
           play.plan last n left) value
-          (subst (λ (p : Playback). IsLeft sizes p play.run play.plan last keep left) c.playback_of-playback.ensures.playback
+          (subst (λ (p : Playback).
+          IsLeft sizes p play.run play.plan last keep left) c.playback_of-playback.ensures.playback
           c.run_after-left.ensures.left);
       asks = record {
         keep = keep;

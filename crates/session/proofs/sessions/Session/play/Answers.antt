@@ -22,11 +22,13 @@ returns-in-Ok-clause-exact c =
     let paused = c.in-Ready.paused in
     let state : old.state ≡ Ready setup paused =
     subst (λ (s : Standing). s.state ≡ Ready setup paused) c.self.view_is c.in-Ready.is in
-    subst (λ (s : State). Plays s old c.args.request.now c.args.authority.now c.ask_play.result c.ask_play.new.self) (sym state)
+    subst (λ (s : State). Plays s old c.args.request.now c.args.authority.now c.ask_play.result c.ask_play.new.self)
+    (sym state)
     (record {
       planned = Ok c.in-Ok.planned;
       is_planned =
-          subst (λ (range : Option (List ℕ)). IsPlanned old setup paused range (Ok c.in-Ok.planned)) c.header.ensures.value
+          subst (λ (range : Option (List ℕ)). IsPlanned old setup paused range
+          (Ok c.in-Ok.planned)) c.header.ensures.value
           c.in-Ok.ensures.exact;
       asks = c.ask_play.ensures.exact;
     })

@@ -10,7 +10,8 @@ use Rattle.session.specs.declared.states.Awaited.{Awaited}
 use Rattle.session.specs.declared.states.Awaited.TheVariants.{Nothing}
 use Rattle.session.specs.declared.states.State.{State}
 use Rattle.session.proofs.Carries.{awaited_kept, awaited_lost, awaited_settled, finished_none}
-use Rattle.session.proofs.Carries.{nothing_of, receipts_kept, receipts_settled, settled_kept, state_kept, stop_kept, stop_settled}
+use Rattle.session.proofs.Carries.{nothing_of, receipts_kept, receipts_settled, settled_kept, state_kept, stop_kept}
+use Rattle.session.proofs.Carries.{stop_settled}
 use Rattle.session.proofs.sessions.Session.slot.Goals as goal
 use Rattle.session.proofs.sessions.Session.slot.Goals.{then-replied, else-replied}
 
@@ -55,7 +56,8 @@ invariant_of-self-2 g c =
     let going : IsGoing inside.lost inside.state =
     subst (λ (a : Awaited). IsAwaitedKept (ground_of inside) inside.lost inside.state a) none
     c.self.invariant.awaited in
-    let coming : coming_of awaited ≡ coming_of Nothing = finished_none c.if-replied.self-inside.state awaited finished in
+    let coming : coming_of awaited ≡ coming_of Nothing =
+    finished_none c.if-replied.self-inside.state awaited finished in
     let receipts : awaited_receipts awaited ≡ 0 = ap (λ (n : Coming). n.receipts) coming in
     let plays : awaited_plays awaited ≡ 0 = ap (λ (n : Coming). n.plays) coming in
     let offers : awaited_offers awaited ≡ 0 = ap (λ (n : Coming). n.offers) coming in
@@ -76,7 +78,8 @@ invariant_of-self-2 g c =
                 (settled_kept (ground_of inside) new
                 (state_kept (ground_of inside) inside.state new c.self.invariant.state carried));
             awaited = subst (λ (s : State). IsAwaitedKept (ground_of inside) inside.lost s awaited) (sym is)
-                (awaited_settled (ground_of inside) new awaited (record { going = going; carried = carried; even = even })
+                (awaited_settled (ground_of inside) new awaited
+                (record { going = going; carried = carried; even = even })
                 (subst (λ (s : State). HaltsIfDone s awaited) is over));
             stop = subst (λ (s : State). IsStopAnswered s false) (sym is) (stop_settled false new);
             receipt_room = omega (arith, c.self.invariant.receipt_room);

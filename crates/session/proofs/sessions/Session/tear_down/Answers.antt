@@ -49,7 +49,8 @@ returns-clause-exact c =
     let pacer : halted.pacer ≡ record halted.play.pacer { keep = keep } =
     halted.pacer_is ∙ ap (λ (n : ℕ). record halted.play.pacer { keep = n }) (sym halted.keep_is) in
     rw (halted.new_is, c.set.ensures)
-    (subst (λ (old : Standing). TearsDown old.state old c.args.sequence (AskHalt keep) (new halted.pacer c.put_session.new.reply))
+    (subst (λ (old : Standing). TearsDown old.state old c.args.sequence (AskHalt keep)
+    (new halted.pacer c.put_session.new.reply))
     c.self.view_is
     (subst (λ (s : State). TearsDown s (standing_of inside) c.args.sequence (AskHalt keep)
     (new halted.pacer c.put_session.new.reply))
