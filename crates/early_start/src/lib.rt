@@ -48,33 +48,6 @@ impl Model for Offers {
 /// The most slots that a play may start later than the first one.
 pub const MAX_WAIT: u64 = 255;
 
-/// Tries the starts from `first` on, up to `wait` slots later, until the plan fits.
-fn search(
-    calendar: &Calendar,
-    plan: &Plan,
-    first: u64,
-    wait: u64,
-    tried: &mut Vec<Tried>,
-) -> Option<u64>
-    requires after { calendar.now.first < first }
-    requires small { first ≤ 2 ^ 62 + 1 }
-    requires wait { wait ≤ 255 }
-    requires empty { tried.old.items ≡ [] }
-    requires room { wait + 1 ≤ vec_capacity tried.old }
-    ensures refusals { AreRefusalsIn calendar.now plan.now first tried.new.items }
-    ensures start { IsStartIn calendar.now plan.now first wait (length tried.new.items) result }
-    ensures room { vec_capacity tried.old ≤ vec_capacity tried.new }
-{
-    for later in 0..wait + 1 {
-        let start = first + later;
-        let Some(over) = calendar.first_overflow(start, plan) else {
-            return Some(start);
-        };
-        tried.push_reserved(Tried { start, over });
-    }
-    None
-}
-
 impl Offers {
     /// Reserves room for all starts up to `wait` slots later than the first, at most [`MAX_WAIT`];
     /// no other call takes memory.
@@ -133,6 +106,33 @@ impl Offers {
         self.tried.clear();
         self.start = search(calendar, plan, first, self.wait, &mut self.tried);
     }
+}
+
+/// Tries the starts from `first` on, up to `wait` slots later, until the plan fits.
+fn search(
+    calendar: &Calendar,
+    plan: &Plan,
+    first: u64,
+    wait: u64,
+    tried: &mut Vec<Tried>,
+) -> Option<u64>
+    requires after { calendar.now.first < first }
+    requires small { first ≤ 2 ^ 62 + 1 }
+    requires wait { wait ≤ 255 }
+    requires empty { tried.old.items ≡ [] }
+    requires room { wait + 1 ≤ vec_capacity tried.old }
+    ensures refusals { AreRefusalsIn calendar.now plan.now first tried.new.items }
+    ensures start { IsStartIn calendar.now plan.now first wait (length tried.new.items) result }
+    ensures room { vec_capacity tried.old ≤ vec_capacity tried.new }
+{
+    for later in 0..wait + 1 {
+        let start = first + later;
+        let Some(over) = calendar.first_overflow(start, plan) else {
+            return Some(start);
+        };
+        tried.push_reserved(Tried { start, over });
+    }
+    None
 }
 
 #[cfg(test)]

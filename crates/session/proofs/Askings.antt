@@ -25,7 +25,7 @@ use Rattle.session.specs.declared.states.Next.{Next}
 use Rattle.session.specs.declared.states.Play.{Play as Played}
 use Rattle.session.specs.declared.states.Prepared.{Prepared}
 use Rattle.session.specs.declared.states.Setup.{Setup}
-use Rattle.session.specs.declared.states.Source.{Source}
+use Rattle.session.specs.declared.states.StreamSource.{StreamSource}
 use Rattle.session.specs.declared.states.State.{State}
 use Rattle.session.specs.declared.states.State.TheVariants.{Init, Ready, Playing, Stopping}
 use Rattle.session.specs.declared.sessions.Session.TheInside.{Inside}
@@ -33,7 +33,7 @@ use Rattle.session.proofs.Carries.{nothing_of}
 use Rattle.session.proofs.Pausing.{keeps_within}
 use Rattle.session.proofs.Playables.{of_film}
 
-ready_in : {source : Source} {settings : Settings} {setup : Setup} {prepared : Prepared} (films : List Stored)
+ready_in : {source : StreamSource} {settings : Settings} {setup : Setup} {prepared : Prepared} (films : List Stored)
     (state : State)
     → IsReadyIn state setup → IsPrepared prepared
     → OfFilm films setup.film (λ stored. IsPreparedAs stored source settings setup prepared)
@@ -53,7 +53,7 @@ ready_closed (Stopping own stop) setup ready = absurd ready
 
 -- what was prepared for a PLAY: the frames of a run that can be played, and its plan
 pub record PlayPrepared
-    (source : Source) (settings : Settings) (setup : Setup) (stored : Stored) (plan : List Segment)
+    (source : StreamSource) (settings : Settings) (setup : Setup) (stored : Stored) (plan : List Segment)
     (prepared : Prepared)
     : Type 0 where
   pub playable : IsPlayable stored source settings setup prepared.counts prepared.run plan
@@ -64,7 +64,7 @@ pub record PlayPrepared
   pub paced : prepared.paced ≡ plan
 
 -- a play that is asked for can be sent
-pub prepared_in : {source : Source} {settings : Settings} {setup : Setup} {stored : Stored} {plan : List Segment}
+pub prepared_in : {source : StreamSource} {settings : Settings} {setup : Setup} {stored : Stored} {plan : List Segment}
     {prepared : Prepared} (films : List Stored) (state : State) → IsReadyIn state setup
     → IsFilmAt films setup.film stored
     → PlayPrepared source settings setup stored plan prepared → IsPreparedIn films source settings state prepared

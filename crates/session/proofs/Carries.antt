@@ -21,7 +21,7 @@ use Rattle.session.specs.declared.states.Counts.{Counts}
 use Rattle.session.specs.declared.states.Next.{Next}
 use Rattle.session.specs.declared.states.Play.{Play as Played}
 use Rattle.session.specs.declared.states.Setup.{Setup}
-use Rattle.session.specs.declared.states.Source.{Source}
+use Rattle.session.specs.declared.states.StreamSource.{StreamSource}
 use Rattle.session.specs.declared.states.State.{State}
 use Rattle.session.specs.declared.states.State.TheVariants.{Init, Ready, Playing, Stopping}
 
@@ -33,7 +33,7 @@ play_kept old new kept run plan same = record {
   plan = same.plan ∙ kept.plan ∙ sym plan;
 }
 
-playing_kept : {stored : Stored} {source : Source} {settings : Settings} {setup : Setup} {counts : Counts}
+playing_kept : {stored : Stored} {source : StreamSource} {settings : Settings} {setup : Setup} {counts : Counts}
     {old new : Played}
     → IsPlaying stored source settings setup counts old → new.run ≡ old.run → new.plan ≡ old.plan
     → IsSamePacing old.pacer new.pacer → IsPlaying stored source settings setup counts new

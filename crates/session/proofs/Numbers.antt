@@ -11,7 +11,7 @@ use Rattle.rtsp_fields.specs.declared.ranges.Origin.TheVariants.{Now}
 use Rattle.session.specs.declared.plans.Planned.{Planned}
 use Rattle.session.specs.declared.states.Counts.{Counts}
 use Rattle.session.specs.declared.states.Setup.{Setup}
-use Rattle.session.specs.declared.states.Source.{Source}
+use Rattle.session.specs.declared.states.StreamSource.{StreamSource}
 use Rattle.session.specs.declared.wanted.Wanted.{Wanted}
 use Rattle.session.specs.declared.wanted.Wanted.TheVariants.{Resumed, New}
 use Rattle.session.specs.Films.{counts_after, identity_of, sending_of}
@@ -36,7 +36,7 @@ number_goes_on source frames more =
     ∙ sym (sum_mod more (source + frames) 65536)
     ∙ ap (λ n. n % 65536) (add_comm more ((source + frames) % 65536))
 
-pub identity_goes_on : (source : Source) (setup : Setup) (counts : Counts) (sending : FramedRun) (bytes : ℕ)
+pub identity_goes_on : (source : StreamSource) (setup : Setup) (counts : Counts) (sending : FramedRun) (bytes : ℕ)
     → GoesOn (identity_of source setup counts) (identity_of source setup (counts_after counts sending bytes))
     (frames_before sending bytes) (octets_before sending bytes)
 identity_goes_on source setup counts sending bytes = record {
@@ -51,7 +51,7 @@ wanted_resumes : (film : Film) (paused : Run) (to : Option ℕ) (wanted : Wanted
 wanted_resumes film paused to (Resumed run) is = is
 wanted_resumes film paused to (New run) is = absurd is
 
-counts_resume : {counts : Counts} (film : Film) (source : Source) (setup : Setup) (paused : Run) (wanted : Wanted)
+counts_resume : {counts : Counts} (film : Film) (source : StreamSource) (setup : Setup) (paused : Run) (wanted : Wanted)
     → IsResumed paused wanted → counts_for film source setup counts (Some paused) wanted ≡ counts
 counts_resume film source setup paused (Resumed run) is = refl
 counts_resume film source setup paused (New run) is = absurd is

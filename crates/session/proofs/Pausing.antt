@@ -23,7 +23,7 @@ use Rattle.session.specs.declared.settings.Settings.{Settings}
 use Rattle.session.specs.declared.states.Counts.{Counts}
 use Rattle.session.specs.declared.states.Play.{Play as Played}
 use Rattle.session.specs.declared.states.Setup.{Setup}
-use Rattle.session.specs.declared.states.Source.{Source}
+use Rattle.session.specs.declared.states.StreamSource.{StreamSource}
 
 -- a pacing that is halted at a boundary before all that it keeps was sent
 pub record HaltedPacing (p : Pacing) (keep : ℕ) : Type 0 where
@@ -109,7 +109,8 @@ pub record LeftRun (stored : Stored) (play : Played) (playback : Playback) (last
   pub fits : Fits playback.buffer left
 
 -- it ends at the boundary where the halt is
-left_boundary : {stored : Stored} {source : Source} {settings : Settings} {setup : Setup} {counts : Counts} {play : Played}
+left_boundary : {stored : Stored} {source : StreamSource} {settings : Settings} {setup : Setup}
+    {counts : Counts} {play : Played}
     {playback : Playback} {last : Option ℕ} {keep : ℕ} {left : Run} → IsPacedPlay play
     → IsPlaying stored source settings setup counts play → IsBoundary play.pacer.pieces (play.pacer.before + keep)
     → IsLeft (stored_sizes stored) playback play.run play.plan last keep left
@@ -127,7 +128,8 @@ left_boundary {stored} {source} {setup} {counts} {play} {keep} {left} is playing
     (subst (λ (all : List (List ℕ)). IsBoundary all (p.before + keep)) same boundary)
 
 -- what it leaves can be sent on
-pub left_runs : {stored : Stored} {source : Source} {settings : Settings} {setup : Setup} {counts : Counts} {play : Played}
+pub left_runs : {stored : Stored} {source : StreamSource} {settings : Settings} {setup : Setup}
+    {counts : Counts} {play : Played}
     {playback : Playback} {last : Option ℕ} {keep : ℕ} {left : Run} → IsPacedPlay play
     → IsPlaying stored source settings setup counts play
     → playback ≡ playback_of stored.film settings setup → IsBoundary play.pacer.pieces (play.pacer.before + keep)

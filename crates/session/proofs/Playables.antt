@@ -13,7 +13,7 @@ use Rattle.session.specs.Films.{IsFilmAt, OfFilm, identity_of}
 use Rattle.session.specs.Playing.{IsAskedRun, IsNoRange, IsRunOf, IsSpanOf, IsWanted, WantsNothing, counts_for, run_of}
 use Rattle.session.specs.declared.states.Counts.{Counts}
 use Rattle.session.specs.declared.states.Setup.{Setup}
-use Rattle.session.specs.declared.states.Source.{Source}
+use Rattle.session.specs.declared.states.StreamSource.{StreamSource}
 use Rattle.session.specs.declared.wanted.Wanted.{Wanted}
 use Rattle.session.specs.declared.wanted.Wanted.TheVariants.{Resumed, New}
 
@@ -25,7 +25,7 @@ of_film films number stored P at holds other is =
     let same : stored ≡ other = cc in
     subst P same holds
 
-new_goes_on : {stored : Stored} {source : Source} {setup : Setup} {counts : Counts} {from : ℕ} {to : Option ℕ}
+new_goes_on : {stored : Stored} {source : StreamSource} {setup : Setup} {counts : Counts} {from : ℕ} {to : Option ℕ}
     {run : Run}
     → IsAsked stored.film from to run → IsRunOf stored source setup counts run
 new_goes_on {stored} {source} {setup} {counts} {from} {run} asked = record {
@@ -35,11 +35,11 @@ new_goes_on {stored} {source} {setup} {counts} {from} {run} asked = record {
 }
 
 -- what was sent before, and a paused run can be sent on after it
-record SentBefore (stored : Stored) (source : Source) (setup : Setup) (paused : Option Run) : Type 0 where
+record SentBefore (stored : Stored) (source : StreamSource) (setup : Setup) (paused : Option Run) : Type 0 where
   pub counts : Counts
   pub kept : IfSome paused (λ run. IsRunOf stored source setup counts run)
 
-wanted_goes_on : {stored : Stored} {source : Source} {setup : Setup} (paused : Option Run)
+wanted_goes_on : {stored : Stored} {source : StreamSource} {setup : Setup} (paused : Option Run)
     (before : SentBefore stored source setup paused) (from : Origin) (to : Option ℕ) (wanted : Wanted)
     → IsWanted stored.film paused from to wanted
     → IsRunOf stored source setup (counts_for stored.film source setup before.counts paused wanted) (run_of wanted)
@@ -56,7 +56,7 @@ wanted_goes_on (Some paused) before (At time) to (Resumed run) is = absurd is
 wanted_goes_on (Some paused) before (At time) to (New run) is =
     new_goes_on is
 
-pub goes_on : {stored : Stored} {source : Source} {setup : Setup} {paused : Option Run} {range : Option (List ℕ)}
+pub goes_on : {stored : Stored} {source : StreamSource} {setup : Setup} {paused : Option Run} {range : Option (List ℕ)}
     {wanted : Wanted} (counts : Counts) → IfSome paused (λ run. IsRunOf stored source setup counts run)
     → IsAskedRun stored.film paused range wanted
     → IsRunOf stored source setup (counts_for stored.film source setup counts paused wanted) (run_of wanted)

@@ -83,7 +83,8 @@ module _ (old : Standing) (message url head : List ℕ) (ask : Ask) (new : Stand
   hears_on false (inl fault) = Refused _ fault.refused.0 fault.refused.1
   hears_on false (inr whole) =
       let same = request_once whole.is_request is.read in
-      takes whole.request whole.hears.judgement same.method_is same.url_is same.head_is whole.hears.judged whole.hears.takes
+      takes whole.request whole.hears.judgement same.method_is same.url_is same.head_is
+      whole.hears.judged whole.hears.takes
 
   pub setup_heard : Hears old message ask new → Heard
   setup_heard hears = hears_on old.lost hears

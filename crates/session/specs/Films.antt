@@ -10,7 +10,7 @@ use Rattle.film_frames.specs.Runs.{FramedRun, frames_before, octets_before, run_
 use Rattle.session.specs.declared.states.Setup.{Setup}
 use Rattle.film_run.specs.declared.runs.Run.{Run}
 use Rattle.session.specs.declared.states.Counts.{Counts}
-use Rattle.session.specs.declared.states.Source.{Source}
+use Rattle.session.specs.declared.states.StreamSource.{StreamSource}
 
 -- the film of that number
 abbrev pub IsFilmAt : List Stored → ℕ → Stored → Type 0
@@ -32,7 +32,7 @@ pub record Names (films : List Stored) (url authority : List ℕ) (number : ℕ)
   pub film : IsFilmNamed films name number
 
 -- the identity of a run before which so many frames and octets were sent (RFC 3550 section 5.1)
-abbrev pub identity_of : Source → Setup → Counts → Identity
+abbrev pub identity_of : StreamSource → Setup → Counts → Identity
 identity_of source setup counts = record {
   channel = setup.media;
   control = setup.control;
@@ -44,7 +44,7 @@ identity_of source setup counts = record {
 }
 
 -- a run as it is sent
-abbrev pub sending_of : Film → Source → Setup → Counts → Run → FramedRun
+abbrev pub sending_of : Film → StreamSource → Setup → Counts → Run → FramedRun
 sending_of film source setup counts run =
     run_of film run.first_unit run.end_unit (identity_of source setup counts)
 
@@ -68,5 +68,5 @@ abbrev pub length_ms : Film → ℕ
 length_ms film = milliseconds_at film (length film.units.items)
 
 -- the timestamp of a unit, in 1/90,000 second (RFC 2250 section 3.3)
-abbrev pub timestamp_at : Film → Source → ℕ → ℕ
+abbrev pub timestamp_at : Film → StreamSource → ℕ → ℕ
 timestamp_at film source unit = (source.timestamp + begins_at film unit / 4) % 2 ^ 32

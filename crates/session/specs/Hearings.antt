@@ -2,7 +2,7 @@
 use Rattle.std.specs.Int.{w64, to_be_bytes}
 use Rattle.hex.specs.Hex.{encode_lower}
 use Rattle.session.specs.declared.settings.Settings.{Settings}
-use Rattle.session.specs.declared.states.Source.{Source}
+use Rattle.session.specs.declared.states.StreamSource.{StreamSource}
 use Rattle.std.specs.Prelude.{ℕ, ◌≡◌, ◌+◌, ◌-◌, ◌*◌, ◌%◌, ◌^◌, slice_index, ◌++◌, ◌⊎◌}
 use Rattle.std.specs.Prelude.{if◌then◌else◌, Bool, true, false, List, [], ◌∷◌, Option, Some, None}
 use Rattle.std.specs.Prelude.{codes, decimal, slice_get}
@@ -37,7 +37,7 @@ use Rattle.session.specs.Standings.{Standing, after_answer, sequence_of}
 -- a session of a new connection, with the connection's words: two for the session's id, the SSRC,
 -- the sequence number of the first frame in 16 bits, and the timestamp of the film's beginning (RFC
 -- 3550 section 5.1)
-abbrev pub source_of : List ℕ → Source
+abbrev pub source_of : List ℕ → StreamSource
 source_of words = record {
   ssrc = slice_index words 2;
   sequence = slice_index words 3 % 65536;
@@ -124,7 +124,7 @@ after_full old entries open_plays =
     (full_text (sequence_of old.awaited) entries open_plays)
 
 -- what was sent in all, once a play is done that kept so many bytes of its run
-abbrev pub counts_done : Source → Counts → Setup → Run → ℕ → Option Stored → Counts
+abbrev pub counts_done : StreamSource → Counts → Setup → Run → ℕ → Option Stored → Counts
 counts_done source counts setup run keep None = counts
 counts_done source counts setup run keep (Some stored) =
     counts_after counts (sending_of stored.film source setup counts run) (run.sent + keep)

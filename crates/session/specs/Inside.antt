@@ -17,7 +17,7 @@ use Rattle.session.specs.Steps.{IsHaltIn}
 use Rattle.session.specs.declared.settings.Settings.{Settings}
 use Rattle.session.specs.declared.states.Counts.{Counts}
 use Rattle.session.specs.declared.states.Setup.{Setup}
-use Rattle.session.specs.declared.states.Source.{Source}
+use Rattle.session.specs.declared.states.StreamSource.{StreamSource}
 use Rattle.session.specs.declared.states.Play.{Play as Played}
 use Rattle.session.specs.declared.states.Prepared.{Prepared}
 use Rattle.session.specs.declared.states.Awaited.{Awaited}
@@ -82,7 +82,7 @@ awaited_offers awaited = (coming_of awaited).offers
 -- the ground of a session: its films, its source, its settings, and what was sent before
 pub record Ground : Type 0 where
   pub films : List Stored
-  pub source : Source
+  pub source : StreamSource
   pub settings : Settings
   pub counts : Counts
 
@@ -95,7 +95,7 @@ ground_of session = record {
 }
 
 -- a play is sent as such a run
-pub record IsPlaying (stored : Stored) (source : Source) (settings : Settings) (setup : Setup)
+pub record IsPlaying (stored : Stored) (source : StreamSource) (settings : Settings) (setup : Setup)
     (counts : Counts) (play : Played) : Type 0 where
   pub playable : IsPlayable stored source settings setup counts play.run play.plan
   pub pieces : play.pacer.pieces ≡ run_pieces (sending_of stored.film source setup counts play.run)
@@ -112,13 +112,13 @@ IsStateKept own (Stopping setup stop) =
     × IsPausedIn own.films own.source own.counts setup stop.paused
 
 -- a play is asked for in Ready: the frames of a run, and its plan
-pub record IsPreparedAs (stored : Stored) (source : Source) (settings : Settings) (setup : Setup)
-    (prepared : Prepared) : Type 0 where
+pub record IsPreparedAs (stored : Stored) (source : StreamSource) (settings : Settings)
+    (setup : Setup) (prepared : Prepared) : Type 0 where
   pub playable : IsPlayable stored source settings setup prepared.counts prepared.run prepared.plan
   pub frames_are : prepared.frames ≡
       sending_of stored.film source setup prepared.counts prepared.run
 
-abbrev pub IsPreparedIn : List Stored → Source → Settings → State → Prepared → Type 0
+abbrev pub IsPreparedIn : List Stored → StreamSource → Settings → State → Prepared → Type 0
 IsPreparedIn films source settings Init prepared = ⊥
 IsPreparedIn films source settings (Ready setup paused) prepared =
     IsPrepared prepared
@@ -140,14 +140,14 @@ IsGoing lost (Playing setup play) = lost ≡ false → IsPlayGoing play
 IsGoing lost (Stopping setup stop) = ⊤
 
 -- what a halt leaves can be sent on
-abbrev pub IsLeftIn : List Stored → Source → Counts → State → Run → Type 0
+abbrev pub IsLeftIn : List Stored → StreamSource → Counts → State → Run → Type 0
 IsLeftIn films source counts Init run = ⊥
 IsLeftIn films source counts (Ready setup paused) run = ⊥
 IsLeftIn films source counts (Playing setup play) run =
     OfFilm films setup.film (λ stored. IsRunOf stored source setup counts run)
 IsLeftIn films source counts (Stopping setup stop) run = ⊥
 
-abbrev pub IsNextIn : List Stored → Source → Counts → State → Next → Type 0
+abbrev pub IsNextIn : List Stored → StreamSource → Counts → State → Next → Type 0
 IsNextIn films source counts state Done = ⊤
 IsNextIn films source counts state (Paused run) = IsLeftIn films source counts state run
 IsNextIn films source counts state Torn = ⊤

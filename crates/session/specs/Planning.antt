@@ -11,7 +11,7 @@ use Rattle.session.specs.declared.refusals.Refusal.{Refusal}
 use Rattle.session.specs.declared.refusals.Refusal.TheVariants.{Range}
 use Rattle.session.specs.declared.states.Counts.{Counts}
 use Rattle.session.specs.declared.states.Setup.{Setup}
-use Rattle.session.specs.declared.states.Source.{Source}
+use Rattle.session.specs.declared.states.StreamSource.{StreamSource}
 use Rattle.session.specs.declared.wanted.Wanted.{Wanted}
 use Rattle.session.specs.Films.{IsFilmAt, OfFilm}
 use Rattle.session.specs.Playing.{IsAskedRun, IsNoRange, IsRunOf, counts_for, curve_refusal}
@@ -19,7 +19,7 @@ use Rattle.session.specs.Playing.{playback_of, run_of}
 use Rattle.session.specs.Standings.{Standing}
 
 -- a paused run can be sent on
-abbrev pub IsPausedIn : List Stored → Source → Counts → Setup → Option Run → Type 0
+abbrev pub IsPausedIn : List Stored → StreamSource → Counts → Setup → Option Run → Type 0
 IsPausedIn films source counts setup None = ⊤
 IsPausedIn films source counts setup (Some run) =
     OfFilm films setup.film (λ stored. IsRunOf stored source setup counts run)

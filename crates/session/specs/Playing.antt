@@ -26,7 +26,7 @@ use Rattle.session.specs.declared.refusals.Refusal.TheVariants.{Buffer, Range, M
 use Rattle.session.specs.declared.settings.Settings.{Settings}
 use Rattle.session.specs.declared.states.Counts.{Counts}
 use Rattle.session.specs.declared.states.Setup.{Setup}
-use Rattle.session.specs.declared.states.Source.{Source}
+use Rattle.session.specs.declared.states.StreamSource.{StreamSource}
 use Rattle.session.specs.declared.wanted.Wanted.{Wanted}
 use Rattle.session.specs.declared.wanted.Wanted.TheVariants.{Resumed, New}
 use Rattle.session.specs.Films.{counts_after, sending_of}
@@ -75,12 +75,12 @@ run_of (Resumed run) = run
 run_of (New run) = run
 
 -- what was sent before a new run: all that was, with what was sent of the run that was paused
-abbrev pub counts_before : Film → Source → Setup → Counts → Option Run → Counts
+abbrev pub counts_before : Film → StreamSource → Setup → Counts → Option Run → Counts
 counts_before film source setup counts None = counts
 counts_before film source setup counts (Some paused) =
     counts_after counts (sending_of film source setup counts paused) paused.sent
 
-abbrev pub counts_for : Film → Source → Setup → Counts → Option Run → Wanted → Counts
+abbrev pub counts_for : Film → StreamSource → Setup → Counts → Option Run → Wanted → Counts
 counts_for film source setup counts paused (Resumed run) = counts
 counts_for film source setup counts paused (New run) = counts_before film source setup counts paused
 
@@ -95,16 +95,15 @@ playback_of film settings setup = record {
 
 -- a run of a film that can be sent on: what was sent of it ends at the end of a frame or of a
 -- report, and what of that isn't played fits in the client's buffer
-pub record IsRunOf (stored : Stored) (source : Source) (setup : Setup) (counts : Counts) (run : Run)
-    : Type 0 where
+pub record IsRunOf (stored : Stored) (source : StreamSource) (setup : Setup) (counts : Counts)
+    (run : Run) : Type 0 where
   pub run_is : IsRun (stored_sizes stored) run
   pub fits : Fits setup.buffer run
   pub boundary : IsBoundary (run_pieces (sending_of stored.film source setup counts run)) run.sent
 
 -- a run that can be sent on, with its plan
-pub record IsPlayable (stored : Stored) (source : Source) (settings : Settings) (setup : Setup)
-    (counts : Counts) (run : Run)
-    (plan : List Segment) : Type 0 where
+pub record IsPlayable (stored : Stored) (source : StreamSource) (settings : Settings)
+    (setup : Setup) (counts : Counts) (run : Run) (plan : List Segment) : Type 0 where
   pub run_of : IsRunOf stored source setup counts run
   pub plan_is : IsPlanOf (stored_sizes stored) (playback_of stored.film settings setup) run plan
   pub bytes : run.sent + total_bytes plan ≡

@@ -20,14 +20,14 @@ use Rattle.session.specs.declared.states.State.{State}
 use Rattle.session.specs.declared.states.State.TheVariants.{Init, Ready, Playing, Stopping}
 use Rattle.session.specs.declared.states.Counts.{Counts}
 use Rattle.session.specs.declared.states.Setup.{Setup}
-use Rattle.session.specs.declared.states.Source.{Source}
+use Rattle.session.specs.declared.states.StreamSource.{StreamSource}
 
 pub record Standing : Type 0 where
   -- the server's films and settings, the session's id, and what its stream begins with
   pub films : List Stored
   pub settings : Settings
   pub id : List ℕ
-  pub source : Source
+  pub source : StreamSource
   -- the state, and what was sent before the run in hand, or in all where there is none
   pub state : State
   pub counts : Counts

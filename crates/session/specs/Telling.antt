@@ -23,7 +23,7 @@ use Rattle.session.specs.declared.refusals.Refusal.TheVariants.{Option as Requir
 use Rattle.session.specs.declared.refusals.Refusal.TheVariants.{Film as NoFilm, State, Transport}
 use Rattle.session.specs.declared.refusals.Refusal.TheVariants.{Parameter, Buffer, Range, Memory}
 use Rattle.session.specs.declared.states.Setup.{Setup}
-use Rattle.session.specs.declared.states.Source.{Source}
+use Rattle.session.specs.declared.states.StreamSource.{StreamSource}
 use Rattle.session.specs.Films.{sending_of}
 use Rattle.session.specs.Methods.{Describes}
 use Rattle.session.specs.Planning.{IsPlannedRun}
@@ -61,8 +61,8 @@ pub record TellsSpan (film : Film) (first end : ℕ) (value : List ℕ) : Type 0
 -- an RTP-Info value (RFC 2326 section 12.33): a URL that names the film, under this authority; the
 -- number of the frame that is next after so many; and the time at which a unit begins, as a
 -- timestamp of 90,000 a second (RFC 2250 section 3.3)
-pub record TellsInfo (stored : Stored) (source : Source) (authority : List ℕ) (frames unit : ℕ)
-    (value : List ℕ) : Type 0 where
+pub record TellsInfo (stored : Stored) (source : StreamSource) (authority : List ℕ)
+    (frames unit : ℕ) (value : List ℕ) : Type 0 where
   pub url : List ℕ
   pub number : ℕ
   pub ticks : ℕ

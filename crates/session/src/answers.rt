@@ -28,7 +28,7 @@ use crate::films::{counts_after, frames_of, stored_at};
 use crate::notes::{OfferNote, PlayNote, Receipt};
 use crate::replies::{put_full, put_overflow, put_parameters, put_start};
 use crate::sessions::Session;
-use crate::states::{Awaited, Counts, Next, Play, Prepared, Setup, Source, State, Stop};
+use crate::states::{Awaited, Counts, Next, Play, Prepared, Setup, State, Stop, StreamSource};
 use admission::Answer;
 use early_start::Offers;
 use film_frames::{Frames, Stored};
@@ -258,7 +258,7 @@ fn is_answered(next: Next) -> bool
 /// done is counted.
 fn counts_next(
     films: &[Stored],
-    source: Source,
+    source: StreamSource,
     counts: Counts,
     setup: &Setup,
     run: &Run,

@@ -12,7 +12,7 @@ ghost use Rattle.session.specs.Films.{IsFilmAt, counts_after, identity_of, lengt
 ghost use Rattle.session.specs.Films.{milliseconds_at, sending_of, timestamp_at};
 ghost use Rattle.session.specs.Ranges.{AreFilms};
 
-use crate::states::{Counts, Setup, Source};
+use crate::states::{Counts, Setup, StreamSource};
 use film_frames::{Frames, Stored, law_piece_sizes, law_wire_sizes};
 use film_run::Run;
 use mpeg_scan::{Film, law_film};
@@ -50,7 +50,7 @@ pub(crate) fn length_ms(film: &Film) -> u64
 
 /// The timestamp of a unit, in 1/90,000 second.
 #[tactic(auto, using(crate::proofs::Sums::sum_mod))]
-pub(crate) fn timestamp_at(film: &Film, source: Source, unit: usize) -> u32
+pub(crate) fn timestamp_at(film: &Film, source: StreamSource, unit: usize) -> u32
     requires { unit ≤ MAX_FILM_PICTURES }
     ensures { result ≡ timestamp_at film.now source unit }
 {
@@ -60,7 +60,7 @@ pub(crate) fn timestamp_at(film: &Film, source: Source, unit: usize) -> u32
 
 /// The identity of a run that begins after so many frames and octets (RFC 3550 section 5.1).
 #[tactic(auto, using(crate::proofs::Sums::sum_mod))]
-pub(crate) fn identity_of(source: Source, setup: &Setup, counts: Counts) -> Identity
+pub(crate) fn identity_of(source: StreamSource, setup: &Setup, counts: Counts) -> Identity
     ensures { result ≡ identity_of source setup.now counts }
 {
     Identity {
@@ -79,7 +79,7 @@ pub(crate) fn identity_of(source: Source, setup: &Setup, counts: Counts) -> Iden
 /// The frames of a run that is sent after so many frames and octets.
 pub(crate) fn frames_of<'a>(
     stored: &'a Stored,
-    source: Source,
+    source: StreamSource,
     setup: &Setup,
     counts: Counts,
     run: &Run,

@@ -14,7 +14,7 @@ ghost use Rattle.session.specs.declared.settings.Settings.{Settings};
 ghost use Rattle.session.specs.declared.states.Counts.{Counts};
 ghost use Rattle.session.specs.declared.states.Play.{Play as Played};
 ghost use Rattle.session.specs.declared.states.Setup.{Setup};
-ghost use Rattle.session.specs.declared.states.Source.{Source};
+ghost use Rattle.session.specs.declared.states.StreamSource.{StreamSource};
 ghost use Rattle.session.specs.declared.states.State.TheVariants.{Playing, Ready};
 ghost use Rattle.session.specs.Films.{counts_after, identity_of, sending_of};
 ghost use Rattle.session.specs.Changes.{AsksOrLacks, AwaitsNoStop, CanBePlayed, ChangesState};
@@ -59,7 +59,7 @@ pub fn law_play_goes_on()
 /// modulo 2^16, and the packets and octets that reports count modulo 2^32 (RFC 3550 sections 5.1
 /// and 6.4.1). So does a new run from what was sent of a paused one that it takes the place of.
 pub fn law_numbers_go_on()
-    ensures run { (source : Source) (setup : Setup) (counts : Counts) (sending : FramedRun)
+    ensures run { (source : StreamSource) (setup : Setup) (counts : Counts) (sending : FramedRun)
         (bytes : ℕ) → GoesOn (identity_of source setup counts)
         (identity_of source setup (counts_after counts sending bytes))
         (frames_before sending bytes) (octets_before sending bytes) }

@@ -12,7 +12,7 @@ use crate::films::{counts_after, frames_of, stored_at};
 use crate::refusals::Refusal;
 use crate::sessions::Session;
 use crate::settings::Settings;
-use crate::states::{Counts, Setup, Source};
+use crate::states::{Counts, Setup, StreamSource};
 use crate::wanted::{Wanted, wanted_run};
 use film_frames::Stored;
 use film_run::{Playback, Run, plan_of};
@@ -76,7 +76,7 @@ impl<'a> Session<'a> {
 /// What was sent before a new run, once a paused one is given up.
 fn counts_before(
     stored: &Stored,
-    source: Source,
+    source: StreamSource,
     setup: &Setup,
     counts: Counts,
     paused: Option<Run>,
@@ -97,7 +97,7 @@ fn counts_before(
 /// follows on all that was sent.
 fn run_and_counts(
     stored: &Stored,
-    source: Source,
+    source: StreamSource,
     setup: &Setup,
     counts: Counts,
     paused: Option<Run>,

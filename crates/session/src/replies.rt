@@ -18,7 +18,7 @@ ghost use Rattle.rtsp_text.specs.Replies.{Field, is_code, reply_front};
 
 use crate::films::{counts_after, identity_of, milliseconds_at, timestamp_at};
 use crate::refusals::Refusal;
-use crate::states::{Prepared, Setup, Source};
+use crate::states::{Prepared, Setup, StreamSource};
 use film_frames::Stored;
 use itoa::Buffer;
 use rtsp_fields::{description, seconds_text};
@@ -145,7 +145,7 @@ pub(crate) struct Info<'m> {
 /// Where a play begins and ends in time, and from which frame it goes on.
 pub(crate) fn info_of<'m>(
     stored: &'m Stored,
-    source: Source,
+    source: StreamSource,
     setup: &Setup,
     prepared: &Prepared<'_>,
     authority: &'m [u8],

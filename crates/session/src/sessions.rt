@@ -8,7 +8,7 @@ ghost use Rattle.session.specs.Standings.{CanKeep, IsAtRest, IsDue, open_of};
 use crate::logs::{LOOKS, Log};
 use crate::notes::Notes;
 use crate::settings::Settings;
-use crate::states::{Awaited, Counts, NOTHING_SENT, Source, State, Teardown, source_of};
+use crate::states::{Awaited, Counts, NOTHING_SENT, State, StreamSource, Teardown, source_of};
 use crate::texts::Text;
 use film_frames::Stored;
 use rtsp_fields::session_id;
@@ -32,7 +32,7 @@ pub struct Session<'a> {
     /// The session's id, in hexadecimal digits.
     pub(crate) id: [u8; 16],
     /// What its stream begins with.
-    pub(crate) source: Source,
+    pub(crate) source: StreamSource,
     /// Where it stands.
     pub(crate) state: State<'a>,
     /// What was sent before the run in hand, or in all where there is none.

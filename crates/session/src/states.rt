@@ -40,9 +40,10 @@ pub(crate) const NOTHING_SENT: Counts = Counts {
     octets: 0,
 };
 
-/// What a connection's random words give its stream (RFC 3550 section 5.1).
+/// The source of the stream that a connection sends, and where its numbers begin, from the
+/// connection's random words (RFC 3550 section 5.1).
 #[derive(Clone, Copy)]
-pub(crate) struct Source {
+pub(crate) struct StreamSource {
     /// The SSRC.
     pub(crate) ssrc: u32,
     /// The sequence number of the first frame.
@@ -201,10 +202,10 @@ impl<'a> Awaited<'a> {
 }
 
 /// What a connection's words give its stream.
-pub(crate) fn source_of(words: &[u32; 5]) -> Source
+pub(crate) fn source_of(words: &[u32; 5]) -> StreamSource
     ensures { result ≡ source_of words.now }
 {
-    Source {
+    StreamSource {
         ssrc: words[2],
         sequence: (words[3] % 65_536) as u16,
         timestamp: words[4],

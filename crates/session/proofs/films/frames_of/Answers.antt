@@ -15,6 +15,7 @@ returns-clause-bytes c =
     let within : c.args.run.now.end_unit ≤ length film.units.items =
     omega (arith, c.requires.within, length-map film.units.items wire) in
     ap (λ (s : FramedRun). length (framed_bytes (run_pieces s))) c.new.ensures
-    ∙ c.law_piece_sizes.ensures.all film first c.args.run.now.end_unit c.identity_of-identity.result c.requires.order within
+    ∙ c.law_piece_sizes.ensures.all film first c.args.run.now.end_unit
+    c.identity_of-identity.result c.requires.order within
     ∙ sym (ap (λ (l : List ℕ). sum (take count l)) (drop-map wire first film.units.items)
     ∙ ap sum (take-map wire count (drop first film.units.items)))

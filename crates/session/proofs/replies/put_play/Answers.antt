@@ -19,7 +19,8 @@ returns-clause-text c =
     ∷ seconds_text c.args.info.now.end_ms ∷ []) =
     rw (c.as_slice.ensures, c.seconds_text.ensures.text, c.as_slice-2.ensures, c.seconds_text-2.ensures.text) refl in
     let same_info : info ≡ (codes "url=rtsp://" ∷ c.args.info.now.authority.now ∷ codes "/" ∷ c.args.info.now.name.now
-    ∷ codes "/video;seq=" ∷ decimal c.args.info.now.sequence ∷ codes ";rtptime=" ∷ decimal c.args.info.now.timestamp ∷ []) =
+    ∷ codes "/video;seq=" ∷ decimal c.args.info.now.sequence ∷ codes ";rtptime="
+    ∷ decimal c.args.info.now.timestamp ∷ []) =
     rw (c.as_slice-3.ensures, c.as_slice-4.ensures, c.as_slice-5.ensures, number, c.as_slice-6.ensures, time) refl in
     let session = field (codes "Session") c.args.id.now in
     c.field_of-2.ensures.front 200 (Some c.args.sequence) (session ∷ field (codes "Range") (joined_parts range) ∷ [])

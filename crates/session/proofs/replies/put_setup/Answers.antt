@@ -8,7 +8,8 @@ use Rattle.session.proofs.replies.put_setup.Goals as goal
 pub returns : goal.returns
 returns c =
     let parts : List (List ℕ) =
-    c.as_slice.result.now ∷ c.digits.result.now ∷ c.as_slice-2.result.now ∷ c.digits-2.result.now ∷ c.as_slice-3.result.now
+    c.as_slice.result.now ∷ c.digits.result.now ∷ c.as_slice-2.result.now ∷ c.digits-2.result.now
+    ∷ c.as_slice-3.result.now
     ∷ c.as_slice-4.result.now ∷ [] in
     let media : c.digits.result.now ≡ decimal c.args.setup.now.media = c.digits.ensures.text
     ∙ ap decimal c.from.ensures in
