@@ -14,7 +14,7 @@ use Rattle.plan_cert.specs.Slots.{plan_slots, total_bytes}
 use Rattle.vod_base.specs.Links.{Doing, told_more, sends}
 use Rattle.pacer.specs.Boundaries.{IsSeam, boundary_from, bytes_between}
 use Rattle.pacer.specs.Sending.{HasStopped}
-use Rattle.pacer.specs.Pacings.{IsPacing, Pacing, pacing_of, first_slots, at_slot, step_end}
+use Rattle.pacer.specs.Pacings.{IsPacing, Pacing, whole_pacing, first_slots, at_slot, step_end}
 use Rattle.pacer.specs.Steps.{HasFailed}
 
 framed-cons : (piece : List ℕ) (pieces : List (List ℕ))
@@ -160,7 +160,7 @@ step-failed {stop} {slot} {old} {to} {whole} {told_old} pacing are end order sto
 pub new-pacing : {pieces : List (List ℕ)} {before : ℕ} {plan : List Segment} {total : ℕ} (start : ℕ)
     → IsBoundary pieces before → before + total_bytes plan ≡ length (framed_bytes pieces)
     → total ≡ length (framed_bytes pieces) → total < 2 ^ 64 → IsPlan plan
-    → IsPacing (pacing_of pieces before plan start (total - before) 0 0 0) × (total ≡ length (framed_bytes pieces))
+    → IsPacing (record (whole_pacing pieces before plan start) { keep = total - before }) × (total ≡ length (framed_bytes pieces))
 new-pacing {pieces} {before} {plan} {total} start begins whole total_is short is =
     let end : before + (total - before) ≡ length (framed_bytes pieces) = omega (arith, whole, total_is) in (
       record {

@@ -10,7 +10,7 @@ use Rattle.plan_cert.specs.Plan.{IsPlan}
 use Rattle.plan_cert.specs.Slots.{plan_slots, sum_through, total_bytes}
 use Rattle.plan_cert.proofs.SlotSums.{length-plan_slots, slot-past, sum-plan_slots}
 use Rattle.pacer.specs.Boundaries.{boundary_from}
-use Rattle.pacer.specs.Pacings.{IsPacing, Pacing, due_by, first_slots, pacing_of, slots_by}
+use Rattle.pacer.specs.Pacings.{IsPacing, Pacing, due_by, first_slots, slots_by}
 use Rattle.pacer.specs.Laws.{BringsNothing, IsLatest, SendsNext, SendsThrough, StopsAtBoundary}
 use Rattle.pacer.proofs.PacingLemmas.{boundary-is, first-slots-rise}
 
@@ -20,8 +20,7 @@ brings-nothing p slot is = λ before.
     let passed : max p.passed (slots_by p slot) ≡ p.passed = omega arith in
     let bytes : first_slots p.plan (slots_by p slot) ≡ 0 = ap (first_slots p.plan) none in
     let due : due_by p slot ≡ p.due = omega arith in
-    ap (λ n. pacing_of p.pieces p.before p.plan p.start p.keep n (due_by p slot) p.sent) passed
-    ∙ ap (λ n. pacing_of p.pieces p.before p.plan p.start p.keep p.passed n p.sent) due
+    ap (λ n. record p { passed = n; due = due_by p slot }) passed ∙ ap (λ n. record p { due = n }) due
 
 -- what is due after the latest slot
 due-through : (p : Pacing) (slot : ℕ) → IsPacing p → IsLatest p slot

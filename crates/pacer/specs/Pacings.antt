@@ -23,18 +23,6 @@ pub record Pacing : Type 0 where
   pub due : ℕ
   pub sent : ℕ
 
-abbrev pub pacing_of : List (List ℕ) → ℕ → List Segment → ℕ → ℕ → ℕ → ℕ → ℕ → Pacing
-pacing_of pieces before plan start keep passed due sent = record {
-  pieces = pieces;
-  before = before;
-  plan = plan;
-  start = start;
-  keep = keep;
-  passed = passed;
-  due = due;
-  sent = sent;
-}
-
 -- how many slots of a plan there are through its slot of that number, where one is named
 abbrev pub slots_through : Option ℕ → ℕ
 slots_through None = 0
@@ -46,7 +34,16 @@ first_slots plan slots = sum (take slots (plan_slots plan))
 
 -- a pacing in which nothing was stepped
 abbrev pub whole_pacing : List (List ℕ) → ℕ → List Segment → ℕ → Pacing
-whole_pacing pieces before plan start = pacing_of pieces before plan start (total_bytes plan) 0 0 0
+whole_pacing pieces before plan start = record {
+  pieces = pieces;
+  before = before;
+  plan = plan;
+  start = start;
+  keep = total_bytes plan;
+  passed = 0;
+  due = 0;
+  sent = 0;
+}
 
 -- what holds of every pacing
 pub record IsPacing (p : Pacing) : Type 0 where

@@ -48,17 +48,31 @@ pub struct Pacer<T: Track> {
 impl<T: Track> Model for Pacer<T> {
     ghost use Rattle.std.specs.Prelude.{◌≡◌, length};
     ghost use Rattle.film_frames.specs.Tracks.{framed_bytes};
-    ghost use Rattle.pacer.specs.Pacings.{Pacing, pacing_of, slots_through, IsPacing};
+    ghost use Rattle.pacer.specs.Pacings.{Pacing, slots_through, IsPacing};
 
     ghost Value = { Pacing };
 
-    ghost view = { λ p.
-        pacing_of (T.pieces p.track) p.before p.cursor p.start p.keep
-        (slots_through p.last) p.due p.sent };
+    ghost view = { λ p. record {
+      pieces = T.pieces p.track;
+      before = p.before;
+      plan = p.cursor;
+      start = p.start;
+      keep = p.keep;
+      passed = slots_through p.last;
+      due = p.due;
+      sent = p.sent;
+    } };
 
-    ghost invariant = { λ p.
-        IsPacing (pacing_of (T.pieces p.track) p.before p.cursor p.start p.keep
-        (slots_through p.last) p.due p.sent)
+    ghost invariant = { λ p. IsPacing (record {
+      pieces = T.pieces p.track;
+      before = p.before;
+      plan = p.cursor;
+      start = p.start;
+      keep = p.keep;
+      passed = slots_through p.last;
+      due = p.due;
+      sent = p.sent;
+    })
         × (p.total ≡ length (framed_bytes (T.pieces p.track))) };
 }
 

@@ -1,7 +1,7 @@
 use Rattle.std.proofs.Common.{◌≡◌, ◌+◌, ◌-◌, ℕ, List, length, ap, sym, subst, ◌∙◌, min, max, arith}
 use Rattle.film_frames.specs.Tracks.{framed_bytes}
 use Rattle.plan_cert.specs.declared.Segment.{Segment}
-use Rattle.pacer.specs.Pacings.{IsPacing, first_slots, pacing_of, slots_through}
+use Rattle.pacer.specs.Pacings.{IsPacing, first_slots, slots_through}
 use Rattle.pacer.proofs.PacingLemmas.{due-of-both}
 use Rattle.pacer.proofs.pacers.Pacer.raise.Goals as goal
 
@@ -18,8 +18,16 @@ invariant_of-self g c =
     ∙ ap (λ n. max old.due n) (c.min-reached.ensures ∙ ap (λ n. min n old.keep) c.sum_at.ensures.value)
     ∙ both ∙ ap (λ n. min (first_slots old.cursor n) old.keep) (sym c.later_of-self-inside.ensures) in
     let P : List Segment → Type 0 = λ plan.
-    IsPacing (pacing_of pieces old.before plan old.start old.keep (slots_through c.later_of-self-inside.result)
-    c.max-self-inside.result old.sent)
+    IsPacing (record {
+      pieces = pieces;
+      before = old.before;
+      plan = plan;
+      start = old.start;
+      keep = old.keep;
+      passed = slots_through c.later_of-self-inside.result;
+      due = c.max-self-inside.result;
+      sent = old.sent;
+    })
     × (old.total ≡ length (framed_bytes pieces)) in
     subst P (sym c.sum_at.ensures.plan) (
       record {
