@@ -35,7 +35,7 @@ pub use laws::{
 };
 pub use limits::{MAX_BYTES, MAX_DELAY, MAX_FILM_PICTURES, MAX_SLOTS, number_within};
 pub use lines::{Line, line_end};
-pub use links::{Heard, LATEST_SLOT, Link};
+pub use links::{Heard, LATEST_SLOT, Link, MAX_EVENTS, MAX_HEARD};
 pub use memory_gates::{MemoryGate, MemoryPart};
 pub use memory_libraries::MemoryLibrary;
 pub use memory_links::{Event, MemoryLink};

@@ -10,6 +10,12 @@ use crate::outside::LinkFault;
 /// The last slot that a link may tell, 2^62.
 pub const LATEST_SLOT: u64 = 1 << 62;
 
+/// The most bytes that a connection takes from its link in one call.
+pub const MAX_HEARD: usize = 16_384;
+
+/// The most events of a link, 2^40: after so many a connection ends.
+pub const MAX_EVENTS: u64 = 1 << 40;
+
 /// What a connection waited for and heard.
 #[derive(Clone, Copy, Debug, PartialEq, Eq)]
 pub enum Heard {
