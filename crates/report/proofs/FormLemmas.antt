@@ -39,16 +39,17 @@ words_of row = grouped (row.first.label ++ row.first.text) row.more
 abbrev spelled_row : List ℕ → Row → List ℕ
 spelled_row before row = spelled (before ++ row.first.label ++ row.first.text) row.more
 
-grouped-spelled : (before first : List ℕ) (more : List Labelled) → before ++ grouped first more ≡ spelled (before ++ first) more
-grouped-spelled before first [] = refl
-grouped-spelled before first (one ∷ more) =
-    grouped-spelled before (first ++ (one.label ++ one.text)) more
+grouped_spelled : (before first : List ℕ) (more : List Labelled)
+    → before ++ grouped first more ≡ spelled (before ++ first) more
+grouped_spelled before first [] = refl
+grouped_spelled before first (one ∷ more) =
+    grouped_spelled before (first ++ (one.label ++ one.text)) more
     ∙ ap (λ (l : List ℕ). spelled l more) (sym (append_assoc before first (one.label ++ one.text))
     ∙ sym (append_assoc (before ++ first) one.label one.text))
 
 row_spelled : (before : List ℕ) (row : Row) → before ++ words_of row ≡ spelled_row before row
 row_spelled before row =
-    grouped-spelled before (row.first.label ++ row.first.text) row.more
+    grouped_spelled before (row.first.label ++ row.first.text) row.more
     ∙ ap (λ (l : List ℕ). spelled l row.more) (sym (append_assoc before row.first.label row.first.text))
 
 -- the front of a line: its place, who asked, and the command
@@ -91,7 +92,8 @@ has_form place seat (Play slot plan) (Looked now at booked) kind = kind
 has_form place seat (Halt number keep) (Admitted start) kind = kind
 has_form place seat (Halt number keep) (Overflow over booked asked) kind = kind
 has_form place seat (Halt number keep) Halted kind =
-    append_assoc (decimal place ++ field (codes " seat=") seat ++ command_words (Halt number keep)) (codes " halted") (codes "\n")
+    append_assoc (decimal place ++ field (codes " seat=") seat ++ command_words (Halt number keep)) (codes " halted")
+    (codes "\n")
     ∙ ap (λ (l : List ℕ). l ++ codes " halted\n")
     (front_spelled (decimal place) (labelled (codes " seat=") seat)
     (record { first = labelled (codes " halt number=") number; more = labelled (codes " keep=") keep ∷ [] }))

@@ -7,7 +7,7 @@ use Rattle.plan_cert.specs.Reading.{Lines, lines_of}
 use Rattle.slot_calendar.specs.Totals.{ring_slots}
 use Rattle.report.specs.CalendarForms.{AreAscending, IsCalendarTold}
 use Rattle.report.specs.CalendarTexts.{AreBookings, booked_among, booked_slots, calendar_text}
-use Rattle.report.proofs.LineLemmas.{all_booked, booked_stands, few_slots, lines-text}
+use Rattle.report.proofs.LineLemmas.{all_booked, booked_stands, few_slots, lines_text}
 
 ascending_slots : (booked : ℕ → ℕ) (a n : ℕ) → AreAscending (booked_among booked (range_with_len a n))
 ascending_slots booked a zero = tt
@@ -28,11 +28,12 @@ pub calendar_told : (from : ℕ) (booked : ℕ → ℕ) → AreBookings from boo
 unfolding booked_slots
 calendar_told from booked are =
     let small : from < 2 ^ 64 = omega (arith, are.first_small) in
-    let told = lines-text from booked small (few_slots from booked are) in
+    let told = lines_text from booked small (few_slots from booked are) in
     record {
       slots = booked_slots from booked;
       ascend = ascending_slots booked from ring_slots;
-      some = all_booked booked (λ t. (from ≤ t) × (0 < booked t)) from ring_slots (λ t after inside some. (after, some));
+      some = all_booked booked (λ t. (from ≤ t) × (0 < booked t)) from ring_slots
+          (λ t after inside some. (after, some));
       all = λ t after some. (
           let inside : t < from + ring_slots = elim (cases_lt t (from + ring_slots)) [
             | inl inside ↦ inside

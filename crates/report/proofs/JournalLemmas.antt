@@ -29,7 +29,8 @@ line_of place (entry ∷ entries) (suc i) none inside =
     let next : place + 1 + i ≡ place + suc i = omega arith in
     line_of (place + 1) entries i none (omega (arith, inside)) ∙ ap (λ n. entry_line n (get_or entries i none)) next
 
-text_of : (place : ℕ) (entries : List Entry) → journal_text place entries ≡ flat_map (λ line. line) (lines_at place entries)
+text_of : (place : ℕ) (entries : List Entry)
+    → journal_text place entries ≡ flat_map (λ line. line) (lines_at place entries)
 text_of place [] = refl
 text_of place (entry ∷ entries) = ap (λ (l : List ℕ). entry_line place entry ++ l) (text_of (place + 1) entries)
 
@@ -45,7 +46,8 @@ journal_told place entries = record {
 pub kinds_from : (entries : List Entry) (from : ℕ) → AreOfKind entries → AreOfKind (drop from entries)
 kinds_from entries from kinds i none inside =
     let within : from + i < length entries = omega (arith, inside, length-drop from entries) in
-    subst (λ (e : Entry). IsOfKind e.command e.answer) (sym (get_or-drop from entries i none)) (kinds (from + i) none within)
+    subst (λ (e : Entry). IsOfKind e.command e.answer) (sym (get_or-drop from entries i none))
+    (kinds (from + i) none within)
 
 pub kind_at : (entries : List Entry) (i : ℕ) (entry : Entry) → AreOfKind entries → i < length entries
     → entry ≡ get_or entries i entry → IsOfKind entry.command entry.answer
@@ -97,7 +99,8 @@ pub line_cut : {entries : List Entry} {from passed : ℕ} {before mid after : Li
     → IsAppended mid (entry_line (from + passed) entry) after (Err e) →
     IsAppended before (journal_text from entries) after (Err e)
 line_cut {entries = entries} {from = from} {passed = passed} entry so_far inside at cut =
-    appended_as (ap (λ (l : List ℕ). so_far.done ++ l) (sym (text_next entries from passed entry inside at)) ∙ so_far.whole)
+    appended_as (ap (λ (l : List ℕ). so_far.done ++ l) (sym (text_next entries from passed entry inside at))
+    ∙ so_far.whole)
     (then_appended so_far.done so_far.after_is
     (cut_before (journal_text (from + (passed + 1)) (drop (passed + 1) entries)) cut))
 

@@ -21,7 +21,8 @@ use Rattle.report.specs.CalendarTexts.{first_words, slot_line, slot_words}
 abbrev pub IsClean : List ℕ → Type 0
 IsClean xs = All (λ b. b ≢ 10) xs
 
-pub clean_field : (label : List ℕ) (n : ℕ) → list_all (λ b. not (b == 10)) label ≡ true → n < 2 ^ 64 → IsClean (field label n)
+pub clean_field : (label : List ℕ) (n : ℕ) → list_all (λ b. not (b == 10)) label ≡ true → n < 2 ^ 64
+    → IsClean (field label n)
 clean_field label n test small =
     All-append (λ b. b ≢ 10) label (decimal n) (none_is 10 label test)
     (not_in_decimal 10 n small (λ within. omega (arith, within.0)))
@@ -40,26 +41,27 @@ abbrev pub IsFew : (ℕ → ℕ) → ℕ → Type 0
 IsFew bytes t = (t < 2 ^ 64) × (bytes t < 2 ^ 64)
 
 -- the lines of these slots and of the end, and nothing after them
-lines-slots : (bytes : ℕ → ℕ) (slots : List ℕ) → All (IsFew bytes) slots →
+lines_slots : (bytes : ℕ → ℕ) (slots : List ℕ) → All (IsFew bytes) slots →
     lines_of (flat_map (slot_line bytes) slots ++ codes "end\n")
     ≡ record { whole = map (words_at bytes) slots ++ codes "end" ∷ []; rest = [] }
-lines-slots bytes [] few = refl
-lines-slots bytes (t ∷ rest) few =
+lines_slots bytes [] few = refl
+lines_slots bytes (t ∷ rest) few =
     let one : IsFew bytes t = All-head (IsFew bytes) t rest few in
     let after = flat_map (slot_line bytes) rest ++ codes "end\n" in
-    let shape : (slot_line bytes t ++ flat_map (slot_line bytes) rest) ++ codes "end\n" ≡ words_at bytes t ++ 10 ∷ after =
+    let shape : (slot_line bytes t ++ flat_map (slot_line bytes) rest) ++ codes "end\n" ≡ words_at bytes t
+    ++ 10 ∷ after =
     append_assoc (slot_line bytes t) (flat_map (slot_line bytes) rest) (codes "end\n")
     ∙ append_assoc (words_at bytes t) (10 ∷ []) after in
     let with_line : Lines → Lines = λ ls. record { whole = words_at bytes t ∷ ls.whole; rest = ls.rest } in
     ap lines_of shape ∙ lines-cut (words_at bytes t) after (clean_words t (bytes t) one.0 one.1)
-    ∙ ap with_line (lines-slots bytes rest (All-tail (IsFew bytes) t rest few))
+    ∙ ap with_line (lines_slots bytes rest (All-tail (IsFew bytes) t rest few))
 
 abbrev pub lines_told : ℕ → (ℕ → ℕ) → List (List ℕ)
 lines_told from bytes = first_words from ∷ (map (words_at bytes) (booked_slots from bytes) ++ codes "end" ∷ [])
 
-pub lines-text : (from : ℕ) (bytes : ℕ → ℕ) → from < 2 ^ 64 → All (IsFew bytes) (booked_slots from bytes) →
+pub lines_text : (from : ℕ) (bytes : ℕ → ℕ) → from < 2 ^ 64 → All (IsFew bytes) (booked_slots from bytes) →
     lines_of (calendar_text from bytes) ≡ record { whole = lines_told from bytes; rest = [] }
-lines-text from bytes small few =
+lines_text from bytes small few =
     let first = first_words from in
     let slots = flat_map (slot_line bytes) (booked_slots from bytes) in
     let after = slots ++ codes "end\n" in
@@ -67,19 +69,20 @@ lines-text from bytes small few =
     append_assoc (first ++ codes "\n") slots (codes "end\n") ∙ append_assoc first (codes "\n") after in
     let with_first : Lines → Lines = λ ls. record { whole = first ∷ ls.whole; rest = ls.rest } in
     ap lines_of shape ∙ lines-cut first after (clean_field (codes "calendar from=") from refl small)
-    ∙ ap with_first (lines-slots bytes (booked_slots from bytes) few)
+    ∙ ap with_first (lines_slots bytes (booked_slots from bytes) few)
 
-lines-calendar : (from : ℕ) (bytes : ℕ → ℕ) → from < 2 ^ 64 → All (IsFew bytes) (booked_slots from bytes)
+lines_calendar : (from : ℕ) (bytes : ℕ → ℕ) → from < 2 ^ 64 → All (IsFew bytes) (booked_slots from bytes)
     → calendar_lines from bytes ≡ lines_told from bytes
 unfolding calendar_lines
-lines-calendar from bytes small few = ap (λ (ls : Lines). ls.whole) (lines-text from bytes small few)
+lines_calendar from bytes small few = ap (λ (ls : Lines). ls.whole) (lines_text from bytes small few)
 
 -- ---- the slots in which bytes are booked
 pub all_booked : (bytes : ℕ → ℕ) (Q : ℕ → Type 0) (a n : ℕ) → ((t : ℕ) → a ≤ t → t < a + n → 0 < bytes t → Q t)
     → All Q (booked_among bytes (range_with_len a n))
 all_booked bytes Q a zero each = All-nil Q
 all_booked bytes Q a (suc n) each =
-    pick (nat_lt 0 (bytes a)) refl (all_booked bytes Q (a + 1) n (λ t after inside some. each t (omega arith) (omega arith) some))
+    pick (nat_lt 0 (bytes a)) refl
+    (all_booked bytes Q (a + 1) n (λ t after inside some. each t (omega arith) (omega arith) some))
   where
     rest : List ℕ
     rest = booked_among bytes (range_with_len (a + 1) n)
@@ -99,7 +102,8 @@ booked_stands {slot} bytes a (suc n) after inside some = elim (cases_lt a slot) 
       let booked : 0 < bytes a = subst (λ t. 0 < bytes t) (sym here) some in
       let P : Bool → Type 0 =
       λ b. Contains
-      (cond b (a ∷ booked_among bytes (range_with_len (a + 1) n)) (booked_among bytes (range_with_len (a + 1) n))) slot in
+      (cond b (a ∷ booked_among bytes (range_with_len (a + 1) n)) (booked_among bytes (range_with_len (a + 1) n)))
+      slot in
       subst P (sym (lt-ltb 0 (bytes a) booked)) (0, omega arith, here)
       )
 ]
@@ -140,7 +144,8 @@ same_words {s} {b} {t} {c} small few small' few' e =
 
 -- a line that tells of this slot tells its booked bytes, above 0, and the slot isn't before now
 abbrev TellsOf : ℕ → (ℕ → ℕ) → ℕ → ℕ → List ℕ → Type 0
-TellsOf from bytes slot booked line = line ≡ slot_words slot booked → (booked ≡ bytes slot) × (0 < booked) × (from ≤ slot)
+TellsOf from bytes slot booked line = line ≡ slot_words slot booked
+    → (booked ≡ bytes slot) × (0 < booked) × (from ≤ slot)
 
 pub few_slots : (from : ℕ) (bytes : ℕ → ℕ) → AreBookings from bytes
     → All (IsFew bytes) (booked_slots from bytes)
@@ -156,7 +161,8 @@ unfolding booked_slots
 tells_all {from} {bytes} {slot} {booked} small few kept =
     all_map (TellsOf from bytes slot booked) (words_at bytes) (booked_slots from bytes)
     (all_booked bytes (λ t. TellsOf from bytes slot booked (words_at bytes t)) from ring_slots (λ t after inside some e.
-    let same = same_words small few (omega (arith, kept.first_small, inside)) (omega (arith, kept.few t after)) (sym e) in
+    let same = same_words small few (omega (arith, kept.first_small, inside)) (omega (arith, kept.few t after))
+    (sym e) in
     (same.1 ∙ ap bytes (sym same.0), omega (arith, some, same.1), omega (arith, after, same.0))))
 
 pub line_stands : {from : ℕ} {bytes : ℕ → ℕ} (slot : ℕ) → AreBookings from bytes →
@@ -167,9 +173,10 @@ line_stands {from} {bytes} slot kept after inside some =
     let slots = map (words_at bytes) (booked_slots from bytes) in
     let line = words_at bytes slot in
     let stands =
-    contains_map (words_at bytes) (booked_slots from bytes) slot (booked_stands bytes from ring_slots after inside some) in
+    contains_map (words_at bytes) (booked_slots from bytes) slot
+    (booked_stands bytes from ring_slots after inside some) in
     subst (λ (ls : List (List ℕ)). Contains ls line)
-    (sym (lines-calendar from bytes (omega (arith, kept.first_small)) (few_slots from bytes kept)))
+    (sym (lines_calendar from bytes (omega (arith, kept.first_small)) (few_slots from bytes kept)))
     (Contains-append_right (first_words from ∷ []) (slots ++ codes "end" ∷ []) line
     (Contains-append_left slots (codes "end" ∷ []) line stands))
 
@@ -186,8 +193,9 @@ line_tells {from} {bytes} {slot} {booked} kept small few stands =
     λ e. absurd (let first : 101 ≡ 97 = ap (λ (l : List ℕ). get_or l 0 0) e in omega (arith, first)) in
     let tells : All P (lines_told from bytes) =
     All-cons P (first_words from) (slots ++ codes "end" ∷ []) no_first
-    (All-append P slots (codes "end" ∷ []) (tells_all small few kept) (All-cons P (codes "end") [] no_end (All-nil P))) in
+    (All-append P slots (codes "end" ∷ []) (tells_all small few kept)
+    (All-cons P (codes "end") [] no_end (All-nil P))) in
     let among : Contains (lines_told from bytes) line =
     subst (λ (ls : List (List ℕ)). Contains ls line)
-    (lines-calendar from bytes (omega (arith, kept.first_small)) (few_slots from bytes kept)) stands in
+    (lines_calendar from bytes (omega (arith, kept.first_small)) (few_slots from bytes kept)) stands in
     All-get_or P (lines_told from bytes) among.0 line among.1 tells among.2

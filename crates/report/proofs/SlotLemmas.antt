@@ -16,51 +16,51 @@ lines bytes slots = flat_map (slot_line bytes) (booked_among bytes slots)
 abbrev pub line_at : (ℕ → ℕ) → ℕ → List ℕ
 line_at bytes t = cond (nat_lt 0 (bytes t)) (slot_line bytes t) []
 
-pub line-booked : (bytes : ℕ → ℕ) (t : ℕ) → 0 < bytes t → line_at bytes t ≡ slot_line bytes t
-line-booked bytes t some = ap (λ b. cond b (slot_line bytes t) []) (lt-ltb 0 (bytes t) some)
+pub line_booked : (bytes : ℕ → ℕ) (t : ℕ) → 0 < bytes t → line_at bytes t ≡ slot_line bytes t
+line_booked bytes t some = ap (λ b. cond b (slot_line bytes t) []) (lt-ltb 0 (bytes t) some)
 
-pub line-free : (bytes : ℕ → ℕ) (t : ℕ) → bytes t ≤ 0 → line_at bytes t ≡ []
-line-free bytes t none = ap (λ b. cond b (slot_line bytes t) []) (le-ltb 0 (bytes t) none)
+pub line_free : (bytes : ℕ → ℕ) (t : ℕ) → bytes t ≤ 0 → line_at bytes t ≡ []
+line_free bytes t none = ap (λ b. cond b (slot_line bytes t) []) (le-ltb 0 (bytes t) none)
 
 pick : (f : ℕ → List ℕ) (b : Bool) (t : ℕ) (rest : List ℕ)
     → flat_map f (cond b (t ∷ rest) rest) ≡ cond b (f t) [] ++ flat_map f rest
 pick f true t rest = refl
 pick f false t rest = refl
 
-pub lines-cons : (bytes : ℕ → ℕ) (t : ℕ) (rest : List ℕ) → lines bytes (t ∷ rest) ≡ line_at bytes t ++ lines bytes rest
-lines-cons bytes t rest = pick (slot_line bytes) (nat_lt 0 (bytes t)) t (booked_among bytes rest)
+pub lines_cons : (bytes : ℕ → ℕ) (t : ℕ) (rest : List ℕ) → lines bytes (t ∷ rest) ≡ line_at bytes t ++ lines bytes rest
+lines_cons bytes t rest = pick (slot_line bytes) (nat_lt 0 (bytes t)) t (booked_among bytes rest)
 
-lines-append : (bytes : ℕ → ℕ) (some more : List ℕ) → lines bytes (some ++ more) ≡ lines bytes some ++ lines bytes more
-lines-append bytes some more =
+lines_append : (bytes : ℕ → ℕ) (some more : List ℕ) → lines bytes (some ++ more) ≡ lines bytes some ++ lines bytes more
+lines_append bytes some more =
     ap (flat_map (slot_line bytes)) (filter-append (λ t. nat_lt 0 (bytes t)) some more)
     ∙ flat_map-append (slot_line bytes) (booked_among bytes some) (booked_among bytes more)
 
-range-split : (a k m : ℕ) → range_with_len a (k + m) ≡ range_with_len a k ++ range_with_len (a + k) m
-range-split a zero m =
+range_split : (a k m : ℕ) → range_with_len a (k + m) ≡ range_with_len a k ++ range_with_len (a + k) m
+range_split a zero m =
     let none : 0 + m ≡ m = omega arith in
     let here : a ≡ a + 0 = omega arith in
     ap (range_with_len a) none ∙ ap (λ s. range_with_len s m) here
-range-split a (suc k) m =
+range_split a (suc k) m =
     let count : suc k + m ≡ suc (k + m) = omega arith in
     let from : a + 1 + k ≡ a + suc k = omega arith in
-    ap (range_with_len a) count ∙ ap (λ l. a ∷ l) (range-split (a + 1) k m)
+    ap (range_with_len a) count ∙ ap (λ l. a ∷ l) (range_split (a + 1) k m)
     ∙ ap (λ s. a ∷ (range_with_len (a + 1) k ++ range_with_len s m)) from
 
 -- the lines of the slots up to t, and then those from t on
-lines-split : (bytes : ℕ → ℕ) (a k m t : ℕ) → t ≡ a + k →
+lines_split : (bytes : ℕ → ℕ) (a k m t : ℕ) → t ≡ a + k →
     lines bytes (range_with_len a (k + suc m))
     ≡ lines bytes (range_with_len a k) ++ (line_at bytes t ++ lines bytes (range_with_len (t + 1) m))
-lines-split bytes a k m t is =
-    ap (lines bytes) (range-split a k (suc m) ∙ ap (λ s. range_with_len a k ++ range_with_len s (suc m)) (sym is))
-    ∙ lines-append bytes (range_with_len a k) (t ∷ range_with_len (t + 1) m)
-    ∙ ap (λ (l : List ℕ). lines bytes (range_with_len a k) ++ l) (lines-cons bytes t (range_with_len (t + 1) m))
+lines_split bytes a k m t is =
+    ap (lines bytes) (range_split a k (suc m) ∙ ap (λ s. range_with_len a k ++ range_with_len s (suc m)) (sym is))
+    ∙ lines_append bytes (range_with_len a k) (t ∷ range_with_len (t + 1) m)
+    ∙ ap (λ (l : List ℕ). lines bytes (range_with_len a k) ++ l) (lines_cons bytes t (range_with_len (t + 1) m))
 
 -- one slot more
-pub lines-more : {n t : ℕ} (bytes : ℕ → ℕ) (a k : ℕ) → t ≡ a + k → n ≡ k + 1 →
+pub lines_more : {n t : ℕ} (bytes : ℕ → ℕ) (a k : ℕ) → t ≡ a + k → n ≡ k + 1 →
     lines bytes (range_with_len a n) ≡ lines bytes (range_with_len a k) ++ line_at bytes t
-lines-more {n} {t} bytes a k is count =
+lines_more {n} {t} bytes a k is count =
     let one : n ≡ k + suc 0 = omega arith in
-    ap (λ m. lines bytes (range_with_len a m)) one ∙ lines-split bytes a k 0 t is
+    ap (λ m. lines bytes (range_with_len a m)) one ∙ lines_split bytes a k 0 t is
     ∙ ap (λ (l : List ℕ). lines bytes (range_with_len a k) ++ l) (append-nil (line_at bytes t))
 
 -- slot t stands k slots after slot a, among the n slots from slot a on
@@ -69,12 +69,12 @@ pub record IsAmong (a n k t : ℕ) : Type 0 where
   pub inside : k < n
 
 -- all slots, of which t is one in which bytes are booked
-pub lines-around : {a n k t : ℕ} (bytes : ℕ → ℕ) → IsAmong a n k t → 0 < bytes t →
+pub lines_around : {a n k t : ℕ} (bytes : ℕ → ℕ) → IsAmong a n k t → 0 < bytes t →
     lines bytes (range_with_len a k)
     ++ (slot_line bytes t ++ lines bytes (range_with_len (t + 1) (n - (k + 1)))) ≡ lines bytes (range_with_len a n)
-lines-around {a} {n} {k} {t} bytes among some =
+lines_around {a} {n} {k} {t} bytes among some =
     let m = n - (k + 1) in
     let count : n ≡ k + suc m = omega (arith, among.inside) in
-    sym (ap (λ i. lines bytes (range_with_len a i)) count ∙ lines-split bytes a k m t among.is
+    sym (ap (λ i. lines bytes (range_with_len a i)) count ∙ lines_split bytes a k m t among.is
     ∙ ap (λ (l : List ℕ). lines bytes (range_with_len a k) ++ (l ++ lines bytes (range_with_len (t + 1) m)))
-    (line-booked bytes t some))
+    (line_booked bytes t some))

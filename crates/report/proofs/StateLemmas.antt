@@ -6,7 +6,7 @@ use Rattle.slot_calendar.specs.Calendars.{Bookings, StandsFor, booked_at}
 use Rattle.admission.specs.Machine.{State, booked_in, plays_of}
 use Rattle.slot_calendar.specs.Totals.{ring_slots}
 use Rattle.report.specs.CalendarTexts.{booked_slots, calendar_text, first_words}
-use Rattle.report.proofs.SlotLemmas.{line_at, lines, lines-cons}
+use Rattle.report.proofs.SlotLemmas.{line_at, lines, lines_cons}
 
 -- all slots of a range stand from its first one on
 range_from : (a n : ℕ) (P : ℕ → Type 0) → ((t : ℕ) → a ≤ t → P t) → All P (range_with_len a n)
@@ -23,13 +23,15 @@ same_lines : (bytes others : ℕ → ℕ) (slots : List ℕ) → All (λ t. byte
     → lines bytes slots ≡ lines others slots
 same_lines bytes others [] same = refl
 same_lines bytes others (t ∷ rest) same =
-    let here : line_at bytes t ≡ line_at others t = same_line bytes others t (All-head (λ t. bytes t ≡ others t) t rest same) in
+    let here : line_at bytes t ≡ line_at others t =
+    same_line bytes others t (All-head (λ t. bytes t ≡ others t) t rest same) in
     let next : lines bytes rest ≡ lines others rest =
     same_lines bytes others rest (All-tail (λ t. bytes t ≡ others t) t rest same) in
-    lines-cons bytes t rest ∙ ap (λ (l : List ℕ). l ++ lines bytes rest) here
-    ∙ ap (λ (l : List ℕ). line_at others t ++ l) next ∙ (let back = lines-cons others t rest in cc)
+    lines_cons bytes t rest ∙ ap (λ (l : List ℕ). l ++ lines bytes rest) here
+    ∙ ap (λ (l : List ℕ). line_at others t ++ l) next ∙ (let back = lines_cons others t rest in cc)
 
-pub text_of_state : (calendar : Bookings) (state : State) → calendar.first ≡ state.now → StandsFor calendar (plays_of state) →
+pub text_of_state : (calendar : Bookings) (state : State) → calendar.first ≡ state.now
+    → StandsFor calendar (plays_of state) →
     calendar_text calendar.first (booked_at calendar) ≡ calendar_text state.now (booked_in state)
 unfolding booked_slots
 text_of_state calendar state now stands =
@@ -38,4 +40,5 @@ text_of_state calendar state now stands =
     same_lines (booked_at calendar) (booked_in state) slots
     (range_from calendar.first ring_slots (λ t. booked_at calendar t ≡ booked_in state t) stands.each) in
     ap (λ (l : List ℕ). first_words calendar.first ++ codes "\n" ++ l ++ codes "end\n") same
-    ∙ ap (λ n. first_words n ++ codes "\n" ++ lines (booked_in state) (range_with_len n ring_slots) ++ codes "end\n") now
+    ∙ ap (λ n. first_words n ++ codes "\n" ++ lines (booked_in state) (range_with_len n ring_slots)
+    ++ codes "end\n") now

@@ -10,8 +10,8 @@ use Rattle.std.proofs.lemmas.Option.{none-some}
 use Rattle.slot_calendar.specs.Rings.{IsTopped, IsGreatest, AreZeros}
 use Rattle.slot_calendar.specs.Totals.{ring_slots}
 
-pub block_in : (p : ℕ) → p < ring_slots → p / 1024 < 1024
-block_in p inside = omega (arith, inside)
+pub block-in : (p : ℕ) → p < ring_slots → p / 1024 < 1024
+block-in p inside = omega (arith, inside)
 
 -- a place whose number rises
 pub topped-raise : {places tops : List ℕ} {stale : Option ℕ} (p v : ℕ) → IsTopped places tops stale →
@@ -78,7 +78,8 @@ topped-raise {places} {tops} p v topped inside rises = record {
           place = old.place;
           inside = old.inside;
           of_block = old.of_block;
-          holds = get_or-set_other places p old.place v 0 other ∙ old.holds ∙ sym (get_or-set_other tops block b top 0 apart);
+          holds = get_or-set_other places p old.place v 0 other ∙ old.holds
+              ∙ sym (get_or-set_other tops block b top 0 apart);
         }
         )
   ];
@@ -94,9 +95,10 @@ topped-raise {places} {tops} p v topped inside rises = record {
     here : get_or (set places p v) p 0 ≡ v
     here = get_or-set_same places p v 0 (omega (arith, topped.places_are, inside))
 
-    new_top : get_or (set tops (p / 1024) (max (get_or tops (p / 1024) 0) v)) (p / 1024) 0 ≡ max (get_or tops (p / 1024) 0) v
+    new_top : get_or (set tops (p / 1024) (max (get_or tops (p / 1024) 0) v)) (p / 1024) 0
+        ≡ max (get_or tops (p / 1024) 0) v
     new_top = get_or-set_same tops (p / 1024) (max (get_or tops (p / 1024) 0) v) 0
-        (omega (arith, topped.tops_are, block_in p inside))
+        (omega (arith, topped.tops_are, block-in p inside))
 
 -- a place of the stale block whose number falls
 pub topped-lower : {places tops : List ℕ} (p v : ℕ) → IsTopped places tops (Some (p / 1024)) → p < ring_slots →
@@ -110,7 +112,8 @@ topped-lower {places} {tops} p v topped inside falls = record {
       elim (cases_eq i p) [
         | inl is ↦ (
             let value : get_or (set places p v) i 0 ≡ v =
-            ap (λ k. get_or (set places p v) k 0) is ∙ get_or-set_same places p v 0 (omega (arith, topped.places_are)) in
+            ap (λ k. get_or (set places p v) k 0) is
+            ∙ get_or-set_same places p v 0 (omega (arith, topped.places_are)) in
             let same : get_or places i 0 ≡ get_or places p 0 = ap (λ k. get_or places k 0) is in
             omega (arith, value, same, before, falls)
             )
@@ -134,7 +137,8 @@ topped-lower {places} {tops} p v topped inside falls = record {
     some_in x y less is = let same : x ≡ y = cc in omega (arith, same, less)
 
 -- the stale block is read again
-pub topped-settle : {places tops : List ℕ} {stale : Option ℕ} {b top : ℕ} → IsTopped places tops stale → stale ≡ Some b →
+pub topped-settle : {places tops : List ℕ} {stale : Option ℕ} {b top : ℕ} → IsTopped places tops stale
+    → stale ≡ Some b →
     IsGreatest (take 1024 (drop (b * 1024) places)) top → IsTopped places (set tops b top) None
 topped-settle {places} {tops} {stale} {b} {top} topped is greatest = record {
   places_are = topped.places_are;
@@ -159,7 +163,8 @@ topped-settle {places} {tops} {stale} {b} {top} topped is greatest = record {
   reached = λ k less exact. elim (cases_eq k b) [
     | inl same ↦ (
         let low : greatest.index < 1024 = omega (arith, greatest.inside, block_len) in
-        let value : get_or block greatest.index 0 ≡ get_or places (b * 1024 + greatest.index) 0 = inside_is greatest.index low in
+        let value : get_or block greatest.index 0 ≡ get_or places (b * 1024 + greatest.index) 0 =
+        inside_is greatest.index low in
         let new : get_or (set tops b top) k 0 ≡ top = ap (λ x. get_or (set tops b top) x 0) same ∙ here in
         record {
           place = b * 1024 + greatest.index;
@@ -169,7 +174,8 @@ topped-settle {places} {tops} {stale} {b} {top} topped is greatest = record {
         }
         )
     | inr apart ↦ (
-        let others : stale ≢ Some k = λ e. (let both : Some b ≡ Some k = sym is ∙ e in apart (let same : k ≡ b = cc in same)) in
+        let others : stale ≢ Some k =
+        λ e. (let both : Some b ≡ Some k = sym is ∙ e in apart (let same : k ≡ b = cc in same)) in
         let old = topped.reached k less others in
         record {
           place = old.place;

@@ -13,7 +13,8 @@ capacity-rest [] t bytes later = refl
 capacity-rest (s ∷ rest) t bytes later =
     let after : t < s.from = later 0 (omega arith) in
     let here : capacity_after t bytes s ≡ bytes = cond-false (nat_le s.from t) s.bytes bytes (lt-leb s.from t after) in
-    ap (λ b. fold (capacity_after t) b rest) here ∙ capacity-rest rest t bytes (λ i less. later (suc i) (omega (arith, less)))
+    ap (λ b. fold (capacity_after t) b rest) here
+    ∙ capacity-rest rest t bytes (λ i less. later (suc i) (omega (arith, less)))
 
 -- the latest step that begins at or before a slot
 record IsLatest (steps : List CapacityStep) (index t : ℕ) : Type 0 where
@@ -25,7 +26,8 @@ capacity-from : (steps : List CapacityStep) (index t bytes : ℕ) → IsLatest s
     → fold (capacity_after t) bytes steps ≡ (step_at steps index).bytes
 capacity-from [] index t bytes latest = absurd (omega (arith, latest.inside))
 capacity-from (s ∷ rest) zero t bytes latest =
-    let here : capacity_after t bytes s ≡ s.bytes = cond-true (nat_le s.from t) s.bytes bytes (le-leb s.from t latest.begun) in
+    let here : capacity_after t bytes s ≡ s.bytes =
+    cond-true (nat_le s.from t) s.bytes bytes (le-leb s.from t latest.begun) in
     ap (λ b. fold (capacity_after t) b rest) here
     ∙ capacity-rest rest t s.bytes (λ i less. latest.last (suc i) (omega arith) (omega (arith, less)))
 capacity-from (s ∷ rest) (suc k) t bytes latest = capacity-from rest k t (capacity_after t bytes s) (record {
@@ -36,7 +38,8 @@ capacity-from (s ∷ rest) (suc k) t bytes latest = capacity-from rest k t (capa
 
 pub capacity-is : (steps : List CapacityStep) (t bytes : ℕ) → IsCapacity steps t bytes → capacity_at steps t ≡ bytes
 capacity-is steps t bytes is =
-    capacity-from steps is.index t 0 (record { inside = is.inside; begun = is.begun; last = is.last }) ∙ sym is.bytes_are
+    capacity-from steps is.index t 0 (record { inside = is.inside; begun = is.begun; last = is.last })
+    ∙ sym is.bytes_are
 
 pub ascends : (steps : List CapacityStep) (i d : ℕ) → IsProfile steps → i + d < length steps
     → (step_at steps i).from ≤ (step_at steps (i + d)).from
@@ -48,7 +51,8 @@ ascends steps i (suc d) profile inside =
     let before = ascends steps i d profile (omega (arith, inside)) in
     let step = profile.ascend (i + d) (omega (arith, inside)) in
     let at : i + d + 1 ≡ i + suc d = omega arith in
-    let same : (step_at steps (i + d + 1)).from ≡ (step_at steps (i + suc d)).from = ap (λ k. (step_at steps k).from) at in
+    let same : (step_at steps (i + d + 1)).from ≡ (step_at steps (i + suc d)).from =
+    ap (λ k. (step_at steps k).from) at in
     omega (arith, before, step, same)
 
 -- a step and a later one
@@ -103,7 +107,8 @@ span-is steps t bytes until some same = record {
   same = λ u from less. capacity-is steps u bytes (same u from less);
 }
 
-pub capacity-small : (steps : List CapacityStep) (t bytes : ℕ) → IsProfile steps → IsCapacity steps t bytes → bytes ≤ 2 ^ 42
+pub capacity-small : (steps : List CapacityStep) (t bytes : ℕ) → IsProfile steps → IsCapacity steps t bytes
+    → bytes ≤ 2 ^ 42
 capacity-small steps t bytes profile is = omega (arith, is.bytes_are, profile.small is.index is.inside)
 
 fold-most : (steps : List CapacityStep) (t bytes most : ℕ) → bytes ≤ most

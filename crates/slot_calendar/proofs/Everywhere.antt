@@ -13,11 +13,11 @@ pub record StandsWithin (capacity : ℕ → ℕ) (calendar : Bookings) (plays : 
   pub within : (t : ℕ) → booked_by plays t ≤ capacity t
 
 -- a plan that fits from the calendar's first slot on fits everywhere: before its start it asks for nothing
-fits_each : {capacity : ℕ → ℕ} {calendar : Bookings} {plays : List Play} {start u : ℕ} (segments : List Segment)
+fits-each : {capacity : ℕ → ℕ} {calendar : Bookings} {plays : List Play} {start u : ℕ} (segments : List Segment)
     → StandsWithin capacity calendar plays → calendar.first < start
     → (calendar.first ≤ u → Fits (booked_at calendar) capacity start segments u)
     → Fits (booked_by plays) capacity start segments u
-fits_each {calendar} {start} {u} segments its after fits = elim (cases_lt u calendar.first) [
+fits-each {calendar} {start} {u} segments its after fits = elim (cases_lt u calendar.first) [
   | inl early ↦ omega (arith, its.within u, asked-before segments start u (omega (arith, early, after)))
   | inr since ↦ omega (arith, its.stands.each u since, fits since)
 ]
@@ -28,7 +28,7 @@ pub room_everywhere : {capacity : ℕ → ℕ} {calendar : Bookings} {plays : Li
     → HasRoom calendar.first (booked_at calendar) capacity start segments
     → HasRoom 0 (booked_by plays) capacity start segments
 room_everywhere {segments} its after room = record {
-  each = λ u _. fits_each segments its after (λ since. room.each u since);
+  each = λ u _. fits-each segments its after (λ since. room.each u since);
 }
 
 -- the first overflow from now on is the first one
@@ -39,7 +39,7 @@ pub overflow_everywhere : {capacity : ℕ → ℕ} {calendar : Bookings} {plays 
 overflow_everywhere {segments} {over} its after first = record {
   begun = omega arith;
   overflows = omega (arith, its.stands.each over.slot first.begun, first.overflows);
-  least = λ u _ less. fits_each segments its after (λ since. first.least u since less);
+  least = λ u _ less. fits-each segments its after (λ since. first.least u since less);
   booked_is = first.booked_is ∙ its.stands.each over.slot first.begun;
   asked_is = first.asked_is;
 }

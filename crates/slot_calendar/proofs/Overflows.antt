@@ -13,7 +13,8 @@ no-room {over} first room = omega (arith, first.overflows, room.each over.slot f
 
 -- there is one first slot without room
 pub overflow-once : {from start : ℕ} {booked capacity : ℕ → ℕ} {segments : List Segment} {a b : Overflow} →
-    IsFirstOverflow from booked capacity start segments a → IsFirstOverflow from booked capacity start segments b → a ≡ b
+    IsFirstOverflow from booked capacity start segments a → IsFirstOverflow from booked capacity start segments b
+    → a ≡ b
 overflow-once {start} {booked} {segments} {a} {b} x y =
     let slot : a.slot ≡ b.slot = elim (cases_order a.slot b.slot) [
       | inl same ↦ same

@@ -22,7 +22,8 @@ room-small {calendar} {start} t is room from =
 -- it fits into the slots of one segment more
 pub fits-next : {segments : List Segment} {i : ℕ} {s : Segment} {start from : ℕ} (first : ℕ) (booked capacity : ℕ → ℕ)
     → IsSegmentFrom segments i s start from → FitsIn first from booked capacity start segments
-    → FitsIn from (from + s.slots) booked capacity from (s ∷ []) → FitsIn first (from + s.slots) booked capacity start segments
+    → FitsIn from (from + s.slots) booked capacity from (s ∷ [])
+    → FitsIn first (from + s.slots) booked capacity start segments
 fits-next {from} first booked capacity at before here = λ u since less.
     elim (cases_lt u from) [
       | inl earlier ↦ before u since earlier

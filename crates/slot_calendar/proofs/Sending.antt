@@ -20,13 +20,15 @@ use Rattle.plan_cert.proofs.Floors.{floor_rises}
 use Rattle.slot_calendar.specs.Plays.{sent_before, asked_at, cut_at}
 
 -- ---- sums of fronts
-pub sum-take-append : (xs ys : List ℕ) (k : ℕ) → sum (take k (xs ++ ys)) ≡ sum (take k xs) + sum (take (k - length xs) ys)
+pub sum-take-append : (xs ys : List ℕ) (k : ℕ)
+    → sum (take k (xs ++ ys)) ≡ sum (take k xs) + sum (take (k - length xs) ys)
 sum-take-append xs ys k =
     elim (cases_lt (length xs) k) [
       | inl past ↦ (
           let m = k - length xs in
           let at : length xs + m ≡ k = omega arith in
-          let whole : take k (xs ++ ys) ≡ xs ++ take m ys = ap (λ n. take n (xs ++ ys)) (sym at) ∙ take-append-add xs ys m in
+          let whole : take k (xs ++ ys) ≡ xs ++ take m ys =
+          ap (λ n. take n (xs ++ ys)) (sym at) ∙ take-append-add xs ys m in
           let front : take k xs ≡ xs = take_all k xs (omega arith) in
           ap sum whole ∙ sum_by-append (λ x. x) xs (take m ys) ∙ ap (λ l. sum l + sum (take m ys)) (sym front)
           )
@@ -39,13 +41,15 @@ sum-take-append xs ys k =
     ]
 
 -- ---- the bytes sent before a slot
-pub sent-rises : (segments : List Segment) (start s t : ℕ) → s ≤ t → sent_before segments start s ≤ sent_before segments start t
+pub sent-rises : (segments : List Segment) (start s t : ℕ) → s ≤ t
+    → sent_before segments start s ≤ sent_before segments start t
 sent-rises segments start s t less = sum-take-rises (plan_slots segments) (s - start) (t - start) (omega arith)
 
 pub sent-append : (xs ys : List Segment) (start t : ℕ) →
     sent_before (xs ++ ys) start t ≡ sent_before xs start t + sent_before ys (start + total_slots xs) t
 sent-append xs ys start t =
-    let rest : t - start - length (plan_slots xs) ≡ t - (start + total_slots xs) = omega (arith, length-plan_slots xs) in
+    let rest : t - start - length (plan_slots xs) ≡ t - (start + total_slots xs) =
+    omega (arith, length-plan_slots xs) in
     ap (λ l. sum (take (t - start) l)) (flat_map-append slots_of xs ys)
     ∙ sum-take-append (plan_slots xs) (plan_slots ys) (t - start)
     ∙ ap (λ n. sum (take (t - start) (plan_slots xs)) + sum (take n (plan_slots ys))) rest
@@ -57,7 +61,8 @@ sent-none segments start t before =
 
 pub sent-end : (segments : List Segment) (start t : ℕ) → start + total_slots segments ≤ t
     → sent_before segments start t ≡ sum (plan_slots segments)
-sent-end segments start t past = ap sum (take_all (t - start) (plan_slots segments) (omega (arith, length-plan_slots segments)))
+sent-end segments start t past =
+    ap sum (take_all (t - start) (plan_slots segments) (omega (arith, length-plan_slots segments)))
 
 pub sent-all : (segments : List Segment) (start t : ℕ) → All (λ s. 1 ≤ s.slots) segments
     → start + total_slots segments ≤ t → sent_before segments start t ≡ total_bytes segments
@@ -95,7 +100,8 @@ asked-append xs ys start t =
 pub asked-before : (segments : List Segment) (start t : ℕ) → t < start → asked_at segments start t ≡ 0
 asked-before segments start t before = omega (arith, sent-none segments start (t + 1) (omega arith))
 
-pub asked-after : (segments : List Segment) (start t : ℕ) → start + total_slots segments ≤ t → asked_at segments start t ≡ 0
+pub asked-after : (segments : List Segment) (start t : ℕ) → start + total_slots segments ≤ t
+    → asked_at segments start t ≡ 0
 asked-after segments start t past =
     omega (arith, sent-end segments start t past, sent-end segments start (t + 1) (omega arith))
 
@@ -130,7 +136,8 @@ from-next {segments} {i} {s} at =
     ∙ ap (λ n. total_slots (take i segments) + n) (one-slots s) in
     omega (arith, slots, at.from_is)
 
-pub bytes-next : {segments : List Segment} {i : ℕ} {s : Segment} {start from : ℕ} → IsSegmentFrom segments i s start from
+pub bytes-next : {segments : List Segment} {i : ℕ} {s : Segment} {start from : ℕ}
+    → IsSegmentFrom segments i s start from
     → total_bytes (take (i + 1) segments) ≡ total_bytes (take i segments) + s.bytes
 bytes-next {segments} {i} {s} at =
     ap total_bytes (front-next segments i s at.inside at.segment_is)
@@ -151,10 +158,12 @@ pub asked-front : (segments : List Segment) (i start t : ℕ) →
     asked_at segments start t
     ≡ asked_at (take i segments) start t + asked_at (drop i segments) (start + total_slots (take i segments)) t
 asked-front segments i start t =
-    ap (λ l. asked_at l start t) (sym (take-append-drop i segments)) ∙ asked-append (take i segments) (drop i segments) start t
+    ap (λ l. asked_at l start t) (sym (take-append-drop i segments))
+    ∙ asked-append (take i segments) (drop i segments) start t
 
 -- a slot of segment i
-pub asked-in : {segments : List Segment} {i : ℕ} {s : Segment} {start from : ℕ} (t : ℕ) → IsSegmentFrom segments i s start from
+pub asked-in : {segments : List Segment} {i : ℕ} {s : Segment} {start from : ℕ} (t : ℕ)
+    → IsSegmentFrom segments i s start from
     → from ≤ t → t < from + s.slots → asked_at segments start t ≡ asked_at (s ∷ []) from t
 asked-in {segments} {i} {s} {start} t at begun ends =
     let split = asked-front segments (i + 1) start t in
@@ -167,17 +176,19 @@ asked-in {segments} {i} {s} {start} t at begun ends =
     omega (arith, split, front, after, before)
 
 -- ---- the bytes after the first `keep`
-pub all-front : (segments : List Segment) (i : ℕ) → All (λ s. 1 ≤ s.slots) segments → All (λ s. 1 ≤ s.slots) (take i segments)
+pub all-front : (segments : List Segment) (i : ℕ) → All (λ s. 1 ≤ s.slots) segments
+    → All (λ s. 1 ≤ s.slots) (take i segments)
 all-front segments i some = All-take (λ s. 1 ≤ s.slots) i segments some
 
--- the first segments of a play that begins in slot `start` and keeps `keep` bytes: where they end, and what they leave of
--- these
+-- the first segments of a play that begins in slot `start` and keeps `keep` bytes: where they end,
+-- and what they leave of these
 pub record IsFrontOf (xs : List Segment) (start keep from left : ℕ) : Type 0 where
   pub some : All (λ s. 1 ≤ s.slots) xs
   pub from_is : from ≡ start + total_slots xs
   pub left_is : left ≡ keep - total_bytes xs
 
-pub over-append : {xs : List Segment} {start keep from left : ℕ} (ys : List Segment) (t : ℕ) → IsFrontOf xs start keep from left →
+pub over-append : {xs : List Segment} {start keep from left : ℕ} (ys : List Segment) (t : ℕ)
+    → IsFrontOf xs start keep from left →
     sent_before (xs ++ ys) start t - keep ≡ (sent_before xs start t - keep) + (sent_before ys from t - left)
 over-append {xs} {start} {keep} {from} ys t front =
     let whole : sent_before (xs ++ ys) start t ≡ sent_before xs start t + sent_before ys from t =
@@ -194,7 +205,8 @@ over-append {xs} {start} {keep} {from} ys t front =
           )
     ]
 
-pub cut-append : {xs : List Segment} {start keep from left : ℕ} (ys : List Segment) (t : ℕ) → IsFrontOf xs start keep from left →
+pub cut-append : {xs : List Segment} {start keep from left : ℕ} (ys : List Segment) (t : ℕ)
+    → IsFrontOf xs start keep from left →
     cut_at (xs ++ ys) start keep t ≡ cut_at xs start keep t + cut_at ys from left t
 cut-append {xs} {start} {keep} {from} {left} ys t front =
     let x = sent-rises xs start t (t + 1) (omega arith) in
@@ -230,14 +242,16 @@ cut-front segments i start keep t some =
 pub cut-before : (segments : List Segment) (start keep t : ℕ) → t < start → cut_at segments start keep t ≡ 0
 cut-before segments start keep t before = omega (arith, sent-none segments start (t + 1) (omega arith))
 
-pub cut-after : (segments : List Segment) (start keep t : ℕ) → start + total_slots segments ≤ t → cut_at segments start keep t ≡ 0
+pub cut-after : (segments : List Segment) (start keep t : ℕ) → start + total_slots segments ≤ t
+    → cut_at segments start keep t ≡ 0
 cut-after segments start keep t past =
     omega (arith, sent-end segments start t past, sent-end segments start (t + 1) (omega arith))
 
 -- ---- the greatest slot of a segment
-slot_most : (b n c j : ℕ) → 0 < n → b ≤ c * n → (j + 1) * b / n ≤ j * b / n + c
-slot_most b n c j pos most =
-    let rises : (j + 1) * b / n ≤ (j * b + c * n) / n = floor_rises ((j + 1) * b) (j * b + c * n) n pos (omega (arith, most)) in
+slot-most : (b n c j : ℕ) → 0 < n → b ≤ c * n → (j + 1) * b / n ≤ j * b / n + c
+slot-most b n c j pos most =
+    let rises : (j + 1) * b / n ≤ (j * b + c * n) / n =
+    floor_rises ((j + 1) * b) (j * b + c * n) n pos (omega (arith, most)) in
     let split : (j * b + c * n) / n ≡ j * b / n + c = add-mul-div_right (j * b) c pos in
     omega (arith, rises, split)
 
@@ -254,7 +268,7 @@ asked-most s from c t pos most =
             ap (sent_before (s ∷ []) from) (sym at) ∙ sent-one s from j pos (omega (arith, inside)) in
             let then : sent_before (s ∷ []) from (t + 1) ≡ (j + 1) * s.bytes / s.slots =
             ap (sent_before (s ∷ []) from) (sym next) ∙ sent-one s from (j + 1) pos (omega (arith, inside)) in
-            omega (arith, here, then, slot_most s.bytes s.slots c j pos most)
+            omega (arith, here, then, slot-most s.bytes s.slots c j pos most)
             )
         | inr past ↦ omega (arith, asked-after (s ∷ []) from t (omega (arith, one-slots s, past)))
       ]
@@ -282,11 +296,12 @@ cut-here segments from keep j was is =
 
 pub sent-step : {before sent : ℕ} (segments : List Segment) (from j : ℕ)
     → before ≡ sent_before segments from (from + j) → sent_before segments from (from + (j + 1)) ≡ sent → before ≤ sent
-sent-step segments from j was is = omega (arith, was, is, sent-rises segments from (from + j) (from + (j + 1)) (omega arith))
+sent-step segments from j was is =
+    omega (arith, was, is, sent-rises segments from (from + j) (from + (j + 1)) (omega arith))
 
 -- no slot of a segment has more than its bytes over its slots, rounded up
-pub ceil_most : (b n c : ℕ) → 0 < n → c ≡ b / n + min 1 (b % n) → b ≤ c * n
-ceil_most b n c pos is =
+pub ceil-most : (b n c : ℕ) → 0 < n → c ≡ b / n + min 1 (b % n) → b ≤ c * n
+ceil-most b n c pos is =
     let whole : b / n * n + b % n ≡ b = div-add-mod' b n in
     let less : b % n < n = mod-lt b pos in
     elim (cases_eq (b % n) 0) [
@@ -312,7 +327,8 @@ sent-through segments start t from =
     let at : t + 1 - start ≡ t - start + 1 = omega arith in
     ap (λ n. sum (take n (plan_slots segments))) at
 
-pub asked-slot : (segments : List Segment) (start j : ℕ) → asked_at segments start (start + j) ≡ get_or (plan_slots segments) j 0
+pub asked-slot : (segments : List Segment) (start j : ℕ)
+    → asked_at segments start (start + j) ≡ get_or (plan_slots segments) j 0
 asked-slot segments start j =
     let slots = plan_slots segments in
     let here : sent_before segments start (start + j) ≡ sum (take j slots) =

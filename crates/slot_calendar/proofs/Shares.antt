@@ -12,8 +12,8 @@ use Rattle.slot_calendar.specs.Plays.{Play, sent_before, asked_at, cut_at, whole
 use Rattle.slot_calendar.specs.Calendars.{Bookings, booked_at, StandsFor}
 use Rattle.slot_calendar.proofs.Sending.{sent-none, sent-rises, sent-most}
 
-share_parts : (a b k : ℕ) → a ≤ b → min b k - min a k + ((b - k) - (a - k)) ≡ b - a
-share_parts a b k rises = omega arith
+share-parts : (a b k : ℕ) → a ≤ b → min b k - min a k + ((b - k) - (a - k)) ≡ b - a
+share-parts a b k rises = omega arith
 
 share_whole : (a b k : ℕ) → a ≤ k → b ≤ k → min b k - min a k ≡ b - a
 share_whole a b k left right = omega arith
@@ -27,28 +27,30 @@ share-whole segments start t plan =
 pub share-cut : (segments : List Segment) (start keep t : ℕ)
     → share_at t (cut_play start segments keep) + cut_at segments start keep t ≡ asked_at segments start t
 share-cut segments start keep t =
-    share_parts (sent_before segments start t) (sent_before segments start (t + 1)) keep
+    share-parts (sent_before segments start t) (sent_before segments start (t + 1)) keep
     (sent-rises segments start t (t + 1) (omega arith))
 
-shares_more : (f : ℕ → ℕ) (t : ℕ) → sum_by f (range_with_len 0 (suc t)) ≡ sum_by f (range_with_len 0 t) + f t
-shares_more f t =
+shares-more : (f : ℕ → ℕ) (t : ℕ) → sum_by f (range_with_len 0 (suc t)) ≡ sum_by f (range_with_len 0 t) + f t
+shares-more f t =
     let at : 0 + t ≡ t = omega arith in
     let count : suc t ≡ t + 1 = omega arith in
     ap (sum_by f) (sym (map-id (range_with_len 0 (suc t))))
     ∙ ap (λ n. sum_by f (map (λ (u : ℕ). u) (range_with_len 0 n))) count
-    ∙ sum_by-map-range_with_len_more f (λ (u : ℕ). u) 0 t t at ∙ ap (λ l. sum_by f l + f t) (map-id (range_with_len 0 t))
+    ∙ sum_by-map-range_with_len_more f (λ (u : ℕ). u) 0 t t at
+    ∙ ap (λ l. sum_by f l + f t) (map-id (range_with_len 0 t))
 
-min_next : (a b k n : ℕ) → a ≤ b → n ≡ min a k → n + (min b k - min a k) ≡ min b k
-min_next a b k n rises is = omega (arith, is)
+min-next : (a b k n : ℕ) → a ≤ b → n ≡ min a k → n + (min b k - min a k) ≡ min b k
+min-next a b k n rises is = omega (arith, is)
 
 -- up to a slot it books what its plan has sent by then, and no more than it keeps
 pub shares-first : (segments : List Segment) (start keep t : ℕ)
-    → sum_by (λ u. share_at u (cut_play start segments keep)) (range_with_len 0 t) ≡ min (sent_before segments start t) keep
+    → sum_by (λ u. share_at u (cut_play start segments keep)) (range_with_len 0 t)
+    ≡ min (sent_before segments start t) keep
 shares-first segments start keep zero = omega (arith, sent-none segments start 0 (omega arith))
 shares-first segments start keep (suc t) =
     let at : t + 1 ≡ suc t = omega arith in
-    shares_more (λ u. share_at u (cut_play start segments keep)) t
-    ∙ min_next (sent_before segments start t) (sent_before segments start (t + 1)) keep
+    shares-more (λ u. share_at u (cut_play start segments keep)) t
+    ∙ min-next (sent_before segments start t) (sent_before segments start (t + 1)) keep
     (sum_by (λ u. share_at u (cut_play start segments keep)) (range_with_len 0 t))
     (sent-rises segments start t (t + 1) (omega arith)) (shares-first segments start keep t)
     ∙ ap (λ n. min (sent_before segments start n) keep) at
@@ -64,7 +66,8 @@ booked-push plays segments start t plan =
 pub booked-around : (before after : List Play) (play : Play) (t : ℕ)
     → booked_by (before ++ play ∷ after) t ≡ booked_by before t + (share_at t play + booked_by after t)
 booked-around before after play t =
-    sum_by-append (share_at t) before (play ∷ after) ∙ ap (λ n. booked_by before t + n) (sum_by-cons (share_at t) play after)
+    sum_by-append (share_at t) before (play ∷ after)
+    ∙ ap (λ n. booked_by before t + n) (sum_by-cons (share_at t) play after)
 
 -- a play that is cut
 pub booked-cut : (before after : List Play) (play : Play) (t : ℕ) → IsPlan play.segments
@@ -99,7 +102,8 @@ pub record HasCut (old new : Bookings) (play : Play) : Type 0 where
   pub first_is : new.first ≡ old.first
   pub totals : (t : ℕ) → old.first ≤ t → booked_at new t + cut_at play.segments play.start play.keep t ≡ booked_at old t
 
-pub stands-cut : {old new : Bookings} (before after : List Play) (play : Play) → IsPlan play.segments → HasCut old new play →
+pub stands-cut : {old new : Bookings} (before after : List Play) (play : Play) → IsPlan play.segments
+    → HasCut old new play →
     StandsFor old (before ++ whole_play play.start play.segments ∷ after) → StandsFor new (before ++ play ∷ after)
 stands-cut {old} {new} before after play plan cut stands = record {
   each = λ t from. (
@@ -112,4 +116,5 @@ stands-cut {old} {new} before after play plan cut stands = record {
 pub cut-booked : {calendar : Bookings} {t : ℕ} (before after : List Play) (play : Play) → IsPlan play.segments →
     StandsFor calendar (before ++ whole_play play.start play.segments ∷ after) → calendar.first ≤ t
     → cut_at play.segments play.start play.keep t ≤ booked_at calendar t
-cut-booked {t} before after play plan stands from = omega (arith, stands.each t from, booked-cut before after play t plan)
+cut-booked {t} before after play plan stands from =
+    omega (arith, stands.each t from, booked-cut before after play t plan)

@@ -11,8 +11,8 @@ use Rattle.slot_calendar.specs.Rings.{IsTopped, rotation}
 use Rattle.slot_calendar.specs.Totals.{ring_slots, total_at}
 
 -- a remainder, from a quotient
-pub mod_is : (x n q r : ℕ) → x ≡ q * n + r → r < n → x % n ≡ r
-mod_is x n q r is less = ap (λ y. y % n) is ∙ mod-mul-add q n r less
+pub mod-is : (x n q r : ℕ) → x ≡ q * n + r → r < n → x % n ≡ r
+mod-is x n q r is less = ap (λ y. y % n) is ∙ mod-mul-add q n r less
 
 pub length-rotation : (xs : List ℕ) (h : ℕ) → h ≤ length xs → length (rotation h xs) ≡ length xs
 length-rotation xs h within =
@@ -38,13 +38,13 @@ rotation-at {n} {xs} first k places inside =
     let front : length (drop h xs) ≡ n - h = length-drop h xs ∙ ap (λ l. l - h) places.length_is in
     elim (cases_lt k (n - h)) [
       | inl less ↦ (
-          let here : (first + k) % n ≡ h + k = mod_is (first + k) n (first / n) (h + k) (omega arith) (omega arith) in
+          let here : (first + k) % n ≡ h + k = mod-is (first + k) n (first / n) (h + k) (omega arith) (omega arith) in
           get_or_append_left (drop h xs) (take h xs) 0 k (omega (arith, front)) ∙ get_or-drop h xs k 0
           ∙ ap (λ i. get_or xs i 0) (sym here)
           )
       | inr more ↦ (
           let here : (first + k) % n ≡ k - (n - h) =
-          mod_is (first + k) n (first / n + 1) (k - (n - h)) (omega arith) (omega arith) in
+          mod-is (first + k) n (first / n + 1) (k - (n - h)) (omega arith) (omega arith) in
           get_or-append_right (drop h xs) (take h xs) (n - h) k 0 front more
           ∙ get_or-take h xs (k - (n - h)) 0 (omega arith) ∙ ap (λ i. get_or xs i 0) (sym here)
           )
@@ -64,8 +64,8 @@ total-past {n} {xs} first t places past =
     (omega (arith, length-rotation xs (first % n) (omega (arith, places.length_is, below)), places.length_is, past))
 
 -- two slots of one turn have two places
-pub places_apart : {n first s t : ℕ} → 0 < n → IsInTurn n first s → IsInTurn n first t → s % n ≡ t % n → s ≡ t
-places_apart {n} {s} {t} pos s_in t_in same =
+pub places-apart : {n first s t : ℕ} → 0 < n → IsInTurn n first s → IsInTurn n first t → s % n ≡ t % n → s ≡ t
+places-apart {n} {s} {t} pos s_in t_in same =
     let whole_s : s / n * n + s % n ≡ s = div-add-mod' s n in
     let whole_t : t / n * n + t % n ≡ t = div-add-mod' t n in
     let less_s : s / n * n < (t / n + 1) * n = omega (arith, whole_s, whole_t, same, s_in.inside, t_in.from) in
@@ -76,31 +76,33 @@ places_apart {n} {s} {t} pos s_in t_in same =
     sym whole_s ∙ ap (λ q. q * n + s % n) level ∙ ap (λ r. t / n * n + r) same ∙ whole_t
 
 -- the block of a slot's place
-pub block_of : (t : ℕ) → t % ring_slots / 1024 ≡ t / 1024 % 1024
-block_of t = field_of t 10 10
+pub block-of : (t : ℕ) → t % ring_slots / 1024 ≡ t / 1024 % 1024
+block-of t = field_of t 10 10
 
 -- the slots up to the next multiple of 1,024 are of one block
-pub same_block : (slot t : ℕ) → slot ≤ t → t < slot + (1024 - slot % 1024) → t / 1024 ≡ slot / 1024
-same_block slot t from inside = omega (arith, from, inside)
+pub same-block : (slot t : ℕ) → slot ≤ t → t < slot + (1024 - slot % 1024) → t / 1024 ≡ slot / 1024
+same-block slot t from inside = omega (arith, from, inside)
 
 -- ---- a place that is written
-set_places : {n : ℕ} {xs : List ℕ} (k v : ℕ) → HasPlaces n xs → HasPlaces n (set xs k v)
-set_places {xs} k v places = record { some = places.some; length_is = length-set xs k v ∙ places.length_is }
+set-places : {n : ℕ} {xs : List ℕ} (k v : ℕ) → HasPlaces n xs → HasPlaces n (set xs k v)
+set-places {xs} k v places = record { some = places.some; length_is = length-set xs k v ∙ places.length_is }
 
 pub set-here : {n : ℕ} {xs : List ℕ} {first slot : ℕ} (v : ℕ) → HasPlaces n xs → IsInTurn n first slot →
     total_at first (rotation (first % n) (set xs (slot % n) v)) slot ≡ v
 set-here {n} {xs} {slot} v places turn =
     let below : slot % n < n = mod_below slot n places.some in
-    total-in (set_places (slot % n) v places) turn ∙ get_or-set_same xs (slot % n) v 0 (omega (arith, below, places.length_is))
+    total-in (set-places (slot % n) v places) turn
+    ∙ get_or-set_same xs (slot % n) v 0 (omega (arith, below, places.length_is))
 
-pub set-there : {n : ℕ} {xs : List ℕ} {first slot t : ℕ} (v : ℕ) → HasPlaces n xs → IsInTurn n first slot → first ≤ t → t ≢ slot →
+pub set-there : {n : ℕ} {xs : List ℕ} {first slot t : ℕ} (v : ℕ) → HasPlaces n xs → IsInTurn n first slot → first ≤ t
+    → t ≢ slot →
     total_at first (rotation (first % n) (set xs (slot % n) v)) t ≡ total_at first (rotation (first % n) xs) t
 set-there {n} {xs} {first} {slot} {t} v places turn since other =
-    let after = set_places (slot % n) v places in
+    let after = set-places (slot % n) v places in
     elim (cases_lt t (first + n)) [
       | inl in_ring ↦ (
           let its : IsInTurn n first t = record { from = since; inside = in_ring } in
-          let apart : t % n ≢ slot % n = λ e. other (places_apart places.some its turn e) in
+          let apart : t % n ≢ slot % n = λ e. other (places-apart places.some its turn e) in
           total-in after its ∙ get_or-set_other xs (slot % n) (t % n) v 0 apart ∙ sym (total-in places its)
           )
       | inr past ↦ total-past first t after past ∙ sym (total-past first t places past)
@@ -119,11 +121,12 @@ total-next {n} {xs} first t places none since =
         | inl is ↦ (
             let same : t % n ≡ first % n =
             ap (λ u. u % n) is
-            ∙ mod_is (first + n) n (first / n + 1) (first % n) (omega (arith, div-add-mod' first n))
+            ∙ mod-is (first + n) n (first / n + 1) (first % n) (omega (arith, div-add-mod' first n))
             (mod_below first n pos) in
             total-in {first = first + 1} places (record { from = since; inside = omega (arith, is) })
             ∙ ap (λ i. get_or xs i 0) same
-            ∙ sym (total-in {first = first} {t = first} places (record { from = omega arith; inside = omega arith })) ∙ none
+            ∙ sym (total-in {first = first} {t = first} places (record { from = omega arith; inside = omega arith }))
+            ∙ none
             ∙ sym (total-past first t places past)
             )
         | inr other ↦ total-past (first + 1) t places (more first n t past other) ∙ sym (total-past first t places past)
@@ -153,7 +156,7 @@ total-bounded {xs} {tops} {first} {slot} {t} topped from since same =
           let here = total-in {first = first} places (record { from = omega arith; inside = inside }) in
           let bound = topped.bounded (t % ring_slots) (mod_below t ring_slots (omega arith)) in
           let block : t % ring_slots / 1024 ≡ slot % ring_slots / 1024 =
-          block_of t ∙ ap (λ b. b % 1024) same ∙ sym (block_of slot) in
+          block-of t ∙ ap (λ b. b % 1024) same ∙ sym (block-of slot) in
           let top : get_or tops (t % ring_slots / 1024) 0 ≡ get_or tops (slot % ring_slots / 1024) 0 =
           ap (λ b. get_or tops b 0) block in
           omega (arith, here, bound, top)

@@ -5,7 +5,7 @@ use Rattle.slot_calendar.specs.Calendars.{booked_at}
 use Rattle.slot_calendar.specs.Totals.{ring_slots}
 use Rattle.report.specs.CalendarTexts.{booked_slots, slot_words}
 use Rattle.vod_base.proofs.AppendLemmas.{appended_as, both, cut_before, handed_on, then_appended}
-use Rattle.report.proofs.SlotLemmas.{IsAmong, line-booked, line-free, lines, lines-around, lines-more}
+use Rattle.report.proofs.SlotLemmas.{IsAmong, line_booked, line_free, lines, lines_around, lines_more}
 use Rattle.report.proofs.calendars.push_slots.Goals as goal
 use Rattle.report.proofs.calendars.push_slots.Goals.{then-booked-gt0+in_ok-push_slot, else-booked-gt0}
 
@@ -18,12 +18,13 @@ returns-in_err-push_slot c =
     let k = slot - first in
     let before = lines (booked_at calendar) (range_with_len first k) in
     let after = lines (booked_at calendar) (range_with_len (slot + 1) (ring_slots - (k + 1))) in
-    let inside : k < ring_slots = omega (arith, c.loop-slot-test.true, c.now-now.ensures.value, c.loop-slot.auto.slot) in
+    let inside : k < ring_slots =
+    omega (arith, c.loop-slot-test.true, c.now-now.ensures.value, c.loop-slot.auto.slot) in
     let place : slot ≡ first + k = omega (arith, c.now-now.ensures.value, c.loop-slot.auto.slot) in
     let among : IsAmong first ring_slots k slot = record { is = place; inside = inside } in
     let some : 0 < booked_at calendar slot = omega (arith, c.booked_bytes-booked.ensures.value, c.if-booked-gt0.true) in
     let words = ap (λ n. before ++ ((slot_words slot n ++ codes "\n") ++ after)) c.booked_bytes-booked.ensures.value
-    ∙ lines-around (booked_at calendar) among some in
+    ∙ lines_around (booked_at calendar) among some in
     handed_on c.from_residual.result c.from_residual.ensures.0
     (appended_as words (then_appended before c.loop-slot.invariant (cut_before after c.in_err-push_slot.ensures)))
 
@@ -36,20 +37,24 @@ loop-slot-preserved c =
     let before = lines (booked_at calendar) (range_with_len first k) in
     let place : slot ≡ first + k = omega (arith, c.now-now.ensures.value, c.loop-slot.auto.slot) in
     let count : slot + 1 - first ≡ k + 1 = omega (arith, c.now-now.ensures.value, c.loop-slot.auto.slot) in
-    let more = lines-more (booked_at calendar) first k place count in
+    let more = lines_more (booked_at calendar) first k place count in
     let out = c.args.out.now.items in
     elim c.if-booked-gt0.branch [
       | then-booked-gt0+in_ok-push_slot w ↦ (
-          let some : 0 < booked_at calendar slot = omega (arith, c.booked_bytes-booked.ensures.value, w.if-booked-gt0.true) in
+          let some : 0 < booked_at calendar slot =
+          omega (arith, c.booked_bytes-booked.ensures.value, w.if-booked-gt0.true) in
           let line = slot_words slot c.booked_bytes-booked.result ++ codes "\n" in
           let same = ap (λ n. slot_words slot n ++ codes "\n") c.booked_bytes-booked.ensures.value
-          ∙ sym (line-booked (booked_at calendar) slot some) in
-          ap (λ (v : Vec ℕ Global). v.items) w.out-is ∙ both out before line c.loop-slot.invariant w.in_ok-push_slot.ensures.whole
+          ∙ sym (line_booked (booked_at calendar) slot some) in
+          ap (λ (v : Vec ℕ Global). v.items) w.out-is
+          ∙ both out before line c.loop-slot.invariant w.in_ok-push_slot.ensures.whole
           ∙ ap (λ (l : List ℕ). out ++ l) (ap (λ (l : List ℕ). before ++ l) same ∙ sym more)
           )
       | else-booked-gt0 w ↦ (
-          let none : booked_at calendar slot ≤ 0 = omega (arith, c.booked_bytes-booked.ensures.value, w.if-booked-gt0.false) in
-          let same = more ∙ ap (λ (l : List ℕ). before ++ l) (line-free (booked_at calendar) slot none) ∙ append-nil before in
+          let none : booked_at calendar slot ≤ 0 =
+          omega (arith, c.booked_bytes-booked.ensures.value, w.if-booked-gt0.false) in
+          let same = more ∙ ap (λ (l : List ℕ). before ++ l) (line_free (booked_at calendar) slot none)
+          ∙ append-nil before in
           ap (λ (v : Vec ℕ Global). v.items) w.out-is ∙ c.loop-slot.invariant ∙ ap (λ (l : List ℕ). out ++ l) (sym same)
           )
     ]

@@ -16,7 +16,8 @@ returns-in_err-push_field c =
     (λ n. place ++ field (codes " seat=") n ++ command_words entry.command ++ answer_words entry.answer
     ++ codes "\n") c.from.ensures in
     handed_on c.from_residual-in_err-push_field.result c.from_residual-in_err-push_field.ensures.0
-    (appended_as words (cut_before (codes "\n") (cut_before (answer_words entry.answer) (cut_before (command_words entry.command)
+    (appended_as words (cut_before (codes "\n")
+    (cut_before (answer_words entry.answer) (cut_before (command_words entry.command)
     (then_appended place c.in_ok-push_number.ensures.whole c.in_err-push_field.ensures)))))
 
 pub returns-in_err-push_command : goal.returns-in_err-push_command
@@ -44,7 +45,8 @@ returns-in_err-push_answer c =
     let head = both _ place seat c.in_ok-push_number.ensures.whole c.in_ok-push_field.ensures.whole in
     let asked = both _ (place ++ seat) command head c.in_ok-push_command.ensures.whole in
     handed_on c.from_residual-in_err-push_answer.result c.from_residual-in_err-push_answer.ensures.0
-    (appended_as words (cut_before (codes "\n") (then_appended (place ++ seat ++ command) asked c.in_err-push_answer.ensures)))
+    (appended_as words (cut_before (codes "\n")
+    (then_appended (place ++ seat ++ command) asked c.in_err-push_answer.ensures)))
 
 pub returns : goal.returns
 returns c =

@@ -9,7 +9,8 @@ pub entry_line-requires : goal.entry_line-requires
 entry_line-requires c =
     let kinds : AreOfKind c.entries_from-rest.result.now =
     subst AreOfKind (sym c.entries_from-rest.ensures) (kinds_from c.args.entries.now c.args.from c.requires) in
-    kind_at c.entries_from-rest.result.now c.loop-passed.passed c.index-rest-passed.result kinds c.loop-passed-test.true c.index-rest-passed.is
+    kind_at c.entries_from-rest.result.now c.loop-passed.passed c.index-rest-passed.result kinds
+    c.loop-passed-test.true c.index-rest-passed.is
 
 pub loop-passed-init : goal.loop-passed-init
 loop-passed-init c = none_yet c.entries_from-rest.result.now c.args.from c.args.out.now.items

@@ -8,7 +8,8 @@ use Rattle.slot_calendar.proofs.booking.book_segment.Goals as goal
 pub overflow_sub-sent : goal.overflow_sub-sent
 overflow_sub-sent c =
     let i = c.loop-passed in
-    sent-step (c.args.segment ∷ []) c.args.from i.passed i.invariant.before_is (c.sent_through-sent.ensures.sent c.args.from)
+    sent-step (c.args.segment ∷ []) c.args.from i.passed i.invariant.before_is
+    (c.sent_through-sent.ensures.sent c.args.from)
 
 pub loop-passed-preserved : goal.loop-passed-preserved
 loop-passed-preserved c =

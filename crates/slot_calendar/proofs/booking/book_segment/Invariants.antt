@@ -9,7 +9,8 @@ invariant-loop-passed l = record {
   first_is : l.ring.first ≡ l.fn.ring.first;
   stale_is : l.ring.stale ≡ l.fn.ring.stale;
   done : (t : ℕ) → l.fn.ring.first ≤ t → t < l.from + l.passed →
-      total_at l.ring.first l.ring.totals t ≡ total_at l.fn.ring.first l.fn.ring.totals t + asked_at (l.segment ∷ []) l.from t;
+      total_at l.ring.first l.ring.totals t
+      ≡ total_at l.fn.ring.first l.fn.ring.totals t + asked_at (l.segment ∷ []) l.from t;
   rest : (t : ℕ) → l.fn.ring.first ≤ t → l.from + l.passed ≤ t →
       total_at l.ring.first l.ring.totals t ≡ total_at l.fn.ring.first l.fn.ring.totals t;
 }

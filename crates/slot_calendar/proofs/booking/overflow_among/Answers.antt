@@ -10,7 +10,8 @@ use Rattle.slot_calendar.proofs.booking.overflow_among.Goals.{then-booked-capaci
 pub overflow_sub-asked : goal.overflow_sub-asked
 overflow_sub-asked c =
     let i = c.loop-passed in
-    sent-step (c.args.segment ∷ []) c.args.from i.passed i.invariant.before_is (c.sent_through-sent.ensures.sent c.args.from)
+    sent-step (c.args.segment ∷ []) c.args.from i.passed i.invariant.before_is
+    (c.sent_through-sent.ensures.sent c.args.from)
 
 pub returns-then-booked-capacity : goal.returns-then-booked-capacity
 returns-then-booked-capacity c =

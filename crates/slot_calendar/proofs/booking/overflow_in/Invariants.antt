@@ -7,7 +7,8 @@ use Rattle.slot_calendar.proofs.booking.overflow_in.Given as goal
 abbrev pub invariant-loop-passed : goal.invariant-loop-passed
 invariant-loop-passed l = record {
   within : l.passed ≤ l.segment.slots;
-  fits : FitsIn l.from (l.from + l.passed) (total_at l.ring.first l.ring.totals) (capacity_at l.profile) l.from (l.segment ∷ []);
+  fits : FitsIn l.from (l.from + l.passed) (total_at l.ring.first l.ring.totals) (capacity_at l.profile) l.from
+      (l.segment ∷ []);
 }
 
 abbrev pub decreases-loop-passed : goal.decreases-loop-passed

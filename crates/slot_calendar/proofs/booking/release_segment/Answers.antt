@@ -44,7 +44,8 @@ loop-passed-preserved c =
     } in
     let at : c.args.from + (i.passed + 1) ≡ place + 1 = omega arith in
     record {
-      before_is = c.saturating_sub-over.ensures ∙ ap (λ n. n - c.args.keep) (sym (c.sent_through.ensures.sent c.args.from));
+      before_is = c.saturating_sub-over.ensures
+          ∙ ap (λ n. n - c.args.keep) (sym (c.sent_through.ensures.sent c.args.from));
       first_is = c.give_back.ensures.now ∙ i.invariant.first_is;
       done = λ t since less. changed-next step (λ t was is. is + cut_at segments c.args.from c.args.keep t ≡ was)
           (λ from. omega (arith, cut, c.give_back.ensures.at (omega (arith, from, i.invariant.first_is))))

@@ -17,9 +17,11 @@ returns-then-step-slot-clause-same c = λ u from less.
 pub returns-clause-here : goal.returns-clause-here
 returns-clause-here c =
     let i = c.loop-step in
-    capacity-last c.requires (omega arith) (record { begun = i.invariant.begun; bytes_are = i.invariant.bytes_are }) (omega arith)
+    capacity-last c.requires (omega arith) (record { begun = i.invariant.begun; bytes_are = i.invariant.bytes_are })
+    (omega arith)
 
 pub returns-clause-same : goal.returns-clause-same
 returns-clause-same c = λ u from less.
     let i = c.loop-step in
-    capacity-last c.requires (omega arith) (record { begun = i.invariant.begun; bytes_are = i.invariant.bytes_are }) from
+    capacity-last c.requires (omega arith)
+    (record { begun = i.invariant.begun; bytes_are = i.invariant.bytes_are }) from

@@ -31,7 +31,8 @@ returns-clause-stands c = λ plays stands. (
     let first : c.self.inside.ring.first ≡ old.first = ap (λ e. e.first) c.self.view_is in
     stands-push c.args.start c.segments.ensures.plan (c.book_segments.ensures.now ∙ first)
     (λ t from. c.book_segments.ensures.totals t (omega (arith, from, first))
-    ∙ ap (λ s. total_at c.self.inside.ring.first c.self.inside.ring.totals t + asked_at s c.args.start t) c.segments.ensures.value
+    ∙ ap (λ s. total_at c.self.inside.ring.first c.self.inside.ring.totals t + asked_at s c.args.start t)
+    c.segments.ensures.value
     ∙ ap (λ e. booked_at e t + asked_at c.args.plan.now c.args.start t) c.self.view_is)
     stands
     )

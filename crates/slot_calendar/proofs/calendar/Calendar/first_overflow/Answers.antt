@@ -19,7 +19,8 @@ returns-in-Some c =
     let at = segment-at segments i.segment-index (omega arith) i.invariant.from_is in
     let Q : Bookings → Type 0 =
     λ e. IsOverflowIn i.from (i.from + s.slots) (booked_at e) (capacity_at e.steps) i.from (s ∷ []) over in
-    let P : List Segment → Type 0 = λ l. IsFirstOverflow old.first (booked_at old) (capacity_at old.steps) c.args.start l over in
+    let P : List Segment → Type 0 =
+    λ l. IsFirstOverflow old.first (booked_at old) (capacity_at old.steps) c.args.start l over in
     subst P c.segments-segments.ensures.value
     (first-overflow at (omega (arith, i.invariant.from_is, c.requires.after)) i.invariant.fits
     (subst Q c.self.view_is c.in-Some.ensures))
@@ -31,7 +32,8 @@ loop-segment-preserved c =
     let segments = c.segments-segments.result.now in
     let s : Segment = get_or segments i.segment-index no_segment in
     let at = segment-at segments i.segment-index (omega arith) i.invariant.from_is in
-    let Q : Bookings → Type 0 = λ e. FitsIn i.from (i.from + s.slots) (booked_at e) (capacity_at e.steps) i.from (s ∷ []) in
+    let Q : Bookings → Type 0 =
+    λ e. FitsIn i.from (i.from + s.slots) (booked_at e) (capacity_at e.steps) i.from (s ∷ []) in
     record {
       from_is = from-next at;
       fits = fits-next old.first (booked_at old) (capacity_at old.steps) at i.invariant.fits

@@ -12,7 +12,8 @@ returns-then-saturating_sub-lt-RING_SLOTS-clause-stands c = λ before after stan
     let new : Bookings =
     record { first = c.settle.new.self.first; steps = c.self.inside.profile; totals = c.settle.new.self.totals } in
     let first : c.self.inside.ring.first ≡ old.first = ap (λ e. e.first) c.self.view_is in
-    let settled : (t : ℕ) → booked_at new t ≡ total_at c.release_segments.new.ring.first c.release_segments.new.ring.totals t =
+    let settled : (t : ℕ) → booked_at new t
+    ≡ total_at c.release_segments.new.ring.first c.release_segments.new.ring.totals t =
     λ t. ap (λ n. total_at n c.settle.new.self.totals t) c.settle.ensures.now
     ∙ ap (λ l. total_at c.release_segments.new.ring.first l t) c.settle.ensures.totals in
     let play : Play = cut_play c.args.start c.args.plan.now c.args.keep in

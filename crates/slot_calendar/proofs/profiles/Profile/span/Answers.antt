@@ -6,7 +6,8 @@ use Rattle.slot_calendar.proofs.profiles.Profile.span.Goals as goal
 
 pub returns-clause-span : goal.returns-clause-span
 returns-clause-span c =
-    let P : List CapacityStep → Type 0 = λ steps. IsSpan steps c.args.slot c.span_at.result.bytes c.span_at.result.until in
+    let P : List CapacityStep → Type 0 =
+    λ steps. IsSpan steps c.args.slot c.span_at.result.bytes c.span_at.result.until in
     subst P (c.as_slice.ensures.value ∙ c.self.view_is)
     (span-is c.as_slice.result.now c.args.slot c.span_at.result.bytes c.span_at.result.until
     (c.span_at.ensures.some c.requires) c.span_at.ensures.same)

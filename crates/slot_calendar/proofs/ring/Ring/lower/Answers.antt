@@ -45,7 +45,8 @@ returns-clause-at c =
     let p = c.args.slot % ring_slots in
     let first : d.first ≡ c.args.self.now.first = ap (λ s. s.first) c.self.view_is in
     let old = ap (λ s. total_at s.first s.totals c.args.slot) c.self.view_is in
-    let places : HasPlaces ring_slots d.places.items = record { some = omega arith; length_is = c.self.invariant.places_are } in
+    let places : HasPlaces ring_slots d.places.items =
+    record { some = omega arith; length_is = c.self.invariant.places_are } in
     let from : d.first ≤ c.args.slot = omega (arith, first, c.requires.from_now) in
     let turn = in_ring d.first c.args.slot places from (omega (arith, old, c.requires.some, c.requires.booked)) in
     let inside : p < ring_slots = mod_below c.args.slot ring_slots (omega arith) in
@@ -61,7 +62,8 @@ returns-clause-others c = λ t since other. (
     let d = c.self.inside in
     let first : d.first ≡ c.args.self.now.first = ap (λ s. s.first) c.self.view_is in
     let old = ap (λ s. total_at s.first s.totals c.args.slot) c.self.view_is in
-    let places : HasPlaces ring_slots d.places.items = record { some = omega arith; length_is = c.self.invariant.places_are } in
+    let places : HasPlaces ring_slots d.places.items =
+    record { some = omega arith; length_is = c.self.invariant.places_are } in
     let turn = in_ring d.first c.args.slot places (omega (arith, first, c.requires.from_now))
     (omega (arith, old, c.requires.some, c.requires.booked)) in
     set-there (c.index_mut.result.now - c.args.by) places turn (omega (arith, first, since)) other
