@@ -25,8 +25,9 @@ pub record IsKnown (entries : List Entry) (count : ℕ) (h : Held) : Type 0 wher
       play_admitted (get_or entries h.number none).command (get_or entries h.number none).answer
       ≡ Some (whole_play h.play.start h.play.segments)
 
-known_more : (entries : List Entry) (n : ℕ) (held : List Held) → All (IsKnown entries n) held → All (IsKnown entries (n + 1)) held
-known_more entries n held all =
+known-more : (entries : List Entry) (n : ℕ) (held : List Held) → All (IsKnown entries n) held
+    → All (IsKnown entries (n + 1)) held
+known-more entries n held all =
     All-weaker (IsKnown entries n) (IsKnown entries (n + 1))
     (λ h known. record { inside = omega (arith, known.inside); admitted = known.admitted }) held all
 
@@ -37,20 +38,21 @@ known-next : {entries : List Entry} {n : ℕ} (m : Machine) (command : Command) 
     → All (IsKnown entries n) m.state.held → All (IsKnown entries (n + 1)) (next_state m.state n command answer).held
 known-next {entries} {n} m (Play slot segments) (Admitted start) is here all =
     All-push (IsKnown entries (n + 1)) m.state.held (admitted_play n start segments)
-    (known_more entries n m.state.held all) (record { inside = omega arith; admitted = here })
-known-next {entries} {n} m (Play slot segments) (Overflow over booked asked) is here all = known_more entries n m.state.held all
+    (known-more entries n m.state.held all) (record { inside = omega arith; admitted = here })
+known-next {entries} {n} m (Play slot segments) (Overflow over booked asked) is here all =
+    known-more entries n m.state.held all
 known-next m (Play slot segments) Halted is here all = absurd is
 known-next m (Play slot segments) (Looked now at booked) is here all = absurd is
 known-next {entries} {n} m (Halt number keep) Halted is here all = (
     let h = halting m.state number keep is in
-    let known = known_more entries n m.state.held all in
+    let known = known-more entries n m.state.held all in
     let that = holds-of (IsKnown entries (n + 1)) number m.state.held h.held known h.is in
     all-halted (IsKnown entries (n + 1)) h (record { inside = that.inside; admitted = that.admitted }) known
     )
 known-next m (Halt number keep) (Admitted start) is here all = absurd is
 known-next m (Halt number keep) (Overflow over booked asked) is here all = absurd is
 known-next m (Halt number keep) (Looked now at booked) is here all = absurd is
-known-next {entries} {n} m (Look slot) (Looked now at booked) is here all = known_more entries n m.state.held all
+known-next {entries} {n} m (Look slot) (Looked now at booked) is here all = known-more entries n m.state.held all
 known-next m (Look slot) (Admitted start) is here all = absurd is
 known-next m (Look slot) (Overflow over booked asked) is here all = absurd is
 known-next m (Look slot) Halted is here all = absurd is
@@ -72,23 +74,24 @@ known-at steps xs (suc n) legal few =
     (subst K at (known-next (machine_after steps (take n xs)) e.command e.answer
     (legal-at steps xs n legal inside) here before))
 
-pub known-after : (steps : List CapacityStep) (xs : List Entry) → IsLegal steps xs → All (IsKnown xs (length xs)) (state_after xs).held
+pub known-after : (steps : List CapacityStep) (xs : List Entry) → IsLegal steps xs
+    → All (IsKnown xs (length xs)) (state_after xs).held
 known-after steps xs legal =
     let S : List Entry → Type 0 = λ l. All (IsKnown xs (length xs)) (state_after l).held in
     subst S (take_all (length xs) xs (omega arith)) (known-at steps xs (length xs) legal (omega arith))
 
 -- ---- the entry that admitted an open play
-pub admission_of : (command : Command) (answer : Answer) (start : ℕ) (segments : List Segment) →
+pub admission-of : (command : Command) (answer : Answer) (start : ℕ) (segments : List Segment) →
     play_admitted command answer ≡ Some (whole_play start segments) →
     (slot : ℕ) × ((command ≡ Play slot segments) × (answer ≡ Admitted start))
-admission_of (Play slot plan) (Admitted from) start segments is =
+admission-of (Play slot plan) (Admitted from) start segments is =
     let same : whole_play from plan ≡ whole_play start segments = cc in
     (slot, (ap (λ (p : Booked). Play slot p.segments) same, ap (λ (p : Booked). Admitted p.start) same))
-admission_of (Play slot plan) (Overflow over booked asked) start segments is = let bad : ⊥ = cc in absurd bad
-admission_of (Play slot plan) Halted start segments is = let bad : ⊥ = cc in absurd bad
-admission_of (Play slot plan) (Looked now at booked) start segments is = let bad : ⊥ = cc in absurd bad
-admission_of (Halt number keep) answer start segments is = let bad : ⊥ = cc in absurd bad
-admission_of (Look slot) answer start segments is = let bad : ⊥ = cc in absurd bad
+admission-of (Play slot plan) (Overflow over booked asked) start segments is = let bad : ⊥ = cc in absurd bad
+admission-of (Play slot plan) Halted start segments is = let bad : ⊥ = cc in absurd bad
+admission-of (Play slot plan) (Looked now at booked) start segments is = let bad : ⊥ = cc in absurd bad
+admission-of (Halt number keep) answer start segments is = let bad : ⊥ = cc in absurd bad
+admission-of (Look slot) answer start segments is = let bad : ⊥ = cc in absurd bad
 
 -- the play that can be halted stands whole in the state, and this entry admitted it
 pub record IsOpenEntry (entries : List Entry) (number keep : ℕ) (e : Entry) : Type 0 where
@@ -106,7 +109,8 @@ pub open-inside : (steps : List CapacityStep) (entries : List Entry) (number kee
 open-inside steps entries number keep legal can =
     let state = state_after entries in
     let h = halting state number keep can in
-    let known = holds-of (IsKnown entries (length entries)) number state.held h.held (known-after steps entries legal) h.is in
+    let known = holds-of (IsKnown entries (length entries)) number state.held h.held
+    (known-after steps entries legal) h.is in
     omega (arith, known.inside, (split number state.held h.held h.is).number_is)
 
 pub open-entry : {steps : List CapacityStep} {entries : List Entry} {number keep : ℕ} → IsLegal steps entries →
@@ -116,7 +120,8 @@ open-entry {steps} {entries} {number} {keep} legal can {e} at =
     let state = state_after entries in
     let h = halting state number keep can in
     let play = h.held.play in
-    let known = holds-of (IsKnown entries (length entries)) number state.held h.held (known-after steps entries legal) h.is in
+    let known = holds-of (IsKnown entries (length entries)) number state.held h.held
+    (known-after steps entries legal) h.is in
     let whole : play.keep ≡ total_bytes play.segments =
     (holds-of IsWhole number state.held h.held (sound-after steps entries legal).whole h.is).whole h.is_open in
     let N : ℕ → Type 0 =
@@ -124,7 +129,7 @@ open-entry {steps} {entries} {number} {keep} legal can {e} at =
     → play_admitted (get_or entries n none).command (get_or entries n none).answer
     ≡ Some (whole_play play.start play.segments) in
     let admitted : N number = subst N (split number state.held h.held h.is).number_is known.admitted in
-    let found = admission_of e.command e.answer play.start play.segments
+    let found = admission-of e.command e.answer play.start play.segments
     (ap (λ (x : Entry). play_admitted x.command x.answer) at ∙ admitted e) in
     let K : ℕ → Booked = λ k. record { start = play.start; segments = play.segments; keep = k } in
     record {

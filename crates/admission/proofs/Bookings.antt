@@ -17,7 +17,7 @@ use Rattle.admission.specs.declared.entries.Answer.TheVariants.{Admitted, Overfl
 use Rattle.admission.specs.Machine.{State, CanHalt, IsAnswer, admitted_play, booked_in, halted_play, held_as}
 use Rattle.admission.specs.Machine.{next_state, plays_of, with_halted}
 use Rattle.admission.specs.Histories.{IsLegal, asked_in, booked_after, is_admission, is_halt, latest_asked, state_after}
-use Rattle.admission.proofs.Admissions.{admission_of}
+use Rattle.admission.proofs.Admissions.{admission-of}
 use Rattle.admission.proofs.Calendars.{plays-around}
 use Rattle.admission.proofs.Counts.{tally}
 use Rattle.admission.proofs.Halts.{play_of, plays-split, split}
@@ -27,23 +27,24 @@ use Rattle.admission.proofs.Runs.{PlayAdmitted, legal-at, legal-take, no_entry, 
 abbrev entry_of : ℕ → Command → Answer → Entry
 entry_of maker command answer = record { maker = maker; command = command; answer = answer }
 
-after_entry : (xs : List Entry) (e : Entry) (t : ℕ)
+after-entry : (xs : List Entry) (e : Entry) (t : ℕ)
     → booked_after (xs ++ e ∷ []) t ≡ booked_in (next_state (state_after xs) (length xs) e.command e.answer) t
-after_entry xs e t = ap (λ (s : State). booked_in s t) (state-push xs e)
+after-entry xs e t = ap (λ (s : State). booked_in s t) (state-push xs e)
 
-pub booked_admitted : {segments : List Segment} (xs : List Entry) (maker slot start t : ℕ) → IsPlan segments
+pub booked-admitted : {segments : List Segment} (xs : List Entry) (maker slot start t : ℕ) → IsPlan segments
     → booked_after (xs ++ entry_of maker (Play slot segments)
     (Admitted start) ∷ []) t ≡ booked_after xs t + asked_at segments start t
-booked_admitted {segments} xs maker slot start t plan =
+booked-admitted {segments} xs maker slot start t plan =
     let state = state_after xs in
-    after_entry xs (entry_of maker (Play slot segments) (Admitted start)) t
-    ∙ ap (λ (l : List Booked). booked_by l t) (map-append play_of state.held (admitted_play (length xs) start segments ∷ []))
+    after-entry xs (entry_of maker (Play slot segments) (Admitted start)) t
+    ∙ ap (λ (l : List Booked). booked_by l t)
+    (map-append play_of state.held (admitted_play (length xs) start segments ∷ []))
     ∙ booked-push (plays_of state) segments start t plan
 
-halted_state : {number start : ℕ} {segments : List Segment} (state : State) (keep t : ℕ) → IsPlan segments
+halted-state : {number start : ℕ} {segments : List Segment} (state : State) (keep t : ℕ) → IsPlan segments
     → held_as number state.held ≡ Some (admitted_play number start segments)
     → booked_by (map play_of (with_halted number keep state.held)) t + cut_at segments start keep t ≡ booked_in state t
-halted_state {number} {start} {segments} state keep t plan is =
+halted-state {number} {start} {segments} state keep t plan is =
     let h = admitted_play number start segments in
     let parts = split number state.held h is in
     let front = map play_of parts.before in
@@ -54,44 +55,47 @@ halted_state {number} {start} {segments} state keep t plan is =
     ∙ booked-cut front back (cut_play start segments keep) t plan
     ∙ ap (λ (l : List Booked). booked_by l t) (sym (plays-around state number start segments is refl))
 
-pub booked_halted : {steps : List CapacityStep} {xs : List Entry} {number start : ℕ} {segments : List Segment} (maker keep t : ℕ)
+pub booked_halted : {steps : List CapacityStep} {xs : List Entry} {number start : ℕ} {segments : List Segment}
+    (maker keep t : ℕ)
     → IsPlan segments → PlayAdmitted steps xs number start segments → CanHalt (state_after xs) number keep
-    → booked_after (xs ++ entry_of maker (Halt number keep) Halted ∷ []) t + cut_at segments start keep t ≡ booked_after xs t
+    → booked_after (xs ++ entry_of maker (Halt number keep) Halted ∷ []) t + cut_at segments start keep t
+    ≡ booked_after xs t
 booked_halted {steps} {xs} {number} {start} {segments} maker keep t plan admitted can =
     let still = can-still steps xs number keep admitted.legal can in
     let is = whole-after admitted still.unhalted in
-    ap (λ n. n + cut_at segments start keep t) (after_entry xs (entry_of maker (Halt number keep) Halted) t)
-    ∙ halted_state (state_after xs) keep t plan is
+    ap (λ n. n + cut_at segments start keep t) (after-entry xs (entry_of maker (Halt number keep) Halted) t)
+    ∙ halted-state (state_after xs) keep t plan is
 
 -- an entry that neither admits a play nor halts one
 record BooksNothing (command : Command) (answer : Answer) : Type 0 where
   pub unopened : is_admission answer ≡ false
   pub unhalted : is_halt command ≡ false
 
-other_state : (state : State) (place : ℕ) (command : Command) (answer : Answer) (t : ℕ) → BooksNothing command answer →
+other-state : (state : State) (place : ℕ) (command : Command) (answer : Answer) (t : ℕ) → BooksNothing command answer →
     booked_in (next_state state place command answer) t ≡ booked_in state t
-other_state state place (Play slot segments) (Admitted start) t none = absurd (false≢true (sym none.unopened))
-other_state state place (Play slot segments) (Overflow over booked asked) t none = refl
-other_state state place (Play slot segments) Halted t none = refl
-other_state state place (Play slot segments) (Looked now at booked) t none = refl
-other_state state place (Halt number keep) answer t none = absurd (false≢true (sym none.unhalted))
-other_state state place (Look slot) answer t none = refl
+other-state state place (Play slot segments) (Admitted start) t none = absurd (false≢true (sym none.unopened))
+other-state state place (Play slot segments) (Overflow over booked asked) t none = refl
+other-state state place (Play slot segments) Halted t none = refl
+other-state state place (Play slot segments) (Looked now at booked) t none = refl
+other-state state place (Halt number keep) answer t none = absurd (false≢true (sym none.unhalted))
+other-state state place (Look slot) answer t none = refl
 
-pub booked_other : (xs : List Entry) (e : Entry) (t : ℕ) → is_admission e.answer ≡ false
+pub booked-other : (xs : List Entry) (e : Entry) (t : ℕ) → is_admission e.answer ≡ false
     → is_halt e.command ≡ false → booked_after (xs ++ e ∷ []) t ≡ booked_after xs t
-booked_other xs e t unopened unhalted =
-    after_entry xs e t
-    ∙ other_state (state_after xs) (length xs) e.command e.answer t (record { unopened = unopened; unhalted = unhalted })
+booked-other xs e t unopened unhalted =
+    after-entry xs e t
+    ∙ other-state (state_after xs) (length xs) e.command e.answer t
+    (record { unopened = unopened; unhalted = unhalted })
 
 -- ---- where a play begins
-pub start_is : {steps : List CapacityStep} {xs : List Entry} {number start : ℕ} {segments : List Segment}
+pub start-is : {steps : List CapacityStep} {xs : List Entry} {number start : ℕ} {segments : List Segment}
     → PlayAdmitted steps xs number start segments → start ≡ latest_asked (take (number + 1) xs) + 1
-start_is {steps} {xs} {number} {start} {segments} admitted =
+start-is {steps} {xs} {number} {start} {segments} admitted =
     let legal = admitted.legal in
     let admission = admitted.admission in
     let e = get_or xs number no_entry in
     let state = state_after (take number xs) in
-    let found = admission_of e.command e.answer start segments (admission.admitted no_entry) in
+    let found = admission-of e.command e.answer start segments (admission.admitted no_entry) in
     let C : Command → Type 0 = λ c. IsAnswer steps state c e.answer in
     let A : Answer → Type 0 = λ a. IsAnswer steps state (Play found.0 segments) a in
     let answered = subst A found.1.1 (subst C found.1.0 (legal-at steps xs number legal admission.inside)) in
@@ -102,11 +106,11 @@ start_is {steps} {xs} {number} {start} {segments} admitted =
     omega (arith, answered.0, now_is, slot_is, latest)
 
 -- ---- what a look tells
-pub look_is : {steps : List CapacityStep} {xs : List Entry} {slot now at booked : ℕ} (place : ℕ) (none : Entry) →
+pub look-is : {steps : List CapacityStep} {xs : List Entry} {slot now at booked : ℕ} (place : ℕ) (none : Entry) →
     IsLegal steps xs → place < length xs → (get_or xs place none).command ≡ Look slot →
     (get_or xs place none).answer ≡ Looked now at booked
     → (now ≡ latest_asked (take place xs)) × (at ≡ max now slot) × (booked ≡ booked_after (take place xs) at)
-look_is {steps} {xs} {slot} {at} place none legal inside command_is answer_is =
+look-is {steps} {xs} {slot} {at} place none legal inside command_is answer_is =
     let state = state_after (take place xs) in
     let C : Command → Type 0 = λ c. IsAnswer steps state c (get_or xs place none).answer in
     let A : Answer → Type 0 = λ a. IsAnswer steps state (Look slot) a in

@@ -35,12 +35,17 @@ pub record HoldsWhole (state : State) (number start : ℕ) (segments : List Segm
   pub is : held_as number state.held ≡ Some held
   pub play_is : held.play ≡ whole_play start segments
 
+-- from now on each slot has booked what a play gives back that keeps so many bytes
+abbrev IsBooked : Bookings → ℕ → List Segment → ℕ → Type 0
+IsBooked calendar start segments keep =
+    (t : ℕ) → calendar.first ≤ t → cut_at segments start keep t ≤ booked_at calendar t
+
 -- it may be cut
 pub cut-allowed : {calendar : Bookings} {state : State} {number start : ℕ} {segments : List Segment} (keep : ℕ)
     → HoldsWhole state number start segments → StandsFor calendar (plays_of state)
-    → ((before after : List Booked) → StandsFor calendar (before ++ whole_play start segments ∷ after) → (t : ℕ)
-    → calendar.first ≤ t → cut_at segments start keep t ≤ booked_at calendar t)
-    → (t : ℕ) → calendar.first ≤ t → cut_at segments start keep t ≤ booked_at calendar t
+    → ((before after : List Booked) → StandsFor calendar (before ++ whole_play start segments ∷ after)
+    → IsBooked calendar start segments keep)
+    → IsBooked calendar start segments keep
 cut-allowed {calendar} {state} {number} {start} {segments} keep whole stands law =
     let parts = split number state.held whole.held whole.is in
     law (map play_of parts.before) (map play_of parts.after)

@@ -55,7 +55,8 @@ record IsCounted (entries : List Entry) : Type 0 where
   open_are : open_count entries + halts_of entries ≡ admissions_of entries
   now_is : (state_after entries).now ≡ latest_asked entries
 
-tally-at : (steps : List CapacityStep) (xs : List Entry) (n : ℕ) → IsLegal steps xs → n ≤ length xs → IsCounted (take n xs)
+tally-at : (steps : List CapacityStep) (xs : List Entry) (n : ℕ) → IsLegal steps xs → n ≤ length xs
+    → IsCounted (take n xs)
 tally-at steps xs zero legal few = record { open_are = refl; now_is = refl }
 tally-at steps xs (suc n) legal few =
     let before = tally-at steps xs n legal (omega (arith, few)) in
@@ -65,11 +66,13 @@ tally-at steps xs (suc n) legal few =
     let answered = legal-at steps xs n legal inside in
     let at : n + 1 ≡ suc n = omega arith in
     let next = state-next xs n inside in
-    let open_is : open_count (take (suc n) xs) ≡ open_plays (next_state state n e.command e.answer) = ap open_plays next in
+    let open_is : open_count (take (suc n) xs) ≡ open_plays (next_state state n e.command e.answer) =
+    ap open_plays next in
     let now_is : (state_after (take (suc n) xs)).now ≡ (next_state state n e.command e.answer).now =
     ap (λ (s : State). s.now) next in
     let halts : halts_of (take (suc n) xs) ≡ halts_of (take n xs) + cond (is_halt e.command) 1 0 =
-    ap (λ k. halts_of (take k xs)) (sym at) ∙ sum_by_more (λ (x : Entry). cond (is_halt x.command) 1 0) xs n no_entry inside in
+    ap (λ k. halts_of (take k xs)) (sym at)
+    ∙ sum_by_more (λ (x : Entry). cond (is_halt x.command) 1 0) xs n no_entry inside in
     let admissions : admissions_of (take (suc n) xs) ≡ admissions_of (take n xs) + cond (is_admission e.answer) 1 0 =
     ap (λ k. admissions_of (take k xs)) (sym at)
     ∙ sum_by_more (λ (x : Entry). cond (is_admission x.answer) 1 0) xs n no_entry inside in
@@ -77,7 +80,15 @@ tally-at steps xs (suc n) legal few =
     ap (λ k. latest_asked (take k xs)) (sym at)
     ∙ fold_more (λ latest (x : Entry). max latest (asked_in x.command)) 0 xs n no_entry inside in
     record {
-      open_are = omega (arith, before.open_are, open_is, halts, admissions, open-next steps state n e.command e.answer answered);
+      open_are = omega (
+        arith,
+        before.open_are,
+        open_is,
+        halts,
+        admissions,
+        open-next steps state n e.command e.answer
+            answered,
+      );
       now_is = now_is ∙ now-next steps state n e.command e.answer answered
           ∙ ap (λ k. max k (asked_in e.command)) before.now_is ∙ sym latest;
     }
@@ -85,5 +96,6 @@ tally-at steps xs (suc n) legal few =
 pub tally : (steps : List CapacityStep) (xs : List Entry) → IsLegal steps xs
     → (open_count xs + halts_of xs ≡ admissions_of xs) × ((state_after xs).now ≡ latest_asked xs)
 tally steps xs legal =
-    let is = subst IsCounted (take_all (length xs) xs (omega arith)) (tally-at steps xs (length xs) legal (omega arith)) in
+    let is = subst IsCounted (take_all (length xs) xs (omega arith))
+    (tally-at steps xs (length xs) legal (omega arith)) in
     (is.open_are, is.now_is)

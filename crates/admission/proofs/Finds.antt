@@ -27,11 +27,13 @@ pub found-new : (number start : ℕ) (segments : List Segment) (held : List Held
     → All (λ h. h.number < number) held
     → held_as number (held ++ admitted_play number start segments ∷ []) ≡ Some (admitted_play number start segments)
 found-new number start segments [] all =
-    cond-true (eqb number number) (Some (admitted_play number start segments)) (held_as number []) (eq-eqb number number refl)
+    cond-true (eqb number number) (Some (admitted_play number start segments)) (held_as number [])
+    (eq-eqb number number refl)
 found-new number start segments (x ∷ rest) all =
     let less : x.number < number = All-head (λ h. h.number < number) x rest all in
     cond-false (eqb x.number number) (Some x)
-    (held_as number (rest ++ admitted_play number start segments ∷ [])) (ne_eqb x.number number (λ e. omega (arith, e, less)))
+    (held_as number (rest ++ admitted_play number start segments ∷ []))
+    (ne_eqb x.number number (λ e. omega (arith, e, less)))
     ∙ found-new number start segments rest (All-tail (λ h. h.number < number) x rest all)
 
 -- a halt of another play leaves it
@@ -40,8 +42,10 @@ pub found-other : (number other keep : ℕ) (held : List Held) → (other ≡ nu
 found-other number other keep [] apart = refl
 found-other number other keep (x ∷ rest) apart = elim (cases_Bool (eqb x.number other)) [
   | inl that ↦ (
-      let no : eqb x.number number ≡ false = ne_eqb x.number number (λ e. apart (sym (eqb-true x.number other that) ∙ e)) in
-      ap (held_as number) (cond-true (eqb x.number other) (halted_play keep x ∷ rest) (x ∷ with_halted other keep rest) that)
+      let no : eqb x.number number ≡ false =
+      ne_eqb x.number number (λ e. apart (sym (eqb-true x.number other that) ∙ e)) in
+      ap (held_as number) (cond-true (eqb x.number other) (halted_play keep x ∷ rest)
+      (x ∷ with_halted other keep rest) that)
       ∙ cond-false (eqb x.number number) (Some (halted_play keep x)) (held_as number rest) no
       ∙ sym (cond-false (eqb x.number number) (Some x) (held_as number rest) no)
       )
@@ -68,14 +72,17 @@ found-closed number keep (x ∷ rest) h is = elim (cases_Bool (eqb x.number numb
   | inl here ↦ (
       let same : Some x ≡ Some h = sym (cond-true (eqb x.number number) (Some x) (held_as number rest) here) ∙ is in
       let that : x ≡ h = cc in
-      ap (held_as number) (cond-true (eqb x.number number) (halted_play keep x ∷ rest) (x ∷ with_halted number keep rest) here)
+      ap (held_as number) (cond-true (eqb x.number number) (halted_play keep x ∷ rest)
+      (x ∷ with_halted number keep rest) here)
       ∙ cond-true (eqb x.number number) (Some (halted_play keep x)) (held_as number rest) here
       ∙ ap (λ (y : Held). Some (halted_play keep y)) that
       )
   | inr later ↦
-      ap (held_as number) (cond-false (eqb x.number number) (halted_play keep x ∷ rest) (x ∷ with_halted number keep rest) later)
+      ap (held_as number) (cond-false (eqb x.number number) (halted_play keep x ∷ rest)
+      (x ∷ with_halted number keep rest) later)
       ∙ cond-false (eqb x.number number) (Some x) (held_as number (with_halted number keep rest)) later
-      ∙ found-closed number keep rest h (sym (cond-false (eqb x.number number) (Some x) (held_as number rest) later) ∙ is)
+      ∙ found-closed number keep rest h
+      (sym (cond-false (eqb x.number number) (Some x) (held_as number rest) later) ∙ is)
 ]
 
 -- a play that the state holds, and that the command doesn't halt
@@ -91,7 +98,8 @@ found-next {state} {number} {h} place (Play slot segments) (Admitted start) held
 found-next place (Play slot segments) (Overflow over booked asked) held = held.is
 found-next place (Play slot segments) Halted held = held.is
 found-next place (Play slot segments) (Looked now at booked) held = held.is
-found-next {state} {number} place (Halt other keep) Halted held = found-other number other keep state.held held.unhalted ∙ held.is
+found-next {state} {number} place (Halt other keep) Halted held =
+    found-other number other keep state.held held.unhalted ∙ held.is
 found-next place (Halt other keep) (Admitted start) held = held.is
 found-next place (Halt other keep) (Overflow over booked asked) held = held.is
 found-next place (Halt other keep) (Looked now at booked) held = held.is

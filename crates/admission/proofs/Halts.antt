@@ -16,14 +16,15 @@ pub record Halting (state : State) (number keep : ℕ) : Type 0 where
   pub is_open : held.is_open ≡ true
   pub small : keep ≤ total_bytes held.play.segments
 
-some_play : (o : Option Held) (keep : ℕ) → IsSomeAnd o (λ (h : Held). (h.is_open ≡ true) × (keep ≤ total_bytes h.play.segments)) →
+some-play : (o : Option Held) (keep : ℕ)
+    → IsSomeAnd o (λ (h : Held). (h.is_open ≡ true) × (keep ≤ total_bytes h.play.segments)) →
     (h : Held) × ((o ≡ Some h) × ((h.is_open ≡ true) × (keep ≤ total_bytes h.play.segments)))
-some_play None keep bad = absurd bad
-some_play (Some h) keep is = (h, (refl, (is.0, is.1)))
+some-play None keep bad = absurd bad
+some-play (Some h) keep is = (h, (refl, (is.0, is.1)))
 
 pub halting : (state : State) (number keep : ℕ) → CanHalt state number keep → Halting state number keep
 halting state number keep can =
-    let found = some_play (held_as number state.held) keep can in
+    let found = some-play (held_as number state.held) keep can in
     record { held = found.0; is = found.1.0; is_open = found.1.1.0; small = found.1.1.1 }
 
 -- ---- the plays before and after the one of a number
@@ -39,7 +40,8 @@ split number [] h is = let bad : ⊥ = cc in absurd bad
 split number (x ∷ rest) h is =
     elim (cases_Bool (eqb x.number number)) [
       | inl found ↦ (
-          let same : Some x ≡ Some h = sym (cond-true (eqb x.number number) (Some x) (held_as number rest) found) ∙ is in
+          let same : Some x ≡ Some h =
+          sym (cond-true (eqb x.number number) (Some x) (held_as number rest) found) ∙ is in
           let here : x ≡ h = cc in
           record {
             before = [];
@@ -51,7 +53,8 @@ split number (x ∷ rest) h is =
           }
           )
       | inr other ↦ (
-          let later = split number rest h (sym (cond-false (eqb x.number number) (Some x) (held_as number rest) other) ∙ is) in
+          let later = split number rest h (sym (cond-false (eqb x.number number) (Some x) (held_as number rest) other)
+          ∙ is) in
           record {
             before = x ∷ later.before;
             after = later.after;
@@ -64,7 +67,8 @@ split number (x ∷ rest) h is =
     ]
 
 -- what holds of all plays holds of that one
-pub holds-of : (P : Held → Type 0) (number : ℕ) (held : List Held) (h : Held) → All P held → held_as number held ≡ Some h → P h
+pub holds-of : (P : Held → Type 0) (number : ℕ) (held : List Held) (h : Held) → All P held
+    → held_as number held ≡ Some h → P h
 holds-of P number held h all is =
     let parts = split number held h is in
     let S : List Held → Type 0 = λ l. All P l in

@@ -29,7 +29,8 @@ opens-most (Looked now at booked) = omega arith
 -- a play that was asked for
 pub open-asked : (m : Machine) (place slot : ℕ) (segments : List Segment) (answer : Answer)
     → IsAnswer m.steps m.state (Play slot segments) answer
-    → open_plays (next_state m.state place (Play slot segments) answer) ≡ open_plays m.state + cond (is_admission answer) 1 0
+    → open_plays (next_state m.state place (Play slot segments) answer)
+    ≡ open_plays m.state + cond (is_admission answer) 1 0
 open-asked m place slot segments (Admitted start) is =
     sum_by_push (λ (h : Held). cond h.is_open 1 0) m.state.held (admitted_play place start segments)
 open-asked m place slot segments (Overflow over booked asked) is = omega arith
@@ -46,21 +47,23 @@ open-halted state place number keep can =
     let one : f h.held ≡ 1 = ap (λ b. cond b 1 0) h.is_open in
     let old = ap (λ l. sum_by f l) parts.was ∙ sum_by-append f parts.before (h.held ∷ parts.after)
     ∙ ap (λ n. sum_by f parts.before + n) (sum_by-cons f h.held parts.after) in
-    let new = ap (λ l. sum_by f l) (parts.becomes keep) ∙ sum_by-append f parts.before (halted_play keep h.held ∷ parts.after)
+    let new = ap (λ l. sum_by f l) (parts.becomes keep)
+    ∙ sum_by-append f parts.before (halted_play keep h.held ∷ parts.after)
     ∙ ap (λ n. sum_by f parts.before + n) (sum_by-cons f (halted_play keep h.held) parts.after) in
     omega (arith, old, new, one)
 
 -- ---- one entry more
--- the calendar and the entries of a book, with one entry more, and how many of its plays are open and how many entries
--- have room
-pub record HasGrown (calendar new : Bookings) (xs ys : List Entry) (e : Entry) (limit room more wide : ℕ) : Type 0 where
+-- the calendar and the entries of a book, with one entry more
+pub record HasGrown (calendar new : Bookings) (xs ys : List Entry) (e : Entry) : Type 0 where
   pub entries_are : ys ≡ xs ++ e ∷ []
   pub answered : IsAnswered calendar.steps (state_after xs) e
   pub steps_are : new.steps ≡ calendar.steps
   pub follows : Follows new (next_of (state_after xs) (length xs) e)
+
+-- and its counts: how many of its plays are open then, and that as many places are left
+pub record AreCounted (xs : List Entry) (e : Entry) (limit more : ℕ) : Type 0 where
   pub more_is : more ≡ open_plays (next_of (state_after xs) (length xs) e)
   pub fits : length xs + 1 + more ≤ limit
-  pub wide_is : wide ≡ room
 
 -- what a book tells of its counts, by its fields
 pub counts-kept : {calendar : Bookings} {xs : List Entry} {journal : Journal} {full : Full} {limit count room : ℕ}
@@ -72,22 +75,22 @@ counts-kept kept same full = (
 )
 
 pub kept-push : {calendar new : Bookings} {xs ys : List Entry} {e : Entry} {limit count more room wide : ℕ}
-    → IsBookKept calendar xs limit count room → HasGrown calendar new xs ys e limit room more wide
-    → IsBookKept new ys limit more wide
-kept-push {calendar} {new} {xs} {ys} {e} {more} kept grown =
+    → IsBookKept calendar xs limit count room → HasGrown calendar new xs ys e → AreCounted xs e limit more
+    → wide ≡ room → IsBookKept new ys limit more wide
+kept-push {calendar} {new} {xs} {ys} {e} {more} kept grown counted wide_is =
     let is = grown.entries_are in
     let steps = grown.steps_are in
     let state : state_after ys ≡ next_of (state_after xs) (length xs) e = ap state_after is ∙ state-push xs e in
     let L : List Entry → Type 0 = λ l. IsLegal calendar.steps l in
     let S : List CapacityStep → Type 0 = λ s. IsLegal s ys in
-    let open_is : open_count ys ≡ more = ap open_plays state ∙ sym grown.more_is in
+    let open_is : open_count ys ≡ more = ap open_plays state ∙ sym counted.more_is in
     record {
       legal = subst S (sym steps) (subst L (sym is) (legal-push calendar.steps xs e kept.legal grown.answered));
       follows = subst (Follows new) (sym state) grown.follows;
       count_is = sym open_is;
-      within = omega (arith, open_is, ap length is, length_push xs e, grown.fits);
+      within = omega (arith, open_is, ap length is, length_push xs e, counted.fits);
       few = kept.few;
-      reserved = omega (arith, grown.wide_is, kept.reserved);
+      reserved = omega (arith, wide_is, kept.reserved);
     }
 
 -- an answer that is noted after some entries, and what the caller is told of it

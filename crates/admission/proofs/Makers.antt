@@ -59,14 +59,14 @@ all-made place maker (e ∷ rest) =
     ]
 
 -- the entries alone, and where each stands
-pub made_entries : (place maker : ℕ) (xs : List Entry)
+pub made-entries : (place maker : ℕ) (xs : List Entry)
     → map (λ p. p.entry) (made_from place maker xs) ≡ filter (λ e. eqb e.maker maker) xs
-made_entries place maker [] = refl
-made_entries place maker (e ∷ rest) =
+made-entries place maker [] = refl
+made-entries place maker (e ∷ rest) =
     let more = made_from (place + 1) maker rest in
     let here : Placed = record { place = place; entry = e } in
     let others = filter (λ (x : Entry). eqb x.maker maker) rest in
-    let later : map (λ p. p.entry) more ≡ others = made_entries (place + 1) maker rest in
+    let later : map (λ p. p.entry) more ≡ others = made-entries (place + 1) maker rest in
     elim (cases_Bool (eqb e.maker maker)) [
       | inl his ↦ ap (map (λ (p : Placed). p.entry)) (cond-true (eqb e.maker maker) (here ∷ more) more his)
           ∙ ap (λ es. e ∷ es) later ∙ sym (cond-true (eqb e.maker maker) (e ∷ others) others his)
@@ -74,10 +74,11 @@ made_entries place maker (e ∷ rest) =
           ∙ later ∙ sym (cond-false (eqb e.maker maker) (e ∷ others) others other)
     ]
 
-pub made_places : (maker : ℕ) (xs : List Entry)
+pub made-places : (maker : ℕ) (xs : List Entry)
     → All (λ p. (p.place < length xs) × ((none : Entry) → get_or xs p.place none ≡ p.entry)) (made_by maker xs)
-made_places maker xs =
-    All-weaker (IsMade 0 maker xs) (λ p. (p.place < length xs) × ((none : Entry) → get_or xs p.place none ≡ p.entry)) (λ p made. (
+made-places maker xs =
+    All-weaker (IsMade 0 maker xs) (λ p. (p.place < length xs) × ((none : Entry) → get_or xs p.place none ≡ p.entry))
+    (λ p made. (
       omega (arith, made.place_is, made.inside),
       λ none.
           let at : p.place ≡ made.at = omega (arith, made.place_is) in
@@ -106,10 +107,12 @@ one-made {maker} P place (e ∷ rest) (suc i) all made =
     let later : All P (made_from (place + 1) maker rest) = elim (cases_Bool (eqb e.maker maker)) [
       | inl his ↦ All-tail P here (made_from (place + 1) maker rest)
           (subst (All P)
-          (cond-true (eqb e.maker maker) (here ∷ made_from (place + 1) maker rest) (made_from (place + 1) maker rest) his) all)
+          (cond-true (eqb e.maker maker) (here ∷ made_from (place + 1) maker rest)
+          (made_from (place + 1) maker rest) his) all)
       | inr other ↦
           subst (All P)
-          (cond-false (eqb e.maker maker) (here ∷ made_from (place + 1) maker rest) (made_from (place + 1) maker rest) other) all
+          (cond-false (eqb e.maker maker) (here ∷ made_from (place + 1) maker rest)
+          (made_from (place + 1) maker rest) other) all
     ] in
     let at : place + 1 + i ≡ place + suc i = omega arith in
     let Q : ℕ → Type 0 = λ n. P (record { place = n; entry = get_or rest i no_entry }) in
@@ -139,7 +142,8 @@ open-own {xs} {number} steps maker own open_ =
       segments = open_.segments;
       admission = record {
         inside = inside;
-        admitted = λ d. subst A (get_or_default xs number no_entry d inside) (subst A (made.entry_is ∙ entry) admits.admitted);
+        admitted = λ d. subst A (get_or_default xs number no_entry d inside)
+            (subst A (made.entry_is ∙ entry) admits.admitted);
       };
       unhalted = record {
         each = λ i d within halts. (
@@ -158,4 +162,5 @@ open-own {xs} {number} steps maker own open_ =
 
 pub can-own : {steps : List CapacityStep} {xs : List Entry} (maker number keep : ℕ) → IsLegal steps xs → AreHaltsOwn xs
     → IsOpenAmong (made_by maker xs) number keep → CanHalt (state_after xs) number keep
-can-own {steps} {xs} maker number keep legal own open_ = still-open steps xs number keep legal (open-own steps maker own open_)
+can-own {steps} {xs} maker number keep legal own open_ =
+    still-open steps xs number keep legal (open-own steps maker own open_)

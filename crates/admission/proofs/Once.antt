@@ -19,7 +19,8 @@ use Rattle.admission.proofs.Runs.{Machine, machine_after, legal-at, no_entry}
 
 same-overflow : {booked capacity : ℕ → ℕ} {start : ℕ} {segments : List Segment} {a b : Over} →
     IsFirstOverflow 0 booked capacity start segments a →
-    IsFirstOverflow 0 booked capacity start segments b → Overflow a.slot a.booked a.asked ≡ Overflow b.slot b.booked b.asked
+    IsFirstOverflow 0 booked capacity start segments b
+    → Overflow a.slot a.booked a.asked ≡ Overflow b.slot b.booked b.asked
 same-overflow {booked} {capacity} {start} {segments} {a} {b} x y =
     ap (λ (over : Over). Overflow over.slot over.booked over.asked) (one-overflow x y)
 
@@ -69,13 +70,13 @@ entry-same a b maker command answer =
     let A : Answer → Entry = λ x. record { maker = b.maker; command = b.command; answer = x } in
     ap M maker ∙ ap C command ∙ ap A answer
 
-long_map : {Y : Type 0} (f : Entry → Y) (xs ys : List Entry) → map f xs ≡ map f ys → length xs ≡ length ys
-long_map f xs ys same = sym (length-map xs f) ∙ ap length same ∙ length-map ys f
+long-map : {Y : Type 0} (f : Entry → Y) (xs ys : List Entry) → map f xs ≡ map f ys → length xs ≡ length ys
+long-map f xs ys same = sym (length-map xs f) ∙ ap length same ∙ length-map ys f
 
-at_map : {Y : Type 0} (f : Entry → Y) (xs ys : List Entry) (n : ℕ) → map f xs ≡ map f ys → n < length xs
+at-map : {Y : Type 0} (f : Entry → Y) (xs ys : List Entry) (n : ℕ) → map f xs ≡ map f ys → n < length xs
     → f (get_or xs n no_entry) ≡ f (get_or ys n no_entry)
-at_map f xs ys n same inside =
-    let within : n < length ys = omega (arith, inside, long_map f xs ys same) in
+at-map f xs ys n same inside =
+    let within : n < length ys = omega (arith, inside, long-map f xs ys same) in
     sym (get_or-map f xs n no_entry (f no_entry) inside) ∙ ap (λ l. get_or l n (f no_entry)) same
     ∙ get_or-map f ys n no_entry (f no_entry) within
 
@@ -88,14 +89,14 @@ same-front : {steps : List CapacityStep} {xs ys : List Entry} (n : ℕ) → IsLe
     → HaveSameCommands xs ys → n ≤ length xs → take n xs ≡ take n ys
 same-front {steps} zero legal other same few = refl
 same-front {steps} {xs} {ys} (suc n) legal other same few =
-    let long = long_map (λ (e : Entry). e.maker) xs ys same.makers in
+    let long = long-map (λ (e : Entry). e.maker) xs ys same.makers in
     let inside : n < length xs = omega (arith, few) in
     let within : n < length ys = omega (arith, few, long) in
     let before = same-front n legal other same (omega (arith, few)) in
     let a = get_or xs n no_entry in
     let b = get_or ys n no_entry in
-    let maker : a.maker ≡ b.maker = at_map (λ (e : Entry). e.maker) xs ys n same.makers inside in
-    let command : a.command ≡ b.command = at_map (λ (e : Entry). e.command) xs ys n same.commands inside in
+    let maker : a.maker ≡ b.maker = at-map (λ (e : Entry). e.maker) xs ys n same.makers inside in
+    let command : a.command ≡ b.command = at-map (λ (e : Entry). e.command) xs ys n same.commands inside in
     let S : List Entry → Type 0 = λ l. IsAnswer steps (state_after l) a.command a.answer in
     let C : Command → Type 0 = λ k. IsAnswer steps (state_after (take n ys)) k a.answer in
     let here = subst C command (subst S before (legal-at steps xs n legal inside)) in
@@ -108,6 +109,6 @@ same-front {steps} {xs} {ys} (suc n) legal other same few =
 pub history-once : {steps : List CapacityStep} {xs ys : List Entry} → IsLegal steps xs → IsLegal steps ys
     → HaveSameCommands xs ys → xs ≡ ys
 history-once {xs} {ys} legal other same =
-    let long = long_map (λ (e : Entry). e.maker) xs ys same.makers in
+    let long = long-map (λ (e : Entry). e.maker) xs ys same.makers in
     sym (take_all (length xs) xs (omega arith)) ∙ same-front (length xs) legal other same (omega arith)
     ∙ take_all (length xs) ys (omega (arith, long))

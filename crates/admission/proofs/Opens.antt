@@ -22,7 +22,7 @@ use Rattle.admission.proofs.Runs.{Machine, PlayAdmitted, machine_after, legal-at
 use Rattle.admission.proofs.Runs.{state-push}
 use Rattle.admission.proofs.Halts.{halting, holds-of, split}
 use Rattle.admission.proofs.Within.{IsWhole, sound-after}
-use Rattle.admission.proofs.Admissions.{IsKnown, admission_of, known-after, known-at, open-inside}
+use Rattle.admission.proofs.Admissions.{IsKnown, admission-of, known-after, known-at, open-inside}
 use Rattle.admission.proofs.Finds.{found-closed, found-new, found-next}
 
 -- ---- it is open from its admission on
@@ -39,7 +39,7 @@ opened-here {steps} {xs} {number} {start} {segments} admitted =
     let admission = admitted.admission in
     let e = get_or xs number no_entry in
     let state = state_after (take number xs) in
-    let found = admission_of e.command e.answer start segments (admission.admitted no_entry) in
+    let found = admission-of e.command e.answer start segments (admission.admitted no_entry) in
     let next : state_after (take (suc number) xs) ≡ next_state state number (Play found.0 segments) (Admitted start) =
     state-next xs number admission.inside ∙ ap (λ k. next_state state number k e.answer) found.1.0
     ∙ ap (next_state state number (Play found.0 segments)) found.1.1 in
@@ -63,7 +63,10 @@ stays-open {steps} {xs} {number} {start} {segments} (suc j) admitted unhalted le
       let e = get_or xs j no_entry in
       ap (λ (s : State). held_as number s.held) (state-next xs j inside)
       ∙ found-next j e.command e.answer
-      (record { is = stays-open j admitted unhalted after (omega (arith, few)); unhalted = unhalted.each j no_entry inside })
+      (record {
+        is = stays-open j admitted unhalted after (omega (arith, few));
+        unhalted = unhalted.each j no_entry inside;
+      })
       )
 ]
 
@@ -71,7 +74,8 @@ pub whole-after : {steps : List CapacityStep} {xs : List Entry} {number start : 
     → PlayAdmitted steps xs number start segments → IsUnhalted xs number
     → held_as number (state_after xs).held ≡ Some (admitted_play number start segments)
 whole-after {xs} {number} {start} {segments} admitted unhalted =
-    let S : List Entry → Type 0 = λ l. held_as number (state_after l).held ≡ Some (admitted_play number start segments) in
+    let S : List Entry → Type 0 =
+    λ l. held_as number (state_after l).held ≡ Some (admitted_play number start segments) in
     subst S (take_all (length xs) xs (omega arith))
     (stays-open (length xs) admitted unhalted admitted.admission.inside (omega arith))
 
@@ -79,7 +83,8 @@ can-halt : {number keep : ℕ} (held : List Held) (start : ℕ) (segments : List
     held_as number held ≡ Some (admitted_play number start segments) → keep ≤ total_bytes segments →
     CanHalt (record { now = now; held = held }) number keep
 can-halt {number} {keep} held start segments now is small =
-    let P : Option Held → Type 0 = λ o. IsSomeAnd o (λ (h : Held). (h.is_open ≡ true) × (keep ≤ total_bytes h.play.segments)) in
+    let P : Option Held → Type 0 =
+    λ o. IsSomeAnd o (λ (h : Held). (h.is_open ≡ true) × (keep ≤ total_bytes h.play.segments)) in
     subst P (sym is) (refl, small)
 
 pub still-open : (steps : List CapacityStep) (xs : List Entry) (number keep : ℕ) → IsLegal steps xs
@@ -96,7 +101,8 @@ pub opened-last : {steps : List CapacityStep} {xs : List Entry} {keep : ℕ} (ma
 opened-last {steps} {xs} {keep} maker slot start segments legal small =
     let e : Entry = record { maker = maker; command = Play slot segments; answer = Admitted start } in
     let S : List Entry → Type 0 = λ l. All (λ h. h.number < length xs) (state_after l).held in
-    let below = subst S (take_all (length xs) xs (omega arith)) (numbers-below steps xs (length xs) legal (omega arith)) in
+    let below = subst S (take_all (length xs) xs (omega arith))
+    (numbers-below steps xs (length xs) legal (omega arith)) in
     let C : State → Type 0 = λ s. CanHalt s (length xs) keep in
     subst C (sym (state-push xs e))
     (can-halt ((state_after xs).held ++ admitted_play (length xs) start segments ∷ []) start segments
@@ -147,7 +153,8 @@ closed-rest : {steps : List CapacityStep} {xs : List Entry} {number from : ℕ} 
     → held_as number (state_after (take k xs)).held ≡ Some closed.held
 closed-rest {steps} {xs} {number} {from} k legal closed later few = elim (cases_order from k) [
   | inl same ↦
-      (let H : ℕ → Type 0 = λ n. held_as number (state_after (take n xs)).held ≡ Some closed.held in subst H same closed.is)
+      (let H : ℕ → Type 0 = λ n. held_as number (state_after (take n xs)).held ≡ Some closed.held in
+      subst H same closed.is)
   | inr (inl before) ↦ closed-more steps xs number from k legal closed before few
   | inr (inr after) ↦ (let bad : ⊥ = omega (arith, later, after) in absurd bad)
 ]
@@ -184,7 +191,8 @@ pub was-admitted : (steps : List CapacityStep) (xs : List Entry) (number : ℕ) 
 was-admitted steps xs number h legal is =
     let known = holds-of (IsKnown xs (length xs)) number (state_after xs).held h (known-after steps xs legal) is in
     let N : ℕ → Type 0 = λ n. IsAdmission xs n h.play.start h.play.segments in
-    subst N (split number (state_after xs).held h is).number_is (record { inside = known.inside; admitted = known.admitted })
+    subst N (split number (state_after xs).held h is).number_is
+    (record { inside = known.inside; admitted = known.admitted })
 
 open-unhalted : {steps : List CapacityStep} {xs : List Entry} {number : ℕ} {h : Held} → IsLegal steps xs
     → held_as number (state_after xs).held ≡ Some h → h.is_open ≡ true → IsUnhalted xs number
@@ -276,7 +284,8 @@ cut-after {steps} {xs} {number} {start} {keep} {i} {segments} admitted halt =
     let closed : IsClosed number (state_after (take (suc i) xs)) = record {
       held = halted_play keep (admitted_play number start segments);
       is = ap (λ (s : State). held_as number s.held) (state-next xs i halt.inside)
-          ∙ cut-here i admitted halt.inside e.answer (halt.command_is no_entry) (legal-at steps xs i admitted.legal halt.inside);
+          ∙ cut-here i admitted halt.inside e.answer (halt.command_is no_entry)
+          (legal-at steps xs i admitted.legal halt.inside);
       closed_is = refl;
     } in
     closed-after {i = i} admitted.legal halt.inside closed

@@ -33,7 +33,8 @@ admits-none steps state (Look slot) (Admitted start) is halt = absurd is
 admits-none steps state (Look slot) (Overflow over booked asked) is halt = absurd is
 admits-none steps state (Look slot) Halted is halt = absurd is
 
-all-counted : (more : List Entry) → ByRecursion (λ (e : Entry). is_halt e.command ≡ true) more → halts_of more ≡ length more
+all-counted : (more : List Entry) → ByRecursion (λ (e : Entry). is_halt e.command ≡ true) more
+    → halts_of more ≡ length more
 all-counted [] all = refl
 all-counted (e ∷ more) all =
     let first : cond {A = ℕ} (is_halt e.command) 1 0 ≡ 1 = ap (λ (b : Bool). cond {A = ℕ} b 1 0) all.0 in
@@ -41,7 +42,8 @@ all-counted (e ∷ more) all =
     sum_by-cons (λ (x : Entry). cond (is_halt x.command) 1 0) e more in
     omega (arith, first, step, all-counted more all.1)
 
-none-counted : (more : List Entry) → ByRecursion (λ (e : Entry). is_admission e.answer ≡ false) more → admissions_of more ≡ 0
+none-counted : (more : List Entry) → ByRecursion (λ (e : Entry). is_admission e.answer ≡ false) more
+    → admissions_of more ≡ 0
 none-counted [] all = refl
 none-counted (e ∷ more) all =
     let first : cond {A = ℕ} (is_admission e.answer) 1 0 ≡ 0 = ap (λ (b : Bool). cond {A = ℕ} b 1 0) all.0 in
@@ -58,7 +60,8 @@ none-admitted steps entries more legal halts = λ k d inside.
     ∙ (let back : i - length entries ≡ k = omega arith in ap (λ (j : ℕ). get_or more j d) back) in
     let long = length-append entries more in
     let answered = legal.each i d (omega (arith, long, inside)) in
-    let is : IsAnswer steps (state_after (take i (entries ++ more))) (get_or more k d).command (get_or more k d).answer =
+    let is : IsAnswer steps (state_after (take i (entries ++ more))) (get_or more k d).command
+    (get_or more k d).answer =
     subst (λ (e : Entry). IsAnswer steps (state_after (take i (entries ++ more))) e.command e.answer) at answered in
     admits-none steps (state_after (take i (entries ++ more))) (get_or more k d).command
     (get_or more k d).answer is (halts k d inside)
@@ -69,13 +72,15 @@ pub halts-fit : {steps : List CapacityStep} (entries more : List Entry) (limit :
 halts-fit {steps} entries more limit legal halts few =
     let front : take (length entries) (entries ++ more) ≡ entries =
     take-append-le (length entries) entries more (omega arith) ∙ take_all (length entries) entries (omega arith) in
-    let first : IsLegal steps entries = subst (IsLegal steps) front (legal-take steps (entries ++ more) (length entries) legal) in
+    let first : IsLegal steps entries =
+    subst (IsLegal steps) front (legal-take steps (entries ++ more) (length entries) legal) in
     let before = (tally steps entries first).0 in let after = (tally steps (entries ++ more) legal).0 in
     let all : halts_of more ≡ length more =
     all-counted more (recursion_from_All (λ (e : Entry). is_halt e.command ≡ true) more halts) in
     let none : admissions_of more ≡ 0 =
     none-counted more
-    (recursion_from_All (λ (e : Entry). is_admission e.answer ≡ false) more (none-admitted steps entries more legal halts)) in
+    (recursion_from_All (λ (e : Entry). is_admission e.answer ≡ false) more
+    (none-admitted steps entries more legal halts)) in
     let halted : halts_of (entries ++ more) ≡ halts_of entries + halts_of more =
     sum_by-append (λ (e : Entry). cond (is_halt e.command) 1 0) entries more in
     let admitted : admissions_of (entries ++ more) ≡ admissions_of entries + admissions_of more =

@@ -26,7 +26,8 @@ abbrev pub machine_after : List CapacityStep → List Entry → Machine
 machine_after steps entries = record { steps = steps; state = state_after entries }
 
 -- a legal history has admitted this play
-pub record PlayAdmitted (steps : List CapacityStep) (entries : List Entry) (number start : ℕ) (segments : List Segment) : Type 0 where
+pub record PlayAdmitted (steps : List CapacityStep) (entries : List Entry) (number start : ℕ)
+    (segments : List Segment) : Type 0 where
   pub legal : IsLegal steps entries
   pub admission : IsAdmission entries number start segments
 
@@ -80,7 +81,8 @@ legal-take steps xs n legal = record {
       let S : List Entry → Type 0 = λ l. IsAnswered steps (state_after l) (get_or (take n xs) i none) in
       let E : Entry → Type 0 = λ x. IsAnswered steps (state_after (take i xs)) x in
       subst S (sym (take-take i n xs (omega (arith, few, below))))
-      (subst E (sym (get_or-take n xs i none (omega (arith, few, below)))) (legal.each i none (omega (arith, few, below))))
+      (subst E (sym (get_or-take n xs i none (omega (arith, few, below))))
+      (legal.each i none (omega (arith, few, below))))
       );
 }
 

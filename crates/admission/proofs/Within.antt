@@ -47,17 +47,18 @@ whole-next m place (Look slot) (Overflow over booked asked) is all = absurd is
 whole-next m place (Look slot) Halted is all = absurd is
 
 -- ---- what a step books
-min_parts : (a b k m : ℕ) → a ≤ b → k ≤ m → min b k - min a k ≤ min b m - min a m
-min_parts a b k m rises less = omega arith
+min-parts : (a b k m : ℕ) → a ≤ b → k ≤ m → min b k - min a k ≤ min b m - min a m
+min-parts a b k m rises less = omega arith
 
 -- a play that is cut sends no more in a slot
 pub share-less : (segments : List Segment) (start keep more t : ℕ) → keep ≤ more
     → share_at t (cut_play start segments keep) ≤ share_at t (cut_play start segments more)
 share-less segments start keep more t less =
-    min_parts (sent_before segments start t) (sent_before segments start (t + 1)) keep more
+    min-parts (sent_before segments start t) (sent_before segments start (t + 1)) keep more
     (sent-rises segments start t (t + 1) (omega arith)) less
 
-pub booked-halted : {h : Held} (state : State) (number keep t : ℕ) → held_as number state.held ≡ Some h → keep ≤ h.play.keep →
+pub booked-halted : {h : Held} (state : State) (number keep t : ℕ) → held_as number state.held ≡ Some h
+    → keep ≤ h.play.keep →
     booked_by (map play_of (with_halted number keep state.held)) t ≤ booked_in state t
 booked-halted {h} state number keep t is less =
     let parts = split number state.held h is in
@@ -88,7 +89,8 @@ pub within-next : {steps : List CapacityStep} {state : State} (place : ℕ) (com
 within-next {steps} {state} place (Play slot segments) (Admitted start) is all within = record {
   each = λ t. omega (arith, booked-opened state place start t segments, is.1.each t (omega arith));
 }
-within-next {steps} place (Play slot segments) (Overflow over booked asked) is all within = record { each = within.each }
+within-next {steps} place (Play slot segments) (Overflow over booked asked) is all within =
+    record { each = within.each }
 within-next {steps} place (Play slot segments) Halted is all within = absurd is
 within-next {steps} place (Play slot segments) (Looked now at booked) is all within = absurd is
 within-next {steps} {state} place (Halt number keep) Halted is all within = (

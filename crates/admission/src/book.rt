@@ -182,6 +182,7 @@ impl Book {
         ensures steps { result.now.steps ≡ self.now.steps }
         ensures now { result.now.first ≡ (state_after self.now.entries).now }
         ensures stands { StandsFor result.now (plays_of (state_after self.now.entries)) }
+        ensures legal { IsLegal self.now.steps self.now.entries }
     {
         &self.calendar
     }

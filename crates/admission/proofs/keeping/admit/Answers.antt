@@ -33,7 +33,8 @@ returns-in-Some-clause-answer c = λ state follows within. (
     let calendar = c.advance.new.self in
     let start = c.max-now.result + 1 in
     let R : List CapacityStep → Type 0 =
-    λ steps. IsFirstOverflow calendar.first (booked_at calendar) (capacity_at steps) start c.args.plan.now c.in-Some.over in
+    λ steps. IsFirstOverflow calendar.first (booked_at calendar)
+    (capacity_at steps) start c.args.plan.now c.in-Some.over in
     let S : ℕ → Type 0 =
     λ n. IsFirstOverflow 0 (booked_in state) (capacity_at c.args.calendar.now.steps) n c.args.plan.now c.in-Some.over in
     let after : calendar.first < start = omega arith in

@@ -26,7 +26,8 @@ pub offset_bounds-entries-number : goal.offset_bounds-entries-number
 offset_bounds-entries-number c =
     omega (
       arith,
-      open-inside c.args.calendar.now.steps c.args.entries.now c.args.number c.args.keep c.requires.legal c.requires.can,
+      open-inside c.args.calendar.now.steps c.args.entries.now c.args.number c.args.keep c.requires.legal
+          c.requires.can,
     )
 
 pub bounds-entries-number : goal.bounds-entries-number
@@ -54,7 +55,8 @@ release-requires-clause-keep c =
 
 pub release-requires-clause-booked : goal.release-requires-clause-booked
 release-requires-clause-booked c =
-    cut-allowed c.args.keep (whole (goal.at.release-requires-clause-booked c).After-law_release) c.requires.follows.stands
+    cut-allowed c.args.keep (whole (goal.at.release-requires-clause-booked c).After-law_release)
+    c.requires.follows.stands
     (λ before after. c.law_release.ensures c.args.calendar.now before after c.in-Play.plan
     c.in-Admitted.start c.args.keep c.segments-plan.ensures.plan)
 

@@ -1,14 +1,14 @@
-use Rattle.admission.proofs.Bookings.{look_is}
+use Rattle.admission.proofs.Bookings.{look-is}
 use Rattle.admission.proofs.laws.law_looks.Goals as goal
 
 pub returns-clause-now : goal.returns-clause-now
 returns-clause-now c = λ steps entries place slot now at booked none legal inside command_is answer_is.
-    (look_is place none legal inside command_is answer_is).0
+    (look-is place none legal inside command_is answer_is).0
 
 pub returns-clause-at : goal.returns-clause-at
 returns-clause-at c = λ steps entries place slot now at booked none legal inside command_is answer_is.
-    (look_is place none legal inside command_is answer_is).1
+    (look-is place none legal inside command_is answer_is).1
 
 pub returns-clause-booked : goal.returns-clause-booked
 returns-clause-booked c = λ steps entries place slot now at booked none legal inside command_is answer_is.
-    (look_is place none legal inside command_is answer_is).2
+    (look-is place none legal inside command_is answer_is).2

@@ -21,7 +21,10 @@ returns c = λ _. (
             (sym (get_or_read entries c.args.number c.index-entries-number.result inside
             c.index-entries-number.is none)) ∙ found.1.1.0;
       };
-      unhalted = record { each = λ i none less. c.loop-entry.invariant i none (omega (arith, less, c.loop-entry-test.false)) };
+      unhalted = record {
+        each =
+            λ i none less. c.loop-entry.invariant i none (omega (arith, less, c.loop-entry-test.false));
+      };
       small = found.1.1.1;
     } in
     still-open c.args.book.now.steps c.args.book.now.entries c.args.number c.args.keep

@@ -4,4 +4,5 @@ use Rattle.admission.specs.Histories.{Halts}
 use Rattle.admission.proofs.tests.may_halt.Given as goal
 
 abbrev pub invariant-loop-entry : goal.invariant-loop-entry
-invariant-loop-entry l = (i : ℕ) (none : Entry) → i < l.entry-index → Halts l.number (get_or l.entries i none).command → ⊥
+invariant-loop-entry l = (i : ℕ) (none : Entry) → i < l.entry-index
+    → Halts l.number (get_or l.entries i none).command → ⊥

@@ -13,14 +13,21 @@ pub overflow_sub-self : goal.overflow_sub-self
 overflow_sub-self c =
     let book = c.self.inside in
     let C : Journal → Type 0 = λ j. CanHalt (state_after j.entries) c.args.number c.args.keep in
-    let can : CanHalt (state_after book.entries.items) c.args.number c.args.keep = subst C (sym c.self.view_is) c.requires in
-    omega (arith, open-halted (state_after book.entries.items) 0 c.args.number c.args.keep can, c.self.invariant.count_is)
+    let can : CanHalt (state_after book.entries.items) c.args.number c.args.keep =
+    subst C (sym c.self.view_is) c.requires in
+    omega (
+      arith,
+      open-halted
+          (state_after book.entries.items) 0 c.args.number c.args.keep can,
+      c.self.invariant.count_is,
+    )
 
 pub note-requires : goal.note-requires
 note-requires c =
     let book = c.self.inside in
     let C : Journal → Type 0 = λ j. CanHalt (state_after j.entries) c.args.number c.args.keep in
-    let can : CanHalt (state_after book.entries.items) c.args.number c.args.keep = subst C (sym c.self.view_is) c.requires in
+    let can : CanHalt (state_after book.entries.items) c.args.number c.args.keep =
+    subst C (sym c.self.view_is) c.requires in
     let items : length book.entries.items ≡ vec_len book.entries =
     sym (ap length c.as_slice.ensures.value) ∙ c.as_slice.ensures.len in
     omega (
@@ -46,16 +53,17 @@ invariant_of-self c =
       answered = can;
       steps_are = c.give_back.ensures.steps;
       follows = subst F c.as_slice.ensures.value (c.give_back.ensures.next (length book.entries.items));
+    }) (record {
       more_is = omega (arith, fewer, c.self.invariant.count_is);
       fits = omega (arith, fewer, c.self.invariant.count_is, c.self.invariant.within);
-      wide_is = c.note.ensures.room;
-    })
+    }) c.note.ensures.room
 
 pub returns-clause-noted : goal.returns-clause-noted
 returns-clause-noted c =
     let book = c.self.inside in
     let C : Journal → Type 0 = λ j. CanHalt (state_after j.entries) c.args.number c.args.keep in
-    let can : CanHalt (state_after book.entries.items) c.args.number c.args.keep = subst C (sym c.self.view_is) c.requires in
+    let can : CanHalt (state_after book.entries.items) c.args.number c.args.keep =
+    subst C (sym c.self.view_is) c.requires in
     let new : Journal =
     record { steps = c.give_back.new.calendar.steps; limit = book.limit; entries = c.note.new.entries.items } in
     let P : Journal → Type 0 = λ j. IsNoted j c.args.maker (Halt c.args.number c.args.keep) c.note.result new in

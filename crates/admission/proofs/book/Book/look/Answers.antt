@@ -18,25 +18,28 @@ answered c =
 
 pub invariant_of-self : goal.invariant_of-self
 invariant_of-self c =
-    let counts = counts-kept c.self.invariant (ap (λ (j : Journal). j.entries) c.self.view_is) c.counts-full.ensures.full in
+    let counts = counts-kept c.self.invariant
+    (ap (λ (j : Journal). j.entries) c.self.view_is) c.counts-full.ensures.full in
     kept-push c.self.invariant (record {
       entries_are = c.note.ensures.items;
       answered = answered (goal.at.invariant_of-self c).After-note;
       steps_are = refl;
       follows = c.self.invariant.follows;
+    }) (record {
       more_is = c.self.invariant.count_is;
       fits = omega (arith, c.if-full-self.false, counts.0, counts.1);
-      wide_is = c.note.ensures.room;
-    })
+    }) c.note.ensures.room
 
 pub returns-clause-noted : goal.returns-clause-noted
 returns-clause-noted c =
     let book = c.self.inside in
-    let new : Journal = record { steps = book.calendar.steps; limit = book.limit; entries = c.note.new.entries.items } in
+    let new : Journal =
+    record { steps = book.calendar.steps; limit = book.limit; entries = c.note.new.entries.items } in
     let P : Journal → Type 0 = λ j. IsNoted j c.args.maker (Look c.min-slot.result) c.note.result new in
     let S : ℕ → Type 0 = λ n. IsNoted c.args.self.now c.args.maker (Look n) c.note.result new in
     subst S c.min-slot.ensures
     (subst P c.self.view_is (noted-push book.limit
     c.self.invariant.legal
     (answered (goal.at.returns-clause-noted c).After-note)
-    (record { place_is = c.note.ensures.place; answer_is = c.note.ensures.answer; entries_are = c.note.ensures.items }) refl))
+    (record { place_is = c.note.ensures.place; answer_is = c.note.ensures.answer; entries_are = c.note.ensures.items })
+    refl))

@@ -25,15 +25,18 @@ pub invariant_of-self : goal.invariant_of-self
 invariant_of-self c =
     let book = c.self.inside in
     let state = state_after book.entries.items in
-    let counts = counts-kept c.self.invariant (ap (λ (j : Journal). j.entries) c.self.view_is) c.counts-full.ensures.full in
+    let counts = counts-kept c.self.invariant
+    (ap (λ (j : Journal). j.entries) c.self.view_is) c.counts-full.ensures.full in
     let answer = answered (goal.at.invariant_of-self c).After-note in
     let machine : Machine = record { steps = book.calendar.steps; state = state } in
-    let asked = open-asked machine (length book.entries.items) c.min-slot.result c.args.plan c.admit-answer.result answer in
+    let asked = open-asked machine
+    (length book.entries.items) c.min-slot.result c.args.plan c.admit-answer.result answer in
     kept-push c.self.invariant (record {
       entries_are = c.note.ensures.items;
       answered = answer;
       steps_are = c.admit-answer.ensures.steps;
       follows = c.admit-answer.ensures.next state (length book.entries.items) c.self.invariant.follows;
+    }) (record {
       more_is = omega (arith, asked, c.plays_opened.ensures, c.self.invariant.count_is);
       fits = omega (
         arith,
@@ -43,8 +46,7 @@ invariant_of-self c =
         c.plays_opened.ensures,
         opens-most c.admit-answer.result,
       );
-      wide_is = c.note.ensures.room;
-    })
+    }) c.note.ensures.room
 
 pub returns-clause-noted : goal.returns-clause-noted
 returns-clause-noted c =
@@ -64,10 +66,12 @@ pub returns-clause-open : goal.returns-clause-open
 returns-clause-open c = λ start keep told small.
     let xs = c.self.inside.entries.items in
     let answer : c.admit-answer.result ≡ Admitted start = sym c.note.ensures.answer ∙ told in
-    let E : Answer → Entry = λ a. record { maker = c.args.maker; command = Play c.min-slot.result c.args.plan; answer = a } in
+    let E : Answer → Entry =
+    λ a. record { maker = c.args.maker; command = Play c.min-slot.result c.args.plan; answer = a } in
     let items : c.note.new.entries.items ≡ xs ++ E (Admitted start) ∷ [] =
     c.note.ensures.items ∙ ap (λ a. xs ++ E a ∷ []) answer in
     let C : List Entry → Type 0 = λ l. CanHalt (state_after l) (length xs) keep in
     let N : ℕ → Type 0 = λ n. CanHalt (state_after c.note.new.entries.items) n keep in
-    subst N (sym c.note.ensures.place) (subst C (sym items) (opened-last c.args.maker c.min-slot.result start c.args.plan
+    subst N (sym c.note.ensures.place)
+    (subst C (sym items) (opened-last c.args.maker c.min-slot.result start c.args.plan
     c.self.invariant.legal small))
