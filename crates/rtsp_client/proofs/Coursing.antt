@@ -9,7 +9,7 @@ use Rattle.vod_base.proofs.Telling.{told_more-append, told_more-nil}
 use Rattle.interleave.specs.Elements.{IsFirst}
 use Rattle.interleave.specs.declared.elements.Step.TheVariants.{More}
 use Rattle.rtsp_client.specs.declared.clients.Client.{Client}
-use Rattle.rtsp_client.specs.declared.frames.Source.{Source}
+use Rattle.rtsp_client.specs.declared.frames.RtpSource.{RtpSource}
 use Rattle.rtsp_client.specs.declared.wishes.Wish.{Wish}
 use Rattle.rtsp_client.specs.declared.wishes.Watched.{Watched}
 use Rattle.rtsp_client.specs.declared.wishes.WatchEnd.{WatchEnd}
@@ -42,17 +42,17 @@ round-bytes {h} {new} {s} taken idle = record {
   sight_is = taken.passed.sight_is;
 }
 
-timed-from : (o : Option Source) → IfSome o (λ (s : Source). 0 < s.picture_time) → (s : Source) → o ≡ Some s
+timed-from : (o : Option RtpSource) → IfSome o (λ (s : RtpSource). 0 < s.picture_time) → (s : RtpSource) → o ≡ Some s
     → 0 < s.picture_time
 timed-from o timed s is =
-    let P : Option Source → Type 0 = λ x. IfSome x (λ (s : Source). 0 < s.picture_time) in
-    let Q : IfSome (Some s) (λ (s : Source). 0 < s.picture_time) = subst P is timed in Q
+    let P : Option RtpSource → Type 0 = λ x. IfSome x (λ (s : RtpSource). 0 < s.picture_time) in
+    let Q : IfSome (Some s) (λ (s : RtpSource). 0 < s.picture_time) = subst P is timed in Q
 
 -- a client that waits, with so many bytes cut
 pub record IsWaiting (wish : Wish) (h : History) (c : Client) (cut : ℕ) : Type 0 where
   pub keeps : Keeps wish h c
   pub slot_lasts : 0 < wish.slot_units
-  pub picture_lasts : IfSome c.watching.source (λ (source : Source). 0 < source.picture_time)
+  pub picture_lasts : IfSome c.watching.source (λ (source : RtpSource). 0 < source.picture_time)
   pub cut_is : cut ≡ cut_bytes c.input
   pub idle : IsFirst c.input (Ok More)
 

@@ -6,7 +6,7 @@ use Rattle.std.proofs.lemmas.List.{length-take-le}
 use Rattle.vod_base.specs.Links.{Doing, IsFrontTold, sends, told_more}
 use Rattle.vod_base.specs.Outside.{IsFrontMore}
 use Rattle.rtsp_client.specs.declared.clients.Client.{Client}
-use Rattle.rtsp_client.specs.declared.frames.Source.{Source}
+use Rattle.rtsp_client.specs.declared.frames.RtpSource.{RtpSource}
 use Rattle.rtsp_client.specs.declared.wishes.Wish.{Wish}
 use Rattle.rtsp_client.specs.declared.wishes.Watched.{Watched}
 use Rattle.rtsp_client.specs.declared.wishes.WatchEnd.{WatchEnd}
@@ -37,13 +37,13 @@ bad-frame {wish} {h} {c} {b} {end} {s} k none is =
       is ∙ ap (λ (w : Watched). Fault (BadFrame w.frames)) k.state.watched_is,
     )
 
-frame-good : {wish : Wish} {h : History} {c : Client} {next : Source} (b : List ℕ) → Keeps wish h c
+frame-good : {wish : Wish} {h : History} {c : Client} {next : RtpSource} (b : List ℕ) → Keeps wish h c
     → source_with c.watching b ≡ Some next
     → GoesOn h (Frame b)
 frame-good {wish} {h} {c} {next} b k some = good-is wish h c.watching b k.state ∙ ap is_some some
 
 -- there was no memory, before the payload was handed on or after it
-pub frame-starved : {wish : Wish} {h : History} {c : Client} {b : List ℕ} {next : Source} {end : WatchEnd}
+pub frame-starved : {wish : Wish} {h : History} {c : Client} {b : List ℕ} {next : RtpSource} {end : WatchEnd}
     {s : Sight} → Keeps wish h c
     → source_with c.watching b ≡ Some next → end ≡ NoMemory → HasEndedAt wish h (Frame b) end s s
 frame-starved {wish} {h} {c} {b} {next} {end} {s} k some is = record {
@@ -53,7 +53,7 @@ frame-starved {wish} {h} {c} {b} {next} {end} {s} k some is = record {
   sight_is = sight-none s;
 }
 
-pub teardown-starved : {wish : Wish} {h : History} {c : Client} {b : List ℕ} {next : Source} {end : WatchEnd}
+pub teardown-starved : {wish : Wish} {h : History} {c : Client} {b : List ℕ} {next : RtpSource} {end : WatchEnd}
     {out new_out : Option (List ℕ)} (told : Option (List Doing)) → Keeps wish h c
     → source_with c.watching b ≡ Some next → end ≡ NoMemory
     → new_out ≡ told_more out (drop 20 b) → HasEndedAt wish h (Frame b) end (sight told out) (sight told new_out)
@@ -68,7 +68,7 @@ teardown-starved {wish} {h} {c} {b} {next} {end} {out} {new_out} told k some is 
 }
 
 -- the output failed
-pub frame-cut : {wish : Wish} {h : History} {c : Client} {b : List ℕ} {next : Source} {end : WatchEnd}
+pub frame-cut : {wish : Wish} {h : History} {c : Client} {b : List ℕ} {next : RtpSource} {end : WatchEnd}
     {out new_out : Option (List ℕ)} (told : Option (List Doing)) → Keeps wish h c
     → source_with c.watching b ≡ Some next → end ≡ SinkFault
     → IsFrontMore out new_out (drop 20 b) → HasEndedAt wish h (Frame b) end (sight told out) (sight told new_out)
@@ -83,7 +83,7 @@ frame-cut {wish} {h} {c} {b} {next} {end} {out} {new_out} told k some is front =
 }
 
 -- what the frames say with the block in front, and the block's payload, where `w` is the input
-pub source-here : {w : List ℕ} {found answer : Option Source} (c : Client) (n : ℕ) → w ≡ c.input
+pub source-here : {w : List ℕ} {found answer : Option RtpSource} (c : Client) (n : ℕ) → w ≡ c.input
     → found ≡ source_with c.watching (take n w) → found ≡ answer → source_with c.watching (take n c.input) ≡ answer
 source-here c n same found is = ap (λ i. source_with c.watching (take n i)) (sym same) ∙ (sym found ∙ is)
 
@@ -92,19 +92,20 @@ pub payload-here : {w : List ℕ} (c : Client) (n : ℕ) → w ≡ c.input
 payload-here {w} c n same = rest-whole 20 (take n w) ∙ ap (λ i. drop 20 (take n i)) same
 
 -- a frame is the film's next one, and the client took it up
-pub record TakenFrame (wish : Wish) (h : History) (c mid : Client) (b : List ℕ) (next : Source) : Type 0 where
+pub record TakenFrame (wish : Wish) (h : History) (c mid : Client) (b : List ℕ) (next : RtpSource) : Type 0 where
   pub keeps : Keeps wish h c
   pub next_is : source_with c.watching b ≡ Some next
   pub long : 20 ≤ length b
   pub session : mid.session ≡ c.session
   pub watching : mid.watching ≡ after_frame c.watching next (length b)
 
-frame-taken : {wish : Wish} {h : History} {c mid : Client} {b : List ℕ} {next : Source}
+frame-taken : {wish : Wish} {h : History} {c mid : Client} {b : List ℕ} {next : RtpSource}
     → TakenFrame wish h c mid b next → GoesOn h (Frame b)
 frame-taken {b} taken = frame-good b taken.keeps taken.next_is
 
 -- the client after the frame
-keeps-taken : {wish : Wish} {h : History} {c mid : Client} {b : List ℕ} {next : Source} → TakenFrame wish h c mid b next
+keeps-taken : {wish : Wish} {h : History} {c mid : Client} {b : List ℕ} {next : RtpSource}
+    → TakenFrame wish h c mid b next
     → Keeps wish (Frame b ∷ h) mid
 keeps-taken {wish} {h} {c} {mid} {b} taken = record {
   replies_are = replies-same c mid taken.session (ap (λ (s : State). s.play) taken.watching) ∙ taken.keeps.replies_are;
@@ -116,7 +117,7 @@ keeps-taken {wish} {h} {c} {mid} {b} taken = record {
 -- the first bytes of the input, which is `w`, were read as the film's next frame; `found` is what the
 -- frames say with it
 pub record ReadFrame (wish : Wish) (h : History) (c : Client) (n : ℕ) (w : List ℕ)
-    (found : Option Source) (next : Source) : Type 0 where
+    (found : Option RtpSource) (next : RtpSource) : Type 0 where
   pub keeps : Keeps wish h c
   pub same : w ≡ c.input
   pub within : n ≤ length c.input
@@ -125,7 +126,7 @@ pub record ReadFrame (wish : Wish) (h : History) (c : Client) (n : ℕ) (w : Lis
   pub long : 20 ≤ length (take n w)
 
 -- and the frame was counted
-pub taken-frame : {wish : Wish} {h : History} {w : List ℕ} {found : Option Source} {next : Source} {state : State}
+pub taken-frame : {wish : Wish} {h : History} {w : List ℕ} {found : Option RtpSource} {next : RtpSource} {state : State}
     (c : Client) (n : ℕ) → ReadFrame wish h c n w found next
     → state ≡ after_frame c.watching next n
     → TakenFrame wish h c (record c { watching = state }) (take n c.input) next
@@ -138,7 +139,7 @@ taken-frame {next} c n read state = record {
 }
 
 -- it goes on, and no request is sent
-pub frame-done : {wish : Wish} {h : History} {c mid : Client} {b : List ℕ} {next : Source}
+pub frame-done : {wish : Wish} {h : History} {c mid : Client} {b : List ℕ} {next : RtpSource}
     {out new_out : Option (List ℕ)} (told : Option (List Doing)) → TakenFrame wish h c mid b next
     → has_all mid.watching ≡ false
     → new_out ≡ told_more out (drop 20 b) → HasPassed wish h (Frame b ∷ []) mid (sight told out) (sight told new_out)
@@ -151,7 +152,7 @@ frame-done {wish} {h} {mid} {b} {out} {new_out} told taken open_ handed =
     ∙ ap (λ a. sight_more (sight told out) a (drop 20 b))
     (sym (cond-false (is_complete (Frame b ∷ h)) (teardown_text wish (session h)) [] unmet)))
 
-request-last : {wish : Wish} {h : History} {c mid : Client} {b : List ℕ} {next : Source}
+request-last : {wish : Wish} {h : History} {c mid : Client} {b : List ℕ} {next : RtpSource}
     → TakenFrame wish h c mid b next
     → has_all mid.watching ≡ true
     → request_after wish h (Frame b) ≡ teardown_text wish (session_of c)
@@ -161,7 +162,7 @@ request-last {wish} {h} {mid} {b} taken all =
     ∙ ap (teardown_text wish) (sym taken.keeps.session_is)
 
 -- all units are whole, and TEARDOWN was sent
-pub last-done : {wish : Wish} {h : History} {c mid : Client} {b : List ℕ} {next : Source}
+pub last-done : {wish : Wish} {h : History} {c mid : Client} {b : List ℕ} {next : RtpSource}
     {new_told : Option (List Doing)}
     {out new_out : Option (List ℕ)} (told : Option (List Doing)) → TakenFrame wish h c mid b next
     → has_all mid.watching ≡ true
@@ -174,7 +175,7 @@ last-done {wish} {h} {b} {new_told} {out} told taken all handed sent =
     (subst P (sym (request-last taken all)) sent) handed)
 
 -- or TEARDOWN was cut
-pub last-cut : {wish : Wish} {h : History} {c mid : Client} {b : List ℕ} {next : Source} {end : WatchEnd}
+pub last-cut : {wish : Wish} {h : History} {c mid : Client} {b : List ℕ} {next : RtpSource} {end : WatchEnd}
     {told new_told : Option (List Doing)}
     {out new_out : Option (List ℕ)} → TakenFrame wish h c mid b next → has_all mid.watching ≡ true → end ≡ LinkFault
     → new_out ≡ told_more out (drop 20 b) → IsFrontTold told new_told (teardown_text wish (session_of c))

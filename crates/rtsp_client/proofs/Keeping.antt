@@ -13,7 +13,7 @@ use Rattle.rtp_pack.specs.declared.heads.Head.{Head}
 use Rattle.rtp_pack.specs.declared.heads.HeadFault.{HeadFault}
 use Rattle.rtp_pack.specs.Heads.{head_at, head_of}
 use Rattle.rtsp_client.specs.declared.clients.Client.{Client}
-use Rattle.rtsp_client.specs.declared.frames.Source.{Source}
+use Rattle.rtsp_client.specs.declared.frames.RtpSource.{RtpSource}
 use Rattle.rtsp_client.specs.declared.plays.Play.{Play}
 use Rattle.rtsp_client.specs.declared.wishes.Wish.{Wish}
 use Rattle.rtsp_client.specs.declared.wishes.Watched.{Watched}
@@ -85,7 +85,7 @@ play-first : (play : Option Play) (h : History) (m : List ℕ) → IsPlayOf play
 play-first None h m is none = le-ltb 1 (replies h + 1) (omega (arith, none))
 play-first (Some play) h m is none = absurd (true≢false (sym is.playing ∙ no-play h (omega (arith, none))))
 
-source-first : (source : Option Source) (h : History) (m : List ℕ) → IsSourceOf source h
+source-first : (source : Option RtpSource) (h : History) (m : List ℕ) → IsSourceOf source h
     → (0 < frames h → is_playing h ≡ true)
     → replies h ≤ 1 → IsSourceOf source (Reply m ∷ h)
 source-first None h m is begun few = is
@@ -148,7 +148,7 @@ some-cond true x = refl
 some-cond false x = refl
 
 -- whether a frame goes on, by the source that is kept
-goes-on : {head : Head} {ms : ℕ} (source : Option Source) (h : History) (b : List ℕ) → IsSourceOf source h
+goes-on : {head : Head} {ms : ℕ} (source : Option RtpSource) (h : History) (b : List ℕ) → IsSourceOf source h
     → head ≡ head_at (drop 4 b)
     → ms ≡ end_ms h
     → cond (frames h == 0) (is_first_good h b) (is_next_good h b) ≡ is_some (source_after source head (drop 20 b) ms)
@@ -169,7 +169,7 @@ goes-on {head} (Some source) h b is at end =
     ∙ ap (λ n. ((head_at (drop 4 b)).ssrc == (head_at (drop 4 (first_frame h))).ssrc)
     && ((head_at (drop 4 b)).sequence == (n + 1) % 2 ^ 16)) is.sequence_is)))
 
-reads-on : {read : Result Head HeadFault} {ms : ℕ} (source : Option Source) (h : History) (b : List ℕ)
+reads-on : {read : Result Head HeadFault} {ms : ℕ} (source : Option RtpSource) (h : History) (b : List ℕ)
     → IsSourceOf source h
     → head_of (drop 4 b) ≡ read → ms ≡ end_ms h
     → (is_ok read && cond (frames h == 0) (is_first_good h b) (is_next_good h b))
@@ -177,7 +177,7 @@ reads-on : {read : Result Head HeadFault} {ms : ℕ} (source : Option Source) (h
 reads-on {read = Err fault} source h b is at end = refl
 reads-on {read = Ok head} source h b is at end = goes-on source h b is (head-read (drop 4 b) head at) end
 
-all-in : (source : Option Source) (h : History) (whole : ℕ) → IsSourceOf source h → whole ≡ length (sizes h)
+all-in : (source : Option RtpSource) (h : History) (whole : ℕ) → IsSourceOf source h → whole ≡ length (sizes h)
     → is_all source whole ≡ is_complete h
 all-in None h whole is same = sym (ap (λ n. nat_lt 0 n && (length (sizes h) == units h)) is)
 all-in (Some source) h whole is same =
@@ -187,7 +187,7 @@ all-in (Some source) h whole is same =
 pub complete-is : (wish : Wish) (h : History) (s : State) → KeepsState wish h s → has_all s ≡ is_complete h
 complete-is wish h s k = all-in s.source h s.watched.units k.source_is (ap (λ (w : Watched). w.units) k.watched_is)
 
-some-unless : (all : Bool) (o : Option Source) → is_some (cond all None o) ≡ (not all && is_some o)
+some-unless : (all : Bool) (o : Option RtpSource) → is_some (cond all None o) ≡ (not all && is_some o)
 some-unless true o = refl
 some-unless false o = refl
 
@@ -216,7 +216,7 @@ picked : {A : Type 0} (c : Bool) (x y : A) → cond c (Some x) None ≡ Some y �
 picked true x y is = cc
 picked false x y is = cc
 
-source-after : {h : History} {b : List ℕ} {head : Head} {ms : ℕ} {next : Source} (source : Option Source)
+source-after : {h : History} {b : List ℕ} {head : Head} {ms : ℕ} {next : RtpSource} (source : Option RtpSource)
     → IsSourceOf source h
     → head ≡ head_at (drop 4 b) → ms ≡ end_ms h → source_after source head (drop 20 b) ms ≡ Some next
     → IsSource next (Frame b ∷ h)
@@ -228,12 +228,12 @@ source-after {h} {b} {head} {ms} {next} None is at end after =
     let first : cond (frames h == 0) b (first_frame h) ≡ b = cond-true (frames h == 0) b (first_frame h) none in
     record {
       some = omega arith;
-      ssrc_is = ap (λ (x : Source). x.ssrc) its
+      ssrc_is = ap (λ (x : RtpSource). x.ssrc) its
           ∙ (ap (λ (x : Head). x.ssrc) at ∙ sym (ap (λ f. (head_at (drop 4 f)).ssrc) first));
-      sequence_is = ap (λ (x : Source). x.sequence) its ∙ ap (λ (x : Head). x.sequence) at;
-      marker_is = ap (λ (x : Source). x.marker) its ∙ ap (λ (x : Head). x.marker) at;
-      time_is = ap (λ (x : Source). x.picture_time) its ∙ sym (ap time_in first);
-      units_are = ap (λ (x : Source). x.units) its ∙ (ap (λ n. units_until n (time_in b)) end
+      sequence_is = ap (λ (x : RtpSource). x.sequence) its ∙ ap (λ (x : Head). x.sequence) at;
+      marker_is = ap (λ (x : RtpSource). x.marker) its ∙ ap (λ (x : Head). x.marker) at;
+      time_is = ap (λ (x : RtpSource). x.picture_time) its ∙ sym (ap time_in first);
+      units_are = ap (λ (x : RtpSource). x.units) its ∙ (ap (λ n. units_until n (time_in b)) end
           ∙ sym (cond-false (frames h + 1 == 0) 0
           (units_until (end_ms h) (time_in (cond (frames h == 0) b (first_frame h))))
           (ne_eqb (frames h + 1) 0 (λ e. absurd (omega (arith, e))))
@@ -246,11 +246,11 @@ source-after {h} {b} {head} {next} (Some source) is at end after =
     cond-false (frames h == 0) b (first_frame h) some in
     record {
       some = omega arith;
-      ssrc_is = ap (λ (x : Source). x.ssrc) its ∙ (is.ssrc_is ∙ sym (ap (λ f. (head_at (drop 4 f)).ssrc) first));
-      sequence_is = ap (λ (x : Source). x.sequence) its ∙ ap (λ (x : Head). x.sequence) at;
-      marker_is = ap (λ (x : Source). x.marker) its ∙ ap (λ (x : Head). x.marker) at;
-      time_is = ap (λ (x : Source). x.picture_time) its ∙ (is.time_is ∙ sym (ap time_in first));
-      units_are = ap (λ (x : Source). x.units) its ∙ (is.units_are
+      ssrc_is = ap (λ (x : RtpSource). x.ssrc) its ∙ (is.ssrc_is ∙ sym (ap (λ f. (head_at (drop 4 f)).ssrc) first));
+      sequence_is = ap (λ (x : RtpSource). x.sequence) its ∙ ap (λ (x : Head). x.sequence) at;
+      marker_is = ap (λ (x : RtpSource). x.marker) its ∙ ap (λ (x : Head). x.marker) at;
+      time_is = ap (λ (x : RtpSource). x.picture_time) its ∙ (is.time_is ∙ sym (ap time_in first));
+      units_are = ap (λ (x : RtpSource). x.units) its ∙ (is.units_are
           ∙ (cond-false (frames h == 0) 0 (units_until (end_ms h) (time_in (first_frame h))) some
           ∙ sym (cond-false (frames h + 1 == 0) 0
           (units_until (end_ms h) (time_in (cond (frames h == 0) b (first_frame h))))
@@ -258,19 +258,19 @@ source-after {h} {b} {head} {next} (Some source) is at end after =
           ∙ ap (λ f. units_until (end_ms h) (time_in f)) first)));
     }
 
-source-read : {h : History} {b : List ℕ} {read : Result Head HeadFault} {ms : ℕ} {next : Source}
-    (source : Option Source) → IsSourceOf source h
+source-read : {h : History} {b : List ℕ} {read : Result Head HeadFault} {ms : ℕ} {next : RtpSource}
+    (source : Option RtpSource) → IsSourceOf source h
     → head_of (drop 4 b) ≡ read → ms ≡ end_ms h → source_read source read (drop 20 b) ms ≡ Some next
     → IsSource next (Frame b ∷ h)
 source-read {h} {read = Err fault} {next} source is at end after = cc
 source-read {h} {b} {read = Ok head} {next} source is at end after =
     source-after source is (head-read (drop 4 b) head at) end after
 
-unless-all : (all : Bool) (o : Option Source) (next : Source) → cond all None o ≡ Some next → o ≡ Some next
+unless-all : (all : Bool) (o : Option RtpSource) (next : RtpSource) → cond all None o ≡ Some next → o ≡ Some next
 unless-all true o next is = cc
 unless-all false o next is = is
 
-source-played : {h : History} {b : List ℕ} {next : Source} (play : Option Play) (s : State) → IsPlayOf play h
+source-played : {h : History} {b : List ℕ} {next : RtpSource} (play : Option Play) (s : State) → IsPlayOf play h
     → IsSourceOf s.source h
     → source_played play s b ≡ Some next → IsSource next (Frame b ∷ h) × (is_playing h ≡ true)
 source-played {h} {next} None s is source after = cc
@@ -328,7 +328,7 @@ whole-more m true sizes size same =
     ap (λ b. cond b (length sizes + 1) (length sizes)) same ∙ sym (length-append sizes (size ∷ []))
 whole-more m false sizes size same = ap (λ b. cond b (length sizes + 1) (length sizes)) same
 
-pub keeps-frame : {wish : Wish} {h : History} {s : State} {b : List ℕ} {next : Source} → KeepsState wish h s
+pub keeps-frame : {wish : Wish} {h : History} {s : State} {b : List ℕ} {next : RtpSource} → KeepsState wish h s
     → source_with s b ≡ Some next → 20 ≤ length b → KeepsState wish (Frame b ∷ h) (after_frame s next (length b))
 keeps-frame {wish} {h} {s} {b} {next} k with_it long =
     let came = source-played s.play s k.play_is k.source_is with_it in
@@ -363,7 +363,7 @@ play-report None h b is = is
 play-report (Some play) h b is =
     record { playing = is.playing; start_is = is.start_is; slot_is = is.slot_is; end_is = is.end_is }
 
-source-report : (source : Option Source) (h : History) (b : List ℕ) → IsSourceOf source h
+source-report : (source : Option RtpSource) (h : History) (b : List ℕ) → IsSourceOf source h
     → IsSourceOf source (Report b ∷ h)
 source-report None h b is = is
 source-report (Some source) h b is = record {

@@ -11,7 +11,7 @@ use Rattle.std.proofs.lemmas.Nat.{le-div, div_below}
 use Rattle.std.proofs.Math.Nat.{mul-le-mul_right}
 use Rattle.std.proofs.lemmas.Grind.{div_ceil_times}
 use Rattle.std.specs.Int.{div_ceil}
-use Rattle.rtsp_client.specs.declared.frames.Source.{Source}
+use Rattle.rtsp_client.specs.declared.frames.RtpSource.{RtpSource}
 use Rattle.rtsp_client.specs.declared.plays.Play.{Play}
 use Rattle.rtsp_client.specs.declared.wishes.Wish.{Wish}
 use Rattle.rtsp_client.specs.declared.wishes.Watched.{Watched}
@@ -123,11 +123,11 @@ less-none : (n : ℕ) → n ≡ n - 0
 less-none n = omega arith
 
 -- a slot lasts, and so do the pictures of a source, where there is one
-pub record HasDurations (wish : Wish) (source : Option Source) : Type 0 where
+pub record HasDurations (wish : Wish) (source : Option RtpSource) : Type 0 where
   pub slot_lasts : 0 < wish.slot_units
-  pub picture_lasts : (src : Source) → source ≡ Some src → 0 < src.picture_time
+  pub picture_lasts : (src : RtpSource) → source ≡ Some src → 0 < src.picture_time
 
-played-in : {source : Option Source} {ends : List ℕ} (wish : Wish) (h : History) (j : ℕ)
+played-in : {source : Option RtpSource} {ends : List ℕ} (wish : Wish) (h : History) (j : ℕ)
     → HasDurations wish source → IsSourceOf source h
     → AreSumsOf ends (sizes h)
     → played_of wish source ends j ≡ played_before wish h j
@@ -143,7 +143,7 @@ played-in {source = Some source} {ends} wish h j lasts is are =
     (record { slot_lasts = lasts.slot_lasts; picture_lasts = lasts.picture_lasts source refl }))
     ∙ sym (ap (λ n. used_before wish n j 0 (sizes h)) t)))
 
-time-in : (h : History) (source : Option Source) → IsSourceOf source h → time_of source ≡ time h
+time-in : (h : History) (source : Option RtpSource) → IsSourceOf source h → time_of source ≡ time h
 time-in h None is = sym (cond-true (frames h == 0) 0 (time_in (first_frame h)) (eq-eqb (frames h) 0 is))
 time-in h (Some source) is =
     is.time_is ∙ sym
@@ -176,7 +176,7 @@ play-slot None h t cut is = is
 play-slot (Some play) h t cut is =
     record { playing = is.playing; start_is = is.start_is; slot_is = is.slot_is; end_is = is.end_is }
 
-source-slot : (source : Option Source) (h : History) (t cut : ℕ) → IsSourceOf source h
+source-slot : (source : Option RtpSource) (h : History) (t cut : ℕ) → IsSourceOf source h
     → IsSourceOf source (Slot t cut ∷ h)
 source-slot None h t cut is = is
 source-slot (Some source) h t cut is = record {

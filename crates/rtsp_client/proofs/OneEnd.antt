@@ -1,13 +1,9 @@
 -- What stands next in the bytes that wait gives one answer, or lets the watching go on.
-use Rattle.std.proofs.Common.{◌≡◌, ◌≢◌, ℕ, ◌++◌, ◌∷◌, [], List, length, take, codes}
-use Rattle.std.proofs.Common.{nat_lt, Result, Ok, Err, is_ok, refl, sym, ap, subst, ◌∙◌, arith, inl, inr}
-use Rattle.std.specs.Char.{is_ascii_digit}
-use Rattle.std.specs.List.{list_all}
-use Rattle.std.specs.Str.Parse.{digits_value}
-use Rattle.std.proofs.lemmas.Bool.{and_parts, both_ways}
+use Rattle.std.proofs.Common.{◌≡◌, ◌≢◌, ℕ, ◌++◌, ◌∷◌, [], List, take}
+use Rattle.std.proofs.Common.{Result, Ok, Err, is_ok, refl, sym, ap, subst, ◌∙◌, arith, inl, inr}
+use Rattle.std.proofs.lemmas.Bool.{both_ways}
 use Rattle.std.proofs.lemmas.List.{append-nil}
 use Rattle.std.proofs.lemmas.List.Concat.{flat_map-append}
-use Rattle.vod_base.specs.Splits.{IsSplitAtFirst}
 use Rattle.interleave.specs.Elements.{IsFirst}
 use Rattle.interleave.specs.Streams.{AreCut}
 use Rattle.interleave.specs.declared.elements.Step.{Step}
@@ -15,9 +11,7 @@ use Rattle.interleave.specs.declared.elements.Step.TheVariants.{More}
 use Rattle.interleave.specs.declared.elements.DemuxFault.{DemuxFault}
 use Rattle.interleave.proofs.Streams.{TwoCuts, cuts_agree, element_once, tells_none}
 use Rattle.interleave.proofs.Unique.{answer_once}
-use Rattle.rtsp_text.specs.StatusLines.{IsStatusLine}
-use Rattle.rtsp_text.proofs.Cuts.{all_other}
-use Rattle.rtsp_text.proofs.StatusTexts.{status_parts}
+use Rattle.rtsp_text.proofs.StatusTexts.{line_once}
 use Rattle.rtsp_client.specs.declared.wishes.Wish.{Wish}
 use Rattle.rtsp_client.specs.declared.wishes.WatchEnd.{WatchEnd}
 use Rattle.rtsp_client.specs.declared.wishes.WatchEnd.TheVariants.{Done, Fault, LinkFault, NoMemory, SinkFault}
@@ -31,19 +25,8 @@ use Rattle.rtsp_client.specs.Outcomes.{IsDecided}
 
 -- ---- replies
 
--- a status line has one code: its digits have no space
-line-once : {text : List ℕ} {c d : ℕ} {phrase other : List ℕ} → IsStatusLine text c phrase
-    → IsStatusLine text d other → c ≡ d
-line-once {text} {phrase} a b =
-    let digits = and_parts (nat_lt 0 (length a.digits)) (list_all is_ascii_digit a.digits) a.is_code.decimal in
-    let version : IsSplitAtFirst 32 text (codes "RTSP/1.0") (a.digits ++ 32 ∷ phrase) =
-    record { parts = a.parts; first = refl } in
-    let code : IsSplitAtFirst 32 (a.digits ++ 32 ∷ phrase) a.digits phrase =
-    record { parts = refl; first = all_other is_ascii_digit 32 refl a.digits digits.1 } in
-    a.is_code.code_is ∙ (ap (digits_value 10) (status_parts version code b).digits_are ∙ sym b.is_code.code_is)
-
 orderly-once : {h : History} {message : List ℕ} {c d : ℕ} → IsOrderly h message c → IsOrderly h message d → c ≡ d
-orderly-once a b = line-once a.answer.line b.answer.line
+orderly-once a b = (line_once a.answer.line b.answer.line).0
 
 bad-not-good : {h : History} {message : List ℕ} → IsBadReply h message → IsGoodReply h message → ⊥
 bad-not-good (inl none) good = none 200 good.0

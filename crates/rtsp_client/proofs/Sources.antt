@@ -11,7 +11,7 @@ use Rattle.rtp_pack.specs.Heads.{head_of}
 use Rattle.rtp_pack.specs.declared.heads.Head.{Head}
 use Rattle.rtp_pack.specs.declared.heads.HeadFault.{HeadFault}
 use Rattle.rtp_pack.specs.declared.heads.HeadFault.TheVariants.{Short}
-use Rattle.rtsp_client.specs.declared.frames.Source.{Source}
+use Rattle.rtsp_client.specs.declared.frames.RtpSource.{RtpSource}
 use Rattle.rtsp_client.specs.declared.plays.Play.{Play}
 use Rattle.rtsp_client.specs.States.{State, has_all, source_played, source_read, source_with}
 
@@ -43,7 +43,7 @@ source-all {play} s block is all = sym (ap (λ p. source_played p s block) is
     ∙ ap (λ (b : Bool). if b then None else source_read s.source (head_of (drop 4 block)) (drop 20 block)
     play.end_ms) all)
 
-pub source-read : {play : Play} {found : Option Source} {head : Result Head HeadFault} (s : State)
+pub source-read : {play : Play} {found : Option RtpSource} {head : Result Head HeadFault} (s : State)
     (block : List ℕ) → s.play ≡ Some play → has_all s ≡ false →
     head_of (drop 4 block) ≡ head → found ≡ source_read s.source head (drop 20 block) play.end_ms
     → found ≡ source_with s block
@@ -58,7 +58,7 @@ pub head-read : {head : Head} (read : Result Head HeadFault) → result_ok read 
 head-read {head} (Ok found) is = ap Ok (same_Some found head is)
 head-read {head} (Err fault) is = absurd (none-some head is)
 
-pub head-unread : (source : Option Source) (read : Result Head HeadFault) (payload : List ℕ) (end_ms : ℕ)
+pub head-unread : (source : Option RtpSource) (read : Result Head HeadFault) (payload : List ℕ) (end_ms : ℕ)
     → result_ok read ≡ None → None ≡ source_read source read payload end_ms
 head-unread source (Ok head) payload end_ms is = absurd (none-some head (sym is))
 head-unread source (Err fault) payload end_ms is = refl
@@ -67,6 +67,7 @@ head-unread source (Err fault) payload end_ms is = refl
 pub rest-whole : (n : ℕ) (block : List ℕ) → take (length block - n) (drop n block) ≡ drop n block
 rest-whole n block = take_all (length block - n) (drop n block) (omega (arith, length-drop n block))
 
-pub long-so : (found : Option Source) (block : List ℕ) → 20 ≤ length block → IfSome found (λ source. 20 ≤ length block)
+pub long-so : (found : Option RtpSource) (block : List ℕ) → 20 ≤ length block
+    → IfSome found (λ source. 20 ≤ length block)
 long-so None block long = tt
 long-so (Some source) block long = long

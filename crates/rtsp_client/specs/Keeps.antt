@@ -3,7 +3,7 @@ use Rattle.std.specs.Prelude.{◌≡◌, ℕ, ◌+◌, ◌<◌, true, false, not
 use Rattle.std.specs.Prelude.{sum, take, Option, Some, None}
 use Rattle.rtp_pack.specs.Heads.{head_at}
 use Rattle.rtsp_client.specs.declared.clients.Client.{Client}
-use Rattle.rtsp_client.specs.declared.frames.Source.{Source}
+use Rattle.rtsp_client.specs.declared.frames.RtpSource.{RtpSource}
 use Rattle.rtsp_client.specs.declared.plays.Play.{Play}
 use Rattle.rtsp_client.specs.declared.wishes.Wish.{Wish}
 use Rattle.rtsp_client.specs.Moments.{History, end_ms, first_frame, frames, is_inside, is_last}
@@ -30,7 +30,7 @@ abbrev pub IsPlayOf : Option Play → History → Type 0
 IsPlayOf None h = is_playing h ≡ false
 IsPlayOf (Some play) h = IsPlay play h
 
-pub record IsSource (source : Source) (h : History) : Type 0 where
+pub record IsSource (source : RtpSource) (h : History) : Type 0 where
   pub some : 0 < frames h
   pub ssrc_is : source.ssrc ≡ (head_at (drop 4 (first_frame h))).ssrc
   pub sequence_is : source.sequence ≡ (head_at (drop 4 (latest_frame h))).sequence
@@ -38,7 +38,7 @@ pub record IsSource (source : Source) (h : History) : Type 0 where
   pub time_is : source.picture_time ≡ time_in (first_frame h)
   pub units_are : source.units ≡ units h
 
-abbrev pub IsSourceOf : Option Source → History → Type 0
+abbrev pub IsSourceOf : Option RtpSource → History → Type 0
 IsSourceOf None h = frames h ≡ 0
 IsSourceOf (Some source) h = IsSource source h
 

@@ -5,6 +5,7 @@ pub mod Films
 pub mod Meters
 pub mod States
 pub mod Sound
+pub mod Flows
 pub mod Causes
 pub mod Wishes
 pub mod Standing

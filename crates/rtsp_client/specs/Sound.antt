@@ -1,7 +1,7 @@
 -- What is always true of what a client keeps.
 use Rattle.std.specs.Prelude.{◌≡◌, ℕ, ◌^◌, ◌<◌, ◌≤◌, List, length, slice_index, Option, Some}
 use Rattle.std.specs.Prelude.{None}
-use Rattle.rtsp_client.specs.declared.frames.Source.{Source}
+use Rattle.rtsp_client.specs.declared.frames.RtpSource.{RtpSource}
 use Rattle.rtsp_client.specs.declared.plays.Play.{Play}
 use Rattle.rtsp_client.specs.declared.wishes.Watched.{Watched}
 
@@ -12,13 +12,13 @@ CameAfter None slot = Unit {0}
 CameAfter (Some play) slot = (play.slot_before ≤ slot) × (play.end_ms < 2 ^ 100)
 
 -- a film's times and units, of which so many are whole
-pub record IsSoundSource (source : Source) (whole : ℕ) : Type 0 where
+pub record IsSoundSource (source : RtpSource) (whole : ℕ) : Type 0 where
   pub some_time : 0 < source.picture_time
   pub most_time : source.picture_time ≤ 15015
   pub most_units : source.units ≤ 4194304
   pub among : whole ≤ source.units
 
-abbrev pub HasSource : Option Source → ℕ → Type 0
+abbrev pub HasSource : Option RtpSource → ℕ → Type 0
 HasSource None whole = whole ≡ 0
 HasSource (Some source) whole = IsSoundSource source whole
 
@@ -35,7 +35,7 @@ pub record IsCounted (watched : Watched) (received last_slot : ℕ) : Type 0 whe
 abbrev pub AreEnds : List ℕ → ℕ → Type 0
 AreEnds ends taken = (k : ℕ) → k < length ends → slice_index ends k ≤ taken
 
-pub record IsSound (last_slot : ℕ) (play : Option Play) (source : Option Source) (ends : List ℕ)
+pub record IsSound (last_slot : ℕ) (play : Option Play) (source : Option RtpSource) (ends : List ℕ)
     (received taken : ℕ) (watched : Watched) : Type 0 where
   pub play_is : CameAfter play last_slot
   pub source_is : HasSource source (length ends)

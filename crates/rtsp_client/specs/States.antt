@@ -10,7 +10,7 @@ use Rattle.rtp_pack.specs.declared.heads.Head.{Head}
 use Rattle.rtp_pack.specs.declared.heads.HeadFault.{HeadFault}
 use Rattle.rtsp_client.specs.declared.wishes.Wish.{Wish}
 use Rattle.rtsp_client.specs.declared.wishes.Watched.{Watched}
-use Rattle.rtsp_client.specs.declared.frames.Source.{Source}
+use Rattle.rtsp_client.specs.declared.frames.RtpSource.{RtpSource}
 use Rattle.rtsp_client.specs.declared.plays.Play.{Play}
 use Rattle.rtsp_client.specs.Films.{begins_film, rate_code, units_until}
 
@@ -20,7 +20,7 @@ use Rattle.rtsp_client.specs.Films.{begins_film, rate_code, units_until}
 pub record State : Type 0 where
   pub last_slot : ℕ
   pub play : Option Play
-  pub source : Option Source
+  pub source : Option RtpSource
   pub ends : List ℕ
   pub received : ℕ
   pub taken : ℕ
@@ -46,7 +46,7 @@ abbrev pub after_play : State → ℕ → ℕ → State
 after_play s start end_ms =
     record s { play = Some (record { start = start; slot_before = s.last_slot; end_ms = end_ms }) }
 
-abbrev pub is_all : Option Source → ℕ → Bool
+abbrev pub is_all : Option RtpSource → ℕ → Bool
 is_all None units = false
 is_all (Some source) units = units == source.units
 
@@ -55,7 +55,7 @@ abbrev pub has_all : State → Bool
 has_all s = is_all s.source s.watched.units
 
 -- what the first frame says, if its payload begins a film of 1 to 4,194,304 units
-abbrev pub first_source : Head → List ℕ → ℕ → Option Source
+abbrev pub first_source : Head → List ℕ → ℕ → Option RtpSource
 first_source head payload end_ms =
     let time = picture_time (rate_code payload) in
     let units = units_until end_ms time in
@@ -70,32 +70,32 @@ first_source head payload end_ms =
     else None
 
 -- what the frames say with one more, if it is the next one
-abbrev pub next_source : Source → Head → Option Source
+abbrev pub next_source : RtpSource → Head → Option RtpSource
 next_source source head =
     if (head.ssrc == source.ssrc) && (head.sequence == (source.sequence + 1) % 2 ^ 16)
     then Some (record source { sequence = head.sequence; marker = head.marker })
     else None
 
-abbrev pub source_after : Option Source → Head → List ℕ → ℕ → Option Source
+abbrev pub source_after : Option RtpSource → Head → List ℕ → ℕ → Option RtpSource
 source_after None head payload end_ms = first_source head payload end_ms
 source_after (Some source) head payload end_ms = next_source source head
 
-abbrev pub source_read : Option Source → Result Head HeadFault → List ℕ → ℕ → Option Source
+abbrev pub source_read : Option RtpSource → Result Head HeadFault → List ℕ → ℕ → Option RtpSource
 source_read source (Err fault) payload end_ms = None
 source_read source (Ok head) payload end_ms = source_after source head payload end_ms
 
-abbrev pub source_played : Option Play → State → List ℕ → Option Source
+abbrev pub source_played : Option Play → State → List ℕ → Option RtpSource
 source_played None s block = None
 source_played (Some play) s block =
     if has_all s then None
     else source_read s.source (head_of (drop 4 block)) (drop 20 block) play.end_ms
 
 -- what the frames say with this block, if it is the next frame of the film
-abbrev pub source_with : State → List ℕ → Option Source
+abbrev pub source_with : State → List ℕ → Option RtpSource
 source_with s block = source_played s.play s block
 
 -- a frame of so many bytes was heard
-abbrev pub after_frame : State → Source → ℕ → State
+abbrev pub after_frame : State → RtpSource → ℕ → State
 after_frame s source length =
     let watched = record s.watched {
       frames = s.watched.frames + 1;
@@ -111,7 +111,7 @@ after_frame s source length =
     }
 
 -- no unit is begun that isn't whole
-abbrev pub is_between : Option Source → Bool
+abbrev pub is_between : Option RtpSource → Bool
 is_between None = true
 is_between (Some source) = source.marker
 
@@ -128,7 +128,7 @@ abbrev pub after_report : State → ℕ → State
 after_report s length = report_in s.play s length
 
 -- the time of a picture; 0 before the first frame
-abbrev pub time_of : Option Source → ℕ
+abbrev pub time_of : Option RtpSource → ℕ
 time_of None = 0
 time_of (Some source) = source.picture_time
 
@@ -136,7 +136,7 @@ time_of (Some source) = source.picture_time
 abbrev pub used_bytes : List ℕ → ℕ → ℕ
 used_bytes ends count = if count == 0 then 0 else slice_index ends (count - 1)
 
-abbrev pub played_of : Wish → Option Source → List ℕ → ℕ → ℕ
+abbrev pub played_of : Wish → Option RtpSource → List ℕ → ℕ → ℕ
 played_of wish None ends slot = 0
 played_of wish (Some source) ends slot =
     used_bytes ends (min (div_ceil ((slot - wish.delay) * wish.slot_units) source.picture_time)

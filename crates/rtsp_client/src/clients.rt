@@ -8,6 +8,7 @@ ghost use Rattle.interleave.specs.Elements.{IsFirst, IsMessageLength};
 ghost use Rattle.interleave.specs.declared.elements.Step.TheVariants.{Block, More, Message};
 ghost use Rattle.rtsp_client.specs.Answers.{cut_bytes};
 ghost use Rattle.rtsp_client.specs.Causes.{EndsWithCause};
+ghost use Rattle.rtsp_client.specs.Flows.{as_result};
 ghost use Rattle.rtsp_client.specs.Moments.{Frame};
 ghost use Rattle.rtsp_client.specs.Requests.{setup_text};
 ghost use Rattle.rtsp_client.specs.Standing.{IsAwaited, bytes_in, replies_in, session_of};
@@ -24,6 +25,7 @@ use crate::watching::Watching;
 use crate::wishes::{WatchEnd, WatchFault, Wish};
 use interleave::{Demux, Step};
 use std::alloc::Global;
+use std::ops::ControlFlow;
 use vod_base::{Heard, Link, NoMemory, Sink};
 
 /// A client between two events.
@@ -67,9 +69,7 @@ impl Client {
 
     /// Takes up an event. The bytes that came stand in front of `bytes`.
     ///
-    /// # Errors
-    ///
-    /// How it ended the watching.
+    /// Breaks with how it ended the watching, where it did.
     pub(crate) fn hear<K: Link, O: Sink>(
         &mut self,
         wish: &Wish,
@@ -77,35 +77,35 @@ impl Client {
         bytes: &[u8],
         link: &mut K,
         out: &mut O,
-    ) -> Result<(), WatchEnd>
+    ) -> ControlFlow<WatchEnd>
         requires wish { IsWish wish.now }
         requires waits { list_length self.old.input ≤ 81920 }
         requires idle { IsFirst self.old.input (Ok More) }
         requires heard { IsWithin heard (list_length bytes.now) }
         requires short { list_length bytes.now ≤ 16384 }
         requires few { bytes_in self.old + 16384 < 2 ^ 62 }
-        ensures few { OnOk result (bytes_in self.new ≤ bytes_in self.old + 16384) }
-        ensures waits { OnOk result (list_length self.new.input ≤ 81920) }
+        ensures few { OnOk (as_result result) (bytes_in self.new ≤ bytes_in self.old + 16384) }
+        ensures waits { OnOk (as_result result) (list_length self.new.input ≤ 81920) }
         ensures count { K.faults link.old ≤ K.faults link.new }
         ensures count_out { O.faults out.old ≤ O.faults out.new }
-        ensures cause { EndsWithCause result (K.faults link.old) (K.faults link.new)
+        ensures cause { EndsWithCause (as_result result) (K.faults link.old) (K.faults link.new)
             (O.faults out.old) (O.faults out.new) }
-        ensures on { TakesEvent wish.now (doing_of heard bytes.now) result
+        ensures on { TakesEvent wish.now (doing_of heard bytes.now) (as_result result)
             (stand self.old (K.told link.old) (O.written out.old))
             (stand self.new (K.told link.new) (O.written out.new)) }
-        ensures ended { EndsAtEvent wish.now (doing_of heard bytes.now) result
+        ensures ended { EndsAtEvent wish.now (doing_of heard bytes.now) (as_result result)
             (stand self.old (K.told link.old) (O.written out.old))
             (stand self.new (K.told link.new) (O.written out.new)) }
     {
         match heard {
             Heard::End => {
                 let units = self.watching.tally().units;
-                Err(WatchEnd::Fault(WatchFault::EndedEarly(units)))
+                ControlFlow::Break(WatchEnd::Fault(WatchFault::EndedEarly(units)))
             }
             Heard::Slot(slot) => {
                 let cut = cut_bytes(self.input.waiting_bytes());
                 self.watching.hear_slot(wish, slot, cut as u64);
-                Ok(())
+                ControlFlow::Continue(())
             }
             Heard::Bytes(count) => match self.input.put(&bytes[..count]) {
                 Ok(()) => self.take_up(wish, link, out),
@@ -120,26 +120,26 @@ impl Client {
         wish: &Wish,
         link: &mut K,
         out: &mut O,
-    ) -> Result<(), WatchEnd>
+    ) -> ControlFlow<WatchEnd>
         requires few { bytes_in self.old < 2 ^ 62 }
-        ensures few { OnOk result (bytes_in self.new ≤ bytes_in self.old) }
-        ensures waits { OnOk result (list_length self.new.input ≤ 81920) }
+        ensures few { OnOk (as_result result) (bytes_in self.new ≤ bytes_in self.old) }
+        ensures waits { OnOk (as_result result) (list_length self.new.input ≤ 81920) }
         ensures count { K.faults link.old ≤ K.faults link.new }
         ensures count_out { O.faults out.old ≤ O.faults out.new }
-        ensures cause { EndsWithCause result (K.faults link.old) (K.faults link.new)
+        ensures cause { EndsWithCause (as_result result) (K.faults link.old) (K.faults link.new)
             (O.faults out.old) (O.faults out.new) }
-        ensures idle { OnOk result (IsFirst self.new.input (Ok More)) }
-        ensures taken { TakesElements wish.now result
+        ensures idle { OnOk (as_result result) (IsFirst self.new.input (Ok More)) }
+        ensures taken { TakesElements wish.now (as_result result)
             (stand self.old (K.told link.old) (O.written out.old))
             (stand self.new (K.told link.new) (O.written out.new)) }
-        ensures stopped { StopsAtElements wish.now result
+        ensures stopped { StopsAtElements wish.now (as_result result)
             (stand self.old (K.told link.old) (O.written out.old))
             (stand self.new (K.told link.new) (O.written out.new)) }
     {
         'elements: loop {
             let more = self.take_next(wish, link, out)?;
             if !more {
-                return Ok(());
+                return ControlFlow::Continue(());
             }
         }
     }
@@ -150,40 +150,42 @@ impl Client {
         wish: &Wish,
         link: &mut K,
         out: &mut O,
-    ) -> Result<bool, WatchEnd>
+    ) -> ControlFlow<WatchEnd, bool>
         requires few { bytes_in self.old < 2 ^ 62 }
-        ensures few { OnOk result (bytes_in self.new ≤ bytes_in self.old) }
-        ensures shorter { IfOk result (λ more. more ≡ true →
+        ensures few { OnOk (as_result result) (bytes_in self.new ≤ bytes_in self.old) }
+        ensures shorter { IfOk (as_result result) (λ more. more ≡ true →
             list_length self.new.input < list_length self.old.input) }
-        ensures waits { IfOk result (λ more. more ≡ false → list_length self.new.input ≤ 81920) }
+        ensures waits { IfOk (as_result result) (λ more. more ≡ false →
+            list_length self.new.input ≤ 81920) }
         ensures count { K.faults link.old ≤ K.faults link.new }
         ensures count_out { O.faults out.old ≤ O.faults out.new }
-        ensures cause { EndsWithCause result (K.faults link.old) (K.faults link.new)
+        ensures cause { EndsWithCause (as_result result) (K.faults link.old) (K.faults link.new)
             (O.faults out.old) (O.faults out.new) }
-        ensures idle { IfOk result (λ more. more ≡ false → IsFirst self.new.input (Ok More)) }
-        ensures taken { TakesElements wish.now result
+        ensures idle { IfOk (as_result result) (λ more. more ≡ false →
+            IsFirst self.new.input (Ok More)) }
+        ensures taken { TakesElements wish.now (as_result result)
             (stand self.old (K.told link.old) (O.written out.old))
             (stand self.new (K.told link.new) (O.written out.new)) }
-        ensures stopped { StopsAtElements wish.now result
+        ensures stopped { StopsAtElements wish.now (as_result result)
             (stand self.old (K.told link.old) (O.written out.old))
             (stand self.new (K.told link.new) (O.written out.new)) }
     {
         match self.input.look() {
-            Err(_) => Err(WatchEnd::Fault(WatchFault::Framing)),
-            Ok(Step::More) => Ok(false),
+            Err(_) => ControlFlow::Break(WatchEnd::Fault(WatchFault::Framing)),
+            Ok(Step::More) => ControlFlow::Continue(false),
             Ok(Step::Skip(length)) => {
                 self.input.drop_front(length);
-                Ok(true)
+                ControlFlow::Continue(true)
             }
             Ok(Step::Block(channel, length)) => {
                 self.take_block(wish, channel, length, link, out)?;
                 self.input.drop_front(length);
-                Ok(true)
+                ControlFlow::Continue(true)
             }
             Ok(Step::Message(length)) => {
                 self.take_reply(wish, length, link)?;
                 self.input.drop_front(length);
-                Ok(true)
+                ControlFlow::Continue(true)
             }
         }
     }
@@ -196,30 +198,30 @@ impl Client {
         length: usize,
         link: &mut K,
         out: &mut O,
-    ) -> Result<(), WatchEnd>
+    ) -> ControlFlow<WatchEnd>
         requires few { bytes_in self.old < 2 ^ 62 }
         requires block { IsFirst self.old.input (Ok (Block channel length)) }
         ensures input { self.new.input ≡ self.old.input }
-        ensures few { OnOk result (self.new.watching.received ≤ self.old.watching.received
-            + length) }
+        ensures few { OnOk (as_result result)
+            (self.new.watching.received ≤ self.old.watching.received + length) }
         ensures count { K.faults link.old ≤ K.faults link.new }
         ensures count_out { O.faults out.old ≤ O.faults out.new }
-        ensures cause { EndsWithCause result (K.faults link.old) (K.faults link.new)
+        ensures cause { EndsWithCause (as_result result) (K.faults link.old) (K.faults link.new)
             (O.faults out.old) (O.faults out.new) }
-        ensures passed { PassesBlock wish.now channel length result
+        ensures passed { PassesBlock wish.now channel length (as_result result)
             (stand self.old (K.told link.old) (O.written out.old))
             (stand self.new (K.told link.new) (O.written out.new)) }
-        ensures ended { EndsAtBlock wish.now channel length result
+        ensures ended { EndsAtBlock wish.now channel length (as_result result)
             (stand self.old (K.told link.old) (O.written out.old))
             (stand self.new (K.told link.new) (O.written out.new)) }
     {
         match channel {
-            0 => self.take_frame(wish, length, link, out),
+            0 => flow_of(self.take_frame(wish, length, link, out)),
             1 => {
                 self.watching.add_report(length as u64);
-                Ok(())
+                ControlFlow::Continue(())
             }
-            _ => Ok(()),
+            _ => ControlFlow::Continue(()),
         }
     }
 
@@ -311,49 +313,29 @@ impl Client {
         wish: &Wish,
         length: usize,
         link: &mut K,
-    ) -> Result<(), WatchEnd>
+    ) -> ControlFlow<WatchEnd>
         requires message { IsFirst self.old.input (Ok (Message length)) }
         ensures input { self.new.input ≡ self.old.input }
         ensures few { self.new.watching.received ≡ self.old.watching.received }
         ensures count { K.faults link.old ≤ K.faults link.new }
-        ensures cause { EndsWithCause result (K.faults link.old) (K.faults link.new) 0 0 }
-        ensures passed { PassesReply wish.now length result
+        ensures cause { EndsWithCause (as_result result) (K.faults link.old) (K.faults link.new)
+            0 0 }
+        ensures passed { PassesReply wish.now length (as_result result)
             (stand self.old (K.told link.old)) (stand self.new (K.told link.new)) }
-        ensures ended { EndsAtReply wish.now length result
+        ensures ended { EndsAtReply wish.now length (as_result result)
             (stand self.old (K.told link.old)) (stand self.new (K.told link.new)) }
     {
         let Some(code) = self.awaited_code(&self.input.waiting_bytes()[..length]) else {
             let number = self.replies() + 1;
-            return Err(WatchEnd::Fault(WatchFault::BadReply(number)));
+            return ControlFlow::Break(WatchEnd::Fault(WatchFault::BadReply(number)));
         };
         if code != 200 {
-            return Err(WatchEnd::Fault(WatchFault::Refused(code)));
+            return ControlFlow::Break(WatchEnd::Fault(WatchFault::Refused(code)));
         }
-        self.take_success(wish, length, link)
-    }
-
-    /// Takes up the reply in front, which is awaited and has the code 200.
-    fn take_success<K: Link>(
-        &mut self,
-        wish: &Wish,
-        length: usize,
-        link: &mut K,
-    ) -> Result<(), WatchEnd>
-        requires message { IsFirst self.old.input (Ok (Message length)) }
-        requires good { IsAwaited self.old (take length self.old.input) 200 }
-        ensures input { self.new.input ≡ self.old.input }
-        ensures few { self.new.watching.received ≡ self.old.watching.received }
-        ensures count { K.faults link.old ≤ K.faults link.new }
-        ensures cause { EndsWithCause result (K.faults link.old) (K.faults link.new) 0 0 }
-        ensures passed { PassesReply wish.now length result
-            (stand self.old (K.told link.old)) (stand self.new (K.told link.new)) }
-        ensures ended { EndsAtReply wish.now length result
-            (stand self.old (K.told link.old)) (stand self.new (K.told link.new)) }
-    {
         match self.replies() {
-            0 => self.take_setup(wish, length, link),
-            1 => self.take_play(wish, length),
-            _ => Err(WatchEnd::Done(self.watching.tally())),
+            0 => flow_of(self.take_setup(wish, length, link)),
+            1 => flow_of(self.take_play(wish, length)),
+            _ => ControlFlow::Break(WatchEnd::Done(self.watching.tally())),
         }
     }
 
@@ -403,6 +385,16 @@ impl Client {
         let start = play_start(message).ok_or(WatchFault::BadReply(2))?;
         self.watching.begin(start, end_ms);
         Ok(())
+    }
+}
+
+/// Goes on after a call that went well; its fault ends the watching.
+fn flow_of(answer: Result<(), WatchEnd>) -> ControlFlow<WatchEnd>
+    ensures { as_result result ≡ answer }
+{
+    match answer {
+        Ok(()) => ControlFlow::Continue(()),
+        Err(end) => ControlFlow::Break(end),
     }
 }
 

@@ -14,9 +14,9 @@ pub(crate) const BLOCK_HEAD: usize = 4;
 /// The bytes before a frame's payload: the heads of the block, of RTP and of its video.
 pub(crate) const HEADS: usize = FRAME_HEADS as usize;
 
-/// What the frames so far say of their film.
+/// What the frames of one synchronization source so far say of their film (RFC 3550).
 #[derive(Clone, Copy)]
-pub(crate) struct Source {
+pub(crate) struct RtpSource {
     /// The synchronization source.
     pub(crate) ssrc: u32,
     /// The latest frame's sequence number.
@@ -29,12 +29,12 @@ pub(crate) struct Source {
     pub(crate) units: u64,
 }
 
-impl Source {
+impl RtpSource {
     /// What the first frame of a film says, whose payload begins with a sequence header.
     ///
     /// None where it doesn't, or where the film has no picture or too many.
     #[tactic(auto, using(crate::proofs::Rates::time_bounds))]
-    pub(crate) fn first(head: &Head, payload: &[u8], end_ms: u128) -> Option<Source>
+    pub(crate) fn first(head: &Head, payload: &[u8], end_ms: u128) -> Option<RtpSource>
         requires { end_ms < 2 ^ 100 }
         ensures source { result ≡ first_source head.now payload.now end_ms }
         ensures follows { IfSome result (λ source. IsSoundSource source 1) }
@@ -47,7 +47,7 @@ impl Source {
         if units < 1 || units > u128::from(MAX_FILM_PICTURES) {
             return None;
         }
-        Some(Source {
+        Some(RtpSource {
             ssrc: head.ssrc,
             sequence: head.sequence,
             marker: head.marker,
@@ -57,7 +57,7 @@ impl Source {
     }
 
     /// What the frames say with one more, where that is the next one.
-    pub(crate) fn next(&self, head: &Head) -> Option<Source>
+    pub(crate) fn next(&self, head: &Head) -> Option<RtpSource>
         ensures source { result ≡ next_source self.now head.now }
         ensures same { IfSome result (λ source. (source.picture_time ≡ self.now.picture_time)
             × (source.units ≡ self.now.units)) }
@@ -65,7 +65,7 @@ impl Source {
         if head.ssrc != self.ssrc || head.sequence != self.sequence.wrapping_add(1) {
             return None;
         }
-        Some(Source {
+        Some(RtpSource {
             sequence: head.sequence,
             marker: head.marker,
             ..*self

@@ -13,13 +13,8 @@ ghost use Rattle.rtsp_client.specs.declared.wishes.WatchEnd.TheVariants.{LinkFau
 use crate::clients::Client;
 use crate::wishes::{WatchEnd, WatchFault, Wish};
 use std::alloc::Global;
-use vod_base::{Link, Sink};
-
-/// The most bytes that are heard at once.
-const MAX_HEARD: usize = 16_384;
-
-/// The most events that are heard.
-const MAX_EVENTS: u64 = 1 << 40;
+use std::ops::ControlFlow;
+use vod_base::{Link, MAX_EVENTS, MAX_HEARD, Sink};
 
 /// Watches a film over a link and hands its bytes on to `out`.
 ///
@@ -69,7 +64,7 @@ fn hear_all<K: Link, O: Sink>(
         let Ok(heard) = link.next(&mut bytes) else {
             return WatchEnd::LinkFault;
         };
-        if let Err(end) = client.hear(wish, heard, &bytes, link, out) {
+        if let ControlFlow::Break(end) = client.hear(wish, heard, &bytes, link, out) {
             return end;
         }
     }

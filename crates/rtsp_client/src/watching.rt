@@ -7,7 +7,7 @@ ghost use Rattle.rtsp_client.specs.States.{after_frame, after_play, after_readin
 ghost use Rattle.rtsp_client.specs.States.{after_slot, has_all, is_between, is_lacking, new_state};
 ghost use Rattle.rtsp_client.specs.States.{place_of, played_of, source_after, source_with};
 
-use crate::frames::{BLOCK_HEAD, HEADS, Source};
+use crate::frames::{BLOCK_HEAD, HEADS, RtpSource};
 use crate::plays::Play;
 use crate::wishes::{Watched, Wish};
 use rtp_pack::{FRAME_HEADS, Head, read_head};
@@ -21,7 +21,7 @@ pub(crate) struct Watching {
     /// The greatest slot that was heard, at first 0.
     last_slot: u64,
     play: Option<Play>,
-    source: Option<Source>,
+    source: Option<RtpSource>,
     /// For each whole picture the sum of its size and those before it.
     ends: Vec<u64>,
     /// The bytes of all frames and reports.
@@ -116,7 +116,7 @@ impl Watching {
     }
 
     /// What the frames say with this block, where it is the next frame of the film.
-    pub(crate) fn source_with(&self, block: &[u8]) -> Option<Source>
+    pub(crate) fn source_with(&self, block: &[u8]) -> Option<RtpSource>
         requires { 4 ≤ length block.now }
         ensures source { result ≡ source_with self.now block.now }
         ensures follows { IfSome result (λ source.
@@ -133,7 +133,7 @@ impl Watching {
 
     /// What the frames say with one more of this head and payload, where that is the next frame of
     /// the film.
-    fn source_after(&self, head: &Head, payload: &[u8], end_ms: u128) -> Option<Source>
+    fn source_after(&self, head: &Head, payload: &[u8], end_ms: u128) -> Option<RtpSource>
         requires open { has_all self.now ≡ false }
         requires short { end_ms < 2 ^ 100 }
         ensures source { result ≡ source_after self.now.source head.now payload.now end_ms }
@@ -142,12 +142,12 @@ impl Watching {
     {
         match &self.source {
             Some(source) => source.next(head),
-            None => Source::first(head, payload, end_ms),
+            None => RtpSource::first(head, payload, end_ms),
         }
     }
 
     /// Counts a frame of so many bytes that is the next one of its film.
-    pub(crate) fn add_frame(&mut self, source: Source, length: u64) -> Result<(), NoMemory>
+    pub(crate) fn add_frame(&mut self, source: RtpSource, length: u64) -> Result<(), NoMemory>
         requires source { IsSoundSource source (self.old.watched.units + 1) }
         requires head { 20 ≤ length }
         requires few { self.old.received + length < 2 ^ 63 }

@@ -23,13 +23,13 @@ returns-in_default-clause-watched g c = λ told begun.
     (ap (λ (t : Option (List Doing)). sight t (g.O.Sink.written c.args.out.now)) begun) c.events-test.true refl
     c.in_default.ensures.lost
 
-pub returns-in-Err-clause-watched : goal.returns-in-Err-clause-watched
-returns-in-Err-clause-watched g c = λ told begun.
+pub returns-in-Break-clause-watched : goal.returns-in-Break-clause-watched
+returns-in-Break-clause-watched g c = λ told begun.
     watched-end
     c.events.invariant.3
     (ap (λ (t : Option (List Doing)). sight t (g.O.Sink.written c.args.out.now)) begun) c.events-test.true
     (ap (λ (t : Option (List Doing)). sight t (g.O.Sink.written c.events.out)) c.in-Ok.ensures.heard)
-    (λ h k. c.in-Err.ensures.ended h k)
+    (λ h k. c.in-Break.ensures.ended h k)
 
 pub returns-clause-watched : goal.returns-clause-watched
 returns-clause-watched g c = λ told begun.

@@ -7,6 +7,7 @@ use Rattle.rtsp_client.specs.declared.wishes.WatchEnd.{WatchEnd}
 use Rattle.rtsp_client.specs.declared.wishes.WatchEnd.TheVariants.{Fault}
 use Rattle.rtsp_client.specs.declared.wishes.WatchFault.TheVariants.{EndedEarly}
 use Rattle.rtsp_client.specs.Answers.{cut_bytes}
+use Rattle.rtsp_client.specs.Flows.{as_result}
 use Rattle.rtsp_client.specs.Takings.{HasEnded, HasRound, HasStopped, HasTaken, sight}
 use Rattle.rtsp_client.proofs.Coursing.{ended-bytes, ended-peer, round-bytes, round-slot}
 use Rattle.rtsp_client.proofs.Outcomes.{if-err, on-ok}
@@ -49,12 +50,12 @@ returns-in-Slot-clause-on g c = λ h k.
 pub returns-in-Ok-clause-on : goal.returns-in-Ok-clause-on
 returns-in-Ok-clause-on g c = λ h k.
     let grown : c.put.new.self ≡ c.args.self.now.input ++ take c.in-Bytes.count c.args.bytes.now = search rules in
-    subst (λ (x : Heard). OnOk c.take_up.result
+    subst (λ (x : Heard). OnOk (as_result c.take_up.result)
     (HasRound c.args.wish.now h c.args.self.now.input (doing_of x c.args.bytes.now) c.take_up.new.self
     (sight (g.K.Link.told c.args.link.now) (g.O.Sink.written c.args.out.now))
     (sight (g.K.Link.told c.take_up.new.link) (g.O.Sink.written c.take_up.new.out)))) (sym c.in-Bytes.is)
-    (on-ok c.take_up.result
-    (subst (λ (i : List ℕ). OnOk c.take_up.result (HasTaken c.args.wish.now h i c.take_up.new.self
+    (on-ok (as_result c.take_up.result)
+    (subst (λ (i : List ℕ). OnOk (as_result c.take_up.result) (HasTaken c.args.wish.now h i c.take_up.new.self
     (sight (g.K.Link.told c.args.link.now) (g.O.Sink.written c.args.out.now))
     (sight (g.K.Link.told c.take_up.new.link) (g.O.Sink.written c.take_up.new.out)))) grown
     (c.take_up.ensures.taken h (keeps-moved k (record { replies = refl; session = refl; watching = refl }))))
@@ -65,11 +66,11 @@ returns-in-Ok-clause-on g c = λ h k.
 pub returns-in-Ok-clause-ended : goal.returns-in-Ok-clause-ended
 returns-in-Ok-clause-ended g c = λ h k.
     let grown : c.put.new.self ≡ c.args.self.now.input ++ take c.in-Bytes.count c.args.bytes.now = search rules in
-    subst (λ (x : Heard). IfErr c.take_up.result
+    subst (λ (x : Heard). IfErr (as_result c.take_up.result)
     (λ end. HasEnded c.args.wish.now h c.args.self.now.input (doing_of x c.args.bytes.now) end
     (sight (g.K.Link.told c.args.link.now) (g.O.Sink.written c.args.out.now))
     (sight (g.K.Link.told c.take_up.new.link) (g.O.Sink.written c.take_up.new.out)))) (sym c.in-Bytes.is)
-    (if-err c.take_up.result
+    (if-err (as_result c.take_up.result)
     (λ (end : WatchEnd). HasStopped c.args.wish.now h
     (c.args.self.now.input ++ take c.in-Bytes.count c.args.bytes.now) end
     (sight (g.K.Link.told c.args.link.now) (g.O.Sink.written c.args.out.now))
@@ -78,7 +79,7 @@ returns-in-Ok-clause-ended g c = λ h k.
     (doing_of (Bytes c.in-Bytes.count) c.args.bytes.now) end
     (sight (g.K.Link.told c.args.link.now) (g.O.Sink.written c.args.out.now))
     (sight (g.K.Link.told c.take_up.new.link) (g.O.Sink.written c.take_up.new.out)))
-    (subst (λ (i : List ℕ). IfErr c.take_up.result (λ end. HasStopped c.args.wish.now h i end
+    (subst (λ (i : List ℕ). IfErr (as_result c.take_up.result) (λ end. HasStopped c.args.wish.now h i end
     (sight (g.K.Link.told c.args.link.now) (g.O.Sink.written c.args.out.now))
     (sight (g.K.Link.told c.take_up.new.link) (g.O.Sink.written c.take_up.new.out)))) grown
     (c.take_up.ensures.stopped h (keeps-moved k (record { replies = refl; session = refl; watching = refl }))))

@@ -12,15 +12,17 @@ use Rattle.rtsp_client.proofs.clients.Client.take_block.Goals as goal
 
 pub returns-in-0-clause-passed : goal.returns-in-0-clause-passed
 returns-in-0-clause-passed g c =
-    subst (λ x. (h : History) → Keeps c.args.wish.now h c.args.self.now → OnOk c.take_frame.result
+    rw c.flow_of.ensures
+    (subst (λ x. (h : History) → Keeps c.args.wish.now h c.args.self.now → OnOk c.take_frame.result
     (HasPassed c.args.wish.now h (block_moments x (take c.args.length c.args.self.now.input)) c.take_frame.new.self
     (sight (g.K.Link.told c.args.link.now) (g.O.Sink.written c.args.out.now))
     (sight (g.K.Link.told c.take_frame.new.link) (g.O.Sink.written c.take_frame.new.out)))) (sym c.in-0.is)
-    (λ h k. c.take_frame.ensures.passed h k)
+    (λ h k. c.take_frame.ensures.passed h k))
 
 pub returns-in-0-clause-ended : goal.returns-in-0-clause-ended
 returns-in-0-clause-ended g c =
-    λ h k. if-err c.take_frame.result _ _ (c.take_frame.ensures.ended h k) (λ e p. (c.in-0.is, p))
+    rw c.flow_of.ensures
+    (λ h k. if-err c.take_frame.result _ _ (c.take_frame.ensures.ended h k) (λ e p. (c.in-0.is, p)))
 
 pub returns-in-1-clause-passed : goal.returns-in-1-clause-passed
 returns-in-1-clause-passed g c = λ h k.

@@ -1,5 +1,4 @@
 use Rattle.std.proofs.Common.{◌<◌, Ok, drop, refl, ap, subst, sym, ◌∙◌, arith}
-use Rattle.std.proofs.lemmas.Result.{err_from_is_err_and}
 use Rattle.interleave.specs.Elements.{IsFirst}
 use Rattle.interleave.specs.declared.elements.Step.TheVariants.{Block, Message, Skip}
 use Rattle.rtsp_text.proofs.Whole.{fewer, first_is, some_request}
@@ -31,8 +30,7 @@ returns-in-Ok-Skip-clause-taken g c = λ h k.
 
 pub returns-in_err-take_block-in-Ok-Block-clause-stopped : goal.returns-in_err-take_block-in-Ok-Block-clause-stopped
 returns-in_err-take_block-in-Ok-Block-clause-stopped g c =
-    let p = err_from_is_err_and c.from_residual.result c.from_residual.ensures.1 in
-    rw (p.1, p.2)
+    rw c.from_residual.ensures
     (λ h k.
     rw (← c.look.ensures.waiting)
     (stopped-block
@@ -52,9 +50,7 @@ returns-in_ok-take_block-in-Ok-Block-clause-taken g c = λ h k.
 
 pub returns-in_err-take_reply-in-Ok-Message-clause-stopped : goal.returns-in_err-take_reply-in-Ok-Message-clause-stopped
 returns-in_err-take_reply-in-Ok-Message-clause-stopped g c =
-    let p = err_from_is_err_and c.from_residual-in_err-take_reply-in-Ok-Message.result
-    c.from_residual-in_err-take_reply-in-Ok-Message.ensures.1 in
-    rw (p.1, p.2)
+    rw c.from_residual-in_err-take_reply-in-Ok-Message.ensures
     (λ h k.
     rw (← c.look.ensures.waiting)
     (stopped-reply

@@ -16,7 +16,8 @@ returns-in_err-end_ms-clause-ended c =
     rw (p.1, p.2)
     (λ told out h k.
     let range : play_range (take c.args.length c.args.self.now.input) ≡ None =
-    ap (λ i. play_range (take c.args.length i)) (sym c.waiting_bytes.ensures) ∙ (sym c.play_range.ensures.range ∙ lacks.0) in
+    ap (λ i. play_range (take c.args.length i)) (sym c.waiting_bytes.ensures)
+    ∙ (sym c.play_range.ensures.range ∙ lacks.0) in
     play-lacks k c.requires.second
     c.requires.good (ap (λ o. is_some o && is_some (play_start (take c.args.length c.args.self.now.input))) range)
     (ap (λ (f : WatchFault). Fault f) lacks.1))

@@ -1,9 +1,10 @@
-use Rattle.std.proofs.Common.{ℕ, ◌+◌, List, take, refl, ap, subst}
-use Rattle.rtsp_client.specs.declared.wishes.WatchEnd.TheVariants.{Fault}
+use Rattle.std.proofs.Common.{ℕ, ◌+◌, List, take, refl, ap, subst, arith}
+use Rattle.rtsp_client.specs.declared.wishes.WatchEnd.TheVariants.{Done, Fault}
+use Rattle.rtsp_client.specs.declared.wishes.Watched.{Watched}
 use Rattle.rtsp_client.specs.declared.wishes.WatchFault.TheVariants.{BadReply}
 use Rattle.rtsp_client.specs.Standing.{IsAwaited}
 use Rattle.rtsp_client.proofs.Cutting.{whole-request}
-use Rattle.rtsp_client.proofs.Replying.{bad-reply, refused-reply}
+use Rattle.rtsp_client.proofs.Replying.{bad-reply, refused-reply, watch-done}
 use Rattle.rtsp_client.proofs.clients.Client.take_reply.Goals as goal
 
 pub awaited_code-requires : goal.awaited_code-requires
@@ -28,8 +29,27 @@ returns-then-code-ne200-clause-ended g c = λ out h k.
     c.waiting_bytes.ensures c.in-Some.ensures)
     c.if-code-ne200.true refl
 
-pub returns-clause-passed : goal.returns-clause-passed
-returns-clause-passed g c = λ out h k. c.take_success.ensures.passed out h k
+pub returns-in-0-clause-passed : goal.returns-in-0-clause-passed
+returns-in-0-clause-passed g c = rw c.flow_of.ensures (λ out h k. c.take_setup.ensures.passed out h k)
 
-pub returns-clause-ended : goal.returns-clause-ended
-returns-clause-ended g c = λ out h k. c.take_success.ensures.ended out h k
+pub returns-in-0-clause-ended : goal.returns-in-0-clause-ended
+returns-in-0-clause-ended g c = rw c.flow_of.ensures (λ out h k. c.take_setup.ensures.ended out h k)
+
+pub returns-in-1-clause-passed : goal.returns-in-1-clause-passed
+returns-in-1-clause-passed g c =
+    rw c.flow_of-in-1.ensures (λ out h k. c.take_play.ensures.passed (g.K.Link.told c.args.link.now) out h k)
+
+pub returns-in-1-clause-ended : goal.returns-in-1-clause-ended
+returns-in-1-clause-ended g c =
+    rw c.flow_of-in-1.ensures (λ out h k. c.take_play.ensures.ended (g.K.Link.told c.args.link.now) out h k)
+
+pub returns-in_default-replies-clause-ended : goal.returns-in_default-replies-clause-ended
+returns-in_default-replies-clause-ended g c = λ out h k.
+    let message = take c.args.length c.args.self.now.input in
+    let heard : IsAwaited c.args.self.now message c.in-Some.code =
+    subst (λ (i : List ℕ). IsAwaited c.args.self.now (take c.args.length i) c.in-Some.code)
+    c.waiting_bytes.ensures c.in-Some.ensures in
+    let good : IsAwaited c.args.self.now message 200 =
+    subst (IsAwaited c.args.self.now message) c.if-code-ne200.false heard in
+    watch-done k (omega (arith, c.replies.ensures.count, c.replies.ensures.most)) good
+    (ap (λ (w : Watched). Done w) c.tally.ensures)

@@ -5,11 +5,27 @@ use Rattle.vod_base.specs.Links.{IsFrontTold, sends, told_more}
 use Rattle.rtsp_client.specs.declared.wishes.WatchEnd.TheVariants.{Fault}
 use Rattle.rtsp_client.specs.declared.wishes.WatchFault.{WatchFault}
 use Rattle.rtsp_client.specs.declared.wishes.WatchFault.TheVariants.{BadReply}
+use Rattle.rtsp_client.specs.Keeps.{Keeps}
+use Rattle.rtsp_client.specs.Moments.{History}
 use Rattle.rtsp_client.specs.Replies.{session_in}
 use Rattle.rtsp_client.specs.Requests.{play_text}
 use Rattle.rtsp_client.proofs.Outcomes.{ok-or-err}
-use Rattle.rtsp_client.proofs.Replying.{first-reply, session-read, setup-cut, setup-done, setup-lacks, setup-starved}
+use Rattle.rtsp_client.proofs.Replying.{SetupReply, first-reply, session-read, setup-cut, setup-done, setup-lacks}
+use Rattle.rtsp_client.proofs.Replying.{setup-starved}
 use Rattle.rtsp_client.proofs.clients.Client.take_setup.Goals as goal
+use Rattle.rtsp_client.proofs.clients.Client.take_setup.Goals.{After-play_request}
+
+-- the reply is awaited, and names a session
+reply : (g : _) (c : After-play_request g) (h : History) → Keeps c.args.wish.now h c.args.self.now
+    → SetupReply c.args.wish.now h c.args.self.now
+    (take c.args.length c.args.self.now.input) c.in_ok-session.session.now
+reply g c h k = record {
+  keeps = k;
+  first = c.requires.first;
+  awaited = c.requires.good;
+  session_is = session-read (λ s. s.now)
+      c.args.length c.waiting_bytes.ensures c.session_in.ensures c.ok_or.ensures.ok_part (c.in_ok-session.was {u = tt});
+}
 
 pub returns-in_err-session-clause-ended : goal.returns-in_err-session-clause-ended
 returns-in_err-session-clause-ended g c =
@@ -29,26 +45,14 @@ returns-in_err-request-clause-ended g c =
     let p = err_from_is_err_and c.from_residual-in_err-request.result c.from_residual-in_err-request.ensures.1 in
     rw (p.1, p.2)
     (λ out h k.
-    setup-starved (record {
-      keeps = k;
-      first = c.requires.first;
-      awaited = c.requires.good;
-      session_is = session-read (λ s. s.now)
-          c.args.length c.waiting_bytes.ensures c.session_in.ensures c.ok_or.ensures.ok_part (c.in_ok-session.was {u = tt});
-    }) refl)
+    setup-starved (reply g (goal.at.returns-in_err-request-clause-ended g c).After-play_request h k) refl)
 
 pub returns-in_err-kept-clause-ended : goal.returns-in_err-kept-clause-ended
 returns-in_err-kept-clause-ended g c =
     let p = err_from_is_err_and c.from_residual-in_err-kept.result c.from_residual-in_err-kept.ensures.1 in
     rw (p.1, p.2)
     (λ out h k.
-    setup-starved (record {
-      keeps = k;
-      first = c.requires.first;
-      awaited = c.requires.good;
-      session_is = session-read (λ s. s.now)
-          c.args.length c.waiting_bytes.ensures c.session_in.ensures c.ok_or.ensures.ok_part (c.in_ok-session.was {u = tt});
-    }) refl)
+    setup-starved (reply g (goal.at.returns-in_err-kept-clause-ended g c).After-play_request h k) refl)
 
 pub returns-in_err-send-clause-ended : goal.returns-in_err-send-clause-ended
 returns-in_err-send-clause-ended g c =
@@ -60,13 +64,7 @@ returns-in_err-send-clause-ended g c =
     let front : IsFrontTold (g.K.Link.told c.args.link.now) (g.K.Link.told c.send.new.self)
     c.as_slice.result.now = c.in_err-send.ensures.front in
     setup-cut out
-    (record {
-      keeps = k;
-      first = c.requires.first;
-      awaited = c.requires.good;
-      session_is = session-read (λ s. s.now)
-          c.args.length c.waiting_bytes.ensures c.session_in.ensures c.ok_or.ensures.ok_part (c.in_ok-session.was {u = tt});
-    }) refl
+    (reply g (goal.at.returns-in_err-send-clause-ended g c).After-play_request h k) refl
     (subst (IsFrontTold (g.K.Link.told c.args.link.now) (g.K.Link.told c.send.new.self)) text front))
 
 pub returns-clause-passed : goal.returns-clause-passed
@@ -77,12 +75,6 @@ returns-clause-passed g c = λ out h k.
     ≡ told_more (g.K.Link.told c.args.link.now) (sends c.as_slice.result.now) = c.in_ok-send.ensures.whole in
     setup-done {new = record (c.args.self.now) { session = Some c.in_ok-kept.kept }}
     (g.K.Link.told c.args.link.now) out
-    (record {
-      keeps = k;
-      first = c.requires.first;
-      awaited = c.requires.good;
-      session_is = session-read (λ s. s.now)
-          c.args.length c.waiting_bytes.ensures c.session_in.ensures c.ok_or.ensures.ok_part (c.in_ok-session.was {u = tt});
-    })
+    (reply g (goal.at.returns-clause-passed g c).After-play_request h k)
     (record { replies = first-reply c.args.self.now c.requires.first; session = search rules; watching = refl })
     (sent ∙ ap (λ x. told_more (g.K.Link.told c.args.link.now) (sends x)) text)

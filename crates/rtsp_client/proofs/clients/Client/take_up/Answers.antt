@@ -1,5 +1,4 @@
 use Rattle.std.proofs.Common.{rules, refl, arith}
-use Rattle.std.proofs.lemmas.Result.{err_from_is_err_and}
 use Rattle.rtsp_client.specs.Takings.{sight}
 use Rattle.rtsp_client.proofs.Taking.{stopped-on, taken-none, taken-on}
 use Rattle.rtsp_client.proofs.clients.Client.take_up.Goals as goal
@@ -14,8 +13,7 @@ elements-init g c = (
 
 pub returns-in_err-more-clause-stopped : goal.returns-in_err-more-clause-stopped
 returns-in_err-more-clause-stopped g c =
-    let p = err_from_is_err_and c.from_residual.result c.from_residual.ensures.1 in
-    rw (p.1, p.2)
+    rw c.from_residual.ensures
     (λ h k.
     stopped-on {u = sight (g.K.Link.told c.take_next.new.link) (g.O.Sink.written c.take_next.new.out)}
     (c.elements.invariant.3 h k) (λ i ki. c.in_err-more.ensures.stopped i ki))
