@@ -26,7 +26,7 @@ use Rattle.day_run.specs.Balanced.{AreHeldOf, IsBalanced, IsReady, share_of}
 use Rattle.day_run.proofs.Balances.{IsShut, balanced-halt, balanced-play, balanced-same, balanced-sent}
 use Rattle.day_run.proofs.BalancedSlots.{balanced-slot, pausing-share}
 use Rattle.day_run.proofs.Takings.{ClientOf, IsPlayTaken, LineStep, LinesTaken, StandingLine}
-use Rattle.day_run.proofs.Takings.{StandingLines, first-standing, rest-standing, standing_of}
+use Rattle.day_run.proofs.Takings.{StandingLines, first-standing, rest-standing, standing-of}
 
 pub ready-kept : (old new : Moment) → new ≡ old → IsReady old → IsReady new
 ready-kept old new kept ready =
@@ -254,7 +254,7 @@ run-ready {old} {new} link (l ∷ ls) (t ∷ texts) standing run ready =
 
 -- the lines of a script leave a day ready
 pub taken-ready : {link : Link} {n : ℕ} (taken : LinesTaken link n) → IsReady taken.moment
-taken-ready {link} taken = run-ready link taken.lines taken.texts (standing_of taken) taken.run morning-ready
+taken-ready {link} taken = run-ready link taken.lines taken.texts (standing-of taken) taken.run morning-ready
 
 -- after the lines of a script, what is sent up to a slot is what is booked up to there
 pub day-sent : {link : Link} {n : ℕ} (taken : LinesTaken link n) (slot : ℕ) → taken.moment.heard ≤ slot

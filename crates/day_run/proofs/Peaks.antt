@@ -15,8 +15,8 @@ peak-slots f a n j at = ap (fold max 0) (map-range_with_len_more f a n j at)
     ∙ peak-push (map f (range_with_len a n)) (f j)
 
 -- the greater of two numbers, as `max` of the code tells it
-pub max_by_order : (a b : ℕ) → ord_max nat_cmp a b ≡ max a b
-max_by_order a b = grind arith
+pub max-by-order : (a b : ℕ) → ord_max nat_cmp a b ≡ max a b
+max-by-order a b = grind arith
 
 -- the most through a slot
 pub peak-next : {slot peak here : ℕ} (f : ℕ → ℕ) (from : ℕ) → from + 1 ≤ slot

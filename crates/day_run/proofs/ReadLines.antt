@@ -58,9 +58,9 @@ next-line lines k line rest h =
       left = sym (drop-drop 1 k lines) ∙ ap (drop 1) h;
     }
 
-then_some : (o : Option Reading) → option_and_then (λ (n : Reading). Some n) o ≡ o
-then_some None = refl
-then_some (Some r) = refl
+then-some : (o : Option Reading) → option_and_then (λ (n : Reading). Some n) o ≡ o
+then-some None = refl
+then-some (Some r) = refl
 
 reads-on : (o : Option Reading) (r : Reading) (lines : List (List ℕ)) (line : List ℕ)
     → ((n : Reading) → lines_read n lines ≡ Some r → lines_read n (lines ++ line ∷ []) ≡ line_read r line)
@@ -72,7 +72,7 @@ reads-on (Some n) r lines line again h = again n h
 -- what is read of lines and one more
 pub reads-more : (begun r : Reading) (lines : List (List ℕ)) (line : List ℕ) → lines_read begun lines ≡ Some r
     → lines_read begun (lines ++ line ∷ []) ≡ line_read r line
-reads-more begun r [] line h = then_some (line_read begun line) ∙ ap (λ x. line_read x line) (cc h)
+reads-more begun r [] line h = then-some (line_read begun line) ∙ ap (λ x. line_read x line) (cc h)
 reads-more begun r (l ∷ lines) line h = reads-on (line_read begun l) r lines line (λ n e. reads-more n r lines line e) h
 
 -- one more line was read

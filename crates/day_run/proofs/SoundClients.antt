@@ -38,7 +38,7 @@ use Rattle.day_run.specs.ClientStates.{ClientState, after_play, after_sending, b
 use Rattle.day_run.specs.ClientStates.{no_reel, sent_by, slot_sent}
 use Rattle.day_run.proofs.BalancedLines.{heard-after, line-ready, morning-ready, slot-ready}
 use Rattle.day_run.proofs.Takings.{ClientOf, IsPlayTaken, LineStep, LinesTaken, StandingLine, StandingLines}
-use Rattle.day_run.proofs.Takings.{first-standing, rest-standing, standing_of}
+use Rattle.day_run.proofs.Takings.{first-standing, rest-standing, standing-of}
 
 -- ---- what holds of the clients
 pub record IsSound (m : Moment) : Type 0 where
@@ -383,4 +383,4 @@ pub day-sound : {link : Link} (taken : LinesTaken link (length link.reels)) (c :
     → IsSoundClient taken.moment.heard (state_at taken.moment c)
 day-sound taken c link-is inside =
     let morning : IsSound first_moment = record { ready = morning-ready; each = idle-sound } in
-    (run-sound taken.lines taken.texts link-is (standing_of taken) morning taken.run).each c inside
+    (run-sound taken.lines taken.texts link-is (standing-of taken) morning taken.run).each c inside

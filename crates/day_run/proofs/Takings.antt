@@ -84,5 +84,5 @@ rest-standing {n} {lines} standing is =
       stands = λ i none inside. standing.stands (suc i) none (omega (arith, inside));
     })
 
-pub standing_of : {link : Link} {n : ℕ} (taken : LinesTaken link n) → StandingLines 0 n taken.lines
-standing_of taken = record { clients = taken.clients.each; stands = taken.are.each }
+pub standing-of : {link : Link} {n : ℕ} (taken : LinesTaken link n) → StandingLines 0 n taken.lines
+standing-of taken = record { clients = taken.clients.each; stands = taken.are.each }

@@ -13,7 +13,7 @@ pub record TextBefore (mid : List ℕ) : Type 0 where
   pub whole : mid ≡ before ++ text
 
 -- what was appended last is handed on
-pub then_more : {mid : List ℕ} (r : Result (Unit {0}) NoMemory) (first : TextBefore mid) (next after : List ℕ)
+pub then-more : {mid : List ℕ} (r : Result (Unit {0}) NoMemory) (first : TextBefore mid) (next after : List ℕ)
     → OnOk r (after ≡ mid ++ next) → OnOk r (after ≡ first.before ++ (first.text ++ next))
-then_more (Ok done) first next after more = both first.before first.text next first.whole more
-then_more (Err e) first next after more = tt
+then-more (Ok done) first next after more = both first.before first.text next first.whole more
+then-more (Err e) first next after more = tt

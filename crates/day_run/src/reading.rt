@@ -299,15 +299,10 @@ impl Roster {
         let key = String::from_str(self.alloc, name)?;
         let place = self.named.len();
         match kind {
-            SourceKind::Film => {
-                self.films.insert(key, place)?;
-                Ok(())
-            }
-            SourceKind::Trace => {
-                self.traces.insert(key, place)?;
-                Ok(())
-            }
-        }
+            SourceKind::Film => self.films.insert(key, place)?,
+            SourceKind::Trace => self.traces.insert(key, place)?,
+        };
+        Ok(())
     }
 
     /// Takes in a new film or trace.

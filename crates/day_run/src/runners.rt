@@ -250,7 +250,6 @@ impl<'r> Runner<'r> {
         let Ok(mut offers) = Offers::new(alloc, wait) else {
             return Err(CurveRefused::NoMemory);
         };
-        let _legal = self.book.entries();
         let calendar = self.book.calendar();
         offers.find(calendar, &plan, calendar.now().max(self.heard) + 1);
         Ok(offers)

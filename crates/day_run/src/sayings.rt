@@ -10,7 +10,7 @@ use crate::all_clients::CLIENTS;
 use crate::scripts::SourceKind;
 use admission::LATEST_SLOT;
 use early_start::MAX_WAIT;
-use vod_base::number_within;
+use vod_base::{MAX_BYTES, MAX_DELAY, number_within};
 
 /// What a play or an offer asks for; its film or trace is the line's fourth word.
 #[derive(Clone, Copy)]
@@ -91,8 +91,8 @@ fn asked_in(client: &[u8], kind: &[u8], buffer: &[u8], delay: &[u8]) -> Option<A
 {
     let client = client_in(client)?;
     let kind = kind_in(kind)?;
-    let buffer = number_within(buffer, 1, 1 << 42)?;
-    let delay = number_within(delay, 0, 10_000)?;
+    let buffer = number_within(buffer, 1, MAX_BYTES)?;
+    let delay = number_within(delay, 0, MAX_DELAY)?;
     Some(Asked {
         client,
         kind,

@@ -6,7 +6,7 @@ use Rattle.slot_calendar.specs.Calendars.{booked_at}
 use Rattle.admission.specs.Histories.{state_after}
 use Rattle.admission.specs.Machine.{booked_in}
 use Rattle.slot_calendar.proofs.Capacities.{capacity-most}
-use Rattle.day_run.proofs.Peaks.{max_by_order, peak-next, peak-past}
+use Rattle.day_run.proofs.Peaks.{max-by-order, peak-next, peak-past}
 use Rattle.day_run.proofs.SlotSums.{booked-fits, booked-more, booked-next, sum-past}
 use Rattle.day_run.proofs.sums.booked_between.Goals as goal
 
@@ -52,7 +52,7 @@ loop-slot-preserved c =
       });
       late = omega arith;
       peak =
-          c.max-peak.ensures ∙ max_by_order c.loop-slot.peak c.booked_bytes-here.result
+          c.max-peak.ensures ∙ max-by-order c.loop-slot.peak c.booked_bytes-here.result
           ∙ peak-next (booked_in state) c.args.from begun c.loop-slot.invariant.peak
           (c.booked_bytes-here.ensures.value ∙ c.calendar-calendar.ensures.stands.each c.loop-slot.slot known);
       sum =

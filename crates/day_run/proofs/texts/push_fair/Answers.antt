@@ -1,7 +1,7 @@
 use Rattle.std.proofs.Common.{◌++◌, codes}
 use Rattle.vod_base.proofs.AppendLemmas.{both}
 use Rattle.day_run.specs.Prints.{slot_words, turn_words}
-use Rattle.day_run.proofs.TextLaws.{then_more}
+use Rattle.day_run.proofs.TextLaws.{then-more}
 use Rattle.day_run.proofs.texts.push_fair.Goals as goal
 
 pub returns : goal.returns
@@ -9,7 +9,7 @@ returns c =
     let out = c.args.out.now.items in
     let turns = turn_words c.args.counts.now c.args.entries.now in
     let slots = slot_words c.args.counts.now in
-    then_more c.push.result (record {
+    then-more c.push.result (record {
       before = out;
       text = turns ++ slots;
       whole = both out turns slots c.in_ok-push_turns.ensures c.in_ok-push_slots.ensures;

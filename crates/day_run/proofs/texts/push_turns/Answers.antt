@@ -1,13 +1,13 @@
 use Rattle.std.proofs.Common.{codes}
 use Rattle.vod_base.specs.Fields.{field}
 use Rattle.day_run.specs.Prints.{entry_words, turn_words}
-use Rattle.day_run.proofs.TextLaws.{then_more}
+use Rattle.day_run.proofs.TextLaws.{then-more}
 use Rattle.day_run.proofs.texts.push_turns.Goals as goal
 
 pub returns : goal.returns
 unfolding turn_words
 returns c =
-    then_more c.push_entries.result (record {
+    then-more c.push_entries.result (record {
       before = c.args.out.now.items;
       text = field (codes "fair turns=") c.args.counts.now.turns;
       whole = c.in_ok-push_field.ensures.whole;

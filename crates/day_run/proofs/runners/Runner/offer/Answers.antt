@@ -24,7 +24,7 @@ returns c =
     let found = c.find.new.self in
     let plan = c.in_ok-plan.plan in
     let within : (t : ℕ) → booked_in state t ≤ capacity_at r.book.steps t =
-    (sound-after r.book.steps r.book.entries c.entries-legal.ensures.legal).within.each in
+    (sound-after r.book.steps r.book.entries c.calendar-calendar.ensures.legal).within.each in
     let S : List CapacityStep → Type 0 = λ s. (t : ℕ) → booked_in state t ≤ capacity_at s t in
     let late : calendar.first < c.max.result + 1 = omega arith in
     let its : StandsWithin (capacity_at calendar.steps) calendar (plays_of state) =
