@@ -24,7 +24,9 @@ use vod_base::NoMemory;
 pub struct Book {
     calendar: Calendar,
     entries: Vec<Entry>,
+    /// The most entries.
     limit: u64,
+    /// The plays that were admitted and not halted.
     open_plays: u64,
 }
 

@@ -37,14 +37,18 @@ const NOBODY: Identity = Identity {
 /// A source as it is played.
 #[derive(Drop)]
 pub(crate) enum Reel<'s> {
+    /// A film.
     Film(&'s Stored),
+    /// A trace.
     Trace(TraceReel<'s>),
 }
 
 /// All of a source as a track.
 #[derive(Drop)]
 pub(crate) enum Sending<'r> {
+    /// A film's frames and reports.
     Film(Frames<'r>),
+    /// A trace's pictures.
     Trace(&'r TraceTrack),
 }
 

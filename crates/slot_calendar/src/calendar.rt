@@ -1,4 +1,4 @@
-//! The calendar.
+//! The calendar: what is booked in each slot, and the first slot without room for a plan.
 
 ghost use Rattle.std.specs.Prelude.{◌≡◌, ◌+◌, ◌^◌, ◌<◌, ◌≤◌, ◌++◌, [], ◌∷◌, ℕ, List, IfOk};
 ghost use Rattle.std.specs.Prelude.{MatchOption};

@@ -48,7 +48,9 @@ impl Model for Profile {
 /// The capacity from a slot up to the slot `until`, where it may change.
 #[derive(Clone, Copy)]
 pub(crate) struct Span {
+    /// The capacity in bytes a slot.
     pub(crate) bytes: u64,
+    /// The first slot where it may be another one.
     pub(crate) until: u64,
 }
 

@@ -25,9 +25,13 @@ const BLOCKS: usize = 1024;
 /// read again.
 #[derive(Drop)]
 pub(crate) struct Ring {
+    /// Its now.
     first: u64,
+    /// The total of each slot in bytes.
     places: Vec<u64>,
+    /// The greatest total of each block.
     tops: Vec<u64>,
+    /// The block whose greatest total may be less than is kept of it.
     stale: Option<usize>,
 }
 
