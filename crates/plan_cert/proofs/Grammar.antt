@@ -203,8 +203,10 @@ pub record IsHeadOf (text : List ℕ) (slots bytes : ℕ) (after : List ℕ) : T
 pub head_text : {text : List ℕ} (slots bytes : ℕ) (after : List ℕ) → IsHeadOf text slots bytes after
     → text ≡ cert_head slots bytes ++ after
 head_text {text} slots bytes after given =
-    let third : after_slots ≡ (codes "bytes " ++ decimal bytes) ++ 10 ∷ after = cut3 ∙ ap (λ l. l ++ 10 ∷ after) bytes_is in
-    let second : after_title ≡ (codes "slots " ++ decimal slots) ++ 10 ∷ ((codes "bytes " ++ decimal bytes) ++ 10 ∷ after) =
+    let third : after_slots ≡ (codes "bytes " ++ decimal bytes) ++ 10 ∷ after =
+    cut3 ∙ ap (λ l. l ++ 10 ∷ after) bytes_is in
+    let second : after_title
+    ≡ (codes "slots " ++ decimal slots) ++ 10 ∷ ((codes "bytes " ++ decimal bytes) ++ 10 ∷ after) =
     cut2 ∙ ap (λ l. l ++ 10 ∷ after_slots) slots_is ∙ ap (λ r. (codes "slots " ++ decimal slots) ++ 10 ∷ r) third in
     let first : text
     ≡ codes "smooth 1" ++ 10 ∷ ((codes "slots " ++ decimal slots) ++ 10
