@@ -14,7 +14,7 @@ use Rattle.sys_demux.specs.Streams.{IsFault, IsRefused, IsSystem}
 use Rattle.sys_demux.specs.declared.faults.SystemFault.{SystemFault}
 use Rattle.sys_demux.specs.declared.faults.SystemFault.TheVariants.{NotPack, BadCode, BadPacket, Truncated}
 use Rattle.sys_demux.specs.declared.unwrapper.Unwrapper.{Unwrapper}
-use Rattle.sys_demux.proofs.Parts.{length-prefixed}
+use Rattle.sys_demux.proofs.Parts.{length_prefixed}
 use Rattle.troubles.specs.declared.faults.Fault.TheVariants.{Film, System}
 use Rattle.inputs.specs.Files.{IsFront}
 use Rattle.inputs.specs.Scans.{HasEnded, HasHeard, HasRefused, HasStreamed, HasStreamedAll, HasTaken, HasUnwrapped, IsFilmRefused, IsOpened, IsChunkRefused, IsStreamFront, WasOpened}
@@ -33,13 +33,13 @@ length-zeros count rest = omega (arith, length-append (replicate count 0) rest, 
 tail-within : (chosen : Option ℕ) (start : ℕ) (tail : List ℕ) (fault : SystemFault)
     → IsFault chosen start tail fault → place_of fault ≤ start + length tail
 tail-within chosen start tail (NotPack place) h =
-    omega (arith, h.place_is, ap length h.is, length-prefixed h.zeros (186 ∷ h.mark ∷ h.rest))
+    omega (arith, h.place_is, ap length h.is, length_prefixed h.zeros (186 ∷ h.mark ∷ h.rest))
 tail-within chosen start tail (BadCode place) (inl h) =
     omega (arith, h.place_is, ap length h.is, length-zeros h.count (h.byte ∷ h.rest))
 tail-within chosen start tail (BadCode place) (inr h) =
-    omega (arith, h.place_is, ap length h.is, length-prefixed h.zeros (h.kind ∷ h.rest))
+    omega (arith, h.place_is, ap length h.is, length_prefixed h.zeros (h.value ∷ h.rest))
 tail-within chosen start tail (BadPacket place) h =
-    omega (arith, h.place_is, ap length h.is, length-prefixed h.zeros (h.kind ∷ h.high ∷ h.low ∷ (h.front ++ h.rest)))
+    omega (arith, h.place_is, ap length h.is, length_prefixed h.zeros (h.value ∷ h.high ∷ h.low ∷ (h.front ++ h.rest)))
 tail-within chosen start tail (Truncated place) h = omega (arith, h.place_is, h.begun)
 
 pub fault_within : (bytes : List ℕ) (fault : SystemFault) → IsRefused bytes fault → place_of fault ≤ length bytes

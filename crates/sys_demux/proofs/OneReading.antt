@@ -15,7 +15,7 @@ use Rattle.sys_demux.specs.States.{IsShown}
 use Rattle.sys_demux.specs.declared.faults.SystemFault.{SystemFault}
 use Rattle.sys_demux.specs.declared.faults.SystemFault.TheVariants.{NotPack, BadCode, BadPacket}
 use Rattle.sys_demux.specs.declared.faults.SystemFault.TheVariants.{Truncated}
-use Rattle.sys_demux.proofs.Parts.{prefixed_more, length-prefixed}
+use Rattle.sys_demux.proofs.Parts.{prefixed_more, length_prefixed}
 use Rattle.sys_demux.proofs.Reached.{fault_stays}
 
 -- heads and tails of lists
@@ -131,11 +131,11 @@ bad_once {n = suc n} {m = suc m} {a} {b} r s e x y =
 -- the bytes after an item's prefix
 abbrev rest_of : Item → List ℕ
 rest_of (Pack _ rest) = 186 ∷ rest
-rest_of (Packet _ kind high low content) = kind ∷ high ∷ low ∷ content
+rest_of (Packet _ value high low content) = value ∷ high ∷ low ∷ content
 
 item_prefixed : (a : Item) → item_bytes a ≡ with_prefix (zeros_of a) (rest_of a)
 item_prefixed (Pack _ rest) = refl
-item_prefixed (Packet _ kind high low content) = refl
+item_prefixed (Packet _ value high low content) = refl
 
 -- lists of one length in front
 front_once : (a b x y : List ℕ) → a ++ x ≡ b ++ y → length a ≡ length b → (a ≡ b) × (x ≡ y)
@@ -156,14 +156,14 @@ rests_once : {a b : Item} {x y : List ℕ} (chosen : Option ℕ) → IsItem chos
 rests_once {a = Pack n r} {b = Pack m s} {x} {y} chosen p q zeros e =
     let same = front_once r s x y (tail_same 186 186 (r ++ x) (s ++ y) e) (p.eight ∙ sym q.eight) in
     record { item = ap (λ k. Pack k r) zeros ∙ ap (λ (l : List ℕ). Pack m l) same.0; rest = same.1 }
-rests_once {a = Pack n r} {b = Packet m kind high low s} {x} {y} chosen p q zeros e =
-    absurd (let bad : 186 ≡ kind =
-    head_same 186 kind (r ++ x) (high ∷ low ∷ (s ++ y)) e in omega (arith, bad, q.kind_is))
-rests_once {a = Packet n kind high low r} {b = Pack m s} {x} {y} chosen p q zeros e =
-    absurd (let bad : kind ≡ 186 =
-    head_same kind 186 (high ∷ low ∷ (r ++ x)) (s ++ y) e in omega (arith, bad, p.kind_is))
+rests_once {a = Pack n r} {b = Packet m value high low s} {x} {y} chosen p q zeros e =
+    absurd (let bad : 186 ≡ value =
+    head_same 186 value (r ++ x) (high ∷ low ∷ (s ++ y)) e in omega (arith, bad, q.value_is))
+rests_once {a = Packet n value high low r} {b = Pack m s} {x} {y} chosen p q zeros e =
+    absurd (let bad : value ≡ 186 =
+    head_same value 186 (high ∷ low ∷ (r ++ x)) (s ++ y) e in omega (arith, bad, p.value_is))
 rests_once {a = Packet n k h l r} {b = Packet m k' h' l' s} {x} {y} chosen p q zeros e =
-    let kind : k ≡ k' = head_same k k' (h ∷ l ∷ (r ++ x)) (h' ∷ l' ∷ (s ++ y)) e in
+    let value : k ≡ k' = head_same k k' (h ∷ l ∷ (r ++ x)) (h' ∷ l' ∷ (s ++ y)) e in
     let e1 : h ∷ l ∷ (r ++ x) ≡ h' ∷ l' ∷ (s ++ y) = tail_same k k' (h ∷ l ∷ (r ++ x)) (h' ∷ l' ∷ (s ++ y)) e in
     let high : h ≡ h' = head_same h h' (l ∷ (r ++ x)) (l' ∷ (s ++ y)) e1 in
     let e2 : l ∷ (r ++ x) ≡ l' ∷ (s ++ y) = tail_same h h' (l ∷ (r ++ x)) (l' ∷ (s ++ y)) e1 in
@@ -171,7 +171,7 @@ rests_once {a = Packet n k h l r} {b = Packet m k' h' l' s} {x} {y} chosen p q z
     let same =
     front_once r s x y (tail_same l l' (r ++ x) (s ++ y) e2) (omega (arith, p.length_is, q.length_is, high, low)) in
     record {
-      item = ap (λ z. Packet z k h l r) zeros ∙ ap (λ z. Packet m z h l r) kind
+      item = ap (λ z. Packet z k h l r) zeros ∙ ap (λ z. Packet m z h l r) value
           ∙ ap (λ z. Packet m k' z l r) high ∙ ap (λ z. Packet m k' h' z r) low
           ∙ ap (λ (z : List ℕ). Packet m k' h' l' z) same.0;
       rest = same.1;
@@ -196,12 +196,12 @@ from_prefix {m} {s} a x e is =
 as_prefixed : (a : Item) (x t : List ℕ) → item_bytes a ++ x ≡ t → t ≡ with_prefix (zeros_of a) (rest_of a ++ x)
 as_prefixed a x t e = sym e ∙ ap (λ (l : List ℕ). l ++ x) (item_prefixed a) ∙ prefixed_more (zeros_of a) (rest_of a) x
 
--- an item's kind is BA or above
-kind_of_item : {s : List ℕ} {kind : ℕ} (chosen : Option ℕ) (a : Item) (x : List ℕ) → IsItem chosen a
-    → rest_of a ++ x ≡ kind ∷ s → 186 ≤ kind
-kind_of_item {s} {kind} chosen (Pack n r) x p e = omega (arith, head_same 186 kind (r ++ x) s e)
-kind_of_item {s} {kind} chosen (Packet n k h l r) x p e =
-    omega (arith, p.kind_is, head_same k kind (h ∷ l ∷ (r ++ x)) s e)
+-- an item's start code value is BA or above
+value_of_item : {s : List ℕ} {value : ℕ} (chosen : Option ℕ) (a : Item) (x : List ℕ) → IsItem chosen a
+    → rest_of a ++ x ≡ value ∷ s → 186 ≤ value
+value_of_item {s} {value} chosen (Pack n r) x p e = omega (arith, head_same 186 value (r ++ x) s e)
+value_of_item {s} {value} chosen (Packet n k h l r) x p e =
+    omega (arith, p.value_is, head_same k value (h ∷ l ∷ (r ++ x)) s e)
 
 -- no item stands where the stream ends
 pub item_no_end : {t : List ℕ} (chosen : Option ℕ) (a : Item) (x : List ℕ) → IsItem chosen a → item_bytes a ++ x ≡ t
@@ -209,7 +209,7 @@ pub item_no_end : {t : List ℕ} (chosen : Option ℕ) (a : Item) (x : List ℕ)
 item_no_end {t} chosen a x p e (inl z) =
     zeros_no_prefix z.count (zeros_of a) (rest_of a ++ x) (sym z.are ∙ as_prefixed a x t e)
 item_no_end chosen a x p e (inr c) =
-    let kind = kind_of_item chosen a x p (from_prefix a x e c.is).rest in omega (arith, kind)
+    let value = value_of_item chosen a x p (from_prefix a x e c.is).rest in omega (arith, value)
 
 -- nor where a fault does
 mark_other : {rest : List ℕ} {mark : ℕ} (chosen : Option ℕ) (a : Item) (x : List ℕ) → IsItem chosen a
@@ -219,18 +219,18 @@ mark_other {rest} {mark} chosen (Pack n (b ∷ r)) x p e other =
     other (ap (λ k. k / 16) (sym (head_same b mark (r ++ x) rest (tail_same 186 186 (b ∷ (r ++ x)) (mark ∷ rest) e)))
     ∙ p.mark)
 mark_other {rest} {mark} chosen (Packet n k h l r) x p e other =
-    omega (arith, p.kind_is, head_same k 186 (h ∷ l ∷ (r ++ x)) (mark ∷ rest) e)
+    omega (arith, p.value_is, head_same k 186 (h ∷ l ∷ (r ++ x)) (mark ∷ rest) e)
 
 -- a content that stands whole has a header
 content_bad : {chosen : Option ℕ} {start place : ℕ} {t : List ℕ} (a : Item) (x : List ℕ) →
     (f : IsBadPacket chosen start t place) → IsItem chosen a →
-    rest_of a ++ x ≡ f.kind ∷ f.high ∷ f.low ∷ (f.front ++ f.rest) → ⊥
+    rest_of a ++ x ≡ f.value ∷ f.high ∷ f.low ∷ (f.front ++ f.rest) → ⊥
 content_bad (Pack n r) x f p e =
-    omega (arith, f.kind_is, head_same 186 f.kind (r ++ x) (f.high ∷ f.low ∷ (f.front ++ f.rest)) e)
+    omega (arith, f.value_is, head_same 186 f.value (r ++ x) (f.high ∷ f.low ∷ (f.front ++ f.rest)) e)
 content_bad {chosen} (Packet n k h l r) x f p e =
-    let kinds : k ≡ kind = head_same k kind (h ∷ l ∷ (r ++ x)) (high ∷ low ∷ (front ++ rest)) e in
+    let values : k ≡ value = head_same k value (h ∷ l ∷ (r ++ x)) (high ∷ low ∷ (front ++ rest)) e in
     let e1 : h ∷ l ∷ (r ++ x) ≡ high ∷ low ∷ (front ++ rest) =
-    tail_same k kind (h ∷ l ∷ (r ++ x)) (high ∷ low ∷ (front ++ rest)) e in
+    tail_same k value (h ∷ l ∷ (r ++ x)) (high ∷ low ∷ (front ++ rest)) e in
     let highs : h ≡ high = head_same h high (l ∷ (r ++ x)) (low ∷ (front ++ rest)) e1 in
     let e2 : l ∷ (r ++ x) ≡ low ∷ (front ++ rest) = tail_same h high (l ∷ (r ++ x)) (low ∷ (front ++ rest)) e1 in
     let lows : l ≡ low = head_same l low (r ++ x) (front ++ rest) e2 in
@@ -245,12 +245,12 @@ content_bad {chosen} (Packet n k h l r) x f p e =
     sym (take-append-drop (length front) r) ∙ ap (λ (t : List ℕ). t ++ drop (length front) r) fronts.0 in
     let nothing : video_in r ≡ None =
     ap video_in split ∙ none (drop (length front) r) (omega (arith, size, within, length-drop (length front) r)) in
-    let some = p.header (subst (λ z. is_chosen (choose chosen z) z ≡ true) (sym kinds) chosen_is) in
+    let some = p.header (subst (λ z. is_chosen (choose chosen z) z ≡ true) (sym values) chosen_is) in
     let bad : IsSome {T = List ℕ} None = subst (λ (o : Option (List ℕ)). IsSome o) nothing some in
     let wrong : false ≡ true = bad in
     cc
   where
-    open f use {kind, high, low, front, rest, chosen_is, within, none}
+    open f use {value, high, low, front, rest, chosen_is, within, none}
 
 -- what no item stands in front of
 Stops : Option ℕ → List ℕ → Type 0
@@ -263,7 +263,7 @@ fault_stops chosen start t (NotPack place) f = λ a x p e. mark_other chosen a x
 fault_stops chosen start t (BadCode place) (inl f) =
     λ a x p e. byte_no_prefix (zeros_of a) (rest_of a ++ x) f (as_prefixed a x t e)
 fault_stops chosen start t (BadCode place) (inr f) = λ a x p e.
-    let kind = kind_of_item chosen a x p (from_prefix a x e f.is).rest in omega (arith, kind, f.low)
+    let value = value_of_item chosen a x p (from_prefix a x e f.is).rest in omega (arith, value, f.low)
 fault_stops chosen start t (BadPacket place) f = λ a x p e. content_bad a x f p (from_prefix a x e f.is).rest
 fault_stops chosen start t (Truncated place) f = λ a x p e.
     let same = item_once chosen p f.is_item
@@ -272,9 +272,9 @@ fault_stops chosen start t (Truncated place) f = λ a x p e.
     omega (arith, ap length same.rest, length-append x f.lacking, f.some)
 
 -- where the stream ends or a fault stands
-kinds_once : {t : List ℕ} {z w k j : ℕ} (r s : List ℕ) → t ≡ with_prefix z (k ∷ r) → t ≡ with_prefix w (j ∷ s)
+values_once : {t : List ℕ} {z w k j : ℕ} (r s : List ℕ) → t ≡ with_prefix z (k ∷ r) → t ≡ with_prefix w (j ∷ s)
     → (z ≡ w) × (k ≡ j)
-kinds_once {z} {w} {k} {j} r s a b =
+values_once {z} {w} {k} {j} r s a b =
     let same = prefix_once z w (k ∷ r) (j ∷ s) (sym a ∙ b) in
     (same.zeros, head_same k j r s same.rest)
 
@@ -283,7 +283,7 @@ front_prefixed : (t l r : List ℕ) (z : ℕ) → t ++ l ≡ with_prefix z r →
     → t ≡ with_prefix z (drop (z + 3) t)
 front_prefixed t l r z e long =
     let size : length (take (z + 3) t) ≡ length (with_prefix z []) =
-    length-take-le (z + 3) t long ∙ sym (length-prefixed z [] ∙ omega arith) in
+    length-take-le (z + 3) t long ∙ sym (length_prefixed z [] ∙ omega arith) in
     let fronts = front_once (take (z + 3) t) (with_prefix z []) (drop (z + 3) t ++ l) r
     (sym (append_assoc (take (z + 3) t) (drop (z + 3) t) l)
     ∙ ap (λ (x : List ℕ). x ++ l) (take-append-drop (z + 3) t) ∙ e ∙ sym (prefixed_more z [] r)) size in
@@ -311,18 +311,18 @@ pub end_no_fault : (chosen : Option ℕ) (start : ℕ) (t : List ℕ) (fault : S
 end_no_fault chosen start t (NotPack place) (inl z) f =
     zeros_no_prefix z.count f.zeros (186 ∷ f.mark ∷ f.rest) (sym z.are ∙ f.is)
 end_no_fault chosen start t (NotPack place) (inr c) f = let bad =
-    (kinds_once c.rest (f.mark ∷ f.rest) c.is f.is).1 in omega (arith, bad)
+    (values_once c.rest (f.mark ∷ f.rest) c.is f.is).1 in omega (arith, bad)
 end_no_fault chosen start t (BadCode place) (inl z) (inl f) =
     zeros_no_bad z.count f.count f.byte f.rest (sym z.are ∙ f.is) f.some
 end_no_fault chosen start t (BadCode place) (inl z) (inr f) =
-    zeros_no_prefix z.count f.zeros (f.kind ∷ f.rest) (sym z.are ∙ f.is)
+    zeros_no_prefix z.count f.zeros (f.value ∷ f.rest) (sym z.are ∙ f.is)
 end_no_fault chosen start t (BadCode place) (inr c) (inl f) = byte_no_prefix c.zeros (185 ∷ c.rest) f c.is
 end_no_fault chosen start t (BadCode place) (inr c) (inr f) = let bad =
-    (kinds_once c.rest f.rest c.is f.is).1 in omega (arith, bad, f.low)
+    (values_once c.rest f.rest c.is f.is).1 in omega (arith, bad, f.low)
 end_no_fault chosen start t (BadPacket place) (inl z) f =
-    zeros_no_prefix z.count f.zeros (f.kind ∷ f.high ∷ f.low ∷ (f.front ++ f.rest)) (sym z.are ∙ f.is)
+    zeros_no_prefix z.count f.zeros (f.value ∷ f.high ∷ f.low ∷ (f.front ++ f.rest)) (sym z.are ∙ f.is)
 end_no_fault chosen start t (BadPacket place) (inr c) f =
-    let bad = (kinds_once c.rest (f.high ∷ f.low ∷ (f.front ++ f.rest)) c.is f.is).1 in omega (arith, bad, f.kind_is)
+    let bad = (values_once c.rest (f.high ∷ f.low ∷ (f.front ++ f.rest)) c.is f.is).1 in omega (arith, bad, f.value_is)
 end_no_fault chosen start t (Truncated place) (inl z) f =
     zeros_no_prefix z.count (zeros_of f.item) (drop (zeros_of f.item + 3) t)
     (sym z.are ∙ cut_prefixed chosen start t place f)
@@ -341,44 +341,46 @@ places_same {place} {m} start a b e = omega (arith, a, b, e)
 fault_once : {one other : SystemFault} (chosen : Option ℕ) (start : ℕ) (t : List ℕ) → IsFault chosen start t one
     → IsFault chosen start t other → one ≡ other
 fault_once {one = NotPack p} {other = NotPack q} chosen start t f g =
-    ap NotPack (places_same start f.place_is g.place_is (kinds_once (f.mark ∷ f.rest) (g.mark ∷ g.rest) f.is g.is).0)
+    ap NotPack (places_same start f.place_is g.place_is (values_once (f.mark ∷ f.rest) (g.mark ∷ g.rest) f.is g.is).0)
 fault_once {one = NotPack p} {other = BadCode q} chosen start t f (inl g) =
     absurd (byte_no_prefix f.zeros (186 ∷ f.mark ∷ f.rest) g f.is)
 fault_once {one = NotPack p} {other = BadCode q} chosen start t f (inr g) =
-    absurd (let bad = (kinds_once (f.mark ∷ f.rest) g.rest f.is g.is).1 in omega (arith, bad, g.low))
+    absurd (let bad = (values_once (f.mark ∷ f.rest) g.rest f.is g.is).1 in omega (arith, bad, g.low))
 fault_once {one = NotPack p} {other = BadPacket q} chosen start t f g =
     absurd (let bad =
-    (kinds_once (f.mark ∷ f.rest) (g.high ∷ g.low ∷ (g.front ++ g.rest)) f.is g.is).1 in omega (arith, bad, g.kind_is))
+    (values_once (f.mark ∷ f.rest) (g.high ∷ g.low ∷ (g.front ++ g.rest)) f.is g.is).1 in
+    omega (arith, bad, g.value_is))
 fault_once {one = NotPack p} {other = Truncated q} chosen start t f g = absurd (cut_shows_none (NotPack p) g tt f)
 fault_once {one = BadCode p} {other = NotPack q} chosen start t (inl f) g =
     absurd (byte_no_prefix g.zeros (186 ∷ g.mark ∷ g.rest) f g.is)
 fault_once {one = BadCode p} {other = NotPack q} chosen start t (inr f) g =
-    absurd (let bad = (kinds_once f.rest (g.mark ∷ g.rest) f.is g.is).1 in omega (arith, bad, f.low))
+    absurd (let bad = (values_once f.rest (g.mark ∷ g.rest) f.is g.is).1 in omega (arith, bad, f.low))
 fault_once {one = BadCode p} {other = BadCode q} chosen start t (inl f) (inl g) =
     ap BadCode (places_same start f.place_is g.place_is (bad_once f.rest g.rest (sym f.is ∙ g.is) f.some g.some))
 fault_once {one = BadCode p} {other = BadCode q} chosen start t (inl f) (inr g) =
-    absurd (byte_no_prefix g.zeros (g.kind ∷ g.rest) f g.is)
+    absurd (byte_no_prefix g.zeros (g.value ∷ g.rest) f g.is)
 fault_once {one = BadCode p} {other = BadCode q} chosen start t (inr f) (inl g) =
-    absurd (byte_no_prefix f.zeros (f.kind ∷ f.rest) g f.is)
+    absurd (byte_no_prefix f.zeros (f.value ∷ f.rest) g f.is)
 fault_once {one = BadCode p} {other = BadCode q} chosen start t (inr f) (inr g) =
-    ap BadCode (places_same start f.place_is g.place_is (kinds_once f.rest g.rest f.is g.is).0)
+    ap BadCode (places_same start f.place_is g.place_is (values_once f.rest g.rest f.is g.is).0)
 fault_once {one = BadCode p} {other = BadPacket q} chosen start t (inl f) g =
-    absurd (byte_no_prefix g.zeros (g.kind ∷ g.high ∷ g.low ∷ (g.front ++ g.rest)) f g.is)
+    absurd (byte_no_prefix g.zeros (g.value ∷ g.high ∷ g.low ∷ (g.front ++ g.rest)) f g.is)
 fault_once {one = BadCode p} {other = BadPacket q} chosen start t (inr f) g =
     absurd (let bad =
-    (kinds_once f.rest (g.high ∷ g.low ∷ (g.front ++ g.rest)) f.is g.is).1 in omega (arith, bad, f.low, g.kind_is))
+    (values_once f.rest (g.high ∷ g.low ∷ (g.front ++ g.rest)) f.is g.is).1 in omega (arith, bad, f.low, g.value_is))
 fault_once {one = BadCode p} {other = Truncated q} chosen start t f g = absurd (cut_shows_none (BadCode p) g tt f)
 fault_once {one = BadPacket p} {other = NotPack q} chosen start t f g =
     absurd (let bad =
-    (kinds_once (f.high ∷ f.low ∷ (f.front ++ f.rest)) (g.mark ∷ g.rest) f.is g.is).1 in omega (arith, bad, f.kind_is))
+    (values_once (f.high ∷ f.low ∷ (f.front ++ f.rest)) (g.mark ∷ g.rest) f.is g.is).1 in
+    omega (arith, bad, f.value_is))
 fault_once {one = BadPacket p} {other = BadCode q} chosen start t f (inl g) =
-    absurd (byte_no_prefix f.zeros (f.kind ∷ f.high ∷ f.low ∷ (f.front ++ f.rest)) g f.is)
+    absurd (byte_no_prefix f.zeros (f.value ∷ f.high ∷ f.low ∷ (f.front ++ f.rest)) g f.is)
 fault_once {one = BadPacket p} {other = BadCode q} chosen start t f (inr g) =
     absurd (let bad =
-    (kinds_once (f.high ∷ f.low ∷ (f.front ++ f.rest)) g.rest f.is g.is).1 in omega (arith, bad, g.low, f.kind_is))
+    (values_once (f.high ∷ f.low ∷ (f.front ++ f.rest)) g.rest f.is g.is).1 in omega (arith, bad, g.low, f.value_is))
 fault_once {one = BadPacket p} {other = BadPacket q} chosen start t f g =
     ap BadPacket (places_same start f.place_is g.place_is
-    (kinds_once (f.high ∷ f.low ∷ (f.front ++ f.rest)) (g.high ∷ g.low ∷ (g.front ++ g.rest)) f.is g.is).0)
+    (values_once (f.high ∷ f.low ∷ (f.front ++ f.rest)) (g.high ∷ g.low ∷ (g.front ++ g.rest)) f.is g.is).0)
 fault_once {one = BadPacket p} {other = Truncated q} chosen start t f g = absurd (cut_shows_none (BadPacket p) g tt f)
 fault_once {one = Truncated p} {other = NotPack q} chosen start t f g = absurd (cut_shows_none (NotPack q) f tt g)
 fault_once {one = Truncated p} {other = BadCode q} chosen start t f g = absurd (cut_shows_none (BadCode q) f tt g)

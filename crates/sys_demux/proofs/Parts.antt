@@ -21,8 +21,8 @@ use Rattle.sys_demux.specs.declared.places.Place.TheVariants.{Zeros, InHeader, P
 pub prefixed_more : (zeros : ℕ) (rest more : List ℕ) → with_prefix zeros rest ++ more ≡ with_prefix zeros (rest ++ more)
 prefixed_more zeros rest more = append_assoc (replicate zeros 0) (0 ∷ 0 ∷ 1 ∷ rest) more
 
-pub length-prefixed : (zeros : ℕ) (rest : List ℕ) → length (with_prefix zeros rest) ≡ zeros + 3 + length rest
-length-prefixed zeros rest =
+pub length_prefixed : (zeros : ℕ) (rest : List ℕ) → length (with_prefix zeros rest) ≡ zeros + 3 + length rest
+length_prefixed zeros rest =
     length-append (replicate zeros 0) (0 ∷ 0 ∷ 1 ∷ rest) ∙ omega (arith, length-replicate {A = ℕ} zeros 0)
 
 -- bytes 00
@@ -68,7 +68,7 @@ pack_begins {start} {place} {part} {kept} mark h is =
     ap (λ (l : List ℕ). l ++ mark ∷ []) h.are ∙ prefixed_more h.zeros (186 ∷ []) (mark ∷ []) in
     record {
       zeros = h.zeros;
-      begun = omega (arith, ap length grown, length-prefixed h.zeros (186 ∷ mark ∷ []));
+      begun = omega (arith, ap length grown, length_prefixed h.zeros (186 ∷ mark ∷ []));
       some = omega arith;
       ends = λ rest long. record {
         item = Pack h.zeros (mark ∷ rest);
@@ -81,41 +81,41 @@ pack_begins {start} {place} {part} {kept} mark h is =
       place_is = h.place_is;
     }
 
--- a whole packet of another kind
-other_done : {before : Option ℕ} {kind high start place : ℕ} {now : Option ℕ} {part kept : List ℕ} (low : ℕ)
-    (rest : List ℕ) → (h : IsAtPrefix start place (kind ∷ high ∷ []) now (choose before kind) part kept) → 187 ≤ kind →
-    is_chosen (choose before kind) kind ≡ false → length rest ≡ high * 256 + low
+-- a whole packet of another stream
+other_done : {before : Option ℕ} {value high start place : ℕ} {now : Option ℕ} {part kept : List ℕ} (low : ℕ)
+    (rest : List ℕ) → (h : IsAtPrefix start place (value ∷ high ∷ []) now (choose before value) part kept)
+    → 187 ≤ value → is_chosen (choose before value) value ≡ false → length rest ≡ high * 256 + low
     → IsDone before h.zeros now ((part ++ low ∷ []) ++ rest) kept
-other_done {before} {kind} {high} {start} {place} {kept} low rest h kind_is other long = record {
-  item = Packet h.zeros kind high low rest;
+other_done {before} {value} {high} {start} {place} {kept} low rest h value_is other long = record {
+  item = Packet h.zeros value high low rest;
   is_item = record {
-    kind_is = kind_is;
+    value_is = value_is;
     length_is = long;
-    header = λ chosen. absurd (both_ways (is_chosen (choose before kind) kind) other chosen);
+    header = λ chosen. absurd (both_ways (is_chosen (choose before value) value) other chosen);
   };
   bytes_are = sym
       (ap (λ (l : List ℕ). (l ++ low ∷ []) ++ rest) h.are
-      ∙ ap (λ (l : List ℕ). l ++ rest) (prefixed_more h.zeros (kind ∷ high ∷ []) (low ∷ []))
-      ∙ prefixed_more h.zeros (kind ∷ high ∷ low ∷ []) rest);
+      ∙ ap (λ (l : List ℕ). l ++ rest) (prefixed_more h.zeros (value ∷ high ∷ []) (low ∷ []))
+      ∙ prefixed_more h.zeros (value ∷ high ∷ low ∷ []) rest);
   zeros_are = refl;
   next_is = sym h.now_is;
-  video_is = cond-false (is_chosen (choose before kind) kind) (unwrap_or (video_in rest) []) [] other ∙ sym h.none;
+  video_is = cond-false (is_chosen (choose before value) value) (unwrap_or (video_in rest) []) [] other ∙ sym h.none;
 }
 
-length_more : {part : List ℕ} (rest : List ℕ) (zeros kind high low : ℕ)
-    → part ≡ with_prefix zeros (kind ∷ high ∷ []) → zeros + 3 ≤ length (part ++ low ∷ [])
-length_more {part} rest zeros kind high low are =
-    omega (arith, ap length are, length-prefixed zeros (kind ∷ high ∷ []), length-append part (low ∷ []))
+length_more : {part : List ℕ} (rest : List ℕ) (zeros value high low : ℕ)
+    → part ≡ with_prefix zeros (value ∷ high ∷ []) → zeros + 3 ≤ length (part ++ low ∷ [])
+length_more {part} rest zeros value high low are =
+    omega (arith, ap length are, length_prefixed zeros (value ∷ high ∷ []), length-append part (low ∷ []))
 
-pub length_passed : {before : Option ℕ} {kind high total start place : ℕ} {now : Option ℕ} {part kept : List ℕ}
-    (low : ℕ) → IsAtPrefix start place (kind ∷ high ∷ []) now (choose before kind) part kept → 187 ≤ kind →
-    is_chosen (choose before kind) kind ≡ false → total ≡ high * 256 + low
+pub length_passed : {before : Option ℕ} {value high total start place : ℕ} {now : Option ℕ} {part kept : List ℕ}
+    (low : ℕ) → IsAtPrefix start place (value ∷ high ∷ []) now (choose before value) part kept → 187 ≤ value →
+    is_chosen (choose before value) value ≡ false → total ≡ high * 256 + low
     → LeadsTo (begins_at before start) place now (part ++ low ∷ []) kept (cond (total == 0) (Zeros 0) (Pass total))
-length_passed {before} {kind} {high} {total} {start} {place} {now} {part} {kept} low h kind_is other total_is =
+length_passed {before} {value} {high} {total} {start} {place} {now} {part} {kept} low h value_is other total_is =
     elim (cases_eq total 0) [
       | inl none ↦ (
           let empty : part ++ low ∷ [] ≡ (part ++ low ∷ []) ++ [] = sym (append-nil (part ++ low ∷ [])) in
-          let done = other_done low [] h kind_is other (omega (arith, none, total_is)) in
+          let done = other_done low [] h value_is other (omega (arith, none, total_is)) in
           inr (
             h.zeros,
             (
@@ -127,11 +127,11 @@ length_passed {before} {kind} {high} {total} {start} {place} {now} {part} {kept}
       | inr some ↦ (
           let at_rest : IsAtRest before start place now (part ++ low ∷ []) kept total (λ rest. []) = record {
             zeros = h.zeros;
-            begun = length_more [] h.zeros kind high low h.are;
+            begun = length_more [] h.zeros value high low h.are;
             some = omega (arith, some);
             ends = λ rest long. subst (λ (l : List ℕ). IsDone before h.zeros now ((part ++ low ∷ []) ++ rest) l)
                 (sym (append-nil kept))
-                (other_done low rest h kind_is other (long ∙ total_is));
+                (other_done low rest h value_is other (long ∙ total_is));
             place_is = h.place_is;
           } in
           inl (subst (λ s. IsPart (begins_at before start) place now (part ++ low ∷ []) kept s)
@@ -139,30 +139,30 @@ length_passed {before} {kind} {high} {total} {start} {place} {now} {part} {kept}
           )
     ]
 
--- the length of a packet of the chosen kind ends with this byte
+-- the length of a packet of the chosen stream ends with this byte
 pub record LengthRead (before : Option ℕ) (start place : ℕ) (now : Option ℕ) (part kept : List ℕ)
-    (kind low total : ℕ) : Type 0 where
+    (value low total : ℕ) : Type 0 where
   pub high : ℕ
-  pub at_prefix : IsAtPrefix start place (kind ∷ high ∷ []) now (choose before kind) part kept
-  pub kind_is : 187 ≤ kind
-  pub chosen_is : is_chosen (choose before kind) kind ≡ true
+  pub at_prefix : IsAtPrefix start place (value ∷ high ∷ []) now (choose before value) part kept
+  pub value_is : 187 ≤ value
+  pub chosen_is : is_chosen (choose before value) value ≡ true
   pub total_is : total ≡ high * 256 + low
 
 -- the packet has no content
 pub length_none : {before : Option ℕ} {start place : ℕ} {now : Option ℕ} {part kept : List ℕ}
-    {kind low total : ℕ} → LengthRead before start place now part kept kind low total →
+    {value low total : ℕ} → LengthRead before start place now part kept value low total →
     total ≡ 0 → LeadsTo (begins_at before start) place now (part ++ low ∷ []) kept (Failed (BadPacket place))
 unfolding video_in
-length_none {before} {start} {place} {part} {kind} {low} read none =
+length_none {before} {start} {place} {part} {value} {low} read none =
     let bad : IsBadPacket before start (part ++ low ∷ []) place = record {
       zeros = h.zeros;
-      kind = kind;
+      value = value;
       high = high;
       low = low;
       front = [];
       rest = [];
-      is = ap (λ (l : List ℕ). l ++ low ∷ []) h.are ∙ prefixed_more h.zeros (kind ∷ high ∷ []) (low ∷ []);
-      kind_is = kind_is;
+      is = ap (λ (l : List ℕ). l ++ low ∷ []) h.are ∙ prefixed_more h.zeros (value ∷ high ∷ []) (low ∷ []);
+      value_is = value_is;
       chosen_is = chosen_is;
       within = omega arith;
       none =
@@ -172,22 +172,22 @@ length_none {before} {start} {place} {part} {kind} {low} read none =
     } in
     inl (bad, h.none, tt)
   where
-    open read use {high, at_prefix as h, kind_is, chosen_is, total_is}
+    open read use {high, at_prefix as h, value_is, chosen_is, total_is}
 
 -- the packet has some content
 pub length_header : {before : Option ℕ} {start place : ℕ} {now : Option ℕ} {part kept : List ℕ}
-    {kind low total : ℕ} → LengthRead before start place now part kept kind low total →
+    {value low total : ℕ} → LengthRead before start place now part kept value low total →
     LeadsTo (begins_at before start) place now (part ++ low ∷ []) kept (InHeader (Stuffing 0) total)
 unfolding video_in
-length_header {kind} {low} read =
+length_header {value} {low} read =
     inl (record {
       zeros = h.zeros;
-      kind = kind;
+      value = value;
       high = high;
       low = low;
       front = [];
-      are = ap (λ (l : List ℕ). l ++ low ∷ []) h.are ∙ prefixed_more h.zeros (kind ∷ high ∷ []) (low ∷ []);
-      kind_is = kind_is;
+      are = ap (λ (l : List ℕ). l ++ low ∷ []) h.are ∙ prefixed_more h.zeros (value ∷ high ∷ []) (low ∷ []);
+      value_is = value_is;
       chosen_is = chosen_is;
       length_is = omega (arith, total_is);
       video_is = λ rest long. refl;
@@ -196,7 +196,7 @@ length_header {kind} {low} read =
       none = h.none;
     })
   where
-    open read use {high, at_prefix as h, kind_is, chosen_is, total_is}
+    open read use {high, at_prefix as h, value_is, chosen_is, total_is}
 
 -- one byte more of a content
 front_more : {part : List ℕ} (zeros : ℕ) (front : List ℕ) (byte : ℕ) → part ≡ with_prefix zeros front
@@ -212,15 +212,15 @@ header_bad {chosen} {start} {place} {left} {part} {kept} {header} byte h none =
     let size : length (h.front ++ byte ∷ []) ≡ length h.front + 1 = length-append h.front (byte ∷ []) in
     let bad : IsBadPacket chosen start (part ++ byte ∷ []) place = record {
       zeros = h.zeros;
-      kind = h.kind;
+      value = h.value;
       high = h.high;
       low = h.low;
       front = h.front ++ byte ∷ [];
       rest = [];
-      is = front_more h.zeros (h.kind ∷ h.high ∷ h.low ∷ h.front) byte h.are
-          ∙ ap (λ (l : List ℕ). with_prefix h.zeros (h.kind ∷ h.high ∷ h.low ∷ l))
+      is = front_more h.zeros (h.value ∷ h.high ∷ h.low ∷ h.front) byte h.are
+          ∙ ap (λ (l : List ℕ). with_prefix h.zeros (h.value ∷ h.high ∷ h.low ∷ l))
           (sym (append-nil (h.front ++ byte ∷ [])));
-      kind_is = h.kind_is;
+      value_is = h.value_is;
       chosen_is = h.chosen_is;
       within = omega (arith, size, h.length_is);
       none = λ more long.
@@ -231,7 +231,7 @@ header_bad {chosen} {start} {place} {left} {part} {kept} {header} byte h none =
     } in
     inl (bad, h.none, tt)
 
--- a whole packet of the chosen kind
+-- a whole packet of the chosen stream
 chosen_done : {chosen : Option ℕ} {start place left : ℕ} {now : Option ℕ} {part kept video : List ℕ}
     {header : Header} (byte : ℕ) (rest : List ℕ) → (h : IsAtHeader chosen start place now part kept header (left + 1)) →
     length rest ≡ left → video_from header (byte ∷ rest) ≡ Some video
@@ -242,9 +242,9 @@ chosen_done {chosen} {start} {place} {left} {kept} {video} {header} byte rest h 
     ap video_in (append_assoc h.front (byte ∷ []) rest) ∙ h.video_is (byte ∷ rest) (omega (arith, long)) ∙ is in
     let P : Option (List ℕ) → Type 0 = IsSome in
     record {
-      item = Packet h.zeros h.kind h.high h.low content;
+      item = Packet h.zeros h.value h.high h.low content;
       is_item = record {
-        kind_is = h.kind_is;
+        value_is = h.value_is;
         length_is = omega (
           arith,
           length-append (h.front ++ byte ∷ []) rest,
@@ -255,11 +255,11 @@ chosen_done {chosen} {start} {place} {left} {kept} {video} {header} byte rest h 
         header = λ _. subst P (sym found) refl;
       };
       bytes_are = sym
-          (ap (λ (l : List ℕ). l ++ rest) (front_more h.zeros (h.kind ∷ h.high ∷ h.low ∷ h.front) byte h.are)
-          ∙ prefixed_more h.zeros (h.kind ∷ h.high ∷ h.low ∷ (h.front ++ byte ∷ [])) rest);
+          (ap (λ (l : List ℕ). l ++ rest) (front_more h.zeros (h.value ∷ h.high ∷ h.low ∷ h.front) byte h.are)
+          ∙ prefixed_more h.zeros (h.value ∷ h.high ∷ h.low ∷ (h.front ++ byte ∷ [])) rest);
       zeros_are = refl;
       next_is = sym h.now_is;
-      video_is = cond-true (is_chosen (choose chosen h.kind) h.kind) (unwrap_or (video_in content) []) []
+      video_is = cond-true (is_chosen (choose chosen h.value) h.value) (unwrap_or (video_in content) []) []
           h.chosen_is ∙ ap (λ o. unwrap_or o []) found ∙ sym (ap (λ (l : List ℕ). l ++ video) h.none);
     }
 
@@ -275,12 +275,12 @@ goes_on {start} {place} {left} {kept} {header} {next} byte h same =
     let size : length (h.front ++ byte ∷ []) ≡ length h.front + 1 = length-append h.front (byte ∷ []) in
     record {
       zeros = h.zeros;
-      kind = h.kind;
+      value = h.value;
       high = h.high;
       low = h.low;
       front = h.front ++ byte ∷ [];
-      are = front_more h.zeros (h.kind ∷ h.high ∷ h.low ∷ h.front) byte h.are;
-      kind_is = h.kind_is;
+      are = front_more h.zeros (h.value ∷ h.high ∷ h.low ∷ h.front) byte h.are;
+      value_is = h.value_is;
       chosen_is = h.chosen_is;
       length_is = omega (arith, size, h.length_is);
       video_is = λ rest long. ap video_in (append_assoc h.front (byte ∷ []) rest)
@@ -315,7 +315,7 @@ video_begins {chosen} {start} {place} {left} {now} {part} {kept} {header} byte h
             begun = omega (
               arith,
               ap length h.are,
-              length-prefixed h.zeros (h.kind ∷ h.high ∷ h.low ∷ h.front),
+              length_prefixed h.zeros (h.value ∷ h.high ∷ h.low ∷ h.front),
               length-append part (byte ∷ []),
             );
             some = omega (arith, some);
@@ -419,12 +419,12 @@ video_leads {chosen} {start} {place} {left} {count} {now} {part} {kept} taken h 
     ]
 
 -- the first byte of a packet's length
-pub high_more : {start place kind byte : ℕ} {now wanted : Option ℕ} {part kept : List ℕ}
-    → IsAtPrefix start place (kind ∷ []) now wanted part kept
-    → IsAtPrefix start place (kind ∷ byte ∷ []) now wanted (part ++ byte ∷ []) kept
-high_more {start} {place} {kind} {byte} {kept} h = record {
+pub high_more : {start place value byte : ℕ} {now wanted : Option ℕ} {part kept : List ℕ}
+    → IsAtPrefix start place (value ∷ []) now wanted part kept
+    → IsAtPrefix start place (value ∷ byte ∷ []) now wanted (part ++ byte ∷ []) kept
+high_more {start} {place} {value} {byte} {kept} h = record {
   zeros = h.zeros;
-  are = ap (λ (l : List ℕ). l ++ byte ∷ []) h.are ∙ prefixed_more h.zeros (kind ∷ []) (byte ∷ []);
+  are = ap (λ (l : List ℕ). l ++ byte ∷ []) h.are ∙ prefixed_more h.zeros (value ∷ []) (byte ∷ []);
   place_is = h.place_is;
   now_is = h.now_is;
   none = h.none;

@@ -22,10 +22,10 @@ use Rattle.sys_demux.specs.declared.faults.SystemFault.TheVariants.{Truncated}
 use Rattle.sys_demux.specs.declared.headers.Header.{Header}
 use Rattle.sys_demux.specs.declared.headers.Header.TheVariants.{Stuffing, Second, Stamp, Rest}
 use Rattle.sys_demux.specs.declared.places.Place.{Place}
-use Rattle.sys_demux.specs.declared.places.Place.TheVariants.{Zeros, Kind, Mark, High, Low}
+use Rattle.sys_demux.specs.declared.places.Place.TheVariants.{Zeros, Value, Mark, High, Low}
 use Rattle.sys_demux.specs.declared.places.Place.TheVariants.{InHeader, Pass, Video, End, Failed}
 use Rattle.sys_demux.proofs.ContentSteps.{stuffing_ends}
-use Rattle.sys_demux.proofs.Parts.{prefixed_more, length-prefixed}
+use Rattle.sys_demux.proofs.Parts.{prefixed_more, length_prefixed}
 
 -- items and one more
 are_more : (chosen : Option ℕ) (items : List Item) (item : Item) → AreItems chosen items
@@ -164,9 +164,9 @@ fault_stays {tail} {fault = BadCode place} more shows =
       })
       | inr f ↦ inr (record {
         zeros = f.zeros;
-        kind = f.kind;
+        value = f.value;
         rest = f.rest ++ more;
-        is = ap (λ (l : List ℕ). l ++ more) f.is ∙ prefixed_more f.zeros (f.kind ∷ f.rest) more;
+        is = ap (λ (l : List ℕ). l ++ more) f.is ∙ prefixed_more f.zeros (f.value ∷ f.rest) more;
         low = f.low;
         place_is = f.place_is;
       })
@@ -175,16 +175,16 @@ fault_stays {fault = BadPacket place} more shows =
     let f = shows.fault_is in
     record {
       zeros = f.zeros;
-      kind = f.kind;
+      value = f.value;
       high = f.high;
       low = f.low;
       front = f.front;
       rest = f.rest ++ more;
       is =
           ap (λ (l : List ℕ). l ++ more) f.is
-          ∙ prefixed_more f.zeros (f.kind ∷ f.high ∷ f.low ∷ (f.front ++ f.rest)) more
-          ∙ ap (λ (l : List ℕ). with_prefix f.zeros (f.kind ∷ f.high ∷ f.low ∷ l)) (append_assoc f.front f.rest more);
-      kind_is = f.kind_is;
+          ∙ prefixed_more f.zeros (f.value ∷ f.high ∷ f.low ∷ (f.front ++ f.rest)) more
+          ∙ ap (λ (l : List ℕ). with_prefix f.zeros (f.value ∷ f.high ∷ f.low ∷ l)) (append_assoc f.front f.rest more);
+      value_is = f.value_is;
       chosen_is = f.chosen_is;
       within = f.within;
       none = f.none;
@@ -252,17 +252,17 @@ header_cut {start} {place} {kept} {header} {left} h some enough =
     let end = can_end header left enough in
     let found : video_in (h.front ++ end.rest) ≡ Some end.video = h.video_is end.rest end.long ∙ end.is in
     record {
-      item = Packet h.zeros h.kind h.high h.low (h.front ++ end.rest);
+      item = Packet h.zeros h.value h.high h.low (h.front ++ end.rest);
       lacking = end.rest;
       is_item = record {
-        kind_is = h.kind_is;
+        value_is = h.value_is;
         length_is = omega (arith, length-append h.front end.rest, end.long, h.length_is);
         header = λ _. subst (λ (o : Option (List ℕ)). IsSome o) (sym found) refl;
       };
       is =
           sym (ap (λ (l : List ℕ). l ++ end.rest) h.are
-          ∙ prefixed_more h.zeros (h.kind ∷ h.high ∷ h.low ∷ h.front) end.rest);
-      begun = omega (arith, ap length h.are, length-prefixed h.zeros (h.kind ∷ h.high ∷ h.low ∷ h.front));
+          ∙ prefixed_more h.zeros (h.value ∷ h.high ∷ h.low ∷ h.front) end.rest);
+      begun = omega (arith, ap length h.are, length_prefixed h.zeros (h.value ∷ h.high ∷ h.low ∷ h.front));
       some = omega (arith, end.long, some, enough);
       place_is = h.place_is;
     }
@@ -302,23 +302,23 @@ prefix_cut {start} {rest} h whole = record {
   lacking = lacking;
   is_item = is_item h.zeros;
   is = bytes_are h.zeros ∙ sym (ap (λ (l : List ℕ). l ++ lacking) h.are ∙ prefixed_more h.zeros rest lacking);
-  begun = omega (arith, zeros_are h.zeros, ap length h.are, length-prefixed h.zeros rest);
+  begun = omega (arith, zeros_are h.zeros, ap length h.are, length_prefixed h.zeros rest);
   some = some;
   place_is = h.place_is ∙ ap (λ n. start + n) (sym (zeros_are h.zeros));
 }
   where
     open whole use {lacking, item, is_item, zeros_are, bytes_are, some}
 
-packet_whole : (chosen : Option ℕ) (kind high : ℕ) → 187 ≤ kind
-    → IsPacket chosen kind high 1 (15 ∷ replicate (high * 256) 0)
+packet_whole : (chosen : Option ℕ) (value high : ℕ) → 187 ≤ value
+    → IsPacket chosen value high 1 (15 ∷ replicate (high * 256) 0)
 unfolding video_in
-packet_whole chosen kind high kind_is = record {
-  kind_is = kind_is;
+packet_whole chosen value high value_is = record {
+  value_is = value_is;
   length_is = omega (arith, length-replicate {A = ℕ} (high * 256) 0);
   header = λ _. refl;
 }
 
--- after the prefix a pack lacks its mark, or its kind too
+-- after the prefix a pack lacks its mark, or its start code value too
 pack_lacks : {chosen : Option ℕ} → WholeItem chosen (186 ∷ [])
 pack_lacks = record {
   lacking = 32 ∷ replicate 7 0;
@@ -329,8 +329,8 @@ pack_lacks = record {
   some = omega arith;
 }
 
-kind_lacks : {chosen : Option ℕ} → WholeItem chosen []
-kind_lacks = record {
+value_lacks : {chosen : Option ℕ} → WholeItem chosen []
+value_lacks = record {
   lacking = 186 ∷ 32 ∷ replicate 7 0;
   item = λ zeros. Pack zeros (32 ∷ replicate 7 0);
   is_item = λ zeros. pack_whole;
@@ -340,21 +340,21 @@ kind_lacks = record {
 }
 
 -- and a packet a byte of its length, or both
-low_lacks : (chosen : Option ℕ) (kind high : ℕ) → 187 ≤ kind → WholeItem chosen (kind ∷ high ∷ [])
-low_lacks chosen kind high kind_is = record {
+low_lacks : (chosen : Option ℕ) (value high : ℕ) → 187 ≤ value → WholeItem chosen (value ∷ high ∷ [])
+low_lacks chosen value high value_is = record {
   lacking = 1 ∷ 15 ∷ replicate (high * 256) 0;
-  item = λ zeros. Packet zeros kind high 1 (15 ∷ replicate (high * 256) 0);
-  is_item = λ zeros. packet_whole chosen kind high kind_is;
+  item = λ zeros. Packet zeros value high 1 (15 ∷ replicate (high * 256) 0);
+  is_item = λ zeros. packet_whole chosen value high value_is;
   zeros_are = λ zeros. refl;
   bytes_are = λ zeros. refl;
   some = omega arith;
 }
 
-high_lacks : (chosen : Option ℕ) (kind : ℕ) → 187 ≤ kind → WholeItem chosen (kind ∷ [])
-high_lacks chosen kind kind_is = record {
+high_lacks : (chosen : Option ℕ) (value : ℕ) → 187 ≤ value → WholeItem chosen (value ∷ [])
+high_lacks chosen value value_is = record {
   lacking = 0 ∷ 1 ∷ 15 ∷ replicate (0 * 256) 0;
-  item = λ zeros. Packet zeros kind 0 1 (15 ∷ replicate (0 * 256) 0);
-  is_item = λ zeros. packet_whole chosen kind 0 kind_is;
+  item = λ zeros. Packet zeros value 0 1 (15 ∷ replicate (0 * 256) 0);
+  is_item = λ zeros. packet_whole chosen value 0 value_is;
   zeros_are = λ zeros. refl;
   bytes_are = λ zeros. refl;
   some = omega arith;
@@ -365,20 +365,20 @@ inside_cut : {fault : SystemFault} {state : Place} {place : ℕ} {now : Option �
     (r : IsReached state place now seen video) → is_sound state ≡ true →
     end_fault state place ≡ Some fault → IsFault (chosen_after None r.items) (length (bytes_of r.items)) r.part fault
 inside_cut {fault} {state = Zeros zeros} r sound ends = absurd (none-some fault ends)
-inside_cut {fault} {state = Kind} {place} r sound ends =
+inside_cut {fault} {state = Value} {place} r sound ends =
     subst (IsFault (chosen_after None r.items) (length (bytes_of r.items)) r.part)
-    (same_Some (Truncated place) fault ends) (prefix_cut r.is_part kind_lacks)
+    (same_Some (Truncated place) fault ends) (prefix_cut r.is_part value_lacks)
 inside_cut {fault} {state = Mark} {place} r sound ends =
     subst (IsFault (chosen_after None r.items) (length (bytes_of r.items)) r.part)
     (same_Some (Truncated place) fault ends) (prefix_cut r.is_part pack_lacks)
-inside_cut {fault} {state = High kind} {place} r sound ends =
+inside_cut {fault} {state = High value} {place} r sound ends =
     subst (IsFault (chosen_after None r.items) (length (bytes_of r.items)) r.part)
     (same_Some (Truncated place) fault ends)
-    (prefix_cut r.is_part.0 (high_lacks (chosen_after None r.items) kind r.is_part.1))
-inside_cut {fault} {state = Low kind high} {place} r sound ends =
+    (prefix_cut r.is_part.0 (high_lacks (chosen_after None r.items) value r.is_part.1))
+inside_cut {fault} {state = Low value high} {place} r sound ends =
     subst (IsFault (chosen_after None r.items) (length (bytes_of r.items)) r.part)
     (same_Some (Truncated place) fault ends)
-    (prefix_cut r.is_part.0 (low_lacks (chosen_after None r.items) kind high r.is_part.1))
+    (prefix_cut r.is_part.0 (low_lacks (chosen_after None r.items) value high r.is_part.1))
 inside_cut {fault} {state = InHeader header left} {place} r sound ends =
     let enough = sound_header header left sound in
     subst (IsFault (chosen_after None r.items) (length (bytes_of r.items)) r.part)
@@ -409,10 +409,10 @@ ended_refused sound r ends = record {
 at_end : {state : Place} {place : ℕ} {now : Option ℕ} {seen video : List ℕ}
     (r : IsReached state place now seen video) → end_fault state place ≡ None → IsEnd r.part × (r.kept ≡ [])
 at_end {state = Zeros zeros} r ends = (inl (record { count = r.is_part.count; are = r.is_part.are }), r.is_part.none)
-at_end {state = Kind} {place} r ends = absurd (none-some (Truncated place) (sym ends))
+at_end {state = Value} {place} r ends = absurd (none-some (Truncated place) (sym ends))
 at_end {state = Mark} {place} r ends = absurd (none-some (Truncated place) (sym ends))
-at_end {state = High kind} {place} r ends = absurd (none-some (Truncated place) (sym ends))
-at_end {state = Low kind high} {place} r ends = absurd (none-some (Truncated place) (sym ends))
+at_end {state = High value} {place} r ends = absurd (none-some (Truncated place) (sym ends))
+at_end {state = Low value high} {place} r ends = absurd (none-some (Truncated place) (sym ends))
 at_end {state = InHeader header left} {place} r ends = absurd (none-some (Truncated place) (sym ends))
 at_end {state = Pass left} {place} r ends = absurd (none-some (Truncated place) (sym ends))
 at_end {state = Video left} {place} r ends = absurd (none-some (Truncated place) (sym ends))
@@ -437,10 +437,10 @@ ended_system r ends =
 -- a fault that was answered
 pub failed_at : (state : Place) (fault : SystemFault) → fault_at state ≡ Some fault → state ≡ Failed fault
 failed_at (Zeros zeros) fault e = absurd (none-some fault e)
-failed_at Kind fault e = absurd (none-some fault e)
+failed_at Value fault e = absurd (none-some fault e)
 failed_at Mark fault e = absurd (none-some fault e)
-failed_at (High kind) fault e = absurd (none-some fault e)
-failed_at (Low kind high) fault e = absurd (none-some fault e)
+failed_at (High value) fault e = absurd (none-some fault e)
+failed_at (Low value high) fault e = absurd (none-some fault e)
 failed_at (InHeader header left) fault e = absurd (none-some fault e)
 failed_at (Pass left) fault e = absurd (none-some fault e)
 failed_at (Video left) fault e = absurd (none-some fault e)
@@ -458,10 +458,10 @@ first_taken seen (b ∷ chunk) more some =
 pub end_shown : (state : Place) (item : ℕ) (fault : SystemFault) → end_fault state item ≡ Some fault
     → IsShown fault → fault_at state ≡ Some fault
 end_shown (Zeros zeros) item fault e shown = absurd (none-some fault e)
-end_shown Kind item fault e shown = absurd (subst IsShown (sym (same_Some (Truncated item) fault e)) shown)
+end_shown Value item fault e shown = absurd (subst IsShown (sym (same_Some (Truncated item) fault e)) shown)
 end_shown Mark item fault e shown = absurd (subst IsShown (sym (same_Some (Truncated item) fault e)) shown)
-end_shown (High kind) item fault e shown = absurd (subst IsShown (sym (same_Some (Truncated item) fault e)) shown)
-end_shown (Low kind high) item fault e shown = absurd (subst IsShown (sym (same_Some (Truncated item) fault e)) shown)
+end_shown (High value) item fault e shown = absurd (subst IsShown (sym (same_Some (Truncated item) fault e)) shown)
+end_shown (Low value high) item fault e shown = absurd (subst IsShown (sym (same_Some (Truncated item) fault e)) shown)
 end_shown (InHeader header left) item fault e shown =
     absurd (subst IsShown (sym (same_Some (Truncated item) fault e)) shown)
 end_shown (Pass left) item fault e shown = absurd (subst IsShown (sym (same_Some (Truncated item) fault e)) shown)

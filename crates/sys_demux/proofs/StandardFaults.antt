@@ -7,14 +7,14 @@ use Rattle.std.proofs.lemmas.List.{append-nil, nil_from_length}
 use Rattle.sys_demux.specs.Contents.{video_in}
 use Rattle.sys_demux.specs.Items.{chosen_after, choose, is_chosen, with_prefix}
 use Rattle.sys_demux.specs.Standard.{Element, HasHeader, AreElements, first_stream, packet_bytes}
-use Rattle.sys_demux.specs.Standard.{stream_bytes, video_kind, with_code}
+use Rattle.sys_demux.specs.Standard.{stream_bytes, video_stream_id, with_code}
 use Rattle.sys_demux.specs.Standard.Element.{PackHeader, VideoPacket, OtherPacket}
 use Rattle.sys_demux.specs.Streams.{IsFault, IsRefused}
 use Rattle.sys_demux.specs.declared.faults.SystemFault.{SystemFault}
 use Rattle.sys_demux.specs.declared.faults.SystemFault.TheVariants.{BadCode, BadPacket, NotPack}
 use Rattle.sys_demux.proofs.PacketHeaders.{header_is}
 use Rattle.sys_demux.proofs.StandardStreams.{Fits, element_read, elements_read, items_bytes}
-use Rattle.sys_demux.proofs.StandardStreams.{items_of, kind_by}
+use Rattle.sys_demux.proofs.StandardStreams.{items_of, value_by}
 use Rattle.sys_demux.proofs.StandardStreams.{next, video_chosen}
 
 -- the first stream of video, where one was known before
@@ -28,25 +28,25 @@ first_more None (PackHeader _ clock_reference mux_rate) elements = refl
 first_more (Some number) (PackHeader _ clock_reference mux_rate) elements = refl
 first_more None (VideoPacket _ stream stuffing buffer stamps video) elements = refl
 first_more (Some number) (VideoPacket _ stream stuffing buffer stamps video) elements = refl
-first_more None (OtherPacket _ kind content) elements = refl
-first_more (Some number) (OtherPacket _ kind content) elements = refl
+first_more None (OtherPacket _ value content) elements = refl
+first_more (Some number) (OtherPacket _ value content) elements = refl
 
 first_none : (first : Option ℕ) → first ≡ first_of first None
 first_none None = refl
 first_none (Some number) = refl
 
 chosen_all : (first : Option ℕ) (elements : List Element) → Fits first → AreElements elements
-    → chosen_after (kind_by first) (items_of elements) ≡ kind_by (first_of first (first_stream elements))
-chosen_all first [] fits are = ap kind_by (first_none first)
+    → chosen_after (value_by first) (items_of elements) ≡ value_by (first_of first (first_stream elements))
+chosen_all first [] fits are = ap value_by (first_none first)
 chosen_all first (element ∷ elements) fits are =
     let read = element_read first element fits are.0 in
     ap (λ c. chosen_after c (items_of elements)) read.next_is
     ∙ chosen_all (next first element) elements read.fits are.1
-    ∙ ap kind_by (first_more first element elements)
+    ∙ ap value_by (first_more first element elements)
 
 -- a fault after elements is one of the stream
 refused : (elements : List Element) (tail : List ℕ) (fault : SystemFault) → AreElements elements
-    → IsFault (kind_by (first_stream elements)) (length (stream_bytes elements)) tail fault
+    → IsFault (value_by (first_stream elements)) (length (stream_bytes elements)) tail fault
     → IsRefused (stream_bytes elements ++ tail) fault
 refused elements tail fault are is =
     let start = ap (λ (l : List ℕ). length l) (sym (items_bytes elements)) in
@@ -67,25 +67,25 @@ pack_refused elements front mark rest are other =
     refused elements (with_code front 0xba (mark ∷ rest)) (NotPack (length (stream_bytes elements) + front)) are
     (record { zeros = front; mark = mark; rest = rest; is = refl; other = other; place_is = refl })
 
-pub code_refused : (elements : List Element) (front kind : ℕ) (rest : List ℕ) → AreElements elements → kind < 0xb9 →
-    IsRefused (stream_bytes elements ++ with_code front kind rest) (BadCode (length (stream_bytes elements) + front))
-code_refused elements front kind rest are low =
-    refused elements (with_code front kind rest) (BadCode (length (stream_bytes elements) + front)) are
-    (inr (record { zeros = front; kind = kind; rest = rest; is = refl; low = low; place_is = refl }))
+pub code_refused : (elements : List Element) (front value : ℕ) (rest : List ℕ) → AreElements elements → value < 0xb9 →
+    IsRefused (stream_bytes elements ++ with_code front value rest) (BadCode (length (stream_bytes elements) + front))
+code_refused elements front value rest are low =
+    refused elements (with_code front value rest) (BadCode (length (stream_bytes elements) + front)) are
+    (inr (record { zeros = front; value = value; rest = rest; is = refl; low = low; place_is = refl }))
 
 none_of : (o : Option (List ℕ)) → ((video : List ℕ) → o ≡ Some video → ⊥) → o ≡ None
 none_of None never = refl
 none_of (Some video) never = absurd (never video refl)
 
-its_kind : (first : Option ℕ) (stream : ℕ) → stream < 16 → ((first ≡ None) ⊎ (first ≡ Some stream))
-    → is_chosen (choose (kind_by first) (video_kind stream)) (video_kind stream) ≡ true
-its_kind first stream fits (inl none) =
-    ap (λ o. is_chosen (choose (kind_by o) (video_kind stream)) (video_kind stream)) none
-    ∙ ap (λ o. is_chosen o (video_kind stream)) (video_chosen stream fits)
-    ∙ eq-eqb (video_kind stream) (video_kind stream) refl
-its_kind first stream fits (inr same) =
-    ap (λ o. is_chosen (choose (kind_by o) (video_kind stream)) (video_kind stream)) same
-    ∙ eq-eqb (video_kind stream) (video_kind stream) refl
+its_value : (first : Option ℕ) (stream : ℕ) → stream < 16 → ((first ≡ None) ⊎ (first ≡ Some stream))
+    → is_chosen (choose (value_by first) (video_stream_id stream)) (video_stream_id stream) ≡ true
+its_value first stream fits (inl none) =
+    ap (λ o. is_chosen (choose (value_by o) (video_stream_id stream)) (video_stream_id stream)) none
+    ∙ ap (λ o. is_chosen o (video_stream_id stream)) (video_chosen stream fits)
+    ∙ eq-eqb (video_stream_id stream) (video_stream_id stream) refl
+its_value first stream fits (inr same) =
+    ap (λ o. is_chosen (choose (value_by o) (video_stream_id stream)) (video_stream_id stream)) same
+    ∙ eq-eqb (video_stream_id stream) (video_stream_id stream) refl
 
 -- a packet of the first stream of video, and a content that has no header
 pub record HasNoHeader (first : Option ℕ) (stream : ℕ) (content : List ℕ) : Type 0 where
@@ -95,25 +95,25 @@ pub record HasNoHeader (first : Option ℕ) (stream : ℕ) (content : List ℕ) 
 
 pub packet_refused : {stream : ℕ} {content : List ℕ} (elements : List Element) (front : ℕ) →
     AreElements elements → HasNoHeader (first_stream elements) stream content →
-    IsRefused (stream_bytes elements ++ packet_bytes front (video_kind stream) content)
+    IsRefused (stream_bytes elements ++ packet_bytes front (video_stream_id stream) content)
     (BadPacket (length (stream_bytes elements) + front))
 packet_refused {stream} {content} elements front are bad =
-    let kind = video_kind stream in
+    let value = video_stream_id stream in
     let high = length content / 256 in
     let low = length content % 256 in
     let none : video_in content ≡ None =
     none_of (video_in content) (λ video e. never video ((header_is content video).0 e)) in
-    refused elements (packet_bytes front kind content) (BadPacket (length (stream_bytes elements) + front)) are
+    refused elements (packet_bytes front value content) (BadPacket (length (stream_bytes elements) + front)) are
     (record {
       zeros = front;
-      kind = kind;
+      value = value;
       high = high;
       low = low;
       front = content;
       rest = [];
-      is = ap (λ (l : List ℕ). with_prefix front (kind ∷ high ∷ low ∷ l)) (sym (append-nil content));
-      kind_is = omega arith;
-      chosen_is = its_kind (first_stream elements) stream fits first_is;
+      is = ap (λ (l : List ℕ). with_prefix front (value ∷ high ∷ low ∷ l)) (sym (append-nil content));
+      value_is = omega arith;
+      chosen_is = its_value (first_stream elements) stream fits first_is;
       within = omega arith;
       none = λ more long. ap (λ (l : List ℕ). video_in (content ++ l))
           (nil_from_length more (omega (arith, long))) ∙ ap video_in (append-nil content) ∙ none;

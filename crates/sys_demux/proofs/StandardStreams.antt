@@ -9,14 +9,14 @@ use Rattle.std.proofs.lemmas.Bool.{and_left, and_right, and_from, both_ways, cas
 use Rattle.std.proofs.lemmas.Bool.{cond-true}
 use Rattle.std.proofs.lemmas.Bool.{le-leb, lt-leb}
 use Rattle.sys_demux.specs.Contents.{video_in}
-use Rattle.sys_demux.specs.Items.{Item, item_bytes, choose, is_chosen, is_video_kind, chosen_next}
+use Rattle.sys_demux.specs.Items.{Item, item_bytes, choose, is_chosen, is_video_stream_id, chosen_next}
 use Rattle.sys_demux.specs.Items.{IsItem, AreItems, item_video, video_of, bytes_of}
 use Rattle.sys_demux.specs.Items.Item.{Pack, Packet}
 use Rattle.sys_demux.specs.Standard.{Buffer, Stamps, Element, pack_fields, buffer_bytes}
 use Rattle.sys_demux.specs.Standard.{stamp_bytes}
-use Rattle.sys_demux.specs.Standard.{content_of, video_kind, element_bytes, stream_bytes}
+use Rattle.sys_demux.specs.Standard.{content_of, video_stream_id, element_bytes, stream_bytes}
 use Rattle.sys_demux.specs.Standard.{FitsBuffer}
-use Rattle.sys_demux.specs.Standard.{FitStamps, IsOtherKind, IsVideoPacket, IsElement, AreElements}
+use Rattle.sys_demux.specs.Standard.{FitStamps, IsOtherValue, IsVideoPacket, IsElement, AreElements}
 use Rattle.sys_demux.specs.Standard.{IsStreamEnd}
 use Rattle.sys_demux.specs.Standard.{first_stream, video_of_stream, video_by, first_video}
 use Rattle.sys_demux.specs.Standard.{IsSizeField, IsStampField}
@@ -28,13 +28,13 @@ use Rattle.sys_demux.proofs.PacketHeaders.{header_is}
 -- ---- elements as items
 
 abbrev pub packet_item : ℕ → ℕ → List ℕ → Item
-packet_item front kind content = Packet front kind (length content / 256) (length content % 256) content
+packet_item front value content = Packet front value (length content / 256) (length content % 256) content
 
 abbrev pub item_of : Element → Item
 item_of (PackHeader front clock_reference mux_rate) = Pack front (pack_fields clock_reference mux_rate)
 item_of (VideoPacket front stream stuffing buffer stamps video) =
-    packet_item front (video_kind stream) (content_of stuffing buffer stamps video)
-item_of (OtherPacket front kind content) = packet_item front kind content
+    packet_item front (video_stream_id stream) (content_of stuffing buffer stamps video)
+item_of (OtherPacket front value content) = packet_item front value content
 
 abbrev pub items_of : List Element → List Item
 items_of [] = []
@@ -43,7 +43,7 @@ items_of (element ∷ elements) = item_of element ∷ items_of elements
 same_bytes : (element : Element) → item_bytes (item_of element) ≡ element_bytes element
 same_bytes (PackHeader front clock_reference mux_rate) = refl
 same_bytes (VideoPacket front stream stuffing buffer stamps video) = refl
-same_bytes (OtherPacket front kind content) = refl
+same_bytes (OtherPacket front value content) = refl
 
 pub items_bytes : (elements : List Element) → bytes_of (items_of elements) ≡ stream_bytes elements
 items_bytes [] = refl
@@ -53,10 +53,10 @@ items_bytes (element ∷ elements) =
 
 -- ---- what is chosen
 
--- the chosen kind, where the first stream of video has this number
-abbrev pub kind_by : Option ℕ → Option ℕ
-kind_by None = None
-kind_by (Some number) = Some (video_kind number)
+-- the chosen stream_id, where the first stream of video has this number
+abbrev pub value_by : Option ℕ → Option ℕ
+value_by None = None
+value_by (Some number) = Some (video_stream_id number)
 
 abbrev pub Fits : Option ℕ → Type 0
 Fits None = Unit {0}
@@ -67,14 +67,14 @@ abbrev pub next : Option ℕ → Element → Option ℕ
 next first (PackHeader _ clock_reference mux_rate) = first
 next None (VideoPacket _ stream stuffing buffer stamps video) = Some stream
 next (Some number) (VideoPacket _ stream stuffing buffer stamps video) = Some number
-next first (OtherPacket _ kind content) = first
+next first (OtherPacket _ value content) = first
 
 -- the video of an element, and of all of them
 abbrev pub own : Option ℕ → Element → List ℕ
 own first (PackHeader _ clock_reference mux_rate) = []
 own None (VideoPacket _ stream stuffing buffer stamps video) = video
 own (Some number) (VideoPacket _ stream stuffing buffer stamps video) = cond (number == stream) video []
-own first (OtherPacket _ kind content) = []
+own first (OtherPacket _ value content) = []
 
 abbrev pub videos : Option ℕ → List Element → List ℕ
 videos None elements = first_video elements
@@ -82,9 +82,9 @@ videos (Some number) elements = video_of_stream number elements
 
 -- an element is an item with its video
 pub record IsRead (first : Option ℕ) (element : Element) : Type 0 where
-  pub item : IsItem (kind_by first) (item_of element)
-  pub next_is : chosen_next (kind_by first) (item_of element) ≡ kind_by (next first element)
-  pub video : item_video (kind_by first) (item_of element) ≡ own first element
+  pub item : IsItem (value_by first) (item_of element)
+  pub next_is : chosen_next (value_by first) (item_of element) ≡ value_by (next first element)
+  pub video : item_video (value_by first) (item_of element) ≡ own first element
   pub fits : Fits (next first element)
 
 -- ---- a pack header
@@ -94,41 +94,43 @@ pack_read first front clock_reference mux_rate fits short =
     record { item = record { eight = refl; mark = omega (arith, short) }; next_is = refl; video = refl; fits = fits }
 
 -- ---- another packet
-none_chosen : (kind : ℕ) → IsOtherKind kind → choose None kind ≡ None
-none_chosen kind (inl low) =
-    cond-false (is_video_kind kind) (Some kind) None
-    (and_left (nat_le 224 kind) (nat_le kind 239) (lt-leb 224 kind (omega (arith, low.1))))
-none_chosen kind (inr high) =
-    cond-false (is_video_kind kind) (Some kind) None
-    (and_right (nat_le 224 kind) (nat_le kind 239) (lt-leb kind 239 (omega (arith, high.0))))
+none_chosen : (value : ℕ) → IsOtherValue value → choose None value ≡ None
+none_chosen value (inl low) =
+    cond-false (is_video_stream_id value) (Some value) None
+    (and_left (nat_le 224 value) (nat_le value 239) (lt-leb 224 value (omega (arith, low.1))))
+none_chosen value (inr high) =
+    cond-false (is_video_stream_id value) (Some value) None
+    (and_right (nat_le 224 value) (nat_le value 239) (lt-leb value 239 (omega (arith, high.0))))
 
-not_chosen : (first : Option ℕ) (kind : ℕ) → Fits first → IsOtherKind kind
-    → is_chosen (choose (kind_by first) kind) kind ≡ false
-not_chosen None kind fits other =
-    ap (λ o. is_chosen o kind) (none_chosen kind other)
-not_chosen (Some number) kind fits (inl low) = ne_eqb (video_kind number) kind (λ e. omega (arith, e, low.1))
-not_chosen (Some number) kind fits (inr high) = ne_eqb (video_kind number) kind (λ e. omega (arith, e, fits, high.0))
+not_chosen : (first : Option ℕ) (value : ℕ) → Fits first → IsOtherValue value
+    → is_chosen (choose (value_by first) value) value ≡ false
+not_chosen None value fits other =
+    ap (λ o. is_chosen o value) (none_chosen value other)
+not_chosen (Some number) value fits (inl low) = ne_eqb (video_stream_id number) value (λ e. omega (arith, e, low.1))
+not_chosen (Some number) value fits (inr high) =
+    ne_eqb (video_stream_id number) value (λ e. omega (arith, e, fits, high.0))
 
-other_next : (first : Option ℕ) (kind : ℕ) → IsOtherKind kind → choose (kind_by first) kind ≡ kind_by first
-other_next None kind other = none_chosen kind other
-other_next (Some number) kind other = refl
+other_next : (first : Option ℕ) (value : ℕ) → IsOtherValue value → choose (value_by first) value ≡ value_by first
+other_next None value other = none_chosen value other
+other_next (Some number) value other = refl
 
-other_low : (kind : ℕ) → IsOtherKind kind → 187 ≤ kind
-other_low kind (inl low) = low.0
-other_low kind (inr high) = omega (arith, high.0)
+other_low : (value : ℕ) → IsOtherValue value → 187 ≤ value
+other_low value (inl low) = low.0
+other_low value (inr high) = omega (arith, high.0)
 
-other_read : (first : Option ℕ) (front kind : ℕ) (content : List ℕ) → Fits first → IsOtherKind kind
-    → IsRead first (OtherPacket front kind content)
-other_read first front kind content fits other =
-    let other_is = not_chosen first kind fits other in
+other_read : (first : Option ℕ) (front value : ℕ) (content : List ℕ) → Fits first → IsOtherValue value
+    → IsRead first (OtherPacket front value content)
+other_read first front value content fits other =
+    let other_is = not_chosen first value fits other in
     record {
       item = record {
-        kind_is = other_low kind other;
+        value_is = other_low value other;
         length_is = omega arith;
-        header = λ chosen. absurd (both_ways (is_chosen (choose (kind_by first) kind) kind) other_is chosen);
+        header = λ chosen. absurd (both_ways (is_chosen (choose (value_by first) value) value) other_is chosen);
       };
-      next_is = other_next first kind other;
-      video = cond-false (is_chosen (choose (kind_by first) kind) kind) (unwrap_or (video_in content) []) [] other_is;
+      next_is = other_next first value other;
+      video = cond-false (is_chosen (choose (value_by first) value) value) (unwrap_or (video_in content) []) []
+          other_is;
       fits = fits;
     }
 
@@ -156,16 +158,16 @@ content_read stream stuffing buffer stamps video is =
       is = refl;
     })
 
-pub video_chosen : (stream : ℕ) → stream < 16 → choose None (video_kind stream) ≡ Some (video_kind stream)
+pub video_chosen : (stream : ℕ) → stream < 16 → choose None (video_stream_id stream) ≡ Some (video_stream_id stream)
 video_chosen stream fits =
-    cond-true (is_video_kind (video_kind stream)) (Some (video_kind stream)) None
-    (and_from (nat_le 224 (video_kind stream)) (nat_le (video_kind stream) 239)
-    (le-leb 224 (video_kind stream) (omega arith)) (le-leb (video_kind stream) 239 (omega (arith, fits))))
+    cond-true (is_video_stream_id (video_stream_id stream)) (Some (video_stream_id stream)) None
+    (and_from (nat_le 224 (video_stream_id stream)) (nat_le (video_stream_id stream) 239)
+    (le-leb 224 (video_stream_id stream) (omega arith)) (le-leb (video_stream_id stream) 239 (omega (arith, fits))))
 
 video_item : (chosen : Option ℕ) (front stream : ℕ) (content video : List ℕ) → video_in content ≡ Some video
-    → IsItem chosen (packet_item front (video_kind stream) content)
+    → IsItem chosen (packet_item front (video_stream_id stream) content)
 video_item chosen front stream content video read = record {
-  kind_is = omega arith;
+  value_is = omega arith;
   length_is = omega arith;
   header = λ _. subst (λ (o : Option (List ℕ)). IsSome o) (sym read) refl;
 }
@@ -176,31 +178,31 @@ video_read : {first : Option ℕ} {front stream stuffing : ℕ} {buffer : Option
 video_read {first = None} {front} {stream} {stuffing} {buffer} {stamps} {video} fits is =
     let content = content_of stuffing buffer stamps video in
     let read = content_read stream stuffing buffer stamps video is in
-    let kind = video_kind stream in
+    let value = video_stream_id stream in
     let chosen = video_chosen stream is.stream_fits in
     record {
       item = video_item None front stream content video read;
       next_is = chosen;
-      video = ap (λ o. cond (is_chosen o kind) (unwrap_or (video_in content) []) []) chosen
-          ∙ cond-true (kind == kind) (unwrap_or (video_in content) []) [] (eq-eqb kind kind refl)
+      video = ap (λ o. cond (is_chosen o value) (unwrap_or (video_in content) []) []) chosen
+          ∙ cond-true (value == value) (unwrap_or (video_in content) []) [] (eq-eqb value value refl)
           ∙ ap (λ o. unwrap_or o []) read;
       fits = is.stream_fits;
     }
 video_read {first = Some number} {front} {stream} {stuffing} {buffer} {stamps} {video} fits is =
     let content = content_of stuffing buffer stamps video in
     let read = content_read stream stuffing buffer stamps video is in
-    let kind = video_kind stream in
+    let value = video_stream_id stream in
     record {
-      item = video_item (Some (video_kind number)) front stream content video read;
+      item = video_item (Some (video_stream_id number)) front stream content video read;
       next_is = refl;
       video = elim (cases_eq number stream) [
         | inl same ↦
-            cond-true (video_kind number == kind) (unwrap_or (video_in content) []) []
-            (eq-eqb (video_kind number) kind (omega (arith, same)))
+            cond-true (video_stream_id number == value) (unwrap_or (video_in content) []) []
+            (eq-eqb (video_stream_id number) value (omega (arith, same)))
             ∙ ap (λ o. unwrap_or o []) read ∙ sym (cond-true (number == stream) video [] (eq-eqb number stream same))
         | inr other ↦
-            cond-false (video_kind number == kind) (unwrap_or (video_in content) []) []
-            (ne_eqb (video_kind number) kind (λ e. other (omega (arith, e))))
+            cond-false (video_stream_id number == value) (unwrap_or (video_in content) []) []
+            (ne_eqb (video_stream_id number) value (λ e. other (omega (arith, e))))
             ∙ sym (cond-false (number == stream) video [] (ne_eqb number stream other))
       ];
       fits = fits;
@@ -210,7 +212,7 @@ pub element_read : (first : Option ℕ) (element : Element) → Fits first → I
 element_read first (PackHeader front clock_reference mux_rate) fits is =
     pack_read first front clock_reference mux_rate fits is.0
 element_read first (VideoPacket front stream stuffing buffer stamps video) fits is = video_read fits is
-element_read first (OtherPacket front kind content) fits is = other_read first front kind content fits is.0
+element_read first (OtherPacket front value content) fits is = other_read first front value content fits is.0
 
 -- ---- all of them
 
@@ -219,10 +221,10 @@ pack_skipped : (first : Option ℕ) (front clock_reference mux_rate : ℕ) (elem
 pack_skipped None front clock_reference mux_rate elements = refl
 pack_skipped (Some number) front clock_reference mux_rate elements = refl
 
-other_skipped : (first : Option ℕ) (front kind : ℕ) (content : List ℕ) (elements : List Element)
-    → video_by first (OtherPacket front kind content ∷ elements) ≡ video_by first elements
-other_skipped None front kind content elements = refl
-other_skipped (Some number) front kind content elements = refl
+other_skipped : (first : Option ℕ) (front value : ℕ) (content : List ℕ) (elements : List Element)
+    → video_by first (OtherPacket front value content ∷ elements) ≡ video_by first elements
+other_skipped None front value content elements = refl
+other_skipped (Some number) front value content elements = refl
 
 videos_more : (first : Option ℕ) (element : Element) (elements : List Element)
     → own first element ++ videos (next first element) elements ≡ videos first (element ∷ elements)
@@ -233,13 +235,13 @@ videos_more None (VideoPacket front stream stuffing buffer stamps video) element
     ap (λ (l : List ℕ). l ++ video_of_stream stream elements)
     (sym (cond-true (stream == stream) video [] (eq-eqb stream stream refl)))
 videos_more (Some number) (VideoPacket front stream stuffing buffer stamps video) elements = refl
-videos_more None (OtherPacket front kind content) elements =
-    sym (other_skipped (first_stream elements) front kind content elements)
-videos_more (Some number) (OtherPacket front kind content) elements = refl
+videos_more None (OtherPacket front value content) elements =
+    sym (other_skipped (first_stream elements) front value content elements)
+videos_more (Some number) (OtherPacket front value content) elements = refl
 
 pub record AreRead (first : Option ℕ) (elements : List Element) : Type 0 where
-  pub items : AreItems (kind_by first) (items_of elements)
-  pub video : video_of (kind_by first) (items_of elements) ≡ videos first elements
+  pub items : AreItems (value_by first) (items_of elements)
+  pub video : video_of (value_by first) (items_of elements) ≡ videos first elements
 
 none_read : (first : Option ℕ) → AreRead first []
 none_read None = record { items = tt; video = refl }
@@ -254,7 +256,7 @@ elements_read first (element ∷ elements) fits are =
     record {
       items = (read.item, subst (λ c. AreItems c (items_of elements)) (sym read.next_is) more.items);
       video =
-          ap (λ (l : List ℕ). l ++ video_of (chosen_next (kind_by first) (item_of element))
+          ap (λ (l : List ℕ). l ++ video_of (chosen_next (value_by first) (item_of element))
           (items_of elements)) read.video
           ∙ ap (λ c. own first element ++ video_of c (items_of elements)) read.next_is
           ∙ ap (λ (l : List ℕ). own first element ++ l) more.video

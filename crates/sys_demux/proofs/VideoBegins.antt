@@ -11,7 +11,7 @@ use Rattle.sys_demux.specs.Streams.{IsEnd, LacksEnd, IsSystem}
 use Rattle.sys_demux.specs.States.{IsAtRest, IsReached}
 use Rattle.sys_demux.specs.declared.faults.SystemFault.TheVariants.{Truncated}
 use Rattle.sys_demux.specs.declared.places.Place.{Place}
-use Rattle.sys_demux.specs.declared.places.Place.TheVariants.{Zeros, Kind, Mark, High, Low}
+use Rattle.sys_demux.specs.declared.places.Place.TheVariants.{Zeros, Value, Mark, High, Low}
 use Rattle.sys_demux.specs.declared.places.Place.TheVariants.{InHeader, Pass, Video, End, Failed}
 use Rattle.sys_demux.proofs.OneReading.{item_once, item_no_end, end_no_fault}
 
@@ -132,13 +132,13 @@ part_begins : {state : Place} {place : ℕ} {now : Option ℕ} {seen video more 
     → Begins r.kept (video_of (chosen_after None r.items) items)
 part_begins {state = Zeros zeros} {items} r followed =
     none_begins r.kept (video_of (chosen_after None r.items) items) r.is_part.none
-part_begins {state = Kind} {items} r followed =
+part_begins {state = Value} {items} r followed =
     none_begins r.kept (video_of (chosen_after None r.items) items) r.is_part.none
 part_begins {state = Mark} {items} r followed =
     none_begins r.kept (video_of (chosen_after None r.items) items) r.is_part.none
-part_begins {state = High kind} {items} r followed =
+part_begins {state = High value} {items} r followed =
     none_begins r.kept (video_of (chosen_after None r.items) items) r.is_part.0.none
-part_begins {state = Low kind high} {items} r followed =
+part_begins {state = Low value high} {items} r followed =
     none_begins r.kept (video_of (chosen_after None r.items) items) r.is_part.0.none
 part_begins {state = InHeader header left} {items} r followed =
     none_begins r.kept (video_of (chosen_after None r.items) items) r.is_part.none

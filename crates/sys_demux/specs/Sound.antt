@@ -3,7 +3,7 @@ use Rattle.std.specs.Prelude.{ℕ, ◌&&◌, Bool, true, nat_lt, nat_le}
 use Rattle.sys_demux.specs.declared.headers.Header.{Header}
 use Rattle.sys_demux.specs.declared.headers.Header.TheVariants.{Stuffing, Second, Stamp, Rest}
 use Rattle.sys_demux.specs.declared.places.Place.{Place}
-use Rattle.sys_demux.specs.declared.places.Place.TheVariants.{Zeros, Kind, Mark, High, Low}
+use Rattle.sys_demux.specs.declared.places.Place.TheVariants.{Zeros, Value, Mark, High, Low}
 use Rattle.sys_demux.specs.declared.places.Place.TheVariants.{InHeader, Pass, Video, End, Failed}
 
 -- the fewest bytes that the rest of a content has there
@@ -17,10 +17,10 @@ least_rest (Rest count) = count
 -- come
 abbrev pub is_sound : Place → Bool
 is_sound (Zeros _) = true
-is_sound Kind = true
+is_sound Value = true
 is_sound Mark = true
-is_sound (High kind) = true
-is_sound (Low kind high) = true
+is_sound (High value) = true
+is_sound (Low value high) = true
 is_sound (InHeader header left) = nat_lt 0 (least_rest header) && nat_le (least_rest header) left
 is_sound (Pass left) = nat_lt 0 left
 is_sound (Video left) = nat_lt 0 left

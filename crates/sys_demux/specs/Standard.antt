@@ -12,9 +12,9 @@ two_bytes n = n / 256 ∷ n % 256 ∷ []
 abbrev pub three_bytes : ℕ → List ℕ
 three_bytes n = n / 65536 ∷ n / 256 % 256 ∷ n % 256 ∷ []
 
--- a code with the byte that tells its kind, any number of bytes 00 in front, and what follows it
+-- a start code with its value, any number of bytes 00 in front, and what follows it
 abbrev pub with_code : ℕ → ℕ → List ℕ → List ℕ
-with_code front kind rest = replicate front 0 ++ (0 ∷ 0 ∷ 1 ∷ kind ∷ rest)
+with_code front value rest = replicate front 0 ++ (0 ∷ 0 ∷ 1 ∷ value ∷ rest)
 
 -- ---- fields
 
@@ -67,22 +67,22 @@ pub data Element : Type 0 where
   PackHeader : (front clock_reference mux_rate : ℕ) → Element
   VideoPacket : (front stream stuffing : ℕ) (buffer : Option Buffer) (stamps : Stamps)
       (video : List ℕ) → Element
-  OtherPacket : (front kind : ℕ) (content : List ℕ) → Element
+  OtherPacket : (front value : ℕ) (content : List ℕ) → Element
 
--- a packet of a kind: its length in 16 bits, and its content
+-- a packet with its stream_id: its length in 16 bits, and its content
 abbrev pub packet_bytes : ℕ → ℕ → List ℕ → List ℕ
-packet_bytes front kind content = with_code front kind (two_bytes (length content) ++ content)
+packet_bytes front value content = with_code front value (two_bytes (length content) ++ content)
 
--- the kind of a packet of a video stream: 1110 and the stream's number
-abbrev pub video_kind : ℕ → ℕ
-video_kind stream = 0xe * 16 + stream
+-- the stream_id of a video stream: 1110 and the stream's number
+abbrev pub video_stream_id : ℕ → ℕ
+video_stream_id stream = 0xe * 16 + stream
 
 abbrev pub element_bytes : Element → List ℕ
 element_bytes (PackHeader front clock_reference mux_rate) =
     with_code front 0xba (pack_fields clock_reference mux_rate)
 element_bytes (VideoPacket front stream stuffing buffer stamps video) =
-    packet_bytes front (video_kind stream) (content_of stuffing buffer stamps video)
-element_bytes (OtherPacket front kind content) = packet_bytes front kind content
+    packet_bytes front (video_stream_id stream) (content_of stuffing buffer stamps video)
+element_bytes (OtherPacket front value content) = packet_bytes front value content
 
 abbrev pub stream_bytes : List Element → List ℕ
 stream_bytes [] = []
@@ -107,16 +107,16 @@ pub record IsVideoPacket (stream stuffing : ℕ) (buffer : Option Buffer) (stamp
   pub stamps_fit : FitStamps stamps
   pub long : length (content_of stuffing buffer stamps video) < 2 ^ 16
 
--- the kinds of other packets: BB to DF, and F0 to FF
-abbrev pub IsOtherKind : ℕ → Type 0
-IsOtherKind kind = ((0xbb ≤ kind) × (kind ≤ 0xdf)) ⊎ ((0xf0 ≤ kind) × (kind ≤ 0xff))
+-- the start code values of other packets: BB to DF, and F0 to FF
+abbrev pub IsOtherValue : ℕ → Type 0
+IsOtherValue value = ((0xbb ≤ value) × (value ≤ 0xdf)) ⊎ ((0xf0 ≤ value) × (value ≤ 0xff))
 
 abbrev pub IsElement : Element → Type 0
 IsElement (PackHeader front clock_reference mux_rate) =
     (clock_reference < 2 ^ 33) × (mux_rate < 2 ^ 22)
 IsElement (VideoPacket front stream stuffing buffer stamps video) =
     IsVideoPacket stream stuffing buffer stamps video
-IsElement (OtherPacket front kind content) = IsOtherKind kind × (length content < 2 ^ 16)
+IsElement (OtherPacket front value content) = IsOtherValue value × (length content < 2 ^ 16)
 
 abbrev pub AreElements : List Element → Type 0
 AreElements [] = Unit {0}
@@ -131,7 +131,7 @@ abbrev pub first_stream : List Element → Option ℕ
 first_stream [] = None
 first_stream (PackHeader _ clock_reference mux_rate ∷ elements) = first_stream elements
 first_stream (VideoPacket _ stream stuffing buffer stamps video ∷ elements) = Some stream
-first_stream (OtherPacket _ kind content ∷ elements) = first_stream elements
+first_stream (OtherPacket _ value content ∷ elements) = first_stream elements
 
 -- the video of a stream, in order
 abbrev pub video_of_stream : ℕ → List Element → List ℕ
@@ -140,7 +140,7 @@ video_of_stream number (PackHeader _ clock_reference mux_rate ∷ elements) =
     video_of_stream number elements
 video_of_stream number (VideoPacket _ stream stuffing buffer stamps video ∷ elements) =
     (if number == stream then video else []) ++ video_of_stream number elements
-video_of_stream number (OtherPacket _ kind content ∷ elements) = video_of_stream number elements
+video_of_stream number (OtherPacket _ value content ∷ elements) = video_of_stream number elements
 
 -- that of the first stream of video
 abbrev pub video_by : Option ℕ → List Element → List ℕ

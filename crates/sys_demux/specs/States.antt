@@ -12,7 +12,7 @@ use Rattle.sys_demux.specs.declared.faults.SystemFault.TheVariants.{Truncated}
 use Rattle.sys_demux.specs.declared.headers.Header.{Header}
 use Rattle.sys_demux.specs.declared.headers.Header.TheVariants.{Stuffing, Second, Stamp, Rest}
 use Rattle.sys_demux.specs.declared.places.Place.{Place}
-use Rattle.sys_demux.specs.declared.places.Place.TheVariants.{Zeros, Kind, Mark, High, Low}
+use Rattle.sys_demux.specs.declared.places.Place.TheVariants.{Zeros, Value, Mark, High, Low}
 use Rattle.sys_demux.specs.declared.places.Place.TheVariants.{InHeader, Pass, Video, End, Failed}
 use Rattle.sys_demux.specs.declared.unwrapper.Unwrapper.{Unwrapper}
 
@@ -51,22 +51,22 @@ pub record IsAtPrefix (start place : ℕ) (rest : List ℕ) (now wanted : Option
   pub now_is : now ≡ wanted
   pub none : kept ≡ []
 
--- inside the header of a packet of the chosen kind, with so many bytes of its content left
+-- inside the header of a packet of the chosen stream, with so many bytes of its content left
 pub record IsAtHeader (chosen : Option ℕ) (start place : ℕ) (now : Option ℕ) (part kept : List ℕ)
     (header : Header) (left : ℕ) : Type 0 where
   pub zeros : ℕ
-  pub kind : ℕ
+  pub value : ℕ
   pub high : ℕ
   pub low : ℕ
   pub front : List ℕ
-  pub are : part ≡ with_prefix zeros (kind ∷ high ∷ low ∷ front)
-  pub kind_is : 187 ≤ kind
-  pub chosen_is : is_chosen (choose chosen kind) kind ≡ true
+  pub are : part ≡ with_prefix zeros (value ∷ high ∷ low ∷ front)
+  pub value_is : 187 ≤ value
+  pub chosen_is : is_chosen (choose chosen value) value ≡ true
   pub length_is : length front + left ≡ high * 256 + low
   pub video_is : (rest : List ℕ) → length rest ≡ left →
       video_in (front ++ rest) ≡ video_from header rest
   pub place_is : place ≡ start + zeros
-  pub now_is : now ≡ choose chosen kind
+  pub now_is : now ≡ choose chosen value
   pub none : kept ≡ []
 
 -- inside an item that any bytes of this number end, all of them video or none
@@ -93,7 +93,7 @@ IsShown (BadCode place) = Unit {0}
 IsShown (BadPacket place) = Unit {0}
 IsShown (Truncated place) = ⊥
 
--- what items leave for a part after them: the kind of packets that was chosen, and where they end
+-- what items leave for a part after them: the stream_id that was chosen, and where they end
 pub record Beginning : Type 0 where
   pub chosen : Option ℕ
   pub start : ℕ
@@ -101,18 +101,18 @@ pub record Beginning : Type 0 where
 abbrev pub begins_at : Option ℕ → ℕ → Beginning
 begins_at chosen start = record { chosen = chosen; start = start }
 
--- a part of the bytes that begins there leads to this state, for an item at this place and the kind
--- that is chosen now; its video is kept
+-- a part of the bytes that begins there leads to this state, for an item at this place and the
+-- stream_id that is chosen now; its video is kept
 abbrev pub IsPart : Beginning → ℕ → Option ℕ → List ℕ → List ℕ → Place → Type 0
 IsPart at place now part kept (Zeros zeros) = IsAtZeros at.chosen zeros now part kept
-IsPart at place now part kept Kind = IsAtPrefix at.start place [] now at.chosen part kept
+IsPart at place now part kept Value = IsAtPrefix at.start place [] now at.chosen part kept
 IsPart at place now part kept Mark =
     IsAtPrefix at.start place (186 ∷ []) now at.chosen part kept
-IsPart at place now part kept (High kind) =
-    IsAtPrefix at.start place (kind ∷ []) now (choose at.chosen kind) part kept × (187 ≤ kind)
-IsPart at place now part kept (Low kind high) =
-    IsAtPrefix at.start place (kind ∷ high ∷ []) now (choose at.chosen kind) part kept
-    × (187 ≤ kind)
+IsPart at place now part kept (High value) =
+    IsAtPrefix at.start place (value ∷ []) now (choose at.chosen value) part kept × (187 ≤ value)
+IsPart at place now part kept (Low value high) =
+    IsAtPrefix at.start place (value ∷ high ∷ []) now (choose at.chosen value) part kept
+    × (187 ≤ value)
 IsPart at place now part kept (InHeader header left) =
     IsAtHeader at.chosen at.start place now part kept header left
 IsPart at place now part kept (Pass left) =
@@ -150,10 +150,10 @@ pub record WasFed (unwrapper : Unwrapper) (seen video : List ℕ) : Type 0 where
 -- the fault that an unwrapper has answered
 abbrev pub fault_at : Place → Option SystemFault
 fault_at (Zeros _) = None
-fault_at Kind = None
+fault_at Value = None
 fault_at Mark = None
-fault_at (High kind) = None
-fault_at (Low kind high) = None
+fault_at (High value) = None
+fault_at (Low value high) = None
 fault_at (InHeader header left) = None
 fault_at (Pass left) = None
 fault_at (Video left) = None
@@ -166,10 +166,10 @@ fault_of unwrapper = fault_at unwrapper.place
 -- where bytes are taken one by one
 abbrev pub IsByByte : Place → Type 0
 IsByByte (Zeros _) = Unit {0}
-IsByByte Kind = Unit {0}
+IsByByte Value = Unit {0}
 IsByByte Mark = Unit {0}
-IsByByte (High kind) = Unit {0}
-IsByByte (Low kind high) = Unit {0}
+IsByByte (High value) = Unit {0}
+IsByByte (Low value high) = Unit {0}
 IsByByte (InHeader header left) = Unit {0}
 IsByByte (Pass left) = ⊥
 IsByByte (Video left) = ⊥
@@ -187,10 +187,10 @@ place_in (Rest count) left =
 -- why a stream that ends at a place, in the item at `item`, is none
 abbrev pub end_fault : Place → ℕ → Option SystemFault
 end_fault (Zeros _) item = None
-end_fault Kind item = Some (Truncated item)
+end_fault Value item = Some (Truncated item)
 end_fault Mark item = Some (Truncated item)
-end_fault (High kind) item = Some (Truncated item)
-end_fault (Low kind high) item = Some (Truncated item)
+end_fault (High value) item = Some (Truncated item)
+end_fault (Low value high) item = Some (Truncated item)
 end_fault (InHeader header left) item = Some (Truncated item)
 end_fault (Pass left) item = Some (Truncated item)
 end_fault (Video left) item = Some (Truncated item)

@@ -42,27 +42,27 @@ pub record IsBadByte (start : ℕ) (tail : List ℕ) (place : ℕ) : Type 0 wher
   pub early : byte ≡ 1 → count < 2
   pub place_is : place ≡ start + count
 
--- a prefix and a kind below B9; the place is that of the prefix
-pub record IsBadKind (start : ℕ) (tail : List ℕ) (place : ℕ) : Type 0 where
+-- a start code of a value below B9; the place is that of the prefix
+pub record IsBadValue (start : ℕ) (tail : List ℕ) (place : ℕ) : Type 0 where
   pub zeros : ℕ
-  pub kind : ℕ
+  pub value : ℕ
   pub rest : List ℕ
-  pub is : tail ≡ with_prefix zeros (kind ∷ rest)
-  pub low : kind < 185
+  pub is : tail ≡ with_prefix zeros (value ∷ rest)
+  pub low : value < 185
   pub place_is : place ≡ start + zeros
 
--- a packet of the chosen kind, of whose content so many bytes stand that no content of its length
+-- a packet of the chosen stream, of whose content so many bytes stand that no content of its length
 -- that begins so has a header; the place is that of its prefix
 pub record IsBadPacket (chosen : Option ℕ) (start : ℕ) (tail : List ℕ) (place : ℕ) : Type 0 where
   pub zeros : ℕ
-  pub kind : ℕ
+  pub value : ℕ
   pub high : ℕ
   pub low : ℕ
   pub front : List ℕ
   pub rest : List ℕ
-  pub is : tail ≡ with_prefix zeros (kind ∷ high ∷ low ∷ (front ++ rest))
-  pub kind_is : 187 ≤ kind
-  pub chosen_is : is_chosen (choose chosen kind) kind ≡ true
+  pub is : tail ≡ with_prefix zeros (value ∷ high ∷ low ∷ (front ++ rest))
+  pub value_is : 187 ≤ value
+  pub chosen_is : is_chosen (choose chosen value) value ≡ true
   pub within : length front ≤ high * 256 + low
   pub none : (more : List ℕ) → length front + length more ≡ high * 256 + low →
       video_in (front ++ more) ≡ None
@@ -82,7 +82,7 @@ pub record LacksEnd (chosen : Option ℕ) (start : ℕ) (tail : List ℕ) (place
 -- why the bytes after some items are no system stream
 abbrev pub IsFault : Option ℕ → ℕ → List ℕ → SystemFault → Type 0
 IsFault chosen start tail (NotPack place) = IsNotPack start tail place
-IsFault chosen start tail (BadCode place) = IsBadByte start tail place ⊎ IsBadKind start tail place
+IsFault chosen start tail (BadCode place) = IsBadByte start tail place ⊎ IsBadValue start tail place
 IsFault chosen start tail (BadPacket place) = IsBadPacket chosen start tail place
 IsFault chosen start tail (Truncated place) = LacksEnd chosen start tail place
 

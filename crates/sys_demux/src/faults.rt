@@ -9,10 +9,10 @@ pub enum SystemFault {
     #[error("the pack header at byte {0} has another form")]
     NotPack(u64),
     /// Where an item must stand, a byte that can't belong to bytes 00 and a prefix, at this place;
-    /// or a kind below B9, with the place of its prefix.
+    /// or a start code value below B9, with the place of its prefix.
     #[error("no pack or packet stands at byte {0}")]
     BadCode(u64),
-    /// A packet of the chosen kind ends before its header does, or its header has none of the
+    /// A packet of the chosen stream ends before its header does, or its header has none of the
     /// forms; the place of its prefix.
     #[error("the packet at byte {0} has no whole header")]
     BadPacket(u64),

@@ -10,14 +10,14 @@ ghost use Rattle.sys_demux.specs.declared.faults.SystemFault.{SystemFault};
 
 use crate::faults::SystemFault;
 use crate::places::{
-    Place, end_fault, header_place, kind_next, length_next, mark_next, pass, video, zeros_next,
+    Place, end_fault, header_place, length_next, mark_next, pass, value_next, video, zeros_next,
 };
 use crate::unwrapper::Unwrapper;
 
-/// The least kind of a packet of video (ISO/IEC 11172-1, section 2.4.4.2: stream_id).
+/// The least stream_id of video (ISO/IEC 11172-1, section 2.4.4.2).
 const FIRST_VIDEO: u8 = 0xe0;
 
-/// The greatest kind of a packet of video.
+/// The greatest stream_id of video.
 const LAST_VIDEO: u8 = 0xef;
 
 /// What a call of [`Unwrapper::feed`] took.
@@ -56,13 +56,13 @@ impl Unwrapper {
                 item = at.saturating_sub(2);
                 zeros_next(zeros, byte, at)
             }
-            Place::Kind => {
+            Place::Value => {
                 chosen = choose(chosen, byte);
-                kind_next(byte, item)
+                value_next(byte, item)
             }
             Place::Mark => mark_next(byte, item),
-            Place::High(kind) => Place::Low(kind, byte),
-            Place::Low(kind, high) => length_next(chosen, kind, high, byte, item),
+            Place::High(value) => Place::Low(value, byte),
+            Place::Low(value, high) => length_next(chosen, value, high, byte, item),
             Place::InHeader(header, left) => header_place(header, byte, left - 1, item),
             Place::Pass(_) | Place::Video(_) | Place::End | Place::Failed(_) => unreachable!(),
         };
@@ -169,13 +169,13 @@ impl Unwrapper {
     }
 }
 
-/// The chosen kind once a packet of this kind stands.
-fn choose(chosen: Option<u8>, kind: u8) -> Option<u8>
-    ensures { result ≡ choose chosen kind }
+/// The chosen stream_id once a packet of this one stands.
+fn choose(chosen: Option<u8>, value: u8) -> Option<u8>
+    ensures { result ≡ choose chosen value }
 {
     match chosen {
         Some(first) => Some(first),
-        None if FIRST_VIDEO <= kind && kind <= LAST_VIDEO => Some(kind),
+        None if FIRST_VIDEO <= value && value <= LAST_VIDEO => Some(value),
         None => None,
     }
 }

@@ -5,7 +5,7 @@ ghost use Rattle.std.specs.Prelude.{length, None, Some};
 ghost use Rattle.sys_demux.specs.Contents.{video_in};
 ghost use Rattle.sys_demux.specs.Standard.{AreElements, Element, HasHeader, IsStreamEnd};
 ghost use Rattle.sys_demux.specs.Standard.{first_stream, first_video, packet_bytes, stream_bytes};
-ghost use Rattle.sys_demux.specs.Standard.{video_kind, with_code};
+ghost use Rattle.sys_demux.specs.Standard.{video_stream_id, with_code};
 ghost use Rattle.sys_demux.specs.Streams.{IsSystem, IsRefused};
 ghost use Rattle.sys_demux.specs.States.{WasFed};
 ghost use Rattle.sys_demux.specs.declared.faults.SystemFault.{SystemFault};
@@ -14,8 +14,8 @@ use crate::unwrapper::Unwrapper;
 
 /// A stream as a multiplexer writes it in the fields of ISO/IEC 11172-1 is read as these fields
 /// say: packs with any clock reference and rate, packets of video with stuffing, a buffer's size
-/// and time stamps or without, and packets of every other kind, in any order. Its video is that of
-/// the first stream of video.
+/// and time stamps or without, and packets of every other stream, in any order. Its video is that
+/// of the first stream of video.
 pub fn law_standard_stream()
     ensures { (elements : List Element) (tail : List ℕ) → AreElements elements → IsStreamEnd tail →
         IsSystem (stream_bytes elements ++ tail) (first_video elements) }
@@ -40,11 +40,11 @@ pub fn law_standard_refusals()
         AreElements elements → stream < 16 →
         ((first_stream elements ≡ None) ⊎ (first_stream elements ≡ Some stream)) →
         ((video : List ℕ) → HasHeader content video → ⊥) →
-        IsRefused (stream_bytes elements ++ packet_bytes front (video_kind stream) content)
+        IsRefused (stream_bytes elements ++ packet_bytes front (video_stream_id stream) content)
         (SystemFault.BadPacket (length (stream_bytes elements) + front)) }
-    ensures code { (elements : List Element) (front kind : ℕ) (rest : List ℕ) →
-        AreElements elements → kind < 0xb9 →
-        IsRefused (stream_bytes elements ++ with_code front kind rest)
+    ensures code { (elements : List Element) (front value : ℕ) (rest : List ℕ) →
+        AreElements elements → value < 0xb9 →
+        IsRefused (stream_bytes elements ++ with_code front value rest)
         (SystemFault.BadCode (length (stream_bytes elements) + front)) }
 {}
 

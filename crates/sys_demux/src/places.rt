@@ -10,11 +10,12 @@ ghost use Rattle.sys_demux.specs.States.{begins_at, place_in, end_fault};
 use crate::faults::SystemFault;
 use crate::headers::{Header, header_next};
 
-/// The kind of the code that ends a stream (ISO/IEC 11172-1, section 2.4.3).
-const END_KIND: u8 = 0xb9;
+/// The start code value of a stream's end (ISO/IEC 11172-1, section 2.4.3).
+const END_VALUE: u8 = 0xb9;
 
-/// The kind of a pack header; packets have greater ones (ISO/IEC 11172-1, section 2.4.3).
-const PACK_KIND: u8 = 0xba;
+/// The start code value of a pack header (ISO/IEC 11172-1, section 2.4.3); packets have greater
+/// ones.
+const PACK_VALUE: u8 = 0xba;
 
 /// The bytes of a pack header after its fifth.
 const PACK_REST_BYTES: u16 = 7;
@@ -25,18 +26,18 @@ pub(crate) enum Place {
     /// Where an item must stand, after bytes 00: none, one, or two or more.
     Zeros(u8),
     /// After a prefix 00 00 01.
-    Kind,
+    Value,
     /// At the fifth byte of a pack header.
     Mark,
-    /// At the first byte of the length of a packet of this kind.
+    /// At the first byte of the length of a packet of this stream_id.
     High(u8),
     /// At the second byte of the length, after the first.
     Low(u8, u8),
-    /// In the header of a packet of the chosen kind, with this many bytes of the packet to come.
+    /// In the header of a packet of the chosen stream, with this many bytes of the packet to come.
     InHeader(Header, u16),
     /// In an item, of which this many bytes are to come and to be passed over.
     Pass(u16),
-    /// In a packet of the chosen kind, of which this many bytes are to come and are video.
+    /// In a packet of the chosen stream, of which this many bytes are to come and are video.
     Video(u16),
     /// After the code of the end.
     End,
@@ -54,24 +55,24 @@ pub(crate) fn zeros_next(zeros: u8, byte: u8, at: u64) -> Place
 {
     match byte {
         0 => Place::Zeros((zeros.min(1)) + 1),
-        1 if zeros >= 2 => Place::Kind,
+        1 if zeros >= 2 => Place::Value,
         _ => Place::Failed(SystemFault::BadCode(at)),
     }
 }
 
-/// The place after the kind of the item at `item`.
-pub(crate) fn kind_next(kind: u8, item: u64) -> Place
+/// The place after the start code value of the item at `item`.
+pub(crate) fn value_next(value: u8, item: u64) -> Place
     ensures sound { IsTrue (is_sound result) }
     ensures next { (chosen now : Option ℕ) (start : ℕ) (part kept : List ℕ) →
         IsAtPrefix start item [] now chosen part kept →
-        IsPart (begins_at chosen start) item (choose now kind) (part ++ kind ∷ []) kept result }
+        IsPart (begins_at chosen start) item (choose now value) (part ++ value ∷ []) kept result }
 {
-    if kind == END_KIND {
+    if value == END_VALUE {
         Place::End
-    } else if kind == PACK_KIND {
+    } else if value == PACK_VALUE {
         Place::Mark
-    } else if kind > PACK_KIND {
-        Place::High(kind)
+    } else if value > PACK_VALUE {
+        Place::High(value)
     } else {
         Place::Failed(SystemFault::BadCode(item))
     }
@@ -113,16 +114,16 @@ pub(crate) fn video(left: u16) -> Place
     }
 }
 
-/// The place after the length of the packet of this kind at `item`.
-pub(crate) fn length_next(chosen: Option<u8>, kind: u8, high: u8, low: u8, item: u64) -> Place
+/// The place after the length of the packet of this stream_id at `item`.
+pub(crate) fn length_next(chosen: Option<u8>, value: u8, high: u8, low: u8, item: u64) -> Place
     ensures sound { IsTrue (is_sound result) }
     ensures next { (before : Option ℕ) (start : ℕ) (part kept : List ℕ) →
-        IsAtPrefix start item (kind ∷ high ∷ []) chosen (choose before kind) part kept →
-        187 ≤ kind →
+        IsAtPrefix start item (value ∷ high ∷ []) chosen (choose before value) part kept →
+        187 ≤ value →
         LeadsTo (begins_at before start) item chosen (part ++ low ∷ []) kept result }
 {
     let length = u16::from(high) * 256 + u16::from(low);
-    if !is_chosen(chosen, kind) {
+    if !is_chosen(chosen, value) {
         pass(length)
     } else if length == 0 {
         Place::Failed(SystemFault::BadPacket(item))
@@ -158,12 +159,12 @@ pub(crate) fn end_fault(place: Place, item: u64) -> Option<SystemFault>
     }
 }
 
-/// Whether a packet of this kind is one of the chosen kind.
-fn is_chosen(chosen: Option<u8>, kind: u8) -> bool
-    ensures { result ≡ is_chosen chosen kind }
+/// Whether a packet of this stream_id is one of the chosen stream.
+fn is_chosen(chosen: Option<u8>, value: u8) -> bool
+    ensures { result ≡ is_chosen chosen value }
 {
     match chosen {
-        Some(first) => first == kind,
+        Some(first) => first == value,
         None => false,
     }
 }

@@ -12,7 +12,7 @@ pub struct Unwrapper {
     pub(crate) place: Place,
     /// The place of the item's prefix.
     pub(crate) item: u64,
-    /// The kind of the first packet of video.
+    /// The stream_id of the first packet of video.
     pub(crate) chosen: Option<u8>,
     /// How many bytes were taken.
     pub(crate) fed: u64,

@@ -6,7 +6,7 @@ use Rattle.sys_demux.specs.declared.places.Place.TheVariants.{InHeader}
 use Rattle.sys_demux.proofs.Parts.{high_more}
 use Rattle.sys_demux.proofs.Reached.{step_byte, moved, sound_header}
 use Rattle.sys_demux.proofs.unwrapper.Unwrapper.take.Goals as goal
-use Rattle.sys_demux.proofs.unwrapper.Unwrapper.take.Goals.{in-Zeros, in-Kind, in-Mark, in-High}
+use Rattle.sys_demux.proofs.unwrapper.Unwrapper.take.Goals.{in-Zeros, in-Value, in-Mark, in-High}
 use Rattle.sys_demux.proofs.unwrapper.Unwrapper.take.Goals.{in-Low, in-InHeader}
 
 pub returns-clause-next : goal.returns-clause-next
@@ -20,10 +20,10 @@ returns-clause-next c = λ seen video was.
           (step_byte byte (subst (λ s. IsReached s u.item u.chosen seen video) w.in-Zeros.is was.reached)
           (λ chosen start part kept size is. inl
           (w.zeros_next-place.ensures.next chosen u.chosen start part kept is (was.count ∙ sym size))))
-      | in-Kind w ↦
+      | in-Value w ↦
           moved w.place-is w.item-is (w.chosen-is ∙ w.choose-chosen.ensures)
-          (step_byte byte (subst (λ s. IsReached s u.item u.chosen seen video) w.in-Kind.is was.reached)
-          (λ chosen start part kept size is. inl (w.kind_next-place.ensures.next chosen u.chosen start part kept is)))
+          (step_byte byte (subst (λ s. IsReached s u.item u.chosen seen video) w.in-Value.is was.reached)
+          (λ chosen start part kept size is. inl (w.value_next-place.ensures.next chosen u.chosen start part kept is)))
       | in-Mark w ↦
           moved w.place-is w.item-is w.chosen-is
           (step_byte byte (subst (λ s. IsReached s u.item u.chosen seen video) w.in-Mark.is was.reached)
