@@ -13,3 +13,4 @@ mod TraceWords
 mod TraceLines
 mod FaultLemmas
 mod LibraryLemmas
+mod RefusalLemmas

@@ -1,5 +1,5 @@
 -- A film that is loaded to be served.
-use Rattle.std.proofs.Common.{◌≡◌, ℕ, ◌+◌, ◌-◌, ◌<◌, ◌≤◌, ◌^◌, List, [], length, take, drop, Some, None, Option, inl, inr, refl, sym, arith, subst}
+use Rattle.std.proofs.Common.{◌≡◌, ℕ, ◌-◌, ◌<◌, ◌≤◌, ◌^◌, List, [], length, take, drop, Some, None, Option, inl, inr, refl, sym, arith, subst}
 use Rattle.std.specs.Prelude.{option_map}
 use Rattle.std.proofs.lemmas.List.{length-drop}
 use Rattle.vod_base.specs.Outside.{File, file_named}
@@ -8,14 +8,15 @@ use Rattle.sys_demux.specs.Streams.{IsRefused, IsSystem}
 use Rattle.sys_demux.specs.declared.faults.SystemFault.{SystemFault}
 use Rattle.troubles.specs.Causes.{IsReadTrouble}
 use Rattle.troubles.specs.declared.faults.Fault.{Fault}
-use Rattle.troubles.specs.declared.faults.Fault.TheVariants.{Film}
 use Rattle.troubles.specs.declared.faults.Trouble.{Trouble}
-use Rattle.troubles.specs.declared.faults.Trouble.TheVariants.{Usage, Refused, StoreFault, SinkFault, NoMemory, GateFault, LinkFault}
 use Rattle.inputs.specs.Files.{IsFront, IsNamed}
-use Rattle.inputs.specs.Films.{IsBytesTrouble, IsFilmTrouble}
+use Rattle.inputs.specs.Films.{IsBytesTrouble, IsFilmTrouble, IsMovedFault, IsStreamRefused, IsSystemTrouble, IsToldFault}
 use Rattle.inputs.specs.Scans.{HoldsVideo}
-use Rattle.inputs.specs.Videos.{IsRefusedAbove, IsStreamFault, IsStreamFaultFrom, IsVideo, IsVideoFrom, fault_from, pack_in}
+use Rattle.inputs.specs.Videos.{IsRefusedAbove, IsStreamFault, IsStreamFaultFrom, IsVideo, IsVideoFrom, IsVideoRefused, pack_in}
+use Rattle.inputs.specs.declared.streams.StreamRefused.{StreamRefused}
+use Rattle.inputs.specs.declared.streams.StreamRefused.TheVariants.{Fault as StreamFault, NoMemory as NoRoom}
 use Rattle.inputs.proofs.ReadLemmas.{first_front}
+use Rattle.inputs.proofs.RefusalLemmas.{each_film_fault, each_system_fault, refusal_map, refusal_read}
 use Rattle.inputs.proofs.Tokens.{slice_from}
 
 -- a file whose size was found has too many bytes
@@ -38,25 +39,30 @@ stream_is file video from pack system =
 
 pub fault_is : {from : ℕ} {own fault : SystemFault} (file : List ℕ) → pack_in file ≡ Some from →
     from ≤ length file → length file ≤ 2 ^ 40 → IsRefused (take (length file - from) (drop from file)) own →
-    ((bytes : List ℕ) → IsRefused bytes own → from + length bytes ≤ 2 ^ 40 → fault ≡ fault_from from own)
-    → IsStreamFault file fault
+    IsMovedFault from own fault → IsStreamFault file fault
 fault_is {from} {own} {fault} file pack within short refused moves =
     let stream : IsRefused (drop from file) own = subst (λ (l : List ℕ). IsRefused l own) (slice_from file from) refused in
     let its : IsStreamFaultFrom (Some from) file fault =
     (own, (stream, moves (drop from file) stream (omega (arith, length-drop from file, within, short)))) in
     subst (λ (o : Option ℕ). IsStreamFaultFrom o file fault) (sym pack) its
 
+-- the trouble with a file whose stream is refused
+pub stream_trouble : {from : ℕ} (file name : List ℕ) (refused : StreamRefused) (t : Trouble) →
+    pack_in file ≡ Some from → from ≤ length file → length file ≤ 2 ^ 40 →
+    IsStreamRefused (take (length file - from) (drop from file)) refused →
+    IsSystemTrouble name (IsToldFault from refused) t → IsBytesTrouble name file t
+stream_trouble file name (StreamFault own) t pack within short refused h =
+    refusal_map name t
+    (λ fault is. each_system_fault (IsVideoRefused file) fault (λ its moves. fault_is file pack within short refused moves) is) h
+stream_trouble file name NoRoom t pack within short refused h =
+    refusal_map name t (λ fault is. each_system_fault (IsVideoRefused file) fault (λ its moves. absurd moves) is) h
+
 -- the refusal of a file's video is that of the file
 pub video_trouble : (name file video : List ℕ) (t : Trouble) → IsVideo file video
     → IsFilmTrouble name (λ fault. refusal video ≡ Some fault) t → IsBytesTrouble name file t
-video_trouble name file video Usage is h = h
-video_trouble name file video (Refused other (Film fault)) is h = (h.0, (video, (is, h.1)))
-video_trouble name file video (Refused other fault) is h = absurd h
-video_trouble name file video (StoreFault other) is h = h
-video_trouble name file video SinkFault is h = h
-video_trouble name file video NoMemory is h = tt
-video_trouble name file video GateFault is h = h
-video_trouble name file video LinkFault is h = h
+video_trouble name file video t is h =
+    refusal_map name t
+    (λ fault refused. each_film_fault (IsVideoRefused file) fault (λ own its. (video, (is, its))) refused) h
 
 -- the bytes of the file of a name, where the library tells what it holds, and at most so many
 pub record WasRead (told : Option (List File)) (name file : List ℕ) (most : ℕ) : Type 0 where
@@ -67,17 +73,8 @@ pub record WasRead (told : Option (List File)) (name file : List ℕ) (most : �
 pub bytes_trouble : {told : Option (List File)} {name file : List ℕ} {most : ℕ} (over : Fault) (faults faults' : ℕ)
     (t : Trouble) → WasRead told name file most → IsBytesTrouble name file t →
     IsReadTrouble (IsNamed name) (IsRefusedAbove most over) told faults faults' t
-bytes_trouble over faults faults' Usage read h = h
-bytes_trouble {file} {most} over faults faults' (Refused other fault) read h = (
-  h.0,
-  λ held is. subst (λ (n : List ℕ). IsRefusedAbove most over held n fault) (sym h.0)
-      (inr (file, (read.found held is, inr (read.short, h.1)))),
-)
-bytes_trouble over faults faults' (StoreFault other) read h = absurd h
-bytes_trouble over faults faults' SinkFault read h = h
-bytes_trouble over faults faults' NoMemory read h = tt
-bytes_trouble over faults faults' GateFault read h = h
-bytes_trouble over faults faults' LinkFault read h = h
+bytes_trouble {name = name} {file} {most} over faults faults' t read h =
+    refusal_read (IsRefusedAbove most over) name faults faults' t (λ held fault is refused. inr (file, (read.found held is, inr (read.short, refused)))) h
 
 pub film_loaded : {held : List File} {name file video : List ℕ} → file_named held name ≡ Some file
     → length file ≤ 2 ^ 40 → IsVideo file video → refusal video ≡ None → HoldsVideo held name video

@@ -12,7 +12,7 @@ use Rattle.mpeg_scan.proofs.StepLemmas.{codes-none, codes-plain, codes-code}
 use Rattle.vod_base.specs.Outside.{File, file_named}
 use Rattle.inputs.specs.Files.{IsFront}
 use Rattle.inputs.specs.Scans.{IsOpened}
-use Rattle.inputs.proofs.ReadLemmas.{first_front, front_rest, one_file, whole_front}
+use Rattle.inputs.proofs.ReadLemmas.{first_front, front_rest, one_file}
 use Rattle.inputs.specs.Openings.{HasNoCode}
 use Rattle.inputs.specs.Videos.{pack_in, pack_of}
 use Rattle.mpeg_scan.specs.declared.codes.Prefix.{Prefix}
@@ -144,10 +144,9 @@ found_opened {held} {name} {size} {bytes} {pack} front is within = record {
 }
 
 pub whole_looked : {held : List File} {name : List ℕ} {size place : ℕ} {prefix : Prefix}
-    → HasLooked held name size place prefix → size ≤ place → IsOpened held name size None
-whole_looked {held} {name} {size} {place} {prefix} so_far end =
-    let found : file_named held name ≡ Some so_far.bytes =
-    whole_front held name size so_far.bytes so_far.front (omega (arith, so_far.long, end)) in
+    → (so_far : HasLooked held name size place prefix) → file_named held name ≡ Some so_far.bytes
+    → IsOpened held name size None
+whole_looked {held} {name} {prefix = prefix} so_far found =
     let same : so_far.bytes ≡ so_far.front.whole = one_file held name so_far.bytes so_far.front.whole found so_far.front.found in
     record {
       file = so_far.bytes;

@@ -1,18 +1,10 @@
 -- What was read of a file so far.
-use Rattle.std.proofs.Common.{◌≡◌, ℕ, ◌+◌, ◌-◌, ◌<◌, ◌≤◌, List, [], ◌++◌, length, take, drop, Some, None, Option, refl, sym, ap, ◌∙◌, arith, unwrap_or, length-append}
-use Rattle.std.specs.Prelude.{option_map}
+use Rattle.std.proofs.Common.{◌≡◌, ℕ, ◌+◌, ◌<◌, ◌≤◌, List, [], ◌++◌, length, take, drop, Some, None, Option, refl, sym, ap, subst, ◌∙◌, arith, unwrap_or, length-append}
+use Rattle.std.specs.Prelude.{option_map, IfSome}
 use Rattle.std.proofs.Math.Seq.{take-add}
 use Rattle.std.proofs.lemmas.List.{take_all, length-take-le, take-append-drop, take-take}
 use Rattle.vod_base.specs.Outside.{File, file_named, bytes_named, IsRead}
-use Rattle.inputs.specs.Files.{IsFront}
-
--- the library holds and counts as before, and where it tells what it holds, the bytes are a front of it
-pub record HasFront (files now : Option (List File)) (faults faults' : ℕ) (name : List ℕ) (size : ℕ)
-    (bytes : List ℕ) : Type 0 where
-  pub kept : now ≡ files
-  pub count : faults ≤ faults'
-  pub told : (held : List File) → files ≡ Some held → Some size ≡ option_map length (file_named held name)
-      → IsFront held name size bytes
+use Rattle.inputs.specs.Files.{IsChunk, IsFront}
 
 -- a size that was found is that of a file
 found_size : (o : Option (List ℕ)) (n : ℕ) → Some n ≡ option_map length o → (b : List ℕ) × ((o ≡ Some b) × (n ≡ length b))
@@ -64,6 +56,11 @@ pub read_some : {held : List File} {name : List ℕ} {size : ℕ} {bytes chunk :
 read_some {held} {name} {chunk} so_far read some before =
     let whole : bytes_named held name ≡ so_far.whole = named held name so_far.whole so_far.found in
     read.some some (omega (arith, so_far.sized, before, ap length whole))
+
+-- a read that answers a count
+pub some_chunk : {size at room count : ℕ} {o : Option ℕ} → o ≡ Some count → IfSome o (IsChunk size at room) →
+    IsChunk size at room count
+some_chunk {size} {at} {room} is h = subst (λ (p : Option ℕ). IfSome p (IsChunk size at room)) is h
 
 pub one_file : (held : List File) (name a b : List ℕ) → file_named held name ≡ Some a → file_named held name ≡ Some b → a ≡ b
 one_file held name a b p q = let e : Some a ≡ Some b = sym p ∙ q in cc

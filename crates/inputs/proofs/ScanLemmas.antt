@@ -18,22 +18,14 @@ use Rattle.mpeg_scan.proofs.FilmLemmas.{length-read, calls-none, refusal-at_code
 use Rattle.troubles.specs.declared.faults.Fault.{Fault}
 use Rattle.troubles.specs.declared.faults.Fault.TheVariants.{Film}
 use Rattle.troubles.specs.declared.faults.Trouble.{Trouble}
-use Rattle.troubles.specs.declared.faults.Trouble.TheVariants.{Usage, Refused, StoreFault, SinkFault, NoMemory, GateFault, LinkFault}
-use Rattle.troubles.specs.Causes.{IsReadTrouble}
+use Rattle.troubles.specs.Causes.{IsReadTrouble, IsStoreKept}
 use Rattle.troubles.proofs.CauseLemmas.{trouble_map}
 use Rattle.inputs.specs.Films.{IsFilmTrouble}
 use Rattle.inputs.specs.Files.{IsFront, IsMissing, IsNamed, IsNever}
-use Rattle.inputs.specs.Scans.{HasEnded, HasHeard, HasRefused, HasScanned, HasScannedAll, HasTold, IsFilmRefused, IsOpened, WasOpened}
+use Rattle.inputs.specs.Scans.{HasEnded, HasHeard, HasRefused, HasScanned, HasScannedAll, HasTold, IsFilmRefused, IsOpened, IsScanTrouble, WasOpened}
 use Rattle.inputs.specs.Videos.{IsVideo, IsVideoFrom, pack_in}
-use Rattle.inputs.proofs.ReadLemmas.{first_front, front_rest, one_file, whole_front}
-
--- the library holds and counts as before, and the film before the place was scanned
-pub record HasFed (Heard : List Call → Type 0) (files now : Option (List File)) (faults faults' : ℕ)
-    (name : List ℕ) (size place : ℕ) (scanner : Scanner) : Type 0 where
-  pub kept : now ≡ files
-  pub count : faults ≤ faults'
-  pub within : place ≤ size
-  pub scanned : HasScanned Heard files name size place scanner
+use Rattle.inputs.proofs.ReadLemmas.{first_front, front_rest, one_file}
+use Rattle.inputs.proofs.RefusalLemmas.{each_film_fault, refusal_read}
 
 -- a video that a file is
 pub plain_video : (held : List File) (name : List ℕ) (size : ℕ) (whole : List ℕ) → IsOpened held name size None
@@ -160,13 +152,14 @@ refused_ended scanner video short so_far =
 -- ---- the whole film
 
 pub all_scanned : {Heard : List Call → Type 0} {told' : Option (List File)} {name : List ℕ} {size place : ℕ}
-    {scanner : Scanner} → HasScanned Heard told' name size place scanner → place ≤ size →
-    ((held : List File) → told' ≡ Some held → size ≤ place) → HasScannedAll Heard told' name size scanner
-all_scanned {Heard} {name} {size} {place} so_far within end = record {
+    {scanner : Scanner} → (so_far : HasScanned Heard told' name size place scanner) → place ≤ size →
+    ((held : List File) → told' ≡ Some held → file_named held name ≡ Some so_far.bytes) →
+    HasScannedAll Heard told' name size scanner
+all_scanned {Heard} {name} so_far within whole = record {
   bytes = so_far.bytes;
   few = omega (arith, so_far.long, within);
   scanned = so_far.scanned;
-  whole = λ held is. whole_front held name size so_far.bytes (so_far.front held is) (omega (arith, so_far.long, end held is));
+  whole = whole;
 }
 
 pub film_heard : {Heard Heard' : List Call → Type 0} {told' : Option (List File)} {name : List ℕ} {size : ℕ}
@@ -206,33 +199,14 @@ pub err_map : {T E : Type 0} (P Q : E → Type 0) (r : Result T E) → ((x : E) 
 err_map P Q (Ok x) f h = tt
 err_map P Q (Err e) f h = f e h
 
--- a trouble of the film's end, where the library tells what it holds
-pub end_trouble : {told' : Option (List File)} {Refuses : FilmFault → Type 0} (name : List ℕ) (faults faults' : ℕ)
+-- the trouble with a film whose video is refused, where the library tells what it holds
+pub film_trouble : {told : Option (List File)} {Refuses : FilmFault → Type 0} (name : List ℕ) (faults faults' : ℕ)
     (t : Trouble) →
-    ((held : List File) (fault : FilmFault) → told' ≡ Some held → Refuses fault →
-    IsFilmRefused held name (Film fault)) → IsFilmTrouble name Refuses t →
-    IsReadTrouble (IsNamed name) IsFilmRefused told' faults faults' t
-end_trouble name faults faults' Usage refuses h = absurd h
-end_trouble name faults faults' (Refused other (Film fault)) refuses h =
-    (h.0, λ held is. subst (λ (n : List ℕ). IsFilmRefused held n (Film fault)) (sym h.0) (refuses held fault is h.1))
-end_trouble name faults faults' (Refused other fault) refuses h = absurd h
-end_trouble name faults faults' (StoreFault other) refuses h = absurd h
-end_trouble name faults faults' SinkFault refuses h = absurd h
-end_trouble name faults faults' NoMemory refuses h = tt
-end_trouble name faults faults' GateFault refuses h = absurd h
-end_trouble name faults faults' LinkFault refuses h = absurd h
-
--- a trouble with a film that is refused for one reason, as one for another
-pub film_trouble_map : {Refuses Refuses' : FilmFault → Type 0} (name : List ℕ) (t : Trouble) →
-    ((fault : FilmFault) → Refuses fault → Refuses' fault) → IsFilmTrouble name Refuses t → IsFilmTrouble name Refuses' t
-film_trouble_map name Usage refuses h = absurd h
-film_trouble_map name (Refused other (Film fault)) refuses h = (h.0, refuses fault h.1)
-film_trouble_map name (Refused other fault) refuses h = absurd h
-film_trouble_map name (StoreFault other) refuses h = absurd h
-film_trouble_map name SinkFault refuses h = absurd h
-film_trouble_map name NoMemory refuses h = tt
-film_trouble_map name GateFault refuses h = absurd h
-film_trouble_map name LinkFault refuses h = absurd h
+    ((held : List File) (fault : FilmFault) → told ≡ Some held → Refuses fault →
+    IsFilmRefused held name (Film fault)) → IsFilmTrouble name Refuses t → IsScanTrouble name told faults faults' t
+film_trouble name faults faults' t refuses h =
+    refusal_read IsFilmRefused name faults faults' t
+    (λ held fault is r. each_film_fault (IsFilmRefused held name) fault (λ own its. refuses held own is its) r) h
 
 -- the trouble of a read, where each cause follows from another
 pub read_trouble_map : {Reads Reads' : List ℕ → Type 0} {Refuses Refuses' : List File → List ℕ → Fault → Type 0}
@@ -265,14 +239,9 @@ read_trouble_map {Reads} {Reads'} {Refuses} {Refuses'} {told} before after t rea
     })
     h
 
--- more of the library was read: it holds what it held, and counts no fewer faults
-pub record ReadOn (told told' : Option (List File)) (a b : ℕ) : Type 0 where
-  pub kept : told' ≡ told
-  pub count : a ≤ b
-
 -- what was found out before is not less known after that
 pub trouble_on : {told told' : Option (List File)} {a b : ℕ} (name : List ℕ) (Refuses : List File → List ℕ → Fault → Type 0)
-    (c : ℕ) (t : Trouble) → ReadOn told told' a b →
+    (c : ℕ) (t : Trouble) → IsStoreKept told told' a b →
     IsReadTrouble (IsNamed name) Refuses told' b c t → IsReadTrouble (IsNamed name) Refuses told a c t
 trouble_on {told} {told'} {a} {b} name Refuses c t on h =
     trouble_map (record {
@@ -301,14 +270,14 @@ trouble_on {told} {told'} {a} {b} name Refuses c t on h =
 
 -- the same of a read that is never refused
 pub never_refused : {told told' : Option (List File)} {a b : ℕ} (name : List ℕ) (Refuses : List File → List ℕ → Fault → Type 0)
-    (c : ℕ) (t : Trouble) → ReadOn told told' a b →
+    (c : ℕ) (t : Trouble) → IsStoreKept told told' a b →
     IsReadTrouble (IsNamed name) IsNever told' b c t → IsReadTrouble (IsNamed name) Refuses told a c t
 never_refused {a} name Refuses c t on h =
     read_trouble_map a c t (λ n is. is) (λ held n fault told_is named never. absurd never) (trouble_on name IsNever c t on h)
 
 -- and of a call's answer
 pub troubles_on : {told told' : Option (List File)} {a b : ℕ} (name : List ℕ) (c : ℕ)
-    (r : Result Ending Trouble) → ReadOn told told' a b →
+    (r : Result Ending Trouble) → IsStoreKept told told' a b →
     IfErr r (IsReadTrouble (IsNamed name) IsFilmRefused told' b c) → IfErr r (IsReadTrouble (IsNamed name) IsFilmRefused told a c)
 troubles_on name c (Ok ending) on h = tt
 troubles_on name c (Err t) on h = trouble_on name IsFilmRefused c t on h

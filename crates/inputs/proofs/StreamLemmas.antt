@@ -1,13 +1,13 @@
 -- A system stream that is unwrapped and scanned chunk by chunk.
-use Rattle.std.proofs.Common.{◌≡◌, ℕ, ◌+◌, ◌-◌, ◌≤◌, ◌^◌, List, [], ◌∷◌, ◌++◌, append_assoc, length, take, drop, replicate, Some, Option, inl, inr, sym, ap, ◌∙◌, arith, subst, length-append}
-use Rattle.std.proofs.lemmas.List.{length-take-le, length-drop, length-replicate, append-nil, take_all, take-append-drop}
+use Rattle.std.proofs.Common.{◌≡◌, ℕ, ◌+◌, ◌-◌, ◌≤◌, ◌^◌, List, [], ◌∷◌, ◌++◌, append_assoc, length, take, drop, replicate, Some, Option, inl, inr, refl, sym, ap, ◌∙◌, arith, subst, length-append}
+use Rattle.std.proofs.lemmas.List.{length-take-le, length-drop, length-replicate, append-nil, take-append-drop}
 use Rattle.std.proofs.Math.Seq.{drop-append_seam, take-add}
 use Rattle.vod_base.specs.Outside.{File, file_named}
 use Rattle.mpeg_scan.specs.declared.faults.FilmFault.{FilmFault}
 use Rattle.mpeg_scan.specs.declared.scanner.Scanner.{Scanner}
 use Rattle.mpeg_scan.specs.Calls.{Call}
 use Rattle.mpeg_scan.specs.Films.{refusal}
-use Rattle.mpeg_scan.specs.Scans.{HasScannedBytes, IsReady, bytes_fed}
+use Rattle.mpeg_scan.specs.Scans.{HasScannedBytes}
 use Rattle.sys_demux.specs.Items.{bytes_of}
 use Rattle.sys_demux.specs.States.{WasFed}
 use Rattle.sys_demux.specs.Streams.{IsFault, IsRefused, IsSystem}
@@ -16,13 +16,16 @@ use Rattle.sys_demux.specs.declared.faults.SystemFault.TheVariants.{NotPack, Bad
 use Rattle.sys_demux.specs.declared.unwrapper.Unwrapper.{Unwrapper}
 use Rattle.sys_demux.proofs.Parts.{length_prefixed}
 use Rattle.troubles.specs.declared.faults.Fault.TheVariants.{Film, System}
+use Rattle.troubles.specs.declared.faults.Trouble.{Trouble}
 use Rattle.inputs.specs.Files.{IsFront}
-use Rattle.inputs.specs.Scans.{HasEnded, HasHeard, HasRefused, HasStreamed, HasStreamedAll, HasTaken, HasUnwrapped, IsFilmRefused, IsOpened, IsChunkRefused, IsStreamFront, WasOpened}
+use Rattle.inputs.specs.Films.{IsMovedFault, IsSystemTrouble, IsToldFault}
+use Rattle.inputs.specs.Scans.{HasEnded, HasHeard, HasRefused, HasStreamed, HasStreamedAll, HasTaken, HasUnwrapped, IsFilmRefused, IsOpened, IsChunkRefused, IsScanTrouble, IsStreamFront, WasOpened}
 use Rattle.inputs.specs.declared.streams.StreamRefused.{StreamRefused}
 use Rattle.inputs.specs.declared.streams.StreamRefused.TheVariants.{Fault as StreamFault, NoMemory as NoRoom}
 use Rattle.inputs.proofs.Tokens.{slice_from}
 use Rattle.inputs.specs.Videos.{IsStreamFaultFrom, IsVideo, IsVideoFrom, fault_from, pack_in, place_of}
 use Rattle.inputs.proofs.ReadLemmas.{front_rest, one_file}
+use Rattle.inputs.proofs.RefusalLemmas.{each_system_fault, refusal_read}
 use Rattle.inputs.proofs.ScanLemmas.{none_told}
 
 -- ---- the place of a fault lies in the stream
@@ -50,6 +53,16 @@ fault_within bytes fault h =
       ap length h.bytes_are,
       length-append (bytes_of h.items) h.tail,
     )
+
+-- a fault at a place of the stream, moved by a sum that has room
+pub moved : {at sum : ℕ} {fault : SystemFault} {bytes : List ℕ} (place : ℕ) (Variant : ℕ → SystemFault) →
+    ((n : ℕ) → place_of (Variant n) ≡ n) → ((n : ℕ) → fault_from place (Variant n) ≡ Variant (place + n)) →
+    fault ≡ Variant at → IsRefused bytes fault → (at ≤ length bytes → sum ≡ place + at) →
+    Variant sum ≡ fault_from place fault
+moved {at} {fault = fault} {bytes = bytes} place Variant place_is from_is is refused sum_is =
+    let within : place_of fault ≤ length bytes = fault_within bytes fault refused in
+    ap Variant (sum_is (omega (arith, within, ap place_of is, place_is at))) ∙ sym (from_is at)
+    ∙ ap (fault_from place) (sym is)
 
 -- ---- a chunk more
 
@@ -143,10 +156,6 @@ stream_rest : (before rest whole : List ℕ) (from : ℕ) → before ++ rest ≡
 stream_rest before rest whole from is long =
     ap (drop from) (sym is) ∙ ap (λ (n : ℕ). drop n (before ++ rest)) (sym long) ∙ drop-append_seam before rest
 
--- a fault of a stream that begins at a place, told of the file
-abbrev pub IsMovedFault : ℕ → SystemFault → SystemFault → Type 0
-IsMovedFault from own fault = (bytes : List ℕ) → IsRefused bytes own → from + length bytes ≤ 2 ^ 40 → fault ≡ fault_from from own
-
 -- the stream of a file, and one of its faults
 stream_fault : {held : List File} {name : List ℕ} {size from : ℕ} {whole stream : List ℕ}
     {own fault : SystemFault} → IsOpened held name size (Some from) → file_named held name ≡ Some whole →
@@ -182,12 +191,29 @@ chunk_fault {held} {name} {size} {from} {seen} {chunk} read refused moves =
   where
     open read use {front, opened, short}
 
+-- the same of why the chunk can't be taken
+pub chunk_told : {held : List File} {name : List ℕ} {size from : ℕ} {seen chunk : List ℕ} {fault : SystemFault}
+    (refused : StreamRefused) → ChunkRead held name size from seen chunk → IsChunkRefused seen chunk refused →
+    IsToldFault from refused fault → IsFilmRefused held name (System fault)
+chunk_told (StreamFault own) read refused moves = chunk_fault read refused moves
+chunk_told NoRoom read refused moves = absurd moves
+
+-- the trouble with a film whose stream is refused, where the library tells what it holds
+pub system_trouble : {told : Option (List File)} {Refuses : SystemFault → Type 0} (name : List ℕ) (faults faults' : ℕ)
+    (t : Trouble) →
+    ((held : List File) (fault : SystemFault) → told ≡ Some held → Refuses fault →
+    IsFilmRefused held name (System fault)) → IsSystemTrouble name Refuses t → IsScanTrouble name told faults faults' t
+system_trouble name faults faults' t refuses h =
+    refusal_read IsFilmRefused name faults faults' t
+    (λ held fault is r. each_system_fault (IsFilmRefused held name) fault (λ own its. refuses held own is its) r) h
+
 -- ---- the whole stream
 
 pub all_streamed : {Heard : List Call → Type 0} {told : Option (List File)} {name : List ℕ} {size from place : ℕ}
     {unwrapper : Unwrapper} {scanner : Scanner} →
-    HasStreamed Heard told name size from place unwrapper scanner → place ≤ size →
-    ((held : List File) → told ≡ Some held → size ≤ place) →
+    (so_far : HasStreamed Heard told name size from place unwrapper scanner) → place ≤ size →
+    ((held : List File) → told ≡ Some held → (bytes : List ℕ) → IsFront held name size bytes → length bytes ≡ place →
+    file_named held name ≡ Some bytes) →
     HasStreamedAll Heard told name size from unwrapper scanner
 all_streamed {Heard} {name} {size} {from} {place} so_far within end = record {
   seen = so_far.seen;
@@ -195,11 +221,9 @@ all_streamed {Heard} {name} {size} {from} {place} so_far within end = record {
   unwrapped = so_far.unwrapped;
   whole = λ held is.
       let front : IsStreamFront size from so_far.seen held name = so_far.front held is in
-      let whole : front.0 ++ so_far.seen ≡ front.1.1.whole =
-      front.1.1.front
-      ∙ take_all (length (front.0 ++ so_far.seen)) front.1.1.whole
-      (omega (arith, length-append front.0 so_far.seen, front.1.0, so_far.long, end held is, front.1.1.sized)) in
-      (front.1.1.whole, (front.1.1.found, stream_rest front.0 so_far.seen front.1.1.whole from whole front.1.0));
+      let whole : List ℕ = front.0 ++ so_far.seen in
+      let long : length whole ≡ place = omega (arith, length-append front.0 so_far.seen, front.1.0, so_far.long) in
+      (whole, (end held is whole front.1.1 long, stream_rest front.0 so_far.seen whole from refl front.1.0));
 }
 
 pub end_fault : {Heard : List Call → Type 0} {told : Option (List File)} {held : List File} {name : List ℕ}
@@ -266,18 +290,6 @@ video_refused {Heard} {held} {name} {from} short opened so_far is system refused
         ),
       ),
     )
-
--- the library holds and counts as before; the stream before the place was unwrapped; and where the library tells what it holds,
--- the reads end with the stream
-pub record HasFedStream (Heard : List Call → Type 0) (Ready : ℕ → Type 0) (files now : Option (List File))
-    (faults faults' : ℕ) (name : List ℕ) (size from place : ℕ)
-    (unwrapper : Unwrapper) (scanner : Scanner) : Type 0 where
-  pub kept : now ≡ files
-  pub count : faults ≤ faults'
-  pub within : place ≤ size
-  pub few : bytes_fed scanner ≤ unwrapper.fed
-  pub ready : IsReady Ready scanner
-  pub streamed : HasStreamed Heard files name size from place unwrapper scanner
 
 -- the parts of a chunk, one after another
 pub parts_joined : (seen chunk : List ℕ) (at taken : ℕ)

@@ -1,5 +1,5 @@
--- Reading a file of a library whole.
-use Rattle.std.specs.Prelude.{◌≡◌, ℕ, List, length, take, Some, None}
+-- Reading a file of a library.
+use Rattle.std.specs.Prelude.{◌≡◌, ℕ, ◌+◌, ◌<◌, ◌≤◌, List, ◌++◌, length, take, Option, Some, None}
 use Rattle.vod_base.specs.Outside.{File, file_named}
 use Rattle.troubles.specs.declared.faults.Fault.{Fault}
 use Rattle.troubles.specs.declared.faults.Fault.TheVariants.{NotFound}
@@ -22,3 +22,16 @@ pub record IsFront (held : List File) (name : List ℕ) (size : ℕ) (bytes : Li
   pub found : file_named held name ≡ Some whole
   pub sized : size ≡ length whole
   pub front : bytes ≡ take (length bytes) whole
+
+-- a read at a place of the file came to so many bytes: some, no more than there was room for, and
+-- none beyond the file's end
+pub record IsChunk (size at room count : ℕ) : Type 0 where
+  pub some : 0 < count
+  pub fits : count ≤ room
+  pub within : at + count ≤ size
+
+-- a read after these bytes of the file gave the next ones, which stand at the front of `into`; or
+-- the file ends there
+abbrev pub IsNextRead : List File → List ℕ → ℕ → List ℕ → List ℕ → Option ℕ → Type 0
+IsNextRead held name size bytes into (Some count) = IsFront held name size (bytes ++ take count into)
+IsNextRead held name size bytes into None = file_named held name ≡ Some bytes

@@ -1,10 +1,11 @@
 //! Reads a file of the library.
 
-ghost use Rattle.std.specs.Prelude.{◌≡◌, ◌<◌, ◌≤◌, ◌+◌, ◌++◌, Some, ℕ, List, length, take};
-ghost use Rattle.std.specs.Prelude.{option_map, vec_len, IfErr, IfOk};
+ghost use Rattle.std.specs.Prelude.{◌≡◌, ◌<◌, ◌≤◌, Some, ℕ, List, length};
+ghost use Rattle.std.specs.Prelude.{option_map, vec_len, IfErr, IfOk, IfSome};
 ghost use Rattle.vod_base.specs.Outside.{File, file_named};
 ghost use Rattle.troubles.specs.Causes.{IsReadOnly, IsReadTrouble};
-ghost use Rattle.inputs.specs.Files.{IsFront, IsMissing, IsNamed, IsNever};
+ghost use Rattle.inputs.specs.Files.{IsChunk, IsFront, IsMissing, IsNamed, IsNever};
+ghost use Rattle.inputs.specs.Files.{IsNextRead};
 
 use std::alloc::{AllocError, Global};
 use troubles::{Fault, Trouble};
@@ -31,7 +32,7 @@ pub fn read_input<'a, L: Library>(
         (L.files library.old) (L.faults library.old) (L.faults library.new)) }
 {
     let size = find_file(library, name)?;
-    read_bytes(alloc, library, name, size)
+    SizedFile { name, size }.read_bytes(alloc, library)
 }
 
 /// That many zero bytes.
@@ -56,83 +57,64 @@ pub(crate) fn find_file<'a, L: Library>(library: &mut L, name: &'a str) -> Resul
     }
 }
 
-/// Reads the bytes of a file of that size from a place on, and answers how many: 0 at its end.
-pub(crate) fn read_at<'a, L: Library>(
-    library: &mut L,
-    name: &'a str,
-    size: u64,
-    at: u64,
-    chunk: &mut [u8],
-) -> Result<usize, Trouble<'a>>
-    requires some { 0 < length chunk.old }
-    requires before { at < size }
-    ensures library { IsReadOnly L.files L.faults library.old library.new }
-    ensures within { IfOk result (λ count. count ≤ length chunk.new) }
-    ensures fits { IfOk result (λ count. at + count ≤ size) }
-    ensures told { (held : List File) (bytes : List ℕ) → L.files library.old ≡ Some held
-        → IsFront held name.entry.now size bytes → length bytes ≡ at
-        → IfOk result (λ count. IsFront held name.entry.now size (bytes ++ take count chunk.new)) }
-    ensures more { (held : List File) (bytes : List ℕ) → L.files library.old ≡ Some held
-        → IsFront held name.entry.now size bytes → length bytes ≡ at
-        → IfOk result (λ count. 0 < count) }
-    ensures trouble { IfErr result (IsReadTrouble (IsNamed name.entry.now) IsNever
-        (L.files library.old) (L.faults library.old) (L.faults library.new)) }
-{
-    match library.read(name, at, chunk) {
-        Ok(count) => Ok(count.min((size - at) as usize)),
-        Err(_) => Err(Trouble::StoreFault(name)),
-    }
+/// A file of the library whose size was found.
+#[derive(Clone, Copy)]
+pub(crate) struct SizedFile<'a> {
+    /// Its name.
+    pub(crate) name: &'a str,
+    /// How many bytes it has.
+    pub(crate) size: u64,
 }
 
-/// Reads a file of that size, by reads of at most 65,536 bytes from its beginning, until a read
-/// answers 0 or the size is reached.
-pub(crate) fn read_bytes<'a, L: Library>(
-    alloc: Global,
-    library: &mut L,
-    name: &'a str,
-    size: u64,
-) -> Result<Vec<u8>, Trouble<'a>>
-    ensures library { IsReadOnly L.files L.faults library.old library.new }
-    ensures read { (held : List File) → L.files library.old ≡ Some held
-        → Some size ≡ option_map length (file_named held name.entry.now)
-        → IfOk result (λ bytes. file_named held name.entry.now ≡ Some bytes.items) }
-    ensures within { IfOk result (λ bytes. vec_len bytes ≤ size) }
-    ensures trouble { IfErr result (IsReadTrouble (IsNamed name.entry.now) IsNever
-        (L.files library.old) (L.faults library.old) (L.faults library.new)) }
-{
-    let mut bytes = Vec::with_capacity(alloc, size as usize)?;
-    let mut chunk = zeros(alloc, CHUNK)?;
-    while (bytes.len() as u64) < size {
-        let count = read_chunk(library, name, size, &mut chunk, &mut bytes)?;
-        if count == 0 {
-            return Ok(bytes);
+impl<'a> SizedFile<'a> {
+    /// Reads the bytes from a place on into the front of `into`, as many as one read gives, and
+    /// answers how many: None at the file's end.
+    pub(crate) fn read_at<L: Library>(
+        self,
+        library: &mut L,
+        at: u64,
+        into: &mut [u8],
+    ) -> Result<Option<usize>, Trouble<'a>>
+        requires some { 0 < length into.old }
+        requires within { at ≤ self.size }
+        ensures library { IsReadOnly L.files L.faults library.old library.new }
+        ensures chunk { IfOk result (λ chunk.
+            IfSome chunk (IsChunk self.entry.size at (length into.new))) }
+        ensures told { (held : List File) (bytes : List ℕ) → L.files library.old ≡ Some held
+            → IsFront held self.entry.name.now self.entry.size bytes → length bytes ≡ at
+            → IfOk result (IsNextRead held self.entry.name.now self.entry.size bytes into.new) }
+        ensures trouble { IfErr result (IsReadTrouble (IsNamed self.entry.name.now) IsNever
+            (L.files library.old) (L.faults library.old) (L.faults library.new)) }
+    {
+        if at == self.size {
+            return Ok(None);
+        }
+        match library.read(self.name, at, into) {
+            Ok(0) => Ok(None),
+            Ok(count) => Ok(Some(count.min((self.size - at) as usize))),
+            Err(_) => Err(Trouble::StoreFault(self.name)),
         }
     }
-    Ok(bytes)
-}
 
-/// Reads one chunk after the bytes read so far, and answers how many bytes it had: 0 at the end.
-fn read_chunk<'a, L: Library>(
-    library: &mut L,
-    name: &'a str,
-    size: u64,
-    chunk: &mut [u8],
-    bytes: &mut Vec<u8>,
-) -> Result<usize, Trouble<'a>>
-    requires some { 0 < length chunk.old }
-    requires before { vec_len bytes.old < size }
-    ensures library { IsReadOnly L.files L.faults library.old library.new }
-    ensures longer { vec_len bytes.old ≤ vec_len bytes.new }
-    ensures within { vec_len bytes.new ≤ size }
-    ensures grows { IfOk result (λ count. vec_len bytes.new ≡ vec_len bytes.old + count) }
-    ensures told { (held : List File) → L.files library.old ≡ Some held →
-        IsFront held name.entry.now size bytes.old.items
-        → IfOk result (λ count. IsFront held name.entry.now size bytes.new.items × (0 < count)) }
-    ensures trouble { IfErr result (IsReadTrouble (IsNamed name.entry.now) IsNever
-        (L.files library.old) (L.faults library.old) (L.faults library.new)) }
-{
-    let at = bytes.len() as u64;
-    let count = read_at(library, name, size, at, chunk)?;
-    bytes.extend_from_slice(&chunk[..count])?;
-    Ok(count)
+    /// Reads the whole file, by reads of at most 65,536 bytes.
+    pub(crate) fn read_bytes<L: Library>(
+        self,
+        alloc: Global,
+        library: &mut L,
+    ) -> Result<Vec<u8>, Trouble<'a>>
+        ensures library { IsReadOnly L.files L.faults library.old library.new }
+        ensures read { (held : List File) → L.files library.old ≡ Some held
+            → Some self.entry.size ≡ option_map length (file_named held self.entry.name.now)
+            → IfOk result (λ bytes. file_named held self.entry.name.now ≡ Some bytes.items) }
+        ensures within { IfOk result (λ bytes. vec_len bytes ≤ self.entry.size) }
+        ensures trouble { IfErr result (IsReadTrouble (IsNamed self.entry.name.now) IsNever
+            (L.files library.old) (L.faults library.old) (L.faults library.new)) }
+    {
+        let mut bytes = Vec::with_capacity(alloc, self.size as usize)?;
+        let mut chunk = zeros(alloc, CHUNK)?;
+        while let Some(count) = self.read_at(library, bytes.len() as u64, &mut chunk)? {
+            bytes.extend_from_slice(&chunk[..count])?;
+        }
+        Ok(bytes)
+    }
 }

@@ -12,10 +12,10 @@ ghost use Rattle.inputs.specs.Films.{IsStreamRefused};
 ghost use Rattle.inputs.specs.Scans.{HoldsVideo};
 ghost use Rattle.inputs.specs.Videos.{IsFilmRefused, IsRefusedAbove, IsVideo};
 
-use crate::files::{find_file, read_bytes};
+use crate::files::{SizedFile, find_file};
 use crate::openings::pack_in;
 use crate::scans::scan_trouble;
-use crate::streams::{StreamRefused, move_fault};
+use crate::streams::{StreamRefused, stream_trouble};
 use film_frames::Stored;
 use mpeg_scan::{Film, FilmFault, MAX_FILM_BYTES, scan};
 use std::alloc::Global;
@@ -118,11 +118,7 @@ fn video_of<'a>(alloc: Global, name: &'a str, file: Vec<u8>) -> Result<Vec<u8>, 
     };
     match unwrap_stream(alloc, &file[from as usize..]) {
         Ok(video) => Ok(video),
-        Err(StreamRefused::Fault(fault)) => Err(Trouble::Refused(
-            name,
-            Fault::System(move_fault(from, fault)),
-        )),
-        Err(StreamRefused::NoMemory) => Err(Trouble::NoMemory),
+        Err(refused) => Err(stream_trouble(name, from, refused)),
     }
 }
 
@@ -172,7 +168,7 @@ fn load_within<'a, L: Library>(
     if most < size {
         return Err(Trouble::Refused(name, over));
     }
-    let file = read_bytes(alloc, library, name, size)?;
+    let file = SizedFile { name, size }.read_bytes(alloc, library)?;
     let film = scan_file(alloc, name, file)?;
     let stored = store(alloc, name, film)?;
     Ok(stored)

@@ -9,7 +9,7 @@ ghost use Rattle.inputs.specs.Openings.{HasNoCode, IsFirstCode, IsFoundBy};
 ghost use Rattle.inputs.specs.Scans.{IsOpened};
 ghost use Rattle.inputs.specs.Videos.{pack_in};
 
-use crate::files::read_at;
+use crate::files::SizedFile;
 use mpeg_scan::Prefix;
 use troubles::Trouble;
 use vod_base::Library;
@@ -30,31 +30,26 @@ pub(crate) fn pack_in(file: &[u8]) -> Option<u64>
     }
 }
 
-/// Where the system stream in a file of that size begins, if its first start code is that of a
+/// Where the system stream in a file of the library begins, if its first start code is that of a
 /// pack.
 pub(crate) fn find_pack<'a, L: Library>(
     library: &mut L,
-    name: &'a str,
-    size: u64,
+    file: SizedFile<'a>,
     chunk: &mut [u8],
 ) -> Result<Option<u64>, Trouble<'a>>
     requires some { 0 < length chunk.old }
-    requires short { size ≤ 2 ^ 40 }
+    requires short { file.size ≤ 2 ^ 40 }
     ensures library { IsReadOnly L.files L.faults library.old library.new }
     ensures opened { (held : List File) → L.files library.old ≡ Some held
-        → Some size ≡ option_map length (file_named held name.entry.now)
-        → IfOk result (IsOpened held name.entry.now size) }
-    ensures within { IfOk result (λ from. IfSome from (λ place. place ≤ size)) }
-    ensures trouble { IfErr result (IsReadTrouble (IsNamed name.entry.now) IsNever
+        → Some file.entry.size ≡ option_map length (file_named held file.entry.name.now)
+        → IfOk result (IsOpened held file.entry.name.now file.entry.size) }
+    ensures within { IfOk result (λ from. IfSome from (λ place. place ≤ file.entry.size)) }
+    ensures trouble { IfErr result (IsReadTrouble (IsNamed file.entry.name.now) IsNever
         (L.files library.old) (L.faults library.old) (L.faults library.new)) }
 {
     let mut prefix = Prefix::Nothing;
     let mut at = 0;
-    while at < size {
-        let count = read_at(library, name, size, at, chunk)?;
-        if count == 0 {
-            return Ok(None);
-        }
+    while let Some(count) = file.read_at(library, at, chunk)? {
         match open_chunk(prefix, at, &chunk[..count]) {
             FirstCode::NotYet(next) => prefix = next,
             FirstCode::Pack(place) => return Ok(Some(place)),

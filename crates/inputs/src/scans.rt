@@ -1,16 +1,15 @@
 //! Scans a film of the library while it is read.
 
-ghost use Rattle.std.specs.Prelude.{◌≡◌, ◌<◌, ◌≤◌, ◌+◌, ◌^◌, Some, None, ℕ, List, [], length};
+ghost use Rattle.std.specs.Prelude.{◌≡◌, ◌<◌, ◌≤◌, ◌^◌, None, ℕ, List, [], length};
 ghost use Rattle.std.specs.Prelude.{IfErr, IfOk, OnOk};
-ghost use Rattle.vod_base.specs.Outside.{File};
-ghost use Rattle.mpeg_scan.specs.Scans.{IsReady, bytes_fed};
+ghost use Rattle.mpeg_scan.specs.Scans.{IsReady};
 ghost use Rattle.mpeg_scan.specs.declared.faults.ScanRefused.TheVariants.{Fault as ScanFault};
 ghost use Rattle.troubles.specs.Causes.{IsReadOnly};
 ghost use Rattle.inputs.specs.Films.{IsFilmTrouble};
 ghost use Rattle.inputs.specs.Scans.{HasEnded, HasHeard, HasScanned, HasScannedAll, HasTaken};
 ghost use Rattle.inputs.specs.Scans.{IsRefusedAtEnd, IsScanTrouble, WasOpened};
 
-use crate::files::{CHUNK, find_file, read_at, zeros};
+use crate::files::{CHUNK, SizedFile, find_file, zeros};
 use crate::openings::find_pack;
 use crate::streams::scan_stream;
 use mpeg_scan::{Ending, FilmFault, Found, MAX_FILM_BYTES, ScanRefused, Scanner};
@@ -67,80 +66,42 @@ pub(crate) fn hear_film<'a, L: Library, F: Found>(
     if MAX_FILM_BYTES < size {
         return Err(Trouble::Refused(name, Fault::Film(FilmFault::TooLong)));
     }
+    let file = SizedFile { name, size };
     let mut chunk = zeros(alloc, CHUNK)?;
-    let stream = find_pack(library, name, size, &mut chunk)?;
+    let stream = find_pack(library, file, &mut chunk)?;
     match stream {
-        None => scan_plain(library, name, size, &mut chunk, found),
-        Some(from) => scan_stream(library, name, size, from, &mut chunk, found),
+        None => scan_plain(library, file, &mut chunk, found),
+        Some(from) => scan_stream(library, file, from, &mut chunk, found),
     }
 }
 
-/// Reads one chunk of the film at `at`, feeds it to the scanner, and answers how many bytes it had:
-/// 0 at the end.
-fn feed_chunk<'a, L: Library, F: Found>(
-    library: &mut L,
-    name: &'a str,
-    size: u64,
-    at: u64,
-    chunk: &mut [u8],
-    scanner: &mut Scanner,
-    found: &mut F,
-) -> Result<u64, Trouble<'a>>
-    requires some { 0 < length chunk.old }
-    requires before { at < size }
-    requires short { size ≤ 2 ^ 40 }
-    requires opened { WasOpened (L.files library.old) name.now size None }
-    requires scanned { HasScanned (F.heard found.old)
-        (L.files library.old) name.now size at scanner.old }
-    requires ready { IsReady (F.ready_at found.old) scanner.old }
-    ensures library { IsReadOnly L.files L.faults library.old library.new }
-    ensures within { IfOk result (λ count. at + count ≤ size) }
-    ensures ready { IsReady (F.ready_at found.new) scanner.new }
-    ensures scanned { IfOk result (λ count.
-        HasScanned (F.heard found.new) (L.files library.old) name.entry.now size (at + count)
-        scanner.new) }
-    ensures more { (held : List File) → L.files library.old ≡ Some held →
-        IfOk result (λ count. 0 < count) }
-    ensures trouble { IfErr result (IsScanTrouble name.entry.now (L.files library.old)
-        (L.faults library.old) (L.faults library.new)) }
-{
-    let count = read_at(library, name, size, at, chunk)?;
-    match scanner.feed(&chunk[..count], found) {
-        Ok(()) => Ok(count as u64),
-        Err(refused) => Err(scan_trouble(name, refused)),
-    }
-}
-
-/// Feeds the whole film to the scanner, by reads of a chunk, until a read answers 0 or the size is
-/// reached.
+/// Feeds the whole film to the scanner, by reads of a chunk.
 fn feed_film<'a, L: Library, F: Found>(
     library: &mut L,
-    name: &'a str,
-    size: u64,
+    file: SizedFile<'a>,
     chunk: &mut [u8],
     scanner: &mut Scanner,
     found: &mut F,
 ) -> Result<(), Trouble<'a>>
     requires some { 0 < length chunk.old }
-    requires short { size ≤ 2 ^ 40 }
-    requires opened { WasOpened (L.files library.old) name.now size None }
+    requires short { file.size ≤ 2 ^ 40 }
+    requires opened { WasOpened (L.files library.old) file.name.now file.size None }
     requires scanned { HasScanned (F.heard found.old)
-        (L.files library.old) name.now size 0 scanner.old }
+        (L.files library.old) file.name.now file.size 0 scanner.old }
     requires ready { IsReady (F.ready_at found.old) scanner.old }
     ensures library { IsReadOnly L.files L.faults library.old library.new }
     ensures ready { IsReady (F.ready_at found.new) scanner.new }
-    ensures scanned { OnOk result
-        (HasScannedAll (F.heard found.new) (L.files library.old) name.entry.now size scanner.new) }
-    ensures trouble { IfErr result (IsScanTrouble name.entry.now (L.files library.old)
+    ensures scanned { OnOk result (HasScannedAll (F.heard found.new)
+        (L.files library.old) file.entry.name.now file.entry.size scanner.new) }
+    ensures trouble { IfErr result (IsScanTrouble file.entry.name.now (L.files library.old)
         (L.faults library.old) (L.faults library.new)) }
 {
     let mut at = 0;
-    while at < size {
-        let count = feed_chunk(library, name, size, at, chunk, scanner, found)?;
-        if count == 0 {
-            return Ok(());
+    while let Some(count) = file.read_at(library, at, chunk)? {
+        if let Err(refused) = scanner.feed(&chunk[..count], found) {
+            return Err(scan_trouble(file.name, refused));
         }
-        at += count;
+        at += count as u64;
     }
     Ok(())
 }
@@ -148,23 +109,22 @@ fn feed_film<'a, L: Library, F: Found>(
 /// Scans the video that a file is.
 fn scan_plain<'a, L: Library, F: Found>(
     library: &mut L,
-    name: &'a str,
-    size: u64,
+    file: SizedFile<'a>,
     chunk: &mut [u8],
     found: &mut F,
 ) -> Result<Ending, Trouble<'a>>
     requires some { 0 < length chunk.old }
-    requires short { size ≤ 2 ^ 40 }
-    requires opened { WasOpened (L.files library.old) name.now size None }
+    requires short { file.size ≤ 2 ^ 40 }
+    requires opened { WasOpened (L.files library.old) file.name.now file.size None }
     requires fresh { F.heard found.old [] }
     ensures library { IsReadOnly L.files L.faults library.old library.new }
     ensures film { IfOk result (λ ending.
-        HasHeard (F.heard found.new) (L.files library.old) name.entry.now ending.bytes
+        HasHeard (F.heard found.new) (L.files library.old) file.entry.name.now ending.bytes
         ending.rate) }
-    ensures trouble { IfErr result (IsScanTrouble name.entry.now (L.files library.old)
+    ensures trouble { IfErr result (IsScanTrouble file.entry.name.now (L.files library.old)
         (L.faults library.old) (L.faults library.new)) }
 {
     let mut scanner = Scanner::new();
-    feed_film(library, name, size, chunk, &mut scanner, found)?;
-    end_film(name, scanner, found)
+    feed_film(library, file, chunk, &mut scanner, found)?;
+    end_film(file.name, scanner, found)
 }

@@ -2,15 +2,13 @@
 
 ghost use Rattle.std.specs.Prelude.{◌≡◌, ◌<◌, ◌≤◌, ◌+◌, ◌^◌, ◌++◌, Some, ℕ, List, [], length, take};
 ghost use Rattle.std.specs.Prelude.{IfErr, IfOk, OnOk};
-ghost use Rattle.vod_base.specs.Outside.{File};
 ghost use Rattle.mpeg_scan.specs.Scans.{IsReady, bytes_fed};
-ghost use Rattle.sys_demux.specs.Streams.{IsRefused};
 ghost use Rattle.troubles.specs.Causes.{IsReadOnly};
-ghost use Rattle.inputs.specs.Videos.{fault_from};
+ghost use Rattle.inputs.specs.Films.{IsMovedFault, IsSystemTrouble, IsToldFault};
 ghost use Rattle.inputs.specs.Scans.{HasHeard, HasStreamed, HasStreamedAll, HasTaken, HasUnwrapped};
 ghost use Rattle.inputs.specs.Scans.{IsChunkRefused, IsScanTrouble, WasOpened};
 
-use crate::files::read_at;
+use crate::files::SizedFile;
 use crate::scans::end_film;
 use mpeg_scan::{Ending, Found, ScanRefused, Scanner};
 use std::alloc::AllocError;
@@ -57,18 +55,9 @@ impl From<AllocError> for StreamRefused {
     }
 }
 
-/// The file of a system stream: its name, its size, and where the stream begins in it.
-#[derive(Clone, Copy)]
-struct StreamFile<'a> {
-    name: &'a str,
-    size: u64,
-    from: u64,
-}
-
 /// The fault of a stream that begins at a place of the file. A place in a file is below 2^64.
 pub(crate) fn move_fault(place: u64, fault: SystemFault) -> SystemFault
-    ensures { (bytes : List ℕ) → IsRefused bytes fault → place + length bytes ≤ 2 ^ 40 →
-        result ≡ fault_from place fault }
+    ensures { IsMovedFault place fault result }
 {
     match fault {
         SystemFault::NotPack(at) => SystemFault::NotPack(place.saturating_add(at)),
@@ -78,34 +67,52 @@ pub(crate) fn move_fault(place: u64, fault: SystemFault) -> SystemFault
     }
 }
 
+/// The trouble with a file whose system stream begins at `from`, where the stream is refused.
+pub(crate) fn stream_trouble<'a>(name: &'a str, from: u64, refused: StreamRefused) -> Trouble<'a>
+    ensures { IsSystemTrouble name.entry.now (IsToldFault from refused) result }
+{
+    match refused {
+        StreamRefused::Fault(fault) => {
+            Trouble::Refused(name, Fault::System(move_fault(from, fault)))
+        }
+        StreamRefused::NoMemory => Trouble::NoMemory,
+    }
+}
+
 /// Scans the video of the system stream that begins at `from`.
 pub(crate) fn scan_stream<'a, L: Library, F: Found>(
     library: &mut L,
-    name: &'a str,
-    size: u64,
+    file: SizedFile<'a>,
     from: u64,
     chunk: &mut [u8],
     found: &mut F,
 ) -> Result<Ending, Trouble<'a>>
     requires some { 0 < length chunk.old }
-    requires short { size ≤ 2 ^ 40 }
-    requires opened { WasOpened (L.files library.old) name.now size (Some from) }
-    requires within { from ≤ size }
+    requires short { file.size ≤ 2 ^ 40 }
+    requires opened { WasOpened (L.files library.old) file.name.now file.size (Some from) }
+    requires within { from ≤ file.size }
     requires fresh { F.heard found.old [] }
     ensures library { IsReadOnly L.files L.faults library.old library.new }
     ensures film { IfOk result (λ ending.
-        HasHeard (F.heard found.new) (L.files library.old) name.entry.now ending.bytes
+        HasHeard (F.heard found.new) (L.files library.old) file.entry.name.now ending.bytes
         ending.rate) }
-    ensures trouble { IfErr result (IsScanTrouble name.entry.now (L.files library.old)
+    ensures trouble { IfErr result (IsScanTrouble file.entry.name.now (L.files library.old)
         (L.faults library.old) (L.faults library.new)) }
 {
     let mut unwrapper = Unwrapper::new();
     let mut scanner = Scanner::new();
-    let file = StreamFile { name, size, from };
-    feed_stream(library, file, chunk, &mut unwrapper, &mut scanner, found)?;
+    feed_stream(
+        library,
+        file,
+        from,
+        chunk,
+        &mut unwrapper,
+        &mut scanner,
+        found,
+    )?;
     match unwrapper.finish() {
-        Ok(()) => end_film(name, scanner, found),
-        Err(fault) => Err(Trouble::Refused(name, Fault::System(move_fault(from, fault)))),
+        Ok(()) => end_film(file.name, scanner, found),
+        Err(fault) => Err(stream_trouble(file.name, from, StreamRefused::Fault(fault))),
     }
 }
 
@@ -182,52 +189,11 @@ fn unwrap_chunk<F: Found>(
     Ok(())
 }
 
-/// Reads one chunk of a stream, feeds its video to the scanner, and answers how many bytes it had:
-/// 0 at the end.
-fn feed_stream_chunk<'a, L: Library, F: Found>(
-    library: &mut L,
-    file: StreamFile<'a>,
-    at: u64,
-    chunk: &mut [u8],
-    unwrapper: &mut Unwrapper,
-    scanner: &mut Scanner,
-    found: &mut F,
-) -> Result<u64, Trouble<'a>>
-    requires some { 0 < length chunk.old }
-    requires before { at < file.size }
-    requires short { file.size ≤ 2 ^ 40 }
-    requires opened { WasOpened (L.files library.old) file.name.now file.size (Some file.from) }
-    requires streamed { HasStreamed (F.heard found.old)
-        (L.files library.old) file.name.now file.size file.from at unwrapper.old scanner.old }
-    requires few { bytes_fed scanner.old ≤ unwrapper.old.fed }
-    requires ready { IsReady (F.ready_at found.old) scanner.old }
-    ensures library { IsReadOnly L.files L.faults library.old library.new }
-    ensures within { IfOk result (λ count. at + count ≤ file.entry.size) }
-    ensures few { OnOk result (bytes_fed scanner.new ≤ unwrapper.new.fed) }
-    ensures ready { IsReady (F.ready_at found.new) scanner.new }
-    ensures streamed { IfOk result (λ count.
-        HasStreamed (F.heard found.new) (L.files library.old) file.entry.name.now file.entry.size
-        file.entry.from (at + count) unwrapper.new scanner.new) }
-    ensures more { (held : List File) → L.files library.old ≡ Some held →
-        IfOk result (λ count. 0 < count) }
-    ensures trouble { IfErr result (IsScanTrouble file.entry.name.now (L.files library.old)
-        (L.faults library.old) (L.faults library.new)) }
-{
-    let count = read_at(library, file.name, file.size, at, chunk)?;
-    match unwrap_chunk(unwrapper, &chunk[..count], scanner, found) {
-        Ok(()) => Ok(count as u64),
-        Err(StreamRefused::Fault(fault)) => Err(Trouble::Refused(
-            file.name,
-            Fault::System(move_fault(file.from, fault)),
-        )),
-        Err(StreamRefused::NoMemory) => Err(Trouble::NoMemory),
-    }
-}
-
-/// Reads a stream to its end, and feeds its video to the scanner.
+/// Reads a stream to its end, by reads of a chunk, and feeds its video to the scanner.
 fn feed_stream<'a, L: Library, F: Found>(
     library: &mut L,
-    file: StreamFile<'a>,
+    file: SizedFile<'a>,
+    from: u64,
     chunk: &mut [u8],
     unwrapper: &mut Unwrapper,
     scanner: &mut Scanner,
@@ -235,29 +201,26 @@ fn feed_stream<'a, L: Library, F: Found>(
 ) -> Result<(), Trouble<'a>>
     requires some { 0 < length chunk.old }
     requires short { file.size ≤ 2 ^ 40 }
-    requires opened { WasOpened (L.files library.old) file.name.now file.size (Some file.from) }
-    requires within { file.from ≤ file.size }
+    requires opened { WasOpened (L.files library.old) file.name.now file.size (Some from) }
+    requires within { from ≤ file.size }
     requires streamed { HasStreamed (F.heard found.old)
-        (L.files library.old) file.name.now file.size file.from file.from unwrapper.old
-        scanner.old }
+        (L.files library.old) file.name.now file.size from from unwrapper.old scanner.old }
     requires few { bytes_fed scanner.old ≤ unwrapper.old.fed }
     requires ready { IsReady (F.ready_at found.old) scanner.old }
     ensures library { IsReadOnly L.files L.faults library.old library.new }
     ensures ready { IsReady (F.ready_at found.new) scanner.new }
-    ensures streamed { OnOk result
-        (HasStreamedAll (F.heard found.new)
-        (L.files library.old) file.entry.name.now file.entry.size file.entry.from unwrapper.new
+    ensures streamed { OnOk result (HasStreamedAll (F.heard found.new)
+        (L.files library.old) file.entry.name.now file.entry.size from unwrapper.new
         scanner.new) }
     ensures trouble { IfErr result (IsScanTrouble file.entry.name.now (L.files library.old)
         (L.faults library.old) (L.faults library.new)) }
 {
-    let mut at = file.from;
-    while at < file.size {
-        let count = feed_stream_chunk(library, file, at, chunk, unwrapper, scanner, found)?;
-        if count == 0 {
-            return Ok(());
+    let mut at = from;
+    while let Some(count) = file.read_at(library, at, chunk)? {
+        if let Err(refused) = unwrap_chunk(unwrapper, &chunk[..count], scanner, found) {
+            return Err(stream_trouble(file.name, from, refused));
         }
-        at += count;
+        at += count as u64;
     }
     Ok(())
 }

@@ -2,7 +2,7 @@ use Rattle.std.proofs.Common.{◌≡◌, ◌∙◌, arith, inl, refl, subst, sym
 use Rattle.mpeg_scan.specs.declared.films.Film.{Film}
 use Rattle.inputs.specs.Videos.{IsRefusedAbove, IsVideo}
 use Rattle.inputs.proofs.LoadLemmas.{WasRead, bytes_trouble, film_loaded, size_above}
-use Rattle.inputs.proofs.ScanLemmas.{ReadOn, handed_on, never_refused, read_trouble_map}
+use Rattle.inputs.proofs.ScanLemmas.{handed_on, never_refused, read_trouble_map}
 use Rattle.inputs.proofs.VideoLemmas.{HoldsAccepted, file_not_refused}
 use Rattle.inputs.proofs.LibraryLemmas.{then_read}
 use Rattle.inputs.proofs.films.load_within.Goals as goal
@@ -17,12 +17,9 @@ returns-in_err-size-clause-trouble g c =
 pub returns-in_err-file-clause-trouble : goal.returns-in_err-file-clause-trouble
 returns-in_err-file-clause-trouble g c =
     let Refuses = IsRefusedAbove c.args.most c.args.over in
-    let on : ReadOn (g.L.Library.files c.args.library.now) (g.L.Library.files c.find_file.new.library)
-    (g.L.Library.faults c.args.library.now) (g.L.Library.faults c.find_file.new.library) =
-    record { kept = c.find_file.ensures.library.kept; count = c.find_file.ensures.library.count } in
     handed_on _ c.from_residual-in_err-file.result c.from_residual-in_err-file.ensures.1
     (never_refused c.args.name.now Refuses (g.L.Library.faults c.read_bytes.new.library) c.in_err-file.field-0.0
-    on ((c.in_err-file.ensures {u = tt}).trouble))
+    c.find_file.ensures.library ((c.in_err-file.ensures {u = tt}).trouble))
 
 pub returns-then-most-size-clause-trouble : goal.returns-then-most-size-clause-trouble
 returns-then-most-size-clause-trouble g c = (

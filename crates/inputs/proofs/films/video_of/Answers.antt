@@ -1,8 +1,7 @@
-use Rattle.std.proofs.Common.{◌∙◌, ℕ, ◌-◌, List, length, take, drop, ap, refl, sym, arith, subst}
-use Rattle.sys_demux.specs.Streams.{IsRefused, IsSystem}
-use Rattle.inputs.specs.Films.{IsStreamRefused}
+use Rattle.std.proofs.Common.{◌∙◌, ℕ, ◌-◌, List, length, take, drop, ap, sym, subst}
+use Rattle.sys_demux.specs.Streams.{IsSystem}
 use Rattle.inputs.specs.Videos.{pack_in}
-use Rattle.inputs.proofs.LoadLemmas.{fault_is, plain_is, stream_is}
+use Rattle.inputs.proofs.LoadLemmas.{plain_is, stream_is}
 use Rattle.inputs.proofs.films.video_of.Goals as goal
 
 pub returns-in_default-clause-video : goal.returns-in_default-clause-video
@@ -15,17 +14,3 @@ returns-in-Ok-clause-video c =
     (ap pack_in (sym c.deref.ensures.value) ∙ sym ((c.in-Some.ensures {u = tt}).place))
     (subst (λ (l : List ℕ). IsSystem (take (length l - c.in-Some.from) (drop c.in-Some.from l))
     c.in-Ok.video.items) c.deref-2.ensures.value ((c.in-Ok.ensures {u = tt}).video))
-
-pub returns-in-Err-Fault-clause-trouble : goal.returns-in-Err-Fault-clause-trouble
-returns-in-Err-Fault-clause-trouble c = (
-  refl,
-  fault_is c.args.file.items (ap pack_in (sym c.deref.ensures.value) ∙ sym ((c.in-Some.ensures {u = tt}).place))
-      (omega (arith, (c.in-Some.ensures {u = tt}).within, ap length c.deref.ensures.value))
-      (omega (arith, c.requires, c.args.file.ok))
-      (subst (λ (l : List ℕ). IsRefused (take (length l - c.in-Some.from) (drop c.in-Some.from l))
-      c.in-Err-Fault.fault) c.deref-2.ensures.value
-      (subst (IsStreamRefused
-      (take (length c.deref-2.result.now - c.in-Some.from) (drop c.in-Some.from c.deref-2.result.now)))
-      c.in-Err-Fault.field-0-is ((c.in-Err-Fault.ensures {u = tt}).refused)))
-      c.move_fault.ensures,
-)

@@ -2,7 +2,8 @@ use Rattle.std.proofs.Common.{◌≡◌, ◌∙◌, Some, Err, [], inl, inr, ap}
 use Rattle.mpeg_scan.specs.declared.faults.FilmFault.{FilmFault}
 use Rattle.mpeg_scan.specs.declared.faults.ScanRefused.TheVariants.{Fault as FaultAnswer}
 use Rattle.mpeg_scan.specs.Codes.{read_after}
-use Rattle.inputs.proofs.ScanLemmas.{film_trouble_map, told_ended, refused_ended}
+use Rattle.inputs.proofs.RefusalLemmas.{film_trouble_map}
+use Rattle.inputs.proofs.ScanLemmas.{told_ended, refused_ended}
 use Rattle.inputs.proofs.scans.end_film.Goals as goal
 
 pub returns-in-Ok-clause-ended : goal.returns-in-Ok-clause-ended

@@ -1,6 +1,6 @@
 use Rattle.std.proofs.Common.{◌∙◌, refl, sym, subst, arith}
 use Rattle.inputs.specs.Scans.{IsFilmRefused, IsOpened}
-use Rattle.inputs.proofs.ScanLemmas.{ReadOn, handed_on, heard_on, missing_refused, never_refused, read_trouble_map, size_refused}
+use Rattle.inputs.proofs.ScanLemmas.{handed_on, heard_on, missing_refused, never_refused, read_trouble_map, size_refused}
 use Rattle.inputs.proofs.ScanLemmas.{troubles_on}
 use Rattle.inputs.proofs.LibraryLemmas.{then_read}
 use Rattle.inputs.proofs.scans.hear_film.Goals as goal
@@ -18,12 +18,9 @@ returns-in_err-chunk-clause-trouble g c =
 
 pub returns-in_err-stream-clause-trouble : goal.returns-in_err-stream-clause-trouble
 returns-in_err-stream-clause-trouble g c =
-    let on : ReadOn (g.L.Library.files c.args.library.now) (g.L.Library.files c.find_file.new.library)
-    (g.L.Library.faults c.args.library.now) (g.L.Library.faults c.find_file.new.library) =
-    record { kept = c.find_file.ensures.library.kept; count = c.find_file.ensures.library.count } in
     handed_on _ c.from_residual-in_err-stream.result c.from_residual-in_err-stream.ensures.1
     (never_refused c.args.name.now IsFilmRefused (g.L.Library.faults c.find_pack.new.library)
-    c.in_err-stream.field-0.0 on ((c.in_err-stream.ensures {u = tt}).trouble))
+    c.in_err-stream.field-0.0 c.find_file.ensures.library ((c.in_err-stream.ensures {u = tt}).trouble))
 
 pub returns-then-size-gt-MAX_FILM_BYTES-clause-trouble : goal.returns-then-size-gt-MAX_FILM_BYTES-clause-trouble
 returns-then-size-gt-MAX_FILM_BYTES-clause-trouble g c = (
@@ -53,12 +50,8 @@ returns-in-None-clause-film g c =
 
 pub returns-in-None-clause-trouble : goal.returns-in-None-clause-trouble
 returns-in-None-clause-trouble g c =
-    let on : ReadOn (g.L.Library.files c.args.library.now) (g.L.Library.files c.find_pack.new.library)
-    (g.L.Library.faults c.args.library.now) (g.L.Library.faults c.find_pack.new.library) = record {
-      kept = c.find_pack.ensures.library.kept ∙ c.find_file.ensures.library.kept;
-      count = omega (arith, c.find_file.ensures.library.count, c.find_pack.ensures.library.count);
-    } in
-    troubles_on c.args.name.now (g.L.Library.faults c.scan_plain.new.library) c.scan_plain.result on c.scan_plain.ensures.trouble
+    troubles_on c.args.name.now (g.L.Library.faults c.scan_plain.new.library) c.scan_plain.result
+    (then_read c.find_file.ensures.library c.find_pack.ensures.library) c.scan_plain.ensures.trouble
 
 pub returns-clause-film : goal.returns-clause-film
 returns-clause-film g c =
@@ -67,13 +60,8 @@ returns-clause-film g c =
 
 pub returns-clause-trouble : goal.returns-clause-trouble
 returns-clause-trouble g c =
-    let on : ReadOn (g.L.Library.files c.args.library.now) (g.L.Library.files c.find_pack.new.library)
-    (g.L.Library.faults c.args.library.now) (g.L.Library.faults c.find_pack.new.library) = record {
-      kept = c.find_pack.ensures.library.kept ∙ c.find_file.ensures.library.kept;
-      count = omega (arith, c.find_file.ensures.library.count, c.find_pack.ensures.library.count);
-    } in
-    troubles_on c.args.name.now (g.L.Library.faults c.scan_stream.new.library) c.scan_stream.result on
-    c.scan_stream.ensures.trouble
+    troubles_on c.args.name.now (g.L.Library.faults c.scan_stream.new.library) c.scan_stream.result
+    (then_read c.find_file.ensures.library c.find_pack.ensures.library) c.scan_stream.ensures.trouble
 
 pub returns-in_err-stream-clause-library : goal.returns-in_err-stream-clause-library
 returns-in_err-stream-clause-library g c = then_read c.find_file.ensures.library c.find_pack.ensures.library

@@ -1,66 +1,66 @@
-use Rattle.std.proofs.Common.{◌∙◌, ◌+◌, Option, List, arith, refl, subst}
-use Rattle.vod_base.specs.Outside.{File}
-use Rattle.inputs.specs.Scans.{HasStreamed, IsFilmRefused}
-use Rattle.inputs.proofs.ScanLemmas.{handed_on, trouble_on}
-use Rattle.inputs.proofs.StreamLemmas.{all_streamed}
+use Rattle.std.proofs.Common.{◌∙◌, List, ℕ, arith, length, subst, take}
+use Rattle.std.proofs.lemmas.List.{length-take-le}
+use Rattle.inputs.specs.Files.{IsChunk, IsNextRead}
 use Rattle.inputs.proofs.LibraryLemmas.{then_read}
+use Rattle.inputs.proofs.ReadLemmas.{some_chunk}
+use Rattle.inputs.proofs.StreamLemmas.{ChunkRead, all_streamed, chunk_told, front_more, more_streamed, streamed_fed, system_trouble}
 use Rattle.inputs.proofs.streams.feed_stream.Goals as goal
 
-pub loop-at-init : goal.loop-at-init
-loop-at-init g c = record {
-  kept = refl;
-  count = omega arith;
-  within = c.requires.within;
-  few = c.requires.few;
-  ready = c.requires.ready;
-  streamed = c.requires.streamed;
-}
+pub unwrap_chunk-requires-clause-room : goal.unwrap_chunk-requires-clause-room
+unwrap_chunk-requires-clause-room g c =
+    let into : List ℕ = c.read_at.new.into in
+    let chunk : IsChunk c.args.file.size c.loop-count.at (length into) c.in-Some.count =
+    some_chunk c.in-Some.is ((c.in_ok-count.ensures {u = tt}).chunk) in
+    omega (
+      arith,
+      streamed_fed c.loop-count.invariant.streamed,
+      length-take-le c.in-Some.count into chunk.fits,
+      chunk.within,
+      c.requires.short,
+    )
 
-pub loop-at-preserved : goal.loop-at-preserved
-loop-at-preserved g c = record {
-  kept = c.feed_stream_chunk.ensures.library.kept ∙ c.loop-at.invariant.kept;
-  count = omega (arith, c.feed_stream_chunk.ensures.library.count, c.loop-at.invariant.count);
-  within = (c.in_ok-count.ensures {u = tt}).within;
-  few = (c.in_ok-count.ensures {u = tt}).few;
-  ready = c.feed_stream_chunk.ensures.ready;
-  streamed = subst (λ (t : Option (List File)). HasStreamed (g.F.Found.heard c.feed_stream_chunk.new.found) t
-      c.args.file.name.now c.args.file.size c.args.file.from (c.loop-at.at + c.in_ok-count.count)
-      c.feed_stream_chunk.new.unwrapper c.feed_stream_chunk.new.scanner)
-      c.loop-at.invariant.kept ((c.in_ok-count.ensures {u = tt}).streamed);
-}
+pub returns-in-Err-clause-trouble : goal.returns-in-Err-clause-trouble
+returns-in-Err-clause-trouble g c =
+    system_trouble c.args.file.name.now (g.L.Library.faults c.args.library.now) (g.L.Library.faults c.read_at.new.library)
+    c.stream_trouble.result
+    (λ held fault is moves.
+    let seen : List ℕ = c.loop-count.invariant.streamed.seen in
+    let chunk : List ℕ = take c.in-Some.count c.read_at.new.into in
+    let read : ChunkRead held c.args.file.name.now c.args.file.size c.args.from seen chunk = record {
+      front = front_more c.args.from seen chunk (c.loop-count.invariant.streamed.front held is)
+          c.loop-count.invariant.streamed.long
+          (λ bytes front long.
+          subst (IsNextRead held c.args.file.name.now c.args.file.size bytes c.read_at.new.into) c.in-Some.is
+          ((c.in_ok-count.ensures {u = tt}).told held bytes (c.loop-count.invariant.library.kept ∙ is) front long));
+      opened = c.requires.opened held is;
+      short = c.requires.short;
+    } in
+    chunk_told c.in-Err.refused read
+    ((c.in-Err.ensures {u = tt}).refused seen c.loop-count.invariant.streamed.unwrapped) moves)
+    c.stream_trouble.ensures
+
+pub loop-count-preserved : goal.loop-count-preserved
+loop-count-preserved g c =
+    let into : List ℕ = c.read_at.new.into in
+    let chunk : IsChunk c.args.file.size c.loop-count.at (length into) c.in-Some.count =
+    some_chunk c.in-Some.is ((c.in_ok-count.ensures {u = tt}).chunk) in
+    record {
+      library = then_read c.loop-count.invariant.library c.read_at.ensures.library;
+      within = chunk.within;
+      few = (c.in_default-unwrap_chunk.ensures {u = tt}).few;
+      ready = c.unwrap_chunk.ensures.ready;
+      streamed = more_streamed into c.in-Some.count c.loop-count.invariant.streamed
+          (λ held is bytes front long.
+          subst (IsNextRead held c.args.file.name.now c.args.file.size bytes into) c.in-Some.is
+          ((c.in_ok-count.ensures {u = tt}).told held bytes (c.loop-count.invariant.library.kept ∙ is) front long))
+          chunk.fits
+          ((c.in_default-unwrap_chunk.ensures {u = tt}).next c.loop-count.invariant.streamed.seen
+          c.loop-count.invariant.streamed.unwrapped);
+    }
 
 pub returns-clause-streamed : goal.returns-clause-streamed
 returns-clause-streamed g c =
-    all_streamed
-    c.loop-at.invariant.streamed c.loop-at.invariant.within (λ held is. omega (arith, c.loop-at-test.false))
-
-pub returns-then-count-eq0-clause-streamed : goal.returns-then-count-eq0-clause-streamed
-returns-then-count-eq0-clause-streamed g c =
-    all_streamed
-    (subst (λ (t : Option (List File)). HasStreamed (g.F.Found.heard c.feed_stream_chunk.new.found) t
-    c.args.file.name.now c.args.file.size c.args.file.from (c.loop-at.at + c.in_ok-count.count)
-    c.feed_stream_chunk.new.unwrapper c.feed_stream_chunk.new.scanner)
-    c.loop-at.invariant.kept ((c.in_ok-count.ensures {u = tt}).streamed))
-    ((c.in_ok-count.ensures {u = tt}).within)
-    (λ held is. absurd (omega (
-      arith,
-      (c.in_ok-count.ensures {u = tt}).more held (c.loop-at.invariant.kept ∙ is),
-      c.if-count-eq0.true,
-    )))
-
-pub returns-then-count-eq0-clause-library : goal.returns-then-count-eq0-clause-library
-returns-then-count-eq0-clause-library g c =
-    then_read (record { kept = c.loop-at.invariant.kept; count = c.loop-at.invariant.count })
-    c.feed_stream_chunk.ensures.library
-
-pub returns-in_err-count-clause-trouble : goal.returns-in_err-count-clause-trouble
-returns-in_err-count-clause-trouble g c =
-    handed_on _ c.from_residual.result c.from_residual.ensures.1
-    (trouble_on c.args.file.name.now IsFilmRefused (g.L.Library.faults c.feed_stream_chunk.new.library) c.in_err-count.field-0.0
-    (record { kept = c.loop-at.invariant.kept; count = c.loop-at.invariant.count })
-    ((c.in_err-count.ensures {u = tt}).trouble))
-
-pub returns-in_err-count-clause-library : goal.returns-in_err-count-clause-library
-returns-in_err-count-clause-library g c =
-    then_read (record { kept = c.loop-at.invariant.kept; count = c.loop-at.invariant.count })
-    c.feed_stream_chunk.ensures.library
+    all_streamed c.loop-count.invariant.streamed c.loop-count.invariant.within
+    (λ held is bytes front long.
+    subst (IsNextRead held c.args.file.name.now c.args.file.size bytes c.read_at.new.into) c.in_default.is
+    ((c.in_ok-count.ensures {u = tt}).told held bytes (c.loop-count.invariant.library.kept ∙ is) front long))

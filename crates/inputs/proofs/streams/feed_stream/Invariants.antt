@@ -1,13 +1,18 @@
-use Rattle.std.proofs.Common.{◌-◌}
-use Rattle.inputs.proofs.StreamLemmas.{HasFedStream}
+use Rattle.std.proofs.Common.{◌-◌, ◌≤◌}
+use Rattle.mpeg_scan.specs.Scans.{IsReady, bytes_fed}
+use Rattle.troubles.specs.Causes.{IsReadOnly}
+use Rattle.inputs.specs.Scans.{HasStreamed}
 use Rattle.inputs.proofs.streams.feed_stream.Given as goal
 
-abbrev pub invariant-loop-at : goal.invariant-loop-at
-invariant-loop-at g l =
-    HasFedStream (g.F.Found.heard l.found) (g.F.Found.ready_at l.found) (g.L.Library.files l.fn.library)
-    (g.L.Library.files l.library)
-    (g.L.Library.faults l.fn.library) (g.L.Library.faults l.library) l.file.name.now l.file.size l.file.from l.at l.unwrapper
-    l.scanner
+abbrev pub invariant-loop-count : goal.invariant-loop-count
+invariant-loop-count g l = record {
+  library : IsReadOnly g.L.Library.files g.L.Library.faults l.fn.library l.library;
+  within : l.at ≤ l.file.size;
+  few : bytes_fed l.scanner ≤ l.unwrapper.fed;
+  ready : IsReady (g.F.Found.ready_at l.found) l.scanner;
+  streamed : HasStreamed (g.F.Found.heard l.found) (g.L.Library.files l.fn.library) l.file.name.now l.file.size l.from l.at
+      l.unwrapper l.scanner;
+}
 
-abbrev pub decreases-loop-at : goal.decreases-loop-at
-decreases-loop-at g l = l.file.size - l.at
+abbrev pub decreases-loop-count : goal.decreases-loop-count
+decreases-loop-count g l = l.file.size - l.at

@@ -1,11 +1,11 @@
-use Rattle.std.proofs.Common.{◌≤◌, ◌^◌, length, arith, refl}
+use Rattle.std.proofs.Common.{◌≤◌, ◌^◌, length, arith}
 use Rattle.sys_demux.specs.Streams.{IsSystem}
 use Rattle.troubles.specs.Causes.{IsReadTrouble}
 use Rattle.inputs.specs.Files.{IsNamed}
 use Rattle.inputs.specs.Films.{IsFilmTrouble}
 use Rattle.inputs.specs.Scans.{HasEnded, HasHeard, HasStreamedAll, IsFilmRefused, IsRefusedAtEnd}
-use Rattle.inputs.proofs.ScanLemmas.{end_trouble, err_map, handed_on, ok_map}
-use Rattle.inputs.proofs.StreamLemmas.{end_fault, first_streamed, stream_heard, video_refused, video_short}
+use Rattle.inputs.proofs.ScanLemmas.{film_trouble, err_map, handed_on, ok_map}
+use Rattle.inputs.proofs.StreamLemmas.{end_fault, first_streamed, stream_heard, system_trouble, video_refused, video_short}
 use Rattle.inputs.proofs.streams.scan_stream.Goals as goal
 
 pub feed_stream-requires-clause-streamed : goal.feed_stream-requires-clause-streamed
@@ -19,14 +19,14 @@ feed_stream-requires-clause-few g c = omega (arith, c.new-scanner.ensures.fed.pr
 pub returns-in-Ok-clause-film : goal.returns-in-Ok-clause-film
 returns-in-Ok-clause-film g c =
     let all : HasStreamedAll (g.F.Found.heard c.feed_stream.new.found) (g.L.Library.files c.args.library.now)
-    c.args.name.now c.args.size c.args.from c.feed_stream.new.unwrapper c.feed_stream.new.scanner =
+    c.args.file.name.now c.args.file.size c.args.from c.feed_stream.new.unwrapper c.feed_stream.new.scanner =
     (c.in_ok-feed_stream.ensures {u = tt}).streamed in
     let system : IsSystem all.seen all.unwrapped.video =
     (c.in-Ok.ensures {u = tt}).end all.seen all.unwrapped.video all.unwrapped.fed in
     let short : length all.unwrapped.video ≤ 2 ^ 40 =
     video_short c.requires.short all in
     ok_map (λ e. HasEnded (g.F.Found.heard c.end_film.new.found) all.unwrapped.video e.bytes e.rate)
-    (λ e. HasHeard (g.F.Found.heard c.end_film.new.found) (g.L.Library.files c.args.library.now) c.args.name.now
+    (λ e. HasHeard (g.F.Found.heard c.end_film.new.found) (g.L.Library.files c.args.library.now) c.args.file.name.now
     e.bytes e.rate) c.end_film.result
     (λ e ended. stream_heard
     c.requires.short c.requires.opened all system ended)
@@ -35,33 +35,33 @@ returns-in-Ok-clause-film g c =
 pub returns-in-Ok-clause-trouble : goal.returns-in-Ok-clause-trouble
 returns-in-Ok-clause-trouble g c =
     let all : HasStreamedAll (g.F.Found.heard c.feed_stream.new.found) (g.L.Library.files c.args.library.now)
-    c.args.name.now c.args.size c.args.from c.feed_stream.new.unwrapper c.feed_stream.new.scanner =
+    c.args.file.name.now c.args.file.size c.args.from c.feed_stream.new.unwrapper c.feed_stream.new.scanner =
     (c.in_ok-feed_stream.ensures {u = tt}).streamed in
     let system : IsSystem all.seen all.unwrapped.video =
     (c.in-Ok.ensures {u = tt}).end all.seen all.unwrapped.video all.unwrapped.fed in
     let short : length all.unwrapped.video ≤ 2 ^ 40 =
     video_short c.requires.short all in
-    err_map (IsFilmTrouble c.args.name.now (IsRefusedAtEnd (g.F.Found.heard c.feed_stream.new.found) c.feed_stream.new.scanner))
-    (IsReadTrouble (IsNamed c.args.name.now) IsFilmRefused (g.L.Library.files c.args.library.now)
+    err_map (IsFilmTrouble c.args.file.name.now (IsRefusedAtEnd (g.F.Found.heard c.feed_stream.new.found) c.feed_stream.new.scanner))
+    (IsReadTrouble (IsNamed c.args.file.name.now) IsFilmRefused (g.L.Library.files c.args.library.now)
     (g.L.Library.faults c.args.library.now) (g.L.Library.faults c.feed_stream.new.library)) c.end_film.result
-    (λ t h. end_trouble
-    {Refuses = IsRefusedAtEnd (g.F.Found.heard c.feed_stream.new.found) c.feed_stream.new.scanner} c.args.name.now
+    (λ t h. film_trouble
+    {Refuses = IsRefusedAtEnd (g.F.Found.heard c.feed_stream.new.found) c.feed_stream.new.scanner} c.args.file.name.now
     (g.L.Library.faults c.args.library.now) (g.L.Library.faults c.feed_stream.new.library) t
     (λ held fault is refuses. video_refused
     c.requires.short c.requires.opened all is system (refuses all.unwrapped.video short all.unwrapped.taken)) h)
     c.end_film.ensures.trouble
 
 pub returns-in-Err-clause-trouble : goal.returns-in-Err-clause-trouble
-returns-in-Err-clause-trouble g c = (
-  refl,
-  λ held is.
-      let all : HasStreamedAll (g.F.Found.heard c.feed_stream.new.found) (g.L.Library.files c.args.library.now)
-      c.args.name.now c.args.size c.args.from c.feed_stream.new.unwrapper c.feed_stream.new.scanner =
-      (c.in_ok-feed_stream.ensures {u = tt}).streamed in
-      end_fault
-      all is c.requires.opened c.requires.short
-      ((c.in-Err.ensures {u = tt}).end all.seen all.unwrapped.video all.unwrapped.fed) c.move_fault.ensures,
-)
+returns-in-Err-clause-trouble g c =
+    system_trouble c.args.file.name.now (g.L.Library.faults c.args.library.now) (g.L.Library.faults c.feed_stream.new.library)
+    c.stream_trouble.result
+    (λ held fault is moves.
+    let all : HasStreamedAll (g.F.Found.heard c.feed_stream.new.found) (g.L.Library.files c.args.library.now)
+    c.args.file.name.now c.args.file.size c.args.from c.feed_stream.new.unwrapper c.feed_stream.new.scanner =
+    (c.in_ok-feed_stream.ensures {u = tt}).streamed in
+    end_fault all is c.requires.opened c.requires.short
+    ((c.in-Err.ensures {u = tt}).end all.seen all.unwrapped.video all.unwrapped.fed) moves)
+    c.stream_trouble.ensures
 
 pub returns-in_err-feed_stream-clause-trouble : goal.returns-in_err-feed_stream-clause-trouble
 returns-in_err-feed_stream-clause-trouble g c =

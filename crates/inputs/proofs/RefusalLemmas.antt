@@ -1,0 +1,53 @@
+-- Refusals whose causes follow from each other.
+use Rattle.std.proofs.Common.{◌≡◌, ℕ, List, Option, Some, sym, subst}
+use Rattle.vod_base.specs.Outside.{File}
+use Rattle.mpeg_scan.specs.declared.faults.FilmFault.{FilmFault}
+use Rattle.sys_demux.specs.declared.faults.SystemFault.{SystemFault}
+use Rattle.troubles.specs.Causes.{IsReadTrouble}
+use Rattle.troubles.specs.declared.faults.Fault.{Fault}
+use Rattle.troubles.specs.declared.faults.Fault.TheVariants.{Film, System}
+use Rattle.troubles.specs.declared.faults.Trouble.{Trouble}
+use Rattle.troubles.specs.declared.faults.Trouble.TheVariants.{Usage, Refused, StoreFault, SinkFault, NoMemory, GateFault, LinkFault}
+use Rattle.inputs.specs.Files.{IsNamed}
+use Rattle.inputs.specs.Films.{IsFilmFault, IsFilmTrouble, IsRefusal, IsSystemFault}
+
+-- what holds of each fault of a film that is refused for it; and of each of a system stream
+pub each_film_fault : {Refuses : FilmFault → Type 0} (P : Fault → Type 0) (fault : Fault)
+    → ((own : FilmFault) → Refuses own → P (Film own)) → IsFilmFault Refuses fault → P fault
+each_film_fault P (Film own) holds h = holds own h
+each_film_fault P other holds h = absurd h
+
+pub each_system_fault : {Refuses : SystemFault → Type 0} (P : Fault → Type 0) (fault : Fault)
+    → ((own : SystemFault) → Refuses own → P (System own)) → IsSystemFault Refuses fault → P fault
+each_system_fault P (System own) holds h = holds own h
+each_system_fault P other holds h = absurd h
+
+-- a refusal for one reason, as one for another
+pub refusal_map : {Refuses Refuses' : Fault → Type 0} (name : List ℕ) (t : Trouble) →
+    ((fault : Fault) → Refuses fault → Refuses' fault) → IsRefusal name Refuses t → IsRefusal name Refuses' t
+refusal_map name Usage refuses h = absurd h
+refusal_map name (Refused other fault) refuses h = (h.0, refuses fault h.1)
+refusal_map name (StoreFault other) refuses h = absurd h
+refusal_map name SinkFault refuses h = absurd h
+refusal_map name NoMemory refuses h = tt
+refusal_map name GateFault refuses h = absurd h
+refusal_map name LinkFault refuses h = absurd h
+
+pub film_trouble_map : {Refuses Refuses' : FilmFault → Type 0} (name : List ℕ) (t : Trouble) →
+    ((fault : FilmFault) → Refuses fault → Refuses' fault) → IsFilmTrouble name Refuses t → IsFilmTrouble name Refuses' t
+film_trouble_map {Refuses} {Refuses'} name t refuses h =
+    refusal_map name t (λ fault is. each_film_fault (IsFilmFault Refuses') fault refuses is) h
+
+-- a refusal of what was read, where the library tells what it holds
+pub refusal_read : {told : Option (List File)} {Reason : Fault → Type 0} (Refuses : List File → List ℕ → Fault → Type 0)
+    (name : List ℕ) (faults faults' : ℕ) (t : Trouble) →
+    ((held : List File) (fault : Fault) → told ≡ Some held → Reason fault → Refuses held name fault) →
+    IsRefusal name Reason t → IsReadTrouble (IsNamed name) Refuses told faults faults' t
+refusal_read Refuses name faults faults' Usage refuses h = absurd h
+refusal_read Refuses name faults faults' (Refused other fault) refuses h =
+    (h.0, λ held is. subst (λ (n : List ℕ). Refuses held n fault) (sym h.0) (refuses held fault is h.1))
+refusal_read Refuses name faults faults' (StoreFault other) refuses h = absurd h
+refusal_read Refuses name faults faults' SinkFault refuses h = absurd h
+refusal_read Refuses name faults faults' NoMemory refuses h = tt
+refusal_read Refuses name faults faults' GateFault refuses h = absurd h
+refusal_read Refuses name faults faults' LinkFault refuses h = absurd h
