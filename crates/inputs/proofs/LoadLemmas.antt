@@ -1,5 +1,6 @@
 -- A film that is loaded to be served.
-use Rattle.std.proofs.Common.{◌≡◌, ℕ, ◌-◌, ◌<◌, ◌≤◌, ◌^◌, List, [], length, take, drop, Some, None, Option, inl, inr, refl, sym, arith, subst}
+use Rattle.std.proofs.Common.{◌≡◌, ℕ, ◌-◌, ◌<◌, ◌≤◌, ◌^◌, List, [], length, take, drop, Some, None, Option}
+use Rattle.std.proofs.Common.{inl, inr, refl, sym, arith, subst}
 use Rattle.std.specs.Prelude.{option_map}
 use Rattle.std.proofs.lemmas.List.{length-drop}
 use Rattle.vod_base.specs.Outside.{File, file_named}
@@ -10,9 +11,11 @@ use Rattle.troubles.specs.Causes.{IsReadTrouble}
 use Rattle.troubles.specs.declared.faults.Fault.{Fault}
 use Rattle.troubles.specs.declared.faults.Trouble.{Trouble}
 use Rattle.inputs.specs.Files.{IsFront, IsNamed}
-use Rattle.inputs.specs.Films.{IsBytesTrouble, IsFilmTrouble, IsMovedFault, IsStreamRefused, IsSystemTrouble, IsToldFault}
+use Rattle.inputs.specs.Films.{IsBytesTrouble, IsFilmTrouble, IsMovedFault, IsStreamRefused, IsSystemTrouble}
+use Rattle.inputs.specs.Films.{IsToldFault}
 use Rattle.inputs.specs.Scans.{HoldsVideo}
-use Rattle.inputs.specs.Videos.{IsRefusedAbove, IsStreamFault, IsStreamFaultFrom, IsVideo, IsVideoFrom, IsVideoRefused, pack_in}
+use Rattle.inputs.specs.Videos.{IsRefusedAbove, IsStreamFault, IsStreamFaultFrom, IsVideo, IsVideoFrom}
+use Rattle.inputs.specs.Videos.{IsVideoRefused, pack_in}
 use Rattle.inputs.specs.declared.streams.StreamRefused.{StreamRefused}
 use Rattle.inputs.specs.declared.streams.StreamRefused.TheVariants.{Fault as StreamFault, NoMemory as NoRoom}
 use Rattle.inputs.proofs.ReadLemmas.{first_front}

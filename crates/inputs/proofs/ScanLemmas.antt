@@ -1,5 +1,7 @@
 -- A film that is scanned chunk by chunk.
-use Rattle.std.proofs.Common.{◌≡◌, ℕ, ◌+◌, ◌<◌, ◌≤◌, ◌^◌, List, [], ◌++◌, length, take, drop, Some, None, Option, Result, Ok, Err, inl, inr, refl, sym, ap, ◌∙◌, arith, subst, length-append}
+use Rattle.std.proofs.Common.{◌≡◌, ℕ, ◌+◌, ◌<◌, ◌≤◌, ◌^◌, List, [], ◌++◌, length, take, drop, Some, None}
+use Rattle.std.proofs.Common.{Option, Result, Ok, Err, inl, inr, refl, sym, ap, ◌∙◌, arith, subst}
+use Rattle.std.proofs.Common.{length-append}
 use Rattle.std.specs.Prelude.{option_map, IfErr, IfOk, IsErrAnd}
 use Rattle.std.proofs.lemmas.List.{length-take-le}
 use Rattle.vod_base.specs.Outside.{File, file_named}
@@ -22,7 +24,8 @@ use Rattle.troubles.specs.Causes.{IsReadTrouble, IsStoreKept}
 use Rattle.troubles.proofs.CauseLemmas.{trouble_map}
 use Rattle.inputs.specs.Films.{IsFilmTrouble}
 use Rattle.inputs.specs.Files.{IsFront, IsMissing, IsNamed, IsNever}
-use Rattle.inputs.specs.Scans.{HasEnded, HasHeard, HasRefused, HasScanned, HasScannedAll, HasTold, IsFilmRefused, IsOpened, IsScanTrouble, WasOpened}
+use Rattle.inputs.specs.Scans.{HasEnded, HasHeard, HasRefused, HasScanned, HasScannedAll, HasTold}
+use Rattle.inputs.specs.Scans.{IsFilmRefused, IsOpened, IsScanTrouble, WasOpened}
 use Rattle.inputs.specs.Videos.{IsVideo, IsVideoFrom, pack_in}
 use Rattle.inputs.proofs.ReadLemmas.{first_front, front_rest, one_file}
 use Rattle.inputs.proofs.RefusalLemmas.{each_film_fault, refusal_read}

@@ -1,5 +1,7 @@
 -- A system stream that is unwrapped and scanned chunk by chunk.
-use Rattle.std.proofs.Common.{◌≡◌, ℕ, ◌+◌, ◌-◌, ◌≤◌, ◌^◌, List, [], ◌∷◌, ◌++◌, append_assoc, length, take, drop, replicate, Some, Option, inl, inr, refl, sym, ap, ◌∙◌, arith, subst, length-append}
+use Rattle.std.proofs.Common.{◌≡◌, ℕ, ◌+◌, ◌-◌, ◌≤◌, ◌^◌, List, [], ◌∷◌, ◌++◌, append_assoc, length, take}
+use Rattle.std.proofs.Common.{drop, replicate, Some, Option, inl, inr, refl, sym, ap, ◌∙◌, arith, subst}
+use Rattle.std.proofs.Common.{length-append}
 use Rattle.std.proofs.lemmas.List.{length-take-le, length-drop, length-replicate, append-nil, take-append-drop}
 use Rattle.std.proofs.Math.Seq.{drop-append_seam, take-add}
 use Rattle.vod_base.specs.Outside.{File, file_named}
@@ -19,7 +21,9 @@ use Rattle.troubles.specs.declared.faults.Fault.TheVariants.{Film, System}
 use Rattle.troubles.specs.declared.faults.Trouble.{Trouble}
 use Rattle.inputs.specs.Files.{IsFront}
 use Rattle.inputs.specs.Films.{IsMovedFault, IsSystemTrouble, IsToldFault}
-use Rattle.inputs.specs.Scans.{HasEnded, HasHeard, HasRefused, HasStreamed, HasStreamedAll, HasTaken, HasUnwrapped, IsFilmRefused, IsOpened, IsChunkRefused, IsScanTrouble, IsStreamFront, WasOpened}
+use Rattle.inputs.specs.Scans.{HasEnded, HasHeard, HasRefused, HasStreamed, HasStreamedAll, HasTaken}
+use Rattle.inputs.specs.Scans.{HasUnwrapped, IsFilmRefused, IsOpened, IsChunkRefused, IsScanTrouble}
+use Rattle.inputs.specs.Scans.{IsStreamFront, WasOpened}
 use Rattle.inputs.specs.declared.streams.StreamRefused.{StreamRefused}
 use Rattle.inputs.specs.declared.streams.StreamRefused.TheVariants.{Fault as StreamFault, NoMemory as NoRoom}
 use Rattle.inputs.proofs.Tokens.{slice_from}

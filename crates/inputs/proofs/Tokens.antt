@@ -1,5 +1,7 @@
 -- The tokens of a text, from the front on, and the traces that they write.
-use Rattle.std.proofs.Common.{◌≡◌, ℕ, ◌+◌, ◌-◌, ◌<◌, ◌≤◌, ◌^◌, Bool, true, false, not, List, [], ◌∷◌, ◌++◌, length, take, drop, map, sum, Some, Option, refl, sym, ap, ◌∙◌, arith, add-zero, if◌then◌else◌, slice_range, get_or, length-append, length-drop}
+use Rattle.std.proofs.Common.{◌≡◌, ℕ, ◌+◌, ◌-◌, ◌<◌, ◌≤◌, ◌^◌, Bool, true, false, not, List, [], ◌∷◌, ◌++◌}
+use Rattle.std.proofs.Common.{length, take, drop, map, sum, Some, Option, refl, sym, ap, ◌∙◌, arith, add-zero}
+use Rattle.std.proofs.Common.{if◌then◌else◌, slice_range, get_or, length-append, length-drop}
 use Rattle.std.proofs.lemmas.Bool.{and_parts, not-true}
 use Rattle.std.proofs.lemmas.List.{take-append-drop, drop-drop, length-take-le, take_all, map-append, append_assoc}
 use Rattle.std.proofs.Math.Seq.{get_or-append_seam}
@@ -7,7 +9,8 @@ use Rattle.std.proofs.lemmas.List.Elements.{All-append, All-cons, All-nil}
 use Rattle.std.proofs.lemmas.List.Sums.{sum_by-append}
 use Rattle.std.specs.List.{list_all}
 use Rattle.vod_base.specs.Numbers.{number_of}
-use Rattle.inputs.specs.Traces.{is_white_space, Token, begins_token, joined_tokens, tokens_from, WriteSizes, IsBadTraceText, AddsSize}
+use Rattle.inputs.specs.Traces.{is_white_space, Token, begins_token, joined_tokens, tokens_from, WriteSizes}
+use Rattle.inputs.specs.Traces.{IsBadTraceText, AddsSize}
 
 -- blanks in front are passed over
 pub tokens-blanks : (at : ℕ) (blanks rest : List ℕ) → list_all is_white_space blanks ≡ true

@@ -6,7 +6,8 @@ use Rattle.troubles.specs.Causes.{IsReadTrouble}
 use Rattle.troubles.specs.Messages.{HasGoodName}
 use Rattle.troubles.specs.declared.faults.Fault.{Fault}
 use Rattle.troubles.specs.declared.faults.Trouble.{Trouble}
-use Rattle.troubles.specs.declared.faults.Trouble.TheVariants.{Usage, Refused, StoreFault, SinkFault, NoMemory, GateFault, LinkFault}
+use Rattle.troubles.specs.declared.faults.Trouble.TheVariants.{Usage, Refused, StoreFault, SinkFault}
+use Rattle.troubles.specs.declared.faults.Trouble.TheVariants.{NoMemory, GateFault, LinkFault}
 
 -- what the trouble of a call that reads a library may come from: the inputs that it reads, what a
 -- refusal goes with, what the library tells, and its count of faults before and after

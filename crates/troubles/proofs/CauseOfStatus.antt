@@ -2,7 +2,8 @@
 use Rattle.std.proofs.Common.{refl, arith}
 use Rattle.troubles.specs.Statuses.{TellsCause, status_of}
 use Rattle.troubles.specs.declared.faults.Trouble.{Trouble}
-use Rattle.troubles.specs.declared.faults.Trouble.TheVariants.{Usage, Refused, StoreFault, SinkFault, NoMemory, GateFault, LinkFault}
+use Rattle.troubles.specs.declared.faults.Trouble.TheVariants.{Usage, Refused, StoreFault, SinkFault}
+use Rattle.troubles.specs.declared.faults.Trouble.TheVariants.{NoMemory, GateFault, LinkFault}
 
 pub cause_told : (trouble : Trouble) → TellsCause (status_of trouble) trouble
 cause_told Usage = record {

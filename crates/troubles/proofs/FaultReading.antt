@@ -1,13 +1,20 @@
 -- A refusal is read back from its name and its numbers.
-use Rattle.std.proofs.Common.{◌≡◌, ℕ, ◌&&◌, not, ◌==◌, if◌then◌else◌, Bool, true, List, [], ◌∷◌, Option, Some, None, codes, refl}
+use Rattle.std.proofs.Common.{◌≡◌, ℕ, ◌&&◌, not, ◌==◌, if◌then◌else◌, Bool, true, List, [], ◌∷◌, Option, Some}
+use Rattle.std.proofs.Common.{None, codes, refl}
 use Rattle.std.specs.List.{list_all}
 use Rattle.std.specs.Str.{bytes_eq}
 use Rattle.wire_curve.specs.declared.film.CurveFault.TheVariants.{NoPictures, TooManySlots, BufferTooSmall}
-use Rattle.mpeg_scan.specs.declared.faults.FilmFault.TheVariants.{Empty, NoSequence, SystemCode, Mpeg2, ShortHeader, BadRate, BadType, PictureWithoutSlices, HeadTooLong, GroupTooLong, TooLong, HeadWithoutPicture}
+use Rattle.mpeg_scan.specs.declared.faults.FilmFault.TheVariants.{Empty, NoSequence, SystemCode, Mpeg2}
+use Rattle.mpeg_scan.specs.declared.faults.FilmFault.TheVariants.{ShortHeader, BadRate, BadType}
+use Rattle.mpeg_scan.specs.declared.faults.FilmFault.TheVariants.{PictureWithoutSlices, HeadTooLong}
+use Rattle.mpeg_scan.specs.declared.faults.FilmFault.TheVariants.{GroupTooLong, TooLong, HeadWithoutPicture}
 use Rattle.sys_demux.specs.declared.faults.SystemFault.TheVariants.{NotPack, BadCode, BadPacket, Truncated}
 use Rattle.troubles.specs.Lines.{fault_words}
 use Rattle.troubles.specs.declared.faults.Fault.{Fault}
-use Rattle.troubles.specs.declared.faults.Fault.TheVariants.{NotFound, BadTrace, Curves, BadCert, BadScript, Film, System, FilmTooLarge, NoConnection, RefusedWith, BadReply, BadFrame, Framing, EndedEarly, TurnsSpent}
+use Rattle.troubles.specs.declared.faults.Fault.TheVariants.{NotFound, BadTrace, Curves, BadCert, BadScript}
+use Rattle.troubles.specs.declared.faults.Fault.TheVariants.{Film, System, FilmTooLarge, NoConnection}
+use Rattle.troubles.specs.declared.faults.Fault.TheVariants.{RefusedWith, BadReply, BadFrame, Framing}
+use Rattle.troubles.specs.declared.faults.Fault.TheVariants.{EndedEarly, TurnsSpent}
 
 -- a refusal with no number, and one with one number
 abbrev lone_fault : Fault → List ℕ → Option Fault

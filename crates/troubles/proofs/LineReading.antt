@@ -1,5 +1,7 @@
 -- The line of a trouble is read back.
-use Rattle.std.proofs.Common.{◌≡◌, ◌≢◌, ℕ, ◌<◌, ◌^◌, ◌&&◌, not, ◌==◌, nat_lt, nat_le, if◌then◌else◌, true, false, List, [], ◌∷◌, ◌++◌, flat_map, drop, length, slice_index, Option, Some, None, codes, decimal, refl, sym, ap, ◌∙◌, arith}
+use Rattle.std.proofs.Common.{◌≡◌, ◌≢◌, ℕ, ◌<◌, ◌^◌, ◌&&◌, not, ◌==◌, nat_lt, nat_le, if◌then◌else◌, true}
+use Rattle.std.proofs.Common.{false, List, [], ◌∷◌, ◌++◌, flat_map, drop, length, slice_index, Option, Some}
+use Rattle.std.proofs.Common.{None, codes, decimal, refl, sym, ap, ◌∙◌, arith}
 use Rattle.std.specs.List.{list_all}
 use Rattle.std.specs.Str.{bytes_eq}
 use Rattle.std.proofs.lemmas.Bool.{and_parts}
@@ -9,13 +11,17 @@ use Rattle.vod_base.specs.Names.{is_good_name, is_name_byte}
 use Rattle.plan_cert.proofs.Decimals.{not_in_decimal}
 use Rattle.troubles.specs.Lines.{fault_text, fault_words, trouble_text}
 use Rattle.troubles.specs.Said.{number_text}
-use Rattle.troubles.specs.Messages.{Message, no_meaning, refused_input, failed_library, failed_output, no_memory, failed_gate, failed_link, HasShortNumbers, IsOwnLine, MayBeSaid, message_of}
+use Rattle.troubles.specs.Messages.{Message, no_meaning, refused_input, failed_library, failed_output}
+use Rattle.troubles.specs.Messages.{no_memory, failed_gate, failed_link, HasShortNumbers, IsOwnLine}
+use Rattle.troubles.specs.Messages.{MayBeSaid, message_of}
 use Rattle.troubles.specs.declared.faults.Fault.{Fault}
 use Rattle.troubles.specs.declared.faults.Trouble.{Trouble}
-use Rattle.troubles.specs.declared.faults.Trouble.TheVariants.{Usage, Refused, StoreFault, SinkFault, NoMemory, GateFault, LinkFault}
+use Rattle.troubles.specs.declared.faults.Trouble.TheVariants.{Usage, Refused, StoreFault, SinkFault}
+use Rattle.troubles.specs.declared.faults.Trouble.TheVariants.{NoMemory, GateFault, LinkFault}
 use Rattle.troubles.proofs.FaultReading.{fault_from, is_plain, each_is_known}
 use Rattle.vod_base.proofs.FirstBytes.{none_is}
-use Rattle.troubles.proofs.WordLemmas.{HasNo, none_in_numbers, numbers_back, numbers_of, split, split_at, split_none, split_words}
+use Rattle.troubles.proofs.WordLemmas.{HasNo, none_in_numbers, numbers_back, numbers_of, split, split_at}
+use Rattle.troubles.proofs.WordLemmas.{split_none, split_words}
 
 -- ---- how a line is read
 abbrev first_part : List (List ℕ) → List ℕ

@@ -1,5 +1,6 @@
 -- What a part more makes of what was said.
-use Rattle.std.proofs.Common.{◌≡◌, ℕ, ◌+◌, ◌≤◌, Bool, true, false, List, ◌++◌, length, take, Option, refl, sym, ap, ◌∙◌, arith, length-append, subst}
+use Rattle.std.proofs.Common.{◌≡◌, ℕ, ◌+◌, ◌≤◌, Bool, true, false, List, ◌++◌, length, take, Option, refl}
+use Rattle.std.proofs.Common.{sym, ap, ◌∙◌, arith, length-append, subst}
 use Rattle.std.proofs.Common.{Result, Ok, Err}
 use Rattle.std.specs.Prelude.{IsErrAnd, OnErr, OnOk, is_ok}
 use Rattle.std.proofs.lemmas.Bool.{true≢false}

@@ -1,6 +1,7 @@
 use Rattle.std.proofs.Common.{◌∙◌, refl, sym, subst, arith}
 use Rattle.inputs.specs.Scans.{IsFilmRefused, IsOpened}
-use Rattle.inputs.proofs.ScanLemmas.{handed_on, heard_on, missing_refused, never_refused, read_trouble_map, size_refused}
+use Rattle.inputs.proofs.ScanLemmas.{handed_on, heard_on, missing_refused, never_refused, read_trouble_map}
+use Rattle.inputs.proofs.ScanLemmas.{size_refused}
 use Rattle.inputs.proofs.ScanLemmas.{troubles_on}
 use Rattle.inputs.proofs.LibraryLemmas.{then_read}
 use Rattle.inputs.proofs.scans.hear_film.Goals as goal

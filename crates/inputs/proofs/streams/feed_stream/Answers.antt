@@ -3,7 +3,8 @@ use Rattle.std.proofs.lemmas.List.{length-take-le}
 use Rattle.inputs.specs.Files.{IsChunk, IsNextRead}
 use Rattle.inputs.proofs.LibraryLemmas.{then_read}
 use Rattle.inputs.proofs.ReadLemmas.{some_chunk}
-use Rattle.inputs.proofs.StreamLemmas.{ChunkRead, all_streamed, chunk_told, front_more, more_streamed, streamed_fed, system_trouble}
+use Rattle.inputs.proofs.StreamLemmas.{ChunkRead, all_streamed, chunk_told, front_more, more_streamed}
+use Rattle.inputs.proofs.StreamLemmas.{streamed_fed, system_trouble}
 use Rattle.inputs.proofs.streams.feed_stream.Goals as goal
 
 pub unwrap_chunk-requires-clause-room : goal.unwrap_chunk-requires-clause-room

@@ -5,7 +5,8 @@ use Rattle.inputs.specs.Files.{IsNamed}
 use Rattle.inputs.specs.Films.{IsFilmTrouble}
 use Rattle.inputs.specs.Scans.{HasEnded, HasHeard, HasStreamedAll, IsFilmRefused, IsRefusedAtEnd}
 use Rattle.inputs.proofs.ScanLemmas.{film_trouble, err_map, handed_on, ok_map}
-use Rattle.inputs.proofs.StreamLemmas.{end_fault, first_streamed, stream_heard, system_trouble, video_refused, video_short}
+use Rattle.inputs.proofs.StreamLemmas.{end_fault, first_streamed, stream_heard, system_trouble, video_refused}
+use Rattle.inputs.proofs.StreamLemmas.{video_short}
 use Rattle.inputs.proofs.streams.scan_stream.Goals as goal
 
 pub feed_stream-requires-clause-streamed : goal.feed_stream-requires-clause-streamed

@@ -2,8 +2,10 @@ use Rattle.std.proofs.Common.{◌≡◌, ◌<◌, length, arith, sym, ◌∙◌,
 use Rattle.inputs.specs.Traces.{is_white_space}
 use Rattle.inputs.proofs.Words.{DigitsInFront, no_digits, not_whole, too_large, whole_word}
 use Rattle.inputs.proofs.traces.number_in_front.Goals as goal
-use Rattle.inputs.proofs.traces.number_in_front.Goals.{then-number-eq0-via-then-number-eq0, then-number-eq0-via-else-number-eq0+then-number-gt-MAX_SIZE}
-use Rattle.inputs.proofs.traces.number_in_front.Goals.{else-number-rest-via-then-number-rest+else-not-is_white_space, else-number-rest-via-else-number-rest}
+use Rattle.inputs.proofs.traces.number_in_front.Goals.{then-number-eq0-via-then-number-eq0}
+use Rattle.inputs.proofs.traces.number_in_front.Goals.{then-number-eq0-via-else-number-eq0+then-number-gt-MAX_SIZE}
+use Rattle.inputs.proofs.traces.number_in_front.Goals.{else-number-rest-via-then-number-rest+else-not-is_white_space}
+use Rattle.inputs.proofs.traces.number_in_front.Goals.{else-number-rest-via-else-number-rest}
 
 pub returns-then-number-eq0 : goal.returns-then-number-eq0
 returns-then-number-eq0 c = λ size written.
