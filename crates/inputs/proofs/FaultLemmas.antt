@@ -29,5 +29,6 @@ fault_in_file file fault (Some place) begins h =
       own = own;
       refused = h.1.0;
       same = rw h.1.1 (same_from place own);
-      bytes = ap (λ (n : ℕ). drop n file) (ap place_of h.1.1 ∙ place_from place own) ∙ sym (drop-drop (place_of own) place file);
+      bytes = ap (λ (n : ℕ). drop n file) (ap place_of h.1.1 ∙ place_from place own)
+          ∙ sym (drop-drop (place_of own) place file);
     }

@@ -11,15 +11,12 @@ use Rattle.troubles.specs.Causes.{IsReadTrouble}
 use Rattle.troubles.specs.declared.faults.Fault.{Fault}
 use Rattle.troubles.specs.declared.faults.Trouble.{Trouble}
 use Rattle.inputs.specs.Files.{IsFront, IsNamed}
-use Rattle.inputs.specs.Films.{IsBytesTrouble, IsFilmTrouble, IsMovedFault, IsStreamRefused, IsSystemTrouble}
-use Rattle.inputs.specs.Films.{IsToldFault}
+use Rattle.inputs.specs.Films.{IsBytesTrouble, IsFilmTrouble, IsMovedFault}
 use Rattle.inputs.specs.Scans.{HoldsVideo}
 use Rattle.inputs.specs.Videos.{IsRefusedAbove, IsStreamFault, IsStreamFaultFrom, IsVideo, IsVideoFrom}
 use Rattle.inputs.specs.Videos.{IsVideoRefused, pack_in}
-use Rattle.inputs.specs.declared.streams.StreamRefused.{StreamRefused}
-use Rattle.inputs.specs.declared.streams.StreamRefused.TheVariants.{Fault as StreamFault, NoMemory as NoRoom}
 use Rattle.inputs.proofs.ReadLemmas.{first_front}
-use Rattle.inputs.proofs.RefusalLemmas.{each_film_fault, each_system_fault, refusal_map, refusal_read}
+use Rattle.inputs.proofs.RefusalLemmas.{each_film_fault, refusal_map, refusal_read}
 use Rattle.inputs.proofs.Tokens.{slice_from}
 
 -- a file whose size was found has too many bytes
@@ -44,21 +41,11 @@ pub fault_is : {from : ℕ} {own fault : SystemFault} (file : List ℕ) → pack
     from ≤ length file → length file ≤ 2 ^ 40 → IsRefused (take (length file - from) (drop from file)) own →
     IsMovedFault from own fault → IsStreamFault file fault
 fault_is {from} {own} {fault} file pack within short refused moves =
-    let stream : IsRefused (drop from file) own = subst (λ (l : List ℕ). IsRefused l own) (slice_from file from) refused in
+    let stream : IsRefused (drop from file) own =
+    subst (λ (l : List ℕ). IsRefused l own) (slice_from file from) refused in
     let its : IsStreamFaultFrom (Some from) file fault =
     (own, (stream, moves (drop from file) stream (omega (arith, length-drop from file, within, short)))) in
     subst (λ (o : Option ℕ). IsStreamFaultFrom o file fault) (sym pack) its
-
--- the trouble with a file whose stream is refused
-pub stream_trouble : {from : ℕ} (file name : List ℕ) (refused : StreamRefused) (t : Trouble) →
-    pack_in file ≡ Some from → from ≤ length file → length file ≤ 2 ^ 40 →
-    IsStreamRefused (take (length file - from) (drop from file)) refused →
-    IsSystemTrouble name (IsToldFault from refused) t → IsBytesTrouble name file t
-stream_trouble file name (StreamFault own) t pack within short refused h =
-    refusal_map name t
-    (λ fault is. each_system_fault (IsVideoRefused file) fault (λ its moves. fault_is file pack within short refused moves) is) h
-stream_trouble file name NoRoom t pack within short refused h =
-    refusal_map name t (λ fault is. each_system_fault (IsVideoRefused file) fault (λ its moves. absurd moves) is) h
 
 -- the refusal of a file's video is that of the file
 pub video_trouble : (name file video : List ℕ) (t : Trouble) → IsVideo file video
@@ -77,7 +64,8 @@ pub bytes_trouble : {told : Option (List File)} {name file : List ℕ} {most : �
     (t : Trouble) → WasRead told name file most → IsBytesTrouble name file t →
     IsReadTrouble (IsNamed name) (IsRefusedAbove most over) told faults faults' t
 bytes_trouble {name = name} {file} {most} over faults faults' t read h =
-    refusal_read (IsRefusedAbove most over) name faults faults' t (λ held fault is refused. inr (file, (read.found held is, inr (read.short, refused)))) h
+    refusal_read (IsRefusedAbove most over) name faults faults' t
+    (λ held fault is refused. inr (file, (read.found held is, inr (read.short, refused)))) h
 
 pub film_loaded : {held : List File} {name file video : List ℕ} → file_named held name ≡ Some file
     → length file ≤ 2 ^ 40 → IsVideo file video → refusal video ≡ None → HoldsVideo held name video

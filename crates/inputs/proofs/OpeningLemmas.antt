@@ -32,7 +32,8 @@ open_more {next} {seen} byte so_far part is =
     let joined : read_after [] (seen ++ byte ∷ []) ≡ byte ∷ read_after [] seen = read-append [] seen (byte ∷ []) in
     let plain : is_whole (latest_prefix (read_after [] seen)) ≡ false = ap is_whole (sym so_far.prefix_is) ∙ part in
     record {
-      none = ap codes_of joined ∙ codes-plain byte (read_after [] seen) plain ∙ ap (λ (l : List Code). note_latest l byte) so_far.none;
+      none = ap codes_of joined ∙ codes-plain byte (read_after [] seen) plain
+          ∙ ap (λ (l : List Code). note_latest l byte) so_far.none;
       prefix_is = is ∙ ap (λ p. next_prefix p byte) so_far.prefix_is ∙ sym (matched-more byte (read_after [] seen))
           ∙ ap latest_prefix (sym joined);
     }
@@ -51,12 +52,14 @@ record HasOlder (r : List ℕ) (pack : Option ℕ) : Type 0 where
 
 older-more : (r : List ℕ) (x : ℕ) (pack : Option ℕ) → HasOlder r pack → HasOlder (x ∷ r) pack
 older-more r x pack has =
-    let noted : note_latest (codes_of r) x ≡ note has.code x ∷ has.older = ap (λ (l : List Code). note_latest l x) has.are in
+    let noted : note_latest (codes_of r) x ≡ note has.code x ∷ has.older =
+    ap (λ (l : List Code). note_latest l x) has.are in
     elim (cases_Bool (is_whole (latest_prefix r))) [
       | inl e ↦ record {
         code = record { place = length r - 3; value = x; header = [] };
         older = note has.code x ∷ has.older;
-        are = codes-code x r e ∙ ap (λ (l : List Code). (record { place = length r - 3; value = x; header = [] }) ∷ l) noted;
+        are = codes-code x r e
+            ∙ ap (λ (l : List Code). (record { place = length r - 3; value = x; header = [] }) ∷ l) noted;
         pack_is = pack-note has.code has.older x ∙ has.pack_is;
       }
       | inr e ↦ record {
@@ -92,7 +95,8 @@ pub first_found : {prefix : Prefix} {seen : List ℕ} {pack : Option ℕ} (byte 
     cond (eqb byte 0xba) (Some (length seen - 3)) None ≡ pack → pack_in ((seen ++ byte ∷ []) ++ more) ≡ pack
 first_found {prefix} {seen} byte more so_far whole is =
     let joined : read_after [] ((seen ++ byte ∷ []) ++ more) ≡ read_after (byte ∷ read_after [] seen) more =
-    read-append [] (seen ++ byte ∷ []) more ∙ ap (λ (r : List ℕ). read_after r more) (read-append [] seen (byte ∷ [])) in
+    read-append [] (seen ++ byte ∷ []) more
+    ∙ ap (λ (r : List ℕ). read_after r more) (read-append [] seen (byte ∷ [])) in
     ap (λ (r : List ℕ). pack_of (codes_of r)) joined
     ∙ pack-stays more (byte ∷ read_after [] seen) (cond (eqb byte 0xba) (Some (length seen - 3)) None)
     (first_code prefix seen byte so_far whole) ∙ is
@@ -103,7 +107,8 @@ open_plain prefix seen so_far = ap pack_of so_far.none
 
 -- a byte of a chunk, and what follows it
 pub at_byte : (seen chunk more : List ℕ) (index : ℕ) → index < length chunk →
-    (seen ++ chunk) ++ more ≡ ((seen ++ take index chunk) ++ get_or chunk index 0 ∷ []) ++ (drop (index + 1) chunk ++ more)
+    (seen ++ chunk) ++ more ≡ ((seen ++ take index chunk) ++ get_or chunk index 0 ∷ [])
+    ++ (drop (index + 1) chunk ++ more)
 at_byte seen chunk more index inside =
     let split : chunk ≡ (take index chunk ++ get_or chunk index 0 ∷ []) ++ drop (index + 1) chunk =
     sym (take-append-drop (index + 1) chunk)
@@ -136,7 +141,8 @@ more_looked {name} {place} {next} chunk count so_far front within unfound = reco
 -- the first code was found, or none stands in the whole file
 pub found_opened : {held : List File} {name : List ℕ} {size : ℕ} {bytes : List ℕ} {pack : Option ℕ} →
     (front : IsFront held name size bytes) →
-    ((more : List ℕ) → pack_in (bytes ++ more) ≡ pack) → IfSome pack (λ place. place ≤ size) → IsOpened held name size pack
+    ((more : List ℕ) → pack_in (bytes ++ more) ≡ pack) → IfSome pack (λ place. place ≤ size) →
+    IsOpened held name size pack
 found_opened {held} {name} {size} {bytes} {pack} front is within = record {
   file = front.whole;
   found = front.found;
@@ -149,7 +155,8 @@ pub whole_looked : {held : List File} {name : List ℕ} {size place : ℕ} {pref
     → (so_far : HasLooked held name size place prefix) → file_named held name ≡ Some so_far.bytes
     → IsOpened held name size None
 whole_looked {held} {name} {prefix = prefix} so_far found =
-    let same : so_far.bytes ≡ so_far.front.whole = one_file held name so_far.bytes so_far.front.whole found so_far.front.found in
+    let same : so_far.bytes ≡ so_far.front.whole =
+    one_file held name so_far.bytes so_far.front.whole found so_far.front.found in
     record {
       file = so_far.bytes;
       found = found;

@@ -8,14 +8,16 @@ use Rattle.vod_base.specs.Outside.{File, file_named, bytes_named, IsRead}
 use Rattle.inputs.specs.Files.{IsChunk, IsFront}
 
 -- a size that was found is that of a file
-found_size : (o : Option (List ℕ)) (n : ℕ) → Some n ≡ option_map length o → (b : List ℕ) × ((o ≡ Some b) × (n ≡ length b))
+found_size : (o : Option (List ℕ)) (n : ℕ) → Some n ≡ option_map length o →
+    (b : List ℕ) × ((o ≡ Some b) × (n ≡ length b))
 found_size None n e = ([], ((cc), (cc)))
 found_size (Some b) n e = (b, (refl, (cc)))
 
 pub first_front : (held : List File) (name : List ℕ) (size : ℕ)
     → Some size ≡ option_map length (file_named held name) → IsFront held name size []
 first_front held name size e =
-    let file : (b : List ℕ) × ((file_named held name ≡ Some b) × (size ≡ length b)) = found_size (file_named held name) size e in
+    let file : (b : List ℕ) × ((file_named held name ≡ Some b) × (size ≡ length b)) =
+    found_size (file_named held name) size e in
     record { whole = file.0; found = file.1.0; sized = file.1.1; front = refl }
 
 named : (held : List File) (name b : List ℕ) → file_named held name ≡ Some b → bytes_named held name ≡ b
@@ -52,7 +54,8 @@ whole_front held name size bytes so_far long =
     (sym (so_far.front ∙ take_all (length bytes) so_far.whole (omega (arith, so_far.sized, long))))
 
 -- an empty read stands at the end
-pub read_some : {held : List File} {name : List ℕ} {size : ℕ} {bytes chunk : List ℕ} {n : ℕ} → IsFront held name size bytes →
+pub read_some : {held : List File} {name : List ℕ} {size : ℕ} {bytes chunk : List ℕ} {n : ℕ} →
+    IsFront held name size bytes →
     IsRead (bytes_named held name) (length bytes) n chunk → 0 < length chunk → length bytes < size → 0 < n
 read_some {held} {name} {chunk} so_far read some before =
     let whole : bytes_named held name ≡ so_far.whole = named held name so_far.whole so_far.found in
@@ -63,7 +66,8 @@ pub some_chunk : {size at room count : ℕ} {o : Option ℕ} → o ≡ Some coun
     IsChunk size at room count
 some_chunk {size} {at} {room} is h = subst (λ (p : Option ℕ). IfSome p (IsChunk size at room)) is h
 
-pub one_file : (held : List File) (name a b : List ℕ) → file_named held name ≡ Some a → file_named held name ≡ Some b → a ≡ b
+pub one_file : (held : List File) (name a b : List ℕ) → file_named held name ≡ Some a →
+    file_named held name ≡ Some b → a ≡ b
 one_file held name a b p q = let e : Some a ≡ Some b = sym p ∙ q in cc
 
 -- a front of a file, and the rest of it

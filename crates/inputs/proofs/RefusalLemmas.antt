@@ -35,7 +35,8 @@ refusal_map name GateFault refuses h = absurd h
 refusal_map name LinkFault refuses h = absurd h
 
 pub film_trouble_map : {Refuses Refuses' : FilmFault → Type 0} (name : List ℕ) (t : Trouble) →
-    ((fault : FilmFault) → Refuses fault → Refuses' fault) → IsFilmTrouble name Refuses t → IsFilmTrouble name Refuses' t
+    ((fault : FilmFault) → Refuses fault → Refuses' fault) → IsFilmTrouble name Refuses t →
+    IsFilmTrouble name Refuses' t
 film_trouble_map {Refuses} {Refuses'} name t refuses h =
     refusal_map name t (λ fault is. each_film_fault (IsFilmFault Refuses') fault refuses is) h
 

@@ -34,7 +34,8 @@ use Rattle.inputs.proofs.RefusalLemmas.{each_film_fault, refusal_read}
 pub plain_video : (held : List File) (name : List ℕ) (size : ℕ) (whole : List ℕ) → IsOpened held name size None
     → file_named held name ≡ Some whole → IsVideo whole whole
 plain_video held name size whole opened found =
-    let pack : pack_in whole ≡ None = ap pack_in (one_file held name whole opened.file found opened.found) ∙ opened.pack in
+    let pack : pack_in whole ≡ None =
+    ap pack_in (one_file held name whole opened.file found opened.found) ∙ opened.pack in
     subst (λ (o : Option ℕ). IsVideoFrom o whole whole) (sym pack) refl
 
 plain_refused : {held : List File} {name : List ℕ} {size : ℕ} {whole : List ℕ} {fault : FilmFault} →
@@ -86,11 +87,13 @@ pub front_refused : (front rest : List ℕ) (fault : FilmFault) → length (fron
     refusal (front ++ rest) ≡ Some fault
 front_refused front rest fault short is =
     refusal-at_code (front ++ rest) fault short
-    (ap (λ (r : List ℕ). first_fault (codes_of r)) (read-append [] front rest) ∙ fault-stays rest (read_after [] front) fault is)
+    (ap (λ (r : List ℕ). first_fault (codes_of r)) (read-append [] front rest)
+    ∙ fault-stays rest (read_after [] front) fault is)
 
 pub chunk_refused : {Heard : List Call → Type 0} {held : List File} {name : List ℕ} {size : ℕ} {scanner : Scanner}
     {bytes : List ℕ} {fault : FilmFault} (chunk : List ℕ) →
-    HasTold Heard scanner bytes → IsOpened held name size None → IsFront held name size (bytes ++ chunk) → size ≤ 2 ^ 40 →
+    HasTold Heard scanner bytes → IsOpened held name size None → IsFront held name size (bytes ++ chunk) →
+    size ≤ 2 ^ 40 →
     ((r : List ℕ) → HasScannedBytes scanner r → first_fault (codes_of (read_after r chunk)) ≡ Some fault)
     → IsFilmRefused held name (Film fault)
 chunk_refused {Heard} {held} {name} {size} {bytes} {fault} chunk so_far opened front short is =
@@ -115,7 +118,12 @@ first_scanned {Heard} {name} {scanner} from opened fed fresh = record {
   long = refl;
   scanned = none_told Heard scanner fed fresh;
   front = λ held is.
-      record { whole = (opened held is).file; found = (opened held is).found; sized = (opened held is).sized; front = refl };
+      record {
+        whole = (opened held is).file;
+        found = (opened held is).found;
+        sized = (opened held is).sized;
+        front = refl;
+      };
 }
 
 pub size_refused : (held : List File) (name : List ℕ) (size : ℕ)
@@ -132,7 +140,8 @@ missing_refused held name fault missing = inl missing
 
 pub told_ended : {Heard Heard' : List Call → Type 0} {scanner : Scanner} {video : List ℕ} {size rate : ℕ} →
     HasTold Heard scanner video →
-    ((r : List ℕ) → HasScannedBytes scanner r → (refusal_of r ≡ None) × (rate ≡ rate_of (codes_of r)) × (size ≡ length r)) →
+    ((r : List ℕ) → HasScannedBytes scanner r → (refusal_of r ≡ None) × (rate ≡ rate_of (codes_of r))
+    × (size ≡ length r)) →
     ((r : List ℕ) (calls : List Call) → HasScannedBytes scanner r → Heard (calls ++ calls_of (codes_of r)) →
     Heard' (calls ++ all_calls r)) →
     HasEnded Heard' video size rate
@@ -150,7 +159,8 @@ pub refused_ended : (scanner : Scanner) (video : List ℕ) → length video ≤ 
     → (so_far : HasRefused scanner video) → refusal video ≡ Some so_far.fault
 refused_ended scanner video short so_far =
     ap refusal so_far.video_is
-    ∙ front_refused so_far.front so_far.rest so_far.fault (omega (arith, short, ap length so_far.video_is)) so_far.refused
+    ∙ front_refused so_far.front so_far.rest so_far.fault
+    (omega (arith, short, ap length so_far.video_is)) so_far.refused
 
 -- ---- the whole film
 
@@ -243,8 +253,8 @@ read_trouble_map {Reads} {Reads'} {Refuses} {Refuses'} {told} before after t rea
     h
 
 -- what was found out before is not less known after that
-pub trouble_on : {told told' : Option (List File)} {a b : ℕ} (name : List ℕ) (Refuses : List File → List ℕ → Fault → Type 0)
-    (c : ℕ) (t : Trouble) → IsStoreKept told told' a b →
+pub trouble_on : {told told' : Option (List File)} {a b : ℕ} (name : List ℕ)
+    (Refuses : List File → List ℕ → Fault → Type 0) (c : ℕ) (t : Trouble) → IsStoreKept told told' a b →
     IsReadTrouble (IsNamed name) Refuses told' b c t → IsReadTrouble (IsNamed name) Refuses told a c t
 trouble_on {told} {told'} {a} {b} name Refuses c t on h =
     trouble_map (record {
@@ -272,16 +282,19 @@ trouble_on {told} {told'} {a} {b} name Refuses c t on h =
     h
 
 -- the same of a read that is never refused
-pub never_refused : {told told' : Option (List File)} {a b : ℕ} (name : List ℕ) (Refuses : List File → List ℕ → Fault → Type 0)
+pub never_refused : {told told' : Option (List File)} {a b : ℕ} (name : List ℕ) (Refuses : List File → List ℕ →
+    Fault → Type 0)
     (c : ℕ) (t : Trouble) → IsStoreKept told told' a b →
     IsReadTrouble (IsNamed name) IsNever told' b c t → IsReadTrouble (IsNamed name) Refuses told a c t
 never_refused {a} name Refuses c t on h =
-    read_trouble_map a c t (λ n is. is) (λ held n fault told_is named never. absurd never) (trouble_on name IsNever c t on h)
+    read_trouble_map a c t (λ n is. is) (λ held n fault told_is named never. absurd never)
+    (trouble_on name IsNever c t on h)
 
 -- and of a call's answer
 pub troubles_on : {told told' : Option (List File)} {a b : ℕ} (name : List ℕ) (c : ℕ)
     (r : Result Ending Trouble) → IsStoreKept told told' a b →
-    IfErr r (IsReadTrouble (IsNamed name) IsFilmRefused told' b c) → IfErr r (IsReadTrouble (IsNamed name) IsFilmRefused told a c)
+    IfErr r (IsReadTrouble (IsNamed name) IsFilmRefused told' b c) →
+    IfErr r (IsReadTrouble (IsNamed name) IsFilmRefused told a c)
 troubles_on name c (Ok ending) on h = tt
 troubles_on name c (Err t) on h = trouble_on name IsFilmRefused c t on h
 
@@ -289,4 +302,5 @@ troubles_on name c (Err t) on h = trouble_on name IsFilmRefused c t on h
 pub heard_on : {told told' : Option (List File)} (Heard : List Call → Type 0) (name : List ℕ)
     (r : Result Ending Trouble) → told' ≡ told →
     IfOk r (λ e. HasHeard Heard told' name e.bytes e.rate) → IfOk r (λ e. HasHeard Heard told name e.bytes e.rate)
-heard_on Heard name r kept h = subst (λ (t : Option (List File)). IfOk r (λ e. HasHeard Heard t name e.bytes e.rate)) kept h
+heard_on Heard name r kept h =
+    subst (λ (t : Option (List File)). IfOk r (λ e. HasHeard Heard t name e.bytes e.rate)) kept h

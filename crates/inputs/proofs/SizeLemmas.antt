@@ -140,10 +140,12 @@ film-sizes film unit sizes accepted sized =
     let start : MeasuredSoFar (between (first_of (codes_of (read_after [] film)))) no_count [] first_sizing.unit =
     record { slices = refl; measures = tt } in
     sized.sizes_are
-    ∙ sizes-told (film_calls film) first_sizing (film-tiles (read_after [] film) accepted) (film-numbered (read_after [] film) accepted) start
+    ∙ sizes-told (film_calls film) first_sizing (film-tiles (read_after [] film) accepted)
+    (film-numbered (read_after [] film) accepted) start
 
 -- a part more
-pub sized-more : {calls : List Call} {unit unit' : Measure} {sizes sizes' : List ℕ} (call : Call) → IsSized unit sizes calls →
+pub sized-more : {calls : List Call} {unit unit' : Measure} {sizes sizes' : List ℕ} (call : Call) →
+    IsSized unit sizes calls →
     unit' ≡ (sizing_after_call (record { unit = unit; sizes = sizes }) call).unit →
     sizes' ≡ (sizing_after_call (record { unit = unit; sizes = sizes }) call).sizes →
     IsSized unit' sizes' (calls ++ call ∷ [])
@@ -167,13 +169,15 @@ pub film-limits : (film : List ℕ) (rate : ℕ) → refusal film ≡ None → r
 film-limits film rate accepted is =
     let units : List PictureUnit = units_in (film_calls film) in
     let starts : List ℕ = slices_in (film_calls film) in
-    let grammar : IsFilm film rate units starts = record { accepted = accepted; rate = is; units = refl; slices = refl } in
+    let grammar : IsFilm film rate units starts =
+    record { accepted = accepted; rate = is; units = refl; slices = refl } in
     let its = film-rate (read_after [] film) accepted in
     let are : AreUnits (length film) starts units (first_of (codes_of (read_after [] film))) (length film) = record {
       laid = film-laid film rate units starts grammar;
       chained = film-chained film rate units starts grammar;
     } in
-    let few : length units ≤ 4194304 = omega (arith, film-units film accepted, film-pictures (read_after [] film) accepted) in
+    let few : length units ≤ 4194304 =
+    omega (arith, film-units film accepted, film-pictures (read_after [] film) accepted) in
     record {
       slowest = omega (arith, is, its.0);
       fastest = omega (arith, is, its.1);

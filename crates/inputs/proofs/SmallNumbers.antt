@@ -17,14 +17,16 @@ pub one_digit_more : (text : List ℕ) (i : ℕ) → i < length text → is_asci
     × (48 ≤ get_or text i 0) × (get_or text i 0 ≤ 57)
 one_digit_more text i inside digit =
     let is = digit_value_is (get_or text i 0) digit in
-    let more : digits_value 10 (take (i + 1) text) ≡ digits_value 10 (take i text) * 10 + digit_value (get_or text i 0) =
+    let more : digits_value 10 (take (i + 1) text)
+    ≡ digits_value 10 (take i text) * 10 + digit_value (get_or text i 0) =
     rw (take_more text i 0 inside) (digits_value_push 10 (take i text) (get_or text i 0)) in
     (omega (arith, more, is.2), is.0, is.1)
 
 pub digits_more : (text : List ℕ) (i : ℕ) → i < length text → list_all is_ascii_digit (take i text) ≡ true
     → is_ascii_digit (get_or text i 0) ≡ true → list_all is_ascii_digit (take (i + 1) text) ≡ true
 digits_more text i inside before digit =
-    list_all_more is_ascii_digit text i 0 inside ∙ ap (λ (b : Bool). b && is_ascii_digit (get_or text i 0)) before ∙ digit
+    list_all_more is_ascii_digit text i 0 inside ∙ ap (λ (b : Bool). b && is_ascii_digit (get_or text i 0)) before
+    ∙ digit
 
 pub number_is : (text : List ℕ) (number : ℕ) → 0 < length text → list_all is_ascii_digit text ≡ true
     → number ≡ digits_value 10 text → number < 2 ^ 64 → number_of text ≡ Some number

@@ -132,14 +132,16 @@ streamed_fed {Heard} {name} {from} {place} so_far = omega (arith, so_far.unwrapp
 -- before the first chunk
 pub first_streamed : {Heard : List Call → Type 0} {told : Option (List File)} {name : List ℕ} {size from : ℕ}
     {unwrapper : Unwrapper} {scanner : Scanner} → WasOpened told name size (Some from) →
-    WasFed unwrapper [] [] → HasScannedBytes scanner [] → Heard [] → HasStreamed Heard told name size from from unwrapper scanner
+    WasFed unwrapper [] [] → HasScannedBytes scanner [] → Heard [] →
+    HasStreamed Heard told name size from from unwrapper scanner
 first_streamed {Heard} {name} {size} {from} {scanner} opened empty fed fresh = record {
   seen = [];
   long = omega arith;
   unwrapped = record { video = []; fed = empty; few = omega arith; taken = inl (none_told Heard scanner fed fresh) };
   front = λ held is.
       let file : IsOpened held name size (Some from) = opened held is in
-      let begun : length (take from file.file) ≡ from = length-take-le from file.file (omega (arith, file.sized, file.within)) in
+      let begun : length (take from file.file) ≡ from =
+      length-take-le from file.file (omega (arith, file.sized, file.within)) in
       let long : length (take from file.file ++ []) ≡ from = ap length (append-nil (take from file.file)) ∙ begun in (
         take from file.file,
         (
@@ -156,7 +158,8 @@ first_streamed {Heard} {name} {size} {from} {scanner} opened empty fed fresh = r
 
 -- ---- refusals of the stream
 
-stream_rest : (before rest whole : List ℕ) (from : ℕ) → before ++ rest ≡ whole → length before ≡ from → drop from whole ≡ rest
+stream_rest : (before rest whole : List ℕ) (from : ℕ) → before ++ rest ≡ whole → length before ≡ from →
+    drop from whole ≡ rest
 stream_rest before rest whole from is long =
     ap (drop from) (sym is) ∙ ap (λ (n : ℕ). drop n (before ++ rest)) (sym long) ∙ drop-append_seam before rest
 
@@ -247,8 +250,10 @@ stream_video : {held : List File} {name : List ℕ} {size from : ℕ} {whole str
     IsOpened held name size (Some from) → file_named held name ≡ Some whole → drop from whole ≡ stream →
     IsSystem stream video → IsVideo whole video
 stream_video {held} {name} {from} {whole} {video} opened found is system =
-    let pack : pack_in whole ≡ Some from = ap pack_in (one_file held name whole opened.file found opened.found) ∙ opened.pack in
-    subst (λ (o : Option ℕ). IsVideoFrom o whole video) (sym pack) (subst (λ (l : List ℕ). IsSystem l video) (sym is) system)
+    let pack : pack_in whole ≡ Some from =
+    ap pack_in (one_file held name whole opened.file found opened.found) ∙ opened.pack in
+    subst (λ (o : Option ℕ). IsVideoFrom o whole video) (sym pack)
+    (subst (λ (l : List ℕ). IsSystem l video) (sym is) system)
 
 stream_few : {held : List File} {name : List ℕ} {size : ℕ} {from : Option ℕ} {whole : List ℕ}
     → IsOpened held name size from → file_named held name ≡ Some whole → size ≤ 2 ^ 40 → length whole ≤ 2 ^ 40
@@ -258,7 +263,8 @@ stream_few {held} {name} {from} {whole} opened found short =
 pub stream_heard : {Heard Heard' : List Call → Type 0} {told : Option (List File)} {name : List ℕ} {size from : ℕ}
     {unwrapper : Unwrapper} {scanner : Scanner} {bytes rate : ℕ} → size ≤ 2 ^ 40 →
     WasOpened told name size (Some from) →
-    (so_far : HasStreamedAll Heard told name size from unwrapper scanner) → IsSystem so_far.seen so_far.unwrapped.video →
+    (so_far : HasStreamedAll Heard told name size from unwrapper scanner) →
+    IsSystem so_far.seen so_far.unwrapped.video →
     HasEnded Heard' so_far.unwrapped.video bytes rate → HasHeard Heard' told name bytes rate
 stream_heard {Heard} {name} {from} short opened so_far system ended = record {
   video = so_far.unwrapped.video;
@@ -307,7 +313,8 @@ pub rest_joined : (seen chunk more : List ℕ) (at : ℕ)
     → (seen ++ take at chunk) ++ take (length chunk - at) (drop at chunk) ++ more ≡ seen ++ chunk ++ more
 rest_joined seen chunk more at =
     ap (λ (l : List ℕ). l ++ more) (append_assoc seen (take at chunk) (take (length chunk - at) (drop at chunk))
-    ∙ ap (λ (l : List ℕ). seen ++ l) (ap (λ (l : List ℕ). take at chunk ++ l) (slice_from chunk at) ∙ take-append-drop at chunk))
+    ∙ ap (λ (l : List ℕ). seen ++ l) (ap (λ (l : List ℕ). take at chunk ++ l) (slice_from chunk at)
+    ∙ take-append-drop at chunk))
 
 -- a refusal in a part of a chunk
 pub part_refused : (seen chunk : List ℕ) (at : ℕ) (e : StreamRefused)

@@ -8,13 +8,15 @@ use Rattle.inputs.specs.Traces.{AreSeparated, Token, begins_token, is_white_spac
 use Rattle.inputs.proofs.Tokens.{tokens-blanks, word_list}
 
 -- what is separated so is read so
-pub separated_only : (at : ℕ) (text : List ℕ) (tokens : List Token) → AreSeparated at text tokens → tokens ≡ tokens_from at text
+pub separated_only : (at : ℕ) (text : List ℕ) (tokens : List Token) → AreSeparated at text tokens → tokens
+    ≡ tokens_from at text
 separated_only at text [] h = sym (ap (tokens_from at) (sym (append-nil text)) ∙ tokens-blanks at text [] h)
 separated_only at text (token ∷ tokens) h =
     let front : List ℕ = h.0 in
     let rest : List ℕ = h.1.0 in
     let reads : tokens_from at text
-    ≡ (record { from = at + length front; bytes = token.bytes }) ∷ tokens_from (at + length front + length token.bytes) rest =
+    ≡ (record { from = at + length front; bytes = token.bytes }) ∷ tokens_from
+    (at + length front + length token.bytes) rest =
     ap (tokens_from at) h.1.1.0 ∙ tokens-blanks at front (token.bytes ++ rest) h.1.1.1
     ∙ word_list (at + length front) token.bytes rest h.1.1.2.0 h.1.1.2.1 h.1.1.3 in
     let place : (record { from = token.from; bytes = token.bytes }) ∷ tokens
@@ -113,8 +115,10 @@ separated_are (b ∷ rest) at =
     λ v. if v then tokens_from (at + 1) rest else joined_tokens at b (begins_token rest) (tokens_from (at + 1) rest) in
     elim (cases_Bool (is_white_space b)) [
       | inl blank ↦
-          subst (AreSeparated at (b ∷ rest)) (sym (ap reads blank)) (blank_front at b rest (tokens_from (at + 1) rest) blank next)
+          subst (AreSeparated at (b ∷ rest)) (sym (ap reads blank))
+          (blank_front at b rest (tokens_from (at + 1) rest) blank next)
       | inr word ↦
           let byte : WordByte b rest (begins_token rest) = record { begins_is = refl; word = word } in
-          subst (AreSeparated at (b ∷ rest)) (sym (ap reads word)) (word_front at rest (tokens_from (at + 1) rest) byte next)
+          subst (AreSeparated at (b ∷ rest)) (sym (ap reads word))
+          (word_front at rest (tokens_from (at + 1) rest) byte next)
     ]

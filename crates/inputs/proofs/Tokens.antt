@@ -31,7 +31,8 @@ record IsWholeWord (b : ℕ) (word rest : List ℕ) : Type 0 where
 
 -- its bytes are one token
 tokens-word : (at b : ℕ) (word rest : List ℕ) → IsWholeWord b word rest
-    → tokens_from at (b ∷ (word ++ rest)) ≡ (record { from = at; bytes = b ∷ word }) ∷ tokens_from (at + length (b ∷ word)) rest
+    → tokens_from at (b ∷ (word ++ rest))
+    ≡ (record { from = at; bytes = b ∷ word }) ∷ tokens_from (at + length (b ∷ word)) rest
 tokens-word at b [] rest is =
     ap (λ (v : Bool). if v then tokens_from (at + 1) rest else joined_tokens at b (begins_token rest)
     (tokens_from (at + 1) rest)) is.first
@@ -55,7 +56,8 @@ word_list at (b ∷ word) rest some all ends =
     tokens-word at b word rest (record { first = not-true (is_white_space b) bytes.0; others = bytes.1; ends = ends })
 
 -- the blanks at a place of a text are passed over
-blanks_at : (text : List ℕ) (at n : ℕ) → n ≤ length (drop at text) → list_all is_white_space (take n (drop at text)) ≡ true →
+blanks_at : (text : List ℕ) (at n : ℕ) → n ≤ length (drop at text) → list_all is_white_space (take n (drop at text))
+    ≡ true →
     tokens_from at (drop at text) ≡ tokens_from (at + n) (drop (at + n) text)
 blanks_at text at n fits blank =
     ap (tokens_from at) (sym (take-append-drop n (drop at text)))
@@ -70,7 +72,8 @@ blanks_step text at n are fits blank = blanks_at text at n (rw (← are) fits) (
 
 -- the bytes up to a blank at a place of a text are a token
 pub word_at : {m : ℕ} (text : List ℕ) (from : ℕ) → m ≤ length (drop from text) → 0 < m →
-    list_all (λ x. not (is_white_space x)) (take m (drop from text)) ≡ true → begins_token (drop m (drop from text)) ≡ false →
+    list_all (λ x. not (is_white_space x)) (take m (drop from text)) ≡ true → begins_token (drop m (drop from text))
+    ≡ false →
     tokens_from from (drop from text)
     ≡ (record { from = from; bytes = slice_range text from (from + m) }) ∷ tokens_from (from + m) (drop (from + m) text)
 word_at {m} text from fits some word ends =
@@ -160,7 +163,8 @@ more_read {text} {at} {to} {sizes} {size} from read counted next fits adds = rec
 -- a token with which the tokens so far write no sizes
 pub bad_read : {text : List ℕ} {at from : ℕ} {sizes : List ℕ} {total count : ℕ} (to : ℕ) →
     HasRead text at sizes total → count ≡ length sizes →
-    tokens_from at (drop at text) ≡ (record { from = from; bytes = slice_range text from to }) ∷ tokens_from to (drop to text) →
+    tokens_from at (drop at text)
+    ≡ (record { from = from; bytes = slice_range text from to }) ∷ tokens_from to (drop to text) →
     ((size : ℕ) → AddsSize (slice_range text from to) count total size → ⊥) → IsBadTraceText text from
 bad_read {text} {at} {from} {sizes} to read counted next none = record {
   good = read.done;

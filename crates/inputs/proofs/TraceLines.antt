@@ -15,7 +15,8 @@ use Rattle.inputs.proofs.Tokens.{word_list}
 use Rattle.inputs.proofs.Words.{digit_no_blank}
 
 -- digits are a word
-digits_word : (bytes : List ℕ) → list_all is_ascii_digit bytes ≡ true → list_all (λ b. not (is_white_space b)) bytes ≡ true
+digits_word : (bytes : List ℕ) → list_all is_ascii_digit bytes ≡ true → list_all (λ b. not (is_white_space b)) bytes
+    ≡ true
 digits_word [] h = refl
 digits_word (b ∷ bytes) h =
     let parts = and_parts (is_ascii_digit b) (list_all is_ascii_digit bytes) h in
@@ -25,7 +26,8 @@ digits_word (b ∷ bytes) h =
 -- each line is a token
 line_tokens : ℕ → List ℕ → List Token
 line_tokens at [] = []
-line_tokens at (size ∷ sizes) = (record { from = at; bytes = decimal size }) ∷ line_tokens (at + length (decimal size) + 1) sizes
+line_tokens at (size ∷ sizes) =
+    (record { from = at; bytes = decimal size }) ∷ line_tokens (at + length (decimal size) + 1) sizes
 
 tokens_are : (at : ℕ) (sizes : List ℕ) → All (λ size. size < 2 ^ 64) sizes
     → tokens_from at (trace_text sizes) ≡ line_tokens at sizes
@@ -43,14 +45,16 @@ numbers_are : (at : ℕ) (sizes : List ℕ) → All (λ size. size < 2 ^ 64) siz
 unfolding line_tokens
 numbers_are at [] small = refl
 numbers_are at (size ∷ sizes) small =
-    ap (λ (n : Option ℕ). n ∷ map (λ (token : Token). number_of token.bytes) (line_tokens (at + length (decimal size) + 1) sizes))
+    ap (λ (n : Option ℕ). n ∷ map (λ (token : Token). number_of token.bytes)
+    (line_tokens (at + length (decimal size) + 1) sizes))
     (written_read 0 size (All-head (λ n. n < 2 ^ 64) size sizes small))
     ∙ ap (λ (ns : List (Option ℕ)). Some size ∷ ns)
     (numbers_are (at + length (decimal size) + 1) sizes (All-tail (λ n. n < 2 ^ 64) size sizes small))
 
 -- the numbers of the lines
 numbers_read : (sizes : List ℕ) → All (λ size. size < 2 ^ 64) sizes →
-    map (λ (token : Token). number_of token.bytes) (tokens_from 0 (trace_text sizes)) ≡ map (λ (size : ℕ). Some size) sizes
+    map (λ (token : Token). number_of token.bytes) (tokens_from 0 (trace_text sizes))
+    ≡ map (λ (size : ℕ). Some size) sizes
 numbers_read sizes small =
     ap (λ (ts : List Token). map (λ (token : Token). number_of token.bytes) ts) (tokens_are 0 sizes small)
     ∙ numbers_are 0 sizes small
@@ -76,7 +80,8 @@ lines_read sizes are = record {
   few = are.pictures;
 }
 
-pub lines_same : (sizes read : List ℕ) → All (λ size. size < 2 ^ 64) sizes → IsTraceText (trace_text sizes) read → read ≡ sizes
+pub lines_same : (sizes read : List ℕ) → All (λ size. size < 2 ^ 64) sizes → IsTraceText (trace_text sizes) read →
+    read ≡ sizes
 lines_same sizes read small is = same_somes read sizes (sym is.numbers ∙ numbers_read sizes small)
 
 limits_of : (sizes : List ℕ) → IsTraceText (trace_text sizes) sizes → AreWithinLimits sizes
@@ -88,4 +93,5 @@ limits_of sizes is = record {
 
 pub lines_within : (sizes read : List ℕ) → All (λ size. size < 2 ^ 64) sizes → IsTraceText (trace_text sizes) read
     → AreWithinLimits sizes
-lines_within sizes read small is = limits_of sizes (subst (IsTraceText (trace_text sizes)) (lines_same sizes read small is) is)
+lines_within sizes read small is =
+    limits_of sizes (subst (IsTraceText (trace_text sizes)) (lines_same sizes read small is) is)

@@ -10,7 +10,8 @@ use Rattle.inputs.proofs.Words.{word_token}
 
 -- where the blanks end before the end of the text, a token begins
 pub begins_after : {front : List ℕ} (text : List ℕ) (at n : ℕ) → front ≡ drop at text →
-    (n < length front → begins_token (drop n front) ≡ true) → at + n < length text → begins_token (drop (at + n) text) ≡ true
+    (n < length front → begins_token (drop n front) ≡ true) → at + n < length text →
+    begins_token (drop (at + n) text) ≡ true
 begins_after text at n are begins inside =
     ap begins_token (sym (drop-drop n at text)) ∙ ap (λ (ts : List ℕ). begins_token (drop n ts)) (sym are)
     ∙ begins (omega (arith, inside, ap length are, length-drop at text))

@@ -34,7 +34,8 @@ video_not_refused : (file video : List ℕ) (fault : Fault) → IsVideo file vid
 video_not_refused file video (Film fault) is accepted refused =
     let same : video ≡ refused.0 = video_once file video refused.0 is refused.1.0 in
     let both : None ≡ Some fault = sym accepted ∙ ap refusal same ∙ refused.1.1 in cc
-video_not_refused file video (System fault) is accepted refused = from_not_fault (pack_in file) file video fault is refused
+video_not_refused file video (System fault) is accepted refused =
+    from_not_fault (pack_in file) file video fault is refused
 video_not_refused file video other is accepted refused = refused
 
 -- a file of at most so many bytes, whose video is accepted

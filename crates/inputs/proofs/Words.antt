@@ -27,7 +27,8 @@ digit_at rest k i fits digits before =
     ∙ AllPass-from_list_all is_ascii_digit (take k rest) digits i 0 (omega (arith, before, length-take-le k rest fits))
 
 -- digits in front are of the first word
-digits_within : (rest : List ℕ) (k : ℕ) → k ≤ length rest → list_all is_ascii_digit (take k rest) ≡ true → k ≤ word_length rest
+digits_within : (rest : List ℕ) (k : ℕ) → k ≤ length rest → list_all is_ascii_digit (take k rest) ≡ true →
+    k ≤ word_length rest
 digits_within rest k fits digits = elim (cases_lt (word_length rest) k) [
   | inl short ↦ absurd (both_ways (not (is_white_space (get_or rest (word_length rest) 0)))
       (prefix_len_stops (λ b. not (is_white_space b)) rest 0 (omega (arith, short)))
@@ -136,7 +137,8 @@ word_bytes rest =
     ap (λ b. not (is_white_space b)) (get_or-take (word_length rest) rest i d before)
     ∙ prefix_len_passes (λ b. not (is_white_space b)) rest i d before)
 
-begins_first : (rest : List ℕ) → begins_token rest ≡ true → (0 < length rest) × (not (is_white_space (get_or rest 0 0)) ≡ true)
+begins_first : (rest : List ℕ) → begins_token rest ≡ true → (0 < length rest)
+    × (not (is_white_space (get_or rest 0 0)) ≡ true)
 begins_first [] begins = absurd (false≢true begins)
 begins_first (b ∷ rest) begins = (omega arith, begins)
 
@@ -148,7 +150,8 @@ word_ends rest = elim (cases_Bool (begins_token (drop (word_length rest) rest)))
       let same : get_or (drop (word_length rest) rest) 0 0 ≡ get_or rest (word_length rest) 0 =
       get_or-drop (word_length rest) rest 0 0 ∙ ap (λ n. get_or rest n 0) (add-zero (word_length rest)) in
       absurd (both_ways (not (is_white_space (get_or rest (word_length rest) 0)))
-      (prefix_len_stops (λ b. not (is_white_space b)) rest 0 (omega (arith, first.0, length-drop (word_length rest) rest)))
+      (prefix_len_stops (λ b. not (is_white_space b)) rest 0
+      (omega (arith, first.0, length-drop (word_length rest) rest)))
       (ap (λ b. not (is_white_space b)) (sym same) ∙ first.1))
       )
 ]
@@ -159,5 +162,6 @@ pub word_token : (text : List ℕ) (from : ℕ) → begins_token (drop from text
     ≡ (record { from = from; bytes = slice_range text from (from + word_length (drop from text)) })
     ∷ tokens_from (from + word_length (drop from text)) (drop (from + word_length (drop from text)) text)
 word_token text from begins =
-    word_at {m = word_length (drop from text)} text from (prefix_len-le-length (λ b. not (is_white_space b)) (drop from text))
+    word_at {m = word_length (drop from text)} text from
+    (prefix_len-le-length (λ b. not (is_white_space b)) (drop from text))
     (some_word (drop from text) begins) (word_bytes (drop from text)) (word_ends (drop from text))

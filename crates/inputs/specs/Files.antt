@@ -33,5 +33,6 @@ pub record IsChunk (size at room count : ℕ) : Type 0 where
 -- a read after these bytes of the file gave the next ones, which stand at the front of `into`; or
 -- the file ends there
 abbrev pub IsNextRead : List File → List ℕ → ℕ → List ℕ → List ℕ → Option ℕ → Type 0
-IsNextRead held name size bytes into (Some count) = IsFront held name size (bytes ++ take count into)
+IsNextRead held name size bytes into (Some count) =
+    IsFront held name size (bytes ++ take count into)
 IsNextRead held name size bytes into None = file_named held name ≡ Some bytes

@@ -13,7 +13,7 @@ ghost use Rattle.inputs.specs.TraceRefusals.{IsTraceRefused};
 use std::alloc::{AllocError, AllocFailed, Global};
 use thiserror::Error;
 
-/// The most pictures of a trace.
+/// The most pictures of a trace: each is used in a slot of its own, and no plan has more slots.
 const MAX_PICTURES: usize = 1_000_000;
 
 /// The most bytes of one picture.

@@ -74,7 +74,8 @@ plain_has_no : (c : ℕ) (word : List ℕ) → is_plain c ≡ false → list_all
 plain_has_no c [] other all = All-nil (λ b. b ≢ c)
 plain_has_no c (b ∷ word) other all =
     let here = and_parts (is_plain b) (list_all is_plain word) all in
-    All-cons (λ x. x ≢ c) b word (λ same. apart (sym here.0 ∙ ap is_plain same ∙ other)) (plain_has_no c word other here.1)
+    All-cons (λ x. x ≢ c) b word (λ same. apart (sym here.0 ∙ ap is_plain same ∙ other))
+    (plain_has_no c word other here.1)
   where
     apart : true ≡ false → ⊥
     apart e = cc
@@ -101,7 +102,8 @@ no_colon fault short =
 abbrev naming_line : List ℕ → List ℕ → List ℕ
 naming_line name said = codes "vodserve: " ++ (name ++ 58 ∷ (32 ∷ (said ++ codes "\n")))
 
-named_shape : (name said : List ℕ) → codes "vodserve: " ++ name ++ codes ": " ++ said ++ codes "\n" ≡ naming_line name said
+named_shape : (name said : List ℕ) → codes "vodserve: " ++ name ++ codes ": " ++ said ++ codes "\n"
+    ≡ naming_line name said
 named_shape name said = simp append_assoc
 
 named_read : (name said : List ℕ) → is_good_name name ≡ true → HasNo 58 said → HasNo 10 said →
@@ -134,7 +136,8 @@ line_back (Refused name fault) may =
     ∙ ap (of_input name.now) (fault_back fault may.1)
 line_back (StoreFault name) may =
     ap read_line (append_assoc (codes "vodserve: ") name.now (codes ": StoreFault\n"))
-    ∙ named_read name.now (codes "StoreFault") may (none_is 58 (codes "StoreFault") refl) (none_is 10 (codes "StoreFault") refl)
+    ∙ named_read name.now (codes "StoreFault") may (none_is 58 (codes "StoreFault") refl)
+    (none_is 10 (codes "StoreFault") refl)
 line_back SinkFault may = refl
 line_back NoMemory may = refl
 line_back GateFault may = refl
@@ -145,7 +148,8 @@ pub message_told : (trouble trouble' : Trouble) → MayBeSaid trouble → MayBeS
 message_told trouble trouble' may may' same = sym (line_back trouble may) ∙ ap read_line same ∙ line_back trouble' may'
 
 -- ---- each is one line
-lone_line : (word : List ℕ) → list_all (λ b. not (b == 10)) word ≡ true → IsOwnLine (codes "vodserve: " ++ (word ++ codes "\n"))
+lone_line : (word : List ℕ) → list_all (λ b. not (b == 10)) word ≡ true →
+    IsOwnLine (codes "vodserve: " ++ (word ++ codes "\n"))
 lone_line word clean = record { rest = word; text_is = refl; one_line = none_is 10 word clean }
 
 named_line : (name said : List ℕ) → is_good_name name ≡ true → HasNo 10 said

@@ -55,7 +55,8 @@ said_part {told} {text} part said count risen wrote = record {
     (
       omega (arith, wrote.1.0, length-append text part),
       wrote.1.1 ∙ ap (λ (t : Option (List ℕ)). told_more t (take wrote.0 part)) (said.all refl)
-          ∙ told_more-append told text (take wrote.0 part) ∙ ap (told_more told) (sym (take-append-add text part wrote.0)),
+          ∙ told_more-append told text (take wrote.0 part)
+          ∙ ap (told_more told) (sym (take-append-add text part wrote.0)),
     ),
   );
 }
@@ -88,13 +89,15 @@ said_cut count fault front = record {
 
 -- what a write said
 pub said_by : {faults faults' : ℕ} {told told' : Option (List ℕ)} {part : List ℕ}
-    (r : Result (Unit {0}) SinkFault) → faults ≤ faults' → OnErr r (HasRisen faults faults') → OnOk r (told' ≡ told_more told part) →
+    (r : Result (Unit {0}) SinkFault) → faults ≤ faults' → OnErr r (HasRisen faults faults') →
+    OnOk r (told' ≡ told_more told part) →
     OnErr r (IsFrontMore told told' part) → IsSaid faults faults' told told' part (is_ok r)
 said_by (Ok done) count fault whole front = said_whole count whole
 said_by (Err lost) count fault whole front = said_cut count fault front
 
 -- a part more was said, or a front of it
-pub said_then : {faults faults' faults'' : ℕ} {told told' told'' : Option (List ℕ)} {text part : List ℕ} {whole : Bool} →
+pub said_then : {faults faults' faults'' : ℕ} {told told' told'' : Option (List ℕ)} {text part : List ℕ}
+    {whole : Bool} →
     IsSaid faults faults' told told' text true → IsSaid faults' faults'' told' told'' part whole →
     IsSaid faults faults'' told told'' (text ++ part) whole
 said_then {part = part} {whole = true} one other = said_more part one other.count (other.all refl)

@@ -42,7 +42,8 @@ split_words word [] none short = ap (split 32) (append-nil word) ∙ split_none 
 split_words word (n ∷ ns) none short =
     split_at 32 word (decimal n ++ flat_map number_text ns) refl none
     ∙ ap (λ (parts : List (List ℕ)). word ∷ parts)
-    (split_words (decimal n) ns (no_blank n (All-head (λ k. k < 2 ^ 64) n ns short)) (All-tail (λ k. k < 2 ^ 64) n ns short))
+    (split_words (decimal n) ns (no_blank n (All-head (λ k. k < 2 ^ 64) n ns short))
+    (All-tail (λ k. k < 2 ^ 64) n ns short))
 
 -- numbers have no byte that is neither a digit nor a blank
 pub none_in_numbers : (c : ℕ) (numbers : List ℕ) → 32 ≢ c → ((n : ℕ) → n < 2 ^ 64 → HasNo c (decimal n))
@@ -64,5 +65,6 @@ numbers_of words = map (λ word. value_of (number_of word)) words
 pub numbers_back : (numbers : List ℕ) → AreShort numbers → numbers_of (map decimal numbers) ≡ numbers
 numbers_back [] short = refl
 numbers_back (n ∷ ns) short =
-    ap (λ (o : Option ℕ). value_of o ∷ numbers_of (map decimal ns)) (decimal_read n (All-head (λ k. k < 2 ^ 64) n ns short))
+    ap (λ (o : Option ℕ). value_of o ∷ numbers_of (map decimal ns))
+    (decimal_read n (All-head (λ k. k < 2 ^ 64) n ns short))
     ∙ ap (λ (l : List ℕ). n ∷ l) (numbers_back ns (All-tail (λ k. k < 2 ^ 64) n ns short))

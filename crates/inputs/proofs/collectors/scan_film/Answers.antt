@@ -11,7 +11,12 @@ returns-clause-film g c = λ held told.
       holds = heard.holds held told;
       sized = heard.ended.sized;
       slices = slices_in (film_calls heard.video);
-      grammar = record { accepted = heard.ended.accepted; rate = heard.ended.rate_is; units = heard.ended.heard; slices = refl };
+      grammar = record {
+        accepted = heard.ended.accepted;
+        rate = heard.ended.rate_is;
+        units = heard.ended.heard;
+        slices = refl;
+      };
     }
 
 pub returns-in_err-ending-clause-trouble : goal.returns-in_err-ending-clause-trouble

@@ -19,7 +19,8 @@ pub returns-clause-limits : goal.returns-clause-limits
 returns-clause-limits g c =
     let heard = (c.in_ok-ending.ensures {u = tt}).film in
     let same : c.hear_film.new.found.sizes.items ≡ sizes_of heard.video =
-    film-sizes heard.video c.hear_film.new.found.unit c.hear_film.new.found.sizes.items heard.ended.accepted heard.ended.heard in
+    film-sizes heard.video c.hear_film.new.found.unit
+    c.hear_film.new.found.sizes.items heard.ended.accepted heard.ended.heard in
     subst (λ (l : List ℕ). AreSizesWithin c.in_ok-ending.ending.rate l) (sym same)
     (film-limits heard.video c.in_ok-ending.ending.rate heard.ended.accepted heard.ended.rate_is)
 

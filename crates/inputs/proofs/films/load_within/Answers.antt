@@ -30,7 +30,8 @@ returns-then-most-size-clause-trouble g c = (
 
 pub returns-in_err-film-clause-trouble : goal.returns-in_err-film-clause-trouble
 returns-in_err-film-clause-trouble g c =
-    let read : WasRead (g.L.Library.files c.args.library.now) c.args.name.now c.in_ok-file.file.items c.args.most = record {
+    let read : WasRead (g.L.Library.files c.args.library.now) c.args.name.now c.in_ok-file.file.items c.args.most =
+    record {
       found = λ held is. (c.in_ok-file.ensures {u = tt}).read held (c.find_file.ensures.library.kept ∙ is)
           ((c.in_ok-size.ensures {u = tt}).found held is);
       short = omega (arith, (c.in_ok-file.ensures {u = tt}).within, c.in_ok-file.file.ok, c.if-most-size.false);
@@ -46,7 +47,8 @@ returns-clause-film g c = λ held is.
     ((c.in_ok-file.ensures {u = tt}).read held (c.find_file.ensures.library.kept ∙ is)
     ((c.in_ok-size.ensures {u = tt}).found held is))
     (omega (arith, (c.in_ok-file.ensures {u = tt}).within, c.in_ok-file.file.ok, c.if-most-size.false, c.requires))
-    (subst (λ (f : Film). IsVideo c.in_ok-file.file.items f.bytes.items) (sym same) ((c.in_ok-film.ensures {u = tt}).film))
+    (subst (λ (f : Film). IsVideo c.in_ok-file.file.items f.bytes.items) (sym same)
+    ((c.in_ok-film.ensures {u = tt}).film))
     c.in_ok-stored.stored.film.grammar.accepted
 
 pub returns-clause-small : goal.returns-clause-small

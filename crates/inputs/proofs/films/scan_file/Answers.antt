@@ -11,7 +11,8 @@ pub returns-clause-film : goal.returns-clause-film
 returns-clause-film c =
     ok_map (λ (film : Film). film.bytes.items ≡ c.in_ok-video.video.items)
     (λ (film : Film). IsVideo c.args.file.items film.bytes.items) c.scan_video.result
-    (λ film same. subst (IsVideo c.args.file.items) (sym same) ((c.in_ok-video.ensures {u = tt}).video)) c.scan_video.ensures.film
+    (λ film same. subst (IsVideo c.args.file.items) (sym same)
+    ((c.in_ok-video.ensures {u = tt}).video)) c.scan_video.ensures.film
 
 pub returns-clause-trouble : goal.returns-clause-trouble
 returns-clause-trouble c =

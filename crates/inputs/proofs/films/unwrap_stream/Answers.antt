@@ -11,12 +11,14 @@ pub loop-at-init : goal.loop-at-init
 loop-at-init c = record {
   within = omega arith;
   count = omega (arith, c.new-unwrapper.ensures.count);
-  fed = subst (λ (l : List ℕ). WasFed c.new-unwrapper.result [] l) (sym c.new-video.ensures.items) c.new-unwrapper.ensures;
+  fed = subst (λ (l : List ℕ). WasFed c.new-unwrapper.result [] l)
+      (sym c.new-video.ensures.items) c.new-unwrapper.ensures;
 }
 
 pub loop-at-preserved : goal.loop-at-preserved
 loop-at-preserved c =
-    let pushed : c.extend_from_slice.new.self.items ≡ c.loop-at.video.items ++ c.in_ok-fed.fed.video.now = search rules in
+    let pushed : c.extend_from_slice.new.self.items ≡ c.loop-at.video.items ++ c.in_ok-fed.fed.video.now =
+    search rules in
     record {
       within = omega (
         arith,
@@ -38,7 +40,8 @@ pub returns-clause-video : goal.returns-clause-video
 returns-clause-video c =
     subst (λ (l : List ℕ). IsSystem l c.loop-at.video.items)
     (take_all c.loop-at.at c.args.stream.now (omega (arith, c.loop-at-test.false)))
-    ((c.in_ok-finish.ensures {u = tt}).end (take c.loop-at.at c.args.stream.now) c.loop-at.video.items c.loop-at.invariant.fed)
+    ((c.in_ok-finish.ensures {u = tt}).end
+    (take c.loop-at.at c.args.stream.now) c.loop-at.video.items c.loop-at.invariant.fed)
 
 pub returns-in_err-fed-clause-refused : goal.returns-in_err-fed-clause-refused
 returns-in_err-fed-clause-refused c =
@@ -57,4 +60,5 @@ returns-in_err-finish-clause-refused c =
     handed_on _ c.from_residual-in_err-finish.result c.from_residual-in_err-finish.ensures.1
     (subst (λ (l : List ℕ). IsRefused l c.in_err-finish.field-0.0)
     (take_all c.loop-at.at c.args.stream.now (omega (arith, c.loop-at-test.false)))
-    ((c.in_err-finish.ensures {u = tt}).end (take c.loop-at.at c.args.stream.now) c.loop-at.video.items c.loop-at.invariant.fed))
+    ((c.in_err-finish.ensures {u = tt}).end
+    (take c.loop-at.at c.args.stream.now) c.loop-at.video.items c.loop-at.invariant.fed))

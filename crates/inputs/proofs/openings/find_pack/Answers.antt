@@ -26,7 +26,8 @@ loop-count-preserved g c =
           c.loop-count.invariant.told held is found in
           more_looked into c.in-Some.count so_far
           (subst (IsNextRead held c.args.file.name.now c.args.file.size so_far.bytes into) c.in-Some.is
-          ((c.in_ok-count.ensures {u = tt}).told held so_far.bytes (c.loop-count.invariant.library.kept ∙ is) so_far.front
+          ((c.in_ok-count.ensures {u = tt}).told held so_far.bytes (c.loop-count.invariant.library.kept
+          ∙ is) so_far.front
           so_far.long))
           chunk.fits ((c.in-NotYet.ensures {u = tt}).opening so_far.bytes so_far.long so_far.unfound);
     }

@@ -4,4 +4,5 @@ use Rattle.inputs.proofs.openings.open_chunk.Given as goal
 
 abbrev pub invariant-loop-index : goal.invariant-loop-index
 invariant-loop-index l =
-    (seen : List ℕ) → length seen ≡ l.at → HasNoCode l.fn.before seen → HasNoCode l.prefix (seen ++ take l.index l.chunk)
+    (seen : List ℕ) → length seen ≡ l.at → HasNoCode l.fn.before seen →
+    HasNoCode l.prefix (seen ++ take l.index l.chunk)

@@ -21,18 +21,22 @@ feed-requires-clause-short g c =
 
 pub returns-in-Err-clause-trouble : goal.returns-in-Err-clause-trouble
 returns-in-Err-clause-trouble g c =
+    let so_far = c.loop-count.invariant.scanned in
     film_trouble c.args.file.name.now (g.L.Library.faults c.args.library.now) (g.L.Library.faults c.read_at.new.library)
     c.scan_trouble.result
     (λ held fault is refused.
-    chunk_refused (take c.in-Some.count c.read_at.new.into) c.loop-count.invariant.scanned.scanned (c.requires.opened held is)
-    (subst (IsNextRead held c.args.file.name.now c.args.file.size c.loop-count.invariant.scanned.bytes c.read_at.new.into) c.in-Some.is
-    ((c.in_ok-count.ensures {u = tt}).told held c.loop-count.invariant.scanned.bytes (c.loop-count.invariant.library.kept ∙ is)
-    (c.loop-count.invariant.scanned.front held is) c.loop-count.invariant.scanned.long))
+    chunk_refused (take c.in-Some.count c.read_at.new.into) so_far.scanned
+    (c.requires.opened held is)
+    (subst (IsNextRead held c.args.file.name.now c.args.file.size so_far.bytes c.read_at.new.into) c.in-Some.is
+    ((c.in_ok-count.ensures {u = tt}).told held so_far.bytes
+    (c.loop-count.invariant.library.kept ∙ is)
+    (so_far.front held is) so_far.long))
     c.requires.short (c.feed.ensures.fault fault (cc)))
     c.scan_trouble.ensures
 
 pub loop-count-preserved : goal.loop-count-preserved
 loop-count-preserved g c =
+    let so_far = c.loop-count.invariant.scanned in
     let into : List ℕ = c.read_at.new.into in
     let chunk : IsChunk c.args.file.size c.loop-count.at (length into) c.in-Some.count =
     some_chunk c.in-Some.is ((c.in_ok-count.ensures {u = tt}).chunk) in
@@ -40,16 +44,20 @@ loop-count-preserved g c =
       library = then_read c.loop-count.invariant.library c.read_at.ensures.library;
       within = chunk.within;
       ready = c.feed.ensures.ready;
-      scanned = more_scanned into c.loop-count.invariant.scanned
-          (λ held is. subst (IsNextRead held c.args.file.name.now c.args.file.size c.loop-count.invariant.scanned.bytes into) c.in-Some.is
-          ((c.in_ok-count.ensures {u = tt}).told held c.loop-count.invariant.scanned.bytes (c.loop-count.invariant.library.kept ∙ is)
-          (c.loop-count.invariant.scanned.front held is) c.loop-count.invariant.scanned.long))
+      scanned = more_scanned into so_far
+          (λ held is. subst (IsNextRead held c.args.file.name.now c.args.file.size so_far.bytes into) c.in-Some.is
+          ((c.in_ok-count.ensures {u = tt}).told held so_far.bytes
+          (c.loop-count.invariant.library.kept ∙ is)
+          (so_far.front held is) so_far.long))
           chunk.fits ((c.in_default-feed.ensures {u = tt}).kept) ((c.in_default-feed.ensures {u = tt}).heard);
     }
 
 pub returns-clause-scanned : goal.returns-clause-scanned
 returns-clause-scanned g c =
-    all_scanned c.loop-count.invariant.scanned c.loop-count.invariant.within
-    (λ held is. subst (IsNextRead held c.args.file.name.now c.args.file.size c.loop-count.invariant.scanned.bytes c.read_at.new.into) c.in_default.is
-    ((c.in_ok-count.ensures {u = tt}).told held c.loop-count.invariant.scanned.bytes (c.loop-count.invariant.library.kept ∙ is)
-    (c.loop-count.invariant.scanned.front held is) c.loop-count.invariant.scanned.long))
+    let so_far = c.loop-count.invariant.scanned in
+    all_scanned so_far c.loop-count.invariant.within
+    (λ held is.
+    subst (IsNextRead held c.args.file.name.now c.args.file.size so_far.bytes c.read_at.new.into) c.in_default.is
+    ((c.in_ok-count.ensures {u = tt}).told held so_far.bytes
+    (c.loop-count.invariant.library.kept ∙ is)
+    (so_far.front held is) so_far.long))

@@ -9,7 +9,8 @@ invariant-loop-count g l = record {
   library : IsReadOnly g.L.Library.files g.L.Library.faults l.fn.library l.library;
   within : l.at ≤ l.file.size;
   ready : IsReady (g.F.Found.ready_at l.found) l.scanner;
-  scanned : HasScanned (g.F.Found.heard l.found) (g.L.Library.files l.fn.library) l.file.name.now l.file.size l.at l.scanner;
+  scanned : HasScanned (g.F.Found.heard l.found)
+      (g.L.Library.files l.fn.library) l.file.name.now l.file.size l.at l.scanner;
 }
 
 abbrev pub decreases-loop-count : goal.decreases-loop-count

@@ -30,7 +30,8 @@ returns-clause-trouble g c =
     c.args.file.name.now c.args.file.size c.feed_film.new.scanner =
     (c.in_ok-feed_film.ensures {u = tt}).scanned in
     let short : length all.bytes ≤ 2 ^ 40 = omega (arith, all.few, c.requires.short) in
-    err_map (IsFilmTrouble c.args.file.name.now (IsRefusedAtEnd (g.F.Found.heard c.feed_film.new.found) c.feed_film.new.scanner))
+    err_map (IsFilmTrouble c.args.file.name.now
+    (IsRefusedAtEnd (g.F.Found.heard c.feed_film.new.found) c.feed_film.new.scanner))
     (IsReadTrouble (IsNamed c.args.file.name.now) IsFilmRefused (g.L.Library.files c.args.library.now)
     (g.L.Library.faults c.args.library.now) (g.L.Library.faults c.feed_film.new.library)) c.end_film.result
     (λ t h. film_trouble

@@ -22,7 +22,8 @@ unwrap_chunk-requires-clause-room g c =
 
 pub returns-in-Err-clause-trouble : goal.returns-in-Err-clause-trouble
 returns-in-Err-clause-trouble g c =
-    system_trouble c.args.file.name.now (g.L.Library.faults c.args.library.now) (g.L.Library.faults c.read_at.new.library)
+    system_trouble c.args.file.name.now (g.L.Library.faults c.args.library.now)
+    (g.L.Library.faults c.read_at.new.library)
     c.stream_trouble.result
     (λ held fault is moves.
     let seen : List ℕ = c.loop-count.invariant.streamed.seen in

@@ -10,7 +10,8 @@ invariant-loop-count g l = record {
   within : l.at ≤ l.file.size;
   few : bytes_fed l.scanner ≤ l.unwrapper.fed;
   ready : IsReady (g.F.Found.ready_at l.found) l.scanner;
-  streamed : HasStreamed (g.F.Found.heard l.found) (g.L.Library.files l.fn.library) l.file.name.now l.file.size l.from l.at
+  streamed : HasStreamed (g.F.Found.heard l.found)
+      (g.L.Library.files l.fn.library) l.file.name.now l.file.size l.from l.at
       l.unwrapper l.scanner;
 }
 

@@ -42,7 +42,8 @@ returns-in-Ok-clause-trouble g c =
     (c.in-Ok.ensures {u = tt}).end all.seen all.unwrapped.video all.unwrapped.fed in
     let short : length all.unwrapped.video ≤ 2 ^ 40 =
     video_short c.requires.short all in
-    err_map (IsFilmTrouble c.args.file.name.now (IsRefusedAtEnd (g.F.Found.heard c.feed_stream.new.found) c.feed_stream.new.scanner))
+    err_map (IsFilmTrouble c.args.file.name.now
+    (IsRefusedAtEnd (g.F.Found.heard c.feed_stream.new.found) c.feed_stream.new.scanner))
     (IsReadTrouble (IsNamed c.args.file.name.now) IsFilmRefused (g.L.Library.files c.args.library.now)
     (g.L.Library.faults c.args.library.now) (g.L.Library.faults c.feed_stream.new.library)) c.end_film.result
     (λ t h. film_trouble
@@ -54,7 +55,8 @@ returns-in-Ok-clause-trouble g c =
 
 pub returns-in-Err-clause-trouble : goal.returns-in-Err-clause-trouble
 returns-in-Err-clause-trouble g c =
-    system_trouble c.args.file.name.now (g.L.Library.faults c.args.library.now) (g.L.Library.faults c.feed_stream.new.library)
+    system_trouble c.args.file.name.now (g.L.Library.faults c.args.library.now)
+    (g.L.Library.faults c.feed_stream.new.library)
     c.stream_trouble.result
     (λ held fault is moves.
     let all : HasStreamedAll (g.F.Found.heard c.feed_stream.new.found) (g.L.Library.files c.args.library.now)

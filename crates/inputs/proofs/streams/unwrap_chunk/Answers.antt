@@ -27,13 +27,19 @@ loop-at-preserved g c = record {
     c.loop-at.invariant.within,
   );
   count = omega (arith, c.loop-at.invariant.count, (c.in_ok-taken.ensures {u = tt}).count);
-  few = omega (arith, c.loop-at.invariant.few, (c.in_ok-taken.ensures {u = tt}).few, (c.in_ok-taken.ensures {u = tt}).count);
+  few = omega (
+    arith,
+    c.loop-at.invariant.few,
+    (c.in_ok-taken.ensures {u = tt}).few,
+    (c.in_ok-taken.ensures {u = tt}).count,
+  );
   ready = c.unwrap_part.ensures.ready;
   next = λ seen so_far.
       subst (λ (l : List ℕ). HasUnwrapped (g.F.Found.heard c.unwrap_part.new.found) c.unwrap_part.new.unwrapper
       c.unwrap_part.new.scanner l)
       (parts_joined seen c.args.chunk.now c.loop-at.at c.in_ok-taken.taken)
-      ((c.in_ok-taken.ensures {u = tt}).next (seen ++ take c.loop-at.at c.args.chunk.now) (c.loop-at.invariant.next seen so_far));
+      ((c.in_ok-taken.ensures {u = tt}).next (seen
+      ++ take c.loop-at.at c.args.chunk.now) (c.loop-at.invariant.next seen so_far));
 }
 
 pub returns-in_err-taken-clause-refused : goal.returns-in_err-taken-clause-refused
@@ -45,5 +51,6 @@ returns-in_err-taken-clause-refused g c = λ seen so_far.
 
 pub returns-clause-next : goal.returns-clause-next
 returns-clause-next g c = λ seen so_far.
-    subst (λ (l : List ℕ). HasUnwrapped (g.F.Found.heard c.loop-at.found) c.loop-at.unwrapper c.loop-at.scanner (seen ++ l))
+    subst (λ (l : List ℕ). HasUnwrapped (g.F.Found.heard c.loop-at.found) c.loop-at.unwrapper c.loop-at.scanner
+    (seen ++ l))
     (take_all c.loop-at.at c.args.chunk.now (omega arith)) (c.loop-at.invariant.next seen so_far)

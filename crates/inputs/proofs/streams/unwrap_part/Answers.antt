@@ -9,7 +9,8 @@ returns-clause-next g c = λ seen so_far.
     elim ((c.in_ok-fed.ensures {u = tt}).video)
     [ inl none ↦ omega (arith, ap length none) | inr all ↦ omega (arith, ap length all) ] in
     part_unwrapped
-    (take c.in_ok-fed.fed.taken c.args.chunk.now) c.in_ok-fed.fed.video.now so_far few ((c.in_ok-fed.ensures {u = tt}).next)
+    (take c.in_ok-fed.fed.taken c.args.chunk.now) c.in_ok-fed.fed.video.now so_far few
+    ((c.in_ok-fed.ensures {u = tt}).next)
     ((c.in_ok-take_video.ensures {u = tt}).taken)
 
 pub returns-in_err-fed-clause-refused : goal.returns-in_err-fed-clause-refused

@@ -24,7 +24,8 @@ loop-from-preserved c =
     let token : TokenBegins text c.loop-from.at from (take (length text - from) (drop from text)) =
     record { same = place.3; begins = place.2; are = slice_from text from } in
     let read = next_read c.loop-from.invariant counted token place.1 size.0 size.1 in
-    let pushed : c.push.new.self.items ≡ c.loop-from.sizes.items ++ c.in-Some-next_size.size.value ∷ [] = search rules in
+    let pushed : c.push.new.self.items ≡ c.loop-from.sizes.items ++ c.in-Some-next_size.size.value ∷ [] =
+    search rules in
     rw pushed read
 
 pub overflow_add-at : goal.overflow_add-at

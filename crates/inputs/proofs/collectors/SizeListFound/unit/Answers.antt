@@ -9,7 +9,8 @@ returns c = λ calls so_far.
     let ended : c.end.result ≡ frames_of c.args.self.now.unit =
     c.end.ensures.size ∙ ap (λ (m : Measure). frames_of m) c.replace-ended.ensures.value in
     let report : c.if-unit.report ≡ (if c.args.unit.starts_group then 52 else 0) = search rules in
-    let size : c.if-unit.report + c.end.result ≡ (if c.args.unit.starts_group then 52 else 0) + frames_of c.args.self.now.unit =
+    let size : c.if-unit.report + c.end.result
+    ≡ (if c.args.unit.starts_group then 52 else 0) + frames_of c.args.self.now.unit =
     ap (λ n. n + c.end.result) report ∙ ap (λ n. (if c.args.unit.starts_group then 52 else 0) + n) ended in
     sized-more (unit_call c.args.unit) so_far
     (c.replace-ended.ensures.after ∙ c.begin.ensures.begun)
