@@ -14,7 +14,7 @@ use mpeg_scan::Prefix;
 use troubles::Trouble;
 use vod_base::Library;
 
-/// The kind of a pack's start code (ISO/IEC 11172-1, section 2.4.4.2).
+/// The value of a pack's start code (ISO/IEC 11172-1, section 2.4.4.2).
 const PACK: u8 = 0xba;
 
 /// Where the system stream in a file begins, if its first start code is that of a pack.
