@@ -9,7 +9,7 @@ use Rattle.pacer.proofs.SlotLemmas.{most-slots}
 use Rattle.session.specs.declared.states.Play.{Play as Played}
 use Rattle.conn.specs.Films.{HasSent, planned_bytes}
 use Rattle.pacer.specs.Boundaries.{bytes_between}
-use Rattle.pacer.specs.Pacings.{IsPacing, Pacing, due_by, first_slots, pacing_of, plan_bytes}
+use Rattle.pacer.specs.Pacings.{IsPacing, Pacing, due_by, first_slots, plan_bytes}
 use Rattle.pacer.specs.Pacings.{at_slot, slots_by, stands_at_boundary, step_end, after_step}
 use Rattle.pacer.proofs.PacingLemmas.{boundary-from, due-of-both}
 use Rattle.pacer.proofs.SendingLemmas.{between-join}
@@ -35,12 +35,11 @@ slot_film waits slot p =
     else plan_bytes p p.sent (step_end false (at_slot slot p))
 
 pacing_same : {passed due sent passed' due' sent' : ℕ} (p : Pacing) → passed ≡ passed' → due ≡ due' → sent ≡ sent' →
-    pacing_of p.pieces p.before p.plan p.start p.keep passed due sent
-    ≡ pacing_of p.pieces p.before p.plan p.start p.keep passed' due' sent'
+    record p { passed = passed; due = due; sent = sent } ≡ record p { passed = passed'; due = due'; sent = sent' }
 pacing_same {passed} {due} {sent} {passed'} {due'} p one two three =
-    ap (λ n. pacing_of p.pieces p.before p.plan p.start p.keep n due sent) one
-    ∙ ap (λ n. pacing_of p.pieces p.before p.plan p.start p.keep passed' n sent) two
-    ∙ ap (λ n. pacing_of p.pieces p.before p.plan p.start p.keep passed' due' n) three
+    ap (λ n. record p { passed = n; due = due; sent = sent }) one
+    ∙ ap (λ n. record p { passed = passed'; due = n; sent = sent }) two
+    ∙ ap (λ n. record p { passed = passed'; due = due'; sent = n }) three
 
 -- a step with a stop, and then one without
 both_steps : (slot : ℕ) (p : Pacing) → after_step false slot (after_step true slot p) ≡ sent_through slot p

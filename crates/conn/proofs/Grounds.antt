@@ -9,7 +9,7 @@ use Rattle.film_run.specs.Units.{stored_sizes}
 use Rattle.session.specs.declared.settings.Settings.{Settings}
 use Rattle.session.specs.declared.states.Counts.{Counts}
 use Rattle.session.specs.declared.states.Setup.{Setup}
-use Rattle.session.specs.declared.states.Source.{Source}
+use Rattle.session.specs.declared.states.StreamSource.{StreamSource}
 use Rattle.session.specs.Playing.{IsRunOf, playback_of}
 use Rattle.session.specs.Ranges.{AreSettings, IsSetup}
 use Rattle.conn.specs.Plays.{IsShown}
@@ -27,7 +27,7 @@ playback_fits shown good values = record {
   delay_fits = values.most_delay;
 }
 
-pub sending_of_run : {stored : Stored} {source : Source} {settings : Settings} {setup : Setup} {counts : Counts}
+pub sending_of_run : {stored : Stored} {source : StreamSource} {settings : Settings} {setup : Setup} {counts : Counts}
     {run : Run} {plan : List Segment} {films : ℕ} →
     IsShown stored → AreSettings settings → IsSetup films setup → IsRunOf stored source setup counts run →
     IsPlanOf (stored_sizes stored) (playback_of stored.film settings setup) run plan →

@@ -21,7 +21,7 @@ use Rattle.session.specs.declared.states.Next.TheVariants.{Done, Paused, Torn}
 use Rattle.session.specs.declared.states.Play.{Play as Played}
 use Rattle.session.specs.declared.states.Prepared.{Prepared}
 use Rattle.session.specs.declared.states.Setup.{Setup}
-use Rattle.session.specs.declared.states.Source.{Source}
+use Rattle.session.specs.declared.states.StreamSource.{StreamSource}
 use Rattle.session.specs.declared.states.State.{State}
 use Rattle.session.specs.declared.states.State.TheVariants.{Init, Ready, Playing, Stopping}
 use Rattle.session.specs.declared.states.Stop.{Stop}
@@ -48,7 +48,7 @@ AreShown films = (number : ℕ) → OfFilm films number IsShown
 -- heard slot, and the bytes that were sent of its film
 pub record Ground : Type 0 where
   pub films : List Stored
-  pub source : Source
+  pub source : StreamSource
   pub settings : Settings
   pub counts : Counts
   pub plays : List PlayNote
@@ -107,7 +107,7 @@ pub record IsWell (s : Standing) (film : List ℕ) : Type 0 where
   pub state : IsStateOf (ground_of s film) s.state
 
 -- a play is asked for in Ready
-pub record HasPrepared (films : List Stored) (source : Source) (settings : Settings) (state : State)
+pub record HasPrepared (films : List Stored) (source : StreamSource) (settings : Settings) (state : State)
     (awaited : Awaited) : Type 0 where
   pub setup : Setup
   pub paused : Option Run
@@ -155,7 +155,7 @@ IsAskedWell (AskOffer plan offers) s film = IsWell s film
 pub ground_same : (old new : Standing) (film : List ℕ) → IsSameGround old new → ground_of old film ≡ ground_of new film
 ground_same old new film same =
     ap (λ (f : List Stored). record (ground_of old film) { films = f }) (sym same.films)
-    ∙ ap (λ (o : Source). record (ground_of old film) { films = new.films; source = o }) (sym same.source)
+    ∙ ap (λ (o : StreamSource). record (ground_of old film) { films = new.films; source = o }) (sym same.source)
     ∙ ap (λ (g : Settings). record (ground_of new film) {
       settings = g;
       counts = old.counts;

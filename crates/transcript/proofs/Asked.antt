@@ -18,7 +18,7 @@ use Rattle.rtsp_client.proofs.Rates.{time_bounds}
 use Rattle.session.specs.declared.settings.Settings.{Settings}
 use Rattle.session.specs.declared.states.Counts.{Counts}
 use Rattle.session.specs.declared.states.Setup.{Setup}
-use Rattle.session.specs.declared.states.Source.{Source}
+use Rattle.session.specs.declared.states.StreamSource.{StreamSource}
 use Rattle.session.specs.Playing.{IsPlayable, playback_of as session_playback}
 use Rattle.transcript.specs.Played.{IsSetUpFor, playback_of, whole_run}
 
@@ -30,7 +30,7 @@ playback-same a b pictures slots buffer delay =
     ∙ (ap (λ x. record a { picture_units = b.picture_units; slot_units = b.slot_units; buffer = x }) buffer
     ∙ ap (λ x. record b { delay = x }) delay))
 
-pub asked-plan : {wish : Wish} {stored : Stored} {source : Source} {settings : Settings} {setup : Setup}
+pub asked-plan : {wish : Wish} {stored : Stored} {source : StreamSource} {settings : Settings} {setup : Setup}
     {counts : Counts} {plan : List Segment} → IsWish wish → IsSetUpFor wish settings setup →
     IsPlayable stored source settings setup counts (whole_run stored) plan →
     IsSending (stored_sizes stored) (playback_of wish stored) (whole_run stored) plan

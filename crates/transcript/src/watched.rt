@@ -17,7 +17,7 @@ ghost use Rattle.session.specs.Playing.{IsPlayable};
 ghost use Rattle.session.specs.declared.settings.Settings.{Settings};
 ghost use Rattle.session.specs.declared.states.Counts.{Counts};
 ghost use Rattle.session.specs.declared.states.Setup.{Setup};
-ghost use Rattle.session.specs.declared.states.Source.{Source};
+ghost use Rattle.session.specs.declared.states.StreamSource.{StreamSource};
 ghost use Rattle.session.specs.Replies.{field, play_fields, play_text};
 ghost use Rattle.vod_base.specs.Links.{Doing};
 ghost use Rattle.conn.specs.Rounds.{rounds_doings};
@@ -87,7 +87,7 @@ pub fn law_units_counted()
 /// The plan with which a session asks for a whole film is the film's plan for the client for whom
 /// the session was set up.
 pub fn law_whole_asked()
-    ensures { (wish : Wish) (stored : Stored) (source : Source) (settings : Settings)
+    ensures { (wish : Wish) (stored : Stored) (source : StreamSource) (settings : Settings)
         (setup : Setup) (counts : Counts) (plan : List Segment) → IsWish wish
         → IsSetUpFor wish settings setup
         → IsPlayable stored source settings setup counts (whole_run stored) plan
