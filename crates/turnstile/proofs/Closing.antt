@@ -27,7 +27,8 @@ at_joined [] number h = absurd h
 at_joined (j ∷ rest) number (inl e) = (0, j, refl, e)
 at_joined (j ∷ rest) number (inr h) = let t = at_joined rest number h in (suc t.0, t.1, t.2, t.3)
 
-at_index : (joined : List Joined) (i : ℕ) (d : Joined) → i < length joined → get_elem? joined i ≡ some (get_or joined i d)
+at_index : (joined : List Joined) (i : ℕ) (d : Joined) → i < length joined
+    → get_elem? joined i ≡ some (get_or joined i d)
 at_index [] i d h = absurd (omega arith)
 at_index (j ∷ rest) zero d h = refl
 at_index (j ∷ rest) (suc i) d h = at_index rest i d (omega arith)
@@ -59,7 +60,8 @@ module _ {B : Type 0} (entries : B → List Entry) (terms_of : B → Terms) (ter
   all_home s r id v at it = ⊎_elim (λ (h : IsHome entries terms_of terms r.log s). h)
       (λ (a : IsAway r.log s).
       let other : id ≢ a.place =
-      λ e. idle_free v.stage idle a.ticket (ap (λ (u : View). u.stage) (one_at s.views live.0 a.live.0 (sym e)) ∙ a.holds) in
+      λ e. idle_free v.stage idle a.ticket (ap (λ (u : View). u.stage) (one_at s.views live.0 a.live.0 (sym e))
+      ∙ a.holds) in
       let apart = r.apart id a.place v a.holder other live a.live in
       let few = (r.each a.place a.holder a.live).few in
       let count = (r.each id v live).first head in

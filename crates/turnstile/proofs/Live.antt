@@ -53,7 +53,8 @@ turn_more served drawn Idle turn = tt
 turn_more served drawn (Waits u) turn = (turn.0, omega (arith, turn.1))
 turn_more served drawn (Holds u) turn = (turn.0, omega (arith, turn.1))
 
-pub turn_next : (served drawn : ℕ) (st : Stage) → InTurn served drawn st → (IsTicket st served → ⊥) → InTurn (served + 1) drawn st
+pub turn_next : (served drawn : ℕ) (st : Stage) → InTurn served drawn st → (IsTicket st served → ⊥)
+    → InTurn (served + 1) drawn st
 turn_next served drawn Idle turn not_now = tt
 turn_next served drawn (Waits u) turn not_now =
     dite (ℕ_discrete u served) (λ e. absurd (not_now e)) (λ (ne : u ≢ served). (let a = turn.0 in omega arith, turn.1))
@@ -64,7 +65,8 @@ at_inside [] i a e = absurd (some-ne-none a (sym e))
 at_inside (x ∷ xs) zero a e = omega arith
 at_inside (x ∷ xs) (suc i) a e = let h = at_inside xs i a e in omega arith
 
-pub one_at : {A : Type 0} {i j : ℕ} {a b : A} (l : List A) → get_elem? l i ≡ some a → get_elem? l j ≡ some b → j ≡ i → a ≡ b
+pub one_at : {A : Type 0} {i j : ℕ} {a b : A} (l : List A) → get_elem? l i ≡ some a → get_elem? l j ≡ some b
+    → j ≡ i → a ≡ b
 one_at {a} {b} l at bt e = some-injective a b (sym at ∙ (ap (get_elem? l) (sym e) ∙ bt))
 
 pub restage : {terms : Terms} {log : List Entry} {count served drawn served' drawn' : ℕ} {v : View} {st : Stage}
@@ -164,7 +166,11 @@ longer_list {log} {u} e f other past = record {
   mine = f.mine ∙ sym (made_other u.number log e other);
   own = f.own;
   past = λ k j at. let p =
-      f.past k j at in record { mine = p.mine ∙ sym (made_other j.number log e (past k j at)); few = p.few; other = p.other };
+      f.past k j at in record {
+        mine = p.mine ∙ sym (made_other j.number log e (past k j at));
+        few = p.few;
+        other = p.other;
+      };
   few = f.few;
   first = f.first;
   turn = f.turn;

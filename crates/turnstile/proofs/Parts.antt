@@ -51,7 +51,8 @@ record AreSeen (number : ℕ) (xs ys log : List Entry) : Type 0 where
 
 longer_seen : {b : Bool} {log : List Entry} (number : ℕ) (xs ys : List Entry) → AreSeen number xs ys log
     → (b ≡ true → length xs ≤ length ys) → (b ≡ false → length ys ≤ length xs)
-    → IsPrefix (cond b ys xs) log × IsPrefix (cond b xs ys) (cond b ys xs) × (made_by number (cond b ys xs) ≡ made_by number log)
+    → IsPrefix (cond b ys xs) log × IsPrefix (cond b xs ys) (cond b ys xs)
+    × (made_by number (cond b ys xs) ≡ made_by number log)
 longer_seen {b = true} {log} number xs ys seen less more =
     let h = prefix_shorter xs ys log seen.first seen.second (less refl) in
     (seen.second, h, made_between number xs h seen.second seen.own)
@@ -93,7 +94,8 @@ one_more f other = record {
   told = f.told;
   mine = f.mine;
   own = f.own;
-  past = λ k j at. let p = f.past k j at in record { mine = p.mine; few = (let a = p.few in omega arith); other = p.other };
+  past = λ k j at. let p = f.past k j at in
+      record { mine = p.mine; few = (let a = p.few in omega arith); other = p.other };
   few = (let a = f.few in omega arith);
   first = λ zero. absurd (other zero);
   turn = f.turn;
@@ -115,7 +117,8 @@ live_join : (P : ℕ → View → Type 0) (join : Join) → P join.id join.joine
 live_join P join mine others j u live = ⊎_elim
     (λ (t : (j ≡ other) × (x ≡ u)). absurd (true≢false (sym gone ∙ (ap (λ (v : View). v.spent) t.1 ∙ live.1))))
     (λ (t : (j ≢ other) × (get_elem? (set views id b) j ≡ some u)).
-    live_set (λ j u. j ≢ other → P j u) views id b (λ _. mine) (λ j u ne l away. others j u ne away l) j u (t.1, live.1) t.0)
+    live_set (λ j u. j ≢ other → P j u) views id b (λ _. mine) (λ j u ne l away. others j u ne away l) j u
+    (t.1, live.1) t.0)
     (at_set (set views id b) other j x u live.0)
   where
     open join use {views, id, other, joined as b, remnant as x, gone}
@@ -193,7 +196,8 @@ module _ {B : Type 0} (entries : B → List Entry) (terms_of : B → Terms) (ter
       let count : v.splits ≡ r.count = f.first head in
       let new : r.count < v.splits + 1 = omega arith in
       let sums = total_set pass_count s.views id v w at in let more = total_push pass_count (set s.views id w) x in
-      let queues = total_set ticket_count s.views id v w at in let more_queues = total_push ticket_count (set s.views id w) x in
+      let queues = total_set ticket_count s.views id v w at in
+      let more_queues = total_push ticket_count (set s.views id w) x in
       let q0 : ticket_count v ≡ ticket_count w = refl in
       let a0 : pass_count v ≡ pass_count w = refl in
       let queue = r.queue in let passes = r.passes in
@@ -285,7 +289,8 @@ module _ {B : Type 0} (entries : B → List Entry) (terms_of : B → Terms) (ter
     where
       open it use {left, idle}
 
-  longest_of : (s : St) (r : Rule s) (two : TwoLive s.views) → IsPrefix (longer_list two.view.seen two.other_view.seen) r.log
+  longest_of : (s : St) (r : Rule s) (two : TwoLive s.views)
+      → IsPrefix (longer_list two.view.seen two.other_view.seen) r.log
       × IsPrefix (shorter_list two.view.seen two.other_view.seen) (longer_list two.view.seen two.other_view.seen)
       × (made_by two.view.number (longer_list two.view.seen two.other_view.seen) ≡ made_by two.view.number r.log)
   longest_of s r two = let f = r.each i v l in let g = r.each j w k in
@@ -299,7 +304,11 @@ module _ {B : Type 0} (entries : B → List Entry) (terms_of : B → Terms) (ter
 
   place_join : (s : St) (log : List Entry) (join : IdleJoin s.views) → step.Place entries terms_of terms log s
       → step.Place entries terms_of terms log
-      record { words = s.words; homes = s.homes; views = set (set s.views join.two.id join.joined) join.two.other join.remnant }
+      record {
+        words = s.words;
+        homes = s.homes;
+        views = set (set s.views join.two.id join.joined) join.two.other join.remnant;
+      }
   place_join s log join (inl h) = inl record {
     value = h.value;
     home = h.home;
@@ -315,13 +324,18 @@ module _ {B : Type 0} (entries : B → List Entry) (terms_of : B → Terms) (ter
       let one : a.place ≢ id =
       λ e. idle_free v.stage idle a.ticket (ap (λ (u : View). u.stage) (one_at s.views live.0 a.live.0 e) ∙ a.holds) in
       let two : a.place ≢ other =
-      λ e. idle_free w.stage widle a.ticket (ap (λ (u : View). u.stage) (one_at s.views wlive.0 a.live.0 e) ∙ a.holds) in
+      λ e. idle_free w.stage widle a.ticket (ap (λ (u : View). u.stage) (one_at s.views wlive.0 a.live.0 e)
+      ∙ a.holds) in
       inr record {
         home = a.home;
         place = a.place;
         holder = a.holder;
         ticket = a.ticket;
-        live = (set_else (set s.views id b) other a.place x two ∙ (set_else s.views id a.place b one ∙ a.live.0), a.live.1);
+        live = (
+          set_else (set s.views id b) other a.place x two
+              ∙ (set_else s.views id a.place b one ∙ a.live.0),
+          a.live.1,
+        );
         holds = a.holds;
         all = a.all;
       }
@@ -356,7 +370,8 @@ module _ {B : Type 0} (entries : B → List Entry) (terms_of : B → Terms) (ter
       open two use {id, other, view as v, other_view as w, live, other_live as wlive}
 
       at_past : (i : ℕ) (j : Joined) → get_elem? (past_of w ∷ w.joined) i ≡ some j → IsPast r.log r.count v.number j
-      at_past zero j e = let g = r.each other w wlive in subst (IsPast r.log r.count v.number) (some-injective (past_of w) j e)
+      at_past zero j e = let g = r.each other w wlive in
+          subst (IsPast r.log r.count v.number) (some-injective (past_of w) j e)
           record { mine = g.mine; few = g.few; other = (r.apart other id w v apart wlive live).numbers }
       at_past (suc i) j e = let g = r.each other w wlive in let p = g.past i j e in
           record { mine = p.mine; few = p.few; other = (r.apart other id w v apart wlive live).past i j e }
@@ -367,13 +382,22 @@ module _ {B : Type 0} (entries : B → List Entry) (terms_of : B → Terms) (ter
       let b : View = view_after_join v w in let x : View = spent_view in
       let w_at : get_elem? s.views other ≡ some w = sym (set_else s.views id other b apart) ∙ wat in
       let live : IsLive s.views id v = (at, left) in let wlive : IsLive s.views other w = (w_at, wleft) in
-      let two : TwoLive s.views = record { id = id; other = other; view = v; other_view = w; live = live; other_live = wlive } in
+      let two : TwoLive s.views = record {
+        id = id;
+        other = other;
+        view = v;
+        other_view = w;
+        live = live;
+        other_live = wlive;
+      } in
       let join : Join = record { views = s.views; id = id; other = other; joined = b; remnant = x; gone = refl } in
-      let sums = total_set pass_count s.views id v b at in let sums' = total_set pass_count (set s.views id b) other w x wat in
+      let sums = total_set pass_count s.views id v b at in
+      let sums' = total_set pass_count (set s.views id b) other w x wat in
       let queues = total_set ticket_count s.views id v b at in let queues' =
       total_set ticket_count (set s.views id b) other w x wat in
       let q0 : ticket_count v ≡ ticket_count b = refl in let a0 : pass_count v ≡ pass_count b = refl in
-      let q1 : ticket_count w ≡ 0 = waits_in w wleft ∙ ap has_ticket widle in let a1 : pass_count w ≡ 1 = lives w wleft in
+      let q1 : ticket_count w ≡ 0 = waits_in w wleft ∙ ap has_ticket widle in
+      let a1 : pass_count w ≡ 1 = lives w wleft in
       let queue = r.queue in let passes = r.passes in record {
         log = r.log;
         count = r.count;
@@ -393,7 +417,8 @@ module _ {B : Type 0} (entries : B → List Entry) (terms_of : B → Terms) (ter
             (r.apart other j w z (λ e. two (sym e)) wlive l))
             j z lz ne)
             (λ i y one two l ne. live_join (λ j z. i ≢ j → Apart y z) join
-            (λ _. let a = r.apart i id y v one l live in record { numbers = a.numbers; tickets = a.tickets; past = a.past })
+            (λ _. let a = r.apart i id y v one l live in
+            record { numbers = a.numbers; tickets = a.tickets; past = a.past })
             (λ j z _ _ k ne. r.apart i j y z ne l k)
             j z lz ne)
             i y ly ne;
@@ -447,6 +472,7 @@ module _ {B : Type 0} (entries : B → List Entry) (terms_of : B → Terms) (ter
     };
   }
     where
-      only : (P : ℕ → View → Type 0) → P 0 (first_view terms) → (i : ℕ) (v : View) → IsLive (first_view terms ∷ []) i v → P i v
+      only : (P : ℕ → View → Type 0) → P 0 (first_view terms) → (i : ℕ) (v : View)
+          → IsLive (first_view terms ∷ []) i v → P i v
       only P here zero v live = subst (P 0) (some-injective (first_view terms) v live.0) here
       only P here (suc i) v live = absurd (none_there i v live.0)

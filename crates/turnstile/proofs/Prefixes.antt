@@ -18,7 +18,8 @@ pub prefix_longer : {A : Type 0} (xs ys more : List A) → IsPrefix xs ys → Is
 prefix_longer xs ys more p = prefix_trans xs ys (ys ++ more) p (more, refl)
 
 -- of two beginnings of one list the shorter begins the longer
-pub prefix_shorter : {A : Type 0} (xs ys zs : List A) → IsPrefix xs zs → IsPrefix ys zs → length xs ≤ length ys → IsPrefix xs ys
+pub prefix_shorter : {A : Type 0} (xs ys zs : List A) → IsPrefix xs zs → IsPrefix ys zs → length xs ≤ length ys
+    → IsPrefix xs ys
 prefix_shorter [] ys zs p q le = (ys, refl)
 prefix_shorter (x ∷ xs) [] zs p q le = absurd (omega arith)
 prefix_shorter (x ∷ xs) (y ∷ ys) [] p q le = absurd (cc (p.1))
@@ -38,7 +39,8 @@ made_more maker place [] ys = ap (λ (k : ℕ). made_from k maker ys) (omega ari
 made_more maker place (x ∷ xs) ys =
     let rest : made_from (place + 1) maker (xs ++ ys)
     ≡ made_from (place + 1) maker xs ++ made_from (place + length (x ∷ xs)) maker ys =
-    made_more maker (place + 1) xs ys ∙ ap (λ (k : ℕ). made_from (place + 1) maker xs ++ made_from k maker ys) (omega arith) in
+    made_more maker (place + 1) xs ys ∙ ap (λ (k : ℕ). made_from (place + 1) maker xs ++ made_from k maker ys)
+    (omega arith) in
     ap (λ (zs : List Placed). if x.maker == maker then (record { place = place; entry = x } ∷ zs) else zs) rest
     ∙ sym (made_put (x.maker == maker) (record { place = place; entry = x }) (made_from (place + 1) maker xs)
     (made_from (place + length (x ∷ xs)) maker ys))
@@ -48,7 +50,8 @@ made_tail maker place e other =
     ap (λ (b : Bool). if b then (record { place = place; entry = e } ∷ []) else []) (ne_eqb e.maker maker other)
 
 -- an entry of another leaves what a maker has made
-pub made_other : (maker : ℕ) (log : List Entry) (e : Entry) → e.maker ≢ maker → made_by maker (log ++ e ∷ []) ≡ made_by maker log
+pub made_other : (maker : ℕ) (log : List Entry) (e : Entry) → e.maker ≢ maker
+    → made_by maker (log ++ e ∷ []) ≡ made_by maker log
 made_other maker log e other =
     made_more maker 0 log (e ∷ [])
     ∙ (ap (λ (zs : List Placed). made_from 0 maker log ++ zs) (made_tail maker (0 + length log) e other)
@@ -84,7 +87,8 @@ nothing_last (x ∷ xs) ys e = absurd cc
 pub made_between : {ys log : List Entry} (maker : ℕ) (xs : List Entry) → IsPrefix xs ys → IsPrefix ys log
     → made_by maker xs ≡ made_by maker log → made_by maker ys ≡ made_by maker log
 made_between {ys} {log} maker xs p q same =
-    let a : List Placed = made_from (0 + length xs) maker p.0 in let b : List Placed = made_from (0 + length ys) maker q.0 in
+    let a : List Placed = made_from (0 + length xs) maker p.0 in
+    let b : List Placed = made_from (0 + length ys) maker q.0 in
     let mid : made_by maker ys ≡ made_by maker xs ++ a = ap (made_by maker) (sym p.1) ∙ made_more maker 0 xs p.0 in
     let end : made_by maker log ≡ made_by maker ys ++ b = ap (made_by maker) (sym q.1) ∙ made_more maker 0 ys q.0 in
     let both : made_by maker xs ++ (a ++ b) ≡ made_by maker xs =

@@ -74,7 +74,8 @@ module _ {B : Type 0} (entries : B → List Entry) (terms_of : B → Terms) (ter
         (let e = total_set pass_count s.views id v w live.0 in let a = lives v live.1 in let b =
         lives w left in let p = r.passes in omega arith);
     makers = makers;
-    each = live_set (λ _ u. Fits terms log r.count served drawn u) s.views id w fits (λ j u other l. (others j u other l).0);
+    each = live_set (λ _ u. Fits terms log r.count served drawn u) s.views id w fits
+        (λ j u other l. (others j u other l).0);
     apart = λ i j x y ne lx ly. live_set (λ i x. i ≢ j → Apart x y) s.views id w
         (λ ne. live_set (λ j y. id ≢ j → Apart w y) s.views id w (λ same. absurd (same refl))
         (λ j y other l _. (others j y other l).1) j y ly ne)
@@ -116,9 +117,9 @@ module _ {B : Type 0} (entries : B → List Entry) (terms_of : B → Terms) (ter
   unmoved s r i id v at = subst (λ (x : List ℕ × List View). Rule record { words = x.0; homes = s.homes; views = x.1 })
       (λ k. (sym (set-get_or s.words i 0) k, sym (set_again s.views id v at) k)) r
 
-  pub tells : (id slots : ℕ) (me : Me (Option B) View) → me.0.spent ≡ false
+  pub reads : (id slots : ℕ) (me : Me (Option B) View) → me.0.spent ≡ false
       → Allows Rule slots id me 0 (λ n. n) (λ n next. (next ≡ me) × Knows me.0)
-  tells id slots me left s r deep at low = let f = r.each id me.0 (at, left) in (
+  reads id slots me left s r deep at low = let f = r.each id me.0 (at, left) in (
     me.0,
     keeps,
     tt,
@@ -155,7 +156,8 @@ module _ {B : Type 0} (entries : B → List Entry) (terms_of : B → Terms) (ter
           makers = r.makers;
           fits = restage f (omega arith, omega arith);
           others = λ j u other l. let g = r.each j u l in let a =
-              r.apart id j v u (λ e. other (sym e)) (at, left) l in let b = r.apart j id u v other l (at, left) in let both =
+              r.apart id j v u (λ e. other (sym e)) (at, left) l in
+              let b = r.apart j id u v other l (at, left) in let both =
               apart_both {w = w} {u = u} a.numbers (λ t here there. let h =
               ticket_low r.served r.drawn t u.stage g.turn there in let e : r.drawn ≡ t = here in let z =
               h.1 in omega arith) a.past b.past in
@@ -182,7 +184,8 @@ module _ {B : Type 0} (entries : B → List Entry) (terms_of : B → Terms) (ter
   at_home s r waiter now = ⊎_elim (λ (h : IsHome entries terms_of terms r.log s). h)
       (λ (a : IsAway r.log s).
       let other : id ≢ a.place =
-      λ e. waits_free v.stage t is a.ticket (ap (λ (u : View). u.stage) (one_at s.views live.0 a.live.0 (sym e)) ∙ a.holds) in
+      λ e. waits_free v.stage t is a.ticket (ap (λ (u : View). u.stage) (one_at s.views live.0 a.live.0 (sym e))
+      ∙ a.holds) in
       let apart = r.apart id a.place v a.holder other live a.live in
       let turn : InTurn r.served r.drawn (Holds a.ticket) =
       subst (InTurn r.served r.drawn) a.holds (r.each a.place a.holder a.live).turn in
@@ -192,7 +195,8 @@ module _ {B : Type 0} (entries : B → List Entry) (terms_of : B → Terms) (ter
     where
       open waiter use {id, view as v, live, ticket as t, waits as is}
 
-  took : (s : St) (r : Rule s) (waiter : Waiter s.views) (h : IsHome entries terms_of terms r.log s) → waiter.ticket ≡ r.served
+  took : (s : St) (r : Rule s) (waiter : Waiter s.views) (h : IsHome entries terms_of terms r.log s)
+      → waiter.ticket ≡ r.served
       → Rule record {
         words = set s.words 1 (get_or s.words 1 0);
         homes = set s.homes 0 none;
@@ -235,7 +239,8 @@ module _ {B : Type 0} (entries : B → List Entry) (terms_of : B → Terms) (ter
           turn = (now, drawn);
         };
         others = λ j u other l. let g = r.each j u l in let a =
-            r.apart id j v u (λ e. other (sym e)) (at, left) l in let b = r.apart j id u v other l (at, left) in let both =
+            r.apart id j v u (λ e. other (sym e)) (at, left) l in
+            let b = r.apart j id u v other l (at, left) in let both =
             apart_both {w = w} {u = u} a.numbers
             (λ x here there. a.tickets x (subst (λ (st : Stage). IsTicket st x) (sym is) here) there) a.past b.past in
             (g, both.0, both.1);
@@ -301,7 +306,8 @@ module _ {B : Type 0} (entries : B → List Entry) (terms_of : B → Terms) (ter
   pub holder_here : (s : St) (r : Rule s) (holder : Holder s.views)
       → (s.homes ≡ none ∷ []) × (holder.view.seen ≡ r.log) × (holder.ticket ≡ r.served) × (holder.ticket < r.drawn)
   holder_here s r holder =
-      let turn : InTurn r.served r.drawn (Holds t) = subst (InTurn r.served r.drawn) is (r.each id v live).turn in ⊎_elim
+      let turn : InTurn r.served r.drawn (Holds t) = subst (InTurn r.served r.drawn) is (r.each id v live).turn in
+      ⊎_elim
       (λ (h : IsHome entries terms_of terms r.log s). absurd (h.free id v live t is))
       (λ (a : IsAway r.log s).
       let theirs : InTurn r.served r.drawn (Holds a.ticket) =
@@ -316,7 +322,7 @@ module _ {B : Type 0} (entries : B → List Entry) (terms_of : B → Terms) (ter
     where
       open holder use {id, view as v, live, ticket as t, holds as is}
 
-  raised : (s : St) (r : Rule s) (holder : Holder s.views) (e : Entry) → e.maker ≡ holder.view.number
+  counted : (s : St) (r : Rule s) (holder : Holder s.views) (e : Entry) → e.maker ≡ holder.view.number
       → Rule record {
         words = set s.words 2 ((get_or s.words 2 0 + 1) % 2 ^ 64);
         homes = s.homes;
@@ -324,7 +330,7 @@ module _ {B : Type 0} (entries : B → List Entry) (terms_of : B → Terms) (ter
             (record holder.view
             { seen = holder.view.seen ++ e ∷ []; mine = made_by holder.view.number (holder.view.seen ++ e ∷ []) });
       }
-  raised s r holder e own =
+  counted s r holder e own =
       let w : View = record v { seen = v.seen ++ e ∷ []; mine = made_by v.number (v.seen ++ e ∷ []) } in
       let f = r.each id v live in let h = holder_here s r holder in
       let log : List Entry = r.log ++ e ∷ [] in
@@ -344,7 +350,8 @@ module _ {B : Type 0} (entries : B → List Entry) (terms_of : B → Terms) (ter
         words = set s.words 2 ((get_or s.words 2 0 + 1) % 2 ^ 64);
         homes = s.homes;
         words_are = ap (λ (ws : List ℕ). set ws 2 ((get_or ws 2 0 + 1) % 2 ^ 64)) r.words
-            ∙ ap (λ (k : ℕ). r.drawn % 2 ^ 64 ∷ r.served % 2 ^ 64 ∷ k ∷ []) (let n = length-append r.log (e ∷ []) in omega arith);
+            ∙ ap (λ (k : ℕ). r.drawn % 2 ^ 64 ∷ r.served % 2 ^ 64 ∷ k ∷ []) (let n = length-append r.log (e ∷ []) in
+            omega arith);
         queue = omega arith;
         makers = λ m more. made_other m r.log e (λ same. let few = f.few in omega arith) ∙ r.makers m more;
         fits = record {
@@ -385,23 +392,29 @@ module _ {B : Type 0} (entries : B → List Entry) (terms_of : B → Terms) (ter
     where
       open holder use {id, view as v, live, ticket as t, holds as is}
 
-  pub raises : (id slots : ℕ) (me : Me (Option B) View) → GrownHolder entries me
+  pub counts_entry : (id slots : ℕ) (me : Me (Option B) View) → GrownHolder entries me
       → Allows Rule slots id me 2 (λ n. (n + 1) % 2 ^ 64)
       (λ n next. (next.0
-      ≡ record me.0 { seen = slot_list entries me.1; mine = made_by me.0.number (slot_list entries me.1) }) × (next.1 ≡ me.1))
-  raises id slots me it s r deep at low = (
+      ≡ record me.0 { seen = slot_list entries me.1; mine = made_by me.0.number (slot_list entries me.1) })
+      × (next.1 ≡ me.1))
+  counts_entry id slots me it s r deep at low = (
     record me.0 { seen = me.0.seen ++ e ∷ []; mine = made_by me.0.number (me.0.seen ++ e ∷ []) },
     keeps,
     tt,
-    raised s r (record { id = id; view = me.0; live = (at, left); ticket = t; holds = is }) e own,
-    (ap (λ (l : List Entry). let w : View = record me.0 { seen = l; mine = made_by me.0.number l } in w) (sym list), refl),
+    counted s r (record { id = id; view = me.0; live = (at, left); ticket = t; holds = is }) e own,
+    (
+      ap (λ (l : List Entry). let w : View = record me.0 { seen = l; mine = made_by me.0.number l } in w)
+          (sym list),
+      refl,
+    ),
   )
     where
       open it use {ticket as t, entry as e, left, holds as is, own, list_is as list}
 
   pub leaves : (id slots : ℕ) (me : Me (Option B) View) {value : B} → IsTurn me (Some value)
       → entries value ≡ me.0.seen → terms_of value ≡ me.0.terms
-      → Allows Rule slots id me 1 (λ n. (n + 1) % 2 ^ 64) (λ n next. (next.0 ≡ record me.0 { stage = Idle }) × (next.1 ≡ []))
+      → Allows Rule slots id me 1 (λ n. (n + 1) % 2 ^ 64) (λ n next. (next.0 ≡ record me.0 { stage = Idle })
+      × (next.1 ≡ []))
   leaves id slots me {value} it list same s r deep at low =
       let v = me.0 in let w : View = record v { stage = Idle } in let f = r.each id v (at, left) in let h =
       holder_here s r (record { id = id; view = v; live = (at, left); ticket = number; holds = is }) in
@@ -432,7 +445,8 @@ module _ {B : Type 0} (entries : B → List Entry) (terms_of : B → Terms) (ter
           makers = r.makers;
           fits = restage f tt;
           others = λ j u other l. let g = r.each j u l in let a =
-              r.apart id j v u (λ e. other (sym e)) (at, left) l in let b = r.apart j id u v other l (at, left) in let both =
+              r.apart id j v u (λ e. other (sym e)) (at, left) l in
+              let b = r.apart j id u v other l (at, left) in let both =
               apart_both {w = w} {u = u} a.numbers (λ x here there. absurd here) a.past b.past in
               (refit g (turn_next r.served r.drawn u.stage g.turn (not_now j u other l)), both.0, both.1);
           place = inl record {

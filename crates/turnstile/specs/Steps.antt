@@ -121,8 +121,8 @@ module _ {B : Type 0} where
 
 module _ {B : Type 0} (entries : B → List Entry) where
   -- the pass once the word counts the entries of the value in its slot
-  abbrev pub after_raise : Me (Option B) View → Me (Option B) View
-  after_raise me = (
+  abbrev pub after_counting : Me (Option B) View → Me (Option B) View
+  after_counting me = (
     record me.0 {
       seen = slot_list entries me.1;
       mine = made_by me.0.number (slot_list entries me.1);
@@ -130,9 +130,9 @@ module _ {B : Type 0} (entries : B → List Entry) where
     me.1,
   )
 
-  -- the pass has raised the word of the entries by the one that the value in its slot has more
-  abbrev pub HasRaised : Me (Option B) View → ℕ → Me (Option B) View → Type 0
-  HasRaised me n next = (next.0 ≡ (after_raise me).0) × (next.1 ≡ me.1)
+  -- the pass has counted the word of the entries by the one that the value in its slot has more
+  abbrev pub HasCounted : Me (Option B) View → ℕ → Me (Option B) View → Type 0
+  HasCounted me n next = (next.0 ≡ (after_counting me).0) × (next.1 ≡ me.1)
 
 module _ {B : Type 0} (entries : B → List Entry) (terms_of : B → Terms) where
   -- the pass has looked whose turn it is: where it is that of its ticket, it has the turn and the

@@ -63,7 +63,7 @@ impl Pass {
     }
 
     /// Takes the seat of a pass that rests.
-    pub(crate) fn rise<B>(&mut self) -> Place<B>
+    pub(crate) fn take_seat<B>(&mut self) -> Place<B>
         requires { self.old.has_turn ≡ false }
         ensures free { IsFree result.me }
         ensures view { IsViewOf self.old.number self.old.splits result.me.0 }

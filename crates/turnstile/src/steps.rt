@@ -5,11 +5,11 @@ ghost use Rattle.admission.specs.declared.entries.Entry.{Entry};
 ghost use Rattle.turnstile.specs.declared.view.Stage.TheVariants.{Idle};
 ghost use Rattle.admission.specs.Makers.{made_by};
 ghost use Rattle.turnstile.specs.Sized.{IsSame, IsSeated, IsFree};
-ghost use Rattle.turnstile.specs.Steps.{HasDrawn, HasLeft, HasLooked, HasRaised, HasRead, IsTurn};
-ghost use Rattle.turnstile.specs.Steps.{IsWaiting, Knows, after_raise, slot_list};
+ghost use Rattle.turnstile.specs.Steps.{HasDrawn, HasLeft, HasLooked, HasCounted, HasRead, IsTurn};
+ghost use Rattle.turnstile.specs.Steps.{IsWaiting, Knows, after_counting, slot_list};
 
 use crate::kept::KeptValue;
-use crate::table::{ENTRIES, Place, SERVING, TICKETS, Top};
+use crate::table::{ENTRIES, Place, SERVING, SharedTable, TICKETS};
 use crate::view::View;
 use atomic_table::Play;
 use std::marker::PhantomData;
@@ -31,12 +31,12 @@ impl<B: KeptValue> Play<Option<B>, View> for Looks<B> {
 }
 
 /// What counting an entry tells.
-pub(crate) struct Raises<B> {
+pub(crate) struct Counts<B> {
     marker: PhantomData<B>,
 }
 
-impl<B: KeptValue> Play<Option<B>, View> for Raises<B> {
-    ghost then = { λ _. HasRaised B.entries };
+impl<B: KeptValue> Play<Option<B>, View> for Counts<B> {
+    ghost then = { λ _. HasCounted B.entries };
 }
 
 /// What giving the turn on tells.
@@ -47,71 +47,75 @@ impl<B> Play<Option<B>, View> for Leaves {
 }
 
 /// What reading a word tells of what the pass knows.
-pub(crate) struct Tells;
+pub(crate) struct Reads;
 
-impl<B> Play<Option<B>, View> for Tells {
+impl<B> Play<Option<B>, View> for Reads {
     ghost then = { λ _. HasRead };
 }
 
 /// Draws a ticket.
-pub(crate) fn draw<B: KeptValue>(top: &Top<B>, place: &mut Place<B>) -> u64
-    requires seat { IsSeated top.now.table_id place.old }
+pub(crate) fn draw<B: KeptValue>(shared: &SharedTable<B>, place: &mut Place<B>) -> u64
+    requires seat { IsSeated shared.now.table_id place.old }
     requires free { IsFree place.old.me }
     ensures same { IsSame place.old place.new }
     ensures drew { HasDrawn place.old.me result place.new.me }
 {
-    top.fetch_add::<Draws>(place, TICKETS, 1)
+    shared.fetch_add::<Draws>(place, TICKETS, 1)
 }
 
 /// Looks whose turn it is: where it is that of this pass's ticket, the pass has the turn and the
 /// slot.
-pub(crate) fn look<B: KeptValue>(top: &Top<B>, place: &mut Place<B>, ticket: u64) -> u64
-    requires seat { IsSeated top.now.table_id place.old }
+pub(crate) fn look<B: KeptValue>(shared: &SharedTable<B>, place: &mut Place<B>, ticket: u64) -> u64
+    requires seat { IsSeated shared.now.table_id place.old }
     requires waits { IsWaiting place.old.me ticket }
     ensures same { IsSame place.old place.new }
     ensures looked { HasLooked B.entries B.terms place.old.me result place.new.me }
 {
-    top.load::<Looks<B>>(place, SERVING)
+    shared.load::<Looks<B>>(place, SERVING)
 }
 
 /// Counts the entry that the value in the slot has more.
-pub(crate) fn raise<B: KeptValue>(top: &Top<B>, place: &mut Place<B>)
-    requires seat { IsSeated top.now.table_id place.old }
+pub(crate) fn count_entry<B: KeptValue>(shared: &SharedTable<B>, place: &mut Place<B>)
+    requires seat { IsSeated shared.now.table_id place.old }
     requires turn { (value : B) × IsTurn place.old.me (Some value) }
     requires one { (e : Entry)
         × (slot_list B.entries place.old.me.1 ≡ place.old.me.0.seen ++ e ∷ [])
         × (e.maker ≡ place.old.me.0.number) }
     ensures same { IsSame place.old place.new }
-    ensures raised { place.new.me ≡ after_raise B.entries place.old.me }
+    ensures counted { place.new.me ≡ after_counting B.entries place.old.me }
 {
-    top.fetch_add::<Raises<B>>(place, ENTRIES, 1);
+    shared.fetch_add::<Counts<B>>(place, ENTRIES, 1);
 }
 
 /// Gives the slot back, and the turn to the next ticket. Answers the ticket whose turn it was.
-pub(crate) fn give_back<B: KeptValue>(top: &Top<B>, place: &mut Place<B>) -> u64
-    requires seat { IsSeated top.now.table_id place.old }
+pub(crate) fn give_back<B: KeptValue>(shared: &SharedTable<B>, place: &mut Place<B>) -> u64
+    requires seat { IsSeated shared.now.table_id place.old }
     requires turn { (value : B) × IsTurn place.old.me (Some value)
         × (B.entries value ≡ place.old.me.0.seen) × (B.terms value ≡ place.old.me.0.terms) }
     ensures same { IsSame place.old place.new }
     ensures left { (place.new.me.0 ≡ record place.old.me.0 { stage = Idle })
         × (place.new.me.1 ≡ []) }
 {
-    top.fetch_add::<Leaves>(place, SERVING, 1)
+    shared.fetch_add::<Leaves>(place, SERVING, 1)
 }
 
-/// Reads what the pass knows, which stays.
-pub(crate) fn tell<B: KeptValue>(top: &Top<B>, place: &mut Place<B>)
-    requires seat { IsSeated top.now.table_id place.old }
+/// Reads a word, which tells what the pass knows and changes nothing.
+pub(crate) fn read_view<B: KeptValue>(shared: &SharedTable<B>, place: &mut Place<B>)
+    requires seat { IsSeated shared.now.table_id place.old }
     requires left { place.old.me.0.spent ≡ false }
     ensures same { IsSame place.old place.new }
     ensures told { (place.new.me ≡ place.old.me) × Knows place.old.me.0 }
 {
-    top.load::<Tells>(place, TICKETS);
+    shared.load::<Reads>(place, TICKETS);
 }
 
 /// Counts the entry that the value in the slot has more, if it has one.
-pub(crate) fn settle<B: KeptValue>(top: &Top<B>, place: &mut Place<B>, grown: bool)
-    requires seat { IsSeated top.now.table_id place.old }
+pub(crate) fn count_if_grown<B: KeptValue>(
+    shared: &SharedTable<B>,
+    place: &mut Place<B>,
+    grown: bool,
+)
+    requires seat { IsSeated shared.now.table_id place.old }
     requires turn { (value : B) × IsTurn place.old.me (Some value) }
     requires own { place.old.me.0.mine ≡ made_by place.old.me.0.number place.old.me.0.seen }
     requires one { grown ≡ true → (e : Entry)
@@ -119,9 +123,9 @@ pub(crate) fn settle<B: KeptValue>(top: &Top<B>, place: &mut Place<B>, grown: bo
         × (e.maker ≡ place.old.me.0.number) }
     requires none { grown ≡ false → slot_list B.entries place.old.me.1 ≡ place.old.me.0.seen }
     ensures same { IsSame place.old place.new }
-    ensures noted { place.new.me ≡ after_raise B.entries place.old.me }
+    ensures noted { place.new.me ≡ after_counting B.entries place.old.me }
 {
     if grown {
-        raise(top, place);
+        count_entry(shared, place);
     }
 }

@@ -37,7 +37,7 @@ impl<B: KeptValue> TableRule<Option<B>, View, Snapshot<B>> for Turns<B> {
 pub(crate) type Board<B> = Table<Option<B>, View, Snapshot<B>, Turns<B>, Global>;
 
 /// What the passes share of the table.
-pub(crate) type Top<B> = Shared<Option<B>, View, Snapshot<B>, Turns<B>>;
+pub(crate) type SharedTable<B> = Shared<Option<B>, View, Snapshot<B>, Turns<B>>;
 
 /// A pass at the table, with its view and the slot that it has taken.
 pub(crate) type Place<B> = Seat<Option<B>, View>;

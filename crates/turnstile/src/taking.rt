@@ -10,7 +10,7 @@ ghost use Rattle.turnstile.specs.Taken.{stands_as};
 use crate::bells::Bells;
 use crate::kept::KeptValue;
 use crate::steps::{draw, look};
-use crate::table::{Place, Top, VALUE};
+use crate::table::{Place, SharedTable, VALUE};
 use crate::turn::Turn;
 use crossbeam_utils::sync::EventCount;
 use std::hint;
@@ -22,11 +22,11 @@ const SPINS: u32 = 64;
 /// Draws a ticket, waits for its turn and takes the value.
 pub(crate) fn take<B: KeptValue, R: Wait>(
     rt: &R,
-    top: &Top<B>,
+    shared: &SharedTable<B>,
     bells: &Bells,
     mut place: Place<B>,
 ) -> Turn<B>
-    requires seat { IsSeated top.now.table_id place }
+    requires seat { IsSeated shared.now.table_id place }
     requires free { IsFree place.me }
     requires own { place.me.0.mine ≡ made_by place.me.0.number place.me.0.seen }
     ensures pass { result.pass
@@ -35,9 +35,9 @@ pub(crate) fn take<B: KeptValue, R: Wait>(
     ensures own { place.me.0.mine ≡ made_by place.me.0.number (B.entries result.value) }
     ensures terms { B.terms result.value ≡ place.me.0.terms }
 {
-    let ticket = draw(top, &mut place);
-    wait(rt, top, bells.bell_of(ticket), &mut place, ticket);
-    let slot = top.exchange(&mut place, VALUE, None);
+    let ticket = draw(shared, &mut place);
+    wait(rt, shared, bells.bell_of(ticket), &mut place, ticket);
+    let slot = shared.exchange(&mut place, VALUE, None);
     let Some(value) = slot else { unreachable!() };
     Turn::begin(place, value)
 }
@@ -47,12 +47,12 @@ pub(crate) fn take<B: KeptValue, R: Wait>(
 /// processor that it runs on.
 fn wait<B: KeptValue, R: Wait>(
     rt: &R,
-    top: &Top<B>,
+    shared: &SharedTable<B>,
     bell: &EventCount,
     place: &mut Place<B>,
     ticket: u64,
 )
-    requires seat { IsSeated top.now.table_id place.old }
+    requires seat { IsSeated shared.now.table_id place.old }
     requires waits { IsWaiting place.old.me ticket }
     ensures same { IsSame place.old place.new }
     ensures took { HasTaken B.entries B.terms (ticket_of place.old.me.0.stage)
@@ -66,7 +66,7 @@ fn wait<B: KeptValue, R: Wait>(
         } else {
             Some(bell.prepare_wait())
         };
-        let serving = look(top, place, ticket);
+        let serving = look(shared, place, ticket);
         if serving == ticket {
             return;
         }

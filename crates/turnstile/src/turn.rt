@@ -11,8 +11,8 @@ ghost use Rattle.turnstile.specs.Taken.{IsViewOf, stands_as};
 
 use crate::bells::Bells;
 use crate::kept::KeptValue;
-use crate::steps::{give_back, settle};
-use crate::table::{Place, Top, VALUE};
+use crate::steps::{count_if_grown, give_back};
+use crate::table::{Place, SharedTable, VALUE};
 use std::marker::Model;
 
 /// The turn of a pass, with the value. It must be handed to `Turnstile::leave`.
@@ -55,9 +55,9 @@ impl<B: KeptValue> Turn<B> {
 
     /// Puts the value back, counts the entry that its list has more, gives the turn to the next
     /// ticket and rings its bell.
-    pub(crate) fn end(self, top: &Top<B>, bells: &Bells) -> Place<B>
-        requires sized { IsSized top.now.table_id }
-        requires here { self.pass.id ≡ top.now.table_id }
+    pub(crate) fn end(self, shared: &SharedTable<B>, bells: &Bells) -> Place<B>
+        requires sized { IsSized shared.now.table_id }
+        requires here { self.pass.id ≡ shared.now.table_id }
         requires list { MayLeave self.pass.seen self.pass.number (B.entries self.value) }
         requires terms { B.terms self.value ≡ self.pass.terms }
         ensures free { IsFree result.me }
@@ -75,10 +75,10 @@ impl<B: KeptValue> Turn<B> {
             before,
         } = self;
         let grown = value.count() != before;
-        let empty = top.exchange(&mut seat, VALUE, Some(value));
+        let empty = shared.exchange(&mut seat, VALUE, Some(value));
         let None = empty else { unreachable!() };
-        settle(top, &mut seat, grown);
-        let served = give_back(top, &mut seat);
+        count_if_grown(shared, &mut seat, grown);
+        let served = give_back(shared, &mut seat);
         bells.bell_of(served.wrapping_add(1)).notify_all();
         seat
     }

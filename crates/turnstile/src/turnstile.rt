@@ -10,7 +10,7 @@ use crate::bells::Bells;
 use crate::kept::KeptValue;
 use crate::pass::Pass;
 use crate::splits::{Joins, Splits};
-use crate::steps::tell;
+use crate::steps::read_view;
 use crate::table::{Board, VALUE};
 use crate::taking::take;
 use crate::turn::Turn;
@@ -84,7 +84,7 @@ impl<B: KeptValue> Turnstile<B> {
         ensures own { pass.old.mine ≡ made_by pass.old.number (B.entries result.value) }
         ensures terms { B.terms result.value ≡ pass.old.terms }
     {
-        let place = pass.rise();
+        let place = pass.take_seat();
         take(rt, &self.table.shared, &self.bells, place)
     }
 
@@ -116,9 +116,9 @@ impl<B: KeptValue> Turnstile<B> {
         ensures new { result ≡ new_pass pass.old }
         ensures none { made_by result.number result.seen ≡ [] }
     {
-        let mut place = pass.rise();
+        let mut place = pass.take_seat();
         let mut other = self.table.shared.split_seat::<Splits>(&mut place);
-        tell(&self.table.shared, &mut other);
+        read_view(&self.table.shared, &mut other);
         let splits = pass.splits() + 1;
         *pass = Pass::at_rest(place, 0, splits);
         Pass::at_rest(other, splits, 0)
@@ -137,10 +137,10 @@ impl<B: KeptValue> Turnstile<B> {
         ensures own { pass.new.mine ≡ made_by pass.new.number pass.new.seen }
         ensures terms { other.terms ≡ pass.old.terms }
     {
-        let mut place = pass.rise();
-        let theirs = other.rise();
+        let mut place = pass.take_seat();
+        let theirs = other.take_seat();
         self.table.shared.join_seat::<Joins>(&mut place, theirs);
-        tell(&self.table.shared, &mut place);
+        read_view(&self.table.shared, &mut place);
         *pass = Pass::at_rest(place, pass.number(), pass.splits());
     }
 
@@ -154,7 +154,7 @@ impl<B: KeptValue> Turnstile<B> {
         ensures terms { B.terms result ≡ pass.terms }
     {
         let Turnstile { table, bells: _ } = self;
-        let mut closed = table.close_with(pass.rise());
+        let mut closed = table.close_with(pass.take_seat());
         let slot = closed.take(VALUE);
         closed.free();
         let Some(value) = slot else { unreachable!() };

@@ -6,7 +6,7 @@ pub load-requires : goal.load-requires
 load-requires g c = let seat = c.requires.seat in let words = seat.sized.words in let waits = c.requires.waits in (
   seat.here,
   omega arith,
-  looks g.B.KeptValue.entries g.B.KeptValue.terms (g.B.KeptValue.terms c.args.top.now.key.value) c.args.place.now.id
-      c.args.top.now.table_id.slots c.args.place.now.me
+  looks g.B.KeptValue.entries g.B.KeptValue.terms (g.B.KeptValue.terms c.args.shared.now.key.value) c.args.place.now.id
+      c.args.shared.now.table_id.slots c.args.place.now.me
       record { ticket = waits.number; left = waits.left; waits = waits.stage; empty = waits.empty },
 )

@@ -15,6 +15,6 @@ put_back {B} value put turn = record {
       ∙ ap (λ (cells : List (ℕ × Option B)). (0, Some value) ∷ rest cells) turn.held;
 }
 
-pub settle-requires-clause-turn : goal.settle-requires-clause-turn
-settle-requires-clause-turn g c =
+pub count_if_grown-requires-clause-turn : goal.count_if_grown-requires-clause-turn
+count_if_grown-requires-clause-turn g c =
     (c.self.inside.value, put_back c.self.inside.value c.exchange-empty.ensures.3 c.self.invariant.turn)

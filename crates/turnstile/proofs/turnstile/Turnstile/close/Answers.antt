@@ -11,29 +11,36 @@ value_or d (Some x) = x
 
 pub unreachable-requires : goal.unreachable-requires
 unreachable-requires g c =
-    let rise = c.rise in
-    let last = closes g.B.KeptValue.entries g.B.KeptValue.terms (g.B.KeptValue.terms c.self.inside.table.shared.key.value)
-    rise.result.table_id rise.result.id
-    (has_all rise.ensures.free rise.ensures.old c.requires.first c.requires.all) _ _ c.close_with-closed.ensures.values.2 in
+    let seat = c.take_seat in
+    let last = closes g.B.KeptValue.entries g.B.KeptValue.terms
+    (g.B.KeptValue.terms c.self.inside.table.shared.key.value)
+    seat.result.table_id seat.result.id
+    (has_all seat.ensures.free seat.ensures.old c.requires.first c.requires.all) _ _
+    c.close_with-closed.ensures.values.2 in
     c.in_default.not-Some last.value (some-injective _ _ (sym c.take-slot.ensures.value ∙ last.slot))
 
 pub returns-clause-whole : goal.returns-clause-whole
 returns-clause-whole g c =
-    let rise = c.rise in
-    let last = closes g.B.KeptValue.entries g.B.KeptValue.terms (g.B.KeptValue.terms c.self.inside.table.shared.key.value)
-    rise.result.table_id rise.result.id
-    (has_all rise.ensures.free rise.ensures.old c.requires.first c.requires.all) _ _ c.close_with-closed.ensures.values.2 in
+    let seat = c.take_seat in
+    let last = closes g.B.KeptValue.entries g.B.KeptValue.terms
+    (g.B.KeptValue.terms c.self.inside.table.shared.key.value)
+    seat.result.table_id seat.result.id
+    (has_all seat.ensures.free seat.ensures.old c.requires.first c.requires.all) _ _
+    c.close_with-closed.ensures.values.2 in
     let same : c.in-Some.value ≡ last.value =
     ap (value_or c.in-Some.value) (sym c.in-Some.is ∙ some-injective _ _ (sym c.take-slot.ensures.value ∙ last.slot)) in
-    subst (λ pass. IsWholeList pass (g.B.KeptValue.entries c.in-Some.value)) (sym rise.ensures.old)
-    (subst (λ x. IsWholeList (stands_as rise.result.table_id rise.result.me.0) (g.B.KeptValue.entries x)) (sym same) last.whole)
+    subst (λ pass. IsWholeList pass (g.B.KeptValue.entries c.in-Some.value)) (sym seat.ensures.old)
+    (subst (λ x. IsWholeList (stands_as seat.result.table_id seat.result.me.0) (g.B.KeptValue.entries x))
+    (sym same) last.whole)
 
 pub returns-clause-terms : goal.returns-clause-terms
 returns-clause-terms g c =
-    let rise = c.rise in
-    let last = closes g.B.KeptValue.entries g.B.KeptValue.terms (g.B.KeptValue.terms c.self.inside.table.shared.key.value)
-    rise.result.table_id rise.result.id
-    (has_all rise.ensures.free rise.ensures.old c.requires.first c.requires.all) _ _ c.close_with-closed.ensures.values.2 in
+    let seat = c.take_seat in
+    let last = closes g.B.KeptValue.entries g.B.KeptValue.terms
+    (g.B.KeptValue.terms c.self.inside.table.shared.key.value)
+    seat.result.table_id seat.result.id
+    (has_all seat.ensures.free seat.ensures.old c.requires.first c.requires.all) _ _
+    c.close_with-closed.ensures.values.2 in
     let same : c.in-Some.value ≡ last.value =
     ap (value_or c.in-Some.value) (sym c.in-Some.is ∙ some-injective _ _ (sym c.take-slot.ensures.value ∙ last.slot)) in
-    ap g.B.KeptValue.terms same ∙ (last.terms_are ∙ sym (ap (λ p. p.terms) rise.ensures.old))
+    ap g.B.KeptValue.terms same ∙ (last.terms_are ∙ sym (ap (λ p. p.terms) seat.ensures.old))

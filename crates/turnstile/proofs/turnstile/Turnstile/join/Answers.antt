@@ -4,14 +4,14 @@ use Rattle.turnstile.proofs.turnstile.Turnstile.join.Goals as goal
 
 pub join_seat-requires : goal.join_seat-requires
 join_seat-requires g c =
-    let free = c.rise-place.ensures.free in let theirs = c.rise-theirs.ensures.free in
+    let free = c.take_seat-place.ensures.free in let theirs = c.take_seat-theirs.ensures.free in
     let words = c.self.invariant.words in (
-      sym (ap (λ p. p.id) c.rise-place.ensures.old) ∙ (c.requires.own ∙ sym (ap (λ x. x.id) c.self.view_is)),
-      sym (ap (λ p. p.id) c.rise-theirs.ensures.old) ∙ (c.requires.other ∙ sym (ap (λ x. x.id) c.self.view_is)),
+      sym (ap (λ p. p.id) c.take_seat-place.ensures.old) ∙ (c.requires.own ∙ sym (ap (λ x. x.id) c.self.view_is)),
+      sym (ap (λ p. p.id) c.take_seat-theirs.ensures.old) ∙ (c.requires.other ∙ sym (ap (λ x. x.id) c.self.view_is)),
       theirs.empty,
       omega arith,
       joins g.B.KeptValue.entries g.B.KeptValue.terms (g.B.KeptValue.terms c.self.inside.table.shared.key.value)
-          c.rise-place.result.id c.rise-place.result.me.0
-          c.rise-theirs.result.id c.rise-theirs.result.me.0 record { left = free.left; idle = free.idle }
+          c.take_seat-place.result.id c.take_seat-place.result.me.0
+          c.take_seat-theirs.result.id c.take_seat-theirs.result.me.0 record { left = free.left; idle = free.idle }
           record { left = theirs.left; idle = theirs.idle },
     )

@@ -4,11 +4,12 @@ use Rattle.turnstile.proofs.turnstile.Turnstile.split.Goals as goal
 
 pub split_seat-other-requires : goal.split_seat-other-requires
 split_seat-other-requires g c =
-    let free = c.rise-place.ensures.free in let view = c.rise-place.ensures.view in let old = c.rise-place.ensures.old in
+    let free = c.take_seat-place.ensures.free in let view = c.take_seat-place.ensures.view in
+    let old = c.take_seat-place.ensures.old in
     let words = c.self.invariant.words in let count = view.splits_is in let few = c.requires.few in (
       sym (ap (λ p. p.id) old) ∙ (c.requires.own ∙ sym (ap (λ x. x.id) c.self.view_is)),
       omega arith,
       splits g.B.KeptValue.entries g.B.KeptValue.terms (g.B.KeptValue.terms c.self.inside.table.shared.key.value)
-          c.rise-place.result.id c.rise-place.result.me.0
+          c.take_seat-place.result.id c.take_seat-place.result.me.0
           record { left = free.left; idle = free.idle } (view.number_is ∙ c.requires.first) (omega arith),
     )
