@@ -3,7 +3,8 @@
 ghost use Rattle.std.specs.Prelude.{◌≡◌, None, IfOk, IfSome};
 
 use crate::faults::{Faults, end_of_count};
-use crate::links::{SlotClock, TcpLink};
+use crate::links::TcpLink;
+use crate::slots::SlotClock;
 use std::alloc::Global;
 use std::io;
 use std::io::ErrorKind;
@@ -122,6 +123,29 @@ struct OpenPort {
     most: Option<u64>,
 }
 
+impl OpenPort {
+    /// Another handle of the same port.
+    fn copy(&self) -> io::Result<OpenPort> {
+        Ok(OpenPort {
+            listener: self.listener.try_clone()?,
+            clock: self.clock,
+            most: self.most,
+        })
+    }
+
+    /// Waits for the next connection.
+    fn accept(&self) -> io::Result<TcpStream> {
+        for _ in 0..u64::MAX {
+            match self.listener.accept() {
+                Ok((stream, _)) => return Ok(stream),
+                Err(error) if is_transient(&error) => {}
+                Err(error) => return Err(error),
+            }
+        }
+        Err(end_of_count())
+    }
+}
+
 /// Opens a port.
 fn open_port<R: Net<Listener = TcpListener, Stream = TcpStream> + Clock>(
     rt: &R,
@@ -146,11 +170,11 @@ fn open_port<R: Net<Listener = TcpListener, Stream = TcpStream> + Clock>(
 /// The numbers of Linux's errors that `accept` hands on from the network of the connection that it
 /// was to take, where they have no kind of their own: EPERM, ENONET, EPROTO, ENOPROTOOPT,
 /// EOPNOTSUPP and EHOSTDOWN. Linux's accept(2) says to try again after each.
-const PASSING: [i32; 6] = [1, 64, 71, 92, 95, 112];
+const TRANSIENT: [i32; 6] = [1, 64, 71, 92, 95, 112];
 
-/// Whether an `accept` failed for a signal, for a connection that ended before it was taken, or for
-/// the network of that connection.
-fn has_passed(error: &io::Error) -> bool {
+/// Whether an `accept` that failed so is to be tried again: it failed for a signal, for a connection
+/// that ended before it was taken, or for the network of that connection.
+fn is_transient(error: &io::Error) -> bool {
     let of_kind = matches!(
         error.kind(),
         ErrorKind::Interrupted
@@ -162,28 +186,5 @@ fn has_passed(error: &io::Error) -> bool {
     of_kind
         || error
             .raw_os_error()
-            .is_some_and(|code| PASSING.contains(&code))
-}
-
-impl OpenPort {
-    /// Another handle of the same port.
-    fn copy(&self) -> io::Result<OpenPort> {
-        Ok(OpenPort {
-            listener: self.listener.try_clone()?,
-            clock: self.clock,
-            most: self.most,
-        })
-    }
-
-    /// Waits for the next connection.
-    fn accept(&self) -> io::Result<TcpStream> {
-        for _ in 0..u64::MAX {
-            match self.listener.accept() {
-                Ok((stream, _)) => return Ok(stream),
-                Err(error) if has_passed(&error) => {}
-                Err(error) => return Err(error),
-            }
-        }
-        Err(end_of_count())
-    }
+            .is_some_and(|code| TRANSIENT.contains(&code))
 }

@@ -5,7 +5,7 @@ ghost use Rattle.vod_base.specs.Links.{IsWithin};
 
 use crate::faults::{Faults, end_of_count};
 use crate::gathers::Gathered;
-use crate::slots::{rest_of_slot, slot_at};
+use crate::slots::SlotClock;
 use mio::net::TcpStream;
 use mio::{Events, Interest, Poll, Token};
 use std::alloc::Global;
@@ -13,7 +13,7 @@ use std::io::{ErrorKind, Read, Write};
 use std::net::{Net, Shutdown};
 use std::time::{Clock, Duration, Instant};
 use std::{io, net};
-use vod_base::{Heard, Link, LinkFault, Opening};
+use vod_base::{Heard, Link, LinkFault};
 
 /// For how many seconds a peer may take nothing of the bytes that wait for it.
 const PATIENCE: u64 = 60;
@@ -24,38 +24,6 @@ const RETRY: u64 = 1;
 
 /// For how many seconds a connection that was given back waits for its peer to end.
 const LINGER: u64 = 1;
-
-/// The clock of a gate's slots: when slot 0 began, and a slot's length in 1/360,000 second.
-#[derive(Clone, Copy)]
-pub(crate) struct SlotClock {
-    pub(crate) opened: Instant,
-    pub(crate) slot_units: u32,
-}
-
-impl SlotClock {
-    /// A clock whose slot 0 begins now.
-    pub(crate) fn start<R: Clock>(rt: &R, how: &Opening) -> io::Result<SlotClock> {
-        Ok(SlotClock {
-            opened: Instant::now(rt)?,
-            slot_units: how.slot_units,
-        })
-    }
-
-    /// The time since slot 0 began.
-    fn elapsed<R: Clock>(&self, rt: &R) -> io::Result<Duration> {
-        self.opened.elapsed(rt)
-    }
-
-    /// The slot by the clock.
-    fn slot<R: Clock>(&self, rt: &R) -> io::Result<u64> {
-        Ok(slot_at(self.elapsed(rt)?, self.slot_units.max(1)))
-    }
-
-    /// How long the slot by the clock still lasts.
-    fn rest_of_slot<R: Clock>(&self, rt: &R) -> io::Result<Duration> {
-        Ok(rest_of_slot(self.elapsed(rt)?, self.slot_units.max(1)))
-    }
-}
 
 /// A connection over TCP. What is sent is gathered, and leaves when the gathered bytes are many and
 /// at the next wait.
