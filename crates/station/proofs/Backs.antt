@@ -29,7 +29,8 @@ pub back_seat : {taken back : PassState} {seat : SeatState} (p : PassState) (old
     → back ≡ record taken { seen = new.entries; mine = made_by taken.number new.entries }
     → seat_of back ≡ seat_after seat new
 back_seat {taken} {back} p old new v t n =
-    ap seat_of n ∙ (ap (λ (x : PassState). seat_of (record x { seen = new.entries; mine = made_by x.number new.entries })) t
+    ap seat_of n ∙ (ap (λ (x : PassState). seat_of
+    (record x { seen = new.entries; mine = made_by x.number new.entries })) t
     ∙ ap (λ (s : SeatState). seat_after s new) v)
 
 pub back_at : {seat : SeatState} {old : Journal} (p : PassState) → seat_of p ≡ seat → IsPrefix p.seen old.entries
@@ -111,7 +112,8 @@ pub record HasGivenBack (taken back : PassState) (old lent last new : Journal) :
 
 pub visit : {taken back : PassState} {seat : SeatState} {lent old last new : Journal} {maker : ℕ} (p : PassState)
     → seat_of p ≡ seat
-    → HasTakenTurn p taken old → HasGivenBack taken back old lent last new → maker ≡ p.number → IsVisit seat back lent new maker
+    → HasTakenTurn p taken old → HasGivenBack taken back old lent last new → maker ≡ p.number
+    → IsVisit seat back lent new maker
 visit {taken} {seat} {old} {new} p v turn given maker_is = record {
   at = subst (IsAt seat) (sym given.lent_is) (back_at p v turn.longer turn.own turn.terms);
   back_is = back_seat p old new v turn.pass
@@ -120,9 +122,11 @@ visit {taken} {seat} {old} {new} p v turn given maker_is = record {
   maker_is = maker_is ∙ ap (λ (s : SeatState). s.number) v;
 }
 
-pub visit_same : {seat : SeatState} {back : PassState} {lent new : Journal} {maker : ℕ} → IsVisit seat back lent new maker
+pub visit_same : {seat : SeatState} {back : PassState} {lent new : Journal} {maker : ℕ}
+    → IsVisit seat back lent new maker
     → IsPrefix lent.entries new.entries → IsSameSeat seat (seat_of back)
-visit_same {seat} {back} {lent} {new} is longer = subst (IsSameSeat seat) (sym is.back_is) (same_after seat lent new is.at longer)
+visit_same {seat} {back} {lent} {new} is longer = subst (IsSameSeat seat) (sym is.back_is)
+    (same_after seat lent new is.at longer)
 
 pub visit_made : {seat : SeatState} {back : PassState} {lent new : Journal} {maker more : ℕ} {command : Command}
     {place : ℕ} {answer : Answer} → IsVisit seat back lent new maker
@@ -137,7 +141,8 @@ pub visit_open : {seat : SeatState} {back : PassState} {lent new : Journal} {mak
     → keep ≤ total_bytes plan → IsOpenAmong back.mine number keep
 visit_open {back} {lent} {new} {number} {start} {keep} heard plan is e small =
     subst (λ (s : SeatState). IsOpenAmong s.mine number keep) (sym is.back_is)
-    (play_open heard plan (subst (λ k. IsEntered lent new k 2 (play_of heard plan) number (Admitted start)) is.maker_is e) small)
+    (play_open heard plan
+    (subst (λ k. IsEntered lent new k 2 (play_of heard plan) number (Admitted start)) is.maker_is e) small)
 
 pub visit_refused : {seat : SeatState} {back : PassState} {lent new : Journal} {maker : ℕ} (heard : ℕ)
     (plan : List Segment) (why : PlayRefused) → IsVisit seat back lent new maker

@@ -19,17 +19,19 @@ use Rattle.station.specs.declared.answers.PlayRefused.TheVariants.{JournalFull, 
 use Rattle.station.specs.Answers.{IsFull, IsSeatRefused, HasMade}
 use Rattle.station.specs.Ledgers.{IsEntered, IsFullFor, IsPlayRefused}
 use Rattle.station.specs.Seats.{SeatState}
-use Rattle.station.proofs.Halts.{halts-push}
+use Rattle.station.proofs.Halts.{halts_push}
 
 -- an entry keeps each play halted by its own maker
-pub halts-noted : {old new : Journal} {maker : ℕ} {command : Command} {noted : Noted} → IsNoted old maker command noted new
+pub halts_noted : {old new : Journal} {maker : ℕ} {command : Command} {noted : Noted}
+    → IsNoted old maker command noted new
     → AreHaltsOwn old.entries
     → ((number keep : ℕ) (none : Entry) → command ≡ Halt number keep → maker ≡ (get_or old.entries number none).maker)
     → AreHaltsOwn new.entries
-halts-noted {old} {new} {maker} {command} {noted} e own mine =
+halts_noted {old} {new} {maker} {command} {noted} e own mine =
     let last : Entry = record { maker = maker; command = command; answer = noted.answer } in
     let entries : new.entries ≡ old.entries ++ last ∷ [] = ap (λ (j : Journal). j.entries) e.journal_is in
-    subst AreHaltsOwn (sym entries) (halts-push new.steps old.entries last (subst (IsLegal new.steps) entries e.legal) own mine)
+    subst AreHaltsOwn (sym entries)
+    (halts_push record { legal = subst (IsLegal new.steps) entries e.legal; own = own; last = mine })
 
 -- a maker's call at the book that halts nothing
 pub record HaltlessCall : Type 0 where
@@ -40,12 +42,12 @@ pub record HaltlessCall : Type 0 where
   pub no_halt : is_halt command ≡ false
 
 -- so does such a call, with or without an entry
-pub halts-told : {E : Type 0} (r : Result Noted E) (call : HaltlessCall)
+pub halts_told : {E : Type 0} (r : Result Noted E) (call : HaltlessCall)
     → IfOk r (λ noted. IsNoted call.old call.maker call.command noted call.new) → OnErr r (call.new ≡ call.old)
     → AreHaltsOwn call.old.entries → AreHaltsOwn call.new.entries
-halts-told (Ok noted) call is left own = halts-noted is own
+halts_told (Ok noted) call is left own = halts_noted is own
     (λ number keep none e. absurd (true≢false (sym (ap is_halt e) ∙ call.no_halt)))
-halts-told (Err why) call is left own = subst (λ (j : Journal). AreHaltsOwn j.entries) (sym left) own
+halts_told (Err why) call is left own = subst (λ (j : Journal). AreHaltsOwn j.entries) (sym left) own
 
 -- a seat at a book that begins with what it has seen
 pub record IsAt (seat : SeatState) (book : Journal) : Type 0 where
@@ -60,17 +62,21 @@ seat_after seat book = record seat { seen = book.entries; mine = made_by seat.nu
 
 pub entry_made : {seat : SeatState} {old new : Journal} {more : ℕ} {command : Command} {place : ℕ} {answer : Answer}
     → IsAt seat old
-    → IsEntered old new seat.number more command place answer → HasMade seat (seat_after seat new) more command place answer
+    → IsEntered old new seat.number more command place answer
+    → HasMade seat (seat_after seat new) more command place answer
 entry_made {seat} {old} {new} {more} {command} {place} {answer} at e =
     let last : Entry = record { maker = seat.number; command = command; answer = answer } in
-    let entries : new.entries ≡ old.entries ++ last ∷ [] = ap (λ (j : Journal). j.entries) e.noted.journal_is in record {
+    let entries : new.entries ≡ old.entries ++ last ∷ [] =
+    ap (λ (j : Journal). j.entries) e.noted.journal_is in record {
       before = old.entries;
       place_is = e.noted.place_is;
       seen = entries;
-      answer_is = subst (λ (s : List CapacityStep). IsAnswer s (state_after old.entries) command answer) at.steps e.noted.answer_is;
+      answer_is = subst (λ (s : List CapacityStep). IsAnswer s (state_after old.entries) command answer) at.steps
+          e.noted.answer_is;
       mine = ap (made_by seat.number) entries ∙ (made_own seat.number old.entries last refl
           ∙ (ap (λ (xs : List Placed). xs ++ record { place = length old.entries; entry = last } ∷ []) (sym at.own)
-          ∙ ap (λ (k : ℕ). let p : Placed = record { place = k; entry = last } in seat.mine ++ p ∷ []) (sym e.noted.place_is)));
+          ∙ ap (λ (k : ℕ). let p : Placed = record { place = k; entry = last } in seat.mine ++ p ∷ [])
+          (sym e.noted.place_is)));
       room = (let r = e.room in let l = at.limit in omega arith);
     }
 

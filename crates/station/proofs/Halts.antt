@@ -12,17 +12,23 @@ use Rattle.admission.specs.Histories.{Halts, IsHalt, IsLegal}
 use Rattle.admission.specs.Makers.{AreHaltsOwn, Placed, Admits, IsOpenAmong}
 use Rattle.admission.proofs.Opens.{halt-later}
 
--- an entry that halts a play of its own maker leaves the history so, and so does one that halts none
-pub halts-push : (steps : List CapacityStep) (xs : List Entry) (e : Entry) → IsLegal steps (xs ++ e ∷ []) → AreHaltsOwn xs
-    → ((number keep : ℕ) (none : Entry) → e.command ≡ Halt number keep → e.maker ≡ (get_or xs number none).maker)
+-- one more entry of a legal history, which halts a play of its own maker, or none
+pub record IsOwnNext (steps : List CapacityStep) (xs : List Entry) (e : Entry) : Type 0 where
+  pub legal : IsLegal steps (xs ++ e ∷ [])
+  pub own : AreHaltsOwn xs
+  pub last : (number keep : ℕ) (none : Entry) → e.command ≡ Halt number keep → e.maker ≡ (get_or xs number none).maker
+
+-- it leaves each play halted by its own maker
+pub halts_push : {steps : List CapacityStep} {xs : List Entry} {e : Entry} → IsOwnNext steps xs e
     → AreHaltsOwn (xs ++ e ∷ [])
-halts-push steps xs e legal own last = record {
+halts_push {steps} {xs} {e} next = record {
   each = λ i number keep none halt.
-      let earlier : number < i = halt-later legal halt in
+      let earlier : number < i = halt-later next.legal halt in
       let inside = halt.inside in
       let long : length (xs ++ e ∷ []) ≡ length xs + 1 = length-append xs (e ∷ []) in
       let front : number < length xs = omega arith in
-      let old : get_or (xs ++ e ∷ []) number none ≡ get_or xs number none = get_or_append_left xs (e ∷ []) none number front in
+      let old : get_or (xs ++ e ∷ []) number none ≡ get_or xs number none =
+      get_or_append_left xs (e ∷ []) none number front in
       dite (dec_le (suc i) (length xs))
       (λ (within : suc i ≤ length xs).
       let here : i < length xs = omega arith in
@@ -33,19 +39,19 @@ halts-push steps xs e legal own last = record {
             λ d. ap (λ (z : Entry). z.command) (sym (get_or_append_left xs (e ∷ []) d i here)) ∙ halt.command_is d;
       } in
       ap (λ (z : Entry). z.maker) (get_or_append_left xs (e ∷ []) none i here)
-      ∙ (own.each i number keep none before ∙ ap (λ (z : Entry). z.maker) (sym old)))
+      ∙ (next.own.each i number keep none before ∙ ap (λ (z : Entry). z.maker) (sym old)))
       (λ outside.
       let at : length xs ≡ i = omega arith in
       let is : get_or (xs ++ e ∷ []) i none ≡ e = get_or_push xs e none i at in
       ap (λ (z : Entry). z.maker) is
-      ∙ (last number keep none (ap (λ (z : Entry). z.command) (sym is) ∙ halt.command_is none)
+      ∙ (next.last number keep none (ap (λ (z : Entry). z.command) (sym is) ∙ halt.command_is none)
       ∙ ap (λ (z : Entry). z.maker) (sym old)));
 }
 
 -- what is open stays open while its maker halts other plays alone
-pub open-push : (mine : List Placed) (m : Placed) (number keep : ℕ) → (Halts number m.entry.command → ⊥)
+pub open_push : (mine : List Placed) (m : Placed) (number keep : ℕ) → (Halts number m.entry.command → ⊥)
     → IsOpenAmong mine number keep → IsOpenAmong (mine ++ m ∷ []) number keep
-open-push mine m number keep other o = record {
+open_push mine m number keep other o = record {
   start = o.start;
   segments = o.segments;
   index = o.index;

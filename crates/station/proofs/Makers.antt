@@ -13,9 +13,9 @@ pub record IsAt (place maker : ℕ) (d : Entry) (xs : List Entry) (p : Placed) :
   pub entry_is : p.entry ≡ get_or xs at d
   pub maker_is : (get_or xs at d).maker ≡ maker
 
-pub all-at : (place maker : ℕ) (d : Entry) (xs : List Entry) → All (IsAt place maker d xs) (made_from place maker xs)
-all-at place maker d [] = All-nil (IsAt place maker d [])
-all-at place maker d (e ∷ rest) =
+pub all_at : (place maker : ℕ) (d : Entry) (xs : List Entry) → All (IsAt place maker d xs) (made_from place maker xs)
+all_at place maker d [] = All-nil (IsAt place maker d [])
+all_at place maker d (e ∷ rest) =
     let P = IsAt place maker d (e ∷ rest) in
     let here : Placed = record { place = place; entry = e } in
     let more : List Placed = made_from (place + 1) maker rest in
@@ -28,7 +28,7 @@ all-at place maker d (e ∷ rest) =
       place_is = omega (arith, h.place_is);
       maker_is = h.maker_is;
     }) more
-    (all-at (place + 1) maker d rest) in
+    (all_at (place + 1) maker d rest) in
     elim (cases_Bool (eqb e.maker maker)) [
       | inl his ↦ (
           let first : P here =
@@ -44,10 +44,10 @@ all-at place maker d (e ∷ rest) =
       | inr other ↦ subst (All P) (sym (cond-false (eqb e.maker maker) (here ∷ more) more other)) later
     ]
 
-pub maker-of : (xs : List Entry) (maker number keep : ℕ) (d : Entry)
+pub maker_of : (xs : List Entry) (maker number keep : ℕ) (d : Entry)
     → IsOpenAmong (made_by maker xs) number keep → (get_or xs number d).maker ≡ maker
-maker-of xs maker number keep d o =
+maker_of xs maker number keep d o =
     let none : Placed = record { place = 0; entry = d } in
-    let h = all-at 0 maker d xs o.index none o.inside in
+    let h = all_at 0 maker d xs o.index none o.inside in
     let at : h.at ≡ number = omega (arith, h.place_is, (o.admission none).place_is) in
     ap (λ (k : ℕ). (get_or xs k d).maker) (sym at) ∙ h.maker_is

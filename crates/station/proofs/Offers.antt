@@ -6,9 +6,9 @@ use Rattle.early_start.specs.declared.Tried.{Tried}
 use Rattle.early_start.specs.Offered.{CanStart, IsOffer, IsStart, Offers}
 
 -- where another start than the first is found, or none, a start was tried
-some-tried : {from : ℕ} {booked capacity : ℕ → ℕ} {segments : List Segment} {first : ℕ} {found : Offers}
+some_tried : {from : ℕ} {booked capacity : ℕ → ℕ} {segments : List Segment} {first : ℕ} {found : Offers}
     → IsOffer from booked capacity segments first found → (found.start ≡ Some first → ⊥) → 0 < length found.tried
-some-tried {from} {booked} {capacity} {segments} {first} {found} offer other =
+some_tried {from} {booked} {capacity} {segments} {first} {found} offer other =
     tried found.start (length found.tried) offer.start other
   where
     tried : (start : Option ℕ) (n : ℕ) → IsStart (CanStart from booked capacity segments) first found.wait n start
@@ -18,11 +18,12 @@ some-tried {from} {booked} {capacity} {segments} {first} {found} offer other =
     tried (Some s) (suc n) is other = omega arith
 
 -- then the first of them is the offer's first start, and its slot the first without room
-pub first-refusal : {from : ℕ} {booked capacity : ℕ → ℕ} {segments : List Segment} {first : ℕ} {found : Offers} (none : Tried)
+pub first_refusal : {from : ℕ} {booked capacity : ℕ → ℕ} {segments : List Segment} {first : ℕ} {found : Offers}
+    (none : Tried)
     → IsOffer from booked capacity segments first found → (found.start ≡ Some first → ⊥)
     → IsFirstOverflow from booked capacity first segments (get_or found.tried 0 none).over
-first-refusal {from} {booked} {capacity} {segments} {first} {found} none is other =
-    let some = some-tried is other in
+first_refusal {from} {booked} {capacity} {segments} {first} {found} none is other =
+    let some = some_tried is other in
     let at : (get_or found.tried 0 none).start ≡ first = is.refusals.starts 0 none some ∙ omega arith in
     subst (λ (b : ℕ). IsFirstOverflow from booked capacity b segments
     (get_or found.tried 0 none).over) at (is.refusals.refused 0 none some)

@@ -14,13 +14,13 @@ use Rattle.admission.proofs.Makers.{halt_is}
 use Rattle.admission.proofs.Opens.{halt-later}
 use Rattle.turnstile.proofs.Prefixes.{made_own}
 use Rattle.station.specs.Ledgers.{IsEntered, play_of}
-use Rattle.station.proofs.Makers.{IsAt, all-at}
+use Rattle.station.proofs.Makers.{IsAt, all_at}
 
 -- no entry of a legal history halts a play that would come after it
-none-later : {steps : List CapacityStep} {xs : List Entry} {maker number : ℕ} {d : Entry} → IsLegal steps xs
+none_later : {steps : List CapacityStep} {xs : List Entry} {maker number : ℕ} {d : Entry} → IsLegal steps xs
     → length xs ≤ number + 1 → {p : Placed} → IsAt 0 maker d xs p
     → p.place < number → Halts number p.entry.command → ⊥
-none-later {steps} {xs} {number} {d} legal long {p} h before halts =
+none_later {steps} {xs} {number} {d} legal long {p} h before halts =
     let is = halt_is number p.entry.command halts in
     let halt : IsHalt xs h.at number is.0 = record {
       inside = h.inside;
@@ -41,7 +41,8 @@ play_open {new} {maker} {number} {start} {keep} {old} heard plan e small =
     let place : number ≡ length old.entries = e.noted.place_is in
     let long = length-append old.entries (last ∷ []) in
     let more = length-append mine (p ∷ []) in
-    let made : made_by maker new.entries ≡ mine ++ p ∷ [] = ap (made_by maker) entries ∙ made_own maker old.entries last refl in
+    let made : made_by maker new.entries ≡ mine ++ p ∷ [] = ap (made_by maker) entries
+    ∙ made_own maker old.entries last refl in
     subst (λ (xs : List Placed). IsOpenAmong xs number keep) (sym made) record {
       start = start;
       segments = plan;
@@ -51,14 +52,15 @@ play_open {new} {maker} {number} {start} {keep} {old} heard plan e small =
           (sym (get_or_push mine p none (length mine) refl)) record { place_is = sym place; admitted = refl };
       unhalted = All-push (λ (q : Placed). Halts number q.entry.command → ⊥) mine p
           (All-weaker (IsAt 0 maker last old.entries) (λ (q : Placed). Halts number q.entry.command → ⊥)
-          (λ q h. none-later legal (omega arith) record {
+          (λ q h. none_later legal (omega arith) record {
             at = h.at;
             inside = (let i = h.inside in omega arith);
             place_is = h.place_is;
             entry_is = h.entry_is ∙ sym (get_or_append_left old.entries (last ∷ []) last h.at h.inside);
-            maker_is = ap (λ (z : Entry). z.maker) (get_or_append_left old.entries (last ∷ []) last h.at h.inside) ∙ h.maker_is;
+            maker_is = ap (λ (z : Entry). z.maker) (get_or_append_left old.entries (last ∷ []) last h.at h.inside)
+                ∙ h.maker_is;
           } (let i = h.inside in let w = h.place_is in omega arith))
-          mine (all-at 0 maker last old.entries))
+          mine (all_at 0 maker last old.entries))
           (λ halts. absurd halts);
       small = small;
     }

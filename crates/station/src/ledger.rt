@@ -57,6 +57,7 @@ impl Ledger {
         ensures legal { IsLegal self.now.steps self.now.entries }
         ensures halts { AreHaltsOwn self.now.entries }
     {
+        // the call tells that the history is legal
         let _entries = self.book.entries();
     }
 
@@ -109,6 +110,7 @@ impl Ledger {
         ensures { IsEntered self.old self.new maker 0 (Command.Halt number keep) result
             Answer.Halted }
     {
+        // the call tells that the history is legal, in which an open play is its maker's own
         let _entries = self.book.entries();
         law_own_play();
         self.book.halt(maker, number, keep).place

@@ -41,6 +41,7 @@ impl Seat {
     pub fn holds(&self)
         ensures kept { IsSeat self.now }
     {
+        // a body that uses a field knows what its type keeps
         let _number = self.pass.number();
     }
 }

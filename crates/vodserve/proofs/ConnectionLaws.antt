@@ -12,7 +12,7 @@ use Rattle.session.specs.declared.notes.Receipt.{Receipt}
 use Rattle.session.specs.declared.notes.Receipt.TheVariants.{Entry as EntryReceipt, Full as FullReceipt}
 use Rattle.session.specs.declared.settings.Settings.{Settings}
 use Rattle.station.specs.Seats.{SeatState}
-use Rattle.station.proofs.Makers.{IsAt, all-at}
+use Rattle.station.proofs.Makers.{IsAt, all_at}
 use Rattle.turnstile.proofs.Prefixes.{prefix_self, prefix_trans}
 use Rattle.conn.specs.Agreement.{Agrees, AgreesIfTold, Visit, visit}
 use Rattle.conn.specs.Journals.{Terms, terms_of}
@@ -69,7 +69,7 @@ made_receipts : (journal : List Entry) (seat : ℕ) → All (IsReceiptIn journal
 made_receipts journal seat =
     All-map (IsReceiptIn journal seat) receipt_for (made_by seat journal)
     (λ i d inside. receipt_in journal seat (slice_index_or (made_by seat journal) i d)
-    (λ none. all-at 0 seat none journal i d inside))
+    (λ none. all_at 0 seat none journal i d inside))
 
 -- all receipts of reports
 told_receipts : (journal : List Entry) (seat : ℕ) (reports : List ConnReport) →

@@ -1,15 +1,15 @@
 use Rattle.turnstile.proofs.Prefixes.{prefix_trans}
-use Rattle.station.proofs.Grown.{prefix-at, prefix-made, prefix-take}
+use Rattle.station.proofs.Grown.{prefix_at, prefix_made, prefix_take}
 use Rattle.station.proofs.laws.law_longer_journal.Goals as goal
 
 pub returns-clause-entries : goal.returns-clause-entries
-returns-clause-entries c = prefix-at
+returns-clause-entries c = prefix_at
 
 pub returns-clause-fronts : goal.returns-clause-fronts
-returns-clause-fronts c = prefix-take
+returns-clause-fronts c = prefix_take
 
 pub returns-clause-makers : goal.returns-clause-makers
-returns-clause-makers c = prefix-made
+returns-clause-makers c = prefix_made
 
 pub returns-clause-trans : goal.returns-clause-trans
 returns-clause-trans c = prefix_trans

@@ -2,7 +2,7 @@ use Rattle.std.proofs.Common.{ℕ, get_or, subst, sym, ◌∙◌}
 use Rattle.slot_calendar.specs.Calendars.{IsFirstOverflow}
 use Rattle.slot_calendar.specs.Profiles.{capacity_at}
 use Rattle.admission.specs.Histories.{booked_after}
-use Rattle.station.proofs.Offers.{first-refusal}
+use Rattle.station.proofs.Offers.{first_refusal}
 use Rattle.station.proofs.laws.law_offer_told.Goals as goal
 
 pub returns-clause-first : goal.returns-clause-first
@@ -19,4 +19,4 @@ pub returns-clause-refused : goal.returns-clause-refused
 returns-clause-refused c = λ steps entries heard plan told found none is other.
     subst (λ (b : ℕ). IsFirstOverflow 0 (booked_after entries) (capacity_at steps) b plan
     (get_or found.tried 0 none).over) is.first_is
-    (first-refusal none is.offer other)
+    (first_refusal none is.offer other)

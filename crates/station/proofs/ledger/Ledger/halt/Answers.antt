@@ -3,8 +3,8 @@ use Rattle.admission.specs.Books.{Journal}
 use Rattle.admission.specs.declared.entries.Command.{Command}
 use Rattle.admission.specs.declared.entries.Command.TheVariants.{Halt, Look, Play}
 use Rattle.admission.specs.Makers.{IsOpenAmong, made_by}
-use Rattle.station.proofs.Entered.{halts-noted}
-use Rattle.station.proofs.Makers.{maker-of}
+use Rattle.station.proofs.Entered.{halts_noted}
+use Rattle.station.proofs.Makers.{maker_of}
 use Rattle.station.proofs.ledger.Ledger.halt.Goals as goal
 
 abbrev halted_or : ℕ → Command → ℕ
@@ -23,6 +23,6 @@ pub invariant_of-self : goal.invariant_of-self
 invariant_of-self c =
     let open_ = subst (λ (j : Journal). IsOpenAmong (made_by c.args.maker j.entries) c.args.number c.args.keep)
     (sym c.self.view_is) c.requires in
-    halts-noted c.halt.ensures.noted c.self.invariant
-    (λ number keep none e. sym (maker-of c.self.inside.book.entries c.args.maker c.args.number c.args.keep none open_)
+    halts_noted c.halt.ensures.noted c.self.invariant
+    (λ number keep none e. sym (maker_of c.self.inside.book.entries c.args.maker c.args.number c.args.keep none open_)
     ∙ ap (λ (k : ℕ). (get_or c.self.inside.book.entries k none).maker) (ap (halted_or 0) e))

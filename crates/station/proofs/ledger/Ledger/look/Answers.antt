@@ -1,7 +1,7 @@
 use Rattle.std.proofs.Common.{refl, min, ◌^◌}
 use Rattle.admission.specs.declared.entries.Command.TheVariants.{Look}
 use Rattle.admission.specs.Makers.{AreHaltsOwn}
-use Rattle.station.proofs.Entered.{HaltlessCall, halts-told}
+use Rattle.station.proofs.Entered.{HaltlessCall, halts_told}
 use Rattle.station.proofs.ledger.Ledger.look.Goals as goal
 use Rattle.station.proofs.ledger.Ledger.look.Goals.{After-look}
 
@@ -14,7 +14,7 @@ told c =
       command = Look (min c.args.slot (2 ^ 62));
       no_halt = refl;
     } in
-    halts-told c.look.result call c.look.ensures.noted c.look.ensures.left c.self.invariant
+    halts_told c.look.result call c.look.ensures.noted c.look.ensures.left c.self.invariant
 
 pub invariant_of-self : goal.invariant_of-self
 invariant_of-self c = told (goal.at.invariant_of-self c).After-look

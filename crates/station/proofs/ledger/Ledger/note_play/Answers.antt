@@ -1,6 +1,6 @@
 use Rattle.std.proofs.Common.{refl, min, ◌^◌}
 use Rattle.admission.specs.declared.entries.Command.TheVariants.{Play}
-use Rattle.station.proofs.Entered.{HaltlessCall, halts-told}
+use Rattle.station.proofs.Entered.{HaltlessCall, halts_told}
 use Rattle.station.proofs.ledger.Ledger.note_play.Goals as goal
 
 pub invariant_of-self : goal.invariant_of-self
@@ -12,4 +12,4 @@ invariant_of-self c =
       command = Play (min c.args.heard (2 ^ 62)) c.args.plan;
       no_halt = refl;
     } in
-    halts-told c.play.result call c.play.ensures.noted c.play.ensures.left c.self.invariant
+    halts_told c.play.result call c.play.ensures.noted c.play.ensures.left c.self.invariant

@@ -14,7 +14,8 @@ use Rattle.station.proofs.ledger.Ledger.offer.Goals as goal
 
 pub returns-clause-offered : goal.returns-clause-offered
 returns-clause-offered c =
-    let book = c.self.inside.book in let cal = c.calendar-calendar.result.now in let seen = c.entries-entries.result.now in
+    let book = c.self.inside.book in let cal = c.calendar-calendar.result.now in
+    let seen = c.entries-entries.result.now in
     let told : Offered = record { seen = length seen; first = c.max-first.result + 1 } in
     let same : seen ≡ book.entries = c.entries-entries.ensures.value in
     let now : c.now.result ≡ (state_after book.entries).now = c.now.ensures.value ∙ c.calendar-calendar.ensures.now in
@@ -24,16 +25,19 @@ returns-clause-offered c =
     (take_all (length book.entries) book.entries (omega arith))
     (c.law_never_overbooked.ensures book.steps book.entries (length book.entries) t c.entries-entries.ensures.legal) in
     let within : (t : ℕ) → booked_by plays t ≤ capacity_at cal.steps t = λ t.
-    subst (λ (s : List CapacityStep). booked_by plays t ≤ capacity_at s t) (sym c.calendar-calendar.ensures.steps) (whole t) in
+    subst (λ (s : List CapacityStep). booked_by plays t ≤ capacity_at s t)
+    (sym c.calendar-calendar.ensures.steps) (whole t) in
     let later = c.max-first.ensures in let first = c.now.ensures.value in
     let offer : IsOffer 0 (booked_by plays) (capacity_at cal.steps) c.args.plan.now told.first c.find.new.self =
     c.law_offer_of_plays.ensures cal plays c.args.plan.now told.first c.find.new.self
     c.calendar-calendar.ensures.stands within (omega arith) c.find.ensures.offer in
-    subst (λ (j : Journal). IsOffered j.steps j.entries c.args.heard c.args.plan.now told c.find.new.self) c.self.view_is record {
+    subst (λ (j : Journal). IsOffered j.steps j.entries c.args.heard c.args.plan.now told c.find.new.self)
+    c.self.view_is record {
       seen_is = ap (λ (xs : List Entry). length xs) same;
       first_is = ap (λ (k : ℕ). k + 1)
           (c.max-first.ensures
-          ∙ (ap (λ (m : ℕ). max m c.min.result) now ∙ ap (λ (m : ℕ). max (state_after book.entries).now m) c.min.ensures));
+          ∙ (ap (λ (m : ℕ). max m c.min.result) now
+          ∙ ap (λ (m : ℕ). max (state_after book.entries).now m) c.min.ensures));
       offer = subst (λ (s : List CapacityStep). IsOffer 0 (booked_by plays) (capacity_at s) c.args.plan.now
           told.first c.find.new.self) c.calendar-calendar.ensures.steps offer;
     }

@@ -20,7 +20,11 @@ visited g c =
 pub returns-clause-same : goal.returns-clause-same
 returns-clause-same g c =
     let is = visited g (goal.at.returns-clause-same g c).After-leave in
-    let call : BookCall = record { old = c.value.result.now; new = c.look-told.new.self; maker = c.number-maker.result } in
+    let call : BookCall = record {
+      old = c.value.result.now;
+      new = c.look-told.new.self;
+      maker = c.number-maker.result;
+    } in
     visit_same is
     (look_longer c.look-told.result call c.args.slot c.look-told.ensures.made c.look-told.ensures.full)
 
@@ -30,7 +34,8 @@ returns-clause-made g c =
     IfOk-weaker c.look-told.result
     (λ l. IsEntered c.value.result.now c.look-told.new.self c.number-maker.result 1 (look_at c.args.slot)
     l.place (Looked l.now l.at l.booked))
-    (λ l. HasMade c.args.seat.now (seat_of c.leave.new.pass) 1 (look_at c.args.slot) l.place (Looked l.now l.at l.booked))
+    (λ l. HasMade c.args.seat.now (seat_of c.leave.new.pass) 1 (look_at c.args.slot) l.place
+    (Looked l.now l.at l.booked))
     (λ l e. visit_made is e)
     c.look-told.ensures.made
 

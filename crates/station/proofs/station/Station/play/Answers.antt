@@ -5,7 +5,8 @@ use Rattle.admission.specs.Makers.{IsOpenAmong}
 use Rattle.admission.specs.declared.entries.Answer.TheVariants.{Admitted}
 use Rattle.station.specs.Answers.{IsSeatRefused, HasMade}
 use Rattle.station.specs.Ledgers.{IsEntered, IsPlayRefused, play_of}
-use Rattle.station.proofs.Backs.{IsVisit, BookCall, play_longer, visit, visit_made, visit_open, visit_refused, visit_same}
+use Rattle.station.proofs.Backs.{IsVisit, BookCall, play_longer, visit, visit_made, visit_open, visit_refused}
+use Rattle.station.proofs.Backs.{visit_same}
 use Rattle.station.specs.Inside.{seat_of}
 use Rattle.station.proofs.station.Station.play.Goals as goal
 use Rattle.station.proofs.station.Station.play.Goals.{After-leave}
@@ -22,7 +23,11 @@ visited g c =
 pub returns-clause-same : goal.returns-clause-same
 returns-clause-same g c =
     let is = visited g (goal.at.returns-clause-same g c).After-leave in
-    let call : BookCall = record { old = c.value.result.now; new = c.play-told.new.self; maker = c.number-maker.result } in
+    let call : BookCall = record {
+      old = c.value.result.now;
+      new = c.play-told.new.self;
+      maker = c.number-maker.result;
+    } in
     visit_same is
     (play_longer c.play-told.result call c.args.heard c.args.plan c.play-told.ensures.made c.play-told.ensures.refused)
 
@@ -32,7 +37,8 @@ returns-clause-made g c =
     IfOk-weaker c.play-told.result
     (λ b. IsEntered c.value.result.now c.play-told.new.self c.number-maker.result 2
     (play_of c.args.heard c.args.plan) b.number (Admitted b.start))
-    (λ b. HasMade c.args.seat.now (seat_of c.leave.new.pass) 2 (play_of c.args.heard c.args.plan) b.number (Admitted b.start))
+    (λ b. HasMade c.args.seat.now (seat_of c.leave.new.pass) 2 (play_of c.args.heard c.args.plan) b.number
+    (Admitted b.start))
     (λ b e. visit_made is e)
     c.play-told.ensures.made
 
