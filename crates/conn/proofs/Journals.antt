@@ -18,7 +18,7 @@ use Rattle.station.specs.Answers.{IsFull, HasMade}
 use Rattle.station.specs.Ledgers.{IsOffered}
 use Rattle.station.specs.declared.answers.Offered.{Offered as Told}
 use Rattle.station.specs.Seats.{IsSameSeat, IsSeat, SeatState}
-use Rattle.station.proofs.Grown.{last-entry, last-place, prefix-at, prefix-take}
+use Rattle.station.proofs.Grown.{last_entry, last_place, prefix_at, prefix_take}
 use Rattle.conn.specs.Journals.{AgreeWith, IsFullIn, IsOfferedIn, StandsIn, Terms, entries_needed, terms_of}
 use Rattle.conn.specs.Turns.{Outcome, Unasked, Entered, WasFull, Offered}
 
@@ -76,10 +76,10 @@ stands_longer : {terms : Terms} {from : ℕ} {journal longer : List Entry} {plac
 stands_longer {from} {journal} {longer} {placed} prefix stands =
     let inside : placed.place ≤ length journal = omega (arith, stands.within) in
     let same : open_count (take placed.place longer) ≡ open_count (take placed.place journal) =
-    ap (λ (xs : List Entry). open_count xs) (prefix-take journal longer prefix placed.place inside) in record {
+    ap (λ (xs : List Entry). open_count xs) (prefix_take journal longer prefix placed.place inside) in record {
       after = stands.after;
       within = omega (arith, stands.within, prefix_length journal longer prefix);
-      entry = λ none. prefix-at journal longer prefix placed.place none stands.within ∙ stands.entry none;
+      entry = λ none. prefix_at journal longer prefix placed.place none stands.within ∙ stands.entry none;
       maker_is = stands.maker_is;
       room = omega (arith, stands.room, same);
     }
@@ -90,7 +90,7 @@ full_longer {from} {more} {entries} {journal} {longer} prefix full = record {
   after = full.after;
   within = omega (arith, full.within, prefix_length journal longer prefix);
   open_is = full.open_is ∙ ap (λ (xs : List Entry). open_count xs)
-      (sym (prefix-take journal longer prefix entries full.within));
+      (sym (prefix_take journal longer prefix entries full.within));
   full = full.full;
 }
 
@@ -99,7 +99,7 @@ offered_longer : {steps : List CapacityStep} {from slot : ℕ} {journal longer :
     → IsOfferedIn steps journal from slot note → IsOfferedIn steps longer from slot note
 offered_longer {steps} {from} {slot} {journal} {longer} {note} prefix offered =
     let same : take note.seen longer ≡ take note.seen journal =
-    prefix-take journal longer prefix note.seen offered.within in
+    prefix_take journal longer prefix note.seen offered.within in
     record {
       after = offered.after;
       within = omega (arith, offered.within, prefix_length journal longer prefix);
@@ -187,7 +187,7 @@ entry_after {seat} {next} {more} {command} {place} {answer} [] kept also number 
 entry_after {seat} {next} {more} {command} {place} {answer} (x ∷ xs) kept also number longer made =
     let all : length seat.seen + length (x ∷ xs) ≡ length next.seen =
     sym (length-append seat.seen (x ∷ xs)) ∙ ap (λ (es : List Entry). length es) longer in
-    omega (arith, all, last-place made)
+    omega (arith, all, last_place made)
 
 take_whole : (entries : List Entry) (n : ℕ) → n ≡ length entries → take n entries ≡ entries
 take_whole entries n is = take_all n entries (omega (arith, is))
@@ -201,15 +201,15 @@ pub entry_agrees : {seat next : SeatState} {more : ℕ} {command : Command} {pla
 entry_agrees {seat} {next} {more} {command} {place} {answer} kept also same made needed =
     let e : Entry = record { maker = seat.number; command = command; answer = answer } in
     let front : take place next.seen ≡ made.before =
-    prefix-take made.before next.seen (e ∷ [], sym made.seen) place (omega (arith, made.place_is))
+    prefix_take made.before next.seen (e ∷ [], sym made.seen) place (omega (arith, made.place_is))
     ∙ take_whole made.before place made.place_is in
     let open_is : open_count (take place next.seen) ≡ open_count made.before =
     ap (λ (xs : List Entry). open_count xs) front in
-    let last = last-place made in (
+    let last = last_place made in (
       record {
         after = entry_after same.longer.0 kept also same.number same.longer.1 made;
         within = omega (arith, last);
-        entry = λ none. last-entry made none;
+        entry = λ none. last_entry made none;
         maker_is = refl;
         room = omega (arith, made.room, made.place_is, open_is, needed);
       },

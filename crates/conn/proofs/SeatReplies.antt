@@ -17,7 +17,7 @@ use Rattle.slot_calendar.specs.Calendars.{IsFirstOverflow}
 use Rattle.slot_calendar.specs.Profiles.{capacity_at}
 use Rattle.slot_calendar.specs.declared.profiles.CapacityStep.{CapacityStep}
 use Rattle.station.specs.Seats.{IsSeat, SeatState}
-use Rattle.station.proofs.Makers.{IsAt, all-at}
+use Rattle.station.proofs.Makers.{IsAt, all_at}
 use Rattle.std.proofs.lemmas.Option.{slice_get-get_or}
 use Rattle.conn.specs.Turns.{Outcome, Unasked, Entered, WasFull, Offered, Part, Film, Text}
 use Rattle.conn.specs.Turns.{entry_in}
@@ -92,7 +92,7 @@ overflow_seen {seat} text own told =
     let its : Contains (made_by seat.number seat.seen) placed =
     subst (λ ps. Contains ps placed) is.own (entered_own placed own told.among) in
     let at = All-contains (IsAt 0 seat.number entry seat.seen) (made_by seat.number seat.seen) placed
-    (all-at 0 seat.number entry seat.seen) its in
+    (all_at 0 seat.number entry seat.seen) its in
     let same : at.at ≡ place = omega (arith, at.place_is) in
     let inside : place < length seat.seen = subst (λ k. k < length seat.seen) same at.inside in
     let entry_is : entry ≡ get_or seat.seen place entry =

@@ -57,7 +57,8 @@ stop_state : (stop : Stop) (waits : Bool) (setup : Setup) (slot : ℕ) →
     IsStopping setup stop (slot_pacing waits slot stop.pacer) (state_after_slot waits (Stopping setup stop) slot)
 stop_state stop waits setup slot =
     let p = stop.pacer in
-    stop_states stop waits (stands_at_boundary (after_step true slot p)) (after_step false slot (after_step true slot p))
+    stop_states stop waits (stands_at_boundary (after_step true slot p))
+    (after_step false slot (after_step true slot p))
     (after_step true slot p) (after_step false slot p)
 
 stop_film : (stop : Stop) (waits : Bool) (setup : Setup) (text : List ℕ) (slot : ℕ) →

@@ -183,7 +183,7 @@ full_told {new} made old more entries open_plays is =
     (told_full made more entries open_plays _)
 
 -- a halt leaves the reply
-halted_text : (old : Standing) (keep : ℕ) (outcome : Outcome) (new : Standing) → IsHalted old keep outcome new
+pub halted_text : (old : Standing) (keep : ℕ) (outcome : Outcome) (new : Standing) → IsHalted old keep outcome new
     → new.text ≡ old.text
 halted_text old keep Unasked new halted = absurd halted
 halted_text old keep (Entered placed) new halted = ap (λ (s : Standing). s.text) halted.halts

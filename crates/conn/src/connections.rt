@@ -214,14 +214,14 @@ impl<'a> Connection<'a> {
                 self.input.drop_front(count);
                 Taken::Gone
             }
-            Ok(Step::Message(length)) => self.take_whole(rt, station, seat, link, length),
+            Ok(Step::Message(length)) => self.take_request(rt, station, seat, link, length),
         }
     }
 
-    /// Takes up the request in front, which has this length, unless a reply waits, and sends the
+    /// Takes up the request in front, which has this length, unless a reply waits, and sends its
     /// reply where it can go out.
     #[tactic(auto, using(crate::proofs::Steps::count_steps))]
-    fn take_whole<R: Wait, K: Link>(
+    fn take_request<R: Wait, K: Link>(
         &mut self,
         rt: &R,
         station: &Station,
@@ -245,15 +245,15 @@ impl<'a> Connection<'a> {
         if self.session.waits() {
             return Taken::Waits;
         }
-        self.take_request(rt, station, seat, length);
+        self.answer_request(rt, station, seat, length);
         match self.session.reply(link) {
             Ok(()) => Taken::Gone,
             Err(_) => Taken::End(ConnEnd::LinkFault),
         }
     }
 
-    /// Takes up the request in front, which has this length.
-    fn take_request<R: Wait>(&mut self, rt: &R, station: &Station, seat: &mut Seat, length: usize)
+    /// Hears the request in front, which has this length, and asks the station what it asks for.
+    fn answer_request<R: Wait>(&mut self, rt: &R, station: &Station, seat: &mut Seat, length: usize)
         requires seat { seat.old.id ≡ station.now.id }
         requires quiet { IsQuiet seat.old.mine self.old }
         requires waits { self.old.session.waits ≡ false }

@@ -20,13 +20,7 @@ use session::{Notes, Settings};
 use station::{Seat, Station};
 use std::alloc::Global;
 use std::sync::Wait;
-use vod_base::Link;
-
-/// The most bytes that are heard at once.
-const MAX_HEARD: usize = 16_384;
-
-/// The most events of a connection.
-const MAX_EVENTS: u64 = 1 << 40;
+use vod_base::{Link, MAX_EVENTS, MAX_HEARD};
 
 /// Serves a connection from its first event to its end.
 ///

@@ -24,7 +24,7 @@ returns-in-Ok-Block-clause-cut g c =
 
 pub returns-in-Ok-Message-clause-cut : goal.returns-in-Ok-Message-clause-cut
 returns-in-Ok-Message-clause-cut g c =
-    subst (λ (i : List ℕ). CutsOn i c.take_whole.new.self.input) c.look.ensures.waiting c.take_whole.ensures.cut
+    subst (λ (i : List ℕ). CutsOn i c.take_request.new.self.input) c.look.ensures.waiting c.take_request.ensures.cut
 
 pub returns-in-Ok-More-clause-taken : goal.returns-in-Ok-More-clause-taken
 returns-in-Ok-More-clause-taken g c = (
@@ -35,8 +35,8 @@ returns-in-Ok-More-clause-taken g c = (
 
 pub returns-in-Ok-Message-clause-taken : goal.returns-in-Ok-Message-clause-taken
 returns-in-Ok-Message-clause-taken g c =
-    subst (λ (i : List ℕ). IsTaken c.take_whole.result (length i) c.take_whole.new.self) c.look.ensures.waiting
-    c.take_whole.ensures.taken
+    subst (λ (i : List ℕ). IsTaken c.take_request.result (length i) c.take_request.new.self) c.look.ensures.waiting
+    c.take_request.ensures.taken
 
 pub returns-in-Ok-More-clause-takes : goal.returns-in-Ok-More-clause-takes
 returns-in-Ok-More-clause-takes g c = (
@@ -77,21 +77,21 @@ returns-in-Ok-Block-clause-takes g c =
 
 pub returns-in-Ok-Message-clause-takes : goal.returns-in-Ok-Message-clause-takes
 returns-in-Ok-Message-clause-takes g c =
-    subst (λ (i : List ℕ). TakesNext c.take_whole.result
+    subst (λ (i : List ℕ). TakesNext c.take_request.result
     (sight (record c.args.self.now { input = i })
     (g.K.Link.told c.args.link.now) c.args.seat.now)
-    (sight c.take_whole.new.self (g.K.Link.told c.take_whole.new.link) c.take_whole.new.seat))
-    c.look.ensures.waiting c.take_whole.ensures.takes
+    (sight c.take_request.new.self (g.K.Link.told c.take_request.new.link) c.take_request.new.seat))
+    c.look.ensures.waiting c.take_request.ensures.takes
 
 pub returns-in-Ok-Message-clause-kept : goal.returns-in-Ok-Message-clause-kept
 returns-in-Ok-Message-clause-kept g c = record {
-  seat = c.take_whole.ensures.kept.seat;
-  quiet = c.take_whole.ensures.kept.quiet;
-  gone = c.take_whole.ensures.kept.gone;
+  seat = c.take_request.ensures.kept.seat;
+  quiet = c.take_request.ensures.kept.quiet;
+  gone = c.take_request.ensures.kept.gone;
 }
 
-pub take_whole-requires-clause-first : goal.take_whole-requires-clause-first
-take_whole-requires-clause-first g c =
+pub take_request-requires-clause-first : goal.take_request-requires-clause-first
+take_request-requires-clause-first g c =
     first_is c.in-Ok-Message.ensures.first c.look.ensures.waiting c.in-Ok-Message.field-0-is
 
 pub returns-in-Err-clause-takes : goal.returns-in-Err-clause-takes
@@ -166,4 +166,4 @@ pub returns-in-Ok-More-clause-counted : goal.returns-in-Ok-More-clause-counted
 returns-in-Ok-More-clause-counted g c = counted_none (g.K.Link.faults c.args.link.now)
 
 pub returns-in-Ok-Message-clause-counted : goal.returns-in-Ok-Message-clause-counted
-returns-in-Ok-Message-clause-counted g c = c.take_whole.ensures.counted
+returns-in-Ok-Message-clause-counted g c = c.take_request.ensures.counted

@@ -1,85 +1,83 @@
-use Rattle.std.proofs.Common.{List, ℕ, ap, length, refl, take, sym, subst}
-use Rattle.interleave.specs.Elements.{IsMessageLength}
-use Rattle.rtsp_text.proofs.Whole.{request-take}
-use Rattle.conn.specs.Keeping.{IsHeld}
-use Rattle.conn.proofs.Asking.{answered_none, asked_on}
-use Rattle.conn.proofs.Keeping.{kept_after, kept_none, kept_then}
+use Rattle.std.proofs.Common.{inl, inr, refl, rules, ◌∙◌}
+use Rattle.interleave.specs.declared.elements.Step.TheVariants.{Message}
+use Rattle.conn.specs.Sights.{sight}
+use Rattle.conn.proofs.Counting.{counted_fault, counted_none}
+use Rattle.rtsp_text.proofs.Whole.{fewer, some_request}
+use Rattle.conn.proofs.Cutting.{cuts_drop, cuts_none}
+use Rattle.conn.proofs.Keeping.{kept_none, kept_then}
+use Rattle.conn.proofs.Sighting.{lost_reply, stage_is, taken_reply}
 use Rattle.conn.proofs.connections.Connection.take_request.Goals as goal
 
-pub hear-ask-requires-clause-whole : goal.hear-ask-requires-clause-whole
-hear-ask-requires-clause-whole g c =
-    subst (λ (bytes : List ℕ). IsMessageLength (take c.args.length bytes) (length (take c.args.length bytes)))
-    (sym c.waiting_bytes.ensures)
-    (request-take c.args.self.now.input c.args.length c.requires.within c.requires.whole)
+pub returns-in-Ok-clause-cut : goal.returns-in-Ok-clause-cut
+returns-in-Ok-clause-cut g c =
+    cuts_drop (Message c.args.length) c.requires.first refl c.answer_request.ensures.input
 
-pub returns-in-Play-clause-kept : goal.returns-in-Play-clause-kept
-returns-in-Play-clause-kept g c =
-    kept_after {a = c.args.self.now}
-    {mid = record c.args.self.now { session = c.hear-ask.new.self; input = c.drop_front.new.self }}
-    refl c.hear-ask.ensures.same.receipts c.play.ensures.kept
+pub returns-in-Err-clause-cut : goal.returns-in-Err-clause-cut
+returns-in-Err-clause-cut g c =
+    cuts_drop (Message c.args.length) c.requires.first refl c.answer_request.ensures.input
 
-pub returns-in-Halt-clause-kept : goal.returns-in-Halt-clause-kept
-returns-in-Halt-clause-kept g c =
-    kept_after {a = c.args.self.now}
-    {mid = record c.args.self.now { session = c.hear-ask.new.self; input = c.drop_front.new.self }}
-    refl c.hear-ask.ensures.same.receipts c.halt.ensures.kept
+pub returns-then-waits-clause-taken : goal.returns-then-waits-clause-taken
+returns-then-waits-clause-taken g c =
+    (c.requires.torn, c.requires.lost, inr (c.args.length, (c.requires.first, search rules)))
 
-pub returns-in-Look-clause-kept : goal.returns-in-Look-clause-kept
-returns-in-Look-clause-kept g c =
-    kept_after {a = c.args.self.now}
-    {mid = record c.args.self.now { session = c.hear-ask.new.self; input = c.drop_front.new.self }}
-    refl c.hear-ask.ensures.same.receipts c.look.ensures.kept
+pub returns-then-waits-clause-takes : goal.returns-then-waits-clause-takes
+returns-then-waits-clause-takes g c =
+    (refl, record { torn = c.requires.torn; waits = inr (c.args.length, (c.requires.first, search rules)) })
 
-pub returns-in-Offer-clause-kept : goal.returns-in-Offer-clause-kept
-returns-in-Offer-clause-kept g c =
-    kept_after {a = c.args.self.now}
-    {mid = record c.args.self.now { session = c.hear-ask.new.self; input = c.drop_front.new.self }}
-    refl c.hear-ask.ensures.same.receipts c.offer.ensures.kept
+pub returns-in-Ok-clause-taken : goal.returns-in-Ok-clause-taken
+returns-in-Ok-clause-taken g c = (
+  c.in-Ok.ensures.kept ∙ c.answer_request.ensures.lost ∙ c.requires.lost,
+  fewer c.args.self.now.input c.answer_request.new.self.input c.args.length
+      (some_request c.args.self.now.input c.args.length c.requires.first.1) c.requires.first.2
+      c.answer_request.ensures.input,
+)
 
-pub returns-in-Reply-clause-kept : goal.returns-in-Reply-clause-kept
-returns-in-Reply-clause-kept g c =
-    kept_then {a = c.args.self.now} {mid = c.args.self.now}
-    {b = record c.args.self.now { session = c.hear-ask.new.self; input = c.drop_front.new.self }}
-    (kept_none c.args.seat.now c.args.self.now c.requires.quiet) c.in-Reply.ensures.asks.0 refl
-    c.hear-ask.ensures.same.booking c.hear-ask.ensures.same.receipts
+pub returns-in-Ok-clause-takes : goal.returns-in-Ok-clause-takes
+returns-in-Ok-clause-takes g c =
+    taken_reply {a = sight c.args.self.now (g.K.Link.told c.args.link.now) c.args.seat.now}
+    {b = sight (record c.answer_request.new.self { session = c.reply.new.self })
+    (g.K.Link.told c.reply.new.link) c.answer_request.new.seat}
+    {asked = c.answer_request.new.self.session} {n = c.args.length}
+    c.requires.first (search rules) c.requires.torn c.answer_request.ensures.heard
+    (stage_is c.in-Ok.ensures.exact c.answer_request.ensures.input) c.in-Ok.ensures.told
 
-pub returns-in-Play-clause-heard : goal.returns-in-Play-clause-heard
-returns-in-Play-clause-heard g c =
-    asked_on c.hear-ask.ensures.hears (ap (take c.args.length) c.waiting_bytes.ensures) c.in-Play.is c.play.ensures.answered
+pub returns-in-Err-clause-takes : goal.returns-in-Err-clause-takes
+returns-in-Err-clause-takes g c =
+    inl (
+      refl,
+      lost_reply {a = sight c.args.self.now (g.K.Link.told c.args.link.now) c.args.seat.now}
+          {b = sight (record c.answer_request.new.self { session = c.reply.new.self })
+          (g.K.Link.told c.reply.new.link) c.answer_request.new.seat} {asked = c.answer_request.new.self.session}
+          {n = c.args.length} (record {
+            first = c.requires.first;
+            replied = search rules;
+            torn = c.requires.torn;
+          }) c.answer_request.ensures.heard c.in-Err.ensures.can
+          (stage_is c.in-Err.ensures.failed c.answer_request.ensures.input) c.in-Err.ensures.front,
+    )
 
-pub play-requires-clause-held : goal.play-requires-clause-held
-play-requires-clause-held g c =
-    subst (IsHeld c.args.seat.now.mine c.args.self.now.booking)
-    (sym c.hear-ask.ensures.same.booking) c.requires.quiet.held
+pub returns-then-waits-clause-kept : goal.returns-then-waits-clause-kept
+returns-then-waits-clause-kept g c = kept_none c.args.seat.now c.args.self.now c.requires.quiet
 
-pub returns-in-Halt-clause-heard : goal.returns-in-Halt-clause-heard
-returns-in-Halt-clause-heard g c =
-    asked_on c.hear-ask.ensures.hears (ap (take c.args.length) c.waiting_bytes.ensures) c.in-Halt.is c.halt.ensures.answered
+pub returns-in-Ok-clause-kept : goal.returns-in-Ok-clause-kept
+returns-in-Ok-clause-kept g c =
+    kept_then {a = c.args.self.now} {mid = c.answer_request.new.self}
+    {b = record c.answer_request.new.self { session = c.reply.new.self }}
+    c.answer_request.ensures.kept c.reply.ensures.rest refl c.reply.ensures.open c.reply.ensures.receipts
 
-pub halt-requires-clause-held : goal.halt-requires-clause-held
-halt-requires-clause-held g c =
-    subst (IsHeld c.args.seat.now.mine c.args.self.now.booking)
-    (sym c.hear-ask.ensures.same.booking) c.requires.quiet.held
+pub returns-in-Err-clause-kept : goal.returns-in-Err-clause-kept
+returns-in-Err-clause-kept g c =
+    kept_then {a = c.args.self.now} {mid = c.answer_request.new.self}
+    {b = record c.answer_request.new.self { session = c.reply.new.self }}
+    c.answer_request.ensures.kept c.reply.ensures.rest refl c.reply.ensures.open c.reply.ensures.receipts
 
-pub returns-in-Look-clause-heard : goal.returns-in-Look-clause-heard
-returns-in-Look-clause-heard g c =
-    asked_on c.hear-ask.ensures.hears (ap (take c.args.length) c.waiting_bytes.ensures) c.in-Look.is c.look.ensures.answered
+pub returns-then-waits-clause-cut : goal.returns-then-waits-clause-cut
+returns-then-waits-clause-cut g c = cuts_none c.args.self.now.input
 
-pub look-requires-clause-held : goal.look-requires-clause-held
-look-requires-clause-held g c =
-    subst (IsHeld c.args.seat.now.mine c.args.self.now.booking)
-    (sym c.hear-ask.ensures.same.booking) c.requires.quiet.held
+pub returns-then-waits-clause-counted : goal.returns-then-waits-clause-counted
+returns-then-waits-clause-counted g c = counted_none (g.K.Link.faults c.args.link.now)
 
-pub returns-in-Offer-clause-heard : goal.returns-in-Offer-clause-heard
-returns-in-Offer-clause-heard g c =
-    asked_on c.hear-ask.ensures.hears (ap (take c.args.length) c.waiting_bytes.ensures) c.in-Offer.is c.offer.ensures.answered
-
-pub offer-requires-clause-held : goal.offer-requires-clause-held
-offer-requires-clause-held g c =
-    subst (IsHeld c.args.seat.now.mine c.args.self.now.booking)
-    (sym c.hear-ask.ensures.same.booking) c.requires.quiet.held
-
-pub returns-in-Reply-clause-heard : goal.returns-in-Reply-clause-heard
-returns-in-Reply-clause-heard g c =
-    asked_on c.hear-ask.ensures.hears (ap (take c.args.length) c.waiting_bytes.ensures) c.in-Reply.is
-    (answered_none c.hear-ask.new.self c.args.seat.now)
+pub returns-in-Err-clause-counted : goal.returns-in-Err-clause-counted
+returns-in-Err-clause-counted g c =
+    counted_fault (g.K.Link.faults c.args.link.now) (g.K.Link.faults c.reply.new.link) c.reply.ensures.count
+    c.in-Err.ensures.fault
