@@ -27,10 +27,10 @@ pub mod SlotCounts
 mod PlayEnds
 mod Offers
 mod Looks
-mod Endings
+pub mod Endings
 pub mod PlayHeard
 pub mod SetupHeard
 pub mod WholeAsked
 mod ReplyTexts
-mod WholeReplies
+pub mod WholeReplies
 mod Words
