@@ -172,8 +172,8 @@ fn open_port<R: Net<Listener = TcpListener, Stream = TcpStream> + Clock>(
 /// EOPNOTSUPP and EHOSTDOWN. Linux's accept(2) says to try again after each.
 const TRANSIENT: [i32; 6] = [1, 64, 71, 92, 95, 112];
 
-/// Whether an `accept` that failed so is to be tried again: it failed for a signal, for a connection
-/// that ended before it was taken, or for the network of that connection.
+/// Whether an `accept` that failed so is to be tried again: it failed for a signal, for a
+/// connection that ended before it was taken, or for the network of that connection.
 fn is_transient(error: &io::Error) -> bool {
     let of_kind = matches!(
         error.kind(),

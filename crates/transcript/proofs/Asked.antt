@@ -22,25 +22,27 @@ use Rattle.session.specs.declared.states.StreamSource.{StreamSource}
 use Rattle.session.specs.Playing.{IsPlayable, playback_of as session_playback}
 use Rattle.transcript.specs.Played.{IsSetUpFor, playback_of, whole_run}
 
-pub playback-same : (a b : Playback) → a.picture_units ≡ b.picture_units → a.slot_units ≡ b.slot_units
+pub playback_same : (a b : Playback) → a.picture_units ≡ b.picture_units → a.slot_units ≡ b.slot_units
     → a.buffer ≡ b.buffer → a.delay ≡ b.delay → a ≡ b
-playback-same a b pictures slots buffer delay =
+playback_same a b pictures slots buffer delay =
     ap (λ x. record a { picture_units = x }) pictures
     ∙ (ap (λ x. record a { picture_units = b.picture_units; slot_units = x }) slots
     ∙ (ap (λ x. record a { picture_units = b.picture_units; slot_units = b.slot_units; buffer = x }) buffer
     ∙ ap (λ x. record b { delay = x }) delay))
 
-pub asked-plan : {wish : Wish} {stored : Stored} {source : StreamSource} {settings : Settings} {setup : Setup}
+pub asked_plan : {wish : Wish} {stored : Stored} {source : StreamSource} {settings : Settings} {setup : Setup}
     {counts : Counts} {plan : List Segment} → IsWish wish → IsSetUpFor wish settings setup →
     IsPlayable stored source settings setup counts (whole_run stored) plan →
     IsSending (stored_sizes stored) (playback_of wish stored) (whole_run stored) plan
-asked-plan {wish} {stored} {settings} {setup} {plan} wished set is =
+asked_plan {wish} {stored} {settings} {setup} {plan} wished set is =
     let film = stored.film in
     let sizes = stored_sizes stored in
     let same : session_playback film settings setup ≡ playback_of wish stored =
-    playback-same (session_playback film settings setup) (playback_of wish stored) refl set.slots set.buffer set.delay in
+    playback_same (session_playback film settings setup) (playback_of wish stored) refl set.slots
+    set.buffer set.delay in
     let rate = film-rate (read_after [] film.bytes.items) film.grammar.accepted in
-    let time = time_bounds film.rate (omega (arith, film.grammar.rate, rate.0)) (omega (arith, film.grammar.rate, rate.1)) in
+    let time = time_bounds film.rate (omega (arith, film.grammar.rate, rate.0))
+    (omega (arith, film.grammar.rate, rate.1)) in
     let P : Playback → Type 0 = λ p. IsPlanOf sizes p (whole_run stored) plan in
     let F : ℕ → Type 0 = λ b. Fits b (whole_run stored) in
     record {

@@ -1,6 +1,7 @@
 -- A connection that hears a front of a client's requests takes up the first of them, each whole.
 use Rattle.std.specs.Prelude.{⊤}
-use Rattle.std.proofs.Common.{◌≡◌, ℕ, ◌<◌, if◌then◌else◌, false, List, [], ◌∷◌, ◌++◌, Ok, length, drop, refl, sym, ap, subst, ◌∙◌, arith, inl, inr}
+use Rattle.std.proofs.Common.{◌≡◌, ℕ, ◌<◌, if◌then◌else◌, false, List, [], ◌∷◌, ◌++◌, Ok, length, drop, refl, sym, ap}
+use Rattle.std.proofs.Common.{subst, ◌∙◌, arith, inl, inr}
 use Rattle.std.proofs.lemmas.List.{append-nil, drop_at, take-append-drop, take_at}
 use Rattle.interleave.specs.Elements.{IsFirst}
 use Rattle.interleave.specs.Streams.{AreCut, IsElementLength, LineEnd, WholeBlock, WholeMessage}
@@ -9,7 +10,7 @@ use Rattle.interleave.proofs.Streams.{cut_grows, cuts_agree}
 use Rattle.conn.specs.Rounds.{IsFront}
 use Rattle.transcript.specs.Courses.{Course, first_stage}
 use Rattle.transcript.specs.Requests.{is_no_request, requests_in, rounds_input}
-use Rattle.transcript.proofs.Requests.{follows_cut, requests-append, rounds_requests, starts_request}
+use Rattle.transcript.proofs.Requests.{follows_cut, requests_append, rounds_requests, starts_request}
 
 -- texts that are found whole, each in front of whatever comes after it
 abbrev pub AreFound : List (List ℕ) → Type 0
@@ -22,34 +23,34 @@ abbrev pub joined : List (List ℕ) → List ℕ
 joined [] = []
 joined (text ∷ texts) = text ++ joined texts
 
-texts-cut : (texts : List (List ℕ)) → AreFound texts → AreCut (joined texts) texts []
-texts-cut [] found = refl
-texts-cut (text ∷ texts) found =
+texts_cut : (texts : List (List ℕ)) → AreFound texts → AreCut (joined texts) texts []
+texts_cut [] found = refl
+texts_cut (text ∷ texts) found =
     let first = found.0 (joined texts) in
     let rest = drop_at text (joined texts) (length text) refl in (
       length text,
       (
         WholeMessage first.0 first.1 first.2,
         sym (take_at text (joined texts) (length text) refl),
-        subst (λ w. AreCut w texts []) (sym rest) (texts-cut texts found.1),
+        subst (λ w. AreCut w texts []) (sym rest) (texts_cut texts found.1),
       ),
     )
 
-text-request : (text : List ℕ) → IsFirst (text ++ []) (Ok (Message (length text))) → is_no_request text ≡ false
-text-request text first =
+text_request : (text : List ℕ) → IsFirst (text ++ []) (Ok (Message (length text))) → is_no_request text ≡ false
+text_request text first =
     let some : 0 < length text = omega (arith, first.1.total_is, first.1.is_head.some) in
     ap is_no_request (sym (take_at text [] (length text) refl)) ∙ starts_request (text ++ []) (length text) first.0 some
 
-texts-requests : (texts : List (List ℕ)) → AreFound texts → requests_in texts ≡ texts
-texts-requests [] found = refl
-texts-requests (text ∷ texts) found =
-    ap (λ b. if b then requests_in texts else text ∷ requests_in texts) (text-request text (found.0 []))
-    ∙ ap (λ l. text ∷ l) (texts-requests texts found.1)
+texts_requests : (texts : List (List ℕ)) → AreFound texts → requests_in texts ≡ texts
+texts_requests [] found = refl
+texts_requests (text ∷ texts) found =
+    ap (λ b. if b then requests_in texts else text ∷ requests_in texts) (text_request text (found.0 []))
+    ∙ ap (λ l. text ∷ l) (texts_requests texts found.1)
 
 -- no element is made of no bytes
-nothing-cut : (more : List (List ℕ)) (end : List ℕ) → AreCut [] more end → more ≡ []
-nothing-cut [] end cut = refl
-nothing-cut (element ∷ more) end cut = absurd (none cut.0 cut.1.0)
+nothing_cut : (more : List (List ℕ)) (end : List ℕ) → AreCut [] more end → more ≡ []
+nothing_cut [] end cut = refl
+nothing_cut (element ∷ more) end cut = absurd (none cut.0 cut.1.0)
   where
     none : (n : ℕ) → IsElementLength [] n → ⊥
     none n (LineEnd one some is) = omega (arith, some)
@@ -57,31 +58,32 @@ nothing-cut (element ∷ more) end cut = absurd (none cut.0 cut.1.0)
     none n (WholeMessage starts size inside) = omega (arith, starts.0)
 
 -- the elements of a front of them are the first of them
-front-cut : (texts elements : List (List ℕ)) (input rest : List ℕ) → AreFound texts → IsFront input (joined texts)
-    → AreCut input elements rest → (more : List (List ℕ)) × (texts ≡ elements ++ more)
-front-cut texts elements input rest found front cut =
+front_cut : {input : List ℕ} (texts elements : List (List ℕ)) (rest : List ℕ) → AreFound texts
+    → IsFront input (joined texts) → AreCut input elements rest → (more : List (List ℕ)) × (texts ≡ elements ++ more)
+front_cut {input} texts elements rest found front cut =
     let all = joined texts in
     let later = drop front.0 all in
     let whole : input ++ later ≡ all = ap (λ l. l ++ later) front.1.1 ∙ take-append-drop front.0 all in
     let grown = subst (λ w. AreCut w elements (rest ++ later)) whole (cut_grows input later elements rest cut) in
-    elim (cuts_agree (record { one = grown; other = texts-cut texts found })) [
+    elim (cuts_agree (record { one = grown; other = texts_cut texts found })) [
       | inl goes ↦ (goes.0, goes.1.0)
       | inr goes ↦ (
         [],
-        sym (goes.1.0 ∙ ap (λ l. texts ++ l) (nothing-cut goes.0 (rest ++ later) goes.1.1)
+        sym (goes.1.0 ∙ ap (λ l. texts ++ l) (nothing_cut goes.0 (rest ++ later) goes.1.1)
             ∙ append-nil texts) ∙ sym (append-nil elements),
       )
     ]
 
-pub requests-front : (course : Course) (texts : List (List ℕ)) → AreFound texts
+pub requests_front : (course : Course) (texts : List (List ℕ)) → AreFound texts
     → IsFront (rounds_input course.rounds) (joined texts)
     → (more : List (List ℕ)) × (texts ≡ rounds_requests course.rounds ++ more)
-requests-front course texts found front =
+requests_front course texts found front =
     let first = first_stage course.films course.settings course.words in
     let cuts = follows_cut first course.rounds course.follows
     (record { heard = []; elements = []; cut = refl; requests = refl }) in
-    let its = front-cut texts cuts.elements (rounds_input course.rounds) course.last.input found front cuts.cut in (
+    let its = front_cut {input = rounds_input course.rounds} texts cuts.elements course.last.input found front
+    cuts.cut in (
       requests_in its.0,
-      sym (texts-requests texts found) ∙ ap requests_in its.1 ∙ requests-append cuts.elements its.0
+      sym (texts_requests texts found) ∙ ap requests_in its.1 ∙ requests_append cuts.elements its.0
           ∙ ap (λ l. l ++ requests_in its.0) cuts.requests,
     )

@@ -19,16 +19,19 @@ use Rattle.transcript.specs.Courses.{Course, course_plays, first_stage, greatest
 use Rattle.transcript.specs.Places.{AreSentAt, slots_from}
 use Rattle.transcript.specs.Played.{IsPlayed, IsWholePlay, film_blocks, playback_of, whole_run}
 use Rattle.transcript.specs.Plays.{FilmPlay}
-use Rattle.transcript.specs.Replies.{course_texts}
+use Rattle.transcript.specs.Replies.{course_replies, course_texts, waiting_reply}
 use Rattle.transcript.specs.Requests.{rounds_input}
-use Rattle.transcript.proofs.AskedInput.{AreFound, joined, requests-front}
-use Rattle.transcript.proofs.Film.{run-total}
-use Rattle.transcript.proofs.NoPlays.{AreNoPlays, IsNoPlay, rounds-none}
-use Rattle.transcript.proofs.OnePlay.{IsOnePlay, Outlook, rounds-walk, setup-no-play}
-use Rattle.transcript.proofs.Promised.{rest-all}
+use Rattle.transcript.proofs.AskedInput.{AreFound, joined, requests_front}
+use Rattle.transcript.proofs.Film.{run_total}
+use Rattle.transcript.proofs.NoPlays.{AreNoPlays, IsNoPlay, rounds_none}
+use Rattle.transcript.proofs.OnePlay.{IsPlayedWhole, Outlook, rounds_walk, setup_no_play}
+use Rattle.transcript.proofs.Replying.{replies_in_order}
+use Rattle.transcript.proofs.WholeReplies.{AreTeardowns, AreWhole, texts_whole}
+use Rattle.session.proofs.WholeReplies.{begins_named}
+use Rattle.transcript.proofs.Promised.{rest_all}
 use Rattle.transcript.proofs.Replied.{replies_sent}
 use Rattle.transcript.proofs.Requests.{rounds_requests}
-use Rattle.transcript.proofs.TwoReplies.{AreReplies, two-first}
+use Rattle.transcript.proofs.TwoReplies.{AreReplies, two_first}
 use Rattle.transcript.proofs.Waiting.{Beginning, IsWaiting}
 use Rattle.transcript.proofs.Wished.{IsWished}
 
@@ -45,8 +48,8 @@ beginning_of {wish} {stored} {course} asked = record {
 }
 
 -- TEARDOWN asks for no play
-teardown-no-play : (b : Beginning) {message : List ℕ} → message ≡ teardown_text b.wish b.session → IsNoPlay message
-teardown-no-play b {message} is = λ request read method.
+teardown_no_play : (b : Beginning) {message : List ℕ} → message ≡ teardown_text b.wish b.session → IsNoPlay message
+teardown_no_play b {message} is = λ request read method.
     let asked = teardown-asked b.wish b.session b.wished b.port b.session_is in
     let R : List ℕ → Type 0 = λ m.
     IsRequest m (codes "TEARDOWN") (film_url b.wish) 3 (request_head (teardown_parts b.wish b.session)) [] in
@@ -57,47 +60,49 @@ teardown-no-play b {message} is = λ request read method.
 pub record AreAsked (b : Beginning) (requests : List (List ℕ)) : Type 0 where
   pub last : List (List ℕ)
   pub requests_are : requests ≡ setup_text b.wish ∷ play_text b.wish b.session ∷ last
-  pub last_are : AreNoPlays last
+  pub teardowns : AreTeardowns b last
 
 abbrev all_texts : Beginning → List (List ℕ)
 all_texts b = setup_text b.wish ∷ play_text b.wish b.session ∷ teardown_text b.wish b.session ∷ []
 
-last-no-plays : (b : Beginning) (last more : List (List ℕ)) → teardown_text b.wish b.session ∷ [] ≡ last ++ more
-    → AreNoPlays last
-last-no-plays b [] more is = tt
-last-no-plays b (one ∷ []) more is =
-    let same : teardown_text b.wish b.session ≡ one = cc in
-    (teardown-no-play b (sym same), tt)
-last-no-plays b (one ∷ two ∷ last) more is = absurd (let no : ⊥ = cc in no)
+torn_no_plays : (b : Beginning) (messages : List (List ℕ)) → AreTeardowns b messages → AreNoPlays messages
+torn_no_plays b [] are = tt
+torn_no_plays b (message ∷ messages) are = (teardown_no_play b are.0, torn_no_plays b messages are.1)
 
-requests-asked : (b : Beginning) (requests more : List (List ℕ)) → all_texts b ≡ requests ++ more
+last_teardowns : (b : Beginning) (last more : List (List ℕ)) → teardown_text b.wish b.session ∷ [] ≡ last ++ more
+    → AreTeardowns b last
+last_teardowns b [] more is = tt
+last_teardowns b (one ∷ []) more is = let same : teardown_text b.wish b.session ≡ one = cc in (sym same, tt)
+last_teardowns b (one ∷ two ∷ last) more is = absurd (let no : ⊥ = cc in no)
+
+requests_asked : (b : Beginning) (requests more : List (List ℕ)) → all_texts b ≡ requests ++ more
     → (AreNoPlays requests → ⊥) → AreAsked b requests
-requests-asked b [] more is some = absurd (some tt)
-requests-asked b (one ∷ []) more is some =
+requests_asked b [] more is some = absurd (some tt)
+requests_asked b (one ∷ []) more is some =
     let same : setup_text b.wish ≡ one = cc in
-    absurd (some (setup-no-play b (sym same), tt))
-requests-asked b (one ∷ two ∷ last) more is some =
+    absurd (some (setup_no_play b (sym same), tt))
+requests_asked b (one ∷ two ∷ last) more is some =
     let first : setup_text b.wish ≡ one = cc in
     let second : play_text b.wish b.session ≡ two = cc in
     let rest : teardown_text b.wish b.session ∷ [] ≡ last ++ more = cc in
     record {
       last = last;
       requests_are = ap (λ t. t ∷ two ∷ last) (sym first) ∙ ap (λ t. setup_text b.wish ∷ t ∷ last) (sym second);
-      last_are = last-no-plays b last more rest;
+      teardowns = last_teardowns b last more rest;
     }
 
-first-waits : {wish : Wish} {stored : Stored} {course : Course} (asked : IsAskedFor wish stored course)
+first_waits : {wish : Wish} {stored : Stored} {course : Course} (asked : IsAskedFor wish stored course)
     → IsWaiting (beginning_of asked) (first_stage course.films course.settings course.words).session
-first-waits asked = record {
+first_waits asked = record {
   stands = record { rest = refl; sound = tt };
   films_are = refl;
   settings_are = refl;
   unbegun = tt;
 }
 
-requests-of : {wish : Wish} {stored : Stored} {course : Course} (asked : IsAskedFor wish stored course)
+requests_of : {wish : Wish} {stored : Stored} {course : Course} (asked : IsAskedFor wish stored course)
     → AreAsked (beginning_of asked) (rounds_requests course.rounds)
-requests-of {wish} {stored} {course} asked =
+requests_of {wish} {stored} {course} asked =
     let b = beginning_of asked in
     let session = asked.session in
     let found : AreFound (all_texts b) = (
@@ -110,10 +115,10 @@ requests-of {wish} {stored} {course} asked =
     let all : setup_text wish ++ (play_text wish session ++ teardown_text wish session) ≡ joined (all_texts b) =
     ap (λ l. setup_text wish ++ (play_text wish session ++ l)) (sym (append-nil (teardown_text wish session))) in
     let heard = subst (IsFront (rounds_input course.rounds)) all asked.heard in
-    let its = requests-front course (all_texts b) found heard in
-    requests-asked b (rounds_requests course.rounds) its.0 its.1 (λ none.
+    let its = requests_front course (all_texts b) found heard in
+    requests_asked b (rounds_requests course.rounds) its.0 its.1 (λ none.
     let first = first_stage course.films course.settings course.words in
-    let empty = rounds-none first course.last course.rounds course.follows (first-waits asked).stands none in
+    let empty = rounds_none first course.last course.rounds course.follows (first_waits asked).stands none in
     let clash : [] ≡ asked.play ∷ asked.others = sym empty ∙ asked.plays in
     let no : ⊥ = cc in no)
 
@@ -121,26 +126,30 @@ abbrev outlook_of : {wish : Wish} {stored : Stored} {course : Course} (asked : I
     → AreAsked (beginning_of asked) (rounds_requests course.rounds) → Outlook
 outlook_of asked its = record {
   last = its.last;
-  last_are = its.last_are;
+  last_are = torn_no_plays (beginning_of asked) its.last its.teardowns;
   play = asked.play;
   others = asked.others;
+  start = asked.start;
 }
 
-one-play : {wish : Wish} {stored : Stored} {course : Course} (asked : IsAskedFor wish stored course)
-    → IsOnePlay (beginning_of asked) (outlook_of asked (requests-of asked)) 0 1 (slots_from 0 course.rounds)
-one-play {wish} {stored} {course} asked =
-    rounds-walk (first_stage course.films course.settings course.words) course.last course.rounds course.follows
+one_play : {wish : Wish} {stored : Stored} {course : Course} (asked : IsAskedFor wish stored course)
+    → IsPlayedWhole (beginning_of asked) (outlook_of asked (requests_of asked)) 0 1 (slots_from 0 course.rounds)
+    (course_replies course)
+one_play {wish} {stored} {course} asked =
+    rounds_walk (first_stage course.films course.settings course.words) course.last course.rounds course.follows
     (setup_text wish ∷ []) (record {
-      waits = first-waits asked;
+      waits = first_waits asked;
+      named = begins_named course.films course.settings course.words asked.films;
       heard = refl;
       setups = (refl, tt);
-      requests_are = (requests-of asked).requests_are;
+      requests_are = (requests_of asked).requests_are;
+      teardowns = (requests_of asked).teardowns;
       plays = asked.plays;
     })
 
-whole-play : {wish : Wish} {stored : Stored} {course : Course} (asked : IsAskedFor wish stored course)
+whole_play : {wish : Wish} {stored : Stored} {course : Course} (asked : IsAskedFor wish stored course)
     (wished : IsWished (beginning_of asked) asked.play) → IsWholePlay wish stored wished.identity asked.play
-whole-play {wish} {stored} {course} asked wished =
+whole_play {wish} {stored} {course} asked wished =
     let same : wished.stored ≡ stored = asked.named wished.number wished.stored wished.at wished.name_is in
     subst (λ s. IsWholePlay wish s wished.identity asked.play) same (record {
       media = wished.media;
@@ -151,36 +160,40 @@ whole-play {wish} {stored} {course} asked wished =
       keep = asked.keep;
     })
 
-whole-total : {wish : Wish} {stored : Stored} {identity : Identity} {play : FilmPlay}
+whole_total : {wish : Wish} {stored : Stored} {identity : Identity} {play : FilmPlay}
     → IsWholePlay wish stored identity play
     → length (framed_bytes (film_blocks stored identity)) ≡ play.keep
-whole-total {wish} {stored} {identity} {play} whole =
+whole_total {wish} {stored} {identity} {play} whole =
     let keeps = sending-keeps (stored_sizes stored) (playback_of wish stored) (whole_run stored) play.plan
     whole.sending in
-    omega (arith, keeps.bytes, ap sum (rest-all stored), run-total stored.film identity, whole.keep)
+    omega (arith, keeps.bytes, ap sum (rest_all stored), run_total stored.film identity, whole.keep)
 
-pub asked-played : {wish : Wish} {stored : Stored} {course : Course} (asked : IsAskedFor wish stored course)
+pub asked_played : {wish : Wish} {stored : Stored} {course : Course} (asked : IsAskedFor wish stored course)
     → (played : IsPlayed wish stored course) × (played.play ≡ asked.play)
-asked-played {wish} {stored} {course} asked =
-    let one = one-play asked in
+asked_played {wish} {stored} {course} asked =
+    let played = one_play asked in
+    let one = played.one in
     let play = asked.play in
     let plays : course_plays course ≡ play ∷ [] = asked.plays ∙ ap (λ l. play ∷ l) one.alone in
-    let whole = whole-play asked one.wished in
+    let whole = whole_play asked one.wished in
     let now = greatest_slot course.rounds in
     let slots = slots_from 0 course.rounds in
     let S : List FilmPlay → Type 0 = λ ps. AreSentAt now ps slots (course_texts course) in
     let sent = subst S plays
     (replies_sent course.films course.settings course.words course.rounds course.last course.follows) in
+    let ordered = replies_in_order course.films course.settings course.words course.rounds course.last course.follows in
+    let messages = texts_whole (course_texts course) (waiting_reply course.last.session)
+    (subst AreWhole (sym ordered) played.whole) in
     let total = length (framed_bytes (film_blocks stored one.wished.identity)) in
     let replies : AreReplies play now total slots (course_texts course) = record {
       begins = one.wished.before;
-      total_is = whole-total whole;
+      total_is = whole_total whole;
       before = one.before;
       due = asked.due;
       sent = sent;
-      messages = asked.messages;
+      messages = messages;
     } in
-    let two = two-first slots (course_texts course) replies in (
+    let two = two_first slots (course_texts course) replies in (
       record {
         identity = one.wished.identity;
         play = play;

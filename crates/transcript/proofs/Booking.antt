@@ -16,9 +16,11 @@ use Rattle.session.specs.declared.states.Awaited.TheVariants.{Nothing, Play, Hal
 use Rattle.session.specs.Sendings.{after_slot}
 use Rattle.session.specs.Standings.{NoAnswer, Standing, awaited_answer_of}
 use Rattle.conn.specs.Rounds.{Comes, Round, entries_in, round_outcomes, rounds_outcomes, takings_outcomes}
-use Rattle.conn.specs.Turns.{Outcome, Unasked, Entered, WasFull, Offered, Part, Stage, Taking, Passed, Answered, IsFinished, TakesAll, entry_in, film_bytes}
+use Rattle.conn.specs.Turns.{Outcome, Unasked, Entered, WasFull, Offered, Part, Stage, Taking, Passed, Answered}
+use Rattle.conn.specs.Turns.{IsFinished, TakesAll, entry_in, film_bytes}
 use Rattle.transcript.specs.Courses.{Follows, asked_by, askings_of, first_stage, round_askings, takings_askings}
-use Rattle.transcript.specs.Plays.{Asking, Asks, plays_admitted, plays_begun, booked_by, booked_plays, booking_of, kept_among, kept_in, kept_with, plays_of}
+use Rattle.transcript.specs.Plays.{Asking, Asks, plays_admitted, plays_begun, booked_by, booked_plays, booking_of}
+use Rattle.transcript.specs.Plays.{kept_among, kept_in, kept_with, plays_of}
 use Rattle.transcript.proofs.Filming.{Stands, opened_stands, round_step, stands_by, taken_stands}
 use Rattle.transcript.proofs.Turning.{Ends, Starts, Stays, TurnsAs, told_by, turns_as}
 use Rattle.transcript.proofs.Occasions.{HaltGiven}
@@ -66,16 +68,17 @@ plays_told (Asks asked outcome ∷ askings) told =
     ∙ ap (λ ps. ps ++ map booking_of (plays_of askings)) (told.0 askings made (kept_same askings))
     ∙ ap (λ ps. told_by outcome made ++ ps) (plays_told askings told.1) ∙ told_more outcome made
 
-told-append : (xs ys : List Asking) → AreTold xs → AreTold ys → AreTold (xs ++ ys)
-told-append [] ys one two = two
-told-append (Asks asked outcome ∷ xs) ys one two = (one.0, told-append xs ys one.1 two)
+told_append : (xs ys : List Asking) → AreTold xs → AreTold ys → AreTold (xs ++ ys)
+told_append [] ys one two = two
+told_append (Asks asked outcome ∷ xs) ys one two = (one.0, told_append xs ys one.1 two)
 
-outcomes-append : (xs ys : List Asking) → outcomes_in (xs ++ ys) ≡ outcomes_in xs ++ outcomes_in ys
-outcomes-append [] ys = refl
-outcomes-append (Asks asked outcome ∷ xs) ys = ap (λ os. outcome ∷ os) (outcomes-append xs ys)
+outcomes_append : (xs ys : List Asking) → outcomes_in (xs ++ ys) ≡ outcomes_in xs ++ outcomes_in ys
+outcomes_append [] ys = refl
+outcomes_append (Asks asked outcome ∷ xs) ys = ap (λ os. outcome ∷ os) (outcomes_append xs ys)
 
 -- by what was asked
-turn_told : (old new : Standing) (asked : Awaited) (outcome : Outcome) → TurnsAs old asked outcome new → IsToldBy asked outcome
+turn_told : (old new : Standing) (asked : Awaited) (outcome : Outcome) → TurnsAs old asked outcome new
+    → IsToldBy asked outcome
 turn_told old new asked outcome (Stays same after still) = λ askings made keeps.
     ap (map booking_of) (still.none askings) ∙ sym (still.untold made)
 turn_told old new asked outcome (Starts after begins) = λ askings made keeps.
@@ -103,7 +106,8 @@ takes_told old new (Answered message outcome parts ∷ takings) takes stands =
     let replied = takes.1.0 in (
       turn_told old.session replied.answered replied.heard.asking.awaited outcome
           (turns_as old.session message outcome replied.answered replied.heard stands.rest),
-      takes_told takes.0 new takings takes.1.1 (taken_stands old takes.0 (Answered message outcome parts) takes.1.0 stands),
+      takes_told takes.0 new takings takes.1.1
+          (taken_stands old takes.0 (Answered message outcome parts) takes.1.0 stands),
     )
 
 takes_outcomes : (old new : Stage) (takings : List Taking) (takes : TakesAll old takings new)
@@ -142,9 +146,11 @@ finished_told (Offer sequence) s halt new is = absurd is
 
 comes_told : (old opened : Stage) (event : Doing) (due : List Part) (halt : Outcome)
     → Comes old event due halt opened → IsToldBy (asked_by old.session event) halt
-comes_told old opened (HeardBytes bytes) due halt comes = subst (IsToldBy Nothing) (sym comes.1) (λ askings made keeps. refl)
+comes_told old opened (HeardBytes bytes) due halt comes = subst (IsToldBy Nothing) (sym comes.1)
+    (λ askings made keeps. refl)
 comes_told old opened (HeardSlot slot) due halt comes =
-    finished_told (after_slot old.session slot).awaited (after_slot old.session slot) halt opened.session comes.1.finished
+    finished_told (after_slot old.session slot).awaited (after_slot old.session slot) halt opened.session
+    comes.1.finished
 comes_told old opened HeardEnd due halt comes = absurd comes
 comes_told old opened (Sent byte) due halt comes = absurd comes
 
@@ -156,7 +162,7 @@ course_told old new (round ∷ rounds) follows stands =
     let mid : Stands follows.0.session =
     stands_by old.session follows.0.session (round_askings old round follows.0 runs) (film_bytes round.due)
     (round_step old follows.0 round runs stands) in
-    told-append (round_askings old round follows.0 runs) (askings_of follows.0 rounds new follows.1.1) (
+    told_append (round_askings old round follows.0 runs) (askings_of follows.0 rounds new follows.1.1) (
       comes_told old runs.opened round.event round.due round.halt runs.comes,
       takes_told runs.opened follows.0 round.takings runs.takes (opened_stands old follows.0 round runs stands),
     )
@@ -167,7 +173,7 @@ course_outcomes : (old new : Stage) (rounds : List Round) (follows : Follows old
 course_outcomes old new [] follows = refl
 course_outcomes old new (round ∷ rounds) follows =
     let runs = follows.1.0 in
-    outcomes-append (round_askings old round follows.0 runs) (askings_of follows.0 rounds new follows.1.1)
+    outcomes_append (round_askings old round follows.0 runs) (askings_of follows.0 rounds new follows.1.1)
     ∙ ap (λ os. (round.halt ∷ os) ++ outcomes_in (askings_of follows.0 rounds new follows.1.1))
     (takes_outcomes runs.opened follows.0 round.takings runs.takes)
     ∙ ap (λ os. round_outcomes round ++ os) (course_outcomes follows.0 new rounds follows.1.1)

@@ -16,9 +16,9 @@ use Rattle.rtsp_client.specs.Films.{is_complete}
 use Rattle.rtsp_client.specs.Meters.{first_slot, watched_in}
 use Rattle.rtsp_client.specs.Moments.{History, Moment, Frame, Reply, Report, Slot, replies, slot_before, start}
 use Rattle.transcript.specs.Requests.{bytes_in}
-use Rattle.transcript.proofs.Firsts.{HasGoneOn, gone-on}
-use Rattle.transcript.proofs.Sums.{Sum, replies-grow, steps, steps-on, sum-after, sum_of}
-use Rattle.transcript.proofs.Units.{moments-parts}
+use Rattle.transcript.proofs.Firsts.{HasGoneOn, gone_on}
+use Rattle.transcript.proofs.Sums.{Sum, replies_grow, steps, steps_on, sum_after, sum_of}
+use Rattle.transcript.proofs.Units.{moments_parts}
 
 -- the bytes that were heard
 abbrev pub rounds_heard : List Round → List ℕ
@@ -35,81 +35,86 @@ pub record Heard (bytes : List ℕ) (at : Stage) : Type 0 where
   pub sum : sum_of at.history ≡ steps no_sum (moments_in elements)
   pub gone : HasGoneOn at.history
 
-pub heard-none : Heard [] (stage [] [])
-heard-none = record { elements = []; cut = refl; sum = refl; gone = tt }
+pub heard_none : Heard [] (stage [] [])
+heard_none = record { elements = []; cut = refl; sum = refl; gone = tt }
 
 -- with further elements
-pub heard-more : {bytes : List ℕ} {old : Stage} {rest : List ℕ} (more : List ℕ) (elements : List (List ℕ))
+pub heard_more : {bytes : List ℕ} {old : Stage} {rest : List ℕ} (more : List ℕ) (elements : List (List ℕ))
     (heard : Heard bytes old) → AreCut (old.rest ++ more) elements rest
-    → GoOn old.history (moments_in elements) → Heard (bytes ++ more) (stage (history_after old.history (moments_in elements)) rest)
-heard-more {bytes} {old} {rest} more elements heard cut good = record {
+    → GoOn old.history (moments_in elements)
+    → Heard (bytes ++ more) (stage (history_after old.history (moments_in elements)) rest)
+heard_more {bytes} {old} {rest} more elements heard cut good = record {
   elements = heard.elements ++ elements;
   cut = let cuts : CutsInTurn bytes more heard.elements elements old.rest rest =
       record { first = heard.cut; next = cut } in cuts_join cuts;
-  sum = sum-after old.history (moments_in elements)
+  sum = sum_after old.history (moments_in elements)
       ∙ (ap (λ s. steps s (moments_in elements)) heard.sum
-      ∙ (sym (steps-on no_sum (moments_in heard.elements) (moments_in elements))
-      ∙ ap (steps no_sum) (sym (moments-parts heard.elements elements))));
-  gone = gone-on old.history (moments_in elements) heard.gone good;
+      ∙ (sym (steps_on no_sum (moments_in heard.elements) (moments_in elements))
+      ∙ ap (steps no_sum) (sym (moments_parts heard.elements elements))));
+  gone = gone_on old.history (moments_in elements) heard.gone good;
 }
 
-same-stage : (new : Stage) (h : History) (rest : List ℕ) → new.history ≡ h → new.rest ≡ rest → stage h rest ≡ new
-same-stage new h rest history same = ap (λ x. stage x rest) (sym history) ∙ ap (λ x. stage new.history x) (sym same)
+same_stage : (new : Stage) (h : History) (rest : List ℕ) → new.history ≡ h → new.rest ≡ rest → stage h rest ≡ new
+same_stage new h rest history same = ap (λ x. stage x rest) (sym history) ∙ ap (λ x. stage new.history x) (sym same)
 
-heard-event : {bytes : List ℕ} {old new : Stage} (event : Doing) (moments : List Moment) → Heard bytes old
+heard_event : {bytes : List ℕ} {old new : Stage} (event : Doing) (moments : List Moment) → Heard bytes old
     → Brings event old.rest moments new.rest
     → GoOn old.history moments → new.history ≡ history_after old.history moments → Heard (bytes ++ bytes_in event) new
-heard-event {bytes} {old} {new} (HeardBytes more) moments heard brings good history =
+heard_event {bytes} {old} {new} (HeardBytes more) moments heard brings good history =
     let G : List Moment → Type 0 = λ ms. GoOn old.history ms in
     let is : stage (history_after old.history (moments_in brings.0)) new.rest ≡ new =
-    same-stage new (history_after old.history (moments_in brings.0)) new.rest (history ∙ ap (history_after old.history) brings.1.1) refl in
-    subst (Heard (bytes ++ more)) is (heard-more more brings.0 heard brings.1.0 (subst G brings.1.1 good))
-heard-event {bytes} {old} {new} (HeardSlot slot) moments heard brings good history =
+    same_stage new (history_after old.history (moments_in brings.0)) new.rest
+    (history ∙ ap (history_after old.history) brings.1.1) refl in
+    subst (Heard (bytes ++ more)) is (heard_more more brings.0 heard brings.1.0 (subst G brings.1.1 good))
+heard_event {bytes} {old} {new} (HeardSlot slot) moments heard brings good history =
     let cut = cut_bytes old.rest in
     let G : List Moment → Type 0 = λ ms. GoOn old.history ms in
     let good2 : GoOn old.history (Slot slot cut ∷ []) = subst G brings.0 good in
     let is : stage (Slot slot cut ∷ old.history) old.rest ≡ new =
-    same-stage new (Slot slot cut ∷ old.history) old.rest (history ∙ ap (history_after old.history) brings.0) brings.1 in
+    same_stage new (Slot slot cut ∷ old.history) old.rest
+    (history ∙ ap (history_after old.history) brings.0) brings.1 in
     let mid : Heard bytes (stage (Slot slot cut ∷ old.history) old.rest) =
     record { elements = heard.elements; cut = heard.cut; sum = heard.sum; gone = (tt, heard.gone) } in
     let B : List ℕ → Type 0 = λ b. Heard b new in
     subst B (sym (append-nil bytes)) (subst (Heard bytes) is mid)
-heard-event {new} HeardEnd moments heard brings good history = absurd brings
-heard-event {new} (Sent byte) moments heard brings good history = absurd brings
+heard_event {new} HeardEnd moments heard brings good history = absurd brings
+heard_event {new} (Sent byte) moments heard brings good history = absurd brings
 
-pub heard-round : (bytes : List ℕ) (old new : Stage) (round : Round) → Heard bytes old → Runs old round new
+pub heard_round : (bytes : List ℕ) (old new : Stage) (round : Round) → Heard bytes old → Runs old round new
     → Heard (bytes ++ bytes_in round.event) new
-heard-round bytes old new round heard runs = heard-event round.event round.moments heard runs.brings runs.good runs.history_is
+heard_round bytes old new round heard runs = heard_event round.event round.moments heard runs.brings runs.good
+    runs.history_is
 
-pub heard-all : (bytes : List ℕ) (old new : Stage) (rounds : List Round) → Heard bytes old
+pub heard_all : (bytes : List ℕ) (old new : Stage) (rounds : List Round) → Heard bytes old
     → RunsAll old rounds new → Heard (bytes ++ rounds_heard rounds) new
-heard-all bytes old new [] heard all =
+heard_all bytes old new [] heard all =
     let P : List ℕ → Type 0 = λ b. Heard b new in subst P (sym (append-nil bytes)) (subst (Heard bytes) (sym all) heard)
-heard-all bytes old new (round ∷ rounds) heard all =
+heard_all bytes old new (round ∷ rounds) heard all =
     let P : List ℕ → Type 0 = λ b. Heard b new in
     subst P (append_assoc bytes (bytes_in round.event) (rounds_heard rounds))
-    (heard-all (bytes ++ bytes_in round.event) all.0 new rounds (heard-round bytes old all.0 round heard all.1.0) all.1.2)
+    (heard_all (bytes ++ bytes_in round.event) all.0 new rounds
+    (heard_round bytes old all.0 round heard all.1.0) all.1.2)
 
 -- ---- what later moments leave
 
-pub replies-later : (h : History) (ms : List Moment) → replies h ≤ replies (history_after h ms)
-replies-later h ms = omega (arith, replies-grow (sum_of h) ms, ap (λ (s : Sum). s.replies) (sum-after h ms))
+pub replies_later : (h : History) (ms : List Moment) → replies h ≤ replies (history_after h ms)
+replies_later h ms = omega (arith, replies_grow (sum_of h) ms, ap (λ (s : Sum). s.replies) (sum_after h ms))
 
 -- the play's first slot stays, once its reply was heard
-slot-once : (h : History) (m : Moment) → 1 < replies h → (first_slot (m ∷ h) ≡ first_slot h) × (1 < replies (m ∷ h))
-slot-once h (Reply m) playing =
+slot_once : (h : History) (m : Moment) → 1 < replies h → (first_slot (m ∷ h) ≡ first_slot h) × (1 < replies (m ∷ h))
+slot_once h (Reply m) playing =
     let other : (replies h == 1) ≡ false = ne_eqb (replies h) 1 (λ one. omega (arith, one, playing)) in (
       ap₂ (λ a b. a + b) (cond-false (replies h == 1) _ (start h) other)
           (cond-false (replies h == 1) _ (slot_before h) other),
       omega (arith, playing),
     )
-slot-once h (Frame b) playing = (refl, playing)
-slot-once h (Report b) playing = (refl, playing)
-slot-once h (Slot t cut) playing = (refl, playing)
+slot_once h (Frame b) playing = (refl, playing)
+slot_once h (Report b) playing = (refl, playing)
+slot_once h (Slot t cut) playing = (refl, playing)
 
-pub slot-stays : (h : History) (ms : List Moment) → 1 < replies h → first_slot (history_after h ms) ≡ first_slot h
-slot-stays h [] playing = refl
-slot-stays h (m ∷ ms) playing = let one = slot-once h m playing in slot-stays (m ∷ h) ms one.1 ∙ one.0
+pub slot_stays : (h : History) (ms : List Moment) → 1 < replies h → first_slot (history_after h ms) ≡ first_slot h
+slot_stays h [] playing = refl
+slot_stays h (m ∷ ms) playing = let one = slot_once h m playing in slot_stays (m ∷ h) ms one.1 ∙ one.0
 
 -- ---- how a watching is done
 
@@ -128,19 +133,20 @@ pub record IsDone (wish : Wish) (watched : Watched) (bytes out : List ℕ) : Typ
   pub out_is : out ≡ payloads_of moments
   pub history_is : at.history ≡ history_after [] moments
 
-complete-then : (n : ℕ) (complete : Bool) → n ≡ 2 → (nat_lt n 2 || complete) ≡ true → complete ≡ true
-complete-then n complete two awaited =
+complete_then : (n : ℕ) (complete : Bool) → n ≡ 2 → (nat_lt n 2 || complete) ≡ true → complete ≡ true
+complete_then n complete two awaited =
     let P : ℕ → Type 0 = λ k. (nat_lt k 2 || complete) ≡ true in subst P two awaited
 
 -- the done stage, with its moments
-pub at-done : {wish : Wish} {watched : Watched} {bytes out : List ℕ} {at : Stage} {moment : Moment}
+pub at_done : {wish : Wish} {watched : Watched} {bytes out : List ℕ} {at : Stage} {moment : Moment}
     (moments : List Moment)
     → Heard bytes at → IsNext at.rest moment → Gives wish at.history moment (Done watched)
     → at.history ≡ history_after [] moments → out ≡ payloads_of moments
     → ((done : IsDone wish watched bytes out) × (done.at ≡ at))
-at-done {out} {at} {moment = Reply message} moments heard next (inl bad) history is = absurd (let no : ⊥ = cc in no)
-at-done {out} {at} {moment = Reply message} moments heard next (inr (inl refused)) history is = absurd (let no : ⊥ = cc in no)
-at-done {wish} {watched} {out} {at} {moment = Reply message} moments heard next (inr (inr good)) history is = (
+at_done {out} {at} {moment = Reply message} moments heard next (inl bad) history is = absurd (let no : ⊥ = cc in no)
+at_done {out} {at} {moment = Reply message} moments heard next (inr (inl refused)) history is =
+    absurd (let no : ⊥ = cc in no)
+at_done {wish} {watched} {out} {at} {moment = Reply message} moments heard next (inr (inr good)) history is = (
   record {
     at = at;
     heard = heard;
@@ -149,7 +155,7 @@ at-done {wish} {watched} {out} {at} {moment = Reply message} moments heard next 
     whole = next.1.0;
     moment = next.1.1;
     replies_are = good.1;
-    complete = complete-then (replies at.history) (is_complete at.history) good.1 good.0.0.awaited;
+    complete = complete_then (replies at.history) (is_complete at.history) good.1 good.0.0.awaited;
     watched_is = let same : watched ≡ watched_in wish at.history = cc in same;
     moments = moments;
     out_is = is;
@@ -157,6 +163,6 @@ at-done {wish} {watched} {out} {at} {moment = Reply message} moments heard next 
   },
   refl,
 )
-at-done {out} {at} {moment = Frame block} moments heard next gives history is = absurd (let no : ⊥ = cc in no)
-at-done {out} {at} {moment = Report block} moments heard next gives history is = absurd gives
-at-done {out} {at} {moment = Slot slot cut} moments heard next gives history is = absurd gives
+at_done {out} {at} {moment = Frame block} moments heard next gives history is = absurd (let no : ⊥ = cc in no)
+at_done {out} {at} {moment = Report block} moments heard next gives history is = absurd gives
+at_done {out} {at} {moment = Slot slot cut} moments heard next gives history is = absurd gives

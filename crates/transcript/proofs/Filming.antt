@@ -61,7 +61,8 @@ step_none session stands =
 
 -- ---- requests
 
-pub turn_after : (old new : Standing) (asked : Awaited) (outcome : Outcome) → TurnsAs old asked outcome new → IsAfter old new
+pub turn_after : (old new : Standing) (asked : Awaited) (outcome : Outcome) → TurnsAs old asked outcome new
+    → IsAfter old new
 turn_after old new asked outcome (Stays same after still) = after
 turn_after old new asked outcome (Starts after begins) = after
 turn_after old new asked outcome (Ends after halts) = after
@@ -82,7 +83,8 @@ turn_step old new asked outcome stands turns =
 
 reply_is : (goes : Bool) (s : Standing) → (goes ≡ true → is_between s.state ≡ true) → Stands s
     → Step s (if goes then sent_reply s else s) [] []
-reply_is true s between stands = record { rest = stands.rest; on = reply_on true s.state s.waits s.heard stands.sound between }
+reply_is true s between stands =
+    record { rest = stands.rest; on = reply_on true s.state s.waits s.heard stands.sound between }
 reply_is false s between stands = step_none s stands
 
 reply_step : (s : Standing) → Stands s → Step s (after_reply s) [] []
@@ -149,11 +151,13 @@ pub halt_state : {state : State} {awaited : Awaited} {setup : Setup} {play : Pla
     → state ≡ Playing setup play → awaited ≡ Halt keep Done
     → sends_in (halted_in state awaited) ≡ Idle
 halt_state {awaited} {setup} {play} is asks =
-    ap (λ (s : State). sends_in (halted_in s awaited)) is ∙ ap (λ (a : Awaited). sends_in (halted_in (Playing setup play) a)) asks
+    ap (λ (s : State). sends_in (halted_in s awaited)) is
+    ∙ ap (λ (a : Awaited). sends_in (halted_in (Playing setup play) a)) asks
 
 done_step : {s : Standing} {setup : Setup} {play : Played} {placed : Placed} {keep : ℕ} {new : Standing}
     → s.state ≡ Playing setup play
-    → IsSound (sends_in s.state) s.waits s.heard → is_done play.pacer ≡ true → keep ≡ play.pacer.sent → s.awaited ≡ Halt keep Done
+    → IsSound (sends_in s.state) s.waits s.heard → is_done play.pacer ≡ true → keep ≡ play.pacer.sent
+    → s.awaited ≡ Halt keep Done
     → IsHaltAnswered s keep placed new → Step s new (Asks s.awaited (Entered placed) ∷ []) []
 done_step {s} {play} {placed} {new} is sound done sent asks halted =
     let p : Pacing = play.pacer in
@@ -171,13 +175,16 @@ done_step {s} {play} {placed} {new} is sound done sent asks halted =
       rest = ap (λ (n : Standing). n.awaited) halted.halts;
       on = subst (λ x. GoesOn x (sends_in new.state) s.heard new.heard new.waits
           (Asks s.awaited (Entered placed) ∷ []) []) (sym (ap sends_in is))
-          (subst (λ x. GoesOn (Going p) x s.heard new.heard new.waits (Asks s.awaited (Entered placed) ∷ []) []) (sym sends)
-          (subst (λ h. GoesOn (Going p) Idle s.heard h new.waits (Asks s.awaited (Entered placed) ∷ []) []) (sym heard) goes));
+          (subst (λ x. GoesOn (Going p) x s.heard new.heard new.waits (Asks s.awaited (Entered placed) ∷ [])
+          []) (sym sends)
+          (subst (λ h. GoesOn (Going p) Idle s.heard h new.waits (Asks s.awaited (Entered placed) ∷ []) [])
+          (sym heard) goes));
     }
 
 halted_step : {s : Standing} {setup : Setup} {play : Played} {halt : Outcome} {keep : ℕ} {new : Standing}
     → s.state ≡ Playing setup play
-    → IsSound (sends_in s.state) s.waits s.heard → is_done play.pacer ≡ true → keep ≡ play.pacer.sent → s.awaited ≡ Halt keep Done
+    → IsSound (sends_in s.state) s.waits s.heard → is_done play.pacer ≡ true → keep ≡ play.pacer.sent
+    → s.awaited ≡ Halt keep Done
     → IsHalted s keep halt new → Step s new (Asks s.awaited halt ∷ []) []
 halted_step {s} {halt = Unasked} {new} is sound done sent asks halted = absurd halted
 halted_step {s} {halt = Entered placed} {new} is sound done sent asks halted = done_step is sound done sent asks halted
@@ -228,7 +235,8 @@ finished_step {s} {halt} {new} {done = true} sound done asks finished = finishes
 finished_step {s} {halt} {new} {done = false} sound done asks finished =
     unasked_step s halt new (record { rest = asks; sound = sound }) finished
 
-pub reply_waits : (goes : Bool) (s : Standing) → (if goes then sent_reply s else s).waits ≡ (if goes then false else s.waits)
+pub reply_waits : (goes : Bool) (s : Standing) → (if goes then sent_reply s else s).waits
+    ≡ (if goes then false else s.waits)
 reply_waits true s = refl
 reply_waits false s = refl
 
@@ -300,7 +308,8 @@ slot_cases : {old : Standing} {halt : Outcome} {new : Standing} {taken sending :
     if taken then (if sending then after_play (sent_slot old slot) else record old { heard = slot }) else old in
     IsFinished (awaited_answer s) s halt new
     → Step old new (Asks s.awaited halt ∷ []) (film_bytes (if taken && sending then due_parts old slot else []))
-slot_cases {old} {halt} {new} {taken = false} slot stands later is finishing = unasked_step old halt new stands finishing
+slot_cases {old} {halt} {new} {taken = false} slot stands later is finishing =
+    unasked_step old halt new stands finishing
 slot_cases {halt} {new} {taken = true} {sending = true} slot stands later is finishing =
     sent_step slot stands is (later refl) finishing
 slot_cases {old} {halt} {new} {taken = true} {sending = false} slot stands later is finishing =
@@ -336,7 +345,8 @@ comes_step {halt} old opened (Sent byte) due comes stands = absurd comes
 pub opened_stands : (old new : Stage) (round : Round) (runs : Runs old round new) → Stands old.session
     → Stands runs.opened.session
 opened_stands old new round runs stands =
-    stands_by old.session runs.opened.session (Asks (asked_by old.session round.event) round.halt ∷ []) (film_bytes round.due)
+    stands_by old.session runs.opened.session (Asks (asked_by old.session round.event) round.halt ∷ [])
+    (film_bytes round.due)
     (comes_step old runs.opened round.event round.due runs.comes stands)
 
 pub opened_rest : (old new : Stage) (round : Round) (runs : Runs old round new) → Stands old.session

@@ -1,6 +1,7 @@
 -- What is written of films, as whole lists: the lemmas on plays joined.
 use Rattle.std.specs.Prelude.{⊤}
-use Rattle.std.proofs.Common.{◌≡◌, ℕ, ◌+◌, ◌-◌, ◌<◌, ◌≤◌, ◌++◌, Bool, true, min, List, [], ◌∷◌, length, take, drop, refl, ap, sym, ◌∙◌, subst, arith}
+use Rattle.std.proofs.Common.{◌≡◌, ℕ, ◌+◌, ◌-◌, ◌<◌, ◌≤◌, ◌++◌, Bool, true, min, List, [], ◌∷◌, length, take, drop}
+use Rattle.std.proofs.Common.{refl, ap, sym, ◌∙◌, subst, arith}
 use Rattle.std.proofs.lemmas.List.{append-nil, append_assoc, length-take, length-drop}
 use Rattle.std.proofs.lemmas.List.Sums.{sum_by-cons}
 use Rattle.std.proofs.Math.Seq.{take-append-add}
@@ -11,7 +12,8 @@ use Rattle.pacer.specs.Pacings.{IsPacing, Pacing, due_by, first_slots, plan_byte
 use Rattle.pacer.proofs.PacingLemmas.{first-slots-rise}
 use Rattle.pacer.proofs.SendingLemmas.{between-join}
 use Rattle.conn.proofs.Filming.{sent_through, through_is}
-use Rattle.transcript.specs.Plays.{AreOver, Asking, FilmPlay, due_by as all_due, due_of, film_of, film_written, bytes_of_plays, kept_in, plays_of}
+use Rattle.transcript.specs.Plays.{AreOver, Asking, FilmPlay, due_by as all_due, due_of, film_of, film_written}
+use Rattle.transcript.specs.Plays.{bytes_of_plays, kept_in, plays_of}
 use Rattle.transcript.proofs.Turning.{Sends, Idle, Going, Ending}
 
 -- the film of a pacing, and its play where so much is kept
@@ -34,10 +36,12 @@ IsFilm slot (play ∷ plays) bytes =
     × ((bytes ≡ take (due_of slot play) (film_of play) ++ rest) × IsFilm slot plays rest × IsSpent plays slot play)
 
 -- as a whole list
-pub film_is : (slot : ℕ) (plays : List FilmPlay) (bytes : List ℕ) → IsFilm slot plays bytes → bytes ≡ film_written slot plays
+pub film_is : (slot : ℕ) (plays : List FilmPlay) (bytes : List ℕ) → IsFilm slot plays bytes
+    → bytes ≡ film_written slot plays
 film_is slot [] bytes is = is
 film_is slot (play ∷ []) bytes is =
-    is.1.0 ∙ ap (λ r. take (due_of slot play) (film_of play) ++ r) is.1.1 ∙ append-nil (take (due_of slot play) (film_of play))
+    is.1.0 ∙ ap (λ r. take (due_of slot play) (film_of play) ++ r) is.1.1
+    ∙ append-nil (take (due_of slot play) (film_of play))
     ∙ ap (λ n. take n (film_of play)) (omega arith)
 film_is slot (play ∷ next ∷ plays) bytes is =
     let due : due_of slot play ≡ play.keep = is.1.2.0 in
@@ -58,8 +62,10 @@ film_over_all slot (play ∷ next ∷ plays) bytes is = (is.1.2.0, film_over_all
 abbrev pub IsRest : Sends → List Asking → ℕ → List ℕ → Type 0
 IsRest Idle askings slot more = IsFilm slot (plays_of askings) more
 IsRest (Going p) askings slot more =
-    IsFilm slot (play_with p (kept_in askings (total_bytes p.plan)) ∷ plays_of askings) (take p.sent (film_in p) ++ more)
-IsRest (Ending p) askings slot more = IsFilm slot (play_with p p.keep ∷ plays_of askings) (take p.sent (film_in p) ++ more)
+    IsFilm slot (play_with p (kept_in askings (total_bytes p.plan)) ∷ plays_of askings)
+    (take p.sent (film_in p) ++ more)
+IsRest (Ending p) askings slot more = IsFilm slot (play_with p p.keep ∷ plays_of askings)
+    (take p.sent (film_in p) ++ more)
 
 -- all that is due of a pacing by a slot was sent
 pub record IsOnTime (p : Pacing) (slot : ℕ) : Type 0 where
@@ -71,7 +77,8 @@ pub record IsOnTime (p : Pacing) (slot : ℕ) : Type 0 where
 abbrev pub IsAtLast : Pacing → Type 0
 IsAtLast p = (place : ℕ) → IsBoundary p.pieces place → p.before + p.sent ≤ place → p.before + p.keep ≤ place
 
--- what is being sent is on time: a play with all its plan, or the rest up to a boundary of one that was halted, whose reply waits
+-- what is being sent is on time: a play with all its plan, or the rest up to a boundary of one that was halted, whose
+-- reply waits
 abbrev pub IsSound : Sends → Bool → ℕ → Type 0
 IsSound Idle waits slot = ⊤
 IsSound (Going p) waits slot = IsOnTime p slot × (p.keep ≡ total_bytes p.plan)
@@ -86,7 +93,8 @@ due_now p slot on =
     sym (on.even ∙ on.pacing.due ∙ ap (λ n. min (first_slots p.plan n) p.keep) on.passed)
 
 -- a play's bytes so far
-pub film_now : (p : Pacing) (slot : ℕ) → IsOnTime p slot → IsFilm slot (play_with p p.keep ∷ []) (take p.sent (film_in p) ++ [])
+pub film_now : (p : Pacing) (slot : ℕ) → IsOnTime p slot
+    → IsFilm slot (play_with p p.keep ∷ []) (take p.sent (film_in p) ++ [])
 film_now p slot on = ([], (ap (λ n. take n (film_in p) ++ []) (sym (due_now p slot on)), refl, tt))
 
 -- nothing follows

@@ -1,5 +1,6 @@
 -- A watching that is done has heard all of a film's blocks.
-use Rattle.std.proofs.Common.{◌≡◌, ℕ, ◌+◌, ◌≤◌, List, [], ◌∷◌, ◌++◌, take, drop, refl, sym, ap, subst, ◌∙◌, append_assoc, arith, inl, inr, ◌⊎◌}
+use Rattle.std.proofs.Common.{◌≡◌, ℕ, ◌+◌, ◌≤◌, List, [], ◌∷◌, ◌++◌, take, drop, refl, sym, ap, subst, ◌∙◌}
+use Rattle.std.proofs.Common.{append_assoc, arith, inl, inr, ◌⊎◌}
 use Rattle.std.proofs.lemmas.List.{take-append-drop}
 use Rattle.film_frames.specs.Runs.{count_ended}
 use Rattle.film_frames.specs.Tracks.{framed_bytes}
@@ -8,30 +9,31 @@ use Rattle.rtsp_client.specs.declared.wishes.Watched.{Watched}
 use Rattle.rtsp_client.specs.Answers.{moments_in, moments_of}
 use Rattle.rtsp_client.specs.Moments.{Moment, Frame, Reply, Report}
 use Rattle.transcript.proofs.ClientHearing.{IsDone, no_sum}
-use Rattle.transcript.proofs.Reading.{AreTexts, Stream, all_of, begun_sum, two-moments}
-use Rattle.transcript.proofs.Streaming.{cut-front}
-use Rattle.transcript.proofs.Sums.{AreOneBlocks, Sum, replies-grow, step, steps, sum_of}
+use Rattle.transcript.proofs.Reading.{AreTexts, Stream, all_of, begun_sum, two_moments}
+use Rattle.transcript.proofs.Streaming.{cut_front}
+use Rattle.transcript.proofs.Sums.{AreOneBlocks, Sum, replies_grow, step, steps, sum_of}
 
 -- a block is no reply
-no-reply : (b x : List ℕ) (m : List ℕ) → (moments_of b ≡ Frame b ∷ []) ⊎ (moments_of b ≡ Report b ∷ [])
+no_reply : (b x : List ℕ) (m : List ℕ) → (moments_of b ≡ Frame b ∷ []) ⊎ (moments_of b ≡ Report b ∷ [])
     → moments_of x ≡ Reply m ∷ [] → x ≡ b → ⊥
-no-reply b x m (inl frame) reply same =
+no_reply b x m (inl frame) reply same =
     let clash : Reply m ∷ [] ≡ Frame b ∷ [] = sym reply ∙ (ap moments_of same ∙ frame) in cc
-no-reply b x m (inr report) reply same =
+no_reply b x m (inr report) reply same =
     let clash : Reply m ∷ [] ≡ Report b ∷ [] = sym reply ∙ (ap moments_of same ∙ report) in cc
 
-more-reply : (y : List ℕ) (ys : List (List ℕ)) (s : Sum) → moments_of y ≡ Reply y ∷ []
+more_reply : (y : List ℕ) (ys : List (List ℕ)) (s : Sum) → moments_of y ≡ Reply y ∷ []
     → s.replies + 1 ≤ (steps s (moments_in (y ∷ ys))).replies
-more-reply y ys s is =
+more_reply y ys s is =
     let P : List Moment → Type 0 = λ l. s.replies + 1 ≤ (steps s (l ++ moments_in ys)).replies in
-    subst P (sym is) (replies-grow (step (Reply y) s) (moments_in ys))
+    subst P (sym is) (replies_grow (step (Reply y) s) (moments_in ys))
 
-block-reply : (b : List ℕ) (ys : List (List ℕ)) (s : Sum) (n : ℕ) → (moments_of b ≡ Frame b ∷ []) ⊎ (moments_of b ≡ Report b ∷ [])
+block_reply : (b : List ℕ) (ys : List (List ℕ)) (s : Sum) (n : ℕ) → (moments_of b ≡ Frame b ∷ [])
+    ⊎ (moments_of b ≡ Report b ∷ [])
     → (steps s (moments_in (b ∷ ys))).replies ≡ s.replies → (t : Sum) × ((steps t (moments_in ys)).replies ≡ t.replies)
-block-reply b ys s n (inl frame) same =
+block_reply b ys s n (inl frame) same =
     let P : List Moment → Type 0 =
     λ l. (steps s (l ++ moments_in ys)).replies ≡ s.replies in (step (Frame b) s, subst P frame same)
-block-reply b ys s n (inr report) same =
+block_reply b ys s n (inr report) same =
     let P : List Moment → Type 0 =
     λ l. (steps s (l ++ moments_in ys)).replies ≡ s.replies in (step (Report b) s, subst P report same)
 
@@ -47,63 +49,66 @@ record NoReply (ps : List (List ℕ)) : Type 0 where
   same : (steps sum (moments_in ps)).replies ≡ sum.replies
 
 -- elements before a reply, and none of them a reply, are all the blocks
-all-blocks : {bs ps : List (List ℕ)} {m : List ℕ} (later : List (List ℕ)) (reply_then : ReplyThen m) → NoReply ps →
+all_blocks : {bs ps : List (List ℕ)} {m : List ℕ} (later : List (List ℕ)) (reply_then : ReplyThen m) → NoReply ps →
     AreOneBlocks bs → AreTexts later → ps ++ reply_then.block ∷ reply_then.rest ≡ bs ++ later → ps ≡ bs
-all-blocks {bs = []} {ps = []} {m} later reply_then silent are texts all = refl
-all-blocks {bs = []} {ps = y ∷ ys} {m} [] reply_then silent are texts all = absurd (let no : ⊥ = cc in no)
-all-blocks {bs = []} {ps = y ∷ ys} {m} (z ∷ zs) reply_then silent are texts all =
+all_blocks {bs = []} {ps = []} {m} later reply_then silent are texts all = refl
+all_blocks {bs = []} {ps = y ∷ ys} {m} [] reply_then silent are texts all = absurd (let no : ⊥ = cc in no)
+all_blocks {bs = []} {ps = y ∷ ys} {m} (z ∷ zs) reply_then silent are texts all =
     let first : z ≡ y = cc in
     let P : List ℕ → Type 0 = λ q. moments_of q ≡ Reply q ∷ [] in
-    absurd (omega (arith, silent.same, more-reply y ys silent.sum (subst P first texts.0.moment)))
-all-blocks {bs = b ∷ bs} {ps = []} {m} later reply_then silent are texts all =
-    let first : reply_then.block ≡ b = cc in absurd (no-reply b reply_then.block m are.0.moment reply_then.reply first)
-all-blocks {bs = b ∷ bs} {ps = y ∷ ys} {m} later reply_then silent are texts all =
+    absurd (omega (arith, silent.same, more_reply y ys silent.sum (subst P first texts.0.moment)))
+all_blocks {bs = b ∷ bs} {ps = []} {m} later reply_then silent are texts all =
+    let first : reply_then.block ≡ b = cc in absurd (no_reply b reply_then.block m are.0.moment reply_then.reply first)
+all_blocks {bs = b ∷ bs} {ps = y ∷ ys} {m} later reply_then silent are texts all =
     let first : y ≡ b = cc in
     let rest : ys ++ reply_then.block ∷ reply_then.rest ≡ bs ++ later = cc in
     let P : List ℕ → Type 0 = λ q. (steps s (moments_in (q ∷ ys))).replies ≡ s.replies in
-    let next = block-reply b ys s 0 are.0.moment (subst P first same) in
+    let next = block_reply b ys s 0 are.0.moment (subst P first same) in
     ap (λ q. q ∷ ys) first
-    ∙ ap (λ l. b ∷ l) (all-blocks later reply_then (record { sum = next.0; same = next.1 }) are.1 texts rest)
+    ∙ ap (λ l. b ∷ l) (all_blocks later reply_then (record { sum = next.0; same = next.1 }) are.1 texts rest)
   where
     open silent use {sum as s, same}
 
 -- with the two first replies before them
-all-elements : {ps : List (List ℕ)} {m : List ℕ} (x : Stream) (p : List ℕ) (tail : List (List ℕ)) → moments_of p ≡ Reply m ∷ []
+all_elements : {ps : List (List ℕ)} {m : List ℕ} (x : Stream) (p : List ℕ) (tail : List (List ℕ))
+    → moments_of p ≡ Reply m ∷ []
     → all_of x ≡ ps ++ p ∷ tail → (steps no_sum (moments_in ps)).replies ≡ 2 → ps ≡ x.first ∷ x.second ∷ x.blocks
-all-elements {ps = []} {m} x p tail reply all two = absurd (omega (arith, two))
-all-elements {ps = a ∷ []} {m} x p tail reply all two =
+all_elements {ps = []} {m} x p tail reply all two = absurd (omega (arith, two))
+all_elements {ps = a ∷ []} {m} x p tail reply all two =
     let first : x.first ≡ a = cc in
     let P : List ℕ → Type 0 = λ q. moments_of q ≡ Reply q ∷ [] in
     let one : steps no_sum (moments_in (a ∷ [])) ≡ steps no_sum (Reply a ∷ []) =
     ap (λ l. steps no_sum (l ++ [])) (subst P first x.first_is.moment) in
     absurd (omega (arith, two, ap (λ (s : Sum). s.replies) one))
-all-elements {ps = a ∷ b ∷ ps} {m} x p tail reply all two =
+all_elements {ps = a ∷ b ∷ ps} {m} x p tail reply all two =
     let first : x.first ≡ a = cc in
     let second : x.second ≡ b = cc in
     let rest : ps ++ p ∷ tail ≡ x.blocks ++ x.later = cc in
     let P : List ℕ → List ℕ → Type 0 = λ q r. (steps no_sum (moments_in (q ∷ r ∷ ps))).replies ≡ 2 in
     let there : (steps no_sum (moments_in (x.first ∷ x.second ∷ ps))).replies ≡ 2 =
     subst (λ r. P x.first r) (sym second) (subst (λ q. P q b) (sym first) two) in
-    let same : (steps (begun_sum x) (moments_in ps)).replies ≡ 2 = sym (ap (λ (s : Sum). s.replies) (two-moments x ps)) ∙ there in
+    let same : (steps (begun_sum x) (moments_in ps)).replies ≡ 2 =
+    sym (ap (λ (s : Sum). s.replies) (two_moments x ps)) ∙ there in
     ap (λ q. q ∷ b ∷ ps) (sym first) ∙ (ap (λ r. x.first ∷ r ∷ ps) (sym second)
-    ∙ ap (λ l. x.first ∷ x.second ∷ l) (all-blocks x.later (record { block = p; rest = tail; reply = reply })
+    ∙ ap (λ l. x.first ∷ x.second ∷ l) (all_blocks x.later (record { block = p; rest = tail; reply = reply })
     (record { sum = begun_sum x; same = same }) x.blocks_are x.later_are rest))
 
-pub done-sum : {wish : Wish} {watched : Watched} {bytes out : List ℕ} (x : Stream) (c : ℕ)
+pub done_sum : {wish : Wish} {watched : Watched} {bytes out : List ℕ} (x : Stream) (c : ℕ)
     (done : IsDone wish watched bytes out)
     → bytes ≡ take c (framed_bytes (all_of x)) → sum_of done.at.history ≡ steps (begun_sum x) (moments_in x.blocks)
-done-sum {out} x c done is =
+done_sum {out} x c done is =
     let all = all_of x in
     let k = count_ended c all in
     let p = take done.length_ done.at.rest in
-    let front = cut-front {ps = all} (record { count = c; alone = x.alone; front_is = is }) done.heard.elements
+    let front = cut_front {ps = all} (record { count = c; alone = x.alone; front_is = is }) done.heard.elements
     done.heard.cut done.whole in
     let tail = front.0 ++ drop k all in
     let whole : all ≡ done.heard.elements ++ p ∷ tail =
     sym (take-append-drop k all)
     ∙ (ap (λ l. l ++ drop k all) front.1
-    ∙ (append_assoc (done.heard.elements ++ p ∷ []) front.0 (drop k all) ∙ append_assoc done.heard.elements (p ∷ []) tail)) in
+    ∙ (append_assoc (done.heard.elements ++ p ∷ []) front.0 (drop k all)
+    ∙ append_assoc done.heard.elements (p ∷ []) tail)) in
     let two : (steps no_sum (moments_in done.heard.elements)).replies ≡ 2 =
     sym (ap (λ (s : Sum). s.replies) done.heard.sum) ∙ done.replies_are in
-    let are = all-elements x p tail done.moment whole two in
-    done.heard.sum ∙ (ap (λ l. steps no_sum (moments_in l)) are ∙ two-moments x x.blocks)
+    let are = all_elements x p tail done.moment whole two in
+    done.heard.sum ∙ (ap (λ l. steps no_sum (moments_in l)) are ∙ two_moments x x.blocks)

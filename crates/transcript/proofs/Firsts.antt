@@ -16,10 +16,12 @@ use Rattle.film_frames.specs.Pieces.{pieces_of, unit_pieces}
 use Rattle.film_frames.specs.Runs.{FramedRun, blocks_from, payload}
 use Rattle.rtsp_client.specs.Answers.{GoOn, GoesOn, history_after, moments_in}
 use Rattle.rtsp_client.specs.Films.{begins_film, is_complete, is_first_good, is_next_good, time_in, units_until}
-use Rattle.rtsp_client.specs.Moments.{History, Moment, Frame, Reply, Report, Slot, end_ms, first_frame, frames, is_playing}
-use Rattle.transcript.proofs.Blocks.{frame_block, frame_blocks, frame-moment, frames-one, frames_after, octets_after, report_block, report_if, report-moment}
-use Rattle.transcript.proofs.Sums.{AreOneBlocks, Sum, blocks-first, blocks-one-append, blocks-one-take, step, steps}
-use Rattle.transcript.proofs.Units.{blocks-one, frame-sizes, more-blocks, packets-there, report-sizes}
+use Rattle.rtsp_client.specs.Moments.{History, Moment, Frame, Reply, Report, Slot, end_ms, first_frame, frames}
+use Rattle.rtsp_client.specs.Moments.{is_playing}
+use Rattle.transcript.proofs.Blocks.{frame_block, frame_blocks, frame_moment, frames_one, frames_after, octets_after}
+use Rattle.transcript.proofs.Blocks.{report_block, report_if, report_moment}
+use Rattle.transcript.proofs.Sums.{AreOneBlocks, Sum, blocks_first, blocks_one_append, blocks_one_take, step, steps}
+use Rattle.transcript.proofs.Units.{blocks_one, frame_sizes, more_blocks, packets_there, report_sizes}
 use Rattle.transcript.proofs.Blocks.{RunFrom}
 
 -- at each of its moments a watching went on
@@ -27,17 +29,17 @@ abbrev pub HasGoneOn : History → Type 0
 HasGoneOn [] = Unit {0}
 HasGoneOn (m ∷ h) = GoesOn h m × HasGoneOn h
 
-pub gone-on : (h : History) (ms : List Moment) → HasGoneOn h → GoOn h ms → HasGoneOn (history_after h ms)
-gone-on h [] gone good = gone
-gone-on h (m ∷ ms) gone good = gone-on (m ∷ h) ms (good.0, gone) good.1
+pub gone_on : (h : History) (ms : List Moment) → HasGoneOn h → GoOn h ms → HasGoneOn (history_after h ms)
+gone_on h [] gone good = gone
+gone_on h (m ∷ ms) gone good = gone_on (m ∷ h) ms (good.0, gone) good.1
 
 -- its first frame begins a film
-pub first-good : (h : History) → HasGoneOn h → 0 < frames h → begins_film (drop 20 (first_frame h)) ≡ true
-first-good [] gone some = absurd (omega (arith, some))
-first-good (Reply m ∷ h) gone some = first-good h gone.1 some
-first-good (Report b ∷ h) gone some = first-good h gone.1 some
-first-good (Slot t cut ∷ h) gone some = first-good h gone.1 some
-first-good (Frame b ∷ h) gone some =
+pub first_good : (h : History) → HasGoneOn h → 0 < frames h → begins_film (drop 20 (first_frame h)) ≡ true
+first_good [] gone some = absurd (omega (arith, some))
+first_good (Reply m ∷ h) gone some = first_good h gone.1 some
+first_good (Report b ∷ h) gone some = first_good h gone.1 some
+first_good (Slot t cut ∷ h) gone some = first_good h gone.1 some
+first_good (Frame b ∷ h) gone some =
     let P : List ℕ → Type 0 = λ f. begins_film (drop 20 f) ≡ true in
     let head : Bool = is_ok (head_of (drop 4 b)) in
     let last : Bool = cond (frames h == 0) (is_first_good h b) (is_next_good h b) in
@@ -54,7 +56,7 @@ first-good (Frame b ∷ h) gone some =
           (nat_le 1 (units_until (end_ms h) (time_in b)) && nat_le (units_until (end_ms h) (time_in b)) 4194304) is).0
       | inr more ↦
           subst P (sym (cond-false (frames h == 0) b (first_frame h) (ne_eqb (frames h) 0 more)))
-          (first-good h gone.1 (omega (arith, more)))
+          (first_good h gone.1 (omega (arith, more)))
     ]
 
 -- ---- the first frame of a run
@@ -80,8 +82,8 @@ lead : (starts : Bool) (from : RunFrom) (k : ℕ) (first : FirstFrame) (sum : Fr
 lead false from zero first sum some = absurd (omega (arith, sum.none, some))
 lead false from (suc k) first sum some =
     let b = frame_block run unit p f in
-    frame-sizes b (take k rest) s (λ t. t.first ≡ b) (frame-moment run f unit p media)
-    (blocks-first (take k rest) (step (Frame b) s) (blocks-one-take k rest are) (omega arith)
+    frame_sizes b (take k rest) s (λ t. t.first ≡ b) (frame_moment run f unit p media)
+    (blocks_first (take k rest) (step (Frame b) s) (blocks_one_take k rest are) (omega arith)
     ∙ cond-true (s.frames == 0) b s.first (eq-eqb s.frames 0 none))
   where
     open from use {run, frames as f, media}
@@ -91,8 +93,8 @@ lead true from zero first sum some = absurd (omega (arith, sum.none, some))
 lead true from (suc k) first sum some =
     let r = report_block run unit f o in
     let b = frame_block run unit p f in
-    let is = report-moment run f o unit control in
-    report-sizes r (take k (b ∷ rest)) sum.sum (λ t. 0 < t.frames → t.first ≡ b) is
+    let is = report_moment run f o unit control in
+    report_sizes r (take k (b ∷ rest)) sum.sum (λ t. 0 < t.frames → t.first ≡ b) is
     (λ more. lead false from k first (record { sum = step (Report r) sum.sum; none = sum.none }) more) some
   where
     open from use {run, frames as f, octets as o, control}
@@ -104,26 +106,26 @@ pub record IsLed (run : FramedRun) (starts : List ℕ) (unit : PictureUnit) (f :
   pub are : unit_packets starts unit ≡ packet ∷ packets
   pub first_is : first ≡ frame_block run unit packet f
 
-pub first-frame : {starts : List ℕ} {unit : PictureUnit} (from : RunFrom) (k : ℕ) (units : List PictureUnit)
+pub first_frame_is : {starts : List ℕ} {unit : PictureUnit} (from : RunFrom) (k : ℕ) (units : List PictureUnit)
     (s : Sum) → s.frames ≡ 0 →
     let t : Sum =
     steps s (moments_in
     (take k (blocks_from from.run from.frames from.octets (pieces_of starts (unit ∷ units))))) in 0 < t.frames →
     IsLed from.run starts unit from.frames t.first
-first-frame {starts} {unit} from k units s none some =
-    let there = packets-there starts unit in
+first_frame_is {starts} {unit} from k units s none some =
+    let there = packets_there starts unit in
     let rest = blocks_from run (frames_after f (unit_pieces starts unit))
     (octets_after o (unit_pieces starts unit)) (pieces_of starts units) in
     let front = report_if unit.starts_group run unit f o in
     let frames_rest = frame_blocks run unit (f + 1) there.packets in
     let all : blocks_from run f o (pieces_of starts (unit ∷ units))
     ≡ front ++ (frame_block run unit there.packet f ∷ (frames_rest ++ rest)) =
-    more-blocks run f o starts unit units
+    more_blocks run f o starts unit units
     ∙ (ap (λ ps. (front ++ frame_blocks run unit f ps) ++ rest) there.are
     ∙ append_assoc front (frame_block run unit there.packet f ∷ frames_rest) rest) in
     let are : AreOneBlocks (frames_rest ++ rest) =
-    blocks-one-append frames_rest rest (frames-one run (f + 1) unit there.packets media)
-    (blocks-one (record {
+    blocks_one_append frames_rest rest (frames_one run (f + 1) unit there.packets media)
+    (blocks_one (record {
       run = run;
       frames = frames_after f (unit_pieces starts unit);
       octets = octets_after o (unit_pieces starts unit);
@@ -147,10 +149,10 @@ first-frame {starts} {unit} from k units s none some =
 -- ---- the time of a picture
 
 -- a first frame that begins a film tells its rate
-pub time-is : {run : FramedRun} {starts : List ℕ} {unit : PictureUnit} {f rate : ℕ} {first : List ℕ}
+pub frame_time_is : {run : FramedRun} {starts : List ℕ} {unit : PictureUnit} {f rate : ℕ} {first : List ℕ}
     → IsLaid starts unit → IsLed run starts unit f first
     → BeginsSequence run.film rate unit.from → begins_film (drop 20 first) ≡ true → time_in first ≡ picture_time rate
-time-is {run} {starts} {unit} {first} laid led begins good =
+frame_time_is {run} {starts} {unit} {first} laid led begins good =
     let p = led.packet in
     let its : List ℕ = payload run.film p in
     let Q : List ℕ → Type 0 = λ b. begins_film (drop 20 b) ≡ true in

@@ -17,7 +17,8 @@ follows_last {mid} {new} {round} old (first ∷ rounds) runs last =
     (runs.0, (runs.1.0, follows_last runs.0 rounds runs.1.2 last))
 
 -- each front of a course is one
-abbrev pub parts_of : (old new : Stage) (first rest : List Round) → Follows old (first ++ rest) new → IsParted old first rest new
+abbrev pub parts_of : (old new : Stage) (first rest : List Round) → Follows old (first ++ rest) new
+    → IsParted old first rest new
 parts_of old new [] rest follows = (old, (refl, follows))
 parts_of old new (round ∷ first) rest follows =
     let parted : IsParted follows.0 first rest new = parts_of follows.0 new first rest follows.1.1 in

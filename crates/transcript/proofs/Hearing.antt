@@ -1,13 +1,16 @@
 -- The slot that a session heard last is the greatest that its connection heard.
-use Rattle.std.proofs.Common.{◌≡◌, ℕ, ◌^◌, ◌<◌, ◌≤◌, ◌++◌, ◌&&◌, if◌then◌else◌, Bool, true, false, nat_le, max, List, [], ◌∷◌, refl, ap, sym, ◌∙◌, subst, arith}
+use Rattle.std.proofs.Common.{◌≡◌, ℕ, ◌^◌, ◌<◌, ◌≤◌, ◌++◌, ◌&&◌, if◌then◌else◌, Bool, true, false, nat_le, max, List}
+use Rattle.std.proofs.Common.{[], ◌∷◌, refl, ap, sym, ◌∙◌, subst, arith}
 use Rattle.std.proofs.lemmas.Bool.{ltb-true, ltb-false}
 use Rattle.std.proofs.lemmas.List.{append-nil}
 use Rattle.vod_base.specs.Links.{Doing, HeardBytes, HeardEnd, HeardSlot, Sent}
 use Rattle.film_frames.specs.declared.stores.Stored.{Stored}
 use Rattle.session.specs.declared.settings.Settings.{Settings}
 use Rattle.session.specs.declared.states.Awaited.TheVariants.{Nothing}
-use Rattle.session.specs.Sendings.{can_reply, after_play, is_between, is_sending, sent_due, sent_reply, sent_slot, after_slot, stepped_in}
-use Rattle.session.specs.Standings.{Awaits, NoAnswer, PlayAnswer, HaltAnswer, LookAnswer, OfferAnswer, Standing, awaited_answer}
+use Rattle.session.specs.Sendings.{can_reply, after_play, is_between, is_sending, sent_due, sent_reply, sent_slot}
+use Rattle.session.specs.Sendings.{after_slot, stepped_in}
+use Rattle.session.specs.Standings.{Awaits, NoAnswer, PlayAnswer, HaltAnswer, LookAnswer, OfferAnswer, Standing}
+use Rattle.session.specs.Standings.{awaited_answer}
 use Rattle.conn.specs.Films.{rounds_film}
 use Rattle.conn.specs.Rounds.{Comes, Round}
 use Rattle.conn.specs.Turns.{Outcome, Unasked, Entered, WasFull, Offered, Part, Stage, Taking}
@@ -41,11 +44,13 @@ takes_left old new (Answered message outcome parts ∷ takings) takes rest =
     (turns_as old.session message outcome replied.answered replied.heard rest) in
     let reply = reply_left (can_reply replied.answered) replied.answered in
     let session : takes.0.session ≡ after_reply replied.answered = ap (λ (s : Stage). s.session) replied.new_is in
-    let left = takes_left takes.0 new takings takes.1.1 (ap (λ (s : Standing). s.awaited) session ∙ reply.0 ∙ after.awaited) in
+    let left = takes_left takes.0 new takings takes.1.1 (ap (λ (s : Standing). s.awaited) session ∙ reply.0
+    ∙ after.awaited) in
     (left.0, left.1 ∙ ap (λ (s : Standing). s.heard) session ∙ reply.1 ∙ after.heard)
 
 -- a slot that is taken up is the last one then
-halted_heard : (s : Standing) (keep : ℕ) (halt : Outcome) (new : Standing) → IsHalted s keep halt new → new.heard ≡ s.heard
+halted_heard : (s : Standing) (keep : ℕ) (halt : Outcome) (new : Standing) → IsHalted s keep halt new
+    → new.heard ≡ s.heard
 halted_heard s keep Unasked new halted = absurd halted
 halted_heard s keep (Entered placed) new halted = ap (λ (n : Standing). n.heard) halted.halts
 halted_heard s keep (WasFull more entries open_plays) new halted = absurd halted
@@ -67,20 +72,24 @@ sent_heard old slot = (reply_left (old.waits && is_between (stepped_in true slot
 
 slot_cases : {later : Bool} (old : Standing) (slot : ℕ) (small sending : Bool)
     → (later ≡ true → old.heard < slot) → (later ≡ false → slot ≤ old.heard)
-    → (if later && small then (if sending then after_play (sent_slot old slot) else record old { heard = slot }) else old).heard
+    → (if later && small then (if sending then after_play (sent_slot old slot) else record old
+    { heard = slot }) else old).heard
     ≡ max old.heard (if small then slot else 0)
 slot_cases {later = true} old slot true true after before = let h : old.heard < slot =
     after refl in sent_heard old slot ∙ omega (arith, h)
 slot_cases {later = true} old slot true false after before = let h : old.heard < slot = after refl in omega (arith, h)
 slot_cases {later = true} old slot false sending after before = omega arith
-slot_cases {later = false} old slot true sending after before = let h : slot ≤ old.heard = before refl in omega (arith, h)
+slot_cases {later = false} old slot true sending after before = let h : slot ≤ old.heard = before refl in
+    omega (arith, h)
 slot_cases {later = false} old slot false sending after before = omega arith
 
 slotted_heard : (old : Standing) (slot : ℕ) → (after_slot old slot).heard ≡ max old.heard (slot_in (HeardSlot slot))
 slotted_heard old slot =
-    slot_cases old slot (nat_le slot (2 ^ 62)) (is_sending old.state) (ltb-true old.heard slot) (ltb-false old.heard slot)
+    slot_cases old slot (nat_le slot (2 ^ 62)) (is_sending old.state) (ltb-true old.heard slot)
+    (ltb-false old.heard slot)
 
-pub comes_heard : (old opened : Stage) (event : Doing) (due : List Part) (halt : Outcome) → Comes old event due halt opened
+pub comes_heard : (old opened : Stage) (event : Doing) (due : List Part) (halt : Outcome)
+    → Comes old event due halt opened
     → opened.session.heard ≡ max old.session.heard (slot_in event)
 comes_heard old opened (HeardBytes bytes) due halt comes =
     ap (λ (s : Stage). s.session.heard) comes.3 ∙ omega arith

@@ -41,6 +41,7 @@ mod SettledSetups
 mod NoPlays
 mod Waiting
 mod Wished
+mod WholeReplies
 mod OnePlay
 mod TwoReplies
 mod AskedInput

@@ -1,11 +1,13 @@
 -- What a doing makes of a session and of the reply that is held up, and so a request.
-use Rattle.std.proofs.Common.{◌≡◌, ℕ, ◌++◌, ◌&&◌, if◌then◌else◌, Bool, true, false, List, [], ◌∷◌, Option, Some, None, refl, ap, sym, ◌∙◌, subst}
+use Rattle.std.proofs.Common.{◌≡◌, ℕ, ◌++◌, ◌&&◌, if◌then◌else◌, Bool, true, false, List, [], ◌∷◌, Option, Some, None}
+use Rattle.std.proofs.Common.{refl, ap, sym, ◌∙◌, subst}
 use Rattle.std.proofs.lemmas.Bool.{true≢false}
 use Rattle.session.specs.declared.states.Awaited.{Awaited}
 use Rattle.session.specs.Sendings.{can_reply, is_between, sent_reply}
 use Rattle.session.specs.Standings.{Standing}
 use Rattle.conn.specs.Films.{takings_parts}
-use Rattle.conn.specs.Turns.{Answered, IsReplied, Outcome, Part, Passed, Stage, Taking, TakesAll, Text, after_reply, reply_parts}
+use Rattle.conn.specs.Turns.{Answered, IsReplied, Outcome, Part, Passed, Stage, Taking, TakesAll, Text, after_reply}
+use Rattle.conn.specs.Turns.{reply_parts}
 use Rattle.transcript.specs.Courses.{takings_askings}
 use Rattle.transcript.specs.Places.{takings_slots}
 use Rattle.transcript.specs.Plays.{Asking, Asks}
@@ -14,19 +16,22 @@ use Rattle.transcript.proofs.Films.{IsSound}
 use Rattle.transcript.proofs.Hearing.{takes_left}
 use Rattle.transcript.proofs.Placed.{Replying, replying, turn_fits}
 use Rattle.transcript.proofs.Turning.{Going, Idle, Ending, Sends, sends_in, turns_as}
-use Rattle.transcript.proofs.Waits.{GoesTo, IsHeld, goes_same, goes_then}
+use Rattle.transcript.proofs.Waits.{GoesTo, IsHeld, goes_same, goes_then, point}
 
 -- what a doing makes of a session, of the reply that is held up, and of what is sent
-pub record Move (old new : Standing) (pending : Option ℕ) (made : List Asking) (slots : List ℕ) (parts : List Part) : Type 0 where
+pub record Move (old new : Standing) (pending : Option ℕ) (made : List Asking) (slots : List ℕ)
+    (parts : List Part) : Type 0 where
   pub after : Option ℕ
   pub held : IsHeld after (sends_in new.state) new.waits new.heard
-  pub goes_on : GoesTo (sends_in old.state) (sends_in new.state) old.heard new.heard pending after made slots parts
+  pub goes_on : GoesTo (point (sends_in old.state) old.heard pending) (point (sends_in new.state) new.heard after)
+      made slots parts
 
 abbrev pub HeldIn : Option ℕ → Standing → Type 0
 HeldIn pending s = IsHeld pending (sends_in s.state) s.waits s.heard
 
 pub move_none : (s : Standing) (pending : Option ℕ) → HeldIn pending s → Move s s pending [] [] []
-move_none s pending held = record { after = pending; held = held; goes_on = goes_same (sends_in s.state) s.heard pending }
+move_none s pending held =
+    record { after = pending; held = held; goes_on = goes_same (point (sends_in s.state) s.heard pending) }
 
 pub move_then : {a b c : Standing} {pending : Option ℕ} {made asked : List Asking} {slots taken : List ℕ}
     {parts sent : List Part}
@@ -35,8 +40,7 @@ pub move_then : {a b c : Standing} {pending : Option ℕ} {made asked : List Ask
 move_then {a} {c} {made} {taken} one two = record {
   after = two.after;
   held = two.held;
-  goes_on = goes_then
-      one.goes_on two.goes_on;
+  goes_on = goes_then one.goes_on two.goes_on;
 }
 
 unheld : (pending : Option ℕ) (sends : Sends) (waits : Bool) (heard : ℕ) → IsHeld pending sends waits heard
@@ -61,7 +65,8 @@ reply_move : (s : Standing) → s.waits ≡ true → IsSound (sends_in s.state) 
     → Move s (after_reply s) (Some s.heard) [] [] (reply_parts s)
 reply_move s waits sound =
     let can : is_between s.state ≡ can_reply s = sym (ap (λ w. w && is_between s.state) waits) in
-    subst (λ goes. Move s (if goes then sent_reply s else s) (Some s.heard) [] [] (if goes then Text s.text ∷ [] else [])) can
+    subst (λ goes. Move s (if goes then sent_reply s else s) (Some s.heard) [] []
+    (if goes then Text s.text ∷ [] else [])) can
     (reply_as s (is_between s.state) waits (replying s.state (is_between s.state) s.heard s.text sound refl))
 
 answered_move : {old new : Stage} {message : List ℕ} {outcome : Outcome} {parts : List Part}
@@ -77,18 +82,19 @@ answered_move {old} {new} {message} {outcome} replied stands =
     let sound : IsSound (sends_in s.state) true s.heard =
     subst (λ w. IsSound (sends_in s.state) w s.heard) after.waits step.on.sound in
     let reply = reply_move s after.waits sound in
-    let first : GoesTo (sends_in old.session.state) (sends_in s.state) old.session.heard s.heard None
-    (Some s.heard) (Asks asked outcome ∷ []) (old.session.heard ∷ []) [] =
-    subst (λ h. GoesTo (sends_in old.session.state) (sends_in s.state) old.session.heard h None (Some h)
-    (Asks asked outcome ∷ []) (old.session.heard ∷ []) [])
+    let first : GoesTo (point (sends_in old.session.state) old.session.heard None)
+    (point (sends_in s.state) s.heard (Some s.heard)) (Asks asked outcome ∷ []) (old.session.heard ∷ []) [] =
+    subst (λ h. GoesTo (point (sends_in old.session.state) old.session.heard None)
+    (point (sends_in s.state) h (Some h)) (Asks asked outcome ∷ []) (old.session.heard ∷ []) [])
     (sym after.heard) (turn_fits old.session s asked outcome turns) in
-    let all : Move old.session (after_reply s) None (Asks asked outcome ∷ []) (old.session.heard ∷ []) (reply_parts s) = record {
+    let all : Move old.session (after_reply s) None (Asks asked outcome ∷ []) (old.session.heard ∷ [])
+    (reply_parts s) = record {
       after = reply.after;
       held = reply.held;
-      goes_on = goes_then
-          first reply.goes_on;
+      goes_on = goes_then first reply.goes_on;
     } in
-    subst (λ ps. Move old.session new.session None (Asks asked outcome ∷ []) (old.session.heard ∷ []) ps) (sym replied.parts_are)
+    subst (λ ps. Move old.session new.session None (Asks asked outcome ∷ []) (old.session.heard ∷ []) ps)
+    (sym replied.parts_are)
     (subst (λ (n : Stage). Move old.session n.session None (Asks asked outcome ∷ []) (old.session.heard ∷ [])
     (reply_parts s)) (sym replied.new_is) all)
 
@@ -117,7 +123,8 @@ takes_move {pending} old new (Answered message outcome parts ∷ takings) takes 
     let rest = takes_move {pending = one.after} mid new takings takes.1.1
     (taken_stands old mid (Answered message outcome parts) replied stands) one.held in
     let same : mid.session.heard ≡ old.session.heard =
-    (takes_left old mid (Answered message outcome parts ∷ []) (one_taking old mid message outcome parts replied) stands.rest).1 in
+    (takes_left old mid (Answered message outcome parts ∷ []) (one_taking old mid message outcome parts replied)
+    stands.rest).1 in
     let made : List Asking = Asks replied.heard.asking.awaited outcome ∷ takings_askings mid takings new takes.1.1 in
     let all : Move old.session new.session None made
     (old.session.heard ∷ takings_slots mid.session.heard takings) (parts ++ takings_parts takings) =

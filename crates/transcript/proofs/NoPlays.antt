@@ -12,7 +12,7 @@ use Rattle.transcript.specs.Plays.{Asking, plays_begun, plays_of}
 use Rattle.transcript.proofs.Filming.{Stands, opened_stands, taken_stands}
 use Rattle.session.proofs.PlayHeard.{play_heard}
 use Rattle.transcript.proofs.Requests.{rounds_requests, takings_requests}
-use Rattle.transcript.proofs.Serving.{comes-none}
+use Rattle.transcript.proofs.Serving.{comes_none}
 use Rattle.transcript.proofs.Turning.{Begins, Ends, Starts, Stays, TurnsAs, turns_as}
 
 abbrev pub IsNoPlay : List ℕ → Type 0
@@ -22,24 +22,24 @@ abbrev pub AreNoPlays : List (List ℕ) → Type 0
 AreNoPlays [] = ⊤
 AreNoPlays (message ∷ messages) = IsNoPlay message × AreNoPlays messages
 
-pub no-plays-rest : (a b : List (List ℕ)) → AreNoPlays (a ++ b) → AreNoPlays b
-no-plays-rest [] b are = are
-no-plays-rest (message ∷ a) b are = no-plays-rest a b are.1
+pub no_plays_rest : (a b : List (List ℕ)) → AreNoPlays (a ++ b) → AreNoPlays b
+no_plays_rest [] b are = are
+no_plays_rest (message ∷ a) b are = no_plays_rest a b are.1
 
 -- what a request that was answered begins: nothing, or the play that it asked for
-turn-none : {old new : Standing} (asked : Awaited) (outcome : Outcome)
+turn_none : {old new : Standing} (asked : Awaited) (outcome : Outcome)
     → ((begins : Begins old asked outcome new) → ⊥) → TurnsAs old asked outcome new
     → (askings : List Asking) → plays_begun asked outcome askings ≡ []
-turn-none asked outcome never (Stays same after still) = still.none
-turn-none asked outcome never (Starts after begins) = absurd (never begins)
-turn-none asked outcome never (Ends after halts) = halts.none
+turn_none asked outcome never (Stays same after still) = still.none
+turn_none asked outcome never (Starts after begins) = absurd (never begins)
+turn_none asked outcome never (Ends after halts) = halts.none
 
-pub no-play-begins : {old : Stage} {message : List ℕ} {outcome : Outcome} {parts : List Part} {new : Stage}
+pub no_play_begins : {old : Stage} {message : List ℕ} {outcome : Outcome} {parts : List Part} {new : Stage}
     (replied : IsReplied old message outcome parts new) → Stands old.session → IsNoPlay message
     → (askings : List Asking) → plays_begun replied.heard.asking.awaited outcome askings ≡ []
-no-play-begins {old} {message} {outcome} replied stands none =
+no_play_begins {old} {message} {outcome} replied stands none =
     let heard = replied.heard in
-    turn-none {old = old.session} {new = replied.answered} heard.asking.awaited outcome
+    turn_none {old = old.session} {new = replied.answered} heard.asking.awaited outcome
     (λ begins.
     let its = play_heard old.session message heard.ask heard.asking begins.prepared stands.rest begins.asked_is
     heard.hears in
@@ -52,53 +52,53 @@ pub record HasNoPlays (old : Stage) (takings : List Taking) (more : List Asking)
   pub requests : AreNoPlays (takings_requests takings)
   pub none : plays_of more ≡ []
 
-pub takings-none : (old new : Stage) (takings : List Taking) (takes : TakesAll old takings new) (more : List Asking)
+pub takings_none : (old new : Stage) (takings : List Taking) (takes : TakesAll old takings new) (more : List Asking)
     → HasNoPlays old takings more → plays_of (takings_askings old takings new takes ++ more) ≡ []
-takings-none old new [] takes more has = has.none
-takings-none old new (Passed n ∷ takings) takes more has =
-    takings-none takes.0 new takings takes.1.1 more (record {
+takings_none old new [] takes more has = has.none
+takings_none old new (Passed n ∷ takings) takes more has =
+    takings_none takes.0 new takings takes.1.1 more (record {
       stands = taken_stands old takes.0 (Passed n) takes.1.0 has.stands;
       requests = has.requests;
       none = has.none;
     })
-takings-none old new (Answered message outcome parts ∷ takings) takes more has =
+takings_none old new (Answered message outcome parts ∷ takings) takes more has =
     let later = takings_askings takes.0 takings new takes.1.1 ++ more in
-    let begun = no-play-begins takes.1.0 has.stands has.requests.0 later in
+    let begun = no_play_begins takes.1.0 has.stands has.requests.0 later in
     ap (λ l. l ++ plays_of later) begun
-    ∙ takings-none takes.0 new takings takes.1.1 more (record {
+    ∙ takings_none takes.0 new takings takes.1.1 more (record {
       stands = taken_stands old takes.0 (Answered message outcome parts) takes.1.0 has.stands;
       requests = has.requests.1;
       none = has.none;
     })
 
-pub no-plays-front : (a b : List (List ℕ)) → AreNoPlays (a ++ b) → AreNoPlays a
-no-plays-front [] b are = tt
-no-plays-front (message ∷ a) b are = (are.0, no-plays-front a b are.1)
+pub no_plays_front : (a b : List (List ℕ)) → AreNoPlays (a ++ b) → AreNoPlays a
+no_plays_front [] b are = tt
+no_plays_front (message ∷ a) b are = (are.0, no_plays_front a b are.1)
 
-pub takes-stands : (old new : Stage) (takings : List Taking) → TakesAll old takings new → Stands old.session
+pub takes_stands : (old new : Stage) (takings : List Taking) → TakesAll old takings new → Stands old.session
     → Stands new.session
-takes-stands old new [] takes stands = subst (λ (s : Stage). Stands s.session) (sym takes) stands
-takes-stands old new (taking ∷ takings) takes stands =
-    takes-stands takes.0 new takings takes.1.1 (taken_stands old takes.0 taking takes.1.0 stands)
+takes_stands old new [] takes stands = subst (λ (s : Stage). Stands s.session) (sym takes) stands
+takes_stands old new (taking ∷ takings) takes stands =
+    takes_stands takes.0 new takings takes.1.1 (taken_stands old takes.0 taking takes.1.0 stands)
 
-pub event-none : {old new : Stage} {round : Round} (runs : Runs old round new) (askings : List Asking)
+pub event_none : {old new : Stage} {round : Round} (runs : Runs old round new) (askings : List Asking)
     → plays_begun (asked_by old.session round.event) round.halt askings ≡ []
-event-none {round} runs askings = comes-none (record { due = round.due; halt = round.halt; comes = runs.comes }) askings
+event_none {round} runs askings = comes_none (record { due = round.due; halt = round.halt; comes = runs.comes }) askings
 
-pub rounds-none : (old new : Stage) (rounds : List Round) (follows : Follows old rounds new) → Stands old.session
+pub rounds_none : (old new : Stage) (rounds : List Round) (follows : Follows old rounds new) → Stands old.session
     → AreNoPlays (rounds_requests rounds) → plays_of (askings_of old rounds new follows) ≡ []
-rounds-none old new [] follows stands are = refl
-rounds-none old new (round ∷ rounds) follows stands are =
+rounds_none old new [] follows stands are = refl
+rounds_none old new (round ∷ rounds) follows stands are =
     let runs = follows.1.0 in
     let opened = opened_stands old follows.0 round runs stands in
     let more = askings_of follows.0 rounds new follows.1.1 in
     let later = takings_askings runs.opened round.takings follows.0 runs.takes ++ more in
-    let mid = takes-stands runs.opened follows.0 round.takings runs.takes opened in
+    let mid = takes_stands runs.opened follows.0 round.takings runs.takes opened in
     let front = takings_requests round.takings in
-    let none = rounds-none follows.0 new rounds follows.1.1 mid (no-plays-rest front (rounds_requests rounds) are) in
-    ap (λ l. l ++ plays_of later) (event-none runs later)
-    ∙ takings-none runs.opened follows.0 round.takings runs.takes more (record {
+    let none = rounds_none follows.0 new rounds follows.1.1 mid (no_plays_rest front (rounds_requests rounds) are) in
+    ap (λ l. l ++ plays_of later) (event_none runs later)
+    ∙ takings_none runs.opened follows.0 round.takings runs.takes more (record {
       stands = opened;
-      requests = no-plays-front front (rounds_requests rounds) are;
+      requests = no_plays_front front (rounds_requests rounds) are;
       none = none;
     })

@@ -1,5 +1,6 @@
 -- The notes of a connection's report, event by event.
-use Rattle.std.proofs.Common.{◌≡◌, ℕ, ◌++◌, ◌&&◌, if◌then◌else◌, Bool, true, false, List, [], ◌∷◌, None, length, map, refl, sym, ap, subst, ◌∙◌}
+use Rattle.std.proofs.Common.{◌≡◌, ℕ, ◌++◌, ◌&&◌, if◌then◌else◌, Bool, true, false, List, [], ◌∷◌, None, length, map}
+use Rattle.std.proofs.Common.{refl, sym, ap, subst, ◌∙◌}
 use Rattle.std.proofs.lemmas.List.{append-nil, map-append}
 use Rattle.vod_base.specs.Links.{Doing, HeardBytes, HeardEnd, HeardSlot, Sent}
 use Rattle.film_frames.specs.declared.stores.Stored.{Stored}
@@ -31,9 +32,9 @@ use Rattle.transcript.specs.Notes.{turns_of}
 use Rattle.transcript.proofs.Filming.{Stands, course_step, round_step, stands_by, turn_after}
 use Rattle.transcript.proofs.Turning.{turns_as}
 use Rattle.transcript.proofs.Following.{follows_all}
-use Rattle.transcript.proofs.Noting.{Carries, IsKept, carries-as, carries-none, carries-then}
-use Rattle.transcript.proofs.Noting.{halt-turn, halted-open, heard-on, no-halt-note, no-note}
-use Rattle.transcript.proofs.Noting.{notes_until, open_note, unasked-turn}
+use Rattle.transcript.proofs.Noting.{Carries, IsKept, carries_as, carries_none, carries_then}
+use Rattle.transcript.proofs.Noting.{halt_turn, halted_open, heard_on, no_halt_note, no_note}
+use Rattle.transcript.proofs.Noting.{notes_until, open_note, unasked_turn}
 use Rattle.session.proofs.Carries.{nothing_of}
 use Rattle.conn.proofs.Telling.{CourseEnd}
 
@@ -45,218 +46,229 @@ record IsSame (old new : Standing) : Type 0 where
   plays : new.plays ≡ old.plays
   open-same : (later : List Turn) → open_note new.state later ≡ open_note old.state later
 
-same-then : (a b c : Standing) → IsSame a b → IsSame b c → IsSame a c
-same-then a b c one two = record { plays = two.plays ∙ one.plays; open-same = λ later. two.open-same later ∙ one.open-same later }
+same_then : (a b c : Standing) → IsSame a b → IsSame b c → IsSame a c
+same_then a b c one two = record {
+  plays = two.plays ∙ one.plays;
+  open-same = λ later. two.open-same later
+      ∙ one.open-same later;
+}
 
-from-same : (old mid new : Standing) (turns : List Turn) → IsSame old mid → CarriesOf mid turns new → CarriesOf old turns new
-from-same old mid new turns same on =
-    carries-as (sym same.plays) (λ later. sym (same.open-same later)) refl
+from_same : (old mid new : Standing) (turns : List Turn) → IsSame old mid → CarriesOf mid turns new
+    → CarriesOf old turns new
+from_same old mid new turns same on =
+    carries_as (sym same.plays) (λ later. sym (same.open-same later)) refl
     (λ later. refl) on
 
-to-same : (old mid new : Standing) (turns : List Turn) → IsSame mid new → CarriesOf old turns mid → CarriesOf old turns new
-to-same old mid new turns same on =
-    carries-as refl (λ later. refl) same.plays same.open-same on
+to_same : (old mid new : Standing) (turns : List Turn) → IsSame mid new → CarriesOf old turns mid
+    → CarriesOf old turns new
+to_same old mid new turns same on =
+    carries_as refl (λ later. refl) same.plays same.open-same on
 
 -- ---- slots
-stepped-open : (stop : Bool) (slot : ℕ) (state : State) (later : List Turn)
+stepped_open : (stop : Bool) (slot : ℕ) (state : State) (later : List Turn)
     → open_note (stepped_in stop slot state) later ≡ open_note state later
-stepped-open stop slot Init later = refl
-stepped-open stop slot (Ready setup paused) later = refl
-stepped-open stop slot (Playing setup play) later = refl
-stepped-open stop slot (Stopping setup stopping) later = refl
+stepped_open stop slot Init later = refl
+stepped_open stop slot (Ready setup paused) later = refl
+stepped_open stop slot (Playing setup play) later = refl
+stepped_open stop slot (Stopping setup stopping) later = refl
 
-between-open : (between : Bool) (slot : ℕ) (state : State) (later : List Turn)
+between_open : (between : Bool) (slot : ℕ) (state : State) (later : List Turn)
     → open_note (if between then stepped_in false slot (stepped_in true slot state) else stepped_in true slot
     state) later ≡ open_note state later
-between-open true slot state later =
-    stepped-open false slot (stepped_in true slot state) later ∙ stepped-open true slot state later
-between-open false slot state later = stepped-open true slot state later
+between_open true slot state later =
+    stepped_open false slot (stepped_in true slot state) later ∙ stepped_open true slot state later
+between_open false slot state later = stepped_open true slot state later
 
-due-open : (waits : Bool) (slot : ℕ) (state : State) (later : List Turn)
+due_open : (waits : Bool) (slot : ℕ) (state : State) (later : List Turn)
     → open_note (due_state waits state slot) later ≡ open_note state later
-due-open true slot state later = between-open (is_between (stepped_in true slot state)) slot state later
-due-open false slot state later = stepped-open false slot state later
+due_open true slot state later = between_open (is_between (stepped_in true slot state)) slot state later
+due_open false slot state later = stepped_open false slot state later
 
-settled-open : (state : State) (later : List Turn) → open_note (after_stop state) later ≡ open_note state later
-settled-open Init later = refl
-settled-open (Ready setup paused) later = refl
-settled-open (Playing setup play) later = refl
-settled-open (Stopping setup stop) later = refl
+settled_open : (state : State) (later : List Turn) → open_note (after_stop state) later ≡ open_note state later
+settled_open Init later = refl
+settled_open (Ready setup paused) later = refl
+settled_open (Playing setup play) later = refl
+settled_open (Stopping setup stop) later = refl
 
-reply-same : (goes : Bool) (s : Standing) → IsSame s (if goes then sent_reply s else s)
-reply-same true s = record { plays = refl; open-same = λ later. settled-open s.state later }
-reply-same false s = record { plays = refl; open-same = λ later. refl }
+reply_same : (goes : Bool) (s : Standing) → IsSame s (if goes then sent_reply s else s)
+reply_same true s = record { plays = refl; open-same = λ later. settled_open s.state later }
+reply_same false s = record { plays = refl; open-same = λ later. refl }
 
-due-same : (old : Standing) (slot : ℕ) → IsSame old (sent_due old slot)
-due-same old slot = record { plays = refl; open-same = λ later. due-open old.waits slot old.state later }
+due_same : (old : Standing) (slot : ℕ) → IsSame old (sent_due old slot)
+due_same old slot = record { plays = refl; open-same = λ later. due_open old.waits slot old.state later }
 
-slot-same : (old : Standing) (slot : ℕ) → IsSame old (sent_slot old slot)
-slot-same old slot =
-    same-then old (sent_due old slot) (sent_slot old slot) (due-same old slot)
-    (reply-same (old.waits && is_between (stepped_in true slot old.state)) (sent_due old slot))
+slot_same : (old : Standing) (slot : ℕ) → IsSame old (sent_slot old slot)
+slot_same old slot =
+    same_then old (sent_due old slot) (sent_slot old slot) (due_same old slot)
+    (reply_same (old.waits && is_between (stepped_in true slot old.state)) (sent_due old slot))
 
-slotted-if : (old : Standing) (slot : ℕ) (taken sending : Bool)
-    → IsSame old (if taken then (if sending then after_play (sent_slot old slot) else record old { heard = slot }) else old)
-slotted-if old slot true true =
-    let same = slot-same old slot in
+slotted_if : (old : Standing) (slot : ℕ) (taken sending : Bool)
+    → IsSame old (if taken then (if sending then after_play (sent_slot old slot) else record old
+    { heard = slot }) else old)
+slotted_if old slot true true =
+    let same = slot_same old slot in
     record { plays = same.plays; open-same = same.open-same }
-slotted-if old slot true false = record { plays = refl; open-same = λ later. refl }
-slotted-if old slot false sending = record { plays = refl; open-same = λ later. refl }
+slotted_if old slot true false = record { plays = refl; open-same = λ later. refl }
+slotted_if old slot false sending = record { plays = refl; open-same = λ later. refl }
 
-slotted-same : (old : Standing) (slot : ℕ) → IsSame old (after_slot old slot)
-slotted-same old slot = slotted-if old slot (is_taken old slot) (is_sending old.state)
+slotted_same : (old : Standing) (slot : ℕ) → IsSame old (after_slot old slot)
+slotted_same old slot = slotted_if old slot (is_taken old slot) (is_sending old.state)
 
-kept-halt : (state : State) (awaited : Awaited) (keep : ℕ) (next : Next) → awaited ≡ Halt keep next → IsKept state awaited keep
-kept-halt Init awaited keep next is = tt
-kept-halt (Ready setup paused) awaited keep next is = tt
-kept-halt (Playing setup play) awaited keep next is = ap (λ a. kept_of a play.pacer.due) is
-kept-halt (Stopping setup stop) awaited keep next is = tt
+kept_halt : (state : State) (awaited : Awaited) (keep : ℕ) (next : Next) → awaited ≡ Halt keep next
+    → IsKept state awaited keep
+kept_halt Init awaited keep next is = tt
+kept_halt (Ready setup paused) awaited keep next is = tt
+kept_halt (Playing setup play) awaited keep next is = ap (λ a. kept_of a play.pacer.due) is
+kept_halt (Stopping setup stop) awaited keep next is = tt
 
-unasked-finished : (s new : Standing) (halt : Outcome) → IsFinished NoAnswer s halt new → CarriesOf s (turn_of s halt ∷ []) new
-unasked-finished s new Unasked is =
+unasked_finished : (s new : Standing) (halt : Outcome) → IsFinished NoAnswer s halt new
+    → CarriesOf s (turn_of s halt ∷ []) new
+unasked_finished s new Unasked is =
     let C : Standing → Type 0 = λ n. CarriesOf s (turn_of s Unasked ∷ []) n in
-    subst C (sym is) (unasked-turn s.plays s.state s)
-unasked-finished s new (Entered placed) is = absurd is
-unasked-finished s new (WasFull more entries open_plays) is = absurd is
-unasked-finished s new (Offered at_slot note) is = absurd is
+    subst C (sym is) (unasked_turn s.plays s.state s)
+unasked_finished s new (Entered placed) is = absurd is
+unasked_finished s new (WasFull more entries open_plays) is = absurd is
+unasked_finished s new (Offered at_slot note) is = absurd is
 
-finished-turn : (s new : Standing) (awaited : Awaited) (halt : Outcome) → s.awaited ≡ awaited
+finished_turn : (s new : Standing) (awaited : Awaited) (halt : Outcome) → s.awaited ≡ awaited
     → IsFinished (awaited_answer_of awaited) s halt new
     → CarriesOf s (turn_of s halt ∷ []) new
-finished-turn s new Nothing halt asks is = unasked-finished s new halt is
-finished-turn s new (Play prepared) halt asks is = absurd is
-finished-turn s new (Halt keep next) halt asks is =
-    halt-turn (record { keep = keep; new = new; halted = is }) s (kept-halt s.state s.awaited keep next asks)
-    (no-halt-note s.state asks)
-finished-turn s new (Look sequence) halt asks is = absurd is
-finished-turn s new (Offer sequence) halt asks is = absurd is
+finished_turn s new Nothing halt asks is = unasked_finished s new halt is
+finished_turn s new (Play prepared) halt asks is = absurd is
+finished_turn s new (Halt keep next) halt asks is =
+    halt_turn (record { keep = keep; new = new; halted = is }) s (kept_halt s.state s.awaited keep next asks)
+    (no_halt_note s.state asks)
+finished_turn s new (Look sequence) halt asks is = absurd is
+finished_turn s new (Offer sequence) halt asks is = absurd is
 
 -- ---- events
-comes-turn : (old opened : Stage) (event : Doing) (due : List Part) (halt : Outcome) → Comes old event due halt opened
+comes_turn : (old opened : Stage) (event : Doing) (due : List Part) (halt : Outcome) → Comes old event due halt opened
     → CarriesOf old.session (turn_of (asking_at old.session event) halt ∷ []) opened.session
-comes-turn old opened (HeardBytes bytes) due halt comes =
+comes_turn old opened (HeardBytes bytes) due halt comes =
     let same : opened.session ≡ old.session = ap (λ (s : Stage). s.session) comes.3 in
     let C : Standing → Outcome → Type 0 = λ s h. CarriesOf old.session (turn_of old.session h ∷ []) s in
     subst (C opened.session) (sym comes.1)
-    (subst (λ s. C s Unasked) (sym same) (unasked-turn old.session.plays old.session.state old.session))
-comes-turn old opened (HeardSlot slot) due halt comes =
-    from-same old.session (after_slot old.session slot) opened.session
-    (turn_of (after_slot old.session slot) halt ∷ []) (slotted-same old.session slot)
-    (finished-turn (after_slot old.session slot) opened.session (after_slot old.session slot).awaited halt refl comes.1.finished)
-comes-turn old opened HeardEnd due halt comes = absurd comes
-comes-turn old opened (Sent byte) due halt comes = absurd comes
+    (subst (λ s. C s Unasked) (sym same) (unasked_turn old.session.plays old.session.state old.session))
+comes_turn old opened (HeardSlot slot) due halt comes =
+    from_same old.session (after_slot old.session slot) opened.session
+    (turn_of (after_slot old.session slot) halt ∷ []) (slotted_same old.session slot)
+    (finished_turn (after_slot old.session slot) opened.session (after_slot old.session slot).awaited halt refl
+    comes.1.finished)
+comes_turn old opened HeardEnd due halt comes = absurd comes
+comes_turn old opened (Sent byte) due halt comes = absurd comes
 
-takes-turns : (old new : Stage) (takings : List Taking) (takes : TakesAll old takings new)
+takes_turns : (old new : Stage) (takings : List Taking) (takes : TakesAll old takings new)
     → CarriesOf old.session (takings_turns old takings new takes) new.session
-takes-turns old new [] takes =
+takes_turns old new [] takes =
     let C : Stage → Type 0 = λ s. CarriesOf old.session [] s.session in
-    subst C (sym takes) (carries-none old.session.plays old.session.state)
-takes-turns old new (Passed n ∷ takings) takes =
+    subst C (sym takes) (carries_none old.session.plays old.session.state)
+takes_turns old new (Passed n ∷ takings) takes =
     let same : takes.0.session ≡ old.session = ap (λ (s : Stage). s.session) takes.1.0.2 in
     let C : Standing → Type 0 = λ s. CarriesOf s (takings_turns takes.0 takings new takes.1.1) new.session in
-    subst C same (takes-turns takes.0 new takings takes.1.1)
-takes-turns old new (Answered message outcome parts ∷ takings) takes =
+    subst C same (takes_turns takes.0 new takings takes.1.1)
+takes_turns old new (Answered message outcome parts ∷ takings) takes =
     let replied = takes.1.0 in
     let turn = turn_of replied.heard.asking outcome in
     let one : CarriesOf old.session (turn ∷ []) replied.answered =
-    heard-on old.session replied.answered message outcome replied.heard in
+    heard_on old.session replied.answered message outcome replied.heard in
     let sent : CarriesOf old.session (turn ∷ []) (after_reply replied.answered) =
-    to-same old.session replied.answered (after_reply replied.answered) (turn ∷ [])
-    (reply-same (can_reply replied.answered) replied.answered) one in
+    to_same old.session replied.answered (after_reply replied.answered) (turn ∷ [])
+    (reply_same (can_reply replied.answered) replied.answered) one in
     let C : Stage → Type 0 = λ s. CarriesOf old.session (turn ∷ []) s.session in
-    carries-then
-    (subst C (sym replied.new_is) sent) (takes-turns takes.0 new takings takes.1.1)
+    carries_then
+    (subst C (sym replied.new_is) sent) (takes_turns takes.0 new takings takes.1.1)
 
-round-carries : (old new : Stage) (round : Round) (runs : Runs old round new)
+round_carries : (old new : Stage) (round : Round) (runs : Runs old round new)
     → CarriesOf old.session (round_turns old round new runs) new.session
-round-carries old new round runs =
-    carries-then
-    (comes-turn old runs.opened round.event round.due round.halt runs.comes)
-    (takes-turns runs.opened new round.takings runs.takes)
+round_carries old new round runs =
+    carries_then
+    (comes_turn old runs.opened round.event round.due round.halt runs.comes)
+    (takes_turns runs.opened new round.takings runs.takes)
 
-rounds-carry : (old new : Stage) (rounds : List Round) (runs : RunsAll old rounds new)
+rounds_carry : (old new : Stage) (rounds : List Round) (runs : RunsAll old rounds new)
     → CarriesOf old.session (rounds_turns old rounds new runs) new.session
-rounds-carry old new [] runs =
+rounds_carry old new [] runs =
     let C : Stage → Type 0 = λ s. CarriesOf old.session [] s.session in
-    subst C (sym runs) (carries-none old.session.plays old.session.state)
-rounds-carry old new (round ∷ rounds) runs =
-    carries-then
-    (round-carries old runs.0 round runs.1.0)
-    (rounds-carry runs.0 new rounds runs.1.2)
+    subst C (sym runs) (carries_none old.session.plays old.session.state)
+rounds_carry old new (round ∷ rounds) runs =
+    carries_then
+    (round_carries old runs.0 round runs.1.0)
+    (rounds_carry runs.0 new rounds runs.1.2)
 
 -- a play that a failed send leaves as it was
-carried-open : (old new : State) → IsCarried old new → (later : List Turn) → open_note new later ≡ open_note old later
-carried-open Init Init carried later = refl
-carried-open Init (Ready s p) carried later = absurd carried
-carried-open Init (Playing s p) carried later = absurd carried
-carried-open Init (Stopping s p) carried later = absurd carried
-carried-open (Ready setup paused) Init carried later = absurd carried
-carried-open (Ready setup paused) (Ready s p) carried later = refl
-carried-open (Ready setup paused) (Playing s p) carried later = absurd carried
-carried-open (Ready setup paused) (Stopping s p) carried later = absurd carried
-carried-open (Playing setup play) Init carried later = absurd carried
-carried-open (Playing setup play) (Ready s p) carried later = absurd carried
-carried-open (Playing setup play) (Playing s p) carried later =
+carried_open : (old new : State) → IsCarried old new → (later : List Turn) → open_note new later ≡ open_note old later
+carried_open Init Init carried later = refl
+carried_open Init (Ready s p) carried later = absurd carried
+carried_open Init (Playing s p) carried later = absurd carried
+carried_open Init (Stopping s p) carried later = absurd carried
+carried_open (Ready setup paused) Init carried later = absurd carried
+carried_open (Ready setup paused) (Ready s p) carried later = refl
+carried_open (Ready setup paused) (Playing s p) carried later = absurd carried
+carried_open (Ready setup paused) (Stopping s p) carried later = absurd carried
+carried_open (Playing setup play) Init carried later = absurd carried
+carried_open (Playing setup play) (Ready s p) carried later = absurd carried
+carried_open (Playing setup play) (Playing s p) carried later =
     rw carried.0 (rw carried.1 (rw carried.2 (rw carried.3 (rw carried.4 refl))))
-carried-open (Playing setup play) (Stopping s p) carried later = absurd carried
-carried-open (Stopping setup stop) Init carried later = absurd carried
-carried-open (Stopping setup stop) (Ready s p) carried later = absurd carried
-carried-open (Stopping setup stop) (Playing s p) carried later = absurd carried
-carried-open (Stopping setup stop) (Stopping s p) carried later = refl
+carried_open (Playing setup play) (Stopping s p) carried later = absurd carried
+carried_open (Stopping setup stop) Init carried later = absurd carried
+carried_open (Stopping setup stop) (Ready s p) carried later = absurd carried
+carried_open (Stopping setup stop) (Playing s p) carried later = absurd carried
+carried_open (Stopping setup stop) (Stopping s p) carried later = refl
 
 -- ---- ends
-ending-carries : (old new : Stage) (count : ℕ) (ending : Ending) (end : ConnEnd) (ends : Ends old count ending end new)
+ending_carries : (old new : Stage) (count : ℕ) (ending : Ending) (end : ConnEnd) (ends : Ends old count ending end new)
     → CarriesOf old.session (ending_turns old count ending end new ends) new.session
-ending-carries old new count Unheard end ends =
+ending_carries old new count Unheard end ends =
     let C : Stage → Type 0 = λ s. CarriesOf old.session [] s.session in
-    subst C (sym ends.1) (carries-none old.session.plays old.session.state)
-ending-carries old new count PeerEnded end ends =
+    subst C (sym ends.1) (carries_none old.session.plays old.session.state)
+ending_carries old new count PeerEnded end ends =
     let C : Stage → Type 0 = λ s. CarriesOf old.session [] s.session in
-    subst C (sym ends.1) (carries-none old.session.plays old.session.state)
-ending-carries old new count (Overfull bytes) end ends =
+    subst C (sym ends.1) (carries_none old.session.plays old.session.state)
+ending_carries old new count (Overfull bytes) end ends =
     let C : Stage → Type 0 = λ s. CarriesOf old.session [] s.session in
-    subst C (sym ends.3) (carries-none old.session.plays old.session.state)
-ending-carries old new count (AtElement round) end ends = round-carries old new round ends.0
-ending-carries old new count (InSlot slot front) end ends =
+    subst C (sym ends.3) (carries_none old.session.plays old.session.state)
+ending_carries old new count (AtElement round) end ends = round_carries old new round ends.0
+ending_carries old new count (InSlot slot front) end ends =
     let failed = ends.1 in
-    to-same old.session old.session new.session [] (record {
+    to_same old.session old.session new.session [] (record {
       plays = failed.plays;
-      open-same = carried-open old.session.state new.session.state failed.carried;
-    }) (carries-none old.session.plays old.session.state)
-ending-carries old new count (InReply round message outcome front) end ends =
+      open-same = carried_open old.session.state new.session.state failed.carried;
+    }) (carries_none old.session.plays old.session.state)
+ending_carries old new count (InReply round message outcome front) end ends =
     let e = ends.1 in
     let failed = e.fails in
     let turn = turn_of failed.heard.asking outcome in
     let last : CarriesOf e.mid.session (turn ∷ []) failed.answered =
-    heard-on e.mid.session failed.answered message outcome failed.heard in
+    heard_on e.mid.session failed.answered message outcome failed.heard in
     let C : Stage → Type 0 = λ s. CarriesOf e.mid.session (turn ∷ []) s.session in
-    carries-then
-    (round-carries old e.mid round e.runs) (subst C (sym failed.new_is) last)
+    carries_then
+    (round_carries old e.mid round e.runs) (subst C (sym failed.new_is) last)
 
 -- ---- between doings nothing is awaited
-pub stands-all : (old new : Stage) (rounds : List Round) → RunsAll old rounds new → Stands old.session → Stands new.session
-stands-all old new rounds runs stands =
+pub stands_all : (old new : Stage) (rounds : List Round) → RunsAll old rounds new → Stands old.session
+    → Stands new.session
+stands_all old new rounds runs stands =
     let follows = follows_all old new rounds runs in
     stands_by old.session new.session (askings_of old rounds new follows) (rounds_film rounds)
     (course_step old new rounds follows stands)
 
-pub stands-round : (old new : Stage) (round : Round) → Runs old round new → Stands old.session → Stands new.session
-stands-round old new round runs stands =
+pub stands_round : (old new : Stage) (round : Round) → Runs old round new → Stands old.session → Stands new.session
+stands_round old new round runs stands =
     stands_by old.session new.session (round_askings old round new runs) (film_bytes round.due)
     (round_step old new round runs stands)
 
-pub ending-rest : {old : Stage} (ending : Ending) (ended : CourseEnd old ending) → Stands old.session →
+pub ending_rest : {old : Stage} (ending : Ending) (ended : CourseEnd old ending) → Stands old.session →
     ended.new.session.awaited ≡ Nothing
-ending-rest Unheard ended stands = ap (λ (s : Stage). s.session.awaited) ended.ends.1 ∙ stands.rest
-ending-rest PeerEnded ended stands = ap (λ (s : Stage). s.session.awaited) ended.ends.1 ∙ stands.rest
-ending-rest (Overfull bytes) ended stands = ap (λ (s : Stage). s.session.awaited) ended.ends.3 ∙ stands.rest
-ending-rest {old} (AtElement round) ended stands = (stands-round old ended.new round ended.ends.0 stands).rest
-ending-rest (InSlot slot front) ended stands = nothing_of ended.new.session.awaited ended.ends.1.rest
-ending-rest {old} (InReply round message outcome front) ended stands =
+ending_rest Unheard ended stands = ap (λ (s : Stage). s.session.awaited) ended.ends.1 ∙ stands.rest
+ending_rest PeerEnded ended stands = ap (λ (s : Stage). s.session.awaited) ended.ends.1 ∙ stands.rest
+ending_rest (Overfull bytes) ended stands = ap (λ (s : Stage). s.session.awaited) ended.ends.3 ∙ stands.rest
+ending_rest {old} (AtElement round) ended stands = (stands_round old ended.new round ended.ends.0 stands).rest
+ending_rest (InSlot slot front) ended stands = nothing_of ended.new.session.awaited ended.ends.1.rest
+ending_rest {old} (InReply round message outcome front) ended stands =
     let e = ended.ends.1 in
     let failed = e.fails in
     let turns = turns_as e.mid.session message outcome failed.answered failed.heard
-    (stands-round old e.mid round e.runs stands).rest in
+    (stands_round old e.mid round e.runs stands).rest in
     ap (λ (s : Stage). s.session.awaited) failed.new_is
     ∙ (turn_after e.mid.session failed.answered failed.heard.asking.awaited outcome turns).awaited
 
@@ -265,113 +277,119 @@ record IsShut (last closed : Standing) (halt : Outcome) : Type 0 where
   on : CarriesOf last (turn_of last halt ∷ []) closed
   none : (later : List Turn) → open_note closed.state later ≡ []
 
-shut-none : (last closed : Standing) (halt : Outcome) → ((later : List Turn) → open_note last.state later ≡ [])
+shut_none : (last closed : Standing) (halt : Outcome) → ((later : List Turn) → open_note last.state later ≡ [])
     → IsClosed None last halt closed → IsShut last closed halt
-shut-none last closed Unasked none closes =
+shut_none last closed Unasked none closes =
     let C : Standing → Type 0 = λ s. IsShut last s Unasked in
-    subst C (sym closes) (record { on = unasked-turn last.plays last.state last; none = none })
-shut-none last closed (Entered placed) none closes = absurd closes
-shut-none last closed (WasFull more entries open_plays) none closes = absurd closes
-shut-none last closed (Offered at_slot note) none closes = absurd closes
+    subst C (sym closes) (record { on = unasked_turn last.plays last.state last; none = none })
+shut_none last closed (Entered placed) none closes = absurd closes
+shut_none last closed (WasFull more entries open_plays) none closes = absurd closes
+shut_none last closed (Offered at_slot note) none closes = absurd closes
 
-shut-halted : {last closed : Standing} {halt : Outcome} (keep : ℕ) → IsKept last.state last.awaited keep
+shut_halted : {last closed : Standing} {halt : Outcome} (keep : ℕ) → IsKept last.state last.awaited keep
     → last.awaited ≡ Nothing → IsHalted last keep halt closed
     → IsShut last closed halt
-shut-halted {last} {closed} {halt = Unasked} keep kept rest halted = absurd halted
-shut-halted {last} {closed} {halt = Entered placed} keep kept rest halted = record {
-  on = halt-turn (record { keep = keep; new = closed; halted = halted }) last kept
-      (λ made later. no-note last.state last.awaited made later
+shut_halted {last} {closed} {halt = Unasked} keep kept rest halted = absurd halted
+shut_halted {last} {closed} {halt = Entered placed} keep kept rest halted = record {
+  on = halt_turn (record { keep = keep; new = closed; halted = halted }) last kept
+      (λ made later. no_note last.state last.awaited made later
       (λ prepared asks. let no : Nothing ≡ Play prepared = sym rest ∙ asks in cc no));
-  none = λ later. ap (λ (s : Standing). open_note s.state later) halted.halts ∙ halted-open last.state last.awaited later;
+  none = λ later. ap (λ (s : Standing). open_note s.state later) halted.halts
+      ∙ halted_open last.state last.awaited later;
 }
-shut-halted {last} {closed} {halt = WasFull more entries open_plays} keep kept rest halted = absurd halted
-shut-halted {last} {closed} {halt = Offered at_slot note} keep kept rest halted = absurd halted
+shut_halted {last} {closed} {halt = WasFull more entries open_plays} keep kept rest halted = absurd halted
+shut_halted {last} {closed} {halt = Offered at_slot note} keep kept rest halted = absurd halted
 
-shut-in : {state : State} {last closed : Standing} {halt : Outcome} → last.state ≡ state
+shut_in : {state : State} {last closed : Standing} {halt : Outcome} → last.state ≡ state
     → last.awaited ≡ Nothing → IsClosed (open_in state) last halt closed
     → IsShut last closed halt
-shut-in {state = Init} {last} {closed} {halt} is rest closes =
-    shut-none last closed halt (λ later. ap (λ s. open_note s later) is) closes
-shut-in {state = Ready setup paused} {last} {closed} {halt} is rest closes =
-    shut-none last closed halt (λ later. ap (λ s. open_note s later) is) closes
-shut-in {state = Playing setup play} {last} {closed} {halt} is rest closes =
+shut_in {state = Init} {last} {closed} {halt} is rest closes =
+    shut_none last closed halt (λ later. ap (λ s. open_note s later) is) closes
+shut_in {state = Ready setup paused} {last} {closed} {halt} is rest closes =
+    shut_none last closed halt (λ later. ap (λ s. open_note s later) is) closes
+shut_in {state = Playing setup play} {last} {closed} {halt} is rest closes =
     let K : State → Awaited → Type 0 = λ s a. IsKept s a play.pacer.due in
     let kept : IsKept last.state last.awaited play.pacer.due =
     subst (λ s. K s last.awaited) (sym is) (subst (K (Playing setup play)) (sym rest) refl) in
-    shut-halted play.pacer.due kept rest closes
-shut-in {state = Stopping setup stop} {last} {closed} {halt} is rest closes =
-    shut-none last closed halt (λ later. ap (λ s. open_note s later) is) closes
+    shut_halted play.pacer.due kept rest closes
+shut_in {state = Stopping setup stop} {last} {closed} {halt} is rest closes =
+    shut_none last closed halt (λ later. ap (λ s. open_note s later) is) closes
 
 -- ---- all notes
-until-none : (turns : List Turn) → notes_until turns [] ≡ notes_of turns
-until-none [] = refl
-until-none (turn ∷ turns) =
+until_none : (turns : List Turn) → notes_until turns [] ≡ notes_of turns
+until_none [] = refl
+until_none (turn ∷ turns) =
     ap (λ ts. notes_of_turns turn.asking turn.outcome ts ++ notes_until turns []) (append-nil turns)
-    ∙ ap (λ ns. notes_of_turns turn.asking turn.outcome turns ++ ns) (until-none turns)
+    ∙ ap (λ ns. notes_of_turns turn.asking turn.outcome turns ++ ns) (until_none turns)
 
-pub plays-noted : (films : List Stored) (settings : Settings) (words : List ℕ) (doings : Doings) (report : ConnReport)
+pub plays_noted : (films : List Stored) (settings : Settings) (words : List ℕ) (doings : Doings) (report : ConnReport)
     (done : HasDone films settings words doings report)
     → report.plays.items ≡ notes_of (turns_of films settings words doings report done)
-plays-noted films settings words doings report done =
+plays_noted films settings words doings report done =
     let first = first_stage films settings words in
     let count = length doings.rounds in
     let begun : Stands first.session = record { rest = refl; sound = tt } in
-    let mid = stands-all first done.mid doings.rounds done.runs begun in
-    let rest = ending-rest doings.ending (record { count = count; end = report.end; new = done.last; ends = done.ends }) mid in
-    let shut = shut-in refl rest done.closes in
+    let mid = stands_all first done.mid doings.rounds done.runs begun in
+    let rest = ending_rest doings.ending
+    (record { count = count; end = report.end; new = done.last; ends = done.ends }) mid in
+    let shut = shut_in refl rest done.closes in
     let heard = rounds_turns first doings.rounds done.mid done.runs in
     let ended = ending_turns done.mid count doings.ending report.end done.last done.ends in
     let turns = turns_of films settings words doings report done in
     let before : CarriesOf first.session (heard ++ ended) done.last.session =
-    carries-then
-    (rounds-carry first done.mid doings.rounds done.runs)
-    (ending-carries done.mid done.last count doings.ending report.end done.ends) in
+    carries_then
+    (rounds_carry first done.mid doings.rounds done.runs)
+    (ending_carries done.mid done.last count doings.ending report.end done.ends) in
     let all : CarriesOf first.session turns done.closed =
-    carries-then
+    carries_then
     before shut.on in
     done.report_is.plays ∙ sym (append-nil done.closed.plays)
-    ∙ ap (λ ns. done.closed.plays ++ ns) (sym (shut.none [])) ∙ sym (all.on []) ∙ until-none turns
+    ∙ ap (λ ns. done.closed.plays ++ ns) (sym (shut.none [])) ∙ sym (all.on []) ∙ until_none turns
 
 -- ---- the answers of turns are those of the doings
-takes-outcomes : (old new : Stage) (takings : List Taking) (takes : TakesAll old takings new)
+takes_outcomes : (old new : Stage) (takings : List Taking) (takes : TakesAll old takings new)
     → map outcome_of (takings_turns old takings new takes) ≡ takings_outcomes takings
-takes-outcomes old new [] takes = refl
-takes-outcomes old new (Passed n ∷ takings) takes = takes-outcomes takes.0 new takings takes.1.1
-takes-outcomes old new (Answered message outcome parts ∷ takings) takes =
-    ap (λ os. outcome ∷ os) (takes-outcomes takes.0 new takings takes.1.1)
+takes_outcomes old new [] takes = refl
+takes_outcomes old new (Passed n ∷ takings) takes = takes_outcomes takes.0 new takings takes.1.1
+takes_outcomes old new (Answered message outcome parts ∷ takings) takes =
+    ap (λ os. outcome ∷ os) (takes_outcomes takes.0 new takings takes.1.1)
 
-round-outcomes : (old new : Stage) (round : Round) (runs : Runs old round new)
+round_outcomes_are : (old new : Stage) (round : Round) (runs : Runs old round new)
     → map outcome_of (round_turns old round new runs) ≡ round_outcomes round
-round-outcomes old new round runs = ap (λ os. round.halt ∷ os) (takes-outcomes runs.opened new round.takings runs.takes)
+round_outcomes_are old new round runs =
+    ap (λ os. round.halt ∷ os) (takes_outcomes runs.opened new round.takings runs.takes)
 
-rounds-outcomes : (old new : Stage) (rounds : List Round) (runs : RunsAll old rounds new)
+rounds_outcomes_are : (old new : Stage) (rounds : List Round) (runs : RunsAll old rounds new)
     → map outcome_of (rounds_turns old rounds new runs) ≡ rounds_outcomes rounds
-rounds-outcomes old new [] runs = refl
-rounds-outcomes old new (round ∷ rounds) runs =
+rounds_outcomes_are old new [] runs = refl
+rounds_outcomes_are old new (round ∷ rounds) runs =
     map-append outcome_of (round_turns old round runs.0 runs.1.0) (rounds_turns runs.0 rounds new runs.1.2)
-    ∙ ap (λ os. os ++ map outcome_of (rounds_turns runs.0 rounds new runs.1.2)) (round-outcomes old runs.0 round runs.1.0)
-    ∙ ap (λ os. round_outcomes round ++ os) (rounds-outcomes runs.0 new rounds runs.1.2)
+    ∙ ap (λ os. os ++ map outcome_of (rounds_turns runs.0 rounds new runs.1.2))
+    (round_outcomes_are old runs.0 round runs.1.0)
+    ∙ ap (λ os. round_outcomes round ++ os) (rounds_outcomes_are runs.0 new rounds runs.1.2)
 
-ending-outcomes : (old new : Stage) (count : ℕ) (ending : Ending) (end : ConnEnd) (ends : Ends old count ending end new)
+ending_outcomes_are : (old new : Stage) (count : ℕ) (ending : Ending) (end : ConnEnd)
+    (ends : Ends old count ending end new)
     → map outcome_of (ending_turns old count ending end new ends) ≡ ending_outcomes ending
-ending-outcomes old new count Unheard end ends = refl
-ending-outcomes old new count PeerEnded end ends = refl
-ending-outcomes old new count (Overfull bytes) end ends = refl
-ending-outcomes old new count (AtElement round) end ends = round-outcomes old new round ends.0
-ending-outcomes old new count (InSlot slot front) end ends = refl
-ending-outcomes old new count (InReply round message outcome front) end ends =
-    map-append outcome_of (round_turns old round ends.1.mid ends.1.runs) (turn_of ends.1.fails.heard.asking outcome ∷ [])
-    ∙ ap (λ os. os ++ outcome ∷ []) (round-outcomes old ends.1.mid round ends.1.runs)
+ending_outcomes_are old new count Unheard end ends = refl
+ending_outcomes_are old new count PeerEnded end ends = refl
+ending_outcomes_are old new count (Overfull bytes) end ends = refl
+ending_outcomes_are old new count (AtElement round) end ends = round_outcomes_are old new round ends.0
+ending_outcomes_are old new count (InSlot slot front) end ends = refl
+ending_outcomes_are old new count (InReply round message outcome front) end ends =
+    map-append outcome_of (round_turns old round ends.1.mid ends.1.runs)
+    (turn_of ends.1.fails.heard.asking outcome ∷ [])
+    ∙ ap (λ os. os ++ outcome ∷ []) (round_outcomes_are old ends.1.mid round ends.1.runs)
 
-pub turns-told : (films : List Stored) (settings : Settings) (words : List ℕ) (doings : Doings) (report : ConnReport)
+pub turns_told : (films : List Stored) (settings : Settings) (words : List ℕ) (doings : Doings) (report : ConnReport)
     (done : HasDone films settings words doings report)
     → map outcome_of (turns_of films settings words doings report done) ≡ doings_outcomes doings
-turns-told films settings words doings report done =
+turns_told films settings words doings report done =
     let first = first_stage films settings words in
     let heard = rounds_turns first doings.rounds done.mid done.runs in
     let ended = ending_turns done.mid (length doings.rounds) doings.ending report.end done.last done.ends in
     map-append outcome_of (heard ++ ended) (turn_of done.last.session doings.halt ∷ [])
     ∙ ap (λ os. os ++ doings.halt ∷ []) (map-append outcome_of heard ended
-    ∙ ap (λ os. os ++ map outcome_of ended) (rounds-outcomes first done.mid doings.rounds done.runs)
+    ∙ ap (λ os. os ++ map outcome_of ended) (rounds_outcomes_are first done.mid doings.rounds done.runs)
     ∙ ap (λ os. rounds_outcomes doings.rounds ++ os)
-    (ending-outcomes done.mid done.last (length doings.rounds) doings.ending report.end done.ends))
+    (ending_outcomes_are done.mid done.last (length doings.rounds) doings.ending report.end done.ends))

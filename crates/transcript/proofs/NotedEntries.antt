@@ -12,7 +12,8 @@ use Rattle.admission.specs.Histories.{play_admitted}
 use Rattle.admission.specs.Makers.{Placed}
 use Rattle.station.specs.Ledgers.{play_of}
 use Rattle.session.specs.declared.asks.Ask.{Ask}
-use Rattle.session.specs.declared.asks.Ask.TheVariants.{Reply as AskReply, Play as AskPlay, Look as AskLook, Offer as AskOffer}
+use Rattle.session.specs.declared.asks.Ask.TheVariants.{Reply as AskReply, Play as AskPlay, Look as AskLook}
+use Rattle.session.specs.declared.asks.Ask.TheVariants.{Offer as AskOffer}
 use Rattle.session.specs.declared.settings.Settings.{Settings}
 use Rattle.session.specs.declared.states.Awaited.{Awaited}
 use Rattle.session.specs.declared.states.Awaited.TheVariants.{Nothing, Play, Halt, Look, Offer}
@@ -27,7 +28,8 @@ use Rattle.session.proofs.Shapes.{HearsAs, Replies, SetsUp, AsksPlay, Stops, Ask
 use Rattle.conn.specs.Agreement.{Doings, HasDone, doings_outcomes}
 use Rattle.conn.specs.Rounds.{Comes, Ending, Unheard, PeerEnded, Overfull, AtElement, InSlot, InReply}
 use Rattle.conn.specs.Rounds.{Ends, Round, Runs, RunsAll, entries_in}
-use Rattle.conn.specs.Turns.{HasHeard, IsAskAnswered, IsClosed, IsFinished, IsHalted, Outcome, Unasked, Entered, WasFull}
+use Rattle.conn.specs.Turns.{HasHeard, IsAskAnswered, IsClosed, IsFinished, IsHalted, Outcome, Unasked, Entered}
+use Rattle.conn.specs.Turns.{WasFull}
 use Rattle.conn.specs.Turns.{Offered, Part, Stage, Taking, Passed, Answered, TakesAll, entry_in}
 use Rattle.conn.specs.declared.reports.ConnEnd.{ConnEnd}
 use Rattle.conn.specs.declared.reports.ConnReport.{ConnReport}
@@ -37,8 +39,8 @@ use Rattle.transcript.specs.Notes.{notes_of, notes_of_turns, outcome_of, placed_
 use Rattle.transcript.specs.Notes.{PlacedPlay, rounds_turns, takings_turns, turn_of, turns_of}
 use Rattle.transcript.specs.Plays.{booked_by, kept_among, kept_with}
 use Rattle.transcript.proofs.Filming.{Stands}
-use Rattle.transcript.proofs.NotedCourses.{ending-rest, plays-noted, stands-all, turns-told}
-use Rattle.transcript.proofs.Noting.{begun-note, no-note}
+use Rattle.transcript.proofs.NotedCourses.{ending_rest, plays_noted, stands_all, turns_told}
+use Rattle.transcript.proofs.Noting.{begun_note, no_note}
 
 -- the play that an answer's entry tells
 abbrev placed_by : Outcome → List Placed → List PlacedPlay
@@ -61,238 +63,238 @@ abbrev AreNoted : List Turn → Type 0
 AreNoted [] = ⊤
 AreNoted (turn ∷ turns) = IsNoted turn.asking turn.outcome × AreNoted turns
 
-noted-append : (xs ys : List Turn) → AreNoted xs → AreNoted ys → AreNoted (xs ++ ys)
-noted-append [] ys one two = two
-noted-append (x ∷ xs) ys one two = (one.0, noted-append xs ys one.1 two)
+noted_append : (xs ys : List Turn) → AreNoted xs → AreNoted ys → AreNoted (xs ++ ys)
+noted_append [] ys one two = two
+noted_append (x ∷ xs) ys one two = (one.0, noted_append xs ys one.1 two)
 
 -- ---- turns and entries
 abbrev made_by_turns : List Turn → List Placed
 made_by_turns turns = entries_in (map outcome_of turns)
 
-kept-more : (outcome : Outcome) (made : List Placed) (all : ℕ)
+kept_more : (outcome : Outcome) (made : List Placed) (all : ℕ)
     → kept_with outcome (kept_among made all) ≡ kept_among (entry_in outcome ++ made) all
-kept-more Unasked made all = refl
-kept-more (Entered placed) made all = refl
-kept-more (WasFull more entries open_plays) made all = refl
-kept-more (Offered at_slot note) made all = refl
+kept_more Unasked made all = refl
+kept_more (Entered placed) made all = refl
+kept_more (WasFull more entries open_plays) made all = refl
+kept_more (Offered at_slot note) made all = refl
 
-keeps-as : (turns : List Turn) → KeepsAs turns (made_by_turns turns)
-keeps-as [] all = refl
-keeps-as (turn ∷ turns) all =
-    ap (kept_with turn.outcome) (keeps-as turns all) ∙ kept-more turn.outcome (made_by_turns turns) all
+keeps_as : (turns : List Turn) → KeepsAs turns (made_by_turns turns)
+keeps_as [] all = refl
+keeps_as (turn ∷ turns) all =
+    ap (kept_with turn.outcome) (keeps_as turns all) ∙ kept_more turn.outcome (made_by_turns turns) all
 
-placed-more : (outcome : Outcome) (made : List Placed)
+placed_more : (outcome : Outcome) (made : List Placed)
     → placed_by outcome made ++ placed_plays made ≡ placed_plays (entry_in outcome ++ made)
-placed-more Unasked made = refl
-placed-more (Entered placed) made = refl
-placed-more (WasFull more entries open_plays) made = refl
-placed-more (Offered at_slot note) made = refl
+placed_more Unasked made = refl
+placed_more (Entered placed) made = refl
+placed_more (WasFull more entries open_plays) made = refl
+placed_more (Offered at_slot note) made = refl
 
-turns-noted : (turns : List Turn) → AreNoted turns
+turns_noted : (turns : List Turn) → AreNoted turns
     → map noted_play (notes_of turns) ≡ placed_plays (made_by_turns turns)
-turns-noted [] are = refl
-turns-noted (turn ∷ turns) are =
+turns_noted [] are = refl
+turns_noted (turn ∷ turns) are =
     map-append noted_play (notes_of_turns turn.asking turn.outcome turns) (notes_of turns)
-    ∙ ap (λ ps. ps ++ map noted_play (notes_of turns)) (are.0 turns (made_by_turns turns) (keeps-as turns))
-    ∙ ap (λ ps. placed_by turn.outcome (made_by_turns turns) ++ ps) (turns-noted turns are.1)
-    ∙ placed-more turn.outcome (made_by_turns turns)
+    ∙ ap (λ ps. ps ++ map noted_play (notes_of turns)) (are.0 turns (made_by_turns turns) (keeps_as turns))
+    ∙ ap (λ ps. placed_by turn.outcome (made_by_turns turns) ++ ps) (turns_noted turns are.1)
+    ∙ placed_more turn.outcome (made_by_turns turns)
 
 -- ---- one turn
-unasked-noted : (asking : Standing) → IsNoted asking Unasked
-unasked-noted asking later made keeps = refl
+unasked_noted : (asking : Standing) → IsNoted asking Unasked
+unasked_noted asking later made keeps = refl
 
 -- an entry that a session makes without asking for a play, and that admits none
-other-noted : (asking : Standing) (placed : Placed) → ((prepared : Prepared) → asking.awaited ≡ Play prepared → ⊥)
+other_noted : (asking : Standing) (placed : Placed) → ((prepared : Prepared) → asking.awaited ≡ Play prepared → ⊥)
     → play_admitted placed.entry.command placed.entry.answer ≡ None → IsNoted asking (Entered placed)
-other-noted asking placed other none later made keeps =
-    ap (map noted_play) (no-note asking.state asking.awaited placed later other)
+other_noted asking placed other none later made keeps =
+    ap (map noted_play) (no_note asking.state asking.awaited placed later other)
     ∙ sym (ap (λ p. map (placed_play placed.place) (booked_by p made)) none)
 
-halt-noted : (keep : ℕ) (asking new : Standing) (halt : Outcome)
+halt_noted : (keep : ℕ) (asking new : Standing) (halt : Outcome)
     → ((prepared : Prepared) → asking.awaited ≡ Play prepared → ⊥) → IsHalted asking keep halt new → IsNoted asking halt
-halt-noted keep asking new Unasked other halted = absurd halted
-halt-noted keep asking new (Entered placed) other halted =
-    other-noted asking placed other (ap (λ c. play_admitted c placed.entry.answer) halted.command)
-halt-noted keep asking new (WasFull more entries open_plays) other halted = absurd halted
-halt-noted keep asking new (Offered at_slot note) other halted = absurd halted
+halt_noted keep asking new Unasked other halted = absurd halted
+halt_noted keep asking new (Entered placed) other halted =
+    other_noted asking placed other (ap (λ c. play_admitted c placed.entry.answer) halted.command)
+halt_noted keep asking new (WasFull more entries open_plays) other halted = absurd halted
+halt_noted keep asking new (Offered at_slot note) other halted = absurd halted
 
-not-halt : {awaited : Awaited} {keep : ℕ} {next : Next} → awaited ≡ Halt keep next
+not_halt : {awaited : Awaited} {keep : ℕ} {next : Next} → awaited ≡ Halt keep next
     → (prepared : Prepared) → awaited ≡ Play prepared → ⊥
-not-halt {keep} {next} halts prepared asks = let no : Halt keep next ≡ Play prepared = sym halts ∙ asks in cc no
+not_halt {keep} {next} halts prepared asks = let no : Halt keep next ≡ Play prepared = sym halts ∙ asks in cc no
 
-not-look : {awaited : Awaited} {sequence : ℕ} → awaited ≡ Look sequence
+not_look : {awaited : Awaited} {sequence : ℕ} → awaited ≡ Look sequence
     → (prepared : Prepared) → awaited ≡ Play prepared → ⊥
-not-look {sequence} looks prepared asks = let no : Look sequence ≡ Play prepared = sym looks ∙ asks in cc no
+not_look {sequence} looks prepared asks = let no : Look sequence ≡ Play prepared = sym looks ∙ asks in cc no
 
-not-nothing : {awaited : Awaited} → awaited ≡ Nothing → (prepared : Prepared) → awaited ≡ Play prepared → ⊥
-not-nothing rest prepared asks = let no : Nothing ≡ Play prepared = sym rest ∙ asks in cc no
+not_nothing : {awaited : Awaited} → awaited ≡ Nothing → (prepared : Prepared) → awaited ≡ Play prepared → ⊥
+not_nothing rest prepared asks = let no : Nothing ≡ Play prepared = sym rest ∙ asks in cc no
 
 -- the note of a play is what its entry tells, and what is kept by what comes later
-note-is : (setup : Setup) (run : Run) (place : ℕ) (admitted : Option Booked) (later : List Turn) (made : List Placed)
+note_is : (setup : Setup) (run : Run) (place : ℕ) (admitted : Option Booked) (later : List Turn) (made : List Placed)
     → KeepsAs later made
     → map noted_play (noted_for setup run place admitted later) ≡ map (placed_play place) (booked_by admitted made)
-note-is setup run place None later made keeps = refl
-note-is setup run place (Some booked) later made keeps =
+note_is setup run place None later made keeps = refl
+note_is setup run place (Some booked) later made keeps =
     ap (λ k. placed_play place (cut_play booked.start booked.segments k) ∷ []) (keeps booked.keep)
 
-asks-play : {setup : Setup} {paused : Option Run} {prepared : Prepared} (asking new : Standing) (outcome : Outcome)
+asks_play : {setup : Setup} {paused : Option Run} {prepared : Prepared} (asking new : Standing) (outcome : Outcome)
     → IsAskAnswered asking (AskPlay prepared.plan) outcome new → asking.state ≡ Ready setup paused
     → asking.awaited ≡ Play prepared → IsNoted asking outcome
-asks-play asking new Unasked answered ready awaited = absurd answered
-asks-play {setup} {paused} {prepared} asking new (Entered placed) answered ready awaited = λ later made keeps.
+asks_play asking new Unasked answered ready awaited = absurd answered
+asks_play {setup} {paused} {prepared} asking new (Entered placed) answered ready awaited = λ later made keeps.
     ap (map noted_play)
-    (begun-note {asking = asking} later ready awaited (record { answer_is = refl; command = answered.0 }))
-    ∙ note-is setup prepared.run placed.place (play_admitted (play_of asking.heard prepared.plan) placed.entry.answer)
+    (begun_note {asking = asking} later ready awaited (record { answer_is = refl; command = answered.0 }))
+    ∙ note_is setup prepared.run placed.place (play_admitted (play_of asking.heard prepared.plan) placed.entry.answer)
     later made keeps
     ∙ sym (ap (λ c. map (placed_play placed.place) (booked_by (play_admitted c placed.entry.answer) made)) answered.0)
-asks-play asking new (WasFull more entries open_plays) answered ready awaited = λ later made keeps. refl
-asks-play asking new (Offered at_slot note) answered ready awaited = absurd answered
+asks_play asking new (WasFull more entries open_plays) answered ready awaited = λ later made keeps. refl
+asks_play asking new (Offered at_slot note) answered ready awaited = absurd answered
 
-asks-look : {sequence : ℕ} (slot : ℕ) (asking new : Standing) (outcome : Outcome)
+asks_look : {sequence : ℕ} (slot : ℕ) (asking new : Standing) (outcome : Outcome)
     → IsAskAnswered asking (AskLook slot) outcome new → asking.awaited ≡ Look sequence → IsNoted asking outcome
-asks-look slot asking new Unasked answered awaited = absurd answered
-asks-look slot asking new (Entered placed) answered awaited =
-    other-noted asking placed (not-look awaited) (ap (λ c. play_admitted c placed.entry.answer) answered.0)
-asks-look slot asking new (WasFull more entries open_plays) answered awaited = λ later made keeps. refl
-asks-look slot asking new (Offered at_slot note) answered awaited = absurd answered
+asks_look slot asking new Unasked answered awaited = absurd answered
+asks_look slot asking new (Entered placed) answered awaited =
+    other_noted asking placed (not_look awaited) (ap (λ c. play_admitted c placed.entry.answer) answered.0)
+asks_look slot asking new (WasFull more entries open_plays) answered awaited = λ later made keeps. refl
+asks_look slot asking new (Offered at_slot note) answered awaited = absurd answered
 
-asks-offer : (plan : List Segment) (offers : Offers) (asking new : Standing) (outcome : Outcome)
+asks_offer : (plan : List Segment) (offers : Offers) (asking new : Standing) (outcome : Outcome)
     → IsAskAnswered asking (AskOffer plan offers) outcome new → IsNoted asking outcome
-asks-offer plan offers asking new Unasked answered = absurd answered
-asks-offer plan offers asking new (Entered placed) answered = absurd answered
-asks-offer plan offers asking new (WasFull more entries open_plays) answered = absurd answered
-asks-offer plan offers asking new (Offered at_slot note) answered = λ later made keeps. refl
+asks_offer plan offers asking new Unasked answered = absurd answered
+asks_offer plan offers asking new (Entered placed) answered = absurd answered
+asks_offer plan offers asking new (WasFull more entries open_plays) answered = absurd answered
+asks_offer plan offers asking new (Offered at_slot note) answered = λ later made keeps. refl
 
-replied-noted : (asking new : Standing) (outcome : Outcome)
+replied_noted : (asking new : Standing) (outcome : Outcome)
     → IsAskAnswered asking AskReply outcome new → IsNoted asking outcome
-replied-noted asking new Unasked answered = unasked-noted asking
-replied-noted asking new (Entered placed) answered = absurd answered
-replied-noted asking new (WasFull more entries open_plays) answered = absurd answered
-replied-noted asking new (Offered at_slot note) answered = absurd answered
+replied_noted asking new Unasked answered = unasked_noted asking
+replied_noted asking new (Entered placed) answered = absurd answered
+replied_noted asking new (WasFull more entries open_plays) answered = absurd answered
+replied_noted asking new (Offered at_slot note) answered = absurd answered
 
 -- by what was asked
-answered-noted : {old : Standing} {ask : Ask} (asking new : Standing) (outcome : Outcome)
+answered_noted : {old : Standing} {ask : Ask} (asking new : Standing) (outcome : Outcome)
     → IsAskAnswered asking ask outcome new → HearsAs old ask asking → IsNoted asking outcome
-answered-noted asking new outcome answered (Replies text tearing ask_is is) =
-    replied-noted asking new outcome (subst (λ a. IsAskAnswered asking a outcome new) ask_is answered)
-answered-noted asking new outcome answered (SetsUp text setup init ask_is is) =
-    replied-noted asking new outcome (subst (λ a. IsAskAnswered asking a outcome new) ask_is answered)
-answered-noted asking new outcome answered (AsksPlay setup paused prepared text ready ask_is is) =
-    asks-play asking new outcome (subst (λ a. IsAskAnswered asking a outcome new) ask_is answered)
+answered_noted asking new outcome answered (Replies text tearing ask_is is) =
+    replied_noted asking new outcome (subst (λ a. IsAskAnswered asking a outcome new) ask_is answered)
+answered_noted asking new outcome answered (SetsUp text setup init ask_is is) =
+    replied_noted asking new outcome (subst (λ a. IsAskAnswered asking a outcome new) ask_is answered)
+answered_noted asking new outcome answered (AsksPlay setup paused prepared text ready ask_is is) =
+    asks_play asking new outcome (subst (λ a. IsAskAnswered asking a outcome new) ask_is answered)
     (ap (λ (s : Standing). s.state) is ∙ ready) (ap (λ (s : Standing). s.awaited) is)
-answered-noted asking new outcome answered (Stops setup play keep next text playing told keep_is ask_is is) =
-    halt-noted keep asking new outcome (not-halt (ap (λ (s : Standing). s.awaited) is))
+answered_noted asking new outcome answered (Stops setup play keep next text playing told keep_is ask_is is) =
+    halt_noted keep asking new outcome (not_halt (ap (λ (s : Standing). s.awaited) is))
     (subst (λ a. IsAskAnswered asking a outcome new) ask_is answered)
-answered-noted {old} asking new outcome answered (AsksLook looks sequence ask_is is) =
-    asks-look old.heard asking new outcome (subst (λ a. IsAskAnswered asking a outcome new) ask_is answered)
+answered_noted {old} asking new outcome answered (AsksLook looks sequence ask_is is) =
+    asks_look old.heard asking new outcome (subst (λ a. IsAskAnswered asking a outcome new) ask_is answered)
     (ap (λ (s : Standing). s.awaited) is)
-answered-noted asking new outcome answered (AsksOffer plan offers sequence ask_is is) =
-    asks-offer plan offers asking new outcome (subst (λ a. IsAskAnswered asking a outcome new) ask_is answered)
+answered_noted asking new outcome answered (AsksOffer plan offers sequence ask_is is) =
+    asks_offer plan offers asking new outcome (subst (λ a. IsAskAnswered asking a outcome new) ask_is answered)
 
-heard-noted : (old new : Standing) (message : List ℕ) (outcome : Outcome) (heard : HasHeard old message outcome new)
+heard_noted : (old new : Standing) (message : List ℕ) (outcome : Outcome) (heard : HasHeard old message outcome new)
     → IsNoted heard.asking outcome
-heard-noted old new message outcome heard =
-    answered-noted heard.asking new outcome heard.answered (hears_as old message heard.ask heard.asking heard.hears)
+heard_noted old new message outcome heard =
+    answered_noted heard.asking new outcome heard.answered (hears_as old message heard.ask heard.asking heard.hears)
 
 -- the halt of a play that is done
-unasked-finished : (asking new : Standing) (halt : Outcome) → IsFinished NoAnswer asking halt new → IsNoted asking halt
-unasked-finished asking new Unasked is = unasked-noted asking
-unasked-finished asking new (Entered placed) is = absurd is
-unasked-finished asking new (WasFull more entries open_plays) is = absurd is
-unasked-finished asking new (Offered at_slot note) is = absurd is
+unasked_finished : (asking new : Standing) (halt : Outcome) → IsFinished NoAnswer asking halt new → IsNoted asking halt
+unasked_finished asking new Unasked is = unasked_noted asking
+unasked_finished asking new (Entered placed) is = absurd is
+unasked_finished asking new (WasFull more entries open_plays) is = absurd is
+unasked_finished asking new (Offered at_slot note) is = absurd is
 
-finished-noted : (asking new : Standing) (awaited : Awaited) (halt : Outcome) → asking.awaited ≡ awaited
+finished_noted : (asking new : Standing) (awaited : Awaited) (halt : Outcome) → asking.awaited ≡ awaited
     → IsFinished (awaited_answer_of awaited) asking halt new → IsNoted asking halt
-finished-noted asking new Nothing halt asks is = unasked-finished asking new halt is
-finished-noted asking new (Play prepared) halt asks is = absurd is
-finished-noted asking new (Halt keep next) halt asks is =
-    halt-noted keep asking new halt (not-halt asks) is
-finished-noted asking new (Look sequence) halt asks is = absurd is
-finished-noted asking new (Offer sequence) halt asks is = absurd is
+finished_noted asking new Nothing halt asks is = unasked_finished asking new halt is
+finished_noted asking new (Play prepared) halt asks is = absurd is
+finished_noted asking new (Halt keep next) halt asks is =
+    halt_noted keep asking new halt (not_halt asks) is
+finished_noted asking new (Look sequence) halt asks is = absurd is
+finished_noted asking new (Offer sequence) halt asks is = absurd is
 
 -- ---- events
-comes-noted : (old opened : Stage) (event : Doing) (due : List Part) (halt : Outcome)
+comes_noted : (old opened : Stage) (event : Doing) (due : List Part) (halt : Outcome)
     → Comes old event due halt opened → IsNoted (asking_at old.session event) halt
-comes-noted old opened (HeardBytes bytes) due halt comes =
-    subst (IsNoted old.session) (sym comes.1) (unasked-noted old.session)
-comes-noted old opened (HeardSlot slot) due halt comes =
-    finished-noted (after_slot old.session slot) opened.session (after_slot old.session slot).awaited halt refl
+comes_noted old opened (HeardBytes bytes) due halt comes =
+    subst (IsNoted old.session) (sym comes.1) (unasked_noted old.session)
+comes_noted old opened (HeardSlot slot) due halt comes =
+    finished_noted (after_slot old.session slot) opened.session (after_slot old.session slot).awaited halt refl
     comes.1.finished
-comes-noted old opened HeardEnd due halt comes = absurd comes
-comes-noted old opened (Sent byte) due halt comes = absurd comes
+comes_noted old opened HeardEnd due halt comes = absurd comes
+comes_noted old opened (Sent byte) due halt comes = absurd comes
 
-takes-noted : (old new : Stage) (takings : List Taking) (takes : TakesAll old takings new)
+takes_noted : (old new : Stage) (takings : List Taking) (takes : TakesAll old takings new)
     → AreNoted (takings_turns old takings new takes)
-takes-noted old new [] takes = tt
-takes-noted old new (Passed n ∷ takings) takes = takes-noted takes.0 new takings takes.1.1
-takes-noted old new (Answered message outcome parts ∷ takings) takes = (
-  heard-noted old.session takes.1.0.answered message outcome takes.1.0.heard,
-  takes-noted takes.0 new takings takes.1.1,
+takes_noted old new [] takes = tt
+takes_noted old new (Passed n ∷ takings) takes = takes_noted takes.0 new takings takes.1.1
+takes_noted old new (Answered message outcome parts ∷ takings) takes = (
+  heard_noted old.session takes.1.0.answered message outcome takes.1.0.heard,
+  takes_noted takes.0 new takings takes.1.1,
 )
 
-round-noted : (old new : Stage) (round : Round) (runs : Runs old round new) → AreNoted (round_turns old round new runs)
-round-noted old new round runs = (
-  comes-noted old runs.opened round.event round.due round.halt runs.comes,
-  takes-noted runs.opened new round.takings runs.takes,
+round_noted : (old new : Stage) (round : Round) (runs : Runs old round new) → AreNoted (round_turns old round new runs)
+round_noted old new round runs = (
+  comes_noted old runs.opened round.event round.due round.halt runs.comes,
+  takes_noted runs.opened new round.takings runs.takes,
 )
 
-rounds-noted : (old new : Stage) (rounds : List Round) (runs : RunsAll old rounds new)
+rounds_noted : (old new : Stage) (rounds : List Round) (runs : RunsAll old rounds new)
     → AreNoted (rounds_turns old rounds new runs)
-rounds-noted old new [] runs = tt
-rounds-noted old new (round ∷ rounds) runs =
-    noted-append (round_turns old round runs.0 runs.1.0) (rounds_turns runs.0 rounds new runs.1.2)
-    (round-noted old runs.0 round runs.1.0) (rounds-noted runs.0 new rounds runs.1.2)
+rounds_noted old new [] runs = tt
+rounds_noted old new (round ∷ rounds) runs =
+    noted_append (round_turns old round runs.0 runs.1.0) (rounds_turns runs.0 rounds new runs.1.2)
+    (round_noted old runs.0 round runs.1.0) (rounds_noted runs.0 new rounds runs.1.2)
 
-ending-noted : (old new : Stage) (count : ℕ) (ending : Ending) (end : ConnEnd) (ends : Ends old count ending end new)
+ending_noted : (old new : Stage) (count : ℕ) (ending : Ending) (end : ConnEnd) (ends : Ends old count ending end new)
     → AreNoted (ending_turns old count ending end new ends)
-ending-noted old new count Unheard end ends = tt
-ending-noted old new count PeerEnded end ends = tt
-ending-noted old new count (Overfull bytes) end ends = tt
-ending-noted old new count (AtElement round) end ends = round-noted old new round ends.0
-ending-noted old new count (InSlot slot front) end ends = tt
-ending-noted old new count (InReply round message outcome front) end ends =
+ending_noted old new count Unheard end ends = tt
+ending_noted old new count PeerEnded end ends = tt
+ending_noted old new count (Overfull bytes) end ends = tt
+ending_noted old new count (AtElement round) end ends = round_noted old new round ends.0
+ending_noted old new count (InSlot slot front) end ends = tt
+ending_noted old new count (InReply round message outcome front) end ends =
     let fails = ends.1.fails in
-    noted-append (round_turns old round ends.1.mid ends.1.runs) (turn_of fails.heard.asking outcome ∷ [])
-    (round-noted old ends.1.mid round ends.1.runs)
-    (heard-noted ends.1.mid.session fails.answered message outcome fails.heard, tt)
+    noted_append (round_turns old round ends.1.mid ends.1.runs) (turn_of fails.heard.asking outcome ∷ [])
+    (round_noted old ends.1.mid round ends.1.runs)
+    (heard_noted ends.1.mid.session fails.answered message outcome fails.heard, tt)
 
 -- the halt of a booking that is open at the end
-shut-none : (last closed : Standing) (halt : Outcome) → IsClosed None last halt closed → IsNoted last halt
-shut-none last closed Unasked closes = unasked-noted last
-shut-none last closed (Entered placed) closes = absurd closes
-shut-none last closed (WasFull more entries open_plays) closes = absurd closes
-shut-none last closed (Offered at_slot note) closes = absurd closes
+shut_none : (last closed : Standing) (halt : Outcome) → IsClosed None last halt closed → IsNoted last halt
+shut_none last closed Unasked closes = unasked_noted last
+shut_none last closed (Entered placed) closes = absurd closes
+shut_none last closed (WasFull more entries open_plays) closes = absurd closes
+shut_none last closed (Offered at_slot note) closes = absurd closes
 
-shut-noted : (state : State) (last closed : Standing) (halt : Outcome) → last.awaited ≡ Nothing
+shut_noted : (state : State) (last closed : Standing) (halt : Outcome) → last.awaited ≡ Nothing
     → IsClosed (open_in state) last halt closed → IsNoted last halt
-shut-noted Init last closed halt rest closes = shut-none last closed halt closes
-shut-noted (Ready setup paused) last closed halt rest closes = shut-none last closed halt closes
-shut-noted (Playing setup play) last closed halt rest closes =
-    halt-noted play.pacer.due last closed halt (not-nothing rest) closes
-shut-noted (Stopping setup stop) last closed halt rest closes = shut-none last closed halt closes
+shut_noted Init last closed halt rest closes = shut_none last closed halt closes
+shut_noted (Ready setup paused) last closed halt rest closes = shut_none last closed halt closes
+shut_noted (Playing setup play) last closed halt rest closes =
+    halt_noted play.pacer.due last closed halt (not_nothing rest) closes
+shut_noted (Stopping setup stop) last closed halt rest closes = shut_none last closed halt closes
 
 -- ---- all notes
-all-noted : (films : List Stored) (settings : Settings) (words : List ℕ) (doings : Doings) (report : ConnReport)
+all_noted : (films : List Stored) (settings : Settings) (words : List ℕ) (doings : Doings) (report : ConnReport)
     (done : HasDone films settings words doings report)
     → AreNoted (turns_of films settings words doings report done)
-all-noted films settings words doings report done =
+all_noted films settings words doings report done =
     let first = first_stage films settings words in
     let count = length doings.rounds in
     let begun : Stands first.session = record { rest = refl; sound = tt } in
-    let mid = stands-all first done.mid doings.rounds done.runs begun in
-    let rest = ending-rest doings.ending
+    let mid = stands_all first done.mid doings.rounds done.runs begun in
+    let rest = ending_rest doings.ending
     (record { count = count; end = report.end; new = done.last; ends = done.ends }) mid in
     let heard = rounds_turns first doings.rounds done.mid done.runs in
     let ended = ending_turns done.mid count doings.ending report.end done.last done.ends in
-    noted-append (heard ++ ended) (turn_of done.last.session doings.halt ∷ [])
-    (noted-append heard ended (rounds-noted first done.mid doings.rounds done.runs)
-    (ending-noted done.mid done.last count doings.ending report.end done.ends))
-    (shut-noted done.last.session.state done.last.session done.closed doings.halt rest done.closes, tt)
+    noted_append (heard ++ ended) (turn_of done.last.session doings.halt ∷ [])
+    (noted_append heard ended (rounds_noted first done.mid doings.rounds done.runs)
+    (ending_noted done.mid done.last count doings.ending report.end done.ends))
+    (shut_noted done.last.session.state done.last.session done.closed doings.halt rest done.closes, tt)
 
-pub entries-noted : (films : List Stored) (settings : Settings) (words : List ℕ) (doings : Doings) (report : ConnReport)
+pub entries_noted : (films : List Stored) (settings : Settings) (words : List ℕ) (doings : Doings) (report : ConnReport)
     (done : HasDone films settings words doings report)
     → map noted_play report.plays.items ≡ placed_plays (entries_in (doings_outcomes doings))
-entries-noted films settings words doings report done =
-    ap (map noted_play) (plays-noted films settings words doings report done)
-    ∙ turns-noted (turns_of films settings words doings report done) (all-noted films settings words doings report done)
-    ∙ ap (λ os. placed_plays (entries_in os)) (turns-told films settings words doings report done)
+entries_noted films settings words doings report done =
+    ap (map noted_play) (plays_noted films settings words doings report done)
+    ∙ turns_noted (turns_of films settings words doings report done) (all_noted films settings words doings report done)
+    ∙ ap (λ os. placed_plays (entries_in os)) (turns_told films settings words doings report done)

@@ -12,7 +12,8 @@ use Rattle.admission.specs.declared.entries.Answer.{Answer}
 use Rattle.admission.specs.declared.entries.Answer.TheVariants.{Admitted, Halted, Looked, Overflow}
 use Rattle.station.specs.Ledgers.{look_at, play_of}
 use Rattle.session.specs.declared.asks.Ask.{Ask}
-use Rattle.session.specs.declared.asks.Ask.TheVariants.{Reply as AskReply, Play as AskPlay, Look as AskLook, Offer as AskOffer}
+use Rattle.session.specs.declared.asks.Ask.TheVariants.{Reply as AskReply, Play as AskPlay, Look as AskLook}
+use Rattle.session.specs.declared.asks.Ask.TheVariants.{Offer as AskOffer}
 use Rattle.session.specs.declared.notes.PlayNote.{PlayNote}
 use Rattle.session.specs.declared.states.Awaited.{Awaited}
 use Rattle.session.specs.declared.states.Awaited.TheVariants.{Nothing, Play, Halt, Look, Offer}
@@ -27,7 +28,8 @@ use Rattle.session.specs.Hearings.{after_halt}
 use Rattle.session.specs.Sendings.{admitted_in, halted_in, halted_notes, kept_of, note_of, state_once_halted}
 use Rattle.session.specs.Standings.{Standing}
 use Rattle.session.proofs.Shapes.{HearsAs, Replies, SetsUp, AsksPlay, Stops, AsksLook, AsksOffer, hears_as}
-use Rattle.conn.specs.Turns.{HasHeard, IsAskAnswered, IsHalted, IsLookAnswered, IsPlayAnswered, Outcome, Unasked, Entered, WasFull, Offered}
+use Rattle.conn.specs.Turns.{HasHeard, IsAskAnswered, IsHalted, IsLookAnswered, IsPlayAnswered, Outcome, Unasked}
+use Rattle.conn.specs.Turns.{Entered, WasFull, Offered}
 use Rattle.transcript.specs.Notes.{Turn, kept_later, note_for, notes_of_turns, noted_entry, noted_for, turn_of}
 use Rattle.transcript.specs.Plays.{kept_by, kept_with}
 use Rattle.transcript.proofs.Occasions.{HaltGiven, PlayEntry, HaltAsked}
@@ -50,32 +52,34 @@ pub record Carries (plays : List PlayNote) (state : State) (turns : List Turn) (
   pub on : (later : List Turn)
       → (plays ++ open_note state (turns ++ later)) ++ notes_until turns later ≡ next ++ open_note after later
 
-pub carries-none : (plays : List PlayNote) (state : State) → Carries plays state [] plays state
-carries-none plays state = record { on = λ later. append-nil (plays ++ open_note state later) }
+pub carries_none : (plays : List PlayNote) (state : State) → Carries plays state [] plays state
+carries_none plays state = record { on = λ later. append-nil (plays ++ open_note state later) }
 
-until-append : (ts us later : List Turn) → notes_until (ts ++ us) later ≡ notes_until ts (us ++ later) ++ notes_until us later
-until-append [] us later = refl
-until-append (t ∷ ts) us later =
+until_append : (ts us later : List Turn) → notes_until (ts ++ us) later ≡ notes_until ts (us ++ later)
+    ++ notes_until us later
+until_append [] us later = refl
+until_append (t ∷ ts) us later =
     ap (λ ns. notes_of_turns t.asking t.outcome ns ++ notes_until (ts ++ us) later) (append_assoc ts us later)
-    ∙ ap (λ ns. notes_of_turns t.asking t.outcome (ts ++ (us ++ later)) ++ ns) (until-append ts us later)
+    ∙ ap (λ ns. notes_of_turns t.asking t.outcome (ts ++ (us ++ later)) ++ ns) (until_append ts us later)
     ∙ sym (append_assoc (notes_of_turns t.asking t.outcome (ts ++ (us ++ later))) (notes_until ts (us ++ later))
     (notes_until us later))
 
-pub carries-then : {p q r : List PlayNote} {a b c : State} {ts us : List Turn} → Carries p a ts q b
+pub carries_then : {p q r : List PlayNote} {a b c : State} {ts us : List Turn} → Carries p a ts q b
     → Carries q b us r c → Carries p a (ts ++ us) r c
-carries-then {p} {r} {a} {c} {ts} {us} one two = record {
+carries_then {p} {r} {a} {c} {ts} {us} one two = record {
   on = λ later.
       ap (λ ns. (p ++ open_note a ns) ++ notes_until (ts ++ us) later) (append_assoc ts us later)
-      ∙ ap (λ ns. (p ++ open_note a (ts ++ (us ++ later))) ++ ns) (until-append ts us later)
-      ∙ sym (append_assoc (p ++ open_note a (ts ++ (us ++ later))) (notes_until ts (us ++ later)) (notes_until us later))
+      ∙ ap (λ ns. (p ++ open_note a (ts ++ (us ++ later))) ++ ns) (until_append ts us later)
+      ∙ sym (append_assoc (p ++ open_note a (ts ++ (us ++ later))) (notes_until ts (us ++ later))
+      (notes_until us later))
       ∙ ap (λ ns. ns ++ notes_until us later) (one.on (us ++ later)) ∙ two.on later;
 }
 
 -- the same notes, and the same play under way
-pub carries-as : {p q r s : List PlayNote} {a b c d : State} {ts : List Turn} → p ≡ q
+pub carries_as : {p q r s : List PlayNote} {a b c d : State} {ts : List Turn} → p ≡ q
     → ((later : List Turn) → open_note a later ≡ open_note b later)
     → r ≡ s → ((later : List Turn) → open_note c later ≡ open_note d later) → Carries q b ts s d → Carries p a ts r c
-carries-as {p} {q} {r} {s} {a} {c} {ts} plays state next after on = record {
+carries_as {p} {q} {r} {s} {a} {c} {ts} plays state next after on = record {
   on = λ later.
       ap (λ ns. (ns ++ open_note a (ts ++ later)) ++ notes_until ts later) plays
       ∙ ap (λ ns. (q ++ ns) ++ notes_until ts later) (state (ts ++ later)) ∙ on.on later
@@ -83,53 +87,54 @@ carries-as {p} {q} {r} {s} {a} {c} {ts} plays state next after on = record {
 }
 
 -- a turn that neither begins nor halts a play
-open-kept : (state : State) (turn : Turn) (later : List Turn) → ((k : ℕ) → kept_with turn.outcome k ≡ k)
+open_kept : (state : State) (turn : Turn) (later : List Turn) → ((k : ℕ) → kept_with turn.outcome k ≡ k)
     → open_note state (turn ∷ later) ≡ open_note state later
-open-kept Init turn later kept = refl
-open-kept (Ready setup paused) turn later kept = refl
-open-kept (Playing setup play) turn later kept =
+open_kept Init turn later kept = refl
+open_kept (Ready setup paused) turn later kept = refl
+open_kept (Playing setup play) turn later kept =
     ap (λ k. note_of setup play k ∷ []) (kept (kept_later later (total_bytes play.plan)))
-open-kept (Stopping setup stop) turn later kept = refl
+open_kept (Stopping setup stop) turn later kept = refl
 
-still-turn : (plays : List PlayNote) (state : State) (asking : Standing) (outcome : Outcome)
+still_turn : (plays : List PlayNote) (state : State) (asking : Standing) (outcome : Outcome)
     → ((later : List Turn) → notes_of_turns asking outcome later ≡ [])
     → ((k : ℕ) → kept_with outcome k ≡ k) → Carries plays state (turn_of asking outcome ∷ []) plays state
-still-turn plays state asking outcome none kept = record {
+still_turn plays state asking outcome none kept = record {
   on = λ later.
       ap (λ ns. (plays ++ open_note state (turn_of asking outcome ∷ later)) ++ (ns ++ [])) (none later)
       ∙ append-nil (plays ++ open_note state (turn_of asking outcome ∷ later))
-      ∙ ap (λ ns. plays ++ ns) (open-kept state (turn_of asking outcome) later kept);
+      ∙ ap (λ ns. plays ++ ns) (open_kept state (turn_of asking outcome) later kept);
 }
 
-pub unasked-turn : (plays : List PlayNote) (state : State) (asking : Standing)
+pub unasked_turn : (plays : List PlayNote) (state : State) (asking : Standing)
     → Carries plays state (turn_of asking Unasked ∷ []) plays state
-unasked-turn plays state asking = still-turn plays state asking Unasked (λ later. refl) (λ k. refl)
+unasked_turn plays state asking = still_turn plays state asking Unasked (λ later. refl) (λ k. refl)
 
 -- nothing is noted where no play was asked for
-pub no-note : (state : State) (awaited : Awaited) (placed : Placed) (later : List Turn)
+pub no_note : (state : State) (awaited : Awaited) (placed : Placed) (later : List Turn)
     → ((prepared : Prepared) → awaited ≡ Play prepared → ⊥)
     → noted_entry state awaited placed later ≡ []
-no-note Init awaited placed later other = refl
-no-note (Ready setup paused) Nothing placed later other = refl
-no-note (Ready setup paused) (Play prepared) placed later other = absurd (other prepared refl)
-no-note (Ready setup paused) (Halt keep next) placed later other = refl
-no-note (Ready setup paused) (Look sequence) placed later other = refl
-no-note (Ready setup paused) (Offer sequence) placed later other = refl
-no-note (Playing setup play) awaited placed later other = refl
-no-note (Stopping setup stop) awaited placed later other = refl
+no_note Init awaited placed later other = refl
+no_note (Ready setup paused) Nothing placed later other = refl
+no_note (Ready setup paused) (Play prepared) placed later other = absurd (other prepared refl)
+no_note (Ready setup paused) (Halt keep next) placed later other = refl
+no_note (Ready setup paused) (Look sequence) placed later other = refl
+no_note (Ready setup paused) (Offer sequence) placed later other = refl
+no_note (Playing setup play) awaited placed later other = refl
+no_note (Stopping setup stop) awaited placed later other = refl
 
 -- ---- a halt
-after-open : (setup : Setup) (play : Played) (next : Next) (later : List Turn)
+after_open : (setup : Setup) (play : Played) (next : Next) (later : List Turn)
     → open_note (state_once_halted setup play next) later ≡ []
-after-open setup play Done later = refl
-after-open setup play (Paused run) later = refl
-after-open setup play Torn later = refl
+after_open setup play Done later = refl
+after_open setup play (Paused run) later = refl
+after_open setup play Torn later = refl
 
-pub halted-open : (state : State) (awaited : Awaited) (later : List Turn) → open_note (halted_in state awaited) later ≡ []
-halted-open Init awaited later = refl
-halted-open (Ready setup paused) awaited later = refl
-halted-open (Playing setup play) awaited later = after-open setup play _ later
-halted-open (Stopping setup stop) awaited later = refl
+pub halted_open : (state : State) (awaited : Awaited) (later : List Turn)
+    → open_note (halted_in state awaited) later ≡ []
+halted_open Init awaited later = refl
+halted_open (Ready setup paused) awaited later = refl
+halted_open (Playing setup play) awaited later = after_open setup play _ later
+halted_open (Stopping setup stop) awaited later = refl
 
 -- what is due of a play that is under way
 abbrev pub IsKept : State → Awaited → ℕ → Type 0
@@ -138,21 +143,21 @@ IsKept (Ready setup paused) awaited keep = Unit {0}
 IsKept (Playing setup play) awaited keep = kept_of awaited play.pacer.due ≡ keep
 IsKept (Stopping setup stop) awaited keep = Unit {0}
 
-halted-as : {keep : ℕ} (state : State) (awaited : Awaited) (turn : Turn) (later : List Turn)
+halted_as : {keep : ℕ} (state : State) (awaited : Awaited) (turn : Turn) (later : List Turn)
     → IsKept state awaited keep → ((k : ℕ) → kept_with turn.outcome k ≡ keep)
     → open_note state (turn ∷ later) ≡ halted_notes state awaited
-halted-as Init awaited turn later is kept = refl
-halted-as (Ready setup paused) awaited turn later is kept = refl
-halted-as (Playing setup play) awaited turn later is kept =
+halted_as Init awaited turn later is kept = refl
+halted_as (Ready setup paused) awaited turn later is kept = refl
+halted_as (Playing setup play) awaited turn later is kept =
     ap (λ k. note_of setup play k ∷ []) (kept (kept_later later (total_bytes play.plan)) ∙ sym is)
-halted-as (Stopping setup stop) awaited turn later is kept = refl
+halted_as (Stopping setup stop) awaited turn later is kept = refl
 
-pub halt-turn : {halt : Outcome} {s : Standing} (given : HaltGiven s halt) (asking : Standing) →
+pub halt_turn : {halt : Outcome} {s : Standing} (given : HaltGiven s halt) (asking : Standing) →
     IsKept s.state s.awaited given.keep →
     ((placed : Placed) (later : List Turn) → noted_entry asking.state asking.awaited placed later ≡ []) →
     Carries s.plays s.state (turn_of asking halt ∷ []) given.new.plays given.new.state
-halt-turn {halt = Unasked} given asking kept none = absurd given.halted
-halt-turn {halt = Entered placed} {s} given asking kept none =
+halt_turn {halt = Unasked} given asking kept none = absurd given.halted
+halt_turn {halt = Entered placed} {s} given asking kept none =
     let turn = turn_of asking (Entered placed) in
     let is : new ≡ after_halt s placed.place = halted.halts in
     let plays : new.plays ≡ s.plays ++ halted_notes s.state s.awaited = ap (λ (n : Standing). n.plays) is in
@@ -161,57 +166,62 @@ halt-turn {halt = Entered placed} {s} given asking kept none =
       on = λ later.
           ap (λ ns. (s.plays ++ open_note s.state (turn ∷ later)) ++ (ns ++ [])) (none placed later)
           ∙ append-nil (s.plays ++ open_note s.state (turn ∷ later))
-          ∙ ap (λ ns. s.plays ++ ns) (halted-as s.state s.awaited turn later kept (λ k. ap (λ c. kept_by c k) halted.command))
+          ∙ ap (λ ns. s.plays ++ ns)
+          (halted_as s.state s.awaited turn later kept (λ k. ap (λ c. kept_by c k) halted.command))
           ∙ sym (append-nil (s.plays ++ halted_notes s.state s.awaited))
           ∙ ap (λ ns. (s.plays ++ halted_notes s.state s.awaited) ++ ns)
-          (sym (ap (λ x. open_note x later) state ∙ halted-open s.state s.awaited later))
+          (sym (ap (λ x. open_note x later) state ∙ halted_open s.state s.awaited later))
           ∙ ap (λ ns. ns ++ open_note new.state later) (sym plays);
     }
   where
     open given use {new, halted}
-halt-turn {halt = WasFull more entries open_plays} given asking kept none = absurd given.halted
-halt-turn {halt = Offered at_slot note} given asking kept none = absurd given.halted
+halt_turn {halt = WasFull more entries open_plays} given asking kept none = absurd given.halted
+halt_turn {halt = Offered at_slot note} given asking kept none = absurd given.halted
 
 -- ---- a request
 abbrev CarriesOn : Standing → Standing → Outcome → Standing → Type 0
 CarriesOn old asking outcome new = Carries old.plays old.state (turn_of asking outcome ∷ []) new.plays new.state
 
-stays-on : {asking : Standing} {outcome : Outcome} (old new : Standing) → new.plays ≡ old.plays
+stays_on : {asking : Standing} {outcome : Outcome} (old new : Standing) → new.plays ≡ old.plays
     → new.state ≡ old.state → ((later : List Turn) → notes_of_turns asking outcome later ≡ [])
     → ((k : ℕ) → kept_with outcome k ≡ k) → CarriesOn old asking outcome new
-stays-on {asking} {outcome} old new plays state none kept =
-    carries-as refl (λ later. refl) plays
-    (λ later. ap (λ s. open_note s later) state) (still-turn old.plays old.state asking outcome none kept)
+stays_on {asking} {outcome} old new plays state none kept =
+    carries_as refl (λ later. refl) plays
+    (λ later. ap (λ s. open_note s later) state) (still_turn old.plays old.state asking outcome none kept)
 
 -- the session's own reply
-replied-on : {asking : Standing} {outcome : Outcome} (old new : Standing)
+replied_on : {asking : Standing} {outcome : Outcome} (old new : Standing)
     → IsAskAnswered asking AskReply outcome new → asking.plays ≡ old.plays
-    → ((later : List Turn) → open_note asking.state later ≡ open_note old.state later) → CarriesOn old asking outcome new
-replied-on {asking} {outcome = Unasked} old new answered plays state =
-    carries-as refl (λ later. refl)
+    → ((later : List Turn) → open_note asking.state later ≡ open_note old.state later)
+    → CarriesOn old asking outcome new
+replied_on {asking} {outcome = Unasked} old new answered plays state =
+    carries_as refl (λ later. refl)
     (ap (λ (s : Standing). s.plays) answered ∙ plays)
-    (λ later. ap (λ (s : Standing). open_note s.state later) answered ∙ state later) (unasked-turn old.plays old.state asking)
-replied-on {outcome = Entered placed} old new answered plays state = absurd answered
-replied-on {outcome = WasFull more entries open_plays} old new answered plays state = absurd answered
-replied-on {outcome = Offered at_slot note} old new answered plays state = absurd answered
+    (λ later. ap (λ (s : Standing). open_note s.state later) answered ∙ state later)
+    (unasked_turn old.plays old.state asking)
+replied_on {outcome = Entered placed} old new answered plays state = absurd answered
+replied_on {outcome = WasFull more entries open_plays} old new answered plays state = absurd answered
+replied_on {outcome = Offered at_slot note} old new answered plays state = absurd answered
 
 -- a play that begins
-begun-state : {state : State} {awaited : Awaited} {setup : Setup} {paused : Option Run} {prepared : Prepared}
+begun_state : {state : State} {awaited : Awaited} {setup : Setup} {paused : Option Run} {prepared : Prepared}
     (place start : ℕ) (later : List Turn)
     → state ≡ Ready setup paused → awaited ≡ Play prepared
     → open_note (admitted_in state awaited place start) later
-    ≡ note_for setup prepared.run place (whole_play start prepared.plan) (kept_later later (total_bytes prepared.plan)) ∷ []
-begun-state {awaited} {setup} {paused} place start later ready asks =
+    ≡ note_for setup prepared.run place (whole_play start prepared.plan)
+    (kept_later later (total_bytes prepared.plan)) ∷ []
+begun_state {awaited} {setup} {paused} place start later ready asks =
     ap (λ s. open_note (admitted_in s awaited place start) later) ready
     ∙ ap (λ a. open_note (admitted_in (Ready setup paused) a place start) later) asks
 
-pub begun-note : {setup : Setup} {paused : Option Run} {prepared : Prepared} {answer : Answer} {asking : Standing}
+pub begun_note : {setup : Setup} {paused : Option Run} {prepared : Prepared} {answer : Answer} {asking : Standing}
     {placed : Placed} (later : List Turn) → asking.state ≡ Ready setup paused → asking.awaited ≡ Play prepared →
     PlayEntry asking prepared placed answer →
     notes_of_turns asking (Entered placed) later ≡ noted_for setup prepared.run placed.place
     (play_admitted (play_of asking.heard prepared.plan) answer) later
-begun-note {setup} {paused} {prepared} {asking} {placed} later ready asks entry =
-    ap (λ s. noted_entry s asking.awaited placed later) ready ∙ ap (λ a. noted_entry (Ready setup paused) a placed later) asks
+begun_note {setup} {paused} {prepared} {asking} {placed} later ready asks entry =
+    ap (λ s. noted_entry s asking.awaited placed later) ready
+    ∙ ap (λ a. noted_entry (Ready setup paused) a placed later) asks
     ∙ ap (λ c. noted_for setup prepared.run placed.place (play_admitted c placed.entry.answer) later) entry.command
     ∙ ap (λ a. noted_for setup prepared.run placed.place (play_admitted (play_of asking.heard prepared.plan) a)
     later) entry.answer_is
@@ -221,11 +231,12 @@ record SameSession (old asking : Standing) : Type 0 where
   state : asking.state ≡ old.state
   plays : asking.plays ≡ old.plays
 
-play-on : {asking : Standing} {setup : Setup} {paused : Option Run} {prepared : Prepared} {placed : Placed}
+play_on : {asking : Standing} {setup : Setup} {paused : Option Run} {prepared : Prepared} {placed : Placed}
     {answer : Answer} {old : Standing} (new : Standing) → PlayEntry asking prepared placed answer →
     IsPlayAnswered asking placed answer new → old.state ≡ Ready setup paused → SameSession old asking →
     asking.awaited ≡ Play prepared → CarriesOn old asking (Entered placed) new
-play-on {asking} {setup} {paused} {prepared} {placed} {answer = Admitted start} {old} new entry answered ready same awaited =
+play_on {asking} {setup} {paused} {prepared} {placed} {answer = Admitted start} {old} new entry answered ready
+    same awaited =
     let there : asking.state ≡ Ready setup paused = same.state ∙ ready in
     let note : List Turn → PlayNote =
     λ later. note_for setup prepared.run placed.place (whole_play start prepared.plan)
@@ -239,34 +250,36 @@ play-on {asking} {setup} {paused} {prepared} {placed} {answer = Admitted start} 
           ++ (notes_of_turns asking (Entered placed) later ++ [])) ready
           ∙ ap (λ ns. ns ++ (notes_of_turns asking (Entered placed) later ++ [])) (append-nil old.plays)
           ∙ ap (λ ns. old.plays ++ ns) (append-nil (notes_of_turns asking (Entered placed) later)
-          ∙ begun-note later there awaited entry)
+          ∙ begun_note later there awaited entry)
           ∙ ap (λ ns. old.plays ++ ns) (sym (ap (λ s. open_note s later) new-state
-          ∙ begun-state placed.place start later there awaited))
+          ∙ begun_state placed.place start later there awaited))
           ∙ ap (λ ns. ns ++ open_note new.state later) (sym new-plays);
     }
-play-on {asking} {placed} {answer = Overflow slot booked asks} {old} new entry answered ready same awaited =
-    stays-on old new (ap (λ (s : Standing). s.plays) answered ∙ same.plays) (ap (λ (s : Standing). s.state) answered ∙ same.state)
-    (λ later. begun-note later (same.state ∙ ready) awaited entry)
+play_on {asking} {placed} {answer = Overflow slot booked asks} {old} new entry answered ready same awaited =
+    stays_on old new (ap (λ (s : Standing). s.plays) answered ∙ same.plays) (ap (λ (s : Standing). s.state) answered
+    ∙ same.state)
+    (λ later. begun_note later (same.state ∙ ready) awaited entry)
     (λ k. ap (λ c. kept_by c k) entry.command)
-play-on {answer = Halted} new entry answered ready same awaited = absurd answered
-play-on {answer = Looked now at booked} new entry answered ready same awaited = absurd answered
+play_on {answer = Halted} new entry answered ready same awaited = absurd answered
+play_on {answer = Looked now at booked} new entry answered ready same awaited = absurd answered
 
-asks-play : {asking : Standing} {setup : Setup} {paused : Option Run} {prepared : Prepared} {outcome : Outcome}
+asks_play : {asking : Standing} {setup : Setup} {paused : Option Run} {prepared : Prepared} {outcome : Outcome}
     {old : Standing} (new : Standing) → IsAskAnswered asking (AskPlay prepared.plan) outcome new →
     old.state ≡ Ready setup paused → SameSession old asking → asking.awaited ≡ Play prepared →
     CarriesOn old asking outcome new
-asks-play {outcome = Unasked} new answered ready same awaited = absurd answered
-asks-play {outcome = Entered placed} new answered ready same awaited =
-    play-on new (record { answer_is = refl; command = answered.0 }) answered.1 ready same awaited
-asks-play {outcome = WasFull more entries open_plays} {old} new answered ready same awaited =
-    stays-on old new (ap (λ (s : Standing). s.plays) answered.0 ∙ same.plays)
+asks_play {outcome = Unasked} new answered ready same awaited = absurd answered
+asks_play {outcome = Entered placed} new answered ready same awaited =
+    play_on new (record { answer_is = refl; command = answered.0 }) answered.1 ready same awaited
+asks_play {outcome = WasFull more entries open_plays} {old} new answered ready same awaited =
+    stays_on old new (ap (λ (s : Standing). s.plays) answered.0 ∙ same.plays)
     (ap (λ (s : Standing). s.state) answered.0 ∙ same.state)
     (λ later. refl) (λ k. refl)
-asks-play {outcome = Offered at_slot note} new answered ready same awaited = absurd answered
+asks_play {outcome = Offered at_slot note} new answered ready same awaited = absurd answered
 
 -- a look
-no-play : (sequence : ℕ) (awaited : Awaited) → awaited ≡ Look sequence → (prepared : Prepared) → awaited ≡ Play prepared → ⊥
-no-play sequence awaited looks prepared asks = let no : Look sequence ≡ Play prepared = sym looks ∙ asks in cc no
+no_play : (sequence : ℕ) (awaited : Awaited) → awaited ≡ Look sequence → (prepared : Prepared)
+    → awaited ≡ Play prepared → ⊥
+no_play sequence awaited looks prepared asks = let no : Look sequence ≡ Play prepared = sym looks ∙ asks in cc no
 
 -- the look that a session asks for was entered, and so it was answered
 record LookEntered (asking : Standing) (placed : Placed) (answer : Answer) (new : Standing) : Type 0 where
@@ -274,86 +287,96 @@ record LookEntered (asking : Standing) (placed : Placed) (answer : Answer) (new 
   command : placed.entry.command ≡ look_at slot
   answered : IsLookAnswered asking placed answer new
 
-look-on : {asking : Standing} {placed : Placed} {sequence : ℕ} {old new : Standing} (answer : Answer) →
+look_on : {asking : Standing} {placed : Placed} {sequence : ℕ} {old new : Standing} (answer : Answer) →
     LookEntered asking placed answer new → SameSession old asking → asking.awaited ≡ Look sequence →
     CarriesOn old asking (Entered placed) new
-look-on {asking} {placed} {sequence} {old} {new} (Looked now at booked) entered same awaited =
-    stays-on old new (ap (λ (s : Standing). s.plays) entered.answered ∙ same.plays)
+look_on {asking} {placed} {sequence} {old} {new} (Looked now at booked) entered same awaited =
+    stays_on old new (ap (λ (s : Standing). s.plays) entered.answered ∙ same.plays)
     (ap (λ (s : Standing). s.state) entered.answered ∙ same.state)
-    (λ later. no-note asking.state asking.awaited placed later (no-play sequence asking.awaited awaited))
+    (λ later. no_note asking.state asking.awaited placed later (no_play sequence asking.awaited awaited))
     (λ k. ap (λ c. kept_by c k) entered.command)
-look-on (Admitted start) entered same awaited = absurd entered.answered
-look-on (Overflow over booked asks) entered same awaited = absurd entered.answered
-look-on Halted entered same awaited = absurd entered.answered
+look_on (Admitted start) entered same awaited = absurd entered.answered
+look_on (Overflow over booked asks) entered same awaited = absurd entered.answered
+look_on Halted entered same awaited = absurd entered.answered
 
-asks-look : {asking : Standing} {sequence : ℕ} {outcome : Outcome} {old : Standing} (new : Standing) (slot : ℕ) →
+asks_look : {asking : Standing} {sequence : ℕ} {outcome : Outcome} {old : Standing} (new : Standing) (slot : ℕ) →
     IsAskAnswered asking (AskLook slot) outcome new → SameSession old asking → asking.awaited ≡ Look sequence →
     CarriesOn old asking outcome new
-asks-look {outcome = Unasked} new slot answered same awaited = absurd answered
-asks-look {outcome = Entered placed} new slot answered same awaited =
-    look-on placed.entry.answer (record { slot = slot; command = answered.0; answered = answered.1 }) same awaited
-asks-look {outcome = WasFull more entries open_plays} {old} new slot answered same awaited =
-    stays-on old new (ap (λ (s : Standing). s.plays) answered.0 ∙ same.plays)
+asks_look {outcome = Unasked} new slot answered same awaited = absurd answered
+asks_look {outcome = Entered placed} new slot answered same awaited =
+    look_on placed.entry.answer (record { slot = slot; command = answered.0; answered = answered.1 }) same awaited
+asks_look {outcome = WasFull more entries open_plays} {old} new slot answered same awaited =
+    stays_on old new (ap (λ (s : Standing). s.plays) answered.0 ∙ same.plays)
     (ap (λ (s : Standing). s.state) answered.0 ∙ same.state)
     (λ later. refl) (λ k. refl)
-asks-look {outcome = Offered at_slot note} new slot answered same awaited = absurd answered
+asks_look {outcome = Offered at_slot note} new slot answered same awaited = absurd answered
 
-asks-offer : {asking : Standing} {outcome : Outcome} {old : Standing} (new : Standing) (plan : List Segment)
+asks_offer : {asking : Standing} {outcome : Outcome} {old : Standing} (new : Standing) (plan : List Segment)
     (offers : Offers) → IsAskAnswered asking (AskOffer plan offers) outcome new → SameSession old asking →
     CarriesOn old asking outcome new
-asks-offer {outcome = Unasked} new plan offers answered same = absurd answered
-asks-offer {outcome = Entered placed} new plan offers answered same = absurd answered
-asks-offer {outcome = WasFull more entries open_plays} new plan offers answered same = absurd answered
-asks-offer {outcome = Offered at_slot note} {old} new plan offers answered same =
-    stays-on old new (ap (λ (s : Standing). s.plays) answered.2 ∙ same.plays)
+asks_offer {outcome = Unasked} new plan offers answered same = absurd answered
+asks_offer {outcome = Entered placed} new plan offers answered same = absurd answered
+asks_offer {outcome = WasFull more entries open_plays} new plan offers answered same = absurd answered
+asks_offer {outcome = Offered at_slot note} {old} new plan offers answered same =
+    stays_on old new (ap (λ (s : Standing). s.plays) answered.2 ∙ same.plays)
     (ap (λ (s : Standing). s.state) answered.2 ∙ same.state)
     (λ later. refl) (λ k. refl)
 
 -- a halt that a request asks for
-pub no-halt-note : {awaited : Awaited} {keep : ℕ} {next : Next} (state : State) → awaited ≡ Halt keep next
+pub no_halt_note : {awaited : Awaited} {keep : ℕ} {next : Next} (state : State) → awaited ≡ Halt keep next
     → (placed : Placed) (later : List Turn)
     → noted_entry state awaited placed later ≡ []
-no-halt-note {awaited} {keep} {next} state halts placed later =
-    no-note state awaited placed later (λ prepared asks. let no : Halt keep next ≡ Play prepared = sym halts ∙ asks in cc no)
+no_halt_note {awaited} {keep} {next} state halts placed later =
+    no_note state awaited placed later (λ prepared asks. let no : Halt keep next ≡ Play prepared = sym halts
+    ∙ asks in cc no)
 
-asks-halt : {asking : Standing} {setup : Setup} {play : Played} {keep : ℕ} {next : Next} {outcome : Outcome}
+asks_halt : {asking : Standing} {setup : Setup} {play : Played} {keep : ℕ} {next : Next} {outcome : Outcome}
     {old : Standing} (new : Standing) → IsHalted asking keep outcome new → asking.plays ≡ old.plays →
     HaltAsked old asking setup play keep next → CarriesOn old asking outcome new
-asks-halt {asking} {setup} {play} {keep} {next} new halted plays asked =
+asks_halt {asking} {setup} {play} {keep} {next} new halted plays asked =
     let stopped : Played = record play { pacer = record play.pacer { keep = keep } } in
     let K : State → Awaited → Type 0 = λ s a. IsKept s a keep in
     let kept : IsKept asking.state asking.awaited keep =
     subst (λ s. K s asking.awaited) (sym state) (subst (K (Playing setup stopped)) (sym awaited) refl) in
-    carries-as (sym plays)
+    carries_as (sym plays)
     (λ later. ap (λ s. open_note s later) playing ∙ sym (ap (λ s. open_note s later) state)) refl (λ later. refl)
-    (halt-turn (record { keep = keep; new = new; halted = halted }) asking kept (no-halt-note asking.state awaited))
+    (halt_turn (record { keep = keep; new = new; halted = halted }) asking kept (no_halt_note asking.state awaited))
   where
     open asked use {playing, state, awaited}
 
 -- by what was asked
-answered-on : {old asking : Standing} {ask : Ask} {outcome : Outcome} (new : Standing)
+answered_on : {old asking : Standing} {ask : Ask} {outcome : Outcome} (new : Standing)
     → IsAskAnswered asking ask outcome new → HearsAs old ask asking → CarriesOn old asking outcome new
-answered-on {old} {asking} {ask} {outcome} new answered (Replies text tearing ask_is is) =
-    replied-on old new (subst (λ a. IsAskAnswered asking a outcome new) ask_is answered) (ap (λ (s : Standing). s.plays) is)
+answered_on {old} {asking} {ask} {outcome} new answered (Replies text tearing ask_is is) =
+    replied_on old new (subst (λ a. IsAskAnswered asking a outcome new) ask_is answered)
+    (ap (λ (s : Standing). s.plays) is)
     (λ later. ap (λ (s : Standing). open_note s.state later) is)
-answered-on {old} {asking} {ask} {outcome} new answered (SetsUp text setup init ask_is is) =
-    replied-on old new (subst (λ a. IsAskAnswered asking a outcome new) ask_is answered) (ap (λ (s : Standing). s.plays) is)
+answered_on {old} {asking} {ask} {outcome} new answered (SetsUp text setup init ask_is is) =
+    replied_on old new (subst (λ a. IsAskAnswered asking a outcome new) ask_is answered)
+    (ap (λ (s : Standing). s.plays) is)
     (λ later. ap (λ (s : Standing). open_note s.state later) is ∙ sym (ap (λ s. open_note s later) init))
-answered-on {old} {asking} {ask} {outcome} new answered (AsksPlay setup paused prepared text ready ask_is is) =
-    asks-play {old = old} new (subst (λ a. IsAskAnswered asking a outcome new) ask_is answered) ready
+answered_on {old} {asking} {ask} {outcome} new answered (AsksPlay setup paused prepared text ready ask_is is) =
+    asks_play {old = old} new (subst (λ a. IsAskAnswered asking a outcome new) ask_is answered) ready
     (record { state = ap (λ (s : Standing). s.state) is; plays = ap (λ (s : Standing). s.plays) is })
     (ap (λ (s : Standing). s.awaited) is)
-answered-on {old} {asking} {ask} {outcome} new answered (Stops setup play keep next text playing told keep_is ask_is is) =
-    asks-halt {old = old} new (subst (λ a. IsAskAnswered asking a outcome new) ask_is answered) (ap (λ (s : Standing). s.plays) is)
-    (record { playing = playing; state = ap (λ (s : Standing). s.state) is; awaited = ap (λ (s : Standing). s.awaited) is })
-answered-on {old} {asking} {ask} {outcome} new answered (AsksLook looks sequence ask_is is) =
-    asks-look {old = old} new old.heard (subst (λ a. IsAskAnswered asking a outcome new) ask_is answered)
+answered_on {old} {asking} {ask} {outcome} new answered
+    (Stops setup play keep next text playing told keep_is ask_is is) =
+    asks_halt {old = old} new (subst (λ a. IsAskAnswered asking a outcome new) ask_is answered)
+    (ap (λ (s : Standing). s.plays) is)
+    (record {
+      playing = playing;
+      state = ap (λ (s : Standing). s.state) is;
+      awaited = ap (λ (s : Standing). s.awaited) is;
+    })
+answered_on {old} {asking} {ask} {outcome} new answered (AsksLook looks sequence ask_is is) =
+    asks_look {old = old} new old.heard (subst (λ a. IsAskAnswered asking a outcome new) ask_is answered)
     (record { state = ap (λ (s : Standing). s.state) is; plays = ap (λ (s : Standing). s.plays) is })
     (ap (λ (s : Standing). s.awaited) is)
-answered-on {old} {asking} {ask} {outcome} new answered (AsksOffer plan offers sequence ask_is is) =
-    asks-offer {old = old} new plan offers (subst (λ a. IsAskAnswered asking a outcome new) ask_is answered)
+answered_on {old} {asking} {ask} {outcome} new answered (AsksOffer plan offers sequence ask_is is) =
+    asks_offer {old = old} new plan offers (subst (λ a. IsAskAnswered asking a outcome new) ask_is answered)
     (record { state = ap (λ (s : Standing). s.state) is; plays = ap (λ (s : Standing). s.plays) is })
 
-pub heard-on : (old new : Standing) (message : List ℕ) (outcome : Outcome) (heard : HasHeard old message outcome new)
+pub heard_on : (old new : Standing) (message : List ℕ) (outcome : Outcome) (heard : HasHeard old message outcome new)
     → Carries old.plays old.state (turn_of heard.asking outcome ∷ []) new.plays new.state
-heard-on old new message outcome heard = answered-on new heard.answered (hears_as old message heard.ask heard.asking heard.hears)
+heard_on old new message outcome heard =
+    answered_on new heard.answered (hears_as old message heard.ask heard.asking heard.hears)

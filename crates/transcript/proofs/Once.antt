@@ -1,17 +1,22 @@
 -- What a connection does with a request or a slot has one result, by what the station and the memory answer.
 use Rattle.std.specs.Prelude.{⊤}
-use Rattle.std.proofs.Common.{◌≡◌, ℕ, ◌++◌, ◌&&◌, if◌then◌else◌, Bool, true, false, List, [], ◌∷◌, refl, ap, sym, ◌∙◌, subst, inl, inr}
+use Rattle.std.proofs.Common.{◌≡◌, ℕ, ◌++◌, ◌&&◌, if◌then◌else◌, Bool, true, false, List, [], ◌∷◌, refl, ap, sym, ◌∙◌}
+use Rattle.std.proofs.Common.{subst, inl, inr}
 use Rattle.admission.specs.declared.entries.Answer.{Answer}
 use Rattle.admission.specs.declared.entries.Answer.TheVariants.{Admitted, Halted, Looked, Overflow}
 use Rattle.admission.specs.Makers.{Placed}
+use Rattle.film_frames.specs.declared.stores.Stored.{Stored}
 use Rattle.session.specs.declared.asks.Ask.{Ask}
-use Rattle.session.specs.declared.asks.Ask.TheVariants.{Reply as AskReply, Play as AskPlay, Halt as AskHalt, Look as AskLook, Offer as AskOffer}
+use Rattle.session.specs.declared.asks.Ask.TheVariants.{Reply as AskReply, Play as AskPlay, Halt as AskHalt}
+use Rattle.session.specs.declared.asks.Ask.TheVariants.{Look as AskLook, Offer as AskOffer}
 use Rattle.session.specs.Hearings.{Hears}
 use Rattle.session.specs.Laws.{IsOneHearing}
 use Rattle.session.specs.Ranges.{AreFilms}
 use Rattle.session.proofs.OneHearing.{hears_once}
-use Rattle.session.specs.Sendings.{can_reply, after_play, is_between, is_sending, is_taken, sent_due, sent_reply, sent_slot, after_slot, stepped_in}
-use Rattle.session.specs.Standings.{Awaits, NoAnswer, PlayAnswer, HaltAnswer, LookAnswer, OfferAnswer, Standing, awaited_answer}
+use Rattle.session.specs.Sendings.{can_reply, after_play, is_between, is_sending, is_taken, sent_due, sent_reply}
+use Rattle.session.specs.Sendings.{sent_slot, after_slot, stepped_in}
+use Rattle.session.specs.Standings.{Awaits, NoAnswer, PlayAnswer, HaltAnswer, LookAnswer, OfferAnswer, Standing}
+use Rattle.session.specs.Standings.{awaited_answer}
 use Rattle.conn.specs.Turns.{Outcome, Unasked, Entered, WasFull, Offered, Part, HasStepped}
 use Rattle.conn.specs.Turns.{IsAskAnswered, IsFinished, IsHalted, IsLookAnswered, IsPlayAnswered}
 use Rattle.conn.specs.Turns.{after_reply}
@@ -34,7 +39,8 @@ hears_by {one} {other} {ask} alike (inl same) = (same.ask_is, same.session_is)
 hears_by {old} {one} {other} {message} {ask} alike (inr (inl lacks)) = lacks_once old message lacks (alike.there lacks)
 hears_by {old} {one} {other} {message} {ask} alike (inr (inr lacks)) = lacks_once old message (alike.back lacks) lacks
 
-pub hears_same : {old one other : Standing} {message : List ℕ} {ask again : Ask} → AreFilms old.films → Hears old message ask one
+pub hears_same : {old one other : Standing} {message : List ℕ} {ask again : Ask} → AreFilms old.films
+    → Hears old message ask one
     → Hears old message again other → LackAlike (hearing old message ask one) (hearing old message again other)
     → (again ≡ ask) × (other ≡ one)
 hears_same {old} {one} {other} {message} {ask} {again} films hears also alike =
@@ -106,7 +112,8 @@ outcome_of old (AskOffer plan offers) (Entered placed) new is = absurd is
 outcome_of old (AskOffer plan offers) (WasFull more entries open_plays) new is = absurd is
 outcome_of old (AskOffer plan offers) (Offered at_slot note) new is = tt
 
-outcomes_same : {one other : Outcome} (ask : Ask) (ones others : List Outcome) → IsOutcomeOf ask one → IsOutcomeOf ask other
+outcomes_same : {one other : Outcome} (ask : Ask) (ones others : List Outcome) → IsOutcomeOf ask one
+    → IsOutcomeOf ask other
     → AreSameAnswers (answer_in one ++ ones) (answer_in other ++ others) → (other ≡ one) × AreSameAnswers ones others
 outcomes_same {one} {other} AskReply ones others is also same = (
   also ∙ sym is,
@@ -118,14 +125,16 @@ outcomes_same {one} {other} (AskHalt keep) ones others is also same = heads_same
 outcomes_same {one} {other} (AskLook slot) ones others is also same = heads_same ones others is also same
 outcomes_same {one} {other} (AskOffer plan offers) ones others is also same = heads_same ones others is also same
 
-play_once : {one other : Standing} (old : Standing) (placed : Placed) (answer : Answer) → IsPlayAnswered old placed answer one
+play_once : {one other : Standing} (old : Standing) (placed : Placed) (answer : Answer)
+    → IsPlayAnswered old placed answer one
     → IsPlayAnswered old placed answer other → other ≡ one
 play_once {one} {other} old placed (Admitted start) is also = also.1 ∙ sym is.1
 play_once {one} {other} old placed (Overflow slot booked asked) is also = also ∙ sym is
 play_once {one} {other} old placed Halted is also = absurd is
 play_once {one} {other} old placed (Looked now at booked) is also = absurd is
 
-look_once : {one other : Standing} (old : Standing) (placed : Placed) (answer : Answer) → IsLookAnswered old placed answer one
+look_once : {one other : Standing} (old : Standing) (placed : Placed) (answer : Answer)
+    → IsLookAnswered old placed answer one
     → IsLookAnswered old placed answer other → other ≡ one
 look_once {one} {other} old placed (Admitted start) is also = absurd is
 look_once {one} {other} old placed (Overflow slot booked asked) is also = absurd is
@@ -140,19 +149,22 @@ halted_once {one} {other} old keep (Entered placed) is also = also.halts ∙ sym
 halted_once {one} {other} old keep (WasFull more entries open_plays) is also = absurd is
 halted_once {one} {other} old keep (Offered at_slot note) is also = absurd is
 
-answered_once : {one other : Standing} (old : Standing) (ask : Ask) (outcome : Outcome) → IsAskAnswered old ask outcome one
+answered_once : {one other : Standing} (old : Standing) (ask : Ask) (outcome : Outcome)
+    → IsAskAnswered old ask outcome one
     → IsAskAnswered old ask outcome other → other ≡ one
 answered_once {one} {other} old AskReply Unasked is also = also ∙ sym is
 answered_once {one} {other} old AskReply (Entered placed) is also = absurd is
 answered_once {one} {other} old AskReply (WasFull more entries open_plays) is also = absurd is
 answered_once {one} {other} old AskReply (Offered at_slot note) is also = absurd is
 answered_once {one} {other} old (AskPlay plan) Unasked is also = absurd is
-answered_once {one} {other} old (AskPlay plan) (Entered placed) is also = play_once old placed placed.entry.answer is.1 also.1
+answered_once {one} {other} old (AskPlay plan) (Entered placed) is also =
+    play_once old placed placed.entry.answer is.1 also.1
 answered_once {one} {other} old (AskPlay plan) (WasFull more entries open_plays) is also = also.0 ∙ sym is.0
 answered_once {one} {other} old (AskPlay plan) (Offered at_slot note) is also = absurd is
 answered_once {one} {other} old (AskHalt keep) outcome is also = halted_once old keep outcome is also
 answered_once {one} {other} old (AskLook slot) Unasked is also = absurd is
-answered_once {one} {other} old (AskLook slot) (Entered placed) is also = look_once old placed placed.entry.answer is.1 also.1
+answered_once {one} {other} old (AskLook slot) (Entered placed) is also =
+    look_once old placed placed.entry.answer is.1 also.1
 answered_once {one} {other} old (AskLook slot) (WasFull more entries open_plays) is also = also.0 ∙ sym is.0
 answered_once {one} {other} old (AskLook slot) (Offered at_slot note) is also = absurd is
 answered_once {one} {other} old (AskOffer plan offers) Unasked is also = absurd is
@@ -214,74 +226,79 @@ steps_same {old} {slot} {one} {other} {new} ones others is also same =
     (record { ones = ones; others = others; same = same }) is.finished also.finished in
     (also.parts_are ∙ sym is.parts_are, both.0, both.1)
 
--- ---- the films stay
+-- ---- the films and the id stay
 
-play_films : (old : Standing) (placed : Placed) (answer : Answer) (new : Standing)
-    → IsPlayAnswered old placed answer new → new.films ≡ old.films
-play_films old placed (Admitted start) new is = ap (λ (s : Standing). s.films) is.1
-play_films old placed (Overflow slot booked asked) new is = ap (λ (s : Standing). s.films) is
-play_films old placed Halted new is = absurd is
-play_films old placed (Looked now at booked) new is = absurd is
+-- what a session is named by: its films, and its id
+abbrev pub names_in : Standing → List Stored × List ℕ
+names_in s = (s.films, s.id)
 
-look_films : (old : Standing) (placed : Placed) (answer : Answer) (new : Standing)
-    → IsLookAnswered old placed answer new → new.films ≡ old.films
-look_films old placed (Admitted start) new is = absurd is
-look_films old placed (Overflow slot booked asked) new is = absurd is
-look_films old placed Halted new is = absurd is
-look_films old placed (Looked now at booked) new is = ap (λ (s : Standing). s.films) is
+play_names : (old : Standing) (placed : Placed) (answer : Answer) (new : Standing)
+    → IsPlayAnswered old placed answer new → names_in new ≡ names_in old
+play_names old placed (Admitted start) new is = ap names_in is.1
+play_names old placed (Overflow slot booked asked) new is = ap names_in is
+play_names old placed Halted new is = absurd is
+play_names old placed (Looked now at booked) new is = absurd is
 
-halted_films : (old : Standing) (keep : ℕ) (outcome : Outcome) (new : Standing) → IsHalted old keep outcome new
-    → new.films ≡ old.films
-halted_films old keep Unasked new is = absurd is
-halted_films old keep (Entered placed) new is = ap (λ (s : Standing). s.films) is.halts
-halted_films old keep (WasFull more entries open_plays) new is = absurd is
-halted_films old keep (Offered at_slot note) new is = absurd is
+look_names : (old : Standing) (placed : Placed) (answer : Answer) (new : Standing)
+    → IsLookAnswered old placed answer new → names_in new ≡ names_in old
+look_names old placed (Admitted start) new is = absurd is
+look_names old placed (Overflow slot booked asked) new is = absurd is
+look_names old placed Halted new is = absurd is
+look_names old placed (Looked now at booked) new is = ap names_in is
 
-pub answered_films : (old : Standing) (ask : Ask) (outcome : Outcome) (new : Standing)
-    → IsAskAnswered old ask outcome new → new.films ≡ old.films
-answered_films old AskReply Unasked new is = ap (λ (s : Standing). s.films) is
-answered_films old AskReply (Entered placed) new is = absurd is
-answered_films old AskReply (WasFull more entries open_plays) new is = absurd is
-answered_films old AskReply (Offered at_slot note) new is = absurd is
-answered_films old (AskPlay plan) Unasked new is = absurd is
-answered_films old (AskPlay plan) (Entered placed) new is = play_films old placed placed.entry.answer new is.1
-answered_films old (AskPlay plan) (WasFull more entries open_plays) new is = ap (λ (s : Standing). s.films) is.0
-answered_films old (AskPlay plan) (Offered at_slot note) new is = absurd is
-answered_films old (AskHalt keep) outcome new is = halted_films old keep outcome new is
-answered_films old (AskLook slot) Unasked new is = absurd is
-answered_films old (AskLook slot) (Entered placed) new is = look_films old placed placed.entry.answer new is.1
-answered_films old (AskLook slot) (WasFull more entries open_plays) new is = ap (λ (s : Standing). s.films) is.0
-answered_films old (AskLook slot) (Offered at_slot note) new is = absurd is
-answered_films old (AskOffer plan offers) Unasked new is = absurd is
-answered_films old (AskOffer plan offers) (Entered placed) new is = absurd is
-answered_films old (AskOffer plan offers) (WasFull more entries open_plays) new is = absurd is
-answered_films old (AskOffer plan offers) (Offered at_slot note) new is = ap (λ (s : Standing). s.films) is.2
+halted_names : (old : Standing) (keep : ℕ) (outcome : Outcome) (new : Standing) → IsHalted old keep outcome new
+    → names_in new ≡ names_in old
+halted_names old keep Unasked new is = absurd is
+halted_names old keep (Entered placed) new is = ap names_in is.halts
+halted_names old keep (WasFull more entries open_plays) new is = absurd is
+halted_names old keep (Offered at_slot note) new is = absurd is
 
-reply_films : (goes : Bool) (s : Standing) → (if goes then sent_reply s else s).films ≡ s.films
-reply_films true s = refl
-reply_films false s = refl
+pub answered_names : (old : Standing) (ask : Ask) (outcome : Outcome) (new : Standing)
+    → IsAskAnswered old ask outcome new → names_in new ≡ names_in old
+answered_names old AskReply Unasked new is = ap names_in is
+answered_names old AskReply (Entered placed) new is = absurd is
+answered_names old AskReply (WasFull more entries open_plays) new is = absurd is
+answered_names old AskReply (Offered at_slot note) new is = absurd is
+answered_names old (AskPlay plan) Unasked new is = absurd is
+answered_names old (AskPlay plan) (Entered placed) new is = play_names old placed placed.entry.answer new is.1
+answered_names old (AskPlay plan) (WasFull more entries open_plays) new is = ap names_in is.0
+answered_names old (AskPlay plan) (Offered at_slot note) new is = absurd is
+answered_names old (AskHalt keep) outcome new is = halted_names old keep outcome new is
+answered_names old (AskLook slot) Unasked new is = absurd is
+answered_names old (AskLook slot) (Entered placed) new is = look_names old placed placed.entry.answer new is.1
+answered_names old (AskLook slot) (WasFull more entries open_plays) new is = ap names_in is.0
+answered_names old (AskLook slot) (Offered at_slot note) new is = absurd is
+answered_names old (AskOffer plan offers) Unasked new is = absurd is
+answered_names old (AskOffer plan offers) (Entered placed) new is = absurd is
+answered_names old (AskOffer plan offers) (WasFull more entries open_plays) new is = absurd is
+answered_names old (AskOffer plan offers) (Offered at_slot note) new is = ap names_in is.2
 
-pub replied_films : (s : Standing) → (after_reply s).films ≡ s.films
-replied_films s = reply_films (can_reply s) s
+reply_names : (goes : Bool) (s : Standing) → names_in (if goes then sent_reply s else s) ≡ names_in s
+reply_names true s = refl
+reply_names false s = refl
 
-slot_films : (old : Standing) (slot : ℕ) (taken sending : Bool)
-    → (if taken then (if sending then after_play (sent_slot old slot) else record old { heard = slot })
-    else old).films ≡ old.films
-slot_films old slot true true = reply_films (old.waits && is_between (stepped_in true slot old.state)) (sent_due old slot)
-slot_films old slot true false = refl
-slot_films old slot false sending = refl
+pub replied_names : (s : Standing) → names_in (after_reply s) ≡ names_in s
+replied_names s = reply_names (can_reply s) s
 
-finished_films : (asks : Awaits) (old : Standing) (outcome : Outcome) (new : Standing)
-    → IsFinished asks old outcome new → new.films ≡ old.films
-finished_films NoAnswer old outcome new is = ap (λ (s : Standing). s.films) (unasked old outcome new is).1
-finished_films (PlayAnswer plan) old outcome new is = absurd is
-finished_films (HaltAnswer keep) old outcome new is = halted_films old keep outcome new is
-finished_films LookAnswer old outcome new is = absurd is
-finished_films OfferAnswer old outcome new is = absurd is
+slot_names : (old : Standing) (slot : ℕ) (taken sending : Bool)
+    → names_in (if taken then (if sending then after_play (sent_slot old slot) else record old { heard = slot })
+    else old) ≡ names_in old
+slot_names old slot true true = reply_names (old.waits && is_between (stepped_in true slot old.state))
+    (sent_due old slot)
+slot_names old slot true false = refl
+slot_names old slot false sending = refl
 
-pub stepped_films : (old : Standing) (slot : ℕ) (due : List Part) (halt : Outcome) (new : Standing)
+finished_names : (asks : Awaits) (old : Standing) (outcome : Outcome) (new : Standing)
+    → IsFinished asks old outcome new → names_in new ≡ names_in old
+finished_names NoAnswer old outcome new is = ap names_in (unasked old outcome new is).1
+finished_names (PlayAnswer plan) old outcome new is = absurd is
+finished_names (HaltAnswer keep) old outcome new is = halted_names old keep outcome new is
+finished_names LookAnswer old outcome new is = absurd is
+finished_names OfferAnswer old outcome new is = absurd is
+
+pub stepped_names : (old : Standing) (slot : ℕ) (due : List Part) (halt : Outcome) (new : Standing)
     → HasStepped old slot due halt new
-    → new.films ≡ old.films
-stepped_films old slot due halt new is =
-    finished_films (awaited_answer (after_slot old slot)) (after_slot old slot) halt new is.finished
-    ∙ slot_films old slot (is_taken old slot) (is_sending old.state)
+    → names_in new ≡ names_in old
+stepped_names old slot due halt new is =
+    finished_names (awaited_answer (after_slot old slot)) (after_slot old slot) halt new is.finished
+    ∙ slot_names old slot (is_taken old slot) (is_sending old.state)

@@ -1,9 +1,11 @@
--- The elements of a connection's input that are taken up, one after another: each byte CR or LF, each block, each request.
+-- The elements of a connection's input that are taken up, one after another: each byte CR or LF, each block, each
+-- request.
 use Rattle.std.proofs.Common.{◌≡◌, ◌⊎◌, ℕ, zero, suc, ◌<◌, ◌≤◌, ◌++◌, true, false, List, [], ◌∷◌}
 use Rattle.std.proofs.Common.{Ok, Err, length, take, drop, get_or, refl, ap, sym, ◌∙◌, subst, inl}
 use Rattle.std.proofs.Common.{inr, arith}
 use Rattle.std.proofs.lemmas.Bool.{both_ways, true≢false}
-use Rattle.std.proofs.lemmas.List.{append-nil, append_assoc, take-append-le, drop-append-le, length-append, get_or_append_left}
+use Rattle.std.proofs.lemmas.List.{append-nil, append_assoc, take-append-le, drop-append-le, length-append}
+use Rattle.std.proofs.lemmas.List.{get_or_append_left}
 use Rattle.interleave.specs.Heads.{is_line_end}
 use Rattle.interleave.specs.Elements.{IsFirst, StartsBlock, StartsMessage, block_length}
 use Rattle.interleave.specs.Streams.{IsElementLength, LineEnd, WholeBlock, WholeMessage}
@@ -12,6 +14,7 @@ use Rattle.interleave.specs.declared.elements.DemuxFault.TheVariants.{HeadTooLon
 use Rattle.interleave.proofs.Cuts.{StartsBlock-append, block_length-append, whole_stays}
 use Rattle.interleave.proofs.Streams.{element_once, tells_none}
 use Rattle.interleave.proofs.Unique.{clash_block_request, total_once}
+use Rattle.film_frames.specs.declared.stores.Stored.{Stored}
 use Rattle.session.specs.declared.asks.Ask.{Ask}
 use Rattle.session.specs.Hearings.{Hears}
 use Rattle.session.specs.Ranges.{AreFilms}
@@ -23,9 +26,11 @@ use Rattle.conn.specs.Turns.{Answered, IsAskAnswered, IsNext, IsPassed, IsReplie
 use Rattle.conn.specs.Turns.{Passed, Stage, Taking, TakesAll, after_reply, parts_bytes, reply_parts}
 use Rattle.conn.specs.Turns.{stage}
 use Rattle.conn.specs.declared.reports.ConnEnd.{ConnEnd}
-use Rattle.conn.specs.declared.reports.ConnEnd.TheVariants.{Ended, TornDown, LinkFault, TooMuchInput, HeadTooLong, BodyTooLong, EventsSpent, NoMemory}
-use Rattle.transcript.specs.Cuttings.{AllLackAlike, AreSameAnswers, Hearing, IsDone, LackAlike, answer_in, answers_in, takings_hearings}
-use Rattle.transcript.proofs.Once.{answered_films, answers_same, hearing, hears_same, replied_films}
+use Rattle.conn.specs.declared.reports.ConnEnd.TheVariants.{Ended, TornDown, LinkFault, TooMuchInput, HeadTooLong}
+use Rattle.conn.specs.declared.reports.ConnEnd.TheVariants.{BodyTooLong, EventsSpent, NoMemory}
+use Rattle.transcript.specs.Cuttings.{AllLackAlike, AreSameAnswers, Hearing, IsDone, LackAlike, answer_in, answers_in}
+use Rattle.transcript.specs.Cuttings.{takings_hearings}
+use Rattle.transcript.proofs.Once.{answered_names, answers_same, hearing, hears_same, replied_names}
 use Rattle.transcript.proofs.Once.{AnswersAlike}
 
 -- a request that was taken up, what was asked, and what came of it
@@ -100,7 +105,8 @@ elements_answers (Taken turn ∷ elements) = answer_in turn.outcome ++ elements_
 abbrev pub elements_hearings : List Element → List Hearing
 elements_hearings [] = []
 elements_hearings (Over n ∷ elements) = elements_hearings elements
-elements_hearings (Taken turn ∷ elements) = hearing turn.session turn.message turn.ask turn.asking ∷ elements_hearings elements
+elements_hearings (Taken turn ∷ elements) = hearing turn.session turn.message turn.ask turn.asking
+    ∷ elements_hearings elements
 
 -- ---- joined, and with more input
 
@@ -133,7 +139,8 @@ join_answers (Taken turn ∷ xs) ys =
 pub join_hearings : (xs ys : List Element) → elements_hearings (xs ++ ys) ≡ elements_hearings xs ++ elements_hearings ys
 join_hearings [] ys = refl
 join_hearings (Over n ∷ xs) ys = join_hearings xs ys
-join_hearings (Taken turn ∷ xs) ys = ap (λ hs. hearing turn.session turn.message turn.ask turn.asking ∷ hs) (join_hearings xs ys)
+join_hearings (Taken turn ∷ xs) ys = ap (λ hs. hearing turn.session turn.message turn.ask turn.asking ∷ hs)
+    (join_hearings xs ys)
 
 abbrev pub longer : Stage → List ℕ → Stage
 longer old more = stage old.session (old.input ++ more)
@@ -185,7 +192,8 @@ pub record Path (old new : Stage) (bytes : List ℕ) (answers : List Outcome) (h
 path_none : (s : Stage) → Path s s [] [] []
 path_none s = record { elements = []; goes = refl; bytes_are = refl; answers_are = refl; hearings_are = refl }
 
-path_over : {a b c : Stage} {n : ℕ} {bytes : List ℕ} {answers : List Outcome} {hearings : List Hearing} → IsPassing a n b
+path_over : {a b c : Stage} {n : ℕ} {bytes : List ℕ} {answers : List Outcome} {hearings : List Hearing}
+    → IsPassing a n b
     → Path b c bytes answers hearings → Path a c bytes answers hearings
 path_over {a} {b} {c} {n} {answers} passing path = record {
   elements = Over n ∷ path.elements;
@@ -200,12 +208,15 @@ path_then : {a b c : Stage} {first second : List ℕ} {one two : List Outcome} {
     → Path b c second two later → Path a c (first ++ second) (one ++ two) (heard ++ later)
 path_then {a} {b} {c} {first} {second} {one} {heard} {later} path after = record {
   elements = path.elements ++ after.elements;
-  goes = join_goes a (record { old = b; new = c; elements = after.elements; leads = after.goes }) path.elements path.goes;
+  goes = join_goes a (record { old = b; new = c; elements = after.elements; leads = after.goes })
+      path.elements path.goes;
   bytes_are = join_bytes path.elements after.elements ∙ ap (λ bs. bs ++ elements_bytes after.elements) path.bytes_are
       ∙ ap (λ bs. first ++ bs) after.bytes_are;
-  answers_are = join_answers path.elements after.elements ∙ ap (λ os. os ++ elements_answers after.elements) path.answers_are
+  answers_are = join_answers path.elements after.elements
+      ∙ ap (λ os. os ++ elements_answers after.elements) path.answers_are
       ∙ ap (λ os. one ++ os) after.answers_are;
-  hearings_are = join_hearings path.elements after.elements ∙ ap (λ hs. hs ++ elements_hearings after.elements) path.hearings_are
+  hearings_are = join_hearings path.elements after.elements
+      ∙ ap (λ hs. hs ++ elements_hearings after.elements) path.hearings_are
       ∙ ap (λ hs. heard ++ hs) after.hearings_are;
 }
 
@@ -259,7 +270,8 @@ path_taken old new message outcome parts replied = record {
 }
 
 pub path_of : (old new : Stage) (takings : List Taking) (takes : TakesAll old takings new)
-    → Path old new (takings_bytes takings) (answers_in (takings_outcomes takings)) (takings_hearings old takings new takes)
+    → Path old new (takings_bytes takings) (answers_in (takings_outcomes takings))
+    (takings_hearings old takings new takes)
 path_of old new [] takes = subst (λ s. Path old s [] [] []) (sym takes) (path_none old)
 path_of old new (Passed n ∷ takings) takes =
     let over : Path old takes.0 [] [] [] =
@@ -275,7 +287,8 @@ path_of old new (Answered message outcome parts ∷ takings) takes =
 
 first_element : (old new : Stage) (element : Element) → Goes old element new → (n : ℕ) × IsElementLength old.input n
 first_element old new (Over n) goes = (n, over_element old.input n goes.over)
-first_element old new (Taken turn) goes = (length turn.message, WholeMessage goes.next.first.0 goes.next.first.1 goes.next.first.2)
+first_element old new (Taken turn) goes =
+    (length turn.message, WholeMessage goes.next.first.0 goes.next.first.1 goes.next.first.2)
 
 goes_on : (old new : Stage) (element : Element) → Goes old element new → old.session.torn ≡ false
 goes_on old new (Over n) goes = goes.torn
@@ -313,23 +326,34 @@ done_goes old new element (inr stopped) goes = stopped_done old new element stop
 
 taken_films : (old new : Stage) (turn : Turn) → IsTaken old turn new → new.session.films ≡ old.session.films
 taken_films old new turn taken =
-    ap (λ (s : Stage). s.session.films) taken.new_is ∙ replied_films turn.answered
-    ∙ answered_films turn.asking turn.ask turn.outcome turn.answered taken.answered
+    ap (λ (s : Stage). s.session.films) taken.new_is
+    ∙ ap (λ (n : List Stored × List ℕ). n.0)
+    (replied_names turn.answered ∙ answered_names turn.asking turn.ask turn.outcome turn.answered taken.answered)
     ∙ (hears_ground old.session turn.asking turn.message turn.ask taken.hears).films
 
-pub goes_films : (old new : Stage) (elements : List Element) → GoesAll old elements new → new.session.films ≡ old.session.films
+pub goes_films : (old new : Stage) (elements : List Element) → GoesAll old elements new
+    → new.session.films ≡ old.session.films
 goes_films old new [] goes = ap (λ (s : Stage). s.session.films) goes
 goes_films old new (Over n ∷ elements) goes =
     goes_films goes.0 new elements goes.1.1 ∙ ap (λ (s : Stage). s.session.films) goes.1.0.new_is
 goes_films old new (Taken turn ∷ elements) goes =
     goes_films goes.0 new elements goes.1.1 ∙ taken_films old goes.0 turn goes.1.0
 
-pub record SameEnds (one other : Stage) (sent again : List ℕ) (ones others : List Outcome)
-    (heard also : List Hearing) : Type 0 where
-  pub last : other ≡ one
-  pub bytes : again ≡ sent
-  pub answers : AreSameAnswers ones others
-  pub memory : AllLackAlike heard also
+-- where a path ends, with what was sent on it, and the answers and the hearings on it and after it
+pub record PathEnd : Type 0 where
+  pub last : Stage
+  pub sent : List ℕ
+  pub outcomes : List Outcome
+  pub hearings : List Hearing
+
+abbrev path_end : Stage → List ℕ → List Outcome → List Hearing → PathEnd
+path_end last sent outcomes hearings = record { last = last; sent = sent; outcomes = outcomes; hearings = hearings }
+
+pub record SameEnds (one other : PathEnd) : Type 0 where
+  pub last : other.last ≡ one.last
+  pub bytes : other.sent ≡ one.sent
+  pub answers : AreSameAnswers one.outcomes other.outcomes
+  pub memory : AllLackAlike one.hearings other.hearings
 
 message_same : (old : Stage) (one other : List ℕ) → IsNext old one → IsNext old other → other ≡ one
 message_same old one other is also =
@@ -393,7 +417,7 @@ pub record PathsAlike (xs ys : List Element) (ones others : List Outcome) (heard
 pub ends_same : {one other : Stage} {ones others : List Outcome} {heard also : List Hearing} {old : Stage}
     (xs ys : List Element) → AreFilms old.session.films → PathDone old xs one → PathDone old ys other →
     PathsAlike xs ys ones others heard also →
-    SameEnds one other (elements_bytes xs) (elements_bytes ys) ones others heard also
+    SameEnds (path_end one (elements_bytes xs) ones heard) (path_end other (elements_bytes ys) others also)
 ends_same {one} {other} [] [] films way other_way alike =
     record { last = other_way.goes ∙ sym way.goes; bytes = refl; answers = alike.answers; memory = alike.memory }
 ends_same {one} {other} {old} [] (y ∷ ys) films way other_way alike =
@@ -402,9 +426,12 @@ ends_same {one} {other} {old} (x ∷ xs) [] films way other_way alike =
     absurd (done_goes old way.goes.0 x (subst IsDone other_way.goes other_way.done) way.goes.1.0)
 ends_same {one} {other} {old} (Over n ∷ xs) (Over m ∷ ys) films way other_way alike =
     let mid : Stage = goes.0 in
-    let size : m ≡ n = element_once old.input m n (over_element old.input m too.1.0.over) (over_element old.input n goes.1.0.over) in
-    let same : too.0 ≡ mid = too.1.0.new_is ∙ ap (λ k. stage old.session (drop k old.input)) size ∙ sym goes.1.0.new_is in
-    let kept : AreFilms mid.session.films = subst AreFilms (sym (ap (λ (s : Stage). s.session.films) goes.1.0.new_is)) films in
+    let size : m ≡ n = element_once old.input m n (over_element old.input m too.1.0.over)
+    (over_element old.input n goes.1.0.over) in
+    let same : too.0 ≡ mid = too.1.0.new_is ∙ ap (λ k. stage old.session (drop k old.input)) size
+    ∙ sym goes.1.0.new_is in
+    let kept : AreFilms mid.session.films =
+    subst AreFilms (sym (ap (λ (s : Stage). s.session.films) goes.1.0.new_is)) films in
     ends_same xs ys kept (record { goes = goes.1.1; done = done })
     (record { goes = subst (λ s. GoesAll s ys other) same too.1.1; done = stops })
     (record { answers = alike.answers; memory = alike.memory })
@@ -423,7 +450,8 @@ ends_same {one} {other} {ones} {others} {old} (Taken turn ∷ xs) (Taken again �
     (append_assoc (answer_in turn.outcome) (elements_answers xs) ones)
     (subst (λ os. AreSameAnswers ((answer_in turn.outcome ++ elements_answers xs) ++ ones) os)
     (append_assoc (answer_in again.outcome) (elements_answers ys) others) answers) in
-    let both = turns_same (record { ones = elements_answers xs ++ ones; others = elements_answers ys ++ others; same = split }) films
+    let both = turns_same
+    (record { ones = elements_answers xs ++ ones; others = elements_answers ys ++ others; same = split }) films
     goes.1.0 other_way.goes.1.0 memory.0 in
     let kept : AreFilms mid.session.films = subst AreFilms (sym (taken_films old mid turn goes.1.0)) films in
     let rest = ends_same xs ys kept (record { goes = goes.1.1; done = done })
@@ -431,7 +459,8 @@ ends_same {one} {other} {ones} {others} {old} (Taken turn ∷ xs) (Taken again �
     (record { answers = both.2; memory = memory.1 }) in
     record {
       last = rest.last;
-      bytes = ap (λ bs. bs ++ elements_bytes ys) both.1 ∙ ap (λ bs. parts_bytes (reply_parts turn.answered) ++ bs) rest.bytes;
+      bytes = ap (λ bs. bs ++ elements_bytes ys) both.1
+          ∙ ap (λ bs. parts_bytes (reply_parts turn.answered) ++ bs) rest.bytes;
       answers = rest.answers;
       memory = rest.memory;
     }

@@ -21,15 +21,17 @@ use Rattle.session.specs.Steps.{after_stop}
 use Rattle.conn.specs.Turns.{Outcome, Part, Text}
 use Rattle.conn.proofs.Filming.{sent_through, slot_is, stopped_is}
 use Rattle.transcript.specs.Places.{AreSentAt, IsSentAt}
-use Rattle.transcript.specs.Plays.{Asking, Asks, FilmPlay, plays_admitted, plays_begun, due_by as all_due, due_of, kept_by, kept_in, kept_with, plays_of}
+use Rattle.transcript.specs.Plays.{Asking, Asks, FilmPlay, plays_admitted, plays_begun, due_by as all_due, due_of}
+use Rattle.transcript.specs.Plays.{kept_by, kept_in, kept_with, plays_of}
 use Rattle.transcript.specs.Replies.{placed_text, placed_texts}
 use Rattle.transcript.proofs.Films.{IsOnTime, IsSound, play_with, through_time}
 use Rattle.transcript.proofs.Places.{AreLater, StandAt, from_lower, later_lower, none_due, over_at, text_at}
 use Rattle.transcript.proofs.Slots.{ended_at, ending_cases, going_cases, parts_of, state_after, waits_after}
-use Rattle.transcript.proofs.Turning.{Begins, Ends, Ending, Going, Halts, Idle, IsStill, Sends, Starts, Stays, TurnsAs, pacing_for, sends_in}
+use Rattle.transcript.proofs.Turning.{Begins, Ends, Ending, Going, Halts, Idle, IsStill, Sends, Starts, Stays, TurnsAs}
+use Rattle.transcript.proofs.Turning.{pacing_for, sends_in}
 use Rattle.transcript.proofs.Waits.{Fits, GoesTo, IsHeld, Stand, after_slot, at_here, due_far}
 use Rattle.transcript.proofs.Waits.{due_going, due_here, goes_same, held_here, parts_in, slot_at}
-use Rattle.transcript.proofs.Waits.{still_held}
+use Rattle.transcript.proofs.Waits.{point, still_held}
 
 -- ---- a request is answered
 
@@ -48,7 +50,8 @@ still_stand Idle None later still stand =
   where
     open later use {askings, end, slots, parts}
 still_stand Idle (Some slot) later still stand =
-    subst (λ ps. AreSentAt end (ps ++ plays_of askings) (slot ∷ slots) (placed_texts 0 parts)) (sym (still.none askings)) stand
+    subst (λ ps. AreSentAt end (ps ++ plays_of askings) (slot ∷ slots) (placed_texts 0 parts))
+    (sym (still.none askings)) stand
   where
     open later use {askings, end, slots, parts}
 still_stand {outcome} (Going p) pending later still stand =
@@ -65,12 +68,13 @@ still_stand (Ending p) pending later still stand =
 
 pub still_fits : {sends : Sends} {heard : ℕ} {pending : Option ℕ} {asked : Awaited} {outcome : Outcome}
     {askings : List Asking} {end : ℕ} {slots : List ℕ} {parts : List Part} → IsStill asked outcome
-    → Fits sends heard pending askings end slots parts
-    → Fits sends heard pending (Asks asked outcome ∷ askings) end slots parts
+    → Fits (point sends heard pending) askings end slots parts
+    → Fits (point sends heard pending) (Asks asked outcome ∷ askings) end slots parts
 still_fits {sends} {heard} {pending} {askings} {end} {slots} {parts} still fits = record {
   from = fits.from;
   later = subst (λ ps. AreLater heard (ps ++ plays_of askings)) (sym (still.none askings)) fits.later;
-  stand = still_stand sends pending (record { askings = askings; end = end; slots = slots; parts = parts }) still fits.stand;
+  stand = still_stand sends pending (record { askings = askings; end = end; slots = slots; parts = parts })
+      still fits.stand;
 }
 
 -- its reply is in hand
@@ -86,7 +90,8 @@ in_hand_of (Going p) slot later stand = in_hand stand
 in_hand_of (Ending p) slot later stand = in_hand stand
 
 taken_fits : {sends : Sends} {heard : ℕ} {askings : List Asking} {end : ℕ} {slots : List ℕ} {parts : List Part}
-    → Fits sends heard (Some heard) askings end slots parts → Fits sends heard None askings end (heard ∷ slots) parts
+    → Fits (point sends heard (Some heard)) askings end slots parts
+    → Fits (point sends heard None) askings end (heard ∷ slots) parts
 taken_fits {sends} {heard} {askings} {end} {slots} {parts} fits = record {
   from = (omega arith, fits.from);
   later = fits.later;
@@ -103,21 +108,24 @@ play_for prepared start plan keep = record {
 }
 
 begin_stand : {plan : List Segment} (prepared : Prepared) (start : ℕ) (later : LaterCourse) → prepared.paced ≡ plan →
-    AreSentAt later.end (play_for prepared start prepared.paced (kept_in later.askings (total_bytes prepared.paced)) ∷ plays_of
+    AreSentAt later.end (play_for prepared start prepared.paced
+    (kept_in later.askings (total_bytes prepared.paced)) ∷ plays_of
     later.askings) later.slots (placed_texts 0 later.parts) →
     AreSentAt later.end
     (play_for prepared start plan (kept_in later.askings (total_bytes plan)) ∷ plays_of later.askings) later.slots
     (placed_texts 0 later.parts)
 begin_stand prepared start later same sent =
     subst (λ pl. AreSentAt end
-    (play_for prepared start pl (kept_in askings (total_bytes pl)) ∷ plays_of askings) slots (placed_texts 0 parts)) same sent
+    (play_for prepared start pl (kept_in askings (total_bytes pl)) ∷ plays_of askings) slots
+    (placed_texts 0 parts)) same sent
   where
     open later use {askings, end, slots, parts}
 
 begun_is : (old new : Standing) (asked : Awaited) (outcome : Outcome) (begins : Begins old asked outcome new)
     (askings : List Asking)
     → plays_begun asked outcome askings
-    ≡ play_for begins.prepared begins.start begins.prepared.plan (kept_in askings (total_bytes begins.prepared.plan)) ∷ []
+    ≡ play_for begins.prepared begins.start begins.prepared.plan
+    (kept_in askings (total_bytes begins.prepared.plan)) ∷ []
 begun_is old new asked outcome begins askings =
     ap (λ o. plays_begun asked o askings) begins.outcome_is
     ∙ ap (λ a. plays_admitted a begins.placed.entry.answer askings) begins.asked_is
@@ -125,8 +133,8 @@ begun_is old new asked outcome begins askings =
 
 begin_fits : {old new : Standing} {asked : Awaited} {outcome : Outcome} {askings : List Asking} {end : ℕ}
     {slots : List ℕ} {parts : List Part} (begins : Begins old asked outcome new)
-    → Fits (Going (pacing_for begins.prepared begins.start)) old.heard (Some old.heard) askings end slots parts
-    → Fits Idle old.heard None (Asks asked outcome ∷ askings) end (old.heard ∷ slots) parts
+    → Fits (point (Going (pacing_for begins.prepared begins.start)) old.heard (Some old.heard)) askings end slots parts
+    → Fits (point Idle old.heard None) (Asks asked outcome ∷ askings) end (old.heard ∷ slots) parts
 begin_fits {old} {new} {asked} {outcome} {askings} {end} {slots} {parts} begins fits =
     let p : Pacing = pacing_for begins.prepared begins.start in
     let plan : List Segment = begins.prepared.plan in
@@ -148,8 +156,9 @@ begin_fits {old} {new} {asked} {outcome} {askings} {end} {slots} {parts} begins 
 
 halt_fits : {old new : Standing} {asked : Awaited} {outcome : Outcome} {askings : List Asking} {end : ℕ}
     {slots : List ℕ} {parts : List Part} (halts : Halts old asked outcome new)
-    → Fits (Ending (record halts.pacing { keep = next_boundary halts.pacing })) old.heard (Some old.heard) askings end slots parts
-    → Fits (Going halts.pacing) old.heard None (Asks asked outcome ∷ askings) end (old.heard ∷ slots) parts
+    → Fits (point (Ending (record halts.pacing { keep = next_boundary halts.pacing })) old.heard (Some old.heard))
+    askings end slots parts
+    → Fits (point (Going halts.pacing) old.heard None) (Asks asked outcome ∷ askings) end (old.heard ∷ slots) parts
 halt_fits {old} {new} {asked} {outcome} {askings} {end} {slots} {parts} halts fits =
     let p : Pacing = halts.pacing in
     let kept : kept_with outcome (kept_in askings (total_bytes p.plan)) ≡ next_boundary p =
@@ -167,25 +176,28 @@ halt_fits {old} {new} {asked} {outcome} {askings} {end} {slots} {parts} halts fi
     }
 
 pub turn_fits : (old new : Standing) (asked : Awaited) (outcome : Outcome) → TurnsAs old asked outcome new
-    → GoesTo (sends_in old.state) (sends_in new.state) old.heard old.heard None (Some old.heard)
+    → GoesTo (point (sends_in old.state) old.heard None) (point (sends_in new.state) old.heard (Some old.heard))
     (Asks asked outcome ∷ []) (old.heard ∷ []) []
 turn_fits old new asked outcome (Stays same after still) = record {
   later = omega arith;
   rest = λ askings end more rest on fits.
       still_fits still
-      (taken_fits (subst (λ s. Fits s old.heard (Some old.heard) askings end more rest) same fits));
+      (taken_fits (subst (λ s. Fits (point s old.heard (Some old.heard)) askings end more rest) same fits));
 }
 turn_fits old new asked outcome (Starts after begins) = record {
   later = omega arith;
   rest = λ askings end more rest on fits.
-      subst (λ s. Fits s old.heard None (Asks asked outcome ∷ askings) end (old.heard ∷ more) rest) (sym begins.idle)
-      (begin_fits begins (subst (λ s. Fits s old.heard (Some old.heard) askings end more rest) begins.sends fits));
+      subst (λ s. Fits (point s old.heard None) (Asks asked outcome ∷ askings) end (old.heard ∷ more) rest)
+      (sym begins.idle)
+      (begin_fits begins (subst (λ s. Fits (point s old.heard (Some old.heard)) askings end more rest)
+      begins.sends fits));
 }
 turn_fits old new asked outcome (Ends after halts) = record {
   later = omega arith;
   rest = λ askings end more rest on fits.
-      subst (λ s. Fits s old.heard None (Asks asked outcome ∷ askings) end (old.heard ∷ more) rest) (sym halts.going)
-      (halt_fits halts (subst (λ s. Fits s old.heard (Some old.heard) askings end more rest) halts.sends fits));
+      subst (λ s. Fits (point s old.heard None) (Asks asked outcome ∷ askings) end (old.heard ∷ more) rest)
+      (sym halts.going)
+      (halt_fits halts (subst (λ s. Fits (point s old.heard (Some old.heard)) askings end more rest) halts.sends fits));
 }
 
 -- ---- a reply goes out at once, or is held up
@@ -196,20 +208,24 @@ kept_due p heard keep sound holds =
     let here = due_here p heard sound.0 in due_going p heard keep sound.0.pacing sound.1 (omega (arith, here, holds))
 
 idle_reply : {heard : ℕ} {text : List ℕ} {askings : List Asking} {end : ℕ} {slots : List ℕ} {parts : List Part}
-    → Fits Idle heard None askings end slots parts
-    → Fits Idle heard (Some heard) askings end slots (Text text ∷ parts)
+    → Fits (point Idle heard None) askings end slots parts
+    → Fits (point Idle heard (Some heard)) askings end slots (Text text ∷ parts)
 idle_reply {heard} {text} {askings} {end} fits =
     let none : all_due heard (plays_of askings) ≡ 0 = none_due heard (plays_of askings) fits.later.starts in
     let sent : IsSentAt end (plays_of askings) heard (placed_text 0 text) = record {
-      next = record { boundary = fits.later.begins; after = omega (arith, none); least = λ other boundary from. omega arith };
+      next = record {
+        boundary = fits.later.begins;
+        after = omega (arith, none);
+        least = λ other boundary from. omega arith;
+      };
       reached = omega arith;
     } in
     record { from = fits.from; later = fits.later; stand = (sent, fits.stand) }
 
 going_reply : {p : Pacing} {heard : ℕ} {text : List ℕ} {askings : List Asking} {end : ℕ} {slots : List ℕ}
     {parts : List Part} → IsSound (Going p) true heard
-    → stands_at_boundary p ≡ true → heard ≤ end → Fits (Going p) heard None askings end slots parts
-    → Fits (Going p) heard (Some heard) askings end slots (Text text ∷ parts)
+    → stands_at_boundary p ≡ true → heard ≤ end → Fits (point (Going p) heard None) askings end slots parts
+    → Fits (point (Going p) heard (Some heard)) askings end slots (Text text ∷ parts)
 going_reply {p} {heard} {text} {askings} {end} sound stands on fits = record {
   from = fits.from;
   later = fits.later;
@@ -221,7 +237,8 @@ going_reply {p} {heard} {text} {askings} {end} sound stands on fits = record {
 
 over_fits : {p : Pacing} {heard : ℕ} {askings : List Asking} {end : ℕ} {slots : List ℕ} {parts : List Part}
     → IsOnTime p heard → p.sent ≡ p.keep
-    → heard ≤ end → Fits Idle heard None askings end slots parts → Fits (Ending p) heard None askings end slots parts
+    → heard ≤ end → Fits (point Idle heard None) askings end slots parts
+    → Fits (point (Ending p) heard None) askings end slots parts
 over_fits {p} {end} on ended ends fits = record {
   from = fits.from;
   later = fits.later;
@@ -230,8 +247,8 @@ over_fits {p} {end} on ended ends fits = record {
 
 ending_reply : {p : Pacing} {heard : ℕ} {text : List ℕ} {askings : List Asking} {end : ℕ} {slots : List ℕ}
     {parts : List Part} → IsSound (Ending p) true heard
-    → stands_at_boundary p ≡ true → heard ≤ end → Fits Idle heard None askings end slots parts
-    → Fits (Ending p) heard (Some heard) askings end slots (Text text ∷ parts)
+    → stands_at_boundary p ≡ true → heard ≤ end → Fits (point Idle heard None) askings end slots parts
+    → Fits (point (Ending p) heard (Some heard)) askings end slots (Text text ∷ parts)
 ending_reply {p} {heard} {text} {end} sound stands on fits =
     let ended = ended_at sound.0 sound.2 (boundary_here p sound.0.pacing stands) refl in
     let over = over_fits sound.0 ended on fits in
@@ -246,7 +263,8 @@ ending_reply {p} {heard} {text} {end} sound stands on fits =
 pub record Replying (state : State) (goes : Bool) (heard : ℕ) (text : List ℕ) : Type 0 where
   pub after : Option ℕ
   pub held : IsHeld after (sends_in (if goes then after_stop state else state)) (if goes then false else true) heard
-  pub goes_on : GoesTo (sends_in state) (sends_in (if goes then after_stop state else state)) heard heard (Some heard) after [] []
+  pub goes_on : GoesTo (point (sends_in state) heard (Some heard))
+      (point (sends_in (if goes then after_stop state else state)) heard after) [] []
       (if goes then Text text ∷ [] else [])
 
 pub replying : (state : State) (goes : Bool) (heard : ℕ) (text : List ℕ) → IsSound (sends_in state) true heard
@@ -277,12 +295,12 @@ replying (Ready setup paused) false heard text sound is = absurd (true≢false i
 replying (Playing setup play) false heard text sound is = record {
   after = Some heard;
   held = (refl, held_here play.pacer heard sound.0 is);
-  goes_on = goes_same (Going play.pacer) heard (Some heard);
+  goes_on = goes_same (point (Going play.pacer) heard (Some heard));
 }
 replying (Stopping setup stop) false heard text sound is = record {
   after = Some heard;
   held = (refl, held_here stop.pacer heard sound.0 is);
-  goes_on = goes_same (Ending stop.pacer) heard (Some heard);
+  goes_on = goes_same (point (Ending stop.pacer) heard (Some heard));
 }
 
 -- ---- a slot
@@ -290,15 +308,15 @@ replying (Stopping setup stop) false heard text sound is = record {
 pub record SlotMoves (state : State) (waits : Bool) (heard slot : ℕ) (text : List ℕ) (pending : Option ℕ) : Type 0 where
   pub after : Option ℕ
   pub held : IsHeld after (sends_in (state_after waits state slot)) (waits_after waits state slot) slot
-  pub goes_on : GoesTo (sends_in state) (sends_in (state_after waits state slot)) heard slot pending after [] []
-      (parts_of waits state text slot)
+  pub goes_on : GoesTo (point (sends_in state) heard pending)
+      (point (sends_in (state_after waits state slot)) slot after) [] [] (parts_of waits state text slot)
 
 going_slot : {p : Pacing} {heard slot : ℕ} {pending : Option ℕ} (waits : Bool) (text : List ℕ)
     → IsSound (Going p) waits heard → heard < slot
     → IsHeld pending (Going p) waits heard
-    → GoesTo (Going p) (Going (sent_through slot p)) heard slot pending
-    (after_slot (stands_at_boundary (after_step true slot p)) pending) [] []
-    (parts_in waits (stands_at_boundary (after_step true slot p)) p slot text)
+    → GoesTo (point (Going p) heard pending)
+    (point (Going (sent_through slot p)) slot (after_slot (stands_at_boundary (after_step true slot p)) pending))
+    [] [] (parts_in waits (stands_at_boundary (after_step true slot p)) p slot text)
 going_slot {p} {heard} {slot} waits text sound later held = record {
   later = omega (arith, later);
   rest = λ askings end more rest on fits. record {
@@ -312,14 +330,16 @@ going_slot {p} {heard} {slot} waits text sound later held = record {
   };
 }
 
-going_held : {p : Pacing} {heard slot : ℕ} {between : Bool} (waits : Bool) (pending : Option ℕ) → IsOnTime p heard → heard < slot
+going_held : {p : Pacing} {heard slot : ℕ} {between : Bool} (waits : Bool) (pending : Option ℕ) → IsOnTime p heard
+    → heard < slot
     → stands_at_boundary (after_step true slot p) ≡ between → IsHeld pending (Going p) waits heard
     → IsHeld (after_slot between pending) (Going (sent_through slot p)) (if waits && between then false else waits) slot
 going_held {p} {slot} {between} true None on later stands held = absurd (true≢false held)
 going_held {p} {slot} {between} false None on later stands held = refl
 going_held {p} {slot} {between} false (Some taken) on later stands held = absurd (true≢false (sym held.0))
 going_held {p} {slot} {between = true} true (Some taken) on later stands held = refl
-going_held {p} {slot} {between = false} true (Some taken) on later stands held = (refl, still_held on.pacing later held.1 stands)
+going_held {p} {slot} {between = false} true (Some taken) on later stands held =
+    (refl, still_held on.pacing later held.1 stands)
 
 -- the rest of a play that was halted
 abbrev ends_in : Bool → Pacing → Sends
@@ -330,11 +350,13 @@ ending_held : {p : Pacing} {heard slot : ℕ} {between : Bool} (pending : Option
     → IsHeld (after_slot between pending) (ends_in between (sent_through slot p)) (if between then false else true) slot
 ending_held {p} {slot} {between} None on later stands held = absurd (true≢false held)
 ending_held {p} {slot} {between = true} (Some taken) on later stands held = refl
-ending_held {p} {slot} {between = false} (Some taken) on later stands held = (refl, still_held on.pacing later held.1 stands)
+ending_held {p} {slot} {between = false} (Some taken) on later stands held =
+    (refl, still_held on.pacing later held.1 stands)
 
 sent_after : (p : Pacing) (slot : ℕ) → IsPacing p → p.before + p.sent ≤ p.before + (after_step true slot p).sent
 sent_after p slot is =
-    let inside : p.before + p.sent ≤ length (framed_bytes p.pieces) = omega (arith, is.whole, is.most, is.due, is.sent) in
+    let inside : p.before + p.sent ≤ length (framed_bytes p.pieces) =
+    omega (arith, is.whole, is.most, is.due, is.sent) in
     let next = boundary-from p.pieces (p.before + p.sent) inside in
     omega (arith, next.after, is.sent)
 
@@ -343,7 +365,8 @@ as_going : (p : Pacing) (heard : ℕ) (pending : Option ℕ) → IsHeld pending 
 as_going p heard None held = held
 as_going p heard (Some taken) held = held
 
-ends_same : (between : Bool) (slot : ℕ) (p : Pacing) → IsPacing p → stands_at_boundary (after_step true slot p) ≡ between
+ends_same : (between : Bool) (slot : ℕ) (p : Pacing) → IsPacing p
+    → stands_at_boundary (after_step true slot p) ≡ between
     → (if between then Idle else Ending (after_step true slot p)) ≡ ends_in between (sent_through slot p)
 ends_same true slot p is stands = refl
 ends_same false slot p is stands = ap Ending (slot_is true false slot p is stands)
@@ -357,29 +380,32 @@ ended_through p heard slot sound later stands =
     let through : IsOnTime (sent_through slot p) slot = through_time p heard slot on later in
     let one : Pacing = after_step true slot p in
     let boundary : IsBoundary p.pieces (p.before + one.sent) = boundary_here one (stopped_is slot p on.pacing) stands in
-    let least : p.before + p.keep ≤ p.before + one.sent = sound.2 (p.before + one.sent) boundary (sent_after p slot on.pacing) in
+    let least : p.before + p.keep ≤ p.before + one.sent = sound.2 (p.before + one.sent) boundary
+    (sent_after p slot on.pacing) in
     omega (arith, least, through.pacing.due)
 
 ending_stand : {p : Pacing} {heard slot : ℕ} {between : Bool} {askings : List Asking} {end : ℕ} {more : List ℕ}
     {rest : List Part} {after : Option ℕ}
     → IsSound (Ending p) true heard → heard < slot → stands_at_boundary (after_step true slot p) ≡ between → slot ≤ end
     → (between ≡ true → after ≡ None)
-    → Fits (ends_in between (sent_through slot p)) slot after askings end more rest
-    → Fits (Ending (sent_through slot p)) slot after askings end more rest
+    → Fits (point (ends_in between (sent_through slot p)) slot after) askings end more rest
+    → Fits (point (Ending (sent_through slot p)) slot after) askings end more rest
 ending_stand {p} {slot} {between = false} {end} {more} sound later stands ends none fits = fits
 ending_stand {p} {heard} {slot} {between = true} {askings} {end} {more} {rest} sound later stands ends none fits =
-    subst (λ a. Fits (Ending (sent_through slot p)) slot a askings end more rest) (sym (none refl))
+    subst (λ a. Fits (point (Ending (sent_through slot p)) slot a) askings end more rest) (sym (none refl))
     (over_fits (through_time p heard slot sound.0 later) (ended_through p heard slot sound later stands) ends
-    (subst (λ a. Fits Idle slot a askings end more rest) (none refl) fits))
+    (subst (λ a. Fits (point Idle slot a) askings end more rest) (none refl) fits))
 
 after_none : (between : Bool) (pending : Option ℕ) → between ≡ true → after_slot between pending ≡ None
 after_none between None is = refl
 after_none between (Some slot) is = ap (λ b. if b then None else Some slot) is
 
-ending_slot : {p : Pacing} {heard slot : ℕ} {pending : Option ℕ} (text : List ℕ) → IsSound (Ending p) true heard → heard < slot
+ending_slot : {p : Pacing} {heard slot : ℕ} {pending : Option ℕ} (text : List ℕ) → IsSound (Ending p) true heard
+    → heard < slot
     → IsHeld pending (Ending p) true heard
-    → GoesTo (Ending p) (ends_in (stands_at_boundary (after_step true slot p)) (sent_through slot p)) heard slot pending
-    (after_slot (stands_at_boundary (after_step true slot p)) pending) [] []
+    → GoesTo (point (Ending p) heard pending)
+    (point (ends_in (stands_at_boundary (after_step true slot p)) (sent_through slot p)) slot
+    (after_slot (stands_at_boundary (after_step true slot p)) pending)) [] []
     (parts_in true (stands_at_boundary (after_step true slot p)) p slot text)
 ending_slot {p} {heard} {slot} {pending} text sound later held =
     let between : Bool = stands_at_boundary (after_step true slot p) in
@@ -392,15 +418,18 @@ ending_slot {p} {heard} {slot} {pending} text sound later held =
             from = from_lower heard slot more (omega (arith, later)) fits.from;
             later = later_lower heard slot (plays_of askings) (omega (arith, later)) fits.later;
             stand = slot_at true text (record { on = sound.0; later = later; ends = on; stands = refl })
-                (as_going p heard pending held) (record { due = λ taken less. refl; later_plays = fits.later }) whole.stand;
+                (as_going p heard pending held)
+                (record { due = λ taken less. refl; later_plays = fits.later }) whole.stand;
           };
     }
 
-pub slot_moves : {state : State} {waits : Bool} {heard slot : ℕ} {text : List ℕ} {pending : Option ℕ} → is_sending state ≡ true
+pub slot_moves : {state : State} {waits : Bool} {heard slot : ℕ} {text : List ℕ} {pending : Option ℕ}
+    → is_sending state ≡ true
     → IsSound (sends_in state) waits heard → heard < slot → IsHeld pending (sends_in state) waits heard
     → SlotMoves state waits heard slot text pending
 slot_moves {state = Init} {waits} {slot} {text} sending sound later held = absurd (true≢false (sym sending))
-slot_moves {state = Ready setup paused} {waits} {slot} {text} sending sound later held = absurd (true≢false (sym sending))
+slot_moves {state = Ready setup paused} {waits} {slot} {text} sending sound later held =
+    absurd (true≢false (sym sending))
 slot_moves {state = Playing setup play} {waits} {heard} {slot} {text} {pending} sending sound later held =
     let p : Pacing = play.pacer in
     let one : Pacing = after_step true slot p in
@@ -415,9 +444,10 @@ slot_moves {state = Playing setup play} {waits} {heard} {slot} {text} {pending} 
     }) ∙ ap Going (slot_is waits between slot p sound.0.pacing refl) in
     record {
       after = after_slot between pending;
-      held = subst (λ s. IsHeld (after_slot between pending) s (waits_after waits (Playing setup play) slot) slot) (sym sends)
+      held = subst (λ s. IsHeld (after_slot between pending) s (waits_after waits (Playing setup play) slot)
+          slot) (sym sends)
           (going_held waits pending sound.0 later refl held);
-      goes_on = subst (λ s. GoesTo (Going p) s heard slot pending (after_slot between pending) [] []
+      goes_on = subst (λ s. GoesTo (point (Going p) heard pending) (point s slot (after_slot between pending)) [] []
           (parts_of waits (Playing setup play) text slot)) (sym sends)
           (going_slot waits text sound later held);
     }
@@ -431,9 +461,10 @@ slot_moves {state = Stopping setup stop} {waits = true} {heard} {slot} {text} {p
     ending_cases between setup stop (after_step false slot one) one ∙ ends_same between slot p sound.0.pacing refl in
     record {
       after = after_slot between pending;
-      held = subst (λ s. IsHeld (after_slot between pending) s (waits_after true (Stopping setup stop) slot) slot) (sym sends)
+      held = subst (λ s. IsHeld (after_slot between pending) s (waits_after true (Stopping setup stop) slot)
+          slot) (sym sends)
           (ending_held pending sound.0 later refl held);
-      goes_on = subst (λ s. GoesTo (Ending p) s heard slot pending (after_slot between pending) [] []
+      goes_on = subst (λ s. GoesTo (point (Ending p) heard pending) (point s slot (after_slot between pending)) [] []
           (parts_of true (Stopping setup stop) text slot)) (sym sends)
           (ending_slot text sound later held);
     }

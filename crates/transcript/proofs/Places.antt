@@ -1,6 +1,7 @@
 -- Where texts stand among the bytes of a play, and of the plays after it.
 use Rattle.std.specs.Prelude.{⊤}
-use Rattle.std.proofs.Common.{◌≡◌, ℕ, ◌+◌, ◌-◌, ◌<◌, ◌≤◌, min, List, [], ◌∷◌, Option, Some, None, length, refl, ap, sym, ◌∙◌, subst, inl, inr, arith}
+use Rattle.std.proofs.Common.{◌≡◌, ℕ, ◌+◌, ◌-◌, ◌<◌, ◌≤◌, min, List, [], ◌∷◌, Option, Some, None, length, refl, ap, sym}
+use Rattle.std.proofs.Common.{◌∙◌, subst, inl, inr, arith}
 use Rattle.std.proofs.lemmas.List.Sums.{sum_by-cons}
 use Rattle.film_frames.specs.Tracks.{IsBoundary}
 use Rattle.pacer.specs.Pacings.{Pacing, first_slots}
@@ -29,7 +30,10 @@ after_lower low slot [] less are = tt
 after_lower low slot (play ∷ plays) less are = (omega (arith, less, are.0), after_lower low slot plays less are.1)
 
 pub later_lower : (low slot : ℕ) (plays : List FilmPlay) → low ≤ slot → AreLater slot plays → AreLater low plays
-later_lower low slot plays less are = record { starts = after_lower low slot plays less are.starts; begins = are.begins }
+later_lower low slot plays less are = record {
+  starts = after_lower low slot plays less are.starts;
+  begins = are.begins;
+}
 
 not_begun : (slot : ℕ) (play : FilmPlay) → slot < play.start → due_of slot play ≡ 0
 not_begun slot play later =
@@ -67,12 +71,15 @@ pub record StandAt (p : Pacing) (keep : ℕ) (pending : Option ℕ) (plays : Lis
 -- bytes of the film
 pub film_at : {p q : Pacing} {keep : ℕ} {pending : Option ℕ} {plays : List FilmPlay} {end : ℕ} {slots bytes : List ℕ}
     {parts : List Part}
-    → play_with q keep ≡ play_with p keep → p.sent + length bytes ≡ q.sent → StandAt q keep pending plays end slots parts
+    → play_with q keep ≡ play_with p keep → p.sent + length bytes ≡ q.sent
+    → StandAt q keep pending plays end slots parts
     → StandAt p keep pending plays end slots (Film bytes ∷ parts)
 film_at {p} {q} {keep} {pending} {plays} {end} {slots} {parts} same size stand = record {
   holds = omega (arith, size, stand.holds);
-  sent = subst (λ n. AreSentAt end (play_with p keep ∷ plays) (with_pending pending slots) (placed_texts n parts)) (sym size)
-      (subst (λ play. AreSentAt end (play ∷ plays) (with_pending pending slots) (placed_texts q.sent parts)) same stand.sent);
+  sent = subst (λ n. AreSentAt end (play_with p keep ∷ plays) (with_pending pending slots)
+      (placed_texts n parts)) (sym size)
+      (subst (λ play. AreSentAt end (play ∷ plays) (with_pending pending slots) (placed_texts q.sent parts))
+      same stand.sent);
 }
 
 -- a reply at the first boundary from what was due on
@@ -88,7 +95,8 @@ due_then p keep slot plays is are =
     let none : all_due slot plays ≡ 0 = none_due slot plays are in
     due_cons slot (play_with p keep) plays ∙ omega (arith, is, none)
 
-least_here : {p : Pacing} {due other : ℕ} (keep : ℕ) (plays : List FilmPlay) → p.sent ≤ keep → IsAtNext p due → due ≤ other
+least_here : {p : Pacing} {due other : ℕ} (keep : ℕ) (plays : List FilmPlay) → p.sent ≤ keep → IsAtNext p due
+    → due ≤ other
     → IsBoundaryIn (play_with p keep ∷ plays) other → p.sent ≤ other
 least_here {p} {other} keep plays holds at from (inl own) =
     let least = at.least (p.before + other) own.1 (omega (arith, from)) in omega (arith, least)
@@ -219,7 +227,8 @@ over_at {p} {heard} {keep} {plays} {end} {slots} {parts} on sent ends are later 
     let play : FilmPlay = play_with p keep in
     let over : IsOver play heard = record { over = λ slot from. stays_due slot on sent from } in
     let shifted : AreSentAt end (play ∷ plays) slots (placed_texts (keep + 0) parts) =
-    past_all 0 slots parts (record { ends = ends; from_on = are }) (record { is_over = over; begins = later.begins }) all in
+    past_all 0 slots parts (record { ends = ends; from_on = are })
+    (record { is_over = over; begins = later.begins }) all in
     record {
       holds = omega (arith, sent);
       sent = subst (λ n. AreSentAt end (play ∷ plays) slots (placed_texts n parts)) (omega (arith, sent)) shifted;

@@ -15,13 +15,13 @@ use Rattle.film_frames.specs.Tracks.{framed_bytes}
 use Rattle.rtsp_client.specs.Answers.{block_moments, cut_bytes, moments_in, moments_of}
 use Rattle.rtsp_client.specs.Courses.{Stage}
 use Rattle.rtsp_client.specs.Moments.{Moment, Reply, replies}
-use Rattle.transcript.proofs.Counting.{count-bytes, count-less, count-more, count-most, count-past}
-use Rattle.transcript.proofs.Counting.{count-whole, count-within, rest-less, rest-more, rest-past}
-use Rattle.transcript.proofs.Counting.{rest-within}
+use Rattle.transcript.proofs.Counting.{count_bytes, count_less, count_more, count_most, count_past}
+use Rattle.transcript.proofs.Counting.{count_whole, count_within, rest_less, rest_more, rest_past}
+use Rattle.transcript.proofs.Counting.{rest_within}
 use Rattle.transcript.proofs.ClientHearing.{Heard, no_sum}
-use Rattle.transcript.proofs.Streaming.{AreAlone, IsAlone, cut-at, rest_at}
-use Rattle.transcript.proofs.Sums.{AreOneBlocks, Sum, blocks-same, step, steps, steps-on, sum_of}
-use Rattle.transcript.proofs.Units.{moments-parts}
+use Rattle.transcript.proofs.Streaming.{AreAlone, IsAlone, cut_at, rest_at}
+use Rattle.transcript.proofs.Sums.{AreOneBlocks, Sum, blocks_same, step, steps, steps_on, sum_of}
+use Rattle.transcript.proofs.Units.{moments_parts}
 
 -- ---- a reply, as it is heard
 
@@ -34,8 +34,8 @@ abbrev pub AreTexts : List (List ℕ) → Type 0
 AreTexts [] = Unit {0}
 AreTexts (m ∷ ms) = IsText m × AreTexts ms
 
-pub text-is : (m : List ℕ) → StartsMessage m → IsMessageLength m (length m) → IsText m
-text-is m starts size = record {
+pub text_is : (m : List ℕ) → StartsMessage m → IsMessageLength m (length m) → IsText m
+text_is m starts size = record {
   moment = cond-false (is_line_end (get_or m 0 0)) []
       (cond (get_or m 0 0 == 36) (block_moments (get_or m 1 0) m) (Reply m ∷ [])) starts.1
       ∙ cond-false (get_or m 0 0 == 36) (block_moments (get_or m 1 0) m) (Reply m ∷ []) starts.2;
@@ -45,25 +45,26 @@ text-is m starts size = record {
 
 -- ---- the bytes of a block that isn't whole
 
-take-cut : (m : List ℕ) (d : ℕ) → (get_or m 0 0 == 36) ≡ false → cut_bytes (take d m) ≡ 0
-take-cut m zero other = refl
-take-cut m (suc d) other =
+take_cut : (m : List ℕ) (d : ℕ) → (get_or m 0 0 == 36) ≡ false → cut_bytes (take d m) ≡ 0
+take_cut m zero other = refl
+take_cut m (suc d) other =
     let rest = take (suc d) m in
     let c : Bool = nat_lt (length rest) 2 || nat_lt (get_or rest 1 0) 2 in
     cond-false ((get_or rest 0 0 == 36) && c) (length rest) 0
     (ap (λ x. (x == 36) && c) (get_or-take (suc d) m 0 0 (omega arith)) ∙ ap (λ y. y && c) other)
 
-texts-cut : (ms : List (List ℕ)) (d : ℕ) → AreTexts ms → cut_bytes (rest_at d ms) ≡ 0
-texts-cut [] d are = refl
-texts-cut (m ∷ ms) d are =
+texts_cut : (ms : List (List ℕ)) (d : ℕ) → AreTexts ms → cut_bytes (rest_at d ms) ≡ 0
+texts_cut [] d are = refl
+texts_cut (m ∷ ms) d are =
     elim (cases_lt d (length m)) [
-      | inl less ↦ ap cut_bytes (rest-less m ms d less) ∙ take-cut m d are.0.other
-      | inr more ↦ ap cut_bytes (rest-more m ms d more) ∙ texts-cut ms (d - length m) are.1
+      | inl less ↦ ap cut_bytes (rest_less m ms d less) ∙ take_cut m d are.0.other
+      | inr more ↦ ap cut_bytes (rest_more m ms d more) ∙ texts_cut ms (d - length m) are.1
     ]
 
-block-cut : (b : List ℕ) (d : ℕ) → d ≤ length b → get_or b 0 0 ≡ 36 → get_or b 1 0 < 2 → cut_bytes (take d b) ≡ length (take d b)
-block-cut b zero few starts channel = refl
-block-cut b (suc d) few starts channel =
+block_cut : (b : List ℕ) (d : ℕ) → d ≤ length b → get_or b 0 0 ≡ 36 → get_or b 1 0 < 2
+    → cut_bytes (take d b) ≡ length (take d b)
+block_cut b zero few starts channel = refl
+block_cut b (suc d) few starts channel =
     let rest = take (suc d) b in
     let long = length-take-le (suc d) b few in
     let c : Bool = nat_lt (length rest) 2 || nat_lt (get_or rest 1 0) 2 in
@@ -74,19 +75,20 @@ block-cut b (suc d) few starts channel =
           or_right (nat_lt (length rest) 2) (nat_lt (get_or rest 1 0) 2)
           (lt-ltb (get_or rest 1 0) 2 (omega (arith, there, channel)))
     ] in
-    let first : (get_or rest 0 0 == 36) ≡ true = eq-eqb (get_or rest 0 0) 36 (get_or-take (suc d) b 0 0 (omega arith) ∙ starts) in
+    let first : (get_or rest 0 0 == 36) ≡ true =
+    eq-eqb (get_or rest 0 0) 36 (get_or-take (suc d) b 0 0 (omega arith) ∙ starts) in
     cond-true ((get_or rest 0 0 == 36) && c) (length rest) 0 (ap (λ x. x && c) first ∙ second)
 
-blocks-cut : (bs : List (List ℕ)) (c : ℕ) → AreOneBlocks bs → cut_bytes (rest_at c bs) ≡ length (rest_at c bs)
-blocks-cut [] c are = refl
-blocks-cut (b ∷ bs) c are =
+blocks_cut : (bs : List (List ℕ)) (c : ℕ) → AreOneBlocks bs → cut_bytes (rest_at c bs) ≡ length (rest_at c bs)
+blocks_cut [] c are = refl
+blocks_cut (b ∷ bs) c are =
     elim (cases_lt c (length b)) [
       | inl less ↦
-          let rest = rest-less b bs c less in
-          ap cut_bytes rest ∙ (block-cut b c (omega (arith, less)) are.0.starts are.0.channel ∙ ap length (sym rest))
+          let rest = rest_less b bs c less in
+          ap cut_bytes rest ∙ (block_cut b c (omega (arith, less)) are.0.starts are.0.channel ∙ ap length (sym rest))
       | inr more ↦
-          let rest = rest-more b bs c more in
-          ap cut_bytes rest ∙ (blocks-cut bs (c - length b) are.1 ∙ ap length (sym rest))
+          let rest = rest_more b bs c more in
+          ap cut_bytes rest ∙ (blocks_cut bs (c - length b) are.1 ∙ ap length (sym rest))
     ]
 
 -- ---- a stream of two replies, blocks, and later replies
@@ -111,17 +113,17 @@ begun_sum x = steps no_sum (Reply x.first ∷ Reply x.second ∷ [])
 abbrev pub film_place : Stream → ℕ → ℕ
 film_place x c = c - length x.first - length x.second
 
-texts-count : (ms : List (List ℕ)) (k : ℕ) (s : Sum) → AreTexts ms → k ≤ length ms
+texts_count : (ms : List (List ℕ)) (k : ℕ) (s : Sum) → AreTexts ms → k ≤ length ms
     → (steps s (moments_in (take k ms))).replies ≡ s.replies + k
-texts-count ms zero s are few = omega arith
-texts-count [] (suc k) s are few = absurd (omega (arith, few))
-texts-count (m ∷ ms) (suc k) s are few =
+texts_count ms zero s are few = omega arith
+texts_count [] (suc k) s are few = absurd (omega (arith, few))
+texts_count (m ∷ ms) (suc k) s are few =
     let P : List Moment → Type 0 = λ l. (steps s (l ++ moments_in (take k ms))).replies ≡ s.replies + suc k in
-    subst P (sym are.0.moment) (omega (arith, texts-count ms k (step (Reply m) s) are.1 (omega (arith, few))))
+    subst P (sym are.0.moment) (omega (arith, texts_count ms k (step (Reply m) s) are.1 (omega (arith, few))))
 
-pub two-moments : (x : Stream) (rest : List (List ℕ))
+pub two_moments : (x : Stream) (rest : List (List ℕ))
     → steps no_sum (moments_in (x.first ∷ x.second ∷ rest)) ≡ steps (begun_sum x) (moments_in rest)
-two-moments x rest =
+two_moments x rest =
     ap (λ l. steps no_sum (l ++ (moments_of x.second ++ moments_in rest))) x.first_is.moment
     ∙ ap (λ l. steps no_sum (Reply x.first ∷ (l ++ moments_in rest))) x.second_is.moment
 
@@ -133,73 +135,78 @@ pub record IsReadingOf (x : Stream) (c : ℕ) (at : Stage) : Type 0 where
       ≡ min (film_place x c) (length (framed_bytes x.blocks))
 
 -- with the two first replies whole
-reading-film : {x : Stream} {c : ℕ} {at : Stage} → length x.first + length x.second ≤ c
+reading_film : {x : Stream} {c : ℕ} {at : Stage} → length x.first + length x.second ≤ c
     → sum_of at.history
     ≡ steps (begun_sum x) (moments_in (take (count_ended (film_place x c) (x.blocks ++ x.later)) (x.blocks ++ x.later)))
     → at.rest ≡ rest_at (film_place x c) (x.blocks ++ x.later) → replies at.history ≤ 2 → IsReadingOf x c at
-reading-film {x} {c} {at} past sum rest few =
+reading_film {x} {c} {at} past sum rest few =
     let d = film_place x c in
     let bs = x.blocks in
     let total = length (framed_bytes bs) in
     let s = begun_sum x in
     elim (cases_lt d total) [
       | inl inside ↦
-          let within = count-within bs x.later d inside in
+          let within = count_within bs x.later d inside in
           let k = count_ended d bs in
-          let its = rest-within bs x.later d inside in record {
+          let its = rest_within bs x.later d inside in record {
             past = past;
             sum = sum ∙ (ap (λ n. steps s (moments_in (take n (bs ++ x.later)))) within.0
                 ∙ ap (λ l. steps s (moments_in l)) (take-append-le k bs x.later (omega (arith, within.1))));
             cut =
-                let bytes = count-bytes bs d (omega (arith, inside)) in
-                let cut : cut_bytes at.rest ≡ length (rest_at d bs) = ap cut_bytes (rest ∙ its) ∙ blocks-cut bs d x.blocks_are in
+                let bytes = count_bytes bs d (omega (arith, inside)) in
+                let cut : cut_bytes at.rest ≡ length (rest_at d bs) = ap cut_bytes (rest ∙ its)
+                ∙ blocks_cut bs d x.blocks_are in
                 omega (arith, bytes, cut, inside);
           }
       | inr after ↦
           let k = count_ended (d - total) x.later in
-          let many : count_ended d (bs ++ x.later) ≡ length bs + k = count-past bs x.later d after in
+          let many : count_ended d (bs ++ x.later) ≡ length bs + k = count_past bs x.later d after in
           let t = steps s (moments_in bs) in
           let all : sum_of at.history ≡ steps t (moments_in (take k x.later)) =
           sum ∙ (ap (λ n. steps s (moments_in (take n (bs ++ x.later)))) many
           ∙ (ap (λ l. steps s (moments_in l)) (take-append-add bs x.later k)
-          ∙ (ap (steps s) (moments-parts bs (take k x.later)) ∙ steps-on s (moments_in bs) (moments_in (take k x.later))))) in
-          let same = (blocks-same bs s x.blocks_are).replies in
-          let counted = texts-count x.later k t x.later_are (count-most x.later (d - total)) in
+          ∙ (ap (steps s) (moments_parts bs (take k x.later))
+          ∙ steps_on s (moments_in bs) (moments_in (take k x.later))))) in
+          let same = (blocks_same bs s x.blocks_are).replies in
+          let counted = texts_count x.later k t x.later_are (count_most x.later (d - total)) in
           let none : k ≡ 0 = omega (arith, ap (λ (z : Sum). z.replies) all, counted, same, few) in
-          let whole : count_ended d bs ≡ length bs = count-whole bs d after in
-          let front : take (count_ended d bs) bs ≡ bs = take_all (count_ended d bs) bs (omega (arith, whole)) in record {
+          let whole : count_ended d bs ≡ length bs = count_whole bs d after in
+          let front : take (count_ended d bs) bs ≡ bs =
+          take_all (count_ended d bs) bs (omega (arith, whole)) in record {
             past = past;
-            sum = all ∙ (ap (λ n. steps t (moments_in (take n x.later))) none ∙ ap (λ l. steps s (moments_in l)) (sym front));
+            sum = all ∙ (ap (λ n. steps t (moments_in (take n x.later))) none
+                ∙ ap (λ l. steps s (moments_in l)) (sym front));
             cut =
                 let cut : cut_bytes at.rest ≡ 0 =
-                ap cut_bytes (rest ∙ rest-past bs x.later d after) ∙ texts-cut x.later (d - total) x.later_are in
+                ap cut_bytes (rest ∙ rest_past bs x.later d after) ∙ texts_cut x.later (d - total) x.later_are in
                 omega (arith, cut, ap (λ l. length (framed_bytes l)) front, after);
           }
     ]
 
-pub reading-of : {x : Stream} {bytes : List ℕ} {c : ℕ} {at : Stage} → Heard bytes at → ((n : ℕ) → IsElementLength at.rest n → ⊥)
+pub reading_of : {x : Stream} {bytes : List ℕ} {c : ℕ} {at : Stage} → Heard bytes at
+    → ((n : ℕ) → IsElementLength at.rest n → ⊥)
     → bytes ≡ take c (framed_bytes (all_of x)) → 1 < replies at.history → replies at.history ≤ 2 → IsReadingOf x c at
-reading-of {x} {bytes} {c} {at} heard none is playing few =
+reading_of {x} {bytes} {c} {at} heard none is playing few =
     let all = all_of x in
     let P : List ℕ → Type 0 = λ b. IsStream b (take (count_ended c all) all) (rest_at c all) in
     let streams : TwoStreams bytes heard.elements (take (count_ended c all) all) at.rest (rest_at c all) =
-    record { one = (heard.cut, none); other = subst P (sym is) (cut-at all c x.alone) } in
+    record { one = (heard.cut, none); other = subst P (sym is) (cut_at all c x.alone) } in
     let once = stream_once streams in
     let sum : sum_of at.history ≡ steps no_sum (moments_in (take (count_ended c all) all)) =
     heard.sum ∙ ap (λ l. steps no_sum (moments_in l)) once.0 in
     let after_first = x.second ∷ (x.blocks ++ x.later) in
     elim (cases_lt c (length x.first)) [
       | inl short ↦
-          let nothing = ap (λ n. steps no_sum (moments_in (take n all))) (count-less x.first after_first c short) in
+          let nothing = ap (λ n. steps no_sum (moments_in (take n all))) (count_less x.first after_first c short) in
           absurd (omega (arith, playing, ap (λ (z : Sum). z.replies) (sum ∙ nothing)))
       | inr long ↦
           let c1 = c - length x.first in
-          let one = count-more x.first after_first c long in
-          let rest_one = rest-more x.first after_first c long in
+          let one = count_more x.first after_first c long in
+          let rest_one = rest_more x.first after_first c long in
           elim (cases_lt c1 (length x.second)) [
             | inl short ↦
                 let only : take (count_ended c all) all ≡ x.first ∷ [] =
-                ap (λ n. take n all) (one ∙ ap suc (count-less x.second (x.blocks ++ x.later) c1 short)) in
+                ap (λ n. take n all) (one ∙ ap suc (count_less x.second (x.blocks ++ x.later) c1 short)) in
                 let single : steps no_sum (moments_in (x.first ∷ [])) ≡ steps no_sum (Reply x.first ∷ []) =
                 ap (λ l. steps no_sum (l ++ [])) x.first_is.moment in
                 absurd (omega (
@@ -211,9 +218,9 @@ reading-of {x} {bytes} {c} {at} heard none is playing few =
                 let d = film_place x c in
                 let k = count_ended d (x.blocks ++ x.later) in
                 let two : take (count_ended c all) all ≡ x.first ∷ x.second ∷ take k (x.blocks ++ x.later) =
-                ap (λ n. take n all) (one ∙ ap suc (count-more x.second (x.blocks ++ x.later) c1 more)) in
-                reading-film (omega (arith, long, more))
-                (sum ∙ (ap (λ l. steps no_sum (moments_in l)) two ∙ two-moments x (take k (x.blocks ++ x.later))))
-                (once.1 ∙ (rest_one ∙ rest-more x.second (x.blocks ++ x.later) c1 more)) few
+                ap (λ n. take n all) (one ∙ ap suc (count_more x.second (x.blocks ++ x.later) c1 more)) in
+                reading_film (omega (arith, long, more))
+                (sum ∙ (ap (λ l. steps no_sum (moments_in l)) two ∙ two_moments x (take k (x.blocks ++ x.later))))
+                (once.1 ∙ (rest_one ∙ rest_more x.second (x.blocks ++ x.later) c1 more)) few
           ]
     ]

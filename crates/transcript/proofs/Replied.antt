@@ -23,7 +23,7 @@ use Rattle.transcript.proofs.Films.{IsOnTime, IsSound, play_with}
 use Rattle.transcript.proofs.Hearing.{comes_heard, course_heard, takes_left}
 use Rattle.transcript.proofs.Places.{due_then}
 use Rattle.transcript.proofs.Turning.{Going, Idle, Ending, Sends, sends_in, unasked_still}
-use Rattle.transcript.proofs.Waits.{Fits, IsHeld, IsHeldUp, Stand, due_going, due_here}
+use Rattle.transcript.proofs.Waits.{Fits, IsHeld, IsHeldUp, Stand, due_going, due_here, point}
 use Rattle.transcript.proofs.Moves.{HeldIn, Move, move_none, move_then, takes_move}
 use Rattle.transcript.proofs.SlotMoves.{slot_move, slotted_sound, still_move}
 
@@ -39,7 +39,8 @@ comes_move {halt} {pending} old opened (HeardSlot slot) comes stands held =
     subst (λ ps. Move old.session opened.session pending (Asks (after_slot old.session slot).awaited halt ∷ [])
     [] ps) (sym comes.1.parts_are)
     (slot_move slot (record { stands = stands; held = held })
-    (λ taken. ltb-true old.session.heard slot (and_parts (nat_lt old.session.heard slot) (nat_le slot (2 ^ 62)) taken).0) refl
+    (λ taken. ltb-true old.session.heard slot
+    (and_parts (nat_lt old.session.heard slot) (nat_le slot (2 ^ 62)) taken).0) refl
     (slotted_sound old.session slot stands) comes.1.finished)
 comes_move {halt} old opened HeardEnd comes stands held = absurd comes
 comes_move {halt} old opened (Sent byte) comes stands held = absurd comes
@@ -47,7 +48,8 @@ comes_move {halt} old opened (Sent byte) comes stands held = absurd comes
 round_move : {old new : Stage} {round : Round} {pending : Option ℕ} (runs : Runs old round new)
     → Stands old.session → HeldIn pending old.session
     → Move old.session new.session pending (round_askings old round new runs)
-    (takings_slots (max old.session.heard (slot_in round.event)) round.takings) (round.due ++ takings_parts round.takings)
+    (takings_slots (max old.session.heard (slot_in round.event)) round.takings)
+    (round.due ++ takings_parts round.takings)
 round_move {old} {new} {round} {pending} runs stands held =
     let opened : Stage = runs.opened in
     let made : List Asking = Asks (asked_by old.session round.event) round.halt ∷ [] in
@@ -61,12 +63,14 @@ round_move {old} {new} {round} {pending} runs stands held =
     (takings_slots h round.takings) (round.due ++ takings_parts round.takings))
     (comes_heard old opened round.event round.due round.halt runs.comes) all
 
-course_move : {pending : Option ℕ} (old new : Stage) (rounds : List Round) (follows : Follows old rounds new) → Stands old.session
+course_move : {pending : Option ℕ} (old new : Stage) (rounds : List Round) (follows : Follows old rounds new)
+    → Stands old.session
     → HeldIn pending old.session
     → Move old.session new.session pending (askings_of old rounds new follows)
     (slots_from old.session.heard rounds) (rounds_parts rounds)
 course_move {pending} old new [] follows stands held =
-    subst (λ (s : Stage). Move old.session s.session pending [] [] []) (sym follows) (move_none old.session pending held)
+    subst (λ (s : Stage). Move old.session s.session pending [] [] []) (sym follows)
+    (move_none old.session pending held)
 course_move {pending} old new (round ∷ rounds) follows stands held =
     let mid : Stage = follows.0 in
     let runs = follows.1.0 in
@@ -78,7 +82,8 @@ course_move {pending} old new (round ∷ rounds) follows stands held =
     let heard : mid.session.heard ≡ now =
     (takes_left runs.opened mid round.takings runs.takes (opened_rest old mid round runs stands)).1
     ∙ comes_heard old runs.opened round.event round.due round.halt runs.comes in
-    subst (λ h. Move old.session new.session pending (round_askings old round mid runs ++ askings_of mid rounds new follows.1.1)
+    subst (λ h. Move old.session new.session pending
+    (round_askings old round mid runs ++ askings_of mid rounds new follows.1.1)
     (takings_slots now round.takings ++ slots_from h rounds)
     ((round.due ++ takings_parts round.takings) ++ rounds_parts rounds)) heard
     (move_then
@@ -156,7 +161,7 @@ replies_sent films settings words rounds new follows =
     let parts : List Part = rounds_parts rounds in
     let heard : ℕ = new.session.heard in
     let move = course_move {pending = None} first new rounds follows stands refl in
-    let ends : Fits (sends_in new.session.state) heard move.after [] heard [] [] = record {
+    let ends : Fits (point (sends_in new.session.state) heard move.after) [] heard [] [] = record {
       from = tt;
       later = record { starts = tt; begins = refl };
       stand = end_stand (sends_in new.session.state) new.session.waits heard move.after
@@ -167,4 +172,5 @@ replies_sent films settings words rounds new follows =
     subst (λ t. AreSentAt t (plays_of made) slots (placed_texts 0 parts)) last
     (subst (λ ms. AreSentAt heard (plays_of ms) slots (placed_texts 0 parts)) (append-nil made)
     (subst (λ ss. AreSentAt heard (plays_of (made ++ [])) ss (placed_texts 0 parts)) (append-nil slots)
-    (subst (λ ps. AreSentAt heard (plays_of (made ++ [])) (slots ++ []) (placed_texts 0 ps)) (append-nil parts) fits.stand)))
+    (subst (λ ps. AreSentAt heard (plays_of (made ++ [])) (slots ++ []) (placed_texts 0 ps))
+    (append-nil parts) fits.stand)))

@@ -1,5 +1,6 @@
 -- Replies are sent in the order of their requests, each once, but for the one that waits.
-use Rattle.std.proofs.Common.{◌≡◌, ℕ, ◌+◌, ◌++◌, ◌&&◌, if◌then◌else◌, Bool, true, false, List, [], ◌∷◌, length, map, refl, ap, sym, ◌∙◌, subst}
+use Rattle.std.proofs.Common.{◌≡◌, ℕ, ◌+◌, ◌++◌, ◌&&◌, if◌then◌else◌, Bool, true, false, List, [], ◌∷◌, length, map}
+use Rattle.std.proofs.Common.{refl, ap, sym, ◌∙◌, subst}
 use Rattle.std.proofs.lemmas.List.{append-nil, append_assoc}
 use Rattle.vod_base.specs.Links.{Doing, HeardBytes, HeardEnd, HeardSlot, Sent}
 use Rattle.film_frames.specs.declared.stores.Stored.{Stored}
@@ -11,7 +12,8 @@ use Rattle.session.specs.Hearings.{is_answered}
 use Rattle.session.specs.Sendings.{can_reply, after_play, is_between, is_done_in, is_sending}
 use Rattle.session.specs.Sendings.{is_taken, next_of, sent_due, sent_in, sent_reply, sent_slot}
 use Rattle.session.specs.Sendings.{after_slot, step_bytes, stepped_in}
-use Rattle.session.specs.Standings.{Awaits, NoAnswer, PlayAnswer, HaltAnswer, LookAnswer, OfferAnswer, Standing, awaited_answer}
+use Rattle.session.specs.Standings.{Awaits, NoAnswer, PlayAnswer, HaltAnswer, LookAnswer, OfferAnswer, Standing}
+use Rattle.session.specs.Standings.{awaited_answer}
 use Rattle.conn.specs.Films.{round_parts, rounds_parts, takings_parts}
 use Rattle.conn.specs.Rounds.{Round}
 use Rattle.conn.specs.Turns.{Answered, Entered, Film, IsFinished, IsHalted, IsReplied, Offered}
@@ -20,7 +22,8 @@ use Rattle.conn.specs.Turns.{due_parts, film_bytes, slot_parts}
 use Rattle.transcript.specs.Courses.{Follows, askings_of, first_stage, greatest_slot, rounds_bytes, round_askings}
 use Rattle.transcript.specs.Plays.{film_written, plays_of}
 use Rattle.transcript.specs.Replies.{placed_texts, replies_of, takings_replies, text_of, waiting_reply, with_texts}
-use Rattle.transcript.proofs.Filming.{Stands, opened_stands, round_step, stands_by, taken_stands, turn_after, reply_awaited}
+use Rattle.transcript.proofs.Filming.{Stands, opened_stands, round_step, stands_by, taken_stands, turn_after}
+use Rattle.transcript.proofs.Filming.{reply_awaited}
 use Rattle.transcript.proofs.Hearing.{film_written_is}
 use Rattle.transcript.proofs.Turning.{turns_as}
 use Rattle.transcript.proofs.Weaving.{course_film, parts_woven, rounds_sent}
@@ -37,10 +40,10 @@ texts_placed place [] = refl
 texts_placed place (Film bytes ∷ parts) = texts_placed (place + length bytes) parts
 texts_placed place (Text text ∷ parts) = ap (λ ts. text ∷ ts) (texts_placed place parts)
 
-texts-append : (xs ys : List Part) → texts_in (xs ++ ys) ≡ texts_in xs ++ texts_in ys
-texts-append [] ys = refl
-texts-append (Film bytes ∷ xs) ys = texts-append xs ys
-texts-append (Text text ∷ xs) ys = ap (λ ts. text ∷ ts) (texts-append xs ys)
+texts_append : (xs ys : List Part) → texts_in (xs ++ ys) ≡ texts_in xs ++ texts_in ys
+texts_append [] ys = refl
+texts_append (Film bytes ∷ xs) ys = texts_append xs ys
+texts_append (Text text ∷ xs) ys = ap (λ ts. text ∷ ts) (texts_append xs ys)
 
 -- these texts were sent, and these are replies to requests that were taken up meanwhile
 abbrev Replies : Standing → List (List ℕ) → List (List ℕ) → Standing → Type 0
@@ -57,7 +60,8 @@ record LaterReplies : Type 0 where
 replies_then : (a : Standing) (next : LaterReplies) (one first : List (List ℕ)) → Replies a one first next.old →
     Replies a (one ++ next.texts) (first ++ next.messages) next.new
 replies_then a next one first is =
-    append_assoc one two (waiting_reply c) ∙ ap (λ ts. one ++ ts) later ∙ sym (append_assoc one (waiting_reply b) second)
+    append_assoc one two (waiting_reply c) ∙ ap (λ ts. one ++ ts) later
+    ∙ sym (append_assoc one (waiting_reply b) second)
     ∙ ap (λ ts. ts ++ second) is ∙ append_assoc (waiting_reply a) first second
   where
     open next use {old as b, new as c, texts as two, messages as second, replied as later}
@@ -82,7 +86,8 @@ answered_replies {old} {new} {message} {outcome} {parts} replied stands =
     (turns_as old.session message outcome replied.answered replied.heard stands.rest) in
     ap (λ (s : Stage). texts_in parts ++ waiting_reply s.session) replied.new_is
     ∙ ap (λ ps. texts_in ps
-    ++ waiting_reply (if can_reply replied.answered then sent_reply replied.answered else replied.answered)) replied.parts_are
+    ++ waiting_reply (if can_reply replied.answered then sent_reply replied.answered else replied.answered))
+    replied.parts_are
     ∙ reply_cases (can_reply replied.answered) replied.answered after.waits
     ∙ ap (λ ts. ts ++ replied.answered.text ∷ []) (sym (waits_none old.session replied.next.replied))
 
@@ -91,12 +96,13 @@ takes_replies : (old new : Stage) (takings : List Taking) (takes : TakesAll old 
 takes_replies old new [] takes stands = waiting_same old.session new.session (ap (λ (s : Stage). s.session) takes)
 takes_replies old new (Passed n ∷ takings) takes stands =
     let same : takes.0.session ≡ old.session = ap (λ (s : Stage). s.session) takes.1.0.2 in
-    subst (λ s. Replies s (texts_in (takings_parts takings)) (takings_replies takes.0 takings new takes.1.1) new.session) same
+    subst (λ s. Replies s (texts_in (takings_parts takings)) (takings_replies takes.0 takings new takes.1.1)
+    new.session) same
     (takes_replies takes.0 new takings takes.1.1 (taken_stands old takes.0 (Passed n) takes.1.0 stands))
 takes_replies old new (Answered message outcome parts ∷ takings) takes stands =
     let text : List ℕ = takes.1.0.answered.text in
     let rest : List (List ℕ) = takings_replies takes.0 takings new takes.1.1 in
-    subst (λ ts. Replies old.session ts (text ∷ rest) new.session) (sym (texts-append parts (takings_parts takings)))
+    subst (λ ts. Replies old.session ts (text ∷ rest) new.session) (sym (texts_append parts (takings_parts takings)))
     (replies_then old.session (record {
       old = takes.0.session;
       new = new.session;
@@ -216,8 +222,8 @@ course_replies old new (round ∷ rounds) follows stands =
     })
     (due ++ taken) replies first in
     subst (λ ts. Replies old.session ts (replies ++ replies_of follows.0 rounds new follows.1.1) new.session)
-    (sym (texts-append (round_parts round) (rounds_parts rounds)
-    ∙ ap (λ ts. ts ++ texts_in (rounds_parts rounds)) (texts-append round.due (takings_parts round.takings)))) all
+    (sym (texts_append (round_parts round) (rounds_parts rounds)
+    ∙ ap (λ ts. ts ++ texts_in (rounds_parts rounds)) (texts_append round.due (takings_parts round.takings)))) all
 
 -- from a connection's beginning on
 pub replies_in_order : (films : List Stored) (settings : Settings) (words : List ℕ) (rounds : List Round) (new : Stage)
@@ -237,4 +243,5 @@ pub bytes_woven : (films : List Stored) (settings : Settings) (words : List ℕ)
 bytes_woven films settings words rounds new follows =
     rounds_sent rounds ∙ parts_woven 0 (rounds_parts rounds)
     ∙ ap (λ bs. with_texts 0 bs (placed_texts 0 (rounds_parts rounds)))
-    (course_film (first_stage films settings words) new rounds follows ∙ film_written_is films settings words rounds new follows)
+    (course_film (first_stage films settings words) new rounds follows
+    ∙ film_written_is films settings words rounds new follows)

@@ -13,21 +13,24 @@ use Rattle.interleave.proofs.Streams.{cut_grows, tells_none}
 use Rattle.conn.specs.Rounds.{Comes, IsStopped, Round}
 use Rattle.conn.specs.Turns.{Answered, Outcome, Part, Passed, Stage, Taking, TakesAll, stage}
 use Rattle.conn.specs.declared.reports.ConnEnd.{ConnEnd}
-use Rattle.conn.specs.declared.reports.ConnEnd.TheVariants.{Ended, TornDown, LinkFault, TooMuchInput, HeadTooLong, BodyTooLong, EventsSpent, NoMemory}
+use Rattle.conn.specs.declared.reports.ConnEnd.TheVariants.{Ended, TornDown, LinkFault, TooMuchInput, HeadTooLong}
+use Rattle.conn.specs.declared.reports.ConnEnd.TheVariants.{BodyTooLong, EventsSpent, NoMemory}
 use Rattle.transcript.specs.Courses.{Follows, first_stage}
 use Rattle.transcript.specs.Cuttings.{Beginning, Cutting, Hearing, IsDone, TakesUp, hearings_in, takings_hearings}
-use Rattle.transcript.specs.Requests.{AreTaken, AwaitsReply, bytes_in, is_no_request, message_of, requests_in, rounds_input}
-use Rattle.transcript.proofs.Paths.{GoesAll, IsOver, AnEnd, ABlock, Over, Element, Taken, over_element, path_of, elements_hearings}
+use Rattle.transcript.specs.Requests.{AreTaken, AwaitsReply, bytes_in, is_no_request, message_of, requests_in}
+use Rattle.transcript.specs.Requests.{rounds_input}
+use Rattle.transcript.proofs.Paths.{GoesAll, IsOver, AnEnd, ABlock, Over, Element, Taken, over_element, path_of}
+use Rattle.transcript.proofs.Paths.{elements_hearings}
 
 append_by : (other : Bool) (x : List ℕ) (all xs ys : List (List ℕ)) → all ≡ xs ++ ys
     → (if other then all else x ∷ all) ≡ (if other then xs else x ∷ xs) ++ ys
 append_by true x all xs ys same = same
 append_by false x all xs ys same = ap (λ rs. x ∷ rs) same
 
-pub requests-append : (xs ys : List (List ℕ)) → requests_in (xs ++ ys) ≡ requests_in xs ++ requests_in ys
-requests-append [] ys = refl
-requests-append (x ∷ xs) ys =
-    append_by (is_no_request x) x (requests_in (xs ++ ys)) (requests_in xs) (requests_in ys) (requests-append xs ys)
+pub requests_append : (xs ys : List (List ℕ)) → requests_in (xs ++ ys) ≡ requests_in xs ++ requests_in ys
+requests_append [] ys = refl
+requests_append (x ∷ xs) ys =
+    append_by (is_no_request x) x (requests_in (xs ++ ys)) (requests_in xs) (requests_in ys) (requests_append xs ys)
 
 -- a request begins with another byte than CR, LF and `$`
 pub starts_request : (input : List ℕ) (n : ℕ) → StartsMessage input → 0 < n → is_no_request (take n input) ≡ false
@@ -149,7 +152,8 @@ rounds_heard : (old new : Stage) (rounds : List Round) (takes : TakesUp old roun
 rounds_heard old new [] takes = refl
 rounds_heard old new (round ∷ rounds) takes =
     let runs = takes.1.0 in
-    hearings_map (takings_hearings runs.opened round.takings takes.0 runs.takes) (hearings_in takes.0 rounds new takes.1.2)
+    hearings_map (takings_hearings runs.opened round.takings takes.0 runs.takes)
+    (hearings_in takes.0 rounds new takes.1.2)
     ∙ ap (λ ms. ms ++ map message_of (hearings_in takes.0 rounds new takes.1.2))
     (takings_heard runs.opened takes.0 round.takings runs.takes)
     ∙ ap (λ ms. takings_requests round.takings ++ ms) (rounds_heard takes.0 new rounds takes.1.2)
@@ -176,12 +180,13 @@ follows_cut {new} {messages} old (round ∷ rounds) follows heard_cut =
     let bytes : List ℕ = bytes_in round.event in
     let grown : AreCut (heard ++ bytes) elements opened.input =
     subst (AreCut (heard ++ bytes) elements)
-    (sym (comes_input old opened round.event round.due round.halt runs.comes)) (cut_grows heard bytes elements old.input cut) in
+    (sym (comes_input old opened round.event round.due round.halt runs.comes))
+    (cut_grows heard bytes elements old.input cut) in
     let path = path_of opened mid round.takings runs.takes in
     let cuts = goes_cut opened mid path.elements path.goes in
     let more : List (List ℕ) = takings_requests round.takings in
     let these : requests_in (elements ++ cuts.elements) ≡ messages ++ more =
-    requests-append elements cuts.elements ∙ ap (λ rs. rs ++ requests_in cuts.elements) requests
+    requests_append elements cuts.elements ∙ ap (λ rs. rs ++ requests_in cuts.elements) requests
     ∙ ap (λ rs. messages ++ rs) (cuts.requests ∙ ap (λ hs. map message_of hs) path.hearings_are
     ∙ takings_heard opened mid round.takings runs.takes) in
     let rest = follows_cut {new = new} {messages = messages ++ more} mid rounds follows.1.1
@@ -209,7 +214,8 @@ abbrev IsRest : Stage → Type 0
 IsRest stage = ((n : ℕ) → IsElementLength stage.input n → ⊥) ⊎ (AwaitsReply stage ⊎ (stage.session.torn ≡ true))
 
 idle_rest : (stage : Stage)
-    → (IsFirst stage.input (Ok More) ⊎ ((n : ℕ) × (IsFirst stage.input (Ok (Message n)) × (stage.session.waits ≡ true))))
+    → (IsFirst stage.input (Ok More)
+    ⊎ ((n : ℕ) × (IsFirst stage.input (Ok (Message n)) × (stage.session.waits ≡ true))))
     → IsRest stage
 idle_rest stage (inl more) = inl (tells_none stage.input (Ok More) more)
 idle_rest stage (inr request) = inr (inl (record { length = request.0; first = request.1.0; waits = request.1.1 }))
@@ -236,7 +242,8 @@ pub requests_taken : (beginning : Beginning) (cutting : Cutting beginning) → A
 requests_taken beginning cutting =
     let first : Stage = first_stage beginning.films beginning.settings beginning.words in
     let follows = takes_follow first cutting.last cutting.rounds cutting.takes in
-    let cuts = follows_cut first cutting.rounds follows (record { heard = []; elements = []; cut = refl; requests = refl }) in
+    let cuts = follows_cut first cutting.rounds follows
+    (record { heard = []; elements = []; cut = refl; requests = refl }) in
     let begins : IsDone first = inl (record { torn = refl; waits = inl (inl refl) }) in
     record {
       elements = cuts.elements;

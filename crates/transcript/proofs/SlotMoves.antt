@@ -17,9 +17,11 @@ use Rattle.session.specs.declared.states.Setup.{Setup}
 use Rattle.session.specs.declared.states.State.{State}
 use Rattle.session.specs.declared.states.State.TheVariants.{Init, Ready, Playing, Stopping}
 use Rattle.session.specs.Hearings.{is_answered}
-use Rattle.session.specs.Sendings.{after_play, is_between, is_done_in, is_sending, next_of, sent_due, sent_in, sent_slot, after_slot, stepped_in}
+use Rattle.session.specs.Sendings.{after_play, is_between, is_done_in, is_sending, next_of, sent_due, sent_in}
+use Rattle.session.specs.Sendings.{sent_slot, after_slot, stepped_in}
 use Rattle.session.specs.Standings.{NoAnswer, Standing, awaited_answer, awaited_answer_of}
-use Rattle.conn.specs.Turns.{Entered, IsFinished, IsHaltAnswered, IsHalted, Offered, Outcome, Part, Unasked, WasFull, due_parts}
+use Rattle.conn.specs.Turns.{Entered, IsFinished, IsHaltAnswered, IsHalted, Offered, Outcome, Part, Unasked, WasFull}
+use Rattle.conn.specs.Turns.{due_parts}
 use Rattle.transcript.specs.Plays.{Asking, Asks, plays_admitted, plays_begun, kept_by, kept_in, kept_with, plays_of}
 use Rattle.transcript.proofs.Filming.{Stands, done_kept, halt_state, idle_sound, reply_awaited, reply_waits, sent_on}
 use Rattle.transcript.proofs.Films.{IsOnTime, IsSound}
@@ -27,7 +29,7 @@ use Rattle.transcript.proofs.Places.{AreLater, StandAt, from_lower, later_lower,
 use Rattle.transcript.proofs.Placed.{slot_moves, still_fits}
 use Rattle.transcript.proofs.Slots.{state_after, waits_after}
 use Rattle.transcript.proofs.Turning.{Going, Idle, IsStill, sends_in, unasked_still}
-use Rattle.transcript.proofs.Waits.{Fits, GoesTo, IsHeld}
+use Rattle.transcript.proofs.Waits.{Fits, GoesTo, IsHeld, point}
 use Rattle.transcript.proofs.Moves.{HeldIn, Move, move_then}
 
 -- nothing is asked
@@ -69,12 +71,13 @@ done_unheld {p} {pending = Some slot} waits heard is done held =
 done_fits : {p : Pacing} {heard : ℕ} {asked : Awaited} {placed : Placed} {number keep : ℕ} {askings : List Asking}
     {end : ℕ} {slots : List ℕ} {parts : List Part} → IsOnTime p heard → keep ≡ p.sent
     → placed.entry.command ≡ HaltCommand number keep → asked ≡ Halt keep Done → heard ≤ end
-    → Fits Idle heard None askings end slots parts
-    → Fits (Going p) heard None (Asks asked (Entered placed) ∷ askings) end slots parts
+    → Fits (point Idle heard None) askings end slots parts
+    → Fits (point (Going p) heard None) (Asks asked (Entered placed) ∷ askings) end slots parts
 done_fits {p} {heard} {asked} {placed} {number} {keep} {askings} {end} {slots} {parts} on sent command asks ends fits =
     let kept : kept_with (Entered placed) (kept_in askings (total_bytes p.plan)) ≡ keep =
     ap (λ c. kept_by c (kept_in askings (total_bytes p.plan))) command in
-    let none : plays_begun asked (Entered placed) askings ≡ [] = ap (λ a. plays_admitted a placed.entry.answer askings) asks in
+    let none : plays_begun asked (Entered placed) askings ≡ [] =
+    ap (λ a. plays_admitted a placed.entry.answer askings) asks in
     record {
       from = fits.from;
       later = subst (λ ps. AreLater heard (ps ++ plays_of askings)) (sym none) fits.later;
@@ -98,7 +101,8 @@ done_move : {s : Standing} {setup : Setup} {play : Played} {placed : Placed} {ke
 done_move {s} {play} {placed} {new} {pending} finished halted held =
     let p : Pacing = play.pacer in
     let on : IsOnTime p s.heard = (subst (λ st. IsSound (sends_in st) s.waits s.heard) is sound).0 in
-    let here : IsHeld pending (Going p) s.waits s.heard = subst (λ st. IsHeld pending (sends_in st) s.waits s.heard) is held in
+    let here : IsHeld pending (Going p) s.waits s.heard =
+    subst (λ st. IsHeld pending (sends_in st) s.waits s.heard) is held in
     let none : pending ≡ None = done_unheld s.waits s.heard on.pacing (done_kept p done) here in
     let waits : s.waits ≡ false = subst (λ o. IsHeld o (Going p) s.waits s.heard) none here in
     let sends : sends_in new.state ≡ Idle =
@@ -107,7 +111,8 @@ done_move {s} {play} {placed} {new} {pending} finished halted held =
     let later : new.waits ≡ false =
     ap (λ (n : Standing). n.waits) halted.halts
     ∙ ap (λ (a : Awaited). if is_answered (next_of a) then true else s.waits) asks ∙ waits in
-    let goes : GoesTo (Going p) Idle s.heard s.heard None None (Asks s.awaited (Entered placed) ∷ []) [] [] = record {
+    let goes : GoesTo (point (Going p) s.heard None) (point Idle s.heard None) (Asks s.awaited (Entered placed) ∷ [])
+    [] [] = record {
       later = omega arith;
       rest = λ askings end more rest ends fits.
           done_fits on sent halted.command asks ends fits;
@@ -115,12 +120,14 @@ done_move {s} {play} {placed} {new} {pending} finished halted held =
     record {
       after = None;
       held = later;
-      goes_on = subst (λ o. GoesTo (sends_in s.state) (sends_in new.state) s.heard new.heard o None
+      goes_on = subst (λ o. GoesTo (point (sends_in s.state) s.heard o) (point (sends_in new.state) new.heard None)
           (Asks s.awaited (Entered placed) ∷ []) [] []) (sym none)
-          (subst (λ x. GoesTo x (sends_in new.state) s.heard new.heard None None
+          (subst (λ x. GoesTo (point x s.heard None) (point (sends_in new.state) new.heard None)
           (Asks s.awaited (Entered placed) ∷ []) [] []) (sym (ap sends_in is))
-          (subst (λ x. GoesTo (Going p) x s.heard new.heard None None (Asks s.awaited (Entered placed) ∷ []) [] []) (sym sends)
-          (subst (λ h. GoesTo (Going p) Idle s.heard h None None (Asks s.awaited (Entered placed) ∷ []) [] [])
+          (subst (λ x. GoesTo (point (Going p) s.heard None) (point x new.heard None)
+          (Asks s.awaited (Entered placed) ∷ []) [] []) (sym sends)
+          (subst (λ h. GoesTo (point (Going p) s.heard None) (point Idle h None)
+          (Asks s.awaited (Entered placed) ∷ []) [] [])
           (sym heard) goes)));
     }
   where
@@ -140,18 +147,21 @@ finishes_move : {s : Standing} {state : State} {halt : Outcome} {new : Standing}
     → s.awaited ≡ Halt (sent_in state) Done → IsFinished (awaited_answer s) s halt new
     → HeldIn pending s → Move s new pending (Asks s.awaited halt ∷ []) [] []
 finishes_move {s} {state = Init} {halt} {new} is sound done asks finishing held = absurd (true≢false (sym done))
-finishes_move {s} {state = Ready setup paused} {halt} {new} is sound done asks finishing held = absurd (true≢false (sym done))
+finishes_move {s} {state = Ready setup paused} {halt} {new} is sound done asks finishing held =
+    absurd (true≢false (sym done))
 finishes_move {s} {state = Playing setup play} {halt} {new} is sound done asks finishing held =
     halted_move (record { state_is = is; sound = sound; done = done; sent = refl; asks = asks })
     (subst (λ a. IsFinished (awaited_answer_of a) s halt new) asks finishing) held
-finishes_move {s} {state = Stopping setup stop} {halt} {new} is sound done asks finishing held = absurd (true≢false (sym done))
+finishes_move {s} {state = Stopping setup stop} {halt} {new} is sound done asks finishing held =
+    absurd (true≢false (sym done))
 
 finished_move : {s : Standing} {halt : Outcome} {new : Standing} {done : Bool} {pending : Option ℕ}
     → IsSound (sends_in s.state) s.waits s.heard
     → is_done_in s.state ≡ done → s.awaited ≡ (if done then Halt (sent_in s.state) Done else Nothing)
     → IsFinished (awaited_answer s) s halt new → HeldIn pending s
     → Move s new pending (Asks s.awaited halt ∷ []) [] []
-finished_move {s} {halt} {new} {done = true} sound is asks finishing held = finishes_move refl sound is asks finishing held
+finished_move {s} {halt} {new} {done = true} sound is asks finishing held =
+    finishes_move refl sound is asks finishing held
 finished_move {s} {halt} {new} {done = false} sound is asks finishing held = rest_move asks held finishing
 
 -- a session that stands, with the slot in which a reply is held
@@ -174,7 +184,8 @@ sent_move {old} {halt} {new} {pending} slot standing sound sending later finishi
     let heard : s.heard ≡ slot = reply_heard goes due in
     let waits : s.waits ≡ waits_after old.waits old.state slot = reply_waits goes due in
     let asks : s.awaited ≡ (if is_done_in s.state then Halt (sent_in s.state) Done else Nothing) =
-    ap (λ a. if is_done_in s.state then Halt (sent_in s.state) Done else a) (reply_awaited goes due ∙ standing.stands.rest) in
+    ap (λ a. if is_done_in s.state then Halt (sent_in s.state) Done else a)
+    (reply_awaited goes due ∙ standing.stands.rest) in
     let slots = slot_moves sending standing.stands.sound later standing.held in
     let there : HeldIn slots.after s =
     subst (λ st. IsHeld slots.after (sends_in st) s.waits s.heard) (sym state)
@@ -184,10 +195,11 @@ sent_move {old} {halt} {new} {pending} slot standing sound sending later finishi
     let first : Move old s pending [] [] (due_parts old slot) = record {
       after = slots.after;
       held = there;
-      goes_on = subst (λ st. GoesTo (sends_in old.state) (sends_in st) old.heard s.heard pending slots.after []
-          [] (due_parts old slot)) (sym state)
-          (subst (λ h. GoesTo (sends_in old.state) (sends_in (state_after old.waits old.state slot)) old.heard h
-          pending slots.after [] [] (due_parts old slot)) (sym heard)
+      goes_on = subst (λ st. GoesTo (point (sends_in old.state) old.heard pending)
+          (point (sends_in st) s.heard slots.after) [] [] (due_parts old slot)) (sym state)
+          (subst (λ h. GoesTo (point (sends_in old.state) old.heard pending)
+          (point (sends_in (state_after old.waits old.state slot)) h slots.after) [] []
+          (due_parts old slot)) (sym heard)
           slots.goes_on);
     } in
     let second = finished_move sound refl asks finishing there in
@@ -205,7 +217,7 @@ idle_none (Ready setup paused) (Some slot) waits heard none held = absurd held
 idle_none (Playing setup play) pending waits heard none held = absurd (true≢false none)
 idle_none (Stopping setup stop) pending waits heard none held = absurd (true≢false none)
 
-idle_later : (from to : ℕ) → from ≤ to → GoesTo Idle Idle from to None None [] [] []
+idle_later : (from to : ℕ) → from ≤ to → GoesTo (point Idle from None) (point Idle to None) [] [] []
 idle_later from to less = record {
   later = less;
   rest = λ askings end more rest on fits. record {
@@ -224,8 +236,9 @@ idle_move old slot pending held none later =
     record {
       after = None;
       held = waits;
-      goes_on = subst (λ o. GoesTo (sends_in old.state) (sends_in old.state) old.heard slot o None [] [] []) (sym idle.0)
-          (subst (λ s. GoesTo s s old.heard slot None None [] [] []) (sym idle.1)
+      goes_on = subst (λ o. GoesTo (point (sends_in old.state) old.heard o) (point (sends_in old.state) slot None) []
+          [] []) (sym idle.0)
+          (subst (λ s. GoesTo (point s old.heard None) (point s slot None) [] [] []) (sym idle.1)
           (idle_later old.heard slot (omega (arith, later))));
     }
 

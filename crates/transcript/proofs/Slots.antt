@@ -1,5 +1,6 @@
 -- What a slot and a reply make of what is sent of films.
-use Rattle.std.proofs.Common.{◌≡◌, ℕ, ◌+◌, ◌<◌, ◌≤◌, ◌&&◌, if◌then◌else◌, Bool, true, false, List, [], ◌∷◌, length, refl, ap, sym, ◌∙◌, subst, arith}
+use Rattle.std.proofs.Common.{◌≡◌, ℕ, ◌+◌, ◌<◌, ◌≤◌, ◌&&◌, if◌then◌else◌, Bool, true, false, List, [], ◌∷◌, length}
+use Rattle.std.proofs.Common.{refl, ap, sym, ◌∙◌, subst, arith}
 use Rattle.conn.proofs.Replying.{boundary_here}
 use Rattle.conn.proofs.Playing.{film_cases}
 use Rattle.std.proofs.lemmas.Bool.{true≢false}
@@ -30,7 +31,8 @@ ended_at {p} {slot} {place} on last boundary is =
 
 -- ---- a reply
 
-pub same_on : (sends : Sends) (waits : Bool) (slot : ℕ) → IsSound sends waits slot → GoesOn sends sends slot slot waits [] []
+pub same_on : (sends : Sends) (waits : Bool) (slot : ℕ) → IsSound sends waits slot
+    → GoesOn sends sends slot slot waits [] []
 same_on sends waits slot sound = record { sound = sound; later = omega arith; rest = λ askings end more on is. is }
 
 over_on : (p : Pacing) (slot : ℕ) → IsOnTime p slot → p.sent ≡ p.keep → GoesOn (Ending p) Idle slot slot false [] []
@@ -197,8 +199,10 @@ slot_goes {heard} {slot} (Playing setup play) waits text sending sound later =
     })
     ∙ ap Going (slot_is waits (stands_at_boundary one) slot p sound.0.pacing refl) in
     let last : Bool = waits_after waits (Playing setup play) slot in
-    subst (λ s. GoesOn (Going p) s heard slot last [] (film_bytes (parts_of waits (Playing setup play) text slot))) (sym sends)
-    (subst (GoesOn (Going p) (Going (sent_through slot p)) heard slot last []) (sym (film_of waits p text slot sound.0.pacing))
+    subst (λ s. GoesOn (Going p) s heard slot last []
+    (film_bytes (parts_of waits (Playing setup play) text slot))) (sym sends)
+    (subst (GoesOn (Going p) (Going (sent_through slot p)) heard slot last [])
+    (sym (film_of waits p text slot sound.0.pacing))
     (going_on p heard slot last sound later))
 slot_goes {slot} (Stopping setup stop) false text sending sound later = absurd (true≢false (sym sound.1))
 slot_goes {heard} {slot} (Stopping setup stop) true text sending sound later =

@@ -1,5 +1,6 @@
 -- What each doing of a connection makes of what is sent of films.
-use Rattle.std.proofs.Common.{◌≡◌, ℕ, ◌+◌, ◌<◌, ◌≤◌, ◌++◌, Bool, true, List, [], ◌∷◌, length, take, refl, ap, sym, ◌∙◌, subst, arith}
+use Rattle.std.proofs.Common.{◌≡◌, ℕ, ◌+◌, ◌<◌, ◌≤◌, ◌++◌, Bool, true, List, [], ◌∷◌, length, take, refl, ap, sym, ◌∙◌}
+use Rattle.std.proofs.Common.{subst, arith}
 use Rattle.std.proofs.lemmas.List.{append_assoc}
 use Rattle.film_frames.specs.Runs.{run_pieces}
 use Rattle.film_frames.specs.Tracks.{IsBoundary, framed_bytes}
@@ -17,7 +18,8 @@ use Rattle.conn.specs.Turns.{Outcome}
 use Rattle.pacer.proofs.SlotLemmas.{most-slots}
 use Rattle.transcript.specs.Plays.{Asking, Asks, plays_admitted, plays_begun, kept_by, kept_in, kept_with, plays_of}
 use Rattle.transcript.proofs.Films.{IsFilm, IsRest, IsSound, film_in, play_with}
-use Rattle.transcript.proofs.Turning.{Begins, Ends, Ending, Going, Halts, Idle, IsStill, Sends, Starts, Stays, TurnsAs, pacing_for, sends_in}
+use Rattle.transcript.proofs.Turning.{Begins, Ends, Ending, Going, Halts, Idle, IsStill, Sends, Starts, Stays, TurnsAs}
+use Rattle.transcript.proofs.Turning.{pacing_for, sends_in}
 
 -- what is sent goes on: what was asked meanwhile, and the film's bytes
 pub record GoesOn (old new : Sends) (from to : ℕ) (waits : Bool) (made : List Asking) (bytes : List ℕ) : Type 0 where
@@ -56,7 +58,8 @@ still_rest (Ending p) askings end more still is =
     subst (λ ps. IsFilm end (play_with p p.keep ∷ (ps ++ plays_of askings)) (take p.sent (film_in p) ++ more))
     (sym (still.none askings)) is
 
-pub sound_waits : (sends : Sends) (old new : Bool) (slot : ℕ) → IsSound sends old slot → (new ≡ true) → IsSound sends new slot
+pub sound_waits : (sends : Sends) (old new : Bool) (slot : ℕ) → IsSound sends old slot → (new ≡ true)
+    → IsSound sends new slot
 sound_waits Idle old new slot is waits = tt
 sound_waits (Going p) old new slot is waits = is
 sound_waits (Ending p) old new slot is waits = (is.0, waits, is.2)
@@ -86,7 +89,8 @@ begin_sound {p} {slot} whole_play pacing later =
 
 begin_film : {plan : List Segment} {more : List ℕ} (prepared : Prepared) (start : ℕ) (askings : List Asking)
     (end : ℕ) → prepared.paced ≡ plan
-    → IsFilm end (play_with (pacing_for prepared start) (kept_in askings (total_bytes prepared.paced)) ∷ plays_of askings) more
+    → IsFilm end (play_with (pacing_for prepared start) (kept_in askings (total_bytes prepared.paced))
+    ∷ plays_of askings) more
     → IsFilm end
     (record {
       start = start;
@@ -111,7 +115,8 @@ begin_rest : {old new : Standing} {asked : Awaited} {outcome : Outcome} {more : 
     → IsRest (Going (pacing_for begins.prepared begins.start)) askings end more
     → IsRest Idle (Asks asked outcome ∷ askings) end more
 begin_rest {new} {asked} {outcome} {more} begins askings end is =
-    let made : plays_begun asked outcome askings ≡ plays_admitted (Play begins.prepared) (Admitted begins.start) askings =
+    let made : plays_begun asked outcome askings ≡ plays_admitted (Play begins.prepared)
+    (Admitted begins.start) askings =
     ap (λ o. plays_begun asked o askings) begins.outcome_is
     ∙ ap (λ a. plays_admitted a begins.placed.entry.answer askings) begins.asked_is
     ∙ ap (λ a. plays_admitted (Play begins.prepared) a askings) begins.answer in

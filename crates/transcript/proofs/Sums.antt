@@ -63,32 +63,33 @@ abbrev pub steps : Sum → List Moment → Sum
 steps s [] = s
 steps s (m ∷ ms) = steps (step m s) ms
 
-pub steps-on : (s : Sum) (a b : List Moment) → steps s (a ++ b) ≡ steps (steps s a) b
-steps-on s [] b = refl
-steps-on s (m ∷ a) b = steps-on (step m s) a b
+pub steps_on : (s : Sum) (a b : List Moment) → steps s (a ++ b) ≡ steps (steps s a) b
+steps_on s [] b = refl
+steps_on s (m ∷ a) b = steps_on (step m s) a b
 
-pub sum-after : (h : History) (ms : List Moment) → sum_of (history_after h ms) ≡ steps (sum_of h) ms
-sum-after h [] = refl
-sum-after h (Reply m ∷ ms) = sum-after (Reply m ∷ h) ms
-sum-after h (Frame b ∷ ms) = sum-after (Frame b ∷ h) ms
-sum-after h (Report b ∷ ms) = sum-after (Report b ∷ h) ms
-sum-after h (Slot t cut ∷ ms) = sum-after (Slot t cut ∷ h) ms
+pub sum_after : (h : History) (ms : List Moment) → sum_of (history_after h ms) ≡ steps (sum_of h) ms
+sum_after h [] = refl
+sum_after h (Reply m ∷ ms) = sum_after (Reply m ∷ h) ms
+sum_after h (Frame b ∷ ms) = sum_after (Frame b ∷ h) ms
+sum_after h (Report b ∷ ms) = sum_after (Report b ∷ h) ms
+sum_after h (Slot t cut ∷ ms) = sum_after (Slot t cut ∷ h) ms
 
 -- what is handed on
-pub steps-payloads : (s : Sum) (ms : List Moment) → (steps s ms).payloads ≡ s.payloads ++ payloads_of ms
-steps-payloads s [] = sym (append-nil s.payloads)
-steps-payloads s (Reply m ∷ ms) = steps-payloads (step (Reply m) s) ms
-steps-payloads s (Frame b ∷ ms) = steps-payloads (step (Frame b) s) ms ∙ append_assoc s.payloads (drop 20 b) (payloads_of ms)
-steps-payloads s (Report b ∷ ms) = steps-payloads (step (Report b) s) ms
-steps-payloads s (Slot t cut ∷ ms) = steps-payloads s ms
+pub steps_payloads : (s : Sum) (ms : List Moment) → (steps s ms).payloads ≡ s.payloads ++ payloads_of ms
+steps_payloads s [] = sym (append-nil s.payloads)
+steps_payloads s (Reply m ∷ ms) = steps_payloads (step (Reply m) s) ms
+steps_payloads s (Frame b ∷ ms) = steps_payloads (step (Frame b) s) ms
+    ∙ append_assoc s.payloads (drop 20 b) (payloads_of ms)
+steps_payloads s (Report b ∷ ms) = steps_payloads (step (Report b) s) ms
+steps_payloads s (Slot t cut ∷ ms) = steps_payloads s ms
 
 -- replies never fall
-pub replies-grow : (s : Sum) (ms : List Moment) → s.replies ≤ (steps s ms).replies
-replies-grow s [] = omega arith
-replies-grow s (Reply m ∷ ms) = omega (arith, replies-grow (step (Reply m) s) ms)
-replies-grow s (Frame b ∷ ms) = replies-grow (step (Frame b) s) ms
-replies-grow s (Report b ∷ ms) = replies-grow (step (Report b) s) ms
-replies-grow s (Slot t cut ∷ ms) = replies-grow s ms
+pub replies_grow : (s : Sum) (ms : List Moment) → s.replies ≤ (steps s ms).replies
+replies_grow s [] = omega arith
+replies_grow s (Reply m ∷ ms) = omega (arith, replies_grow (step (Reply m) s) ms)
+replies_grow s (Frame b ∷ ms) = replies_grow (step (Frame b) s) ms
+replies_grow s (Report b ∷ ms) = replies_grow (step (Report b) s) ms
+replies_grow s (Slot t cut ∷ ms) = replies_grow s ms
 
 -- ---- blocks, as moments
 
@@ -102,67 +103,72 @@ abbrev pub AreOneBlocks : List (List ℕ) → Type 0
 AreOneBlocks [] = Unit {0}
 AreOneBlocks (b ∷ bs) = IsOneBlock b × AreOneBlocks bs
 
-pub blocks-one-append : (xs ys : List (List ℕ)) → AreOneBlocks xs → AreOneBlocks ys → AreOneBlocks (xs ++ ys)
-blocks-one-append [] ys one two = two
-blocks-one-append (x ∷ xs) ys one two = (one.0, blocks-one-append xs ys one.1 two)
+pub blocks_one_append : (xs ys : List (List ℕ)) → AreOneBlocks xs → AreOneBlocks ys → AreOneBlocks (xs ++ ys)
+blocks_one_append [] ys one two = two
+blocks_one_append (x ∷ xs) ys one two = (one.0, blocks_one_append xs ys one.1 two)
 
-pub blocks-one-take : (k : ℕ) (bs : List (List ℕ)) → AreOneBlocks bs → AreOneBlocks (take k bs)
-blocks-one-take zero bs are = tt
-blocks-one-take (suc k) [] are = tt
-blocks-one-take (suc k) (b ∷ bs) are = (are.0, blocks-one-take k bs are.1)
+pub blocks_one_take : (k : ℕ) (bs : List (List ℕ)) → AreOneBlocks bs → AreOneBlocks (take k bs)
+blocks_one_take zero bs are = tt
+blocks_one_take (suc k) [] are = tt
+blocks_one_take (suc k) (b ∷ bs) are = (are.0, blocks_one_take k bs are.1)
 
 -- what blocks leave as it was
 pub record IsSame (s t : Sum) : Type 0 where
   pub replies : t.replies ≡ s.replies
   pub end_ms : t.end_ms ≡ s.end_ms
 
-same-one : (b : List ℕ) (ms : List Moment) (s : Sum)
+same_one : (b : List ℕ) (ms : List Moment) (s : Sum)
     → (moments_of b ≡ Frame b ∷ []) ⊎ (moments_of b ≡ Report b ∷ []) → ((t : Sum) → IsSame t (steps t ms))
     → IsSame s (steps s (moments_of b ++ ms))
-same-one b ms s (inl frame) rest =
+same_one b ms s (inl frame) rest =
     let r = rest (step (Frame b) s) in
     subst (λ l. IsSame s (steps s (l ++ ms))) (sym frame) (record { replies = r.replies; end_ms = r.end_ms })
-same-one b ms s (inr report) rest =
+same_one b ms s (inr report) rest =
     let r = rest (step (Report b) s) in
     subst (λ l. IsSame s (steps s (l ++ ms))) (sym report) (record { replies = r.replies; end_ms = r.end_ms })
 
-pub blocks-same : (bs : List (List ℕ)) (s : Sum) → AreOneBlocks bs → IsSame s (steps s (moments_in bs))
-blocks-same [] s are = record { replies = refl; end_ms = refl }
-blocks-same (b ∷ bs) s are = same-one b (moments_in bs) s are.0.moment (λ t. blocks-same bs t are.1)
+pub blocks_same : (bs : List (List ℕ)) (s : Sum) → AreOneBlocks bs → IsSame s (steps s (moments_in bs))
+blocks_same [] s are = record { replies = refl; end_ms = refl }
+blocks_same (b ∷ bs) s are = same_one b (moments_in bs) s are.0.moment (λ t. blocks_same bs t are.1)
 
 -- the bytes of all are received
-received-one : (b : List ℕ) (bs : List (List ℕ)) (s : Sum)
+received_one : (b : List ℕ) (bs : List (List ℕ)) (s : Sum)
     → (moments_of b ≡ Frame b ∷ []) ⊎ (moments_of b ≡ Report b ∷ []) → plays s ≡ true
     → ((t : Sum) → plays t ≡ true → (steps t (moments_in bs)).received ≡ t.received + length (framed_bytes bs))
     → (steps s (moments_of b ++ moments_in bs)).received ≡ s.received + length (framed_bytes (b ∷ bs))
-received-one b bs s (inl frame) on rest =
-    let P : List Moment → Type 0 = λ l. (steps s (l ++ moments_in bs)).received ≡ s.received + length (b ++ framed_bytes bs) in
+received_one b bs s (inl frame) on rest =
+    let P : List Moment → Type 0 = λ l. (steps s (l ++ moments_in bs)).received ≡ s.received + length
+    (b ++ framed_bytes bs) in
     subst P (sym frame) (omega (arith, rest (step (Frame b) s) on, length-append b (framed_bytes bs)))
-received-one b bs s (inr report) on rest =
-    let P : List Moment → Type 0 = λ l. (steps s (l ++ moments_in bs)).received ≡ s.received + length (b ++ framed_bytes bs) in
+received_one b bs s (inr report) on rest =
+    let P : List Moment → Type 0 = λ l. (steps s (l ++ moments_in bs)).received ≡ s.received + length
+    (b ++ framed_bytes bs) in
     let one = cond-true (plays s) (s.received + length b) s.received on in
     subst P (sym report) (omega (arith, rest (step (Report b) s) on, one, length-append b (framed_bytes bs)))
 
-pub blocks-received : (bs : List (List ℕ)) (s : Sum) → AreOneBlocks bs → plays s ≡ true
+pub blocks_received : (bs : List (List ℕ)) (s : Sum) → AreOneBlocks bs → plays s ≡ true
     → (steps s (moments_in bs)).received ≡ s.received + length (framed_bytes bs)
-blocks-received [] s are on = omega arith
-blocks-received (b ∷ bs) s are on = received-one b bs s are.0.moment on (λ t still. blocks-received bs t are.1 still)
+blocks_received [] s are on = omega arith
+blocks_received (b ∷ bs) s are on = received_one b bs s are.0.moment on (λ t still. blocks_received bs t are.1 still)
 
 -- the first frame stays
-some-frames : (n : ℕ) → 0 < n → (n == 0) ≡ false
-some-frames n some = ne_eqb n 0 (λ none. omega (arith, some, none))
+some_frames : (n : ℕ) → 0 < n → (n == 0) ≡ false
+some_frames n some = ne_eqb n 0 (λ none. omega (arith, some, none))
 
-first-one : (b : List ℕ) (ms : List Moment) (s : Sum)
+first_one : (b : List ℕ) (ms : List Moment) (s : Sum)
     → (moments_of b ≡ Frame b ∷ []) ⊎ (moments_of b ≡ Report b ∷ []) → 0 < s.frames
     → ((t : Sum) → 0 < t.frames → (steps t ms).first ≡ t.first)
     → (steps s (moments_of b ++ ms)).first ≡ s.first
-first-one b ms s (inl frame) some rest =
+first_one b ms s (inl frame) some rest =
     let P : List Moment → Type 0 = λ l. (steps s (l ++ ms)).first ≡ s.first in
-    subst P (sym frame) (rest (step (Frame b) s) (omega arith) ∙ cond-false (s.frames == 0) b s.first (some-frames s.frames some))
-first-one b ms s (inr report) some rest =
+    subst P (sym frame) (rest (step (Frame b) s) (omega arith)
+    ∙ cond-false (s.frames == 0) b s.first (some_frames s.frames some))
+first_one b ms s (inr report) some rest =
     let P : List Moment → Type 0 = λ l. (steps s (l ++ ms)).first ≡ s.first in
     subst P (sym report) (rest (step (Report b) s) some)
 
-pub blocks-first : (bs : List (List ℕ)) (s : Sum) → AreOneBlocks bs → 0 < s.frames → (steps s (moments_in bs)).first ≡ s.first
-blocks-first [] s are some = refl
-blocks-first (b ∷ bs) s are some = first-one b (moments_in bs) s are.0.moment some (λ t more. blocks-first bs t are.1 more)
+pub blocks_first : (bs : List (List ℕ)) (s : Sum) → AreOneBlocks bs → 0 < s.frames
+    → (steps s (moments_in bs)).first ≡ s.first
+blocks_first [] s are some = refl
+blocks_first (b ∷ bs) s are some = first_one b (moments_in bs) s are.0.moment some
+    (λ t more. blocks_first bs t are.1 more)

@@ -1,5 +1,6 @@
 -- What a request and its answer make of a session: what is sent of a film, and the play that begins or ends.
-use Rattle.std.proofs.Common.{◌≡◌, ℕ, ◌<◌, if◌then◌else◌, Bool, true, false, List, [], Option, refl, sym, ap, subst, ◌∙◌}
+use Rattle.std.proofs.Common.{◌≡◌, ℕ, ◌<◌, if◌then◌else◌, Bool, true, false, List, [], Option, refl, sym, ap, subst}
+use Rattle.std.proofs.Common.{◌∙◌}
 use Rattle.film_frames.specs.Runs.{run_pieces}
 use Rattle.film_run.specs.declared.runs.Run.{Run}
 use Rattle.pacer.specs.Pacings.{IsPacing, Pacing, next_boundary, whole_pacing}
@@ -13,7 +14,8 @@ use Rattle.admission.specs.Makers.{Placed}
 use Rattle.slot_calendar.specs.Plays.{Play as Booked}
 use Rattle.station.specs.Ledgers.{look_at, play_of}
 use Rattle.session.specs.declared.asks.Ask.{Ask}
-use Rattle.session.specs.declared.asks.Ask.TheVariants.{Reply as AskReply, Play as AskPlay, Look as AskLook, Offer as AskOffer}
+use Rattle.session.specs.declared.asks.Ask.TheVariants.{Reply as AskReply, Play as AskPlay, Look as AskLook}
+use Rattle.session.specs.declared.asks.Ask.TheVariants.{Offer as AskOffer}
 use Rattle.session.specs.declared.states.Awaited.{Awaited}
 use Rattle.session.specs.declared.states.Awaited.TheVariants.{Nothing, Play, Halt, Look}
 use Rattle.session.specs.declared.states.Next.{Next}
@@ -27,7 +29,8 @@ use Rattle.session.specs.Hearings.{after_halt, is_answered}
 use Rattle.session.specs.Sendings.{admitted_in, halted_in, next_of, state_once_halted}
 use Rattle.session.specs.Standings.{Standing}
 use Rattle.session.specs.Steps.{IsPlayIn}
-use Rattle.conn.specs.Turns.{HasHeard, IsAskAnswered, IsHaltAnswered, IsHalted, IsLookAnswered, IsPlayAnswered, Outcome, Unasked, Entered, WasFull, Offered}
+use Rattle.conn.specs.Turns.{HasHeard, IsAskAnswered, IsHaltAnswered, IsHalted, IsLookAnswered, IsPlayAnswered, Outcome}
+use Rattle.conn.specs.Turns.{Unasked, Entered, WasFull, Offered}
 use Rattle.transcript.specs.Plays.{Asking, plays_admitted, plays_begun, booked_by, kept_by, kept_with}
 use Rattle.session.proofs.Shapes.{HearsAs, Replies, SetsUp, AsksPlay, Stops, AsksLook, AsksOffer, hears_as}
 use Rattle.transcript.proofs.Occasions.{PlayEntry, HaltAsked}
@@ -94,7 +97,8 @@ pub record Halts (old : Standing) (asked : Awaited) (outcome : Outcome) (new : S
   pub sends : sends_in new.state ≡ Ending (record pacing { keep = next_boundary pacing })
 
 pub data TurnsAs (old : Standing) (asked : Awaited) (outcome : Outcome) (new : Standing) : Type 0 where
-  Stays : sends_in new.state ≡ sends_in old.state → IsAfter old new → IsStill asked outcome → TurnsAs old asked outcome new
+  Stays : sends_in new.state ≡ sends_in old.state → IsAfter old new → IsStill asked outcome
+      → TurnsAs old asked outcome new
   Starts : IsAfter old new → Begins old asked outcome new → TurnsAs old asked outcome new
   Ends : IsAfter old new → Halts old asked outcome new → TurnsAs old asked outcome new
 
@@ -330,9 +334,14 @@ answers_as {ask} {outcome} {asked} {new} rest answered (SetsUp text setup init a
 answers_as {ask} {outcome} {asked} {new} rest answered (AsksPlay setup paused prepared text ready ask_is is) =
     asked_play asked (subst (λ a. IsAskAnswered asked a outcome new) ask_is answered) ready
     (ap (λ (s : Standing). s.state) is) (ap (λ (s : Standing). s.heard) is) (ap (λ (s : Standing). s.awaited) is)
-answers_as {ask} {outcome} {asked} {new} rest answered (Stops setup play keep next text playing told keep_is ask_is is) =
+answers_as {ask} {outcome} {asked} {new} rest answered
+    (Stops setup play keep next text playing told keep_is ask_is is) =
     asked_halt (subst (λ a. IsAskAnswered asked a outcome new) ask_is answered) told keep_is
-    (record { playing = playing; state = ap (λ (s : Standing). s.state) is; awaited = ap (λ (s : Standing). s.awaited) is })
+    (record {
+      playing = playing;
+      state = ap (λ (s : Standing). s.state) is;
+      awaited = ap (λ (s : Standing). s.awaited) is;
+    })
     (ap (λ (s : Standing). s.heard) is)
 answers_as {ask} {outcome} {asked} {new} rest answered (AsksLook looks sequence ask_is is) =
     asked_look asked (subst (λ a. IsAskAnswered asked a outcome new) ask_is answered)
@@ -343,7 +352,8 @@ answers_as {ask} {outcome} {asked} {new} rest answered (AsksOffer plan offers se
     (ap (λ (s : Standing). s.state) is) (ap (λ (s : Standing). s.heard) is)
 
 -- a request was heard and answered
-pub turns_as : (old : Standing) (message : List ℕ) (outcome : Outcome) (new : Standing) (heard : HasHeard old message outcome new)
+pub turns_as : (old : Standing) (message : List ℕ) (outcome : Outcome) (new : Standing)
+    (heard : HasHeard old message outcome new)
     → old.awaited ≡ Nothing → TurnsAs old heard.asking.awaited outcome new
 turns_as old message outcome new heard rest =
     answers_as rest heard.answered (hears_as old message heard.ask heard.asking heard.hears)

@@ -3,6 +3,7 @@ use Rattle.std.proofs.Common.{◌≡◌, ℕ, ◌++◌, Bool, true, false, List,
 use Rattle.std.proofs.lemmas.Bool.{true≢false}
 use Rattle.std.proofs.lemmas.List.{append-nil, append_assoc}
 use Rattle.vod_base.specs.Links.{Doing, HeardBytes, HeardEnd, HeardSlot, Sent}
+use Rattle.film_frames.specs.declared.stores.Stored.{Stored}
 use Rattle.session.specs.Ranges.{AreFilms}
 use Rattle.conn.specs.Rounds.{Round, Runs, RunsAll, IsStopped, rounds_outcomes, takings_bytes, takings_outcomes}
 use Rattle.conn.specs.Turns.{HasStepped, Outcome, Part, Stage, parts_bytes, stage}
@@ -11,7 +12,7 @@ use Rattle.transcript.specs.Courses.{first_stage, rounds_bytes}
 use Rattle.transcript.specs.Cuttings.{AllLackAlike, HearAlike, SendAlike, AreSameAnswers, Beginning}
 use Rattle.transcript.specs.Cuttings.{Cutting, Hearing, IsDone, TakesUp, all_heard, answer_in}
 use Rattle.transcript.specs.Cuttings.{answers_in, heard_in, hearings_in, takings_hearings}
-use Rattle.transcript.proofs.Once.{stepped_films, steps_same}
+use Rattle.transcript.proofs.Once.{stepped_names, steps_same}
 use Rattle.transcript.proofs.Paths.{GoesAll, Path, Element, ends_same, goes_films, goes_grow}
 use Rattle.transcript.proofs.Paths.{join_answers, join_bytes, join_goes, join_hearings, longer}
 use Rattle.transcript.proofs.Paths.{path_of, elements_answers, elements_bytes, elements_hearings}
@@ -73,7 +74,8 @@ record Split (base new : Stage) (heard : List Doing) (bytes : List ℕ) (answers
 
 split_as : {base new : Stage} {heard heard' : List Doing} {bytes bytes' : List ℕ} {answers answers' : List Outcome}
     {hearings hearings' : List Hearing}
-    → heard' ≡ heard → bytes' ≡ bytes → answers' ≡ answers → hearings' ≡ hearings → Split base new heard bytes answers hearings
+    → heard' ≡ heard → bytes' ≡ bytes → answers' ≡ answers → hearings' ≡ hearings
+    → Split base new heard bytes answers hearings
     → Split base new heard' bytes' answers' hearings'
 split_as {base} {new} {answers} one two three four split = record {
   first = split.first;
@@ -89,14 +91,15 @@ split_as {base} {new} {answers} one two three four split = record {
   hearings_are = four ∙ split.hearings_are;
 }
 
-heard-append : (xs ys : List ℕ) → bytes_heard (xs ++ ys) ≡ bytes_heard xs ++ bytes_heard ys
-heard-append [] ys = refl
-heard-append (x ∷ xs) ys = ap (λ ds. HeardBytes (x ∷ []) ∷ ds) (heard-append xs ys)
+heard_append : (xs ys : List ℕ) → bytes_heard (xs ++ ys) ≡ bytes_heard xs ++ bytes_heard ys
+heard_append [] ys = refl
+heard_append (x ∷ xs) ys = ap (λ ds. HeardBytes (x ∷ []) ∷ ds) (heard_append xs ys)
 
-answers-append : (xs ys : List Outcome) → answers_in (xs ++ ys) ≡ answers_in xs ++ answers_in ys
-answers-append [] ys = refl
-answers-append (x ∷ xs) ys =
-    ap (λ os. answer_in x ++ os) (answers-append xs ys) ∙ sym (append_assoc (answer_in x) (answers_in xs) (answers_in ys))
+answers_append : (xs ys : List Outcome) → answers_in (xs ++ ys) ≡ answers_in xs ++ answers_in ys
+answers_append [] ys = refl
+answers_append (x ∷ xs) ys =
+    ap (λ os. answer_in x ++ os) (answers_append xs ys)
+    ∙ sym (append_assoc (answer_in x) (answers_in xs) (answers_in ys))
 
 -- what comes after an event: the course from there, for each place that it begins at
 record Later (mid new : Stage) (heard : List Doing) (bytes : List ℕ) (answers : List Outcome)
@@ -117,24 +120,30 @@ bytes_split : {base opened mid new : Stage} {heard : List Doing} {sent taken : L
     opened ≡ longer cur bytes → Path opened mid taken more also → Later mid new heard sent answers hearings →
     Split base new (bytes_heard taken_front.bytes ++ (bytes_heard bytes ++ heard))
     (elements_bytes taken_front.elements ++ (taken ++ sent))
-    (elements_answers taken_front.elements ++ (more ++ answers)) (elements_hearings taken_front.elements ++ (also ++ hearings))
+    (elements_answers taken_front.elements ++ (more ++ answers))
+    (elements_hearings taken_front.elements ++ (also ++ hearings))
 bytes_split {base} {opened} {mid} {new} {heard} {sent} {taken} {answers} {more} {hearings} {also} {cur}
     taken_front bytes comes path later =
     let ps : List Element = path.elements in
     let front : GoesAll (longer base (first ++ bytes)) elements opened =
-    subst (λ s. GoesAll s elements opened) (ap (λ input. stage base.session input) (append_assoc base.input first bytes))
+    subst (λ s. GoesAll s elements opened)
+    (ap (λ input. stage base.session input) (append_assoc base.input first bytes))
     (subst (GoesAll (longer (longer base first) bytes) elements) (sym comes)
     (goes_grow (longer base first) cur elements bytes goes)) in
     let all : GoesAll (longer base (first ++ bytes)) (elements ++ ps) mid =
-    join_goes (longer base (first ++ bytes)) (record { old = opened; new = mid; elements = ps; leads = path.goes }) elements front in
+    join_goes (longer base (first ++ bytes)) (record { old = opened; new = mid; elements = ps; leads = path.goes })
+    elements front in
     split_as {base = base} {new = new} {heard = bytes_heard (first ++ bytes) ++ heard}
     {heard' = bytes_heard first ++ (bytes_heard bytes ++ heard)}
     {bytes = elements_bytes (elements ++ ps) ++ sent} {bytes' = elements_bytes elements ++ (taken ++ sent)}
     {answers = elements_answers (elements ++ ps) ++ answers}
     {answers' = elements_answers elements ++ (more ++ answers)}
-    {hearings = elements_hearings (elements ++ ps) ++ hearings} {hearings' = elements_hearings elements ++ (also ++ hearings)}
-    (sym (append_assoc (bytes_heard first) (bytes_heard bytes) heard) ∙ ap (λ ds. ds ++ heard) (sym (heard-append first bytes)))
-    (sym (append_assoc (elements_bytes elements) taken sent) ∙ ap (λ bs. (elements_bytes elements ++ bs) ++ sent) (sym path.bytes_are)
+    {hearings = elements_hearings (elements ++ ps) ++ hearings}
+    {hearings' = elements_hearings elements ++ (also ++ hearings)}
+    (sym (append_assoc (bytes_heard first) (bytes_heard bytes) heard)
+    ∙ ap (λ ds. ds ++ heard) (sym (heard_append first bytes)))
+    (sym (append_assoc (elements_bytes elements) taken sent) ∙ ap (λ bs. (elements_bytes elements ++ bs) ++ sent)
+    (sym path.bytes_are)
     ∙ ap (λ bs. bs ++ sent) (sym (join_bytes elements ps)))
     (sym (append_assoc (elements_answers elements) more answers)
     ∙ ap (λ os. (elements_answers elements ++ os) ++ answers) (sym path.answers_are)
@@ -153,7 +162,8 @@ slot_split : {base cur opened mid new : Stage} {slot : ℕ} {due : List Part} {h
     Path opened mid taken more also → Later mid new heard sent answers hearings →
     Split base new (bytes_heard front.bytes ++ (HeardSlot slot ∷ heard))
     (elements_bytes front.elements ++ (parts_bytes due ++ (taken ++ sent)))
-    (elements_answers front.elements ++ (answer_in halt ++ (more ++ answers))) (elements_hearings front.elements ++ (also ++ hearings))
+    (elements_answers front.elements ++ (answer_in halt ++ (more ++ answers)))
+    (elements_hearings front.elements ++ (also ++ hearings))
 slot_split {base} {cur} {opened} {mid} {new} {slot} {due} {halt} {sent} {taken} {answers} {more} {hearings}
     front done input stepped path later =
     let ps : List Element = path.elements in
@@ -185,7 +195,8 @@ slot_split {base} {cur} {opened} {mid} {new} {slot} {due} {halt} {sent} {taken} 
           ap (λ os. elements_answers elements ++ (answer_in halt ++ os))
           (ap (λ os. os ++ answers) (sym path.answers_are) ∙ rest.answers_are);
       hearings_are =
-          ap (λ hs. elements_hearings elements ++ hs) (ap (λ hs. hs ++ hearings) (sym path.hearings_are) ∙ rest.hearings_are);
+          ap (λ hs. elements_hearings elements ++ hs) (ap (λ hs. hs ++ hearings) (sym path.hearings_are)
+          ∙ rest.hearings_are);
     }
   where
     open front use {bytes as first, elements, goes}
@@ -198,13 +209,15 @@ event_split : {base cur opened mid new : Stage} {heard : List Doing} {sent taken
     (elements_bytes front.elements ++ (parts_bytes come.due ++ (taken ++ sent)))
     (elements_answers front.elements ++ (answer_in come.halt ++ (more ++ answers)))
     (elements_hearings front.elements ++ (also ++ hearings))
-event_split {base} {cur} {opened} {new} {heard} {sent} {taken} {answers} {more} {hearings} {also} {event = HeardBytes bytes} front
+event_split {base} {cur} {opened} {new} {heard} {sent} {taken} {answers} {more} {hearings} {also}
+    {event = HeardBytes bytes} front
     come done path later =
     subst (λ ps. Split base new (bytes_heard first ++ (bytes_heard bytes ++ heard))
     (elements_bytes elements ++ (parts_bytes ps ++ (taken ++ sent)))
     (elements_answers elements ++ (answer_in come.halt ++ (more ++ answers)))
     (elements_hearings elements ++ (also ++ hearings))) (sym come.comes.0)
-    (subst (λ h. Split base new (bytes_heard first ++ (bytes_heard bytes ++ heard)) (elements_bytes elements ++ (taken ++ sent))
+    (subst (λ h. Split base new (bytes_heard first ++ (bytes_heard bytes ++ heard))
+    (elements_bytes elements ++ (taken ++ sent))
     (elements_answers elements ++ (answer_in h ++ (more ++ answers)))
     (elements_hearings elements ++ (also ++ hearings))) (sym come.comes.1)
     (bytes_split front bytes come.comes.3 path later))
@@ -212,8 +225,10 @@ event_split {base} {cur} {opened} {new} {heard} {sent} {taken} {answers} {more} 
     open front use {bytes as first, elements}
 event_split {base} {opened} {new} {taken} {answers} {more} {event = HeardSlot slot} front come done path later =
     slot_split front done come.comes.0 come.comes.1 path later
-event_split {base} {opened} {new} {taken} {answers} {more} {event = HeardEnd} front come done path later = absurd come.comes
-event_split {base} {opened} {new} {taken} {answers} {more} {event = Sent byte} front come done path later = absurd come.comes
+event_split {base} {opened} {new} {taken} {answers} {more} {event = HeardEnd} front come done path later =
+    absurd come.comes
+event_split {base} {opened} {new} {taken} {answers} {more} {event = Sent byte} front come done path later =
+    absurd come.comes
 
 -- event after event
 rounds_split : (cur new : Stage) (rounds : List Round) (takes : TakesUp cur rounds new) → IsDone cur
@@ -251,7 +266,7 @@ rounds_split cur new (round ∷ rounds) takes done =
           refl
           (ap (λ bs. elements_bytes elements ++ bs) (append_assoc (parts_bytes round.due) tb rb))
           (ap (λ os. elements_answers elements ++ (answer_in round.halt ++ os))
-          (answers-append (takings_outcomes round.takings) (rounds_outcomes rounds))) refl
+          (answers_append (takings_outcomes round.takings) (rounds_outcomes rounds))) refl
           (event_split (record { bytes = first; elements = elements; goes = goes })
           (record { due = round.due; halt = round.halt; comes = runs.comes }) done path later);
     }
@@ -295,7 +310,8 @@ no_bytes : (legs : List Leg) → is_bytes (legs_heard legs) ≡ false
 no_bytes [] = refl
 no_bytes (leg ∷ legs) = refl
 
-heard_split : (xs ys : List ℕ) (one other : List Leg) → bytes_heard xs ++ legs_heard one ≡ bytes_heard ys ++ legs_heard other
+heard_split : (xs ys : List ℕ) (one other : List Leg) → bytes_heard xs ++ legs_heard one ≡ bytes_heard ys
+    ++ legs_heard other
     → (xs ≡ ys) × (legs_heard one ≡ legs_heard other)
 heard_split [] [] one other same = (refl, same)
 heard_split [] (y ∷ ys) one other same = absurd (true≢false (sym (ap is_bytes same) ∙ no_bytes one))
@@ -322,7 +338,8 @@ record LegsAlike (xs ys : List Leg) : Type 0 where
 legs_same : {one other : Stage} {xs ys : List Leg} (old : Stage) → AreFilms old.session.films → LegsAll old xs one →
     LegsAll old ys other → LegsAlike xs ys → SameLegs one other (legs_bytes xs) (legs_bytes ys)
 legs_same {one} {other} {xs = []} {ys = []} old films legs too alike = record { last = too ∙ sym legs; bytes = refl }
-legs_same {one} {other} {xs = []} {ys = y ∷ ys} old films legs too alike = absurd (true≢false (sym (ap is_some alike.heard)))
+legs_same {one} {other} {xs = []} {ys = y ∷ ys} old films legs too alike =
+    absurd (true≢false (sym (ap is_some alike.heard)))
 legs_same {one} {other} {xs = x ∷ xs} {ys = []} old films legs too alike = absurd (true≢false (ap is_some alike.heard))
 legs_same {one} {other} {xs = x ∷ xs} {ys = y ∷ ys} old films legs too alike =
     let leg : IsLeg old x = legs.0 in
@@ -336,7 +353,8 @@ legs_same {one} {other} {xs = x ∷ xs} {ys = y ∷ ys} old films legs too alike
     let place : longer y.opened y.bytes ≡ longer x.opened x.bytes =
     ap (λ s. longer s y.bytes) opened ∙ ap (λ bs. longer x.opened bs) (sym cut.0) in
     let kept : AreFilms x.opened.session.films =
-    subst AreFilms (sym (stepped_films old.session x.slot x.due x.halt x.opened.session leg.stepped)) films in
+    subst AreFilms (sym (ap (λ (n : List Stored × List ℕ). n.0)
+    (stepped_names old.session x.slot x.due x.halt x.opened.session leg.stepped))) films in
     let ends = ends_same x.elements y.elements kept (record { goes = leg.goes; done = leg.done })
     (record { goes = subst (λ s. GoesAll s y.elements y.until) place again.goes; done = again.done })
     (record { answers = step.2; memory = memory }) in
@@ -372,7 +390,8 @@ splits_same {base} {one} {other} {ones} {hearings} films x y same answers memory
     }) in
     let there : AreFilms x.until.session.films =
     subst AreFilms (sym (goes_films (longer base x.first) x.until x.elements x.goes)) films in
-    let rest = legs_same {xs = x.legs} x.until there x.legs_are (subst (λ s. LegsAll s y.legs other) ends.last y.legs_are)
+    let rest = legs_same {xs = x.legs} x.until there x.legs_are
+    (subst (λ s. LegsAll s y.legs other) ends.last y.legs_are)
     (record { heard = cut.1; answers = ends.answers; memory = ends.memory }) in
     record {
       last = rest.last;
@@ -409,7 +428,8 @@ takes_all old new (round ∷ rounds) runs = (runs.0, (runs.1.0, inl runs.1.1, ta
 
 pub takes_last : {mid new : Stage} {round : Round} (old : Stage) (rounds : List Round) (end : ConnEnd) →
     RunsAll old rounds mid → Runs mid round new → IsStopped end new → TakesUp old (rounds ++ round ∷ []) new
-takes_last {new} {round} old [] end runs last stopped = (new, (subst (λ s. Runs s round new) runs last, inr (end, stopped), refl))
+takes_last {new} {round} old [] end runs last stopped =
+    (new, (subst (λ s. Runs s round new) runs last, inr (end, stopped), refl))
 takes_last {mid} {new} {round} old (first ∷ rounds) end runs last stopped =
     (runs.0, (runs.1.0, inl runs.1.1, takes_last runs.0 rounds end runs.1.2 last stopped))
 
@@ -427,7 +447,8 @@ same_fronts [] more other further same = tt
 same_fronts (x ∷ one) more [] further same = tt
 same_fronts (x ∷ one) more (y ∷ other) further same = (same.0, same_fronts one more other further same.1)
 
-pub lack_fronts : (one more other further : List Hearing) → AllLackAlike (one ++ more) (other ++ further) → AllLackAlike one other
+pub lack_fronts : (one more other further : List Hearing) → AllLackAlike (one ++ more) (other ++ further)
+    → AllLackAlike one other
 lack_fronts [] more other further alike = tt
 lack_fronts (x ∷ one) more [] further alike = tt
 lack_fronts (x ∷ one) more (y ∷ other) further alike = (alike.0, lack_fronts one more other further alike.1)

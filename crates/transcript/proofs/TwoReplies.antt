@@ -1,16 +1,18 @@
 -- The replies to two requests before a play stand before its film, and those to requests once it was due after it.
 use Rattle.std.proofs.Common.{◌≡◌, ℕ, ◌+◌, ◌<◌, ◌≤◌, List, [], ◌∷◌, drop, ap, ◌∙◌, arith, inl}
 use Rattle.film_frames.specs.Tracks.{IsBoundary}
-use Rattle.transcript.specs.Asked.{AreMessages, IsDueBy}
+use Rattle.session.specs.WholeReplies.{IsMessage}
+use Rattle.transcript.specs.Asked.{IsDueBy}
 use Rattle.transcript.specs.Places.{AreSentAt, IsBoundaryIn, IsSentAt, IsUnsentAt}
-use Rattle.transcript.specs.Played.{AreAfter, IsMessage}
+use Rattle.transcript.specs.Played.{AreAfter}
 use Rattle.transcript.specs.Plays.{FilmPlay, due_by, due_of}
 use Rattle.transcript.specs.Replies.{PlacedText, placed_text}
 use Rattle.transcript.proofs.OnePlay.{AreBefore}
+use Rattle.transcript.proofs.WholeReplies.{AreMessages}
 use Rattle.transcript.proofs.Places.{none_due}
 
-first-boundary : (play : FilmPlay) → play.before ≡ 0 → IsBoundaryIn (play ∷ []) 0
-first-boundary play before =
+first_boundary : (play : FilmPlay) → play.before ≡ 0 → IsBoundaryIn (play ∷ []) 0
+first_boundary play before =
     let starts : IsBoundary play.pieces (play.before + 0) = record {
       number = 0;
       among = omega arith;
@@ -18,23 +20,23 @@ first-boundary play before =
     } in
     inl (omega arith, starts)
 
-none-yet : (slot : ℕ) (play : FilmPlay) → slot < play.start → due_by slot (play ∷ []) ≡ 0
-none-yet slot play late = none_due slot (play ∷ []) (late, tt)
+none_yet : (slot : ℕ) (play : FilmPlay) → slot < play.start → due_by slot (play ∷ []) ≡ 0
+none_yet slot play late = none_due slot (play ∷ []) (late, tt)
 
 -- a reply before the play is sent, at the film's first place
-sent-first : {play : FilmPlay} {now slot : ℕ} {placed : PlacedText} → play.before ≡ 0 → slot < play.start
+sent_first : {play : FilmPlay} {now slot : ℕ} {placed : PlacedText} → play.before ≡ 0 → slot < play.start
     → IsSentAt now (play ∷ []) slot placed → placed ≡ placed_text 0 placed.text
-sent-first {play} {now} {slot} {placed} before late sent =
-    let none = none-yet slot play late in
-    let least : placed.place ≤ 0 = sent.next.least 0 (first-boundary play before) (omega (arith, none)) in
+sent_first {play} {now} {slot} {placed} before late sent =
+    let none = none_yet slot play late in
+    let least : placed.place ≤ 0 = sent.next.least 0 (first_boundary play before) (omega (arith, none)) in
     let here : placed.place ≡ 0 = omega (arith, least) in
     ap (λ n. record placed { place = n }) here
 
-never-unsent : {slot : ℕ} (play : FilmPlay) (now : ℕ) → play.before ≡ 0 → slot < play.start
+never_unsent : {slot : ℕ} (play : FilmPlay) (now : ℕ) → play.before ≡ 0 → slot < play.start
     → IsUnsentAt now (play ∷ []) slot → ⊥
-never-unsent {slot} play now before late unsent =
-    let none = none-yet slot play late in
-    let below : due_by now (play ∷ []) < 0 = unsent 0 (first-boundary play before) (omega (arith, none)) in
+never_unsent {slot} play now before late unsent =
+    let none = none_yet slot play late in
+    let below : due_by now (play ∷ []) < 0 = unsent 0 (first_boundary play before) (omega (arith, none)) in
     omega (arith, below)
 
 -- replies to requests that were taken up once the film was due
@@ -44,16 +46,16 @@ record AreOnceDue (play : FilmPlay) (now : ℕ) (slots : List ℕ) (texts : List
   messages : AreMessages texts
 
 -- they stand after it
-after-film : {play : FilmPlay} {now total : ℕ} (slots : List ℕ) (texts : List PlacedText) → total ≡ play.keep
+after_film : {play : FilmPlay} {now total : ℕ} (slots : List ℕ) (texts : List PlacedText) → total ≡ play.keep
     → AreOnceDue play now slots texts → AreAfter total texts
-after-film slots [] total_is replies = tt
-after-film [] (placed ∷ texts) total_is replies = absurd replies.sent
-after-film {play} {now} {total} (slot ∷ slots) (placed ∷ texts) total_is replies =
+after_film slots [] total_is replies = tt
+after_film [] (placed ∷ texts) total_is replies = absurd replies.sent
+after_film {play} {now} {total} (slot ∷ slots) (placed ∷ texts) total_is replies =
     let after : due_by slot (play ∷ []) ≤ placed.place = replies.sent.0.next.after in
     let all : due_of slot play ≡ play.keep = replies.due.0 in
     let rest : AreOnceDue play now slots texts =
     record { due = replies.due.1; sent = replies.sent.1; messages = replies.messages.1 } in
-    (omega (arith, after, all, total_is), replies.messages.0, after-film slots texts total_is rest)
+    (omega (arith, after, all, total_is), replies.messages.0, after_film slots texts total_is rest)
 
 -- two replies in front, and the others after the film
 pub record AreTwoFirst (total : ℕ) (texts : List PlacedText) : Type 0 where
@@ -74,17 +76,17 @@ pub record AreReplies (play : FilmPlay) (now total : ℕ) (slots : List ℕ) (te
   pub sent : AreSentAt now (play ∷ []) slots texts
   pub messages : AreMessages texts
 
-pub two-first : {play : FilmPlay} {now total : ℕ} (slots : List ℕ) (texts : List PlacedText)
+pub two_first : {play : FilmPlay} {now total : ℕ} (slots : List ℕ) (texts : List PlacedText)
     → AreReplies play now total slots texts → AreTwoFirst total texts
-two-first [] texts replies = absurd replies.before
-two-first (one ∷ []) texts replies = absurd replies.before.1
-two-first {play} {now} (one ∷ two ∷ slots) [] replies =
-    absurd (never-unsent play now replies.begins replies.before.0 replies.sent.0)
-two-first {play} {now} (one ∷ two ∷ slots) (first ∷ []) replies =
-    absurd (never-unsent play now replies.begins replies.before.1.0 replies.sent.1.0)
-two-first {play} {now} {total} (one ∷ two ∷ slots) (first ∷ second ∷ later) replies =
-    let at_first = sent-first {play = play} replies.begins replies.before.0 replies.sent.0 in
-    let at_second = sent-first {play = play} replies.begins replies.before.1.0 replies.sent.1.0 in
+two_first [] texts replies = absurd replies.before
+two_first (one ∷ []) texts replies = absurd replies.before.1
+two_first {play} {now} (one ∷ two ∷ slots) [] replies =
+    absurd (never_unsent play now replies.begins replies.before.0 replies.sent.0)
+two_first {play} {now} (one ∷ two ∷ slots) (first ∷ []) replies =
+    absurd (never_unsent play now replies.begins replies.before.1.0 replies.sent.1.0)
+two_first {play} {now} {total} (one ∷ two ∷ slots) (first ∷ second ∷ later) replies =
+    let at_first = sent_first {play = play} replies.begins replies.before.0 replies.sent.0 in
+    let at_second = sent_first {play = play} replies.begins replies.before.1.0 replies.sent.1.0 in
     let rest : AreOnceDue play now slots later =
     record { due = replies.due; sent = replies.sent.1.1; messages = replies.messages.1.1 } in
     record {
@@ -94,5 +96,5 @@ two-first {play} {now} {total} (one ∷ two ∷ slots) (first ∷ second ∷ lat
       texts_are = ap (λ t. t ∷ second ∷ later) at_first ∙ ap (λ t. placed_text 0 first.text ∷ t ∷ later) at_second;
       first_is = replies.messages.0;
       second_is = replies.messages.1.0;
-      after = after-film slots later replies.total_is rest;
+      after = after_film slots later replies.total_is rest;
     }

@@ -25,29 +25,32 @@ use Rattle.film_frames.proofs.TrackLemmas.{begin-all}
 use Rattle.rtsp_client.specs.Answers.{moments_in, moments_of}
 use Rattle.rtsp_client.specs.Moments.{Frame, Moment, Reply, Report, Slot, is_last}
 use Rattle.rtsp_client.specs.Promises.{frames_of}
-use Rattle.transcript.proofs.Blocks.{blocks-append, frame_block, frame_blocks, frame-moment}
-use Rattle.transcript.proofs.Blocks.{frames_after, last-is, octets_after, report_block, report_if}
-use Rattle.transcript.proofs.Blocks.{report-moment, unit-among, unit_blocks, unit-made, unit-one}
-use Rattle.transcript.proofs.Counting.{count-past, count-within}
-use Rattle.transcript.proofs.Sums.{AreOneBlocks, Sum, blocks-one-append, blocks-same, plays, step, steps, steps-on}
+use Rattle.transcript.proofs.Blocks.{blocks_append, frame_block, frame_blocks, frame_moment}
+use Rattle.transcript.proofs.Blocks.{frames_after, last_is, octets_after, report_block, report_if}
+use Rattle.transcript.proofs.Blocks.{report_moment, unit_among, unit_blocks, unit_made, unit_one}
+use Rattle.transcript.proofs.Counting.{count_past, count_within}
+use Rattle.transcript.proofs.Sums.{AreOneBlocks, Sum, blocks_one_append, blocks_same, plays, step, steps, steps_on}
 use Rattle.transcript.proofs.Blocks.{RunFrom}
 
 -- the moments of blocks, in two parts
-pub moments-parts : (xs ys : List (List ℕ)) → moments_in (xs ++ ys) ≡ moments_in xs ++ moments_in ys
-moments-parts [] ys = refl
-moments-parts (x ∷ xs) ys =
-    ap (λ ms. moments_of x ++ ms) (moments-parts xs ys) ∙ sym (append_assoc (moments_of x) (moments_in xs) (moments_in ys))
+pub moments_parts : (xs ys : List (List ℕ)) → moments_in (xs ++ ys) ≡ moments_in xs ++ moments_in ys
+moments_parts [] ys = refl
+moments_parts (x ∷ xs) ys =
+    ap (λ ms. moments_of x ++ ms) (moments_parts xs ys)
+    ∙ sym (append_assoc (moments_of x) (moments_in xs) (moments_in ys))
 
 -- ---- the frames of a unit
 
 -- the sizes after a frame
-pub frame-sizes : (b : List ℕ) (bs : List (List ℕ)) (s : Sum) (P : Sum → Type 0) → moments_of b ≡ Frame b ∷ []
+pub frame_sizes : (b : List ℕ) (bs : List (List ℕ)) (s : Sum) (P : Sum → Type 0) → moments_of b ≡ Frame b ∷ []
     → P (steps (step (Frame b) s) (moments_in bs)) → P (steps s (moments_in (b ∷ bs)))
-frame-sizes b bs s P is met = let Q : List Moment → Type 0 = λ l. P (steps s (l ++ moments_in bs)) in subst Q (sym is) met
+frame_sizes b bs s P is met = let Q : List Moment → Type 0 = λ l. P (steps s (l ++ moments_in bs)) in
+    subst Q (sym is) met
 
-pub report-sizes : (b : List ℕ) (bs : List (List ℕ)) (s : Sum) (P : Sum → Type 0) → moments_of b ≡ Report b ∷ []
+pub report_sizes : (b : List ℕ) (bs : List (List ℕ)) (s : Sum) (P : Sum → Type 0) → moments_of b ≡ Report b ∷ []
     → P (steps (step (Report b) s) (moments_in bs)) → P (steps s (moments_in (b ∷ bs)))
-report-sizes b bs s P is met = let Q : List Moment → Type 0 = λ l. P (steps s (l ++ moments_in bs)) in subst Q (sym is) met
+report_sizes b bs s P is met = let Q : List Moment → Type 0 = λ l. P (steps s (l ++ moments_in bs)) in
+    subst Q (sym is) met
 
 -- a unit of a run on channel 0, with the frames that the run sent before
 record UnitOfRun : Type 0 where
@@ -57,19 +60,19 @@ record UnitOfRun : Type 0 where
   media : run.identity.channel ≡ 0
 
 -- before the last frame the sizes are as they were
-part-frames : (of_run : UnitOfRun) (k : ℕ) (packets : List Packet) (s : Sum) → IsLastMarked packets →
+part_frames : (of_run : UnitOfRun) (k : ℕ) (packets : List Packet) (s : Sum) → IsLastMarked packets →
     k < length (frame_blocks of_run.run of_run.unit of_run.frames packets) →
     (steps s (moments_in (take k (frame_blocks of_run.run of_run.unit of_run.frames packets)))).sizes ≡ s.sizes
-part-frames of_run zero packets s marked few = refl
-part-frames of_run (suc k) [] s marked few = absurd (omega (arith, few))
-part-frames of_run (suc k) (p ∷ []) s marked few = absurd (omega (arith, few))
-part-frames of_run (suc k) (p ∷ (q ∷ packets)) s marked few =
+part_frames of_run zero packets s marked few = refl
+part_frames of_run (suc k) [] s marked few = absurd (omega (arith, few))
+part_frames of_run (suc k) (p ∷ []) s marked few = absurd (omega (arith, few))
+part_frames of_run (suc k) (p ∷ (q ∷ packets)) s marked few =
     let b = frame_block run unit p f in
-    frame-sizes b (take k (frame_blocks run unit (f + 1) (q ∷ packets))) s (λ t. t.sizes ≡ s.sizes)
-    (frame-moment run f unit p media)
-    (part-frames (record { run = run; frames = f + 1; unit = unit; media = media }) k (q ∷ packets)
+    frame_sizes b (take k (frame_blocks run unit (f + 1) (q ∷ packets))) s (λ t. t.sizes ≡ s.sizes)
+    (frame_moment run f unit p media)
+    (part_frames (record { run = run; frames = f + 1; unit = unit; media = media }) k (q ∷ packets)
     (step (Frame b) s) marked.1 (omega (arith, few))
-    ∙ cond-false (is_last b) (s.sizes ++ (s.pending + length b) ∷ []) s.sizes (last-is run f unit p ∙ marked.0))
+    ∙ cond-false (is_last b) (s.sizes ++ (s.pending + length b) ∷ []) s.sizes (last_is run f unit p ∙ marked.0))
   where
     open of_run use {run, frames as f, unit, media}
 
@@ -79,38 +82,41 @@ pub record IsUnitDone (s : Sum) (size : ℕ) (t : Sum) : Type 0 where
   pub pending : t.pending ≡ 0
   pub inside : t.inside ≡ false
 
-whole-frames : {s : Sum} (of_run : UnitOfRun) (packets : List Packet) → IsLastMarked packets → 0 < length packets →
+whole_frames : {s : Sum} (of_run : UnitOfRun) (packets : List Packet) → IsLastMarked packets → 0 < length packets →
     IsUnitDone s (s.pending + length (framed_bytes (frame_blocks of_run.run of_run.unit of_run.frames packets)))
     (steps s (moments_in (frame_blocks of_run.run of_run.unit of_run.frames packets)))
-whole-frames {s} of_run [] marked some = absurd (omega (arith, some))
-whole-frames {s} of_run (p ∷ []) marked some =
+whole_frames {s} of_run [] marked some = absurd (omega (arith, some))
+whole_frames {s} of_run (p ∷ []) marked some =
     let b = frame_block run unit p f in
-    let last : is_last b ≡ true = last-is run f unit p ∙ marked in
+    let last : is_last b ≡ true = last_is run f unit p ∙ marked in
     let size : s.pending + length b ≡ s.pending + length (b ++ []) =
     ap (λ (l : List ℕ). s.pending + length l) (sym (append-nil b)) in
-    frame-sizes b [] s (λ t. IsUnitDone s (s.pending + length (b ++ [])) t) (frame-moment run f unit p media)
+    frame_sizes b [] s (λ t. IsUnitDone s (s.pending + length (b ++ [])) t) (frame_moment run f unit p media)
     (record {
-      sizes = cond-true (is_last b) (s.sizes ++ (s.pending + length b) ∷ []) s.sizes last ∙ ap (λ n. s.sizes ++ n ∷ []) size;
+      sizes = cond-true (is_last b) (s.sizes ++ (s.pending + length b) ∷ []) s.sizes last
+          ∙ ap (λ n. s.sizes ++ n ∷ []) size;
       pending = cond-true (is_last b) 0 (s.pending + length b) last;
       inside = ap not last;
     })
   where
     open of_run use {run, frames as f, unit, media}
-whole-frames {s} of_run (p ∷ (q ∷ packets)) marked some =
+whole_frames {s} of_run (p ∷ (q ∷ packets)) marked some =
     let b = frame_block run unit p f in
-    let last : is_last b ≡ false = last-is run f unit p ∙ marked.0 in
+    let last : is_last b ≡ false = last_is run f unit p ∙ marked.0 in
     let blocks = frame_blocks run unit (f + 1) (q ∷ packets) in
     let t = step (Frame b) s in
-    let rest = whole-frames {s = t} (record { run = run; frames = f + 1; unit = unit; media = media })
+    let rest = whole_frames {s = t} (record { run = run; frames = f + 1; unit = unit; media = media })
     (q ∷ packets) marked.1 (omega arith) in
     let sizes_same = cond-false (is_last b) (s.sizes ++ (s.pending + length b) ∷ []) s.sizes last in
     let pending_is = cond-false (is_last b) 0 (s.pending + length b) last in
     let size : t.pending + length (framed_bytes blocks) ≡ s.pending + length (b ++ framed_bytes blocks) =
     omega (arith, pending_is, length-append b (framed_bytes blocks)) in
-    frame-sizes b blocks s (λ u. IsUnitDone s (s.pending + length (b ++ framed_bytes blocks)) u) (frame-moment run f unit p media)
+    frame_sizes b blocks s (λ u. IsUnitDone s (s.pending + length (b ++ framed_bytes blocks)) u)
+    (frame_moment run f unit p media)
     (record {
       sizes = rest.sizes
-          ∙ (ap (λ l. l ++ (t.pending + length (framed_bytes blocks)) ∷ []) sizes_same ∙ ap (λ n. s.sizes ++ n ∷ []) size);
+          ∙ (ap (λ l. l ++ (t.pending + length (framed_bytes blocks)) ∷ []) sizes_same
+          ∙ ap (λ n. s.sizes ++ n ∷ []) size);
       pending = rest.pending;
       inside = rest.inside;
     })
@@ -125,21 +131,24 @@ record MarkedUnit : Type 0 where
   packets : List Packet
   marked : IsLastMarked packets
 
-part-unit : (starts : Bool) (from : RunFrom) (k : ℕ) (marked_unit : MarkedUnit) (s : Sum) →
-    k < length (report_if starts from.run marked_unit.unit from.frames from.octets ++ frame_blocks from.run marked_unit.unit
+part_unit : (starts : Bool) (from : RunFrom) (k : ℕ) (marked_unit : MarkedUnit) (s : Sum) →
+    k < length (report_if starts from.run marked_unit.unit from.frames from.octets
+    ++ frame_blocks from.run marked_unit.unit
     from.frames marked_unit.packets) →
-    (steps s (moments_in (take k (report_if starts from.run marked_unit.unit from.frames from.octets ++ frame_blocks from.run
+    (steps s (moments_in (take k (report_if starts from.run marked_unit.unit from.frames from.octets
+    ++ frame_blocks from.run
     marked_unit.unit from.frames marked_unit.packets)))).sizes ≡ s.sizes
-part-unit false from k marked_unit s few =
-    part-frames (record { run = run; frames = f; unit = marked_unit.unit; media = media }) k
+part_unit false from k marked_unit s few =
+    part_frames (record { run = run; frames = f; unit = marked_unit.unit; media = media }) k
     marked_unit.packets s marked_unit.marked few
   where
     open from use {run, frames as f, media}
-part-unit true from zero marked_unit s few = refl
-part-unit true from (suc k) marked_unit s few =
+part_unit true from zero marked_unit s few = refl
+part_unit true from (suc k) marked_unit s few =
     let b = report_block run unit f o in
-    report-sizes b (take k (frame_blocks run unit f packets)) s (λ t. t.sizes ≡ s.sizes) (report-moment run f o unit control)
-    (part-frames (record { run = run; frames = f; unit = unit; media = media }) k packets (step (Report b) s)
+    report_sizes b (take k (frame_blocks run unit f packets)) s (λ t. t.sizes ≡ s.sizes)
+    (report_moment run f o unit control)
+    (part_frames (record { run = run; frames = f; unit = unit; media = media }) k packets (step (Report b) s)
     marked (omega (arith, few)))
   where
     open from use {run, frames as f, octets as o, media, control}
@@ -151,7 +160,7 @@ pub record AtUnit (s : Sum) : Type 0 where
   pub none : s.pending ≡ 0
   pub outside : s.inside ≡ false
 
-whole-unit : {s : Sum} (starts : Bool) (from : RunFrom) (marked_unit : MarkedUnit) → 0 < length marked_unit.packets →
+whole_unit : {s : Sum} (starts : Bool) (from : RunFrom) (marked_unit : MarkedUnit) → 0 < length marked_unit.packets →
     AtUnit s →
     IsUnitDone s
     (length (framed_bytes (report_if starts from.run marked_unit.unit from.frames from.octets ++ frame_blocks from.run
@@ -159,8 +168,8 @@ whole-unit : {s : Sum} (starts : Bool) (from : RunFrom) (marked_unit : MarkedUni
     (steps s (moments_in
     (report_if starts from.run marked_unit.unit from.frames from.octets ++ frame_blocks from.run marked_unit.unit
     from.frames marked_unit.packets)))
-whole-unit {s} false from marked_unit some between =
-    let done = whole-frames (record { run = run; frames = f; unit = unit; media = media }) packets marked some in
+whole_unit {s} false from marked_unit some between =
+    let done = whole_frames (record { run = run; frames = f; unit = unit; media = media }) packets marked some in
     let size : s.pending + length (framed_bytes (frame_blocks run unit f packets)) ≡ length
     (framed_bytes (frame_blocks run unit f packets)) = omega (arith, between.none) in
     record {
@@ -171,11 +180,11 @@ whole-unit {s} false from marked_unit some between =
   where
     open from use {run, frames as f, media}
     open marked_unit use {unit, packets, marked}
-whole-unit {s} true from marked_unit some between =
+whole_unit {s} true from marked_unit some between =
     let b = report_block run unit f o in
     let t = step (Report b) s in
     let blocks = frame_blocks run unit f packets in
-    let done = whole-frames (record { run = run; frames = f; unit = unit; media = media }) packets marked some in
+    let done = whole_frames (record { run = run; frames = f; unit = unit; media = media }) packets marked some in
     let waits : t.pending ≡ s.pending + length b = cond-true (plays s && not s.inside) (s.pending + length b) s.pending
     (and_from (plays s) (not s.inside) between.on (ap not between.outside)) in
     let size : t.pending + length (framed_bytes blocks) ≡ length (b ++ framed_bytes blocks) = omega (
@@ -184,7 +193,8 @@ whole-unit {s} true from marked_unit some between =
       between.none,
       length-append b (framed_bytes blocks),
     ) in
-    report-sizes b blocks s (λ u. IsUnitDone s (length (b ++ framed_bytes blocks)) u) (report-moment run f o unit control)
+    report_sizes b blocks s (λ u. IsUnitDone s (length (b ++ framed_bytes blocks)) u)
+    (report_moment run f o unit control)
     (record {
       sizes = done.sizes ∙ ap (λ n. s.sizes ++ n ∷ []) size;
       pending = done.pending;
@@ -203,13 +213,13 @@ pub record HasCome (sizes : List ℕ) (c : ℕ) (s t : Sum) : Type 0 where
   pub among : count ≤ length sizes
   pub next : count < length sizes → c < sum (take (count + 1) sizes)
 
-packets-some : (unit : PictureUnit) (f : Filling) (slices : List ℕ) → 0 < length (packets_from unit f slices)
-packets-some unit f [] = omega arith
-packets-some unit f (l ∷ slices) =
+packets_some : (unit : PictureUnit) (f : Filling) (slices : List ℕ) → 0 < length (packets_from unit f slices)
+packets_some unit f [] = omega arith
+packets_some unit f (l ∷ slices) =
     omega (
       arith,
       length-append (slice_packets unit f l) (packets_from unit (next_filling f l) slices),
-      packets-some unit (next_filling f l) slices,
+      packets_some unit (next_filling f l) slices,
     )
 
 -- a unit has a first packet
@@ -218,90 +228,99 @@ pub record HasPacket (starts : List ℕ) (unit : PictureUnit) : Type 0 where
   pub packets : List Packet
   pub are : unit_packets starts unit ≡ packet ∷ packets
 
-first-there : (starts : List ℕ) (unit : PictureUnit) (packets : List Packet)
+first_there : (starts : List ℕ) (unit : PictureUnit) (packets : List Packet)
     → unit_packets starts unit ≡ packets → 0 < length packets → HasPacket starts unit
-first-there starts unit [] is some = absurd (omega (arith, some))
-first-there starts unit (p ∷ packets) is some = record { packet = p; packets = packets; are = is }
+first_there starts unit [] is some = absurd (omega (arith, some))
+first_there starts unit (p ∷ packets) is some = record { packet = p; packets = packets; are = is }
 
-pub packets-there : (starts : List ℕ) (unit : PictureUnit) → HasPacket starts unit
-packets-there starts unit =
-    first-there starts unit (unit_packets starts unit) refl
-    (packets-some unit (first_portion unit.from unit.head_end) (unit_lengths starts unit))
+pub packets_there : (starts : List ℕ) (unit : PictureUnit) → HasPacket starts unit
+packets_there starts unit =
+    first_there starts unit (unit_packets starts unit) refl
+    (packets_some unit (first_portion unit.from unit.head_end) (unit_lengths starts unit))
 
-unit-marked : (starts : List ℕ) (unit : PictureUnit) → IsLaid starts unit → IsLastMarked (unit_packets starts unit)
-unit-marked starts unit laid =
+unit_marked : (starts : List ℕ) (unit : PictureUnit) → IsLaid starts unit → IsLastMarked (unit_packets starts unit)
+unit_marked starts unit laid =
     last-marked starts unit (unit_packets starts unit) (packets-are starts unit laid) (packets-cover starts unit laid)
 
-unit-size : {starts : List ℕ} {unit : PictureUnit} (run : FramedRun) (f o : ℕ) → IsLaid starts unit → unit.to ≤ length run.film
+unit_size : {starts : List ℕ} {unit : PictureUnit} (run : FramedRun) (f o : ℕ) → IsLaid starts unit
+    → unit.to ≤ length run.film
     → length (framed_bytes (unit_blocks run starts unit f o)) ≡ wire_size starts unit
-unit-size {starts} {unit} run f o laid short =
+unit_size {starts} {unit} run f o laid short =
     let pieces = unit_pieces starts unit in
     let sound = unit-sound run.film starts unit laid short in
     let n = length (blocks_from run f o pieces) in
-    ap (λ bs. length (framed_bytes bs)) (sym (unit-made run f o starts unit))
+    ap (λ bs. length (framed_bytes bs)) (sym (unit_made run f o starts unit))
     ∙ (sym (begin-all (blocks_from run f o pieces)) ∙ (blocks_from-begin run f o pieces n sound
-    ∙ (ap (λ l. wire_in l) (take_all n pieces (omega (arith, blocks_from-count run f o pieces))) ∙ unit-wire starts unit laid)))
+    ∙ (ap (λ l. wire_in l) (take_all n pieces (omega (arith, blocks_from-count run f o pieces)))
+    ∙ unit-wire starts unit laid)))
 
-one-more : (n : ℕ) → suc n + 1 ≡ suc (n + 1)
-one-more n = omega arith
+one_more : (n : ℕ) → suc n + 1 ≡ suc (n + 1)
+one_more n = omega arith
 
 -- the blocks of one unit more
-pub more-blocks : (run : FramedRun) (f o : ℕ) (starts : List ℕ) (unit : PictureUnit) (units : List PictureUnit)
+pub more_blocks : (run : FramedRun) (f o : ℕ) (starts : List ℕ) (unit : PictureUnit) (units : List PictureUnit)
     → blocks_from run f o (pieces_of starts (unit ∷ units))
     ≡ unit_blocks run starts unit f o
     ++ blocks_from run (frames_after f (unit_pieces starts unit)) (octets_after o (unit_pieces starts unit))
     (pieces_of starts units)
-more-blocks run f o starts unit units =
+more_blocks run f o starts unit units =
     let first = unit_pieces starts unit in
     let rest = pieces_of starts units in
     ap (λ ps. blocks_from run f o ps) (pieces-cons starts unit units)
-    ∙ (blocks-append run f o first rest
-    ∙ ap (λ bs. bs ++ blocks_from run (frames_after f first) (octets_after o first) rest) (unit-made run f o starts unit))
+    ∙ (blocks_append run f o first rest
+    ∙ ap (λ bs. bs ++ blocks_from run (frames_after f first) (octets_after o first) rest)
+    (unit_made run f o starts unit))
 
-pub blocks-one : (from : RunFrom) (starts : List ℕ) (units : List PictureUnit) →
+pub blocks_one : (from : RunFrom) (starts : List ℕ) (units : List PictureUnit) →
     AreOneBlocks (blocks_from from.run from.frames from.octets (pieces_of starts units))
-blocks-one from starts [] = tt
-blocks-one from starts (unit ∷ units) =
+blocks_one from starts [] = tt
+blocks_one from starts (unit ∷ units) =
     let f2 = frames_after f (unit_pieces starts unit) in
     let o2 = octets_after o (unit_pieces starts unit) in
-    subst AreOneBlocks (sym (more-blocks run f o starts unit units))
-    (blocks-one-append (unit_blocks run starts unit f o) (blocks_from run f2 o2 (pieces_of starts units))
-    (unit-one from starts unit)
-    (blocks-one (record from { frames = f2; octets = o2 }) starts units))
+    subst AreOneBlocks (sym (more_blocks run f o starts unit units))
+    (blocks_one_append (unit_blocks run starts unit f o) (blocks_from run f2 o2 (pieces_of starts units))
+    (unit_one from starts unit)
+    (blocks_one (record from { frames = f2; octets = o2 }) starts units))
   where
     open from use {run, frames as f, octets as o}
 
 -- the sizes of the units that are whole
-pub units-come : {c : ℕ} {s : Sum} (from : RunFrom) (starts : List ℕ) (units : List PictureUnit) →
+pub units_come : {c : ℕ} {s : Sum} (from : RunFrom) (starts : List ℕ) (units : List PictureUnit) →
     AreLaid (length from.run.film) starts units → AtUnit s →
     HasCome (map (λ u. wire_size starts u) units) c s
     (steps s (moments_in (take (count_ended c (blocks_from from.run from.frames from.octets (pieces_of starts units)))
     (blocks_from from.run from.frames from.octets (pieces_of starts units)))))
-units-come {c} {s} from starts [] laid between =
-    record { count = 0; sizes_are = sym (append-nil s.sizes); among = omega arith; next = λ less. absurd (omega (arith, less)) }
-units-come {c} {s} from starts (unit ∷ units) laid between =
+units_come {c} {s} from starts [] laid between =
+    record {
+      count = 0;
+      sizes_are = sym (append-nil s.sizes);
+      among = omega arith;
+      next = λ less. absurd (omega (arith, less));
+    }
+units_come {c} {s} from starts (unit ∷ units) laid between =
     let f2 = frames_after f (unit_pieces starts unit) in
     let o2 = octets_after o (unit_pieces starts unit) in
     let xs = unit_blocks run starts unit f o in
     let ys = blocks_from run f2 o2 (pieces_of starts units) in
     let w = wire_size starts unit in
     let sizes = map (λ u. wire_size starts u) units in
-    let size : length (framed_bytes xs) ≡ w = unit-size {starts = starts} {unit = unit} run f o laid.0.1 laid.0.0 in
-    let marked = unit-marked starts unit laid.0.1 in
+    let size : length (framed_bytes xs) ≡ w = unit_size {starts = starts} {unit = unit} run f o laid.0.1 laid.0.0 in
+    let marked = unit_marked starts unit laid.0.1 in
     let some : 0 < length (unit_packets starts unit) =
-    packets-some unit (first_portion unit.from unit.head_end) (unit_lengths starts unit) in
-    let Q : List (List ℕ) → Type 0 = λ bs. HasCome (w ∷ sizes) c s (steps s (moments_in (take (count_ended c bs) bs))) in
+    packets_some unit (first_portion unit.from unit.head_end) (unit_lengths starts unit) in
+    let Q : List (List ℕ)
+    → Type 0 = λ bs. HasCome (w ∷ sizes) c s (steps s (moments_in (take (count_ended c bs) bs))) in
     let R : ℕ → Type 0 = λ k. HasCome (w ∷ sizes) c s (steps s (moments_in (take k (xs ++ ys)))) in
     let S : List (List ℕ) → Type 0 = λ bs. HasCome (w ∷ sizes) c s (steps s (moments_in bs)) in
-    subst Q (sym (more-blocks run f o starts unit units))
+    subst Q (sym (more_blocks run f o starts unit units))
     (elim (cases_lt c w) [
       | inl less ↦
-          let within = count-within xs ys c (omega (arith, less, size)) in
+          let within = count_within xs ys c (omega (arith, less, size)) in
           let k = count_ended c xs in
           subst R (sym within.0) (subst S (sym (take-append-le k xs ys (omega (arith, within.1))))
           (record {
             count = 0;
-            sizes_are = part-unit unit.starts_group from k (record {
+            sizes_are = part_unit unit.starts_group from k (record {
               unit = unit;
               packets = unit_packets starts unit;
               marked = marked;
@@ -312,29 +331,38 @@ units-come {c} {s} from starts (unit ∷ units) laid between =
       | inr more ↦
           let d = c - length (framed_bytes xs) in
           let k = count_ended d ys in
-          let past : count_ended c (xs ++ ys) ≡ length xs + k = count-past xs ys c (omega (arith, more, size)) in
+          let past : count_ended c (xs ++ ys) ≡ length xs + k = count_past xs ys c (omega (arith, more, size)) in
           let t = steps s (moments_in xs) in
           let done : IsUnitDone s (length (framed_bytes xs)) t =
-          whole-unit {s = s} unit.starts_group from (record { unit = unit; packets = unit_packets starts unit; marked = marked })
+          whole_unit {s = s} unit.starts_group from
+          (record { unit = unit; packets = unit_packets starts unit; marked = marked })
           some between in
-          let same = blocks-same xs s (unit-one from starts unit) in
+          let same = blocks_same xs s (unit_one from starts unit) in
           let still : plays t ≡ true = ap (λ n. nat_lt 1 n) same.replies ∙ between.on in
-          let come = units-come {c = d} {s = t} (record from { frames = f2; octets = o2 }) starts units laid.1
+          let come = units_come {c = d} {s = t} (record from { frames = f2; octets = o2 }) starts units laid.1
           (record { on = still; none = done.pending; outside = done.inside }) in
           let u = steps t (moments_in (take k ys)) in
           let all : steps s (moments_in (xs ++ take k ys)) ≡ u =
-          ap (steps s) (moments-parts xs (take k ys)) ∙ steps-on s (moments_in xs) (moments_in (take k ys)) in
+          ap (steps s) (moments_parts xs (take k ys)) ∙ steps_on s (moments_in xs) (moments_in (take k ys)) in
           let T : Sum → Type 0 = λ v. HasCome (w ∷ sizes) c s v in
           subst R (sym past) (subst S (sym (take-append-add xs ys k)) (subst T (sym all)
           (record {
             count = suc come.count;
-            sizes_are = come.sizes_are ∙ (ap (λ l. l ++ take come.count sizes) (done.sizes ∙ ap (λ n. s.sizes ++ n ∷ []) size)
+            sizes_are = come.sizes_are
+                ∙ (ap (λ l. l ++ take come.count sizes) (done.sizes ∙ ap (λ n. s.sizes ++ n ∷ []) size)
                 ∙ append_assoc s.sizes (w ∷ []) (take come.count sizes));
             among = omega (arith, come.among);
             next = λ l.
                 let later : d < sum (take (come.count + 1) sizes) = come.next (omega (arith, l)) in
-                let same_count = ap (λ n. sum (take n (w ∷ sizes))) (one-more come.count) in
-                omega (arith, later, same_count, sum_by-cons (λ (y : ℕ). y) w (take (come.count + 1) sizes), size, more);
+                let same_count = ap (λ n. sum (take n (w ∷ sizes))) (one_more come.count) in
+                omega (
+                  arith,
+                  later,
+                  same_count,
+                  sum_by-cons (λ (y : ℕ). y) w (take (come.count + 1) sizes),
+                  size,
+                  more,
+                );
           })))
     ])
   where
@@ -342,47 +370,47 @@ units-come {c} {s} from starts (unit ∷ units) laid between =
 
 -- ---- the frames that are handed on
 
-frames-parts : (a b : List Moment) → frames_of (a ++ b) ≡ frames_of a ++ frames_of b
-frames-parts [] b = refl
-frames-parts (Reply m ∷ a) b = frames-parts a b
-frames-parts (Frame x ∷ a) b = ap (λ l. x ∷ l) (frames-parts a b)
-frames-parts (Report x ∷ a) b = frames-parts a b
-frames-parts (Slot t cut ∷ a) b = frames-parts a b
+frames_parts : (a b : List Moment) → frames_of (a ++ b) ≡ frames_of a ++ frames_of b
+frames_parts [] b = refl
+frames_parts (Reply m ∷ a) b = frames_parts a b
+frames_parts (Frame x ∷ a) b = ap (λ l. x ∷ l) (frames_parts a b)
+frames_parts (Report x ∷ a) b = frames_parts a b
+frames_parts (Slot t cut ∷ a) b = frames_parts a b
 
-frames-told : (run : FramedRun) (f : ℕ) (unit : PictureUnit) (packets : List Packet) → run.identity.channel ≡ 0
+frames_told : (run : FramedRun) (f : ℕ) (unit : PictureUnit) (packets : List Packet) → run.identity.channel ≡ 0
     → frames_of (moments_in (frame_blocks run unit f packets)) ≡ frame_blocks run unit f packets
-frames-told run f unit [] media = refl
-frames-told run f unit (p ∷ packets) media =
-    ap (λ l. frames_of (l ++ moments_in (frame_blocks run unit (f + 1) packets))) (frame-moment run f unit p media)
-    ∙ ap (λ l. frame_block run unit p f ∷ l) (frames-told run (f + 1) unit packets media)
+frames_told run f unit [] media = refl
+frames_told run f unit (p ∷ packets) media =
+    ap (λ l. frames_of (l ++ moments_in (frame_blocks run unit (f + 1) packets))) (frame_moment run f unit p media)
+    ∙ ap (λ l. frame_block run unit p f ∷ l) (frames_told run (f + 1) unit packets media)
 
-unit-told : (starts : Bool) (from : RunFrom) (unit : PictureUnit) (packets : List Packet) →
+unit_told : (starts : Bool) (from : RunFrom) (unit : PictureUnit) (packets : List Packet) →
     frames_of (moments_in
     (report_if starts from.run unit from.frames from.octets ++ frame_blocks from.run unit from.frames packets))
     ≡ frame_blocks from.run unit from.frames packets
-unit-told false from unit packets = frames-told from.run from.frames unit packets from.media
-unit-told true from unit packets =
-    ap (λ l. frames_of (l ++ moments_in (frame_blocks run unit f packets))) (report-moment run f o unit control)
-    ∙ frames-told run f unit packets media
+unit_told false from unit packets = frames_told from.run from.frames unit packets from.media
+unit_told true from unit packets =
+    ap (λ l. frames_of (l ++ moments_in (frame_blocks run unit f packets))) (report_moment run f o unit control)
+    ∙ frames_told run f unit packets media
   where
     open from use {run, frames as f, octets as o, media, control}
 
-pub units-told : (from : RunFrom) (starts : List ℕ) (units : List PictureUnit) →
+pub units_told : (from : RunFrom) (starts : List ℕ) (units : List PictureUnit) →
     frames_of (moments_in (blocks_from from.run from.frames from.octets (pieces_of starts units))) ≡ frames_among
     (pieces_of starts units) (blocks_from from.run from.frames from.octets (pieces_of starts units))
-units-told from starts [] = refl
-units-told from starts (unit ∷ units) =
+units_told from starts [] = refl
+units_told from starts (unit ∷ units) =
     let f2 = frames_after f (unit_pieces starts unit) in
     let o2 = octets_after o (unit_pieces starts unit) in
     let xs = unit_blocks run starts unit f o in
     let ys = blocks_from run f2 o2 (pieces_of starts units) in
     let its = frame_blocks run unit f (unit_packets starts unit) in
-    ap (λ bs. frames_of (moments_in bs)) (more-blocks run f o starts unit units)
-    ∙ (ap frames_of (moments-parts xs ys) ∙ (frames-parts (moments_in xs) (moments_in ys)
-    ∙ (ap (λ l. l ++ frames_of (moments_in ys)) (unit-told unit.starts_group from unit (unit_packets starts unit))
-    ∙ (ap (λ l. its ++ l) (units-told (record from { frames = f2; octets = o2 }) starts units)
-    ∙ (sym (unit-among run f o starts unit (record { parts = pieces_of starts units; blocks = ys }))
+    ap (λ bs. frames_of (moments_in bs)) (more_blocks run f o starts unit units)
+    ∙ (ap frames_of (moments_parts xs ys) ∙ (frames_parts (moments_in xs) (moments_in ys)
+    ∙ (ap (λ l. l ++ frames_of (moments_in ys)) (unit_told unit.starts_group from unit (unit_packets starts unit))
+    ∙ (ap (λ l. its ++ l) (units_told (record from { frames = f2; octets = o2 }) starts units)
+    ∙ (sym (unit_among run f o starts unit (record { parts = pieces_of starts units; blocks = ys }))
     ∙ (ap (λ ps. frames_among ps (xs ++ ys)) (sym (pieces-cons starts unit units))
-    ∙ ap (λ bs. frames_among (pieces_of starts (unit ∷ units)) bs) (sym (more-blocks run f o starts unit units))))))))
+    ∙ ap (λ bs. frames_among (pieces_of starts (unit ∷ units)) bs) (sym (more_blocks run f o starts unit units))))))))
   where
     open from use {run, frames as f, octets as o}

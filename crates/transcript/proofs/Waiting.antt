@@ -1,7 +1,8 @@
 -- A connection that is asked for SETUP alone, before PLAY, plays nothing; where SETUP was answered 200 it settled what
 -- was wished.
 use Rattle.std.specs.Prelude.{⊤}
-use Rattle.std.proofs.Common.{◌≡◌, ℕ, ◌<◌, ◌^◌, if◌then◌else◌, Bool, true, false, List, ◌++◌, None, codes, refl, sym, ap, subst, ◌∙◌}
+use Rattle.std.proofs.Common.{◌≡◌, ℕ, ◌<◌, ◌^◌, if◌then◌else◌, Bool, true, false, List, ◌++◌, None, codes, refl, sym}
+use Rattle.std.proofs.Common.{ap, subst, ◌∙◌}
 use Rattle.std.proofs.lemmas.Bool.{true≢false}
 use Rattle.vod_base.specs.Links.{Doing, HeardBytes, HeardEnd, HeardSlot, Sent}
 use Rattle.film_frames.specs.declared.stores.Stored.{Stored}
@@ -23,9 +24,10 @@ use Rattle.session.specs.Standings.{NoAnswer, Standing, awaited_answer_of}
 use Rattle.session.specs.Steps.{after_stop}
 use Rattle.conn.proofs.Occasions.{EventCome}
 use Rattle.conn.specs.Rounds.{Round, Runs}
-use Rattle.conn.specs.Turns.{Answered, Entered, IsAskAnswered, IsFinished, Offered, Outcome, Part, Stage, Takes, Unasked, WasFull}
+use Rattle.conn.specs.Turns.{Answered, Entered, IsAskAnswered, IsFinished, Offered, Outcome, Part, Stage, Takes}
+use Rattle.conn.specs.Turns.{Unasked, WasFull}
 use Rattle.transcript.proofs.Filming.{Stands, opened_stands, taken_stands}
-use Rattle.transcript.proofs.SettledSetups.{IsSettled, settled-by, setup-is}
+use Rattle.transcript.proofs.SettledSetups.{IsSettled, settled_by, setup_is}
 use Rattle.session.proofs.SetupHeard.{IsSetupRequest, SetupHeard, Refused, Settled, setup_heard}
 
 -- no play has begun, and a SETUP that was answered 200 settled what the client wished
@@ -65,22 +67,22 @@ record IsHeardOn (old new : Standing) : Type 0 where
   state : new.state ≡ old.state
   awaited : new.awaited ≡ old.awaited
 
-heard-on : (old : Standing) (slot : ℕ) (taken sending : Bool) → sending ≡ false
+heard_on : (old : Standing) (slot : ℕ) (taken sending : Bool) → sending ≡ false
     → IsHeardOn old
     (if taken then (if sending then after_play (sent_slot old slot) else record old { heard = slot }) else old)
-heard-on old slot true false is = record { films = refl; settings = refl; state = refl; awaited = refl }
-heard-on old slot true true is = absurd (true≢false is)
-heard-on old slot false sending is = record { films = refl; settings = refl; state = refl; awaited = refl }
+heard_on old slot true false is = record { films = refl; settings = refl; state = refl; awaited = refl }
+heard_on old slot true true is = absurd (true≢false is)
+heard_on old slot false sending is = record { films = refl; settings = refl; state = refl; awaited = refl }
 
-finished-same : (s : Standing) (halt : Outcome) (new : Standing) → IsFinished NoAnswer s halt new → new ≡ s
-finished-same s Unasked new is = is
-finished-same s (Entered placed) new is = absurd is
-finished-same s (WasFull more entries open_plays) new is = absurd is
-finished-same s (Offered at_slot note) new is = absurd is
+finished_same : (s : Standing) (halt : Outcome) (new : Standing) → IsFinished NoAnswer s halt new → new ≡ s
+finished_same s Unasked new is = is
+finished_same s (Entered placed) new is = absurd is
+finished_same s (WasFull more entries open_plays) new is = absurd is
+finished_same s (Offered at_slot note) new is = absurd is
 
-comes-same : (old opened : Stage) (event : Doing) (come : EventCome old event opened)
+comes_same : (old opened : Stage) (event : Doing) (come : EventCome old event opened)
     → old.session.awaited ≡ Nothing → is_sending old.session.state ≡ false → IsHeardOn old.session opened.session
-comes-same old opened (HeardBytes bytes) come rest idle =
+comes_same old opened (HeardBytes bytes) come rest idle =
     let same : opened.session ≡ old.session = ap (λ (s : Stage). s.session) come.comes.3 in
     record {
       films = ap (λ (s : Standing). s.films) same;
@@ -88,27 +90,27 @@ comes-same old opened (HeardBytes bytes) come rest idle =
       state = ap (λ (s : Standing). s.state) same;
       awaited = ap (λ (s : Standing). s.awaited) same;
     }
-comes-same old opened (HeardSlot slot) come rest idle =
+comes_same old opened (HeardSlot slot) come rest idle =
     let s = after_slot old.session slot in
-    let on = heard-on old.session slot (is_taken old.session slot) (is_sending old.session.state) idle in
+    let on = heard_on old.session slot (is_taken old.session slot) (is_sending old.session.state) idle in
     let F : Awaited → Type 0 = λ a. IsFinished (awaited_answer_of a) s come.halt opened.session in
     let same : opened.session ≡ s =
-    finished-same s come.halt opened.session (subst F (on.awaited ∙ rest) come.comes.1.finished) in
+    finished_same s come.halt opened.session (subst F (on.awaited ∙ rest) come.comes.1.finished) in
     record {
       films = ap (λ (x : Standing). x.films) same ∙ on.films;
       settings = ap (λ (x : Standing). x.settings) same ∙ on.settings;
       state = ap (λ (x : Standing). x.state) same ∙ on.state;
       awaited = ap (λ (x : Standing). x.awaited) same ∙ on.awaited;
     }
-comes-same old opened HeardEnd come rest idle = absurd come.comes
-comes-same old opened (Sent byte) come rest idle = absurd come.comes
+comes_same old opened HeardEnd come rest idle = absurd come.comes
+comes_same old opened (Sent byte) come rest idle = absurd come.comes
 
-pub opened-waits : {b : Beginning} {old new : Stage} {round : Round} (runs : Runs old round new)
+pub opened_waits : {b : Beginning} {old new : Stage} {round : Round} (runs : Runs old round new)
     → IsWaiting b old.session → IsWaiting b runs.opened.session
-opened-waits {b} {old} {new} {round} runs waits =
+opened_waits {b} {old} {new} {round} runs waits =
     let come : EventCome old round.event runs.opened =
     record { due = round.due; halt = round.halt; comes = runs.comes } in
-    let on = comes-same old runs.opened round.event come waits.stands.rest
+    let on = comes_same old runs.opened round.event come waits.stands.rest
     (unsending b.wish b.films old.session.state waits.unbegun) in
     record {
       stands = opened_stands old new round runs waits.stands;
@@ -118,30 +120,30 @@ opened-waits {b} {old} {new} {round} runs waits =
     }
 
 -- a reply that goes out leaves a film that isn't sent as it is
-unbegun-reply : (wish : Wish) (films : List Stored) (state : State) → IsUnbegun wish films state
+unbegun_reply : (wish : Wish) (films : List Stored) (state : State) → IsUnbegun wish films state
     → IsUnbegun wish films (after_stop state)
-unbegun-reply wish films Init is = is
-unbegun-reply wish films (Ready setup paused) is = is
-unbegun-reply wish films (Playing setup play) is = absurd is
-unbegun-reply wish films (Stopping setup stop) is = absurd is
+unbegun_reply wish films Init is = is
+unbegun_reply wish films (Ready setup paused) is = is
+unbegun_reply wish films (Playing setup play) is = absurd is
+unbegun_reply wish films (Stopping setup stop) is = absurd is
 
-record IsWaitingStill (b : Beginning) (s : Standing) : Type 0 where
-  films_are : s.films ≡ b.films
-  settings_are : s.settings ≡ b.settings
-  unbegun : IsUnbegun b.wish b.films s.state
+pub record IsWaitingStill (b : Beginning) (s : Standing) : Type 0 where
+  pub films_are : s.films ≡ b.films
+  pub settings_are : s.settings ≡ b.settings
+  pub unbegun : IsUnbegun b.wish b.films s.state
 
-replied-waits : {b : Beginning} (goes : Bool) (s : Standing) → IsWaitingStill b s
+replied_waits : {b : Beginning} (goes : Bool) (s : Standing) → IsWaitingStill b s
     → IsWaitingStill b (if goes then sent_reply s else s)
-replied-waits {b} true s still = record {
+replied_waits {b} true s still = record {
   films_are = still.films_are;
   settings_are = still.settings_are;
-  unbegun = unbegun-reply b.wish b.films s.state still.unbegun;
+  unbegun = unbegun_reply b.wish b.films s.state still.unbegun;
 }
-replied-waits false s still = still
+replied_waits false s still = still
 
-reply-same : (asking : Standing) (ask : Ask) (outcome : Outcome) (new : Standing) → ask ≡ Reply
+reply_same : (asking : Standing) (ask : Ask) (outcome : Outcome) (new : Standing) → ask ≡ Reply
     → IsAskAnswered asking ask outcome new → new ≡ asking
-reply-same asking ask outcome new is answered =
+reply_same asking ask outcome new is answered =
     go outcome (subst (λ a. IsAskAnswered asking a outcome new) is answered)
   where
     go : (o : Outcome) → IsAskAnswered asking Reply o new → new ≡ asking
@@ -150,10 +152,10 @@ reply-same asking ask outcome new is answered =
     go (WasFull more entries open_plays) same = absurd same
     go (Offered at_slot note) same = absurd same
 
-setup-waits : {b : Beginning} {old asking : Standing} {ask : Ask} → IsWaiting b old
+setup_waits : {b : Beginning} {old asking : Standing} {ask : Ask} → IsWaiting b old
     → SetupHeard old (film_url b.wish ++ codes "/video") (request_head (setup_parts b.wish)) ask asking
     → (ask ≡ Reply) × IsWaitingStill b asking
-setup-waits {b} {old} {asking} waits (Refused text reply is) = (
+setup_waits {b} {old} {asking} waits (Refused text reply is) = (
   reply,
   record {
     films_are = ap (λ (s : Standing). s.films) is ∙ waits.films_are;
@@ -161,9 +163,9 @@ setup-waits {b} {old} {asking} waits (Refused text reply is) = (
     unbegun = subst (IsUnbegun b.wish b.films) (sym (ap (λ (s : Standing). s.state) is)) waits.unbegun;
   },
 )
-setup-waits {b} {old} {asking} waits (Settled setup text authority reply is asks names) =
+setup_waits {b} {old} {asking} waits (Settled setup text authority reply is asks names) =
     let N : List Stored → Type 0 = λ films. Names films (film_url b.wish ++ codes "/video") authority setup.film in
-    let settled = settled-by b.wish b.wished b.port asks (subst N waits.films_are names) in (
+    let settled = settled_by b.wish b.wished b.port asks (subst N waits.films_are names) in (
       reply,
       record {
         films_are = ap (λ (s : Standing). s.films) is ∙ waits.films_are;
@@ -172,19 +174,27 @@ setup-waits {b} {old} {asking} waits (Settled setup text authority reply is asks
       },
     )
 
--- a SETUP was answered, and PLAY is still to come
-pub answered-waits : {b : Beginning} {old new : Stage} {message : List ℕ} {outcome : Outcome} {parts : List Part}
-    → Takes old (Answered message outcome parts) new → message ≡ setup_text b.wish → IsWaiting b old.session
-    → IsWaiting b new.session
-answered-waits {b} {old} {new} {message} {outcome} {parts} takes is waits =
+-- SETUP has a reply of the session's own
+pub setup_asked : {b : Beginning} {old new : Stage} {message : List ℕ} {outcome : Outcome} {parts : List Part}
+    (takes : Takes old (Answered message outcome parts) new) → message ≡ setup_text b.wish → IsWaiting b old.session
+    → (takes.heard.ask ≡ Reply) × IsWaitingStill b takes.heard.asking
+setup_asked {b} {old} {message = message} takes is waits =
     let heard = takes.heard in
     let S : List ℕ → Type 0 = λ m.
     IsSetupRequest m (film_url b.wish ++ codes "/video") (request_head (setup_parts b.wish)) in
-    let setup = setup_heard old.session message (film_url b.wish ++ codes "/video") (request_head (setup_parts b.wish))
-    heard.ask heard.asking (subst S (sym is) (setup-is b.wish b.wished b.port)) heard.hears in
-    let still = setup-waits waits setup in
-    let same = reply-same heard.asking heard.ask outcome takes.answered still.0 heard.answered in
-    let after = replied-waits (can_reply takes.answered) takes.answered
+    setup_waits waits
+    (setup_heard old.session message (film_url b.wish ++ codes "/video") (request_head (setup_parts b.wish))
+    heard.ask heard.asking (subst S (sym is) (setup_is b.wish b.wished b.port)) heard.hears)
+
+-- a SETUP was answered, and PLAY is still to come
+pub answered_waits : {b : Beginning} {old new : Stage} {message : List ℕ} {outcome : Outcome} {parts : List Part}
+    → Takes old (Answered message outcome parts) new → message ≡ setup_text b.wish → IsWaiting b old.session
+    → IsWaiting b new.session
+answered_waits {b} {old} {new} {message} {outcome} {parts} takes is waits =
+    let heard = takes.heard in
+    let still = setup_asked {outcome = outcome} {parts = parts} takes is waits in
+    let same = reply_same heard.asking heard.ask outcome takes.answered still.0 heard.answered in
+    let after = replied_waits (can_reply takes.answered) takes.answered
     (subst (IsWaitingStill b) (sym same) still.1) in
     let its = subst (λ (s : Stage). IsWaitingStill b s.session) (sym takes.new_is) after in
     record {

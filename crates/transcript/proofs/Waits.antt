@@ -7,7 +7,8 @@ use Rattle.std.proofs.lemmas.Bool.{cases_lt, true≢false}
 use Rattle.std.proofs.lemmas.List.{append_assoc, length-take, length-drop}
 use Rattle.film_frames.specs.Tracks.{IsBoundary, IsBoundaryAfter, framed_bytes}
 use Rattle.pacer.specs.Boundaries.{boundary_from}
-use Rattle.pacer.specs.Pacings.{IsPacing, Pacing, due_by, first_slots, next_boundary, plan_bytes, at_slot, stands_at_boundary, step_end, after_step}
+use Rattle.pacer.specs.Pacings.{IsPacing, Pacing, due_by, first_slots, next_boundary, plan_bytes, at_slot}
+use Rattle.pacer.specs.Pacings.{stands_at_boundary, step_end, after_step}
 use Rattle.pacer.proofs.PacingLemmas.{boundary-from, boundary-is, first-slots-rise}
 use Rattle.plan_cert.specs.Slots.{total_bytes}
 use Rattle.conn.specs.Turns.{Part, Film, Text}
@@ -22,43 +23,50 @@ use Rattle.transcript.proofs.Turning.{Ending, Going, Idle, Sends}
 
 -- what was sent and what is sent from here on, with the slots in which the requests were taken up whose replies come
 abbrev pub Stand : Sends → Option ℕ → List Asking → ℕ → List ℕ → List Part → Type 0
-Stand Idle pending askings end slots parts = AreSentAt end (plays_of askings) (with_pending pending slots) (placed_texts 0 parts)
+Stand Idle pending askings end slots parts = AreSentAt end (plays_of askings) (with_pending pending slots)
+    (placed_texts 0 parts)
 Stand (Going p) pending askings end slots parts =
     StandAt p (kept_in askings (total_bytes p.plan)) pending (plays_of askings) end slots parts
 Stand (Ending p) pending askings end slots parts = StandAt p p.keep pending (plays_of askings) end slots parts
 
-pub record Fits (sends : Sends) (heard : ℕ) (pending : Option ℕ) (askings : List Asking) (end : ℕ)
-    (slots : List ℕ) (parts : List Part) : Type 0 where
-  pub from : AreFrom heard slots
-  pub later : AreLater heard (plays_of askings)
-  pub stand : Stand sends pending askings end slots parts
+-- how a sending stands: what it sends, the slot that was heard last, and the slot in which the request was taken up
+-- whose reply is held up
+pub record Point : Type 0 where
+  pub sends : Sends
+  pub heard : ℕ
+  pub pending : Option ℕ
 
-pub record GoesTo (old new : Sends) (from to : ℕ) (pending after : Option ℕ) (made : List Asking)
-    (slots : List ℕ) (parts : List Part) : Type 0 where
-  pub later : from ≤ to
-  pub rest : (askings : List Asking) (end : ℕ) (more : List ℕ) (rest : List Part) → to ≤ end
-      → Fits new to after askings end more rest
-      → Fits old from pending (made ++ askings) end (slots ++ more) (parts ++ rest)
+abbrev pub point : Sends → ℕ → Option ℕ → Point
+point sends heard pending = record { sends = sends; heard = heard; pending = pending }
 
-pub goes_then : {a b c : Sends} {x y z : ℕ} {first mid last : Option ℕ} {made asked : List Asking}
-    {slots taken : List ℕ} {parts sent : List Part}
-    → GoesTo a b x y first mid made slots parts → GoesTo b c y z mid last asked taken sent
-    → GoesTo a c x z first last (made ++ asked) (slots ++ taken) (parts ++ sent)
-goes_then {a} {c} {x} {first} {last} {made} {asked} {slots} {taken} {parts} {sent} one two = record {
+pub record Fits (at : Point) (askings : List Asking) (end : ℕ) (slots : List ℕ) (parts : List Part) : Type 0 where
+  pub from : AreFrom at.heard slots
+  pub later : AreLater at.heard (plays_of askings)
+  pub stand : Stand at.sends at.pending askings end slots parts
+
+pub record GoesTo (old new : Point) (made : List Asking) (slots : List ℕ) (parts : List Part) : Type 0 where
+  pub later : old.heard ≤ new.heard
+  pub rest : (askings : List Asking) (end : ℕ) (more : List ℕ) (rest : List Part) → new.heard ≤ end
+      → Fits new askings end more rest → Fits old (made ++ askings) end (slots ++ more) (parts ++ rest)
+
+pub goes_then : {a b c : Point} {made asked : List Asking} {slots taken : List ℕ} {parts sent : List Part}
+    → GoesTo a b made slots parts → GoesTo b c asked taken sent
+    → GoesTo a c (made ++ asked) (slots ++ taken) (parts ++ sent)
+goes_then {a} {b} {c} {made} {asked} {slots} {taken} {parts} {sent} one two = record {
   later = omega (arith, one.later, two.later);
   rest = λ askings end more rest on fits.
       let there = one.rest (asked ++ askings) end (taken ++ more) (sent ++ rest) (omega (arith, two.later, on))
       (two.rest askings end more rest on fits) in
-      subst (λ all. Fits a x first all end ((slots ++ taken) ++ more) ((parts ++ sent) ++ rest))
+      subst (λ all. Fits a all end ((slots ++ taken) ++ more) ((parts ++ sent) ++ rest))
       (sym (append_assoc made asked askings))
-      (subst (λ ss. Fits a x first (made ++ (asked ++ askings)) end ss ((parts ++ sent) ++ rest))
+      (subst (λ ss. Fits a (made ++ (asked ++ askings)) end ss ((parts ++ sent) ++ rest))
       (sym (append_assoc slots taken more))
-      (subst (λ ps. Fits a x first (made ++ (asked ++ askings)) end (slots ++ (taken ++ more)) ps)
+      (subst (λ ps. Fits a (made ++ (asked ++ askings)) end (slots ++ (taken ++ more)) ps)
       (sym (append_assoc parts sent rest)) there));
 }
 
-pub goes_same : (sends : Sends) (heard : ℕ) (pending : Option ℕ) → GoesTo sends sends heard heard pending pending [] [] []
-goes_same sends heard pending = record { later = omega arith; rest = λ askings end more rest on fits. fits }
+pub goes_same : (at : Point) → GoesTo at at [] [] []
+goes_same at = record { later = omega arith; rest = λ askings end more rest on fits. fits }
 
 -- ---- a reply is held up: of the film no boundary was reached since its request was taken up
 
@@ -79,11 +87,13 @@ pub due_going : (p : Pacing) (slot keep : ℕ) → IsPacing p → p.keep ≡ tot
     → min (first_slots p.plan (slot + 1 - p.start)) p.keep ≤ keep
     → due_of slot (play_with p keep) ≡ min (first_slots p.plan (slot + 1 - p.start)) p.keep
 due_going p slot keep is whole holds =
-    let few : first_slots p.plan (slot + 1 - p.start) ≤ total_bytes p.plan = most-slots p.plan (slot + 1 - p.start) is.plan in
+    let few : first_slots p.plan (slot + 1 - p.start) ≤ total_bytes p.plan =
+    most-slots p.plan (slot + 1 - p.start) is.plan in
     omega (arith, few, whole, holds)
 
 -- what was sent is due by the end of each later slot
-pub due_far : (p : Pacing) (heard end : ℕ) → IsOnTime p heard → heard ≤ end → p.sent ≤ first_slots p.plan (end + 1 - p.start)
+pub due_far : (p : Pacing) (heard end : ℕ) → IsOnTime p heard → heard ≤ end
+    → p.sent ≤ first_slots p.plan (end + 1 - p.start)
 due_far p heard end on later =
     let rise : first_slots p.plan (heard + 1 - p.start) ≤ first_slots p.plan (end + 1 - p.start) =
     first-slots-rise p.plan (heard + 1 - p.start) (end + 1 - p.start) (omega (arith, later)) in
@@ -91,7 +101,8 @@ due_far p heard end on later =
     on.even ∙ on.pacing.due ∙ ap (λ n. min (first_slots p.plan n) p.keep) on.passed in
     omega (arith, rise, now)
 
-pub due_here : (p : Pacing) (heard : ℕ) → IsOnTime p heard → min (first_slots p.plan (heard + 1 - p.start)) p.keep ≡ p.sent
+pub due_here : (p : Pacing) (heard : ℕ) → IsOnTime p heard
+    → min (first_slots p.plan (heard + 1 - p.start)) p.keep ≡ p.sent
 due_here p heard on = sym (on.even ∙ on.pacing.due ∙ ap (λ n. min (first_slots p.plan n) p.keep) on.passed)
 
 inside_of : (p : Pacing) → IsPacing p → p.before + p.sent ≤ length (framed_bytes p.pieces)
@@ -207,7 +218,8 @@ still_held {p} {taken} {slot} is later held stands =
             | inr more ↦
                 let there : nearest ≡ p.before + q.sent = omega (arith, all, least, more, next.after) in
                 absurd (true≢false
-                (sym (boundary_stands q (stopped_is slot p is) (subst (IsBoundary p.pieces) there next.boundary)) ∙ stands))
+                (sym (boundary_stands q (stopped_is slot p is)
+                (subst (IsBoundary p.pieces) there next.boundary)) ∙ stands))
           ];
     }
 
@@ -220,7 +232,8 @@ pub record SlotOn (p : Pacing) (heard slot end : ℕ) (between : Bool) : Type 0 
 
 -- what is due of a play up to a slot, and plays that come later
 pub record PlaysDue (p : Pacing) (keep slot : ℕ) (plays : List FilmPlay) : Type 0 where
-  pub due : ((taken : ℕ) → min (first_slots p.plan (taken + 1 - p.start)) p.keep ≤ keep → due_of taken (play_with p keep) ≡ min
+  pub due : ((taken : ℕ) → min (first_slots p.plan (taken + 1 - p.start)) p.keep ≤ keep
+      → due_of taken (play_with p keep) ≡ min
       (first_slots p.plan (taken + 1 - p.start)) p.keep)
   pub later_plays : AreLater slot plays
 
@@ -256,7 +269,8 @@ slot_at {p} {keep} {pending = Some taken} {heard} {slot} {between = true} {plays
     let next = boundary-from p.pieces (p.before + p.sent) (inside_of p is) in
     let from : p.sent ≤ q.sent = omega (arith, next.after, is.sent) in
     let to : q.sent ≤ due_by p slot = omega arith in
-    let rest : StandAt q keep None plays end slots (Film (plan_bytes q q.sent (step_end false (at_slot slot q))) ∷ parts) =
+    let rest : StandAt q keep None plays end slots
+    (Film (plan_bytes q q.sent (step_end false (at_slot slot q))) ∷ parts) =
     subst (λ n. StandAt q keep None plays end slots (Film (plan_bytes q q.sent n) ∷ parts)) (sym last)
     (film_at refl
     (size_to q (due_by p slot) (stopped_is slot p is) to most) stand) in

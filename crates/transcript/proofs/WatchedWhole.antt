@@ -14,10 +14,10 @@ use Rattle.transcript.specs.Asked.{HasWatchedWhole}
 use Rattle.transcript.specs.Carried.{IsCarried, heard_bytes, sent_bytes}
 use Rattle.transcript.specs.Courses.{Course}
 use Rattle.transcript.specs.Played.{IsPlayed}
-use Rattle.transcript.proofs.Promised.{all-sent, fed, film-in, front-again, stream_of}
+use Rattle.transcript.proofs.Promised.{all_sent, fed, film_in, front_again, stream_of}
 use Rattle.transcript.proofs.Reading.{all_of}
 use Rattle.transcript.proofs.Readings.{AreFed, IsFed}
-use Rattle.transcript.proofs.Watching.{kept-promise, told-course}
+use Rattle.transcript.proofs.Watching.{kept_promise, told_course}
 
 -- a client watched to the end what a course played, over a link that carried it slot by slot
 pub record IsWatched (wish : Wish) (stored : Stored) (watched : Watched) (out : List ℕ) : Type 0 where
@@ -28,30 +28,30 @@ pub record IsWatched (wish : Wish) (stored : Stored) (watched : Watched) (out : 
   pub client : HasCourse wish (Done watched) (Some []) (Some heard) (Some []) (Some out)
   pub carried : IsCarried (rounds_doings course.rounds) heard played.play.start (first_slot client.mid.history)
 
-pub watched-whole : (wish : Wish) (stored : Stored) (watched : Watched) (out : List ℕ)
+pub watched_whole : (wish : Wish) (stored : Stored) (watched : Watched) (out : List ℕ)
     → IsWatched wish stored watched out → HasWatchedWhole wish stored watched out
-watched-whole wish stored watched out is =
+watched_whole wish stored watched out is =
     let course = is.course in
     let heard = is.heard in
     let played = is.played in
     let client = is.client in
     let carried = is.carried in
     let x = stream_of wish stored course played in
-    let told = told-course wish watched heard out client in
+    let told = told_course wish watched heard out client in
     let begin = first_slot client.mid.history in
-    let front = front-again (heard_bytes heard) (sent_bytes (rounds_doings course.rounds))
+    let front = front_again (heard_bytes heard) (sent_bytes (rounds_doings course.rounds))
     (framed_bytes (all_of x)) carried.front.0 carried.front.1.1
-    (all-sent wish stored course played) in
+    (all_sent wish stored course played) in
     let feeds : AreFed wish stored.film x begin [] client.rounds = λ before later round slot split event after_begin.
     let its = told.split before later round split in
     let P : List ℕ → ℕ → Type 0 = λ b n. IsFed wish stored.film x b n in
     subst (λ b. P b (slot - begin)) its.1.1.1
     (fed played
     (carried.each its.0 its.1.0 slot (its.1.1.0 ∙ ap (λ e. its.0 ++ e ∷ its.1.0) event) after_begin)) in
-    let kept = kept-promise front.count (record {
+    let kept = kept_promise front.count (record {
       wished = is.wished;
       timed = played.whole.sending.can_play.playback_is.some_picture_units;
-      film_is = film-in wish stored course played;
+      film_is = film_in wish stored course played;
     })
     client.runs told.all (sym told.heard_is ∙ front.is) feeds in (
       kept.over_none,

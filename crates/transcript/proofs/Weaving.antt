@@ -50,7 +50,8 @@ parts_woven place (Text text ∷ parts) =
     let film : List ℕ = film_bytes parts in
     let texts : List PlacedText = placed_texts place parts in
     let none : 0 ≡ place - place = omega arith in
-    ap (λ bs. text ++ bs) (parts_woven place parts) ∙ ap (λ n. take n film ++ (text ++ with_texts place (drop n film) texts)) none
+    ap (λ bs. text ++ bs) (parts_woven place parts)
+    ∙ ap (λ n. take n film ++ (text ++ with_texts place (drop n film) texts)) none
 
 -- the film's bytes among all parts are those of the slots
 pub course_film : (old new : Stage) (rounds : List Round) → Follows old rounds new
@@ -65,21 +66,22 @@ course_film old new (round ∷ rounds) follows =
     ∙ ap (λ bs. film_bytes round.due ++ bs) (course_film follows.0 new rounds follows.1.1)
 
 -- and all bytes of the parts are those of the rounds
-parts_bytes-append : (xs ys : List Part) → parts_bytes (xs ++ ys) ≡ parts_bytes xs ++ parts_bytes ys
-parts_bytes-append [] ys = refl
-parts_bytes-append (x ∷ xs) ys =
-    ap (λ bs. part_bytes x ++ bs) (parts_bytes-append xs ys) ∙ sym (append_assoc (part_bytes x) (parts_bytes xs) (parts_bytes ys))
+parts_bytes_append : (xs ys : List Part) → parts_bytes (xs ++ ys) ≡ parts_bytes xs ++ parts_bytes ys
+parts_bytes_append [] ys = refl
+parts_bytes_append (x ∷ xs) ys =
+    ap (λ bs. part_bytes x ++ bs) (parts_bytes_append xs ys)
+    ∙ sym (append_assoc (part_bytes x) (parts_bytes xs) (parts_bytes ys))
 
 takings_sent : (takings : List Taking) → takings_bytes takings ≡ parts_bytes (takings_parts takings)
 takings_sent [] = refl
 takings_sent (Passed n ∷ takings) = takings_sent takings
 takings_sent (Answered message outcome parts ∷ takings) =
-    ap (λ bs. parts_bytes parts ++ bs) (takings_sent takings) ∙ sym (parts_bytes-append parts (takings_parts takings))
+    ap (λ bs. parts_bytes parts ++ bs) (takings_sent takings) ∙ sym (parts_bytes_append parts (takings_parts takings))
 
 pub rounds_sent : (rounds : List Round) → rounds_bytes rounds ≡ parts_bytes (rounds_parts rounds)
 rounds_sent [] = refl
 rounds_sent (round ∷ rounds) =
     ap (λ bs. (parts_bytes round.due ++ bs) ++ rounds_bytes rounds) (takings_sent round.takings)
-    ∙ ap (λ bs. bs ++ rounds_bytes rounds) (sym (parts_bytes-append round.due (takings_parts round.takings)))
+    ∙ ap (λ bs. bs ++ rounds_bytes rounds) (sym (parts_bytes_append round.due (takings_parts round.takings)))
     ∙ ap (λ bs. parts_bytes (round_parts round) ++ bs) (rounds_sent rounds)
-    ∙ sym (parts_bytes-append (round_parts round) (rounds_parts rounds))
+    ∙ sym (parts_bytes_append (round_parts round) (rounds_parts rounds))

@@ -1,5 +1,6 @@
 -- The play that a client's PLAY begins after its SETUP: of the whole film, as the client wished.
-use Rattle.std.proofs.Common.{◌≡◌, ℕ, ◌≤◌, List, [], Option, Some, None, codes, string_bytes, refl, sym, ap, subst, ◌∙◌, arith}
+use Rattle.std.proofs.Common.{◌≡◌, ℕ, ◌≤◌, List, [], Option, Some, None, codes, string_bytes, refl, sym, ap, subst, ◌∙◌}
+use Rattle.std.proofs.Common.{arith}
 use Rattle.film_frames.specs.declared.stores.Stored.{Stored}
 use Rattle.film_frames.specs.Runs.{run_of, run_pieces}
 use Rattle.film_run.specs.declared.plans.Playback.{Playback}
@@ -29,9 +30,9 @@ use Rattle.session.specs.Standings.{Standing}
 use Rattle.session.proofs.WholeAsked.{asked-whole}
 use Rattle.transcript.specs.Played.{film_blocks, playback_of, whole_run}
 use Rattle.transcript.specs.Plays.{FilmPlay}
-use Rattle.transcript.proofs.Asked.{playback-same}
+use Rattle.transcript.proofs.Asked.{playback_same}
 use Rattle.session.proofs.PlayHeard.{IsPlayHeard}
-use Rattle.transcript.proofs.SettledSetups.{IsSettled, range-is}
+use Rattle.transcript.proofs.SettledSetups.{IsSettled, range_is}
 use Rattle.transcript.proofs.Waiting.{Beginning, IsUnbegun, IsWaiting}
 
 -- a play of the whole film, as the client wished
@@ -47,8 +48,8 @@ pub record IsWished (b : Beginning) (play : FilmPlay) : Type 0 where
   pub before : play.before ≡ 0
   pub sending : IsSending (stored_sizes stored) (playback_of b.wish stored) (whole_run stored) play.plan
 
-some-time : (stored : Stored) → 1 ≤ picture_time stored.film.rate
-some-time stored =
+some_time : (stored : Stored) → 1 ≤ picture_time stored.film.rate
+some_time stored =
     let film = stored.film in
     let rate = film-rate (read_after [] film.bytes.items) film.grammar.accepted in
     (time_bounds film.rate (omega (arith, film.grammar.rate, rate.0)) (omega (arith, film.grammar.rate, rate.1))).0
@@ -62,20 +63,20 @@ record IsPlannedFor (b : Beginning) (settings : Settings) (stored : Stored) (pla
   run_is : run ≡ whole_run stored
   sending : IsSending (stored_sizes stored) (session_playback stored.film settings setup) run plan
 
-sending-for : (b : Beginning) (settings : Settings) (stored : Stored) (plan : List Segment)
+sending_for : (b : Beginning) (settings : Settings) (stored : Stored) (plan : List Segment)
     → IsPlannedFor b settings stored plan
     → IsSending (stored_sizes stored) (playback_of b.wish stored) (whole_run stored) plan
-sending-for b settings stored plan planned =
+sending_for b settings stored plan planned =
     let S : Playback → Run → Type 0 = λ p r. IsSending (stored_sizes stored) p r plan in
-    let playback = playback-same (session_playback stored.film settings planned.setup) (playback_of b.wish stored) refl
+    let playback = playback_same (session_playback stored.film settings planned.setup) (playback_of b.wish stored) refl
     planned.slot_units planned.settled.buffer planned.settled.delay in
     subst (S (playback_of b.wish stored)) planned.run_is (subst (λ p. S p planned.run) playback planned.sending)
 
-pub wished-play : {b : Beginning} {old : Standing} {message : List ℕ} {prepared : Prepared} {play : FilmPlay}
+pub wished_play : {b : Beginning} {old : Standing} {message : List ℕ} {prepared : Prepared} {play : FilmPlay}
     → IsWaiting b old → message ≡ play_text b.wish b.session → IsPlayHeard old message prepared
     → play.plan ≡ prepared.plan → play.before ≡ prepared.run.sent → play.pieces ≡ run_pieces prepared.frames
     → IsWished b play
-wished-play {b} {old} {message} {prepared} {play} waits is heard plan before pieces =
+wished_play {b} {old} {message} {prepared} {play} waits is heard plan before pieces =
     let stored = heard.stored in
     let setup = heard.setup in
     let planned = heard.planned in
@@ -86,12 +87,12 @@ wished-play {b} {old} {message} {prepared} {play} waits is heard plan before pie
     IsRequest m (codes "PLAY") (film_url b.wish) 2 (request_head (play_parts b.wish b.session)) [] in
     let same = request_once heard.is_request (subst R (sym is) asked.read) in
     let range : header_value heard.request.head.now (codes "Range") ≡ Some (codes "npt=0-") =
-    ap (λ h. header_value h (codes "Range")) same.head_is ∙ range-is b.wish b.session b.wished b.port b.session_is in
+    ap (λ h. header_value h (codes "Range")) same.head_is ∙ range_is b.wish b.session b.wished b.port b.session_is in
     let P : Option Run → Option (List ℕ) → Type 0 = λ p r. IsPlannedRun old stored setup p r planned in
     let asked_range = header_value heard.request.head.now (codes "Range") in
     let planned_is = subst (P None) range (subst (λ p. P p asked_range) begun.0 heard.planned_is) in
     let run : planned.run ≡ whole_run stored =
-    planned_is.run_is ∙ asked-whole stored planned_is.wanted (some-time stored) planned_is.asked in
+    planned_is.run_is ∙ asked-whole stored planned_is.wanted (some_time stored) planned_is.asked in
     let prepared_is = heard.prepared_is in
     let identity = identity_of old.source setup planned.counts in
     let at = subst (λ films. IsFilmAt films setup.film stored) waits.films_are heard.planned_is.at in
@@ -116,5 +117,5 @@ wished-play {b} {old} {message} {prepared} {play} waits is heard plan before pie
           ∙ ap (λ (r : Run). run_pieces (run_of stored.film r.first_unit r.end_unit identity)) run);
       before = before ∙ (ap (λ (p : Prepared). p.run.sent) prepared_is ∙ ap (λ (r : Run). r.sent) run);
       sending = subst (IsSending (stored_sizes stored) (playback_of b.wish stored) (whole_run stored)) (sym plan_is)
-          (sending-for b old.settings stored planned.plan planned_for);
+          (sending_for b old.settings stored planned.plan planned_for);
     }

@@ -21,47 +21,51 @@ abbrev pub texts_length : List PlacedText → ℕ
 texts_length [] = 0
 texts_length (placed ∷ texts) = length placed.text + texts_length texts
 
-pub parts-length : (place : ℕ) (parts : List Part)
+pub parts_length : (place : ℕ) (parts : List Part)
     → length (parts_bytes parts) ≡ length (film_bytes parts) + texts_length (placed_texts place parts)
-parts-length place [] = refl
-parts-length place (Film bytes ∷ parts) =
+parts_length place [] = refl
+parts_length place (Film bytes ∷ parts) =
     omega (
       arith,
-      parts-length (place + length bytes) parts,
+      parts_length (place + length bytes) parts,
       length-append bytes (parts_bytes parts),
       length-append bytes (film_bytes parts),
     )
-parts-length place (Text text ∷ parts) = omega (arith, parts-length place parts, length-append text (parts_bytes parts))
+parts_length place (Text text ∷ parts) = omega (arith, parts_length place parts, length-append text (parts_bytes parts))
 
 abbrev pub IsFromTo : ℕ → ℕ → List PlacedText → Type 0
 IsFromTo from to [] = ⊤
 IsFromTo from to (placed ∷ texts) = (from ≤ placed.place) × ((placed.place ≤ to) × IsFromTo from to texts)
 
-from-to-wider : {low from to high : ℕ} (texts : List PlacedText) → low ≤ from → to ≤ high
+from_to_wider : {low from to high : ℕ} (texts : List PlacedText) → low ≤ from → to ≤ high
     → IsFromTo from to texts → IsFromTo low high texts
-from-to-wider {low} {from} [] less more are = tt
-from-to-wider {low} {from} {to} {high} (placed ∷ texts) less more are = (
+from_to_wider {low} {from} [] less more are = tt
+from_to_wider {low} {from} {to} {high} (placed ∷ texts) less more are = (
   omega (arith, less, are.0),
-  (omega (arith, more, are.1.0), from-to-wider {low = low} {from = from} {to = to} {high = high} texts less more are.1.1),
+  (
+    omega (arith, more, are.1.0),
+    from_to_wider {low = low} {from = from} {to = to} {high = high} texts less more are.1.1,
+  ),
 )
 
-pub texts-within : (place : ℕ) (parts : List Part) → IsFromTo place (place + length (film_bytes parts)) (placed_texts place parts)
-texts-within place [] = tt
-texts-within place (Film bytes ∷ parts) =
-    from-to-wider
+pub texts_within : (place : ℕ) (parts : List Part) → IsFromTo place (place + length (film_bytes parts))
+    (placed_texts place parts)
+texts_within place [] = tt
+texts_within place (Film bytes ∷ parts) =
+    from_to_wider
     (placed_texts (place + length bytes) parts) (omega arith)
-    (omega (arith, length-append bytes (film_bytes parts))) (texts-within (place + length bytes) parts)
-texts-within place (Text text ∷ parts) = (omega arith, (omega arith, texts-within place parts))
+    (omega (arith, length-append bytes (film_bytes parts))) (texts_within (place + length bytes) parts)
+texts_within place (Text text ∷ parts) = (omega arith, (omega arith, texts_within place parts))
 
-pub texts-parts : (place : ℕ) (xs ys : List Part)
+pub texts_parts : (place : ℕ) (xs ys : List Part)
     → placed_texts place (xs ++ ys) ≡ placed_texts place xs ++ placed_texts (place + length (film_bytes xs)) ys
-texts-parts place [] ys = ap (λ n. placed_texts n ys) (let e : place ≡ place + 0 = omega arith in e)
-texts-parts place (Film bytes ∷ xs) ys =
-    texts-parts (place + length bytes) xs ys
+texts_parts place [] ys = ap (λ n. placed_texts n ys) (let e : place ≡ place + 0 = omega arith in e)
+texts_parts place (Film bytes ∷ xs) ys =
+    texts_parts (place + length bytes) xs ys
     ∙ ap (λ n. placed_texts (place + length bytes) xs ++ placed_texts n ys)
     (let e : place + length bytes + length (film_bytes xs) ≡ place + length (bytes ++ film_bytes xs) =
     omega (arith, length-append bytes (film_bytes xs)) in e)
-texts-parts place (Text text ∷ xs) ys = ap (λ l. placed_text place text ∷ l) (texts-parts place xs ys)
+texts_parts place (Text text ∷ xs) ys = ap (λ l. placed_text place text ∷ l) (texts_parts place xs ys)
 
 -- ---- how much film there is in a front
 
@@ -80,17 +84,17 @@ pub record LaterTexts (film total : ℕ) (later : List PlacedText) : Type 0 wher
   pub after : AreAfter total later
   pub few : film ≤ total
 
-pub counted-by : {later rest : List PlacedText} {film total : ℕ} (texts_first : FirstTexts)
+pub counted_by : {later rest : List PlacedText} {film total : ℕ} (texts_first : FirstTexts)
     (front : List PlacedText) →
     front ++ rest ≡ placed_text 0 texts_first.setup ∷ placed_text 0 texts_first.played ∷ later →
     IsFromTo 0 film front →
     ((placed : PlacedText) (texts : List PlacedText) → rest ≡ placed ∷ texts → film ≤ placed.place) →
     LaterTexts film total later →
     IsCounted (length texts_first.setup) (length texts_first.played) film total (film + texts_length front)
-counted-by {later} {film} texts_first [] all within next later_texts =
+counted_by {later} {film} texts_first [] all within next later_texts =
     let none : film ≤ 0 = next (placed_text 0 texts_first.setup) (placed_text 0 texts_first.played ∷ later) all in
     record { is = λ much. absurd (omega (arith, much, none, texts_first.some_setup)) }
-counted-by {later} {rest} {film} texts_first (a ∷ []) all within next later_texts =
+counted_by {later} {rest} {film} texts_first (a ∷ []) all within next later_texts =
     let first : a ≡ placed_text 0 setup = cc in
     let second : rest ≡ placed_text 0 played ∷ later = cc in
     let none : film ≤ 0 = next (placed_text 0 played) later second in
@@ -98,13 +102,13 @@ counted-by {later} {rest} {film} texts_first (a ∷ []) all within next later_te
     record { is = λ much. absurd (omega (arith, much, none, size, some_played)) }
   where
     open texts_first use {setup, played, some_played}
-counted-by {later} texts_first (a ∷ b ∷ []) all within next later_texts =
+counted_by {later} texts_first (a ∷ b ∷ []) all within next later_texts =
     let first : a ≡ placed_text 0 texts_first.setup = cc in
     let second : b ≡ placed_text 0 texts_first.played = cc in
     let one : length a.text ≡ length texts_first.setup = ap (λ (p : PlacedText). length p.text) first in
     let two : length b.text ≡ length texts_first.played = ap (λ (p : PlacedText). length p.text) second in
     record { is = λ much. omega (arith, one, two, later_texts.few) }
-counted-by {later} {rest} {total} texts_first (a ∷ b ∷ c ∷ texts) all within next later_texts =
+counted_by {later} {rest} {total} texts_first (a ∷ b ∷ c ∷ texts) all within next later_texts =
     let first : a ≡ placed_text 0 texts_first.setup = cc in
     let second : b ≡ placed_text 0 texts_first.played = cc in
     let third : later ≡ c ∷ (texts ++ rest) = cc in
@@ -116,24 +120,25 @@ counted-by {later} {rest} {total} texts_first (a ∷ b ∷ c ∷ texts) all with
 
 -- ---- all of it, as a front of the stream
 
-pub framed-append : (xs ys : List (List ℕ)) → framed_bytes (xs ++ ys) ≡ framed_bytes xs ++ framed_bytes ys
-framed-append [] ys = refl
-framed-append (x ∷ xs) ys = ap (λ l. x ++ l) (framed-append xs ys) ∙ sym (append_assoc x (framed_bytes xs) (framed_bytes ys))
+pub framed_append : (xs ys : List (List ℕ)) → framed_bytes (xs ++ ys) ≡ framed_bytes xs ++ framed_bytes ys
+framed_append [] ys = refl
+framed_append (x ∷ xs) ys = ap (λ l. x ++ l) (framed_append xs ys)
+    ∙ sym (append_assoc x (framed_bytes xs) (framed_bytes ys))
 
-woven-texts : (from : ℕ) (film : List ℕ) (texts : List PlacedText) → film ≡ []
+woven_texts : (from : ℕ) (film : List ℕ) (texts : List PlacedText) → film ≡ []
     → with_texts from film texts ≡ framed_bytes (map text_of texts)
-woven-texts from film [] none = none
-woven-texts from film (placed ∷ texts) none =
+woven_texts from film [] none = none
+woven_texts from film (placed ∷ texts) none =
     let n = placed.place - from in
     ap (λ l. l ++ (placed.text ++ with_texts placed.place (drop n film) texts)) (ap (take n) none ∙ take-nil n)
-    ∙ ap (λ l. placed.text ++ l) (woven-texts placed.place (drop n film) texts (ap (drop n) none ∙ drop-nil n))
+    ∙ ap (λ l. placed.text ++ l) (woven_texts placed.place (drop n film) texts (ap (drop n) none ∙ drop-nil n))
 
 pub record IsFrontOf (bytes all : List ℕ) : Type 0 where
   pub count : ℕ
   pub is : bytes ≡ take count all
 
-front-same : (film blocks : List ℕ) (n : ℕ) → film ≡ take n blocks → film ≡ take (length film) (blocks ++ [])
-front-same film blocks n is =
+front_same : (film blocks : List ℕ) (n : ℕ) → film ≡ take n blocks → film ≡ take (length film) (blocks ++ [])
+front_same film blocks n is =
     let size : length film ≡ min n (length blocks) = ap (λ (l : List ℕ). length l) is ∙ length-take n blocks in
     elim (cases_lt n (length blocks)) [
       | inl less ↦ is
@@ -146,12 +151,12 @@ front-same film blocks n is =
     ]
 
 -- after the two first replies
-film-woven : {film : List ℕ} (blocks : List ℕ) (later : List PlacedText) (n : ℕ) → film ≡ take n blocks
+film_woven : {film : List ℕ} (blocks : List ℕ) (later : List PlacedText) (n : ℕ) → film ≡ take n blocks
     → AreAfter (length blocks) later → IsFromTo 0 (length film) later
     → IsFrontOf (with_texts 0 film later) (blocks ++ framed_bytes (map text_of later))
-film-woven {film} blocks [] n is after within =
-    record { count = length film; is = front-same film blocks n is }
-film-woven {film} blocks (placed ∷ texts) n is after within =
+film_woven {film} blocks [] n is after within =
+    record { count = length film; is = front_same film blocks n is }
+film_woven {film} blocks (placed ∷ texts) n is after within =
     let long : length blocks ≤ length film = omega (arith, after.0, within.1.0) in
     let size : length film ≡ min n (length blocks) = ap (λ (l : List ℕ). length l) is ∙ length-take n blocks in
     let whole : film ≡ blocks = is ∙ take_all n blocks (omega (arith, size, long)) in
@@ -160,7 +165,7 @@ film-woven {film} blocks (placed ∷ texts) n is after within =
     ap (λ l. l ++ (placed.text ++ with_texts placed.place (drop n0 film) texts))
     (take_all n0 film (omega (arith, after.0, ap (λ (l : List ℕ). length l) whole)) ∙ whole)
     ∙ ap (λ l. blocks ++ (placed.text ++ l))
-    (woven-texts placed.place (drop n0 film) texts
+    (woven_texts placed.place (drop n0 film) texts
     (drop_all n0 film (omega (arith, after.0, ap (λ (l : List ℕ). length l) whole)))) in
     record {
       count = length (blocks ++ framed_bytes (map text_of (placed ∷ texts)));
@@ -175,12 +180,12 @@ pub record BlocksFront (film : List ℕ) : Type 0 where
   pub count : ℕ
   pub front_is : film ≡ take count blocks
 
-pub all-woven : {film : List ℕ} (front : BlocksFront film) (setup played : List ℕ) (later : List PlacedText) →
+pub all_woven : {film : List ℕ} (front : BlocksFront film) (setup played : List ℕ) (later : List PlacedText) →
     AreAfter (length front.blocks) later → IsFromTo 0 (length film) later →
     IsFrontOf (with_texts 0 film (placed_text 0 setup ∷ placed_text 0 played ∷ later))
     (setup ++ (played ++ (front.blocks ++ framed_bytes (map text_of later))))
-all-woven front setup played later after within =
-    let rest = film-woven blocks later n is after within in
+all_woven front setup played later after within =
+    let rest = film_woven blocks later n is after within in
     let all = blocks ++ framed_bytes (map text_of later) in
     let both : setup ++ (played ++ take rest.count all)
     ≡ take (length setup + (length played + rest.count)) (setup ++ (played ++ all)) =
@@ -192,24 +197,24 @@ all-woven front setup played later after within =
 
 -- ---- what the link told of rounds
 
-sent-append : (a b : List Doing) → sent_bytes (a ++ b) ≡ sent_bytes a ++ sent_bytes b
-sent-append [] b = refl
-sent-append (HeardBytes bytes ∷ a) b = sent-append a b
-sent-append (HeardSlot slot ∷ a) b = sent-append a b
-sent-append (HeardEnd ∷ a) b = sent-append a b
-sent-append (Sent byte ∷ a) b = ap (λ l. byte ∷ l) (sent-append a b)
+sent_append : (a b : List Doing) → sent_bytes (a ++ b) ≡ sent_bytes a ++ sent_bytes b
+sent_append [] b = refl
+sent_append (HeardBytes bytes ∷ a) b = sent_append a b
+sent_append (HeardSlot slot ∷ a) b = sent_append a b
+sent_append (HeardEnd ∷ a) b = sent_append a b
+sent_append (Sent byte ∷ a) b = ap (λ l. byte ∷ l) (sent_append a b)
 
-sent-sends : (bytes : List ℕ) → sent_bytes (sends bytes) ≡ bytes
-sent-sends [] = refl
-sent-sends (b ∷ bytes) = ap (λ l. b ∷ l) (sent-sends bytes)
+sent_sends : (bytes : List ℕ) → sent_bytes (sends bytes) ≡ bytes
+sent_sends [] = refl
+sent_sends (b ∷ bytes) = ap (λ l. b ∷ l) (sent_sends bytes)
 
-latest-append : (a b : List Doing) → latest_slot (a ++ b) ≡ max (latest_slot a) (latest_slot b)
-latest-append [] b = omega arith
-latest-append (d ∷ a) b = omega (arith, latest-append a b)
+latest_append : (a b : List Doing) → latest_slot (a ++ b) ≡ max (latest_slot a) (latest_slot b)
+latest_append [] b = omega arith
+latest_append (d ∷ a) b = omega (arith, latest_append a b)
 
-latest-sends : (bytes : List ℕ) → latest_slot (sends bytes) ≡ 0
-latest-sends [] = refl
-latest-sends (b ∷ bytes) = omega (arith, latest-sends bytes)
+latest_sends : (bytes : List ℕ) → latest_slot (sends bytes) ≡ 0
+latest_sends [] = refl
+latest_sends (b ∷ bytes) = omega (arith, latest_sends bytes)
 
 -- an event that isn't a byte that was sent
 abbrev pub IsEvent : Doing → Type 0
@@ -222,26 +227,26 @@ abbrev pub AreEvents : List Round → Type 0
 AreEvents [] = ⊤
 AreEvents (round ∷ rounds) = IsEvent round.event × AreEvents rounds
 
-event-sent : (event : Doing) (rest : List Doing) → IsEvent event → sent_bytes (event ∷ rest) ≡ sent_bytes rest
-event-sent (HeardBytes bytes) rest is = refl
-event-sent (HeardSlot slot) rest is = refl
-event-sent HeardEnd rest is = refl
-event-sent (Sent byte) rest is = absurd is
+event_sent : (event : Doing) (rest : List Doing) → IsEvent event → sent_bytes (event ∷ rest) ≡ sent_bytes rest
+event_sent (HeardBytes bytes) rest is = refl
+event_sent (HeardSlot slot) rest is = refl
+event_sent HeardEnd rest is = refl
+event_sent (Sent byte) rest is = absurd is
 
-pub rounds-sent : (rounds : List Round) → AreEvents rounds → sent_bytes (rounds_doings rounds) ≡ rounds_bytes rounds
-rounds-sent [] are = refl
-rounds-sent (round ∷ rounds) are =
+pub rounds_sent_are : (rounds : List Round) → AreEvents rounds → sent_bytes (rounds_doings rounds) ≡ rounds_bytes rounds
+rounds_sent_are [] are = refl
+rounds_sent_are (round ∷ rounds) are =
     let sent = sends (round_bytes round) in
-    event-sent round.event (sent ++ rounds_doings rounds) are.0
-    ∙ (sent-append sent (rounds_doings rounds)
-    ∙ (ap (λ l. l ++ sent_bytes (rounds_doings rounds)) (sent-sends (round_bytes round))
-    ∙ ap (λ l. round_bytes round ++ l) (rounds-sent rounds are.1)))
+    event_sent round.event (sent ++ rounds_doings rounds) are.0
+    ∙ (sent_append sent (rounds_doings rounds)
+    ∙ (ap (λ l. l ++ sent_bytes (rounds_doings rounds)) (sent_sends (round_bytes round))
+    ∙ ap (λ l. round_bytes round ++ l) (rounds_sent_are rounds are.1)))
 
-pub rounds-latest : (rounds : List Round) → latest_slot (rounds_doings rounds) ≡ greatest_slot rounds
-rounds-latest [] = refl
-rounds-latest (round ∷ rounds) =
+pub rounds_latest : (rounds : List Round) → latest_slot (rounds_doings rounds) ≡ greatest_slot rounds
+rounds_latest [] = refl
+rounds_latest (round ∷ rounds) =
     let sent = sends (round_bytes round) in
-    omega (arith, latest-append sent (rounds_doings rounds), latest-sends (round_bytes round), rounds-latest rounds)
+    omega (arith, latest_append sent (rounds_doings rounds), latest_sends (round_bytes round), rounds_latest rounds)
 
 -- a front that no byte follows is that of whole rounds
 pub record AreWhole (rounds : List Round) (front : List Doing) : Type 0 where
@@ -250,35 +255,35 @@ pub record AreWhole (rounds : List Round) (front : List Doing) : Type 0 where
   pub parts : rounds ≡ first ++ later
   pub front_is : front ≡ rounds_doings first
 
-past-sends : (bytes : List ℕ) (rest front after : List Doing) → sends bytes ++ rest ≡ front ++ after
+past_sends : (bytes : List ℕ) (rest front after : List Doing) → sends bytes ++ rest ≡ front ++ after
     → ((byte : ℕ) (later : List Doing) → after ≡ Sent byte ∷ later → ⊥)
     → ((more : List Doing) × ((front ≡ sends bytes ++ more) × (rest ≡ more ++ after)))
-past-sends [] rest front after is whole = (front, (refl, is))
-past-sends (b ∷ bytes) rest [] after is whole =
+past_sends [] rest front after is whole = (front, (refl, is))
+past_sends (b ∷ bytes) rest [] after is whole =
     let next : after ≡ Sent b ∷ (sends bytes ++ rest) = sym is in absurd (whole b (sends bytes ++ rest) next)
-past-sends (b ∷ bytes) rest (d ∷ front) after is whole =
+past_sends (b ∷ bytes) rest (d ∷ front) after is whole =
     let first : d ≡ Sent b = cc in
     let tail : sends bytes ++ rest ≡ front ++ after = cc in
-    let next = past-sends bytes rest front after tail whole in
+    let next = past_sends bytes rest front after tail whole in
     (next.0, (ap (λ l. d ∷ l) next.1.0 ∙ ap (λ x. x ∷ (sends bytes ++ next.0)) first, next.1.1))
 
-joined-front : {event d : Doing} {front more rest : List Doing} (sent : List Doing) → d ≡ event
+joined_front : {event d : Doing} {front more rest : List Doing} (sent : List Doing) → d ≡ event
     → front ≡ sent ++ more → more ≡ rest → d ∷ front ≡ (event ∷ sent) ++ rest
-joined-front {event} {front} {more} sent first is same =
+joined_front {event} {front} {more} sent first is same =
     ap (λ x. x ∷ front) first ∙ (ap (λ l. event ∷ l) is ∙ ap (λ l. event ∷ (sent ++ l)) same)
 
-pub whole-rounds : (rounds : List Round) (front after : List Doing) → rounds_doings rounds ≡ front ++ after
+pub whole_rounds : (rounds : List Round) (front after : List Doing) → rounds_doings rounds ≡ front ++ after
     → ((byte : ℕ) (later : List Doing) → after ≡ Sent byte ∷ later → ⊥) → AreWhole rounds front
-whole-rounds rounds [] after is whole = record { first = []; later = rounds; parts = refl; front_is = refl }
-whole-rounds [] (d ∷ front) after is whole = absurd (let no : ⊥ = cc in no)
-whole-rounds (round ∷ rounds) (d ∷ front) after is whole =
+whole_rounds rounds [] after is whole = record { first = []; later = rounds; parts = refl; front_is = refl }
+whole_rounds [] (d ∷ front) after is whole = absurd (let no : ⊥ = cc in no)
+whole_rounds (round ∷ rounds) (d ∷ front) after is whole =
     let first : d ≡ round.event = cc in
     let tail : sends (round_bytes round) ++ rounds_doings rounds ≡ front ++ after = cc in
-    let next = past-sends (round_bytes round) (rounds_doings rounds) front after tail whole in
-    let rest = whole-rounds rounds next.0 after next.1.1 whole in
+    let next = past_sends (round_bytes round) (rounds_doings rounds) front after tail whole in
+    let rest = whole_rounds rounds next.0 after next.1.1 whole in
     record {
       first = round ∷ rest.first;
       later = rest.later;
       parts = ap (λ l. round ∷ l) rest.parts;
-      front_is = joined-front (sends (round_bytes round)) first next.1.0 rest.front_is;
+      front_is = joined_front (sends (round_bytes round)) first next.1.0 rest.front_is;
     }

@@ -10,12 +10,11 @@ use Rattle.rtsp_client.specs.Wishes.{IsWish}
 use Rattle.rtsp_client.specs.declared.wishes.Watched.{Watched}
 use Rattle.rtsp_client.specs.declared.wishes.Wish.{Wish}
 use Rattle.session.specs.Films.{IsFilmAt}
+use Rattle.session.specs.Ranges.{AreFilms}
 use Rattle.conn.specs.Rounds.{IsFront}
 use Rattle.transcript.specs.Courses.{Course, course_plays}
 use Rattle.transcript.specs.Places.{slots_from}
-use Rattle.transcript.specs.Played.{IsMessage}
 use Rattle.transcript.specs.Plays.{FilmPlay, due_of}
-use Rattle.transcript.specs.Replies.{PlacedText, course_texts}
 use Rattle.transcript.specs.Requests.{rounds_input}
 
 -- by each of these slots all that is kept of a play is due
@@ -23,18 +22,15 @@ abbrev pub IsDueBy : FilmPlay → List ℕ → Type 0
 IsDueBy play [] = ⊤
 IsDueBy play (slot ∷ slots) = (due_of slot play ≡ play.keep) × IsDueBy play slots
 
--- each reply is a whole message
-abbrev pub AreMessages : List PlacedText → Type 0
-AreMessages [] = ⊤
-AreMessages (text ∷ texts) = IsMessage text.text × AreMessages texts
-
 -- A client that wishes so asked a connection for a film: what the connection heard is a front of
 -- the client's requests, SETUP, PLAY and TEARDOWN, the last one once the film was due to its end.
 -- The films of the wish's name are this one, and a slot is as long for the server as for the
--- client. A play was admitted, and it was kept whole: no pause and no fault cut it.
+-- client. A play was admitted, in a slot of 64 bits, and it was kept whole: no pause and no fault
+-- cut it.
 pub record IsAskedFor (wish : Wish) (stored : Stored) (course : Course) : Type 0 where
   pub wished : IsWish wish
   pub port : wish.port < 2 ^ 16
+  pub films : AreFilms course.films
   pub named : (number : ℕ) (film : Stored) → IsFilmAt course.films number film
       → string_bytes film.name ≡ string_bytes wish.name → film ≡ stored
   pub slot_units : course.settings.slot_units ≡ wish.slot_units
@@ -45,9 +41,9 @@ pub record IsAskedFor (wish : Wish) (stored : Stored) (course : Course) : Type 0
   pub play : FilmPlay
   pub others : List FilmPlay
   pub plays : course_plays course ≡ play ∷ others
+  pub start : play.start < 2 ^ 64
   pub keep : play.keep ≡ total_bytes play.plan
   pub due : IsDueBy play (drop 2 (slots_from 0 course.rounds))
-  pub messages : AreMessages (course_texts course)
 
 -- A film comes back whole to a client that watches it: its bytes from its first picture to its last
 -- one. At each reading no picture lacks that is used, and what waits fits in the client's buffer.

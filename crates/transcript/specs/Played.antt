@@ -2,7 +2,6 @@
 use Rattle.std.specs.Prelude.{◌≡◌, ℕ, ◌≤◌, ⊤, List, [], ◌∷◌, length}
 use Rattle.mpeg_scan.specs.Rates.{picture_time}
 use Rattle.rtp_pack.specs.declared.reports.Identity.{Identity}
-use Rattle.interleave.specs.Elements.{IsMessageLength, StartsMessage}
 use Rattle.film_frames.specs.declared.stores.Stored.{Stored}
 use Rattle.film_frames.specs.Runs.{run_of, run_pieces}
 use Rattle.film_frames.specs.Tracks.{framed_bytes}
@@ -14,6 +13,7 @@ use Rattle.film_run.specs.Units.{stored_sizes}
 use Rattle.rtsp_client.specs.declared.wishes.Wish.{Wish}
 use Rattle.session.specs.declared.states.Setup.{Setup}
 use Rattle.session.specs.declared.settings.Settings.{Settings}
+use Rattle.session.specs.WholeReplies.{IsMessage}
 use Rattle.transcript.specs.Courses.{Course, course_plays}
 use Rattle.transcript.specs.Plays.{FilmPlay}
 use Rattle.transcript.specs.Replies.{PlacedText, course_texts, placed_text}
@@ -53,11 +53,6 @@ pub record IsWholePlay (wish : Wish) (stored : Stored) (identity : Identity) (pl
   pub sending : IsSending
       (stored_sizes stored) (playback_of wish stored) (whole_run stored) play.plan
   pub keep : play.keep ≡ total_bytes play.plan
-
--- a message whose end its own bytes tell
-pub record IsMessage (message : List ℕ) : Type 0 where
-  pub starts : StartsMessage message
-  pub size : IsMessageLength message (length message)
 
 abbrev pub AreAfter : ℕ → List PlacedText → Type 0
 AreAfter place [] = ⊤

@@ -6,4 +6,5 @@ returns-clause-film c =
     λ course. film_written_is course.films course.settings course.words course.rounds course.last course.follows
 
 pub returns-clause-over : goal.returns-clause-over
-returns-clause-over c = λ course. plays_over course.films course.settings course.words course.rounds course.last course.follows
+returns-clause-over c = λ course. plays_over course.films course.settings course.words course.rounds course.last
+    course.follows

@@ -1,9 +1,9 @@
-use Rattle.transcript.proofs.Told.{play-read}
+use Rattle.transcript.proofs.Told.{play_read}
 use Rattle.transcript.proofs.watched.law_play_read.Goals as goal
 
 pub returns : goal.returns
 returns c = λ message id authority name sequence end_ms number time slots size is plain small short some few.
-    play-read (record { authority = authority; name = name; number = number; time = time })
+    play_read (record { authority = authority; name = name; number = number; time = time })
     (record {
       sequence = sequence;
       end_ms = end_ms;
