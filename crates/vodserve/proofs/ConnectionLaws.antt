@@ -1,5 +1,6 @@
 -- Each connection of a server, and what its report tells of the journal.
-use Rattle.std.proofs.Common.{◌≡◌, ◌≢◌, ◌∙◌, ◌+◌, ◌<◌, ℕ, List, [], ◌∷◌, ◌++◌, length, Option, Some, None, inl, inr, sym, ap, subst, refl, suc, zero, arith, get_or}
+use Rattle.std.proofs.Common.{◌≡◌, ◌≢◌, ◌∙◌, ◌+◌, ◌<◌, ℕ, List, [], ◌∷◌, ◌++◌, length, Option, Some}
+use Rattle.std.proofs.Common.{None, inl, inr, sym, ap, subst, refl, suc, zero, arith, get_or}
 use Rattle.std.specs.Prelude.{All, IfSome, map, slice_index_or}
 use mathlib.Core.List.{IsPrefix}
 use Rattle.std.proofs.lemmas.List.Elements.{All-append, All-cons, All-head, All-map, All-nil, All-tail}
@@ -17,7 +18,7 @@ use Rattle.turnstile.proofs.Prefixes.{prefix_self, prefix_trans}
 use Rattle.conn.specs.Agreement.{Agrees, AgreesIfTold, Visit, visit}
 use Rattle.conn.specs.Journals.{Terms, terms_of}
 use Rattle.conn.specs.Keeping.{Closed, entry_receipts, open_play_from, receipt_for}
-use Rattle.conn.specs.Parts.{AreServed, AreTold, Duty, HasServed, HasServedOne, Outlet, duty, entries_told}
+use Rattle.conn.specs.Parts.{AreServed, AreTold, HasServed, HasServedOne, Outlet, entries_told}
 use Rattle.conn.specs.declared.reports.ConnReport.{ConnReport}
 use Rattle.conn.specs.declared.reports.PartEnd.TheVariants.{NoMemory as PartNoMemory}
 use Rattle.conn.specs.declared.reports.PartReport.{PartReport}
@@ -25,14 +26,16 @@ use Rattle.conn.proofs.Journals.{terms_same}
 use Rattle.conn.proofs.Visits.{agrees_longer, one_agrees}
 use Rattle.command_words.specs.Words.{Serving}
 use Rattle.vodserve.specs.Laws.{IsReceiptIn, IsReportIn, IsServedPart, ServesEach, TellsItsJournal}
-use Rattle.vodserve.specs.Run.{HasServed as HasServedFilms, World}
-use Rattle.vodserve.specs.declared.run.Ended.{Ended}
+use Rattle.vodserve.specs.Run.{HasServed as HasServedFilms}
+use Rattle.vodserve.specs.Sights.{World}
+use Rattle.vodserve.specs.declared.ends.Ended.{Ended}
 use Rattle.vodserve.specs.Worked.{AllWorked, HasBack, HasWorked, IsOpenedOnce, Working, all_reports, settings_of}
-use Rattle.vodserve.proofs.ServeLaws.{HasRunAll, ended_whole, given_back, run_all, worker_of}
+use Rattle.vodserve.proofs.ServeLaws.{HasRunAll, ended_whole, given_back, run_all, work_of, worker_of}
 
 all_left : {A : Type 0} (P : A → Type 0) (xs ys : List A) → All P (xs ++ ys) → All P xs
 all_left P [] ys all = All-nil P
-all_left P (x ∷ xs) ys all = All-cons P x xs (All-head P x (xs ++ ys) all) (all_left P xs ys (All-tail P x (xs ++ ys) all))
+all_left P (x ∷ xs) ys all =
+    All-cons P x xs (All-head P x (xs ++ ys) all) (all_left P xs ys (All-tail P x (xs ++ ys) all))
 
 all_right : {A : Type 0} (P : A → Type 0) (xs ys : List A) → All P (xs ++ ys) → All P ys
 all_right P [] ys all = all
@@ -47,7 +50,8 @@ all_receipts journal seat [] all = all
 all_receipts journal seat (EntryReceipt place answer ∷ rest) all =
     All-cons (IsReceiptIn journal seat) (EntryReceipt place answer) rest
     (All-head (IsReceiptIn journal seat) (EntryReceipt place answer) (entry_receipts rest) all)
-    (all_receipts journal seat rest (All-tail (IsReceiptIn journal seat) (EntryReceipt place answer) (entry_receipts rest) all))
+    (all_receipts journal seat rest
+    (All-tail (IsReceiptIn journal seat) (EntryReceipt place answer) (entry_receipts rest) all))
 all_receipts journal seat (FullReceipt entries open_plays ∷ rest) all =
     All-cons (IsReceiptIn journal seat) (FullReceipt entries open_plays) rest tt (all_receipts journal seat rest all)
 
@@ -65,7 +69,8 @@ receipt_in journal seat placed at =
           ),
     )
 
-made_receipts : (journal : List Entry) (seat : ℕ) → All (IsReceiptIn journal seat) (map receipt_for (made_by seat journal))
+made_receipts : (journal : List Entry) (seat : ℕ) →
+    All (IsReceiptIn journal seat) (map receipt_for (made_by seat journal))
 made_receipts journal seat =
     All-map (IsReceiptIn journal seat) receipt_for (made_by seat journal)
     (λ i d inside. receipt_in journal seat (slice_index_or (made_by seat journal) i d)
@@ -75,43 +80,45 @@ made_receipts journal seat =
 told_receipts : (journal : List Entry) (seat : ℕ) (reports : List ConnReport) →
     All (IsReceiptIn journal seat) (entries_told reports) →
     All (λ (report : ConnReport). All (IsReceiptIn journal seat) report.receipts.items) reports
-told_receipts journal seat [] all = All-nil (λ (report : ConnReport). All (IsReceiptIn journal seat) report.receipts.items)
+told_receipts journal seat [] all =
+    All-nil (λ (report : ConnReport). All (IsReceiptIn journal seat) report.receipts.items)
 told_receipts journal seat (report ∷ reports) all =
     let own : List Receipt = entry_receipts report.receipts.items in
     All-cons (λ (r : ConnReport). All (IsReceiptIn journal seat) r.receipts.items) report reports
-    (all_receipts journal seat report.receipts.items (all_left (IsReceiptIn journal seat) own (entries_told reports) all))
+    (all_receipts journal seat report.receipts.items
+    (all_left (IsReceiptIn journal seat) own (entries_told reports) all))
     (told_receipts journal seat reports (all_right (IsReceiptIn journal seat) own (entries_told reports) all))
 
 -- all that a worker's seat made was made by its connections
-made_all : {serving : Serving} {by : Duty} {journal : List Entry} {gate gate' : Outlet} {report : PartReport}
-    (worked : HasWorked serving by journal gate gate' report) →
-    worked.served.entries.made ≡ made_by (by.worker + 1) journal
+made_all : {work : Working} {worker : ℕ} {gate gate' : Outlet} {report : PartReport}
+    (worked : HasWorked work gate gate' worker report) →
+    worked.served.entries.made ≡ made_by (worker + 1) work.journal
 made_all worked =
-    ap (λ (m : List Placed). m ++ worked.served.entries.made) (sym worked.mine) ∙ sym worked.served.entries.mine_is ∙ worked.made
+    ap (λ (m : List Placed). m ++ worked.served.entries.made) (sym worked.mine) ∙ sym worked.served.entries.mine_is
+    ∙ worked.made
 
 -- the reports of a worker
-part_told : {serving : Serving} {by : Duty} {journal : List Entry} {gate gate' : Outlet} {report : PartReport} →
-    HasWorked serving by journal gate gate' report →
-    All (IsReportIn journal) report.reports.items
-part_told {by} {journal} {report} worked =
-    let entries : HasServed worked.seat.mine report.reports.items worked.left.mine = worked.served.entries in
-    let made : entries.made ≡ made_by (by.worker + 1) journal = made_all worked in
-    let receipts : All (IsReceiptIn journal (by.worker + 1)) (entries_told report.reports.items) =
-    subst (All (IsReceiptIn journal (by.worker + 1)))
-    (ap (map receipt_for) (sym made) ∙ sym entries.receipts_are) (made_receipts journal (by.worker + 1)) in
-    let all = told_receipts journal (by.worker + 1) report.reports.items receipts in
-    λ k none inside.
-    subst (λ (n : ℕ). All (IsReceiptIn journal (n + 1))
-    (slice_index_or report.reports.items k none).receipts.items) (sym (worked.served.reports.worker_is k none inside))
-    (all k none inside)
+part_told : {work : Working} {worker : ℕ} {gate gate' : Outlet} {report : PartReport} →
+    HasWorked work gate gate' worker report → All (IsReportIn work.journal) report.reports.items
+part_told {work} {worker = k} {report} worked =
+    let journal = work.journal in
+    let reports = report.reports.items in
+    let entries : HasServed worked.seat.mine reports worked.left.mine = worked.served.entries in
+    let made : entries.made ≡ made_by (k + 1) journal = made_all worked in
+    let receipts : All (IsReceiptIn journal (k + 1)) (entries_told reports) =
+    subst (All (IsReceiptIn journal (k + 1))) (ap (map receipt_for) (sym made) ∙ sym entries.receipts_are)
+    (made_receipts journal (k + 1)) in
+    let all = told_receipts journal (k + 1) reports receipts in
+    λ i none inside.
+    subst (λ (n : ℕ). All (IsReceiptIn journal (n + 1)) (slice_index_or reports i none).receipts.items)
+    (sym (worked.served.reports.worker_is i none inside)) (all i none inside)
 
-parts_told : (work : Working) (from : ℕ) (parts : List PartReport) →
-    AllWorked work from parts →
-    All (IsReportIn work.journal) (all_reports parts)
+parts_told : {gate gate' : Outlet} (work : Working) (from : ℕ) (parts : List PartReport) →
+    AllWorked work gate gate' from parts → All (IsReportIn work.journal) (all_reports parts)
 parts_told work from [] all = All-nil (IsReportIn work.journal)
-parts_told work from (part ∷ parts) all =
+parts_told {gate} work from (part ∷ parts) all =
     All-append (IsReportIn work.journal) part.reports.items (all_reports parts) (part_told all.0)
-    (parts_told work (from + 1) parts all.1)
+    (parts_told {gate = gate} work (from + 1) parts all.1)
 
 -- the reports are those of the workers
 reports_whole : {before after : World} {seed : List ℕ} {serving : Serving} {ended : Ended}
@@ -126,15 +133,9 @@ pub tells_its_journal : TellsItsJournal
 tells_its_journal before after seed serving ended (inl kept) status =
     subst (All (IsReportIn ended.journal.items)) (sym kept.1.2.1) (All-nil (IsReportIn ended.journal.items))
 tells_its_journal before after seed serving ended (inr served) status =
-    subst (All (IsReportIn ended.journal.items)) (sym (reports_whole served (ended_whole before after _ served.ends status)))
-    (parts_told (record {
-      films = served.films;
-      serving = serving;
-      seed = seed;
-      journal = ended.journal.items;
-      gate = before.gate;
-      gate_after = after.gate;
-    }) 0 served.worked.parts served.worked.each)
+    subst (All (IsReportIn ended.journal.items))
+    (sym (reports_whole served (ended_whole before after _ served.ends status)))
+    (parts_told {gate = before.gate} (work_of served) 0 served.worked.parts served.worked.each)
 
 -- ---- connections
 
@@ -153,9 +154,12 @@ one_on : {films : List Stored} {settings : Settings} {returned : Returned} {repo
     GoesOn old new
 one_on {returned} {old} {new} one = elim one.served [
   | inl from ↦ record {
-    terms = terms_same from.ended.seat new from.closes.noted.seat ∙ terms_same old from.ended.seat from.course.noted.seat;
-    mine = prefix_trans old.mine from.ended.seat.mine new.mine (_, sym from.course.noted.mine) (_, sym from.closes.noted.mine);
-    seen = prefix_trans old.seen from.ended.seat.seen new.seen from.course.noted.seat.longer from.closes.noted.seat.longer;
+    terms = terms_same from.ended.seat new from.closes.noted.seat
+        ∙ terms_same old from.ended.seat from.course.noted.seat;
+    mine = prefix_trans old.mine from.ended.seat.mine new.mine (_, sym from.course.noted.mine)
+        (_, sym from.closes.noted.mine);
+    seen = prefix_trans old.seen from.ended.seat.seen new.seen from.course.noted.seat.longer
+        from.closes.noted.seat.longer;
   }
   | inr nothing ↦ same_on old new nothing.seat
 ]
@@ -203,7 +207,8 @@ one_at {films} {settings} {old} {new} (returned ∷ back) (report ∷ reports) s
   on = all_on films settings back reports served.1.1;
 }
 one_at {old} {new} (returned ∷ back) (report ∷ reports) served (suc k) here =
-    let rest = one_at back reports served.1.1 k (record { none = none; no_report = no_report; inside = omega (arith, inside) }) in
+    let rest = one_at back reports served.1.1 k
+    (record { none = none; no_report = no_report; inside = omega (arith, inside) }) in
     record {
       old = rest.old;
       new = rest.new;
@@ -225,21 +230,18 @@ one_agrees_in {films} {settings} {returned} {report} {left} {journal} one terms_
     (subst (λ t. Agrees served t one.new.seen) (one.terms ∙ terms_is) (one_agrees served one.served told tells found))
     (prefix_trans one.new.seen left.seen journal one.on.seen seen) legal
 
-part_served : {films : List Stored} {serving : Serving} {seed : List ℕ} {journal : List Entry} {gate gate' : Outlet}
-    {content : Content} {worker : ℕ} {report : PartReport} →
-    IsLegal serving.capacity journal →
-    HasWorked serving (duty films (settings_of serving) seed worker) journal gate gate' report →
-    gate'.told ≡ Some content →
+part_served : {work : Working} {gate gate' : Outlet} {content : Content} {worker : ℕ} {report : PartReport} →
+    IsLegal work.serving.capacity work.journal → HasWorked work gate gate' worker report → gate'.told ≡ Some content →
     (part : Part)
-    × ((slice_index_or content.parts worker None ≡ Some part)
-    × IsServedPart films seed serving journal worker part report.reports.items)
-part_served {films} {serving} {seed} {journal} {content} {worker} {report} legal worked told =
-    let settings = settings_of serving in
+    × ((slice_index_or content.parts worker None ≡ Some part) × IsServedPart work worker part report.reports.items)
+part_served {work} {content} {worker} {report} legal worked told =
+    let settings = settings_of work.serving in
     let reports = report.reports.items in
     let back : HasBack worker worked.after.told content =
     subst (λ (t : Option Content). IfSome t (HasBack worker worked.after.told)) told worked.back in
-    let served : AreServed films settings worked.seat back.0.own.back reports worked.left =
-    subst (λ (t : Option Content). AreTold films settings t reports worked.seat worked.left) back.1.0 worked.served.connections in
+    let served : AreServed work.films settings worked.seat back.0.own.back reports worked.left =
+    subst (λ (t : Option Content). AreTold work.films settings t reports worked.seat worked.left) back.1.0
+    worked.served.connections in
     let long : length back.0.own.back ≡ length reports =
     (given_back worked.part back.0 worked.after.told (length reports) worked.served.served back.1.0).1 in (
       back.0.own,
@@ -248,9 +250,10 @@ part_served {films} {serving} {seed} {journal} {content} {worker} {report} legal
         record {
           count = sym long;
           each = λ k none no_report inside.
-              let one : IsOne films settings (slice_index_or back.0.own.back k none)
+              let one : IsOne work.films settings (slice_index_or back.0.own.back k none)
               (slice_index_or reports k no_report) worked.seat worked.left =
-              one_at back.0.own.back reports served k (record { none = none; no_report = no_report; inside = inside }) in
+              one_at back.0.own.back reports served k
+              (record { none = none; no_report = no_report; inside = inside }) in
               record {
                 worker_is = worked.served.reports.worker_is k no_report (omega (arith, inside, long));
                 words_are = worked.served.reports.words_are k no_report (omega (arith, inside, long));
@@ -259,7 +262,7 @@ part_served {films} {serving} {seed} {journal} {content} {worker} {report} legal
                 served = one.served;
                 terms = one.terms ∙ worked.terms;
                 entries = subst (λ (m : List Placed). IsPrefix one.new.mine m) worked.made one.on.mine;
-                seen = prefix_trans one.new.seen worked.left.seen journal one.on.seen worked.seen;
+                seen = prefix_trans one.new.seen worked.left.seen work.journal one.on.seen worked.seen;
                 agrees = one_agrees_in one worked.terms worked.seen legal;
               };
           entries = worked.served.entries.receipts_are ∙ ap (map receipt_for) (made_all worked);
@@ -282,6 +285,6 @@ serves_each before after seed serving ended gate serves told have_run =
       reports = reports_whole run.served run.found;
       each = λ worker none inside.
           part_served run.served.journal.legal
-          (worker_of (record { films = run.served.films; serving = _; seed = seed; journal = _; gate = _; gate_after = _ })
-          worked.parts worked.each worker none (omega (arith, inside, worked.count))) told;
+          (worker_of {gate = before.gate} (work_of run.served) worked.parts worked.each worker none
+          (omega (arith, inside, worked.count))) told;
     }

@@ -1,10 +1,12 @@
 -- How a gate and its parts stand as workers are made and joined.
-use Rattle.std.proofs.Common.{◌≡◌, ◌∙◌, ◌+◌, ◌<◌, ◌≤◌, ◌-◌, ◌^◌, ℕ, List, [], ◌∷◌, length, Option, Some, None, inl, inr, sym, ap, subst, refl, arith}
+use Rattle.std.proofs.Common.{◌≡◌, ◌∙◌, ◌+◌, ◌<◌, ◌≤◌, ◌-◌, ◌^◌, ℕ, List, [], ◌∷◌, length, Option}
+use Rattle.std.proofs.Common.{Some, None, inl, inr, sym, ap, subst, refl, arith}
 use Rattle.std.specs.Prelude.{IfSome, All, option_map, slice_index_or}
 use Rattle.std.proofs.lemmas.Bool.{cases_lt}
 use Rattle.std.proofs.lemmas.List.Elements.{All-head, All-tail}
 use Rattle.vod_base.specs.Outside.{HasRisen}
-use Rattle.vod_base.specs.Gates.{Content, Failed, Part, IsOpen, new_part, after_empty_take, after_open, after_rejoin, split_off, told_rejoined}
+use Rattle.vod_base.specs.Gates.{Content, Failed, Part, IsOpen, new_part, after_empty_take}
+use Rattle.vod_base.specs.Gates.{after_open, after_rejoin, split_off, told_rejoined}
 use Rattle.vod_base.specs.declared.gates.Opening.{Opening}
 use Rattle.station.specs.Seats.{StationState, SeatState}
 use Rattle.conn.specs.Parts.{IsServed, IsUntouched}
@@ -42,7 +44,8 @@ pub split_open : (gate gate' : Option Content) → IfSome gate (λ content. IsOp
 split_open None gate' are is = subst (λ (c : Option Content). IfSome c (λ content. IsOpen content)) (sym is) tt
 split_open (Some c) gate' are is = subst (λ (c' : Option Content). IfSome c' (λ content. IsOpen content)) (sym is) are
 
-open_back : (opening : Opening) (part gate : Option Content) → IsOpenAs opening gate → IsOpenAs opening (told_rejoined part gate)
+open_back : (opening : Opening) (part gate : Option Content) → IsOpenAs opening gate →
+    IsOpenAs opening (told_rejoined part gate)
 open_back opening None None is = tt
 open_back opening None (Some c) is = tt
 open_back opening (Some p) None is = tt
@@ -50,11 +53,13 @@ open_back opening (Some p) (Some c) is = is
 
 pub back_still_open : (opening : Opening) (part gate gate' : Option Content) → IsOpenAs opening gate
     → gate' ≡ told_rejoined part gate → IsOpenAs opening gate'
-back_still_open opening part gate gate' is rejoins = subst (IsOpenAs opening) (sym rejoins) (open_back opening part gate is)
+back_still_open opening part gate gate' is rejoins =
+    subst (IsOpenAs opening) (sym rejoins) (open_back opening part gate is)
 
 pub new_number : (count : ℕ) (gate part : Option Content) → IfSome gate (AreOut 0 count)
     → part ≡ option_map new_part gate → IfSome part (λ content. content.own.number ≡ count)
-new_number count None part are is = subst (λ (c : Option Content). IfSome c (λ content. content.own.number ≡ count)) (sym is) tt
+new_number count None part are is =
+    subst (λ (c : Option Content). IfSome c (λ content. content.own.number ≡ count)) (sym is) tt
 new_number count (Some c) part are is =
     subst (λ (c' : Option Content). IfSome c' (λ content. content.own.number ≡ count)) (sym is) are.counted
 
@@ -99,7 +104,8 @@ pub not_opened_back : (before part gate gate' : Option Content) → IfSome gate 
 not_opened_back before None None gate' since is = none_told (IsNotOpened before) gate' is
 not_opened_back before (Some p) None gate' since is = none_told (IsNotOpened before) gate' is
 not_opened_back before None (Some c) gate' since is = none_told (IsNotOpened before) gate' is
-not_opened_back before (Some p) (Some c) gate' since is = subst (λ (g : Option Content). IfSome g (IsNotOpened before)) (sym is)
+not_opened_back before (Some p) (Some c) gate' since is =
+    subst (λ (g : Option Content). IfSome g (IsNotOpened before)) (sym is)
     (record { told = since.told; told_is = since.told_is; openings = since.openings; own = since.own })
 
 pub not_opened_on : (before mid gate : Option Content) → IfSome mid (IsNotOpened before)
@@ -144,14 +150,14 @@ opened_few count how (Some c) gate is some = subst (λ (g : Option Content). IfS
     (record { fewer = omega (arith, some); idle = λ k inside. absurd (omega (arith, inside)) })
 
 -- the parts of workers that served nothing are back
-record FreshBack (G : Type 0) (told : G → Option Content) (faults : G → ℕ) (from : ℕ)
+record FreshBack {G : Type 0} (told : G → Option Content) (faults : G → ℕ) (from : ℕ)
     (workers : List (Worker G)) (gate : Content) : Type 0 where
   back : AreBack told (Some gate) from workers
   fresh : All (IsFresh told faults) workers
 
 -- workers that did nothing gave back parts of which no connection was taken
 idle_back : {G : Type 0} {told : G → Option Content} {faults : G → ℕ} {from : ℕ} {gate : Content}
-    (workers : List (Worker G)) → FreshBack G told faults from workers gate → (k : ℕ) → from ≤ k →
+    (workers : List (Worker G)) → FreshBack told faults from workers gate → (k : ℕ) → from ≤ k →
     k < from + length workers → (part : Part) × ((slice_index_or gate.parts k None ≡ Some part) × IsIdle part)
 idle_back [] fresh_back k low high = absurd (omega (arith, low, high))
 idle_back {told} {faults} {from} {gate} (worker ∷ workers) fresh_back k low high =
@@ -163,7 +169,8 @@ idle_back {told} {faults} {from} {gate} (worker ∷ workers) fresh_back k low hi
       | inr here ↦
           let is : from ≡ k = omega (arith, here, low) in
           let first : IsFresh told faults worker = All-head (IsFresh told faults) worker workers fresh in
-          let untouched : IsUntouched back.0.0 = subst (λ (p : Option Content). IfSome p IsUntouched) back.0.1.0 first.part in (
+          let untouched : IsUntouched back.0.0 =
+          subst (λ (p : Option Content). IfSome p IsUntouched) back.0.1.0 first.part in (
             back.0.0.own,
             (
               subst (λ (n : ℕ). slice_index_or gate.parts n None ≡ Some back.0.0.own) is back.0.1.1,
@@ -175,14 +182,14 @@ idle_back {told} {faults} {from} {gate} (worker ∷ workers) fresh_back k low hi
     open fresh_back use {back, fresh}
 
 -- workers that served nothing are joined
-pub record FreshJoined (G : Type 0) (told : G → Option Content) (faults : G → ℕ) (hall : StationState)
+pub record FreshJoined {G : Type 0} (told : G → Option Content) (faults : G → ℕ) (hall : StationState)
     (workers : List (Worker G)) (seat : SeatState) (gate : Option Content) : Type 0 where
   pub joined : AreJoined told hall (length workers) workers seat gate
   pub fresh : All (IsFresh told faults) workers
 
-pub joined_few : {G : Type 0} {told : G → Option Content} {faults : G → ℕ} {hall : StationState} {workers : List (Worker G)}
-    {seat : SeatState} (count : ℕ) (gate : Option Content) → FreshJoined G told faults hall workers seat gate →
-    length workers < count → IfSome gate (HasTooFew count)
+pub joined_few : {G : Type 0} {told : G → Option Content} {faults : G → ℕ} {hall : StationState}
+    {workers : List (Worker G)} {seat : SeatState} (count : ℕ) (gate : Option Content) →
+    FreshJoined told faults hall workers seat gate → length workers < count → IfSome gate (HasTooFew count)
 joined_few count None fresh_joined fewer = tt
 joined_few {workers} count (Some c) fresh_joined fewer = record {
   fewer = omega (arith, joined.out.counted, fewer);
@@ -212,7 +219,8 @@ failed_few failed_gate =
     subst (λ (g : Option Content). IfSome g (HasTooFew 2))
     (ap (λ (o : Option Content). told_rejoined (option_map (after_empty_take Failed) (option_map new_part o))
     (option_map split_off o)) (sym opens)
-    ∙ ap (λ (p : Option Content). told_rejoined (option_map (after_empty_take Failed) p) (option_map split_off door)) (sym parts)
+    ∙ ap (λ (p : Option Content). told_rejoined (option_map (after_empty_take Failed) p) (option_map split_off door))
+    (sym parts)
     ∙ ap (λ (s : Option Content). told_rejoined (option_map (after_empty_take Failed) part) s) (sym splits)
     ∙ ap (λ (f : Option Content). told_rejoined f split) (sym fails) ∙ sym rejoins)
     (here how before)
@@ -220,7 +228,8 @@ failed_few failed_gate =
     open failed_gate use {how, before, door, part, split, opens, parts, splits, fails, rejoins}
 
     here : (how : Option Opening) (before : Option Content)
-        → IfSome (told_rejoined (option_map (after_empty_take Failed) (option_map new_part (option_map (after_open how) before)))
+        → IfSome (told_rejoined (option_map (after_empty_take Failed)
+        (option_map new_part (option_map (after_open how) before)))
         (option_map split_off (option_map (after_open how) before))) (HasTooFew 2)
     here how None = tt
     here how (Some c) = record {

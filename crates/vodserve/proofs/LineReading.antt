@@ -1,5 +1,6 @@
 -- The lines that are printed, read back by their keys.
-use Rattle.std.proofs.Common.{◌≡◌, ◌∙◌, ℕ, ◌<◌, ◌^◌, true, List, [], ◌∷◌, ◌++◌, All, None, codes, decimal, length, refl, sym, ap}
+use Rattle.std.proofs.Common.{◌≡◌, ◌∙◌, ℕ, ◌<◌, ◌^◌, true, List, [], ◌∷◌, ◌++◌, All, None, codes}
+use Rattle.std.proofs.Common.{decimal, length, refl, sym, ap}
 use Rattle.std.proofs.lemmas.List.{append-nil, append_assoc}
 use Rattle.command_words.specs.Settings.{setting_value, values_of}
 use Rattle.command_words.specs.Spelling.{Setting, number_setting, word_of}
@@ -16,18 +17,21 @@ use Rattle.vodserve.specs.TextLaws.{TellsPlay, TellsServed}
 use Rattle.vodserve.specs.Served.{served_text}
 use Rattle.vodserve.specs.Watches.{IsShortWatched, watched_text}
 use Rattle.vodserve.proofs.TextReading.{last_clean, last_line_of}
-use Rattle.local_commands.proofs.LineWords.{IsWord, is-word, number-word, AreWords, all-words, line_rest, ended, unended, line-values}
+use Rattle.local_commands.proofs.LineWords.{IsWord, is-word, number-word, AreWords, all-words}
+use Rattle.local_commands.proofs.LineWords.{line_rest, ended, unended, line-values}
 
 -- ---- the line of `watch`
 settings_of : Watched → List Setting
 settings_of w =
-    number_setting (codes "units") w.units ∷ number_setting (codes "bytes") w.bytes ∷ number_setting (codes "frames") w.frames
-    ∷ number_setting (codes "reports") w.reports ∷ number_setting (codes "most") w.most ∷ number_setting (codes "over") w.over
+    number_setting (codes "units") w.units ∷ number_setting (codes "bytes") w.bytes
+    ∷ number_setting (codes "frames") w.frames
+    ∷ number_setting (codes "reports") w.reports ∷ number_setting (codes "most") w.most
+    ∷ number_setting (codes "over") w.over
     ∷ number_setting (codes "under") w.under ∷ []
 
-watched-line : (w : Watched) → watched_text w ≡ codes "watched" ++ line_rest (10 ∷ []) (settings_of w)
+watched_line : (w : Watched) → watched_text w ≡ codes "watched" ++ line_rest (10 ∷ []) (settings_of w)
 unfolding line_rest settings_of
-watched-line w =
+watched_line w =
     let head : List ℕ = codes "watched" in
     let units : List ℕ = with_label (codes "units") w.units in
     let bytes : List ℕ = with_label (codes "bytes") w.bytes in
@@ -44,13 +48,15 @@ watched-line w =
     ∙ append_assoc (head ++ units) bytes (frames ++ (reports ++ (most ++ (over ++ (under ++ codes "\n")))))
     ∙ append_assoc head units (bytes ++ (frames ++ (reports ++ (most ++ (over ++ (under ++ codes "\n"))))))
 
-watched-words : (w : Watched) → IsShortWatched w → All (λ s. IsWord (word_of s)) (settings_of w)
+watched_words : (w : Watched) → IsShortWatched w → All (λ s. IsWord (word_of s)) (settings_of w)
 unfolding settings_of AreWords
-watched-words w short =
+watched_words w short =
     all-words (settings_of w) (
-      number-word (codes "units") w.units short.units_short (none_is 32 (codes "units") refl) (none_is 10 (codes "units") refl),
+      number-word (codes "units") w.units short.units_short (none_is 32 (codes "units") refl)
+          (none_is 10 (codes "units") refl),
       (
-        number-word (codes "bytes") w.bytes short.bytes_short (none_is 32 (codes "bytes") refl) (none_is 10 (codes "bytes") refl),
+        number-word (codes "bytes") w.bytes short.bytes_short (none_is 32 (codes "bytes") refl)
+            (none_is 10 (codes "bytes") refl),
         (
           number-word (codes "frames") w.frames short.frames_short (none_is 32 (codes "frames") refl)
               (none_is 10 (codes "frames") refl),
@@ -77,20 +83,21 @@ watched-words w short =
 
 -- a key of the line has its number
 told : {w : Watched} (key : List ℕ) (number : ℕ) → IsShortWatched w → setting_value key (codes "watched") ≡ None →
-    picked key (settings_of w) ≡ decimal number ∷ [] → are_plain (settings_of w) ≡ true → GivesOnce (watched_text w) key number
+    picked key (settings_of w) ≡ decimal number ∷ [] → are_plain (settings_of w) ≡ true →
+    GivesOnce (watched_text w) key number
 told {w} key number short none given plain =
-    ap (λ (line : List ℕ). values_of key (words_in line)) (watched-line w)
+    ap (λ (line : List ℕ). values_of key (words_in line)) (watched_line w)
     ∙ line-values {key = key} {first =
-    codes "watched"} (record { end = _; words = _; ends = ended }) (settings_of w) (watched-words w short)
+    codes "watched"} (record { end = _; words = _; ends = ended }) (settings_of w) (watched_words w short)
     (record {
       word = is-word (codes "watched") (none_is 32 (codes "watched") refl) (none_is 10 (codes "watched") refl);
       none = none;
     }) refl plain ∙ given
 
-pub play-told : (wish : Wish) (history : History) → IsShortWatched (watched_in wish history)
+pub play_told : (wish : Wish) (history : History) → IsShortWatched (watched_in wish history)
     → TellsPlay wish history (watched_text (watched_in wish history))
 unfolding settings_of
-play-told wish history short =
+play_told wish history short =
     let w = watched_in wish history in
     record {
       pictures_told = told (codes "units") _ short refl refl refl;
@@ -104,16 +111,21 @@ play-told wish history short =
 
 -- ---- the last line of a server
 counts_of : ℕ → ℕ → List Setting
-counts_of connections entries = number_setting (codes "connections") connections ∷ number_setting (codes "entries") entries ∷ []
+counts_of connections entries =
+    number_setting (codes "connections") connections ∷ number_setting (codes "entries") entries ∷ []
 
-counts-words : (connections entries : ℕ) → connections < 2 ^ 64 → entries < 2 ^ 64
+counts_words : (connections entries : ℕ) → connections < 2 ^ 64 → entries < 2 ^ 64
     → All (λ s. IsWord (word_of s)) (counts_of connections entries)
 unfolding counts_of AreWords
-counts-words connections entries small small' =
+counts_words connections entries small small' =
     all-words (counts_of connections entries) (
       number-word (codes "connections") connections small (none_is 32 (codes "connections") refl)
           (none_is 10 (codes "connections") refl),
-      (number-word (codes "entries") entries small' (none_is 32 (codes "entries") refl) (none_is 10 (codes "entries") refl), tt),
+      (
+        number-word (codes "entries") entries small' (none_is 32 (codes "entries") refl)
+            (none_is 10 (codes "entries") refl),
+        tt,
+      ),
     )
 
 -- the two counts of a served line, in their range
@@ -135,7 +147,7 @@ counted counts key number none given plain =
     (sym (append-nil (codes "entries=" ++ decimal entries)))
     ∙ line-values {key = key} {first =
     codes "served"} (record { end = _; words = _; ends = unended }) (counts_of connections entries)
-    (counts-words connections entries small small') (record {
+    (counts_words connections entries small small') (record {
       word = is-word (codes "served") (none_is 32 (codes "served") refl)
           (none_is 10 (codes "served") refl);
       none = none;
@@ -144,14 +156,20 @@ counted counts key number none given plain =
   where
     open counts use {connections, entries, connections_fit as small, entries_fit as small'}
 
-pub served-told : (entries : List Entry) (connections : ℕ) → connections < 2 ^ 64 → length entries < 2 ^ 64 →
+pub served_told : (entries : List Entry) (connections : ℕ) → connections < 2 ^ 64 → length entries < 2 ^ 64 →
     TellsServed connections (length entries) (served_text entries connections)
 unfolding counts_of
-served-told entries connections small small' =
+served_told entries connections small small' =
     let last = last_line_of entries connections in
     record {
-      line = codes "served connections=" ++ (decimal connections ++ 32 ∷ (codes "entries=" ++ decimal (length entries)));
-      last = record { front = last.front; text_is = last.shape; one_line = last_clean connections (length entries) small small' };
+      line = codes "served connections="
+          ++ (decimal connections ++ 32 ∷ (codes "entries=" ++ decimal (length entries)));
+      last = record {
+        front = last.front;
+        text_is = last.shape;
+        one_line =
+            last_clean connections (length entries) small small';
+      };
       connections_told = counted (record {
         connections = connections;
         entries = length entries;

@@ -10,13 +10,13 @@ use Rattle.command_words.specs.Words.{Order, Source, Viewer, are_films, film_sou
 use Rattle.command_words.proofs.FilmLemmas.{films_asked}
 use Rattle.troubles.specs.Messages.{HasGoodName}
 use Rattle.troubles.specs.declared.faults.Trouble.{Trouble}
-use Rattle.troubles.specs.declared.faults.Trouble.TheVariants.{Usage, Refused, StoreFault, SinkFault, NoMemory, GateFault, LinkFault}
+use Rattle.troubles.specs.declared.faults.Trouble.TheVariants.{Usage, Refused, StoreFault}
+use Rattle.troubles.specs.declared.faults.Trouble.TheVariants.{SinkFault, NoMemory, GateFault, LinkFault}
 use Rattle.troubles.proofs.CauseLemmas.{Causes, IsTroubleOf, good_input}
 use Rattle.local_commands.specs.Carrying.{IsInputRefused, IsRead}
 use Rattle.local_commands.specs.declared.done.Done.{Done}
-use Rattle.vodserve.specs.Served.{IsServeTrouble}
 use Rattle.vodserve.specs.Workers.{IsMakeTrouble}
-use Rattle.vodserve.proofs.ServeLemmas.{ServingRun}
+use Rattle.vodserve.proofs.ServeLemmas.{Keeps, ServingRun}
 
 source_named : (source : Source) → MayBeSource source → is_good_name (source_name source) ≡ true
 source_named (trace_source name) may = may
@@ -56,8 +56,7 @@ film_named {name} films are (k, inside, at) =
 
 -- what keeps a server from its work names a film of its words, if it names an input
 pub good_serve_trouble : (served : ServingRun) (trouble : Trouble) → are_films served.serving.films ≡ true →
-    IsServeTrouble served.serving served.told served.faults served.faults_after served.gate served.gate_after trouble →
-    HasGoodName trouble
+    Keeps served trouble → HasGoodName trouble
 good_serve_trouble served Usage are is = tt
 good_serve_trouble served (Refused name fault) are is = film_named served.serving.films are is.0.0
 good_serve_trouble served (StoreFault name) are is = film_named served.serving.films are is.0.0
@@ -67,7 +66,8 @@ good_serve_trouble served GateFault are is = tt
 good_serve_trouble served LinkFault are is = tt
 
 -- seats and parts that can't be made name none
-pub good_make_trouble : (faults faults' : ℕ) (trouble : Trouble) → IsMakeTrouble faults faults' trouble → HasGoodName trouble
+pub good_make_trouble : (faults faults' : ℕ) (trouble : Trouble) → IsMakeTrouble faults faults' trouble →
+    HasGoodName trouble
 good_make_trouble faults faults' Usage is = tt
 good_make_trouble faults faults' (Refused name fault) is = absurd is
 good_make_trouble faults faults' (StoreFault name) is = absurd is

@@ -1,5 +1,6 @@
 -- A script that a library holds has one day: one text and one journal.
-use Rattle.std.proofs.Common.{◌≡◌, ◌∙◌, ◌-◌, ◌<◌, ℕ, List, [], ◌∷◌, length, take, drop, map, get_or, refl, sym, ap, subst, suc, zero, arith, string_bytes}
+use Rattle.std.proofs.Common.{◌≡◌, ◌∙◌, ◌-◌, ◌<◌, ℕ, List, [], ◌∷◌, length, take, drop, map, get_or}
+use Rattle.std.proofs.Common.{refl, sym, ap, subst, suc, zero, arith, string_bytes}
 use Rattle.std.proofs.Math.ListN.{get_or-map}
 use Rattle.std.proofs.lemmas.List.{length-map}
 use Rattle.vod_base.specs.Outside.{File}
@@ -48,7 +49,8 @@ content_as video rate units slices = record {
 
 abbrev content_in : List ℕ → ReelContent
 content_in video =
-    content_as video (rate_of (codes_of (read_after [] video))) (units_in (film_calls video)) (slices_in (film_calls video))
+    content_as video (rate_of (codes_of (read_after [] video))) (units_in (film_calls video))
+    (slices_in (film_calls video))
 
 content_is : (slot : ℕ) (stored : Stored) → source_content slot (Film stored) ≡ content_in stored.film.bytes.items
 content_is slot stored =
@@ -57,20 +59,21 @@ content_is slot stored =
     let is : IsFilm video stored.film.rate stored.film.units.items slices = stored.film.grammar in
     ap (λ (r : ℕ). content_as video r stored.film.units.items slices) is.rate
     ∙ ap (λ (us : List PictureUnit). content_as video (rate_of (codes_of (read_after [] video))) us slices) is.units
-    ∙ ap (λ (ss : List ℕ). content_as video (rate_of (codes_of (read_after [] video))) (units_in (film_calls video)) ss) is.slices
+    ∙ ap (λ (ss : List ℕ). content_as video (rate_of (codes_of (read_after [] video)))
+    (units_in (film_calls video)) ss) is.slices
 
 -- what is held under a name is played in one way
-content_once : (held : List File) (kind : SourceKind) (name : List ℕ) (slot : ℕ) (a b : Source) →
+content_once : {held : List File} {name : List ℕ} (slot : ℕ) (kind : SourceKind) (a b : Source) →
     IsHeldUnder kind held name a → IsHeldUnder kind held name b → source_content slot a ≡ source_content slot b
-content_once held kinds.Film name slot (Film a) (Film b) p q =
+content_once {held} {name} slot kinds.Film (Film a) (Film b) p q =
     content_is slot a
     ∙ ap content_in (held_once held name a.film.bytes.items b.film.bytes.items p q)
     ∙ sym (content_is slot b)
-content_once held kinds.Film name slot (Film a) (Trace b) p q = absurd q
-content_once held kinds.Film name slot (Trace a) b p q = absurd p
-content_once held kinds.Trace name slot (Film a) b p q = absurd p
-content_once held kinds.Trace name slot (Trace a) (Film b) p q = absurd q
-content_once held kinds.Trace name slot (Trace a) (Trace b) p q =
+content_once slot kinds.Film (Film a) (Trace b) p q = absurd q
+content_once slot kinds.Film (Trace a) b p q = absurd p
+content_once slot kinds.Trace (Film a) b p q = absurd p
+content_once slot kinds.Trace (Trace a) (Film b) p q = absurd q
+content_once {held} {name} slot kinds.Trace (Trace a) (Trace b) p q =
     ap (trace_content slot) (trace_once held name a.items b.items p q)
 
 contents_same : (slot : ℕ) (xs ys : List Source) → length xs ≡ length ys →
@@ -104,14 +107,15 @@ reels_once {held} {name} {a} {b} {sources} {others} slot p q are others_are =
     contents_same slot sources others long
     (λ k none inside.
     let one : Named = first_of a.named.items k (omega (arith, inside, are.count)) in
-    let alike : name_of (get_or a.named.items k one) ≡ name_of (get_or b.named.items k one) =
+    let here : Named = get_or a.named.items k one in
+    let there : Named = get_or b.named.items k one in
+    let alike : name_of here ≡ name_of there =
     sym (get_or-map name_of a.named.items k one)
     ∙ ap (λ (ns : List Name). get_or ns k (name_of one)) names
     ∙ get_or-map name_of b.named.items k one in
-    content_once held (get_or b.named.items k one).kind (string_bytes (get_or b.named.items k one).name) slot
-    (get_or sources k none) (get_or others k none)
-    (same_name (get_or a.named.items k one) (get_or b.named.items k one) alike held (get_or sources k none)
-    (are.each k one none (omega (arith, inside, are.count))))
+    content_once {held = held} {name = string_bytes there.name} slot there.kind (get_or sources k none)
+    (get_or others k none)
+    (same_name here there alike held (get_or sources k none) (are.each k one none (omega (arith, inside, are.count))))
     (others_are.each k one none (omega (arith, inside, long, others_are.count))))
 
 day_once : {held : List File} {run : ScriptRun} {text text' : List ℕ} {journal journal' : List Entry} →

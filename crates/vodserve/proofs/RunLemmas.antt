@@ -1,5 +1,6 @@
 -- What was printed of what was done.
-use Rattle.std.proofs.Common.{◌≡◌, ◌∙◌, ◌≤◌, ℕ, ap, List, Option, Some, None, Result, Ok, Err, Vec, Global, inl, inr, sym, subst}
+use Rattle.std.proofs.Common.{◌≡◌, ◌∙◌, ◌≤◌, ℕ, ap, List, Option, Some, None, Result, Ok, Err, Vec}
+use Rattle.std.proofs.Common.{Global, inl, inr, sym, subst}
 use Rattle.std.specs.Prelude.{IfOk, IfErr}
 use Rattle.command_words.specs.Orders.{order_of}
 use Rattle.command_words.specs.declared.orders.Made.{Made}
@@ -8,18 +9,22 @@ use Rattle.command_words.specs.Words.{Order, help, make_of, version}
 use Rattle.plan_cert.specs.declared.Segment.{Segment}
 use Rattle.troubles.specs.Causes.{IsStoreKept, IsReadTrouble}
 use Rattle.troubles.specs.declared.faults.Trouble.{Trouble}
-use Rattle.troubles.specs.declared.faults.Trouble.TheVariants.{Usage, Refused, StoreFault, SinkFault, NoMemory, GateFault, LinkFault}
+use Rattle.troubles.specs.declared.faults.Trouble.TheVariants.{Usage, Refused, StoreFault}
+use Rattle.troubles.specs.declared.faults.Trouble.TheVariants.{SinkFault, NoMemory, GateFault, LinkFault}
 use Rattle.vod_base.specs.Outside.{File}
 use Rattle.local_commands.specs.Carrying.{IsDone, IsInputRefused, IsRead, made_text}
 use Rattle.local_commands.specs.Texts.{help_text, version_text}
 use Rattle.local_commands.proofs.CommandLemmas.{text_of}
-use Rattle.vodserve.specs.Run.{World, Does, HasServedNothing, IsCarriedOut, IsCause, IsWritten, Printed, Prints, Ran, streams_of}
+use Rattle.vodserve.specs.Run.{Does, HasServedNothing, IsCarriedOut, IsCause, IsInputTrouble}
+use Rattle.vodserve.specs.Run.{IsWritten, Printed, Prints, Ran}
+use Rattle.vodserve.specs.Sights.{World, streams_of}
 use Rattle.local_commands.specs.declared.done.Done.{Done}
-use Rattle.vodserve.specs.declared.run.Ended.{Ended}
+use Rattle.vodserve.specs.declared.ends.Ended.{Ended}
 
 written : {order : Order} {ended : Ended} (before after : World) (done : Done) →
     IsDone before.store.told order done.status done.text.items done.plan →
-    IsWritten (streams_of before after) done ended → IsCarriedOut before after order ended
+    IsWritten (streams_of before after) done.text.items done.status done.plan ended →
+    IsCarriedOut before after order ended
 written {order} {ended} before after done is (inl whole) = inl (record {
   text = done.text.items;
   done = subst (λ (status : ℕ). IsDone before.store.told order status done.text.items ended.plan) (sym whole.0)
@@ -37,8 +42,7 @@ written {ended} before after done is (inr cut) = inr (
 )
 
 caused : (before after : World) (order : Order) (trouble : Trouble) → after.out ≡ before.out →
-    IsReadTrouble (IsRead order) (IsInputRefused order) before.store.told before.store.faults after.store.faults
-    trouble → IsCause before after order trouble
+    IsInputTrouble order before.store after.store trouble → IsCause before after order trouble
 caused before after order Usage same cause = absurd cause
 caused before after order (Refused name fault) same cause = (cause, same)
 caused before after order (StoreFault name) same cause = (cause, same)
@@ -50,8 +54,7 @@ caused before after order LinkFault same cause = absurd cause
 -- an order's result: what it did, or the trouble that it met
 record OrderResult (before after : World) (order : Order) (result : Result Done Trouble) : Type 0 where
   ok : IfOk result (λ done. IsDone before.store.told order done.status done.text.items done.plan)
-  err : IfErr result
-      (IsReadTrouble (IsRead order) (IsInputRefused order) before.store.told before.store.faults after.store.faults)
+  err : IfErr result (IsInputTrouble order before.store after.store)
 
 carried_out : {before after : World} {order : Order} (result : Result Done Trouble) (ended : Ended) →
     OrderResult before after order result → Printed (streams_of before after) result ended →
@@ -64,7 +67,7 @@ carried_out {before} {after} {order} (Err trouble) ended given is =
 pub printed : {before after : World} {order : Order} {ended : Ended} (result : Result Done Trouble) →
     after.gate ≡ before.gate → HasServedNothing ended →
     IfOk result (λ done. IsDone before.store.told order done.status done.text.items done.plan) →
-    IfErr result (IsReadTrouble (IsRead order) (IsInputRefused order) before.store.told before.store.faults after.store.faults) →
+    IfErr result (IsInputTrouble order before.store after.store) →
     Printed (streams_of before after) result ended → Prints before after order ended
 printed {before} {after} {order} {ended} result gate nothing ok err is =
     record { gate = gate; nothing = nothing; out = carried_out result ended (record { ok = ok; err = err }) is }
@@ -98,14 +101,16 @@ made_done told film made text (Ok done) is =
 
 pub help_done : {E : Type 0} (told : Option (List File)) (made : Result (Vec ℕ Global) E) →
     IfOk made (λ text. text.items ≡ help_text) →
-    (result : Result Done Trouble) → IfOk result (λ done. (done.status ≡ 0) × (made ≡ Ok done.text) × (done.plan ≡ None)) →
+    (result : Result Done Trouble) →
+    IfOk result (λ done. (done.status ≡ 0) × (made ≡ Ok done.text) × (done.plan ≡ None)) →
     IfOk result (λ done. IsDone told help done.status done.text.items done.plan)
 help_done told made text (Err trouble) is = tt
 help_done told made text (Ok done) is = (is.0, is.2, text_of help_text made done.text text is.1)
 
 pub version_done : {E : Type 0} (told : Option (List File)) (made : Result (Vec ℕ Global) E) →
     IfOk made (λ text. text.items ≡ version_text) →
-    (result : Result Done Trouble) → IfOk result (λ done. (done.status ≡ 0) × (made ≡ Ok done.text) × (done.plan ≡ None)) →
+    (result : Result Done Trouble) →
+    IfOk result (λ done. (done.status ≡ 0) × (made ≡ Ok done.text) × (done.plan ≡ None)) →
     IfOk result (λ done. IsDone told version done.status done.text.items done.plan)
 version_done told made text (Err trouble) is = tt
 version_done told made text (Ok done) is = (is.0, is.2, text_of version_text made done.text text is.1)

@@ -1,11 +1,11 @@
 -- The laws over a server's run.
-use Rattle.std.proofs.Common.{◌≡◌, ◌≢◌, ◌⊎◌, ◌∙◌, ◌<◌, ℕ, List, length, Option, Some, None, Err, inl, inr, sym, subst, refl, arith, zero-add}
+use Rattle.std.proofs.Common.{◌≡◌, ◌≢◌, ◌⊎◌, ◌∙◌, ◌<◌, ℕ, List, length, Option, Some, None, Err}
+use Rattle.std.proofs.Common.{inl, inr, sym, subst, refl, arith, zero-add}
 use Rattle.std.specs.Prelude.{All, IfSome, slice_index_or}
 use Rattle.std.specs.List.{Contains}
 use Rattle.vod_base.specs.Outside.{File, HasRisen}
 use Rattle.vod_base.specs.Gates.{Content, Failed, NoMore, Part}
-use Rattle.admission.specs.declared.entries.Entry.{Entry}
-use Rattle.conn.specs.Parts.{Duty, IsServed, Outlet, duty}
+use Rattle.conn.specs.Parts.{IsServed, Outlet}
 use Rattle.conn.specs.declared.reports.ConnReport.{ConnReport}
 use Rattle.conn.specs.declared.reports.PartReport.{PartReport}
 use Rattle.conn.specs.declared.reports.PartEnd.{PartEnd}
@@ -15,20 +15,23 @@ use Rattle.inputs.specs.Films.{IsHeldRefused}
 use Rattle.troubles.specs.Statuses.{status_of}
 use Rattle.troubles.specs.declared.faults.Fault.{Fault}
 use Rattle.troubles.specs.declared.faults.Trouble.{Trouble}
-use Rattle.troubles.specs.declared.faults.Trouble.TheVariants.{Usage, Refused, StoreFault, SinkFault, NoMemory, GateFault, LinkFault}
-use Rattle.vodserve.specs.Laws.{GivesEachBack, HasGivenBack, HasNoFault, HaveRun, IsServable, LeavesNoneOut, ServesNoRefused, ServesWhatItMay}
-use Rattle.vodserve.specs.Run.{Ends, HasServed, Serves, World, streams_of}
+use Rattle.troubles.specs.declared.faults.Trouble.TheVariants.{Usage, Refused, StoreFault}
+use Rattle.troubles.specs.declared.faults.Trouble.TheVariants.{SinkFault, NoMemory, GateFault, LinkFault}
+use Rattle.vodserve.specs.Laws.{GivesEachBack, HasGivenBack, HasNoFault, HaveRun, IsServable}
+use Rattle.vodserve.specs.Laws.{LeavesNoneOut, ServesNoRefused, ServesWhatItMay}
+use Rattle.vodserve.specs.Run.{Ends, HasServed, Serves}
+use Rattle.vodserve.specs.Sights.{Seen, World, streams_of}
 use Rattle.vodserve.specs.Served.{IsPrinted, IsServeTrouble}
-use Rattle.vodserve.specs.declared.run.Ended.{Ended}
-use Rattle.vodserve.specs.Worked.{AllWorked, AreLeft, HasBack, HasTooFew, HasWorked, IsOpenAs, IsOpenedOnce, HasParts, MayBeServed, Working, opening_of, settings_of}
+use Rattle.vodserve.specs.declared.ends.Ended.{Ended}
+use Rattle.vodserve.specs.Worked.{AllWorked, AreLeft, HasBack, HasTooFew, HasWorked, IsOpenAs, IsOpenedOnce, HasParts}
+use Rattle.vodserve.specs.Worked.{MayBeServed, Working, opening_of, working}
 use Rattle.vodserve.proofs.GateLemmas.{risen_some}
-use Rattle.vodserve.proofs.ServeLemmas.{loaded_accepted, worker_worked, ServingRun}
+use Rattle.vodserve.proofs.ServeLemmas.{Keeps, ServingRun, loaded_accepted, worker_worked}
 
 -- what keeps from serving, where nothing is refused and nothing failed, is want of memory
 pub kept_by_memory : {before after : World} {serving : Serving} (trouble : Trouble) →
     IsServable serving before.store.told → HasNoFault before after →
-    IsServeTrouble serving before.store.told before.store.faults after.store.faults before.gate after.gate
-    trouble → status_of trouble ≡ 6
+    IsServeTrouble serving before.store after.store before.gate after.gate trouble → status_of trouble ≡ 6
 kept_by_memory Usage may none is = absurd is
 kept_by_memory (Refused name fault) may none is =
     absurd (may.accepted name.now fault is.0.0 (is.0.1 may.held may.told_is).refused)
@@ -39,9 +42,9 @@ kept_by_memory GateFault may none is = absurd (none.gate is.0)
 kept_by_memory LinkFault may none is = absurd is
 
 -- and so is what goes wrong at the end
-pub ended_by_memory : {before after : World} {end : PartEnd} (text : List ℕ) (trouble : Trouble) → HasNoFault before after →
-    (end ≡ PartFault → HasRisen before.gate.faults after.gate.faults) →
-    IsPrinted before.out.faults after.out.faults before.out.told after.out.told text end (Err trouble) → status_of trouble ≡ 6
+pub ended_by_memory : {before after : World} {end : PartEnd} (text : List ℕ) (trouble : Trouble) →
+    HasNoFault before after → (end ≡ PartFault → HasRisen before.gate.faults after.gate.faults) →
+    IsPrinted before.out after.out text end (Err trouble) → status_of trouble ≡ 6
 ended_by_memory {end} text Usage none fault is = absurd is
 ended_by_memory {end} text (Refused name cause) none fault is = absurd is
 ended_by_memory {end} text (StoreFault name) none fault is = absurd is
@@ -67,6 +70,16 @@ not_none NoMemory is = omega (arith, is)
 not_none GateFault is = omega (arith, is)
 not_none LinkFault is = omega (arith, is)
 
+-- a server, with what was seen before and after
+abbrev serving_run : World → World → Serving → ServingRun
+serving_run before after serving = record {
+  serving = serving;
+  store = before.store;
+  store_after = after.store;
+  gate = before.gate;
+  gate_after = after.gate;
+}
+
 -- a film that is named, and whose input is refused
 record RefusedFilm (serving : Serving) (held : List File) : Type 0 where
   name : List ℕ
@@ -83,8 +96,7 @@ not_accepted {held} film may = subst (MayBeServed held) named.2 (may named.0 nam
 
 -- where a film is refused the gate is as it was
 same_gate : {held : List File} (served : ServingRun) (trouble : Trouble) → RefusedFilm served.serving held →
-    IsServeTrouble served.serving served.told served.faults served.faults_after served.gate served.gate_after trouble →
-    served.told ≡ Some held → served.gate_after ≡ served.gate
+    Keeps served trouble → served.store.told ≡ Some held → served.gate_after ≡ served.gate
 same_gate served Usage film is tells = absurd is
 same_gate served (Refused other cause) film is tells = is.1
 same_gate served (StoreFault other) film is tells = is.1
@@ -102,14 +114,8 @@ pub serves_no_refused : ServesNoRefused
 serves_no_refused before after seed serving ended held name fault (inl kept) told named refused = (
   λ zero. not_none kept.0 (sym kept.1.3.status ∙ zero),
   kept.1.1,
-  same_gate (record {
-    serving = serving;
-    told = before.store.told;
-    faults = before.store.faults;
-    faults_after = after.store.faults;
-    gate = before.gate;
-    gate_after = after.gate;
-  }) kept.0 (record { name = name; fault = fault; named = named; refused = refused })
+  same_gate (serving_run before after serving) kept.0
+      (record { name = name; fault = fault; named = named; refused = refused })
       kept.1.0 told,
   kept.1.2,
 )
@@ -119,28 +125,19 @@ serves_no_refused before after seed serving ended held name fault (inr served) t
 
 -- ---- how a server's run ended
 
--- what a printed text is told by: the faults before and after, and the output before and after it
-record Printing : Type 0 where
-  faults : ℕ
-  faults_after : ℕ
-  told : Option (List ℕ)
-  told_after : Option (List ℕ)
-  text : List ℕ
-
 -- want of memory in a worker is told by status 6
-not_memory : (printing : Printing) (trouble : Trouble) →
-    IsPrinted printing.faults printing.faults_after printing.told printing.told_after printing.text PartNoMemory (Err trouble) →
-    status_of trouble ≢ 6 → ⊥
-not_memory printing Usage printed status = printed
-not_memory printing (Refused name fault) printed status = printed
-not_memory printing (StoreFault name) printed status = printed
-not_memory printing SinkFault printed status = printed.2 refl
-not_memory printing NoMemory printed status = status refl
-not_memory printing GateFault printed status = apart printed.1
+not_memory : (out out' : Seen (List ℕ)) (text : List ℕ) (trouble : Trouble) →
+    IsPrinted out out' text PartNoMemory (Err trouble) → status_of trouble ≢ 6 → ⊥
+not_memory out out' text Usage printed status = printed
+not_memory out out' text (Refused name fault) printed status = printed
+not_memory out out' text (StoreFault name) printed status = printed
+not_memory out out' text SinkFault printed status = printed.2 refl
+not_memory out out' text NoMemory printed status = status refl
+not_memory out out' text GateFault printed status = apart printed.1
   where
     apart : PartNoMemory ≡ PartFault → ⊥
     apart e = cc
-not_memory printing LinkFault printed status = printed
+not_memory out out' text LinkFault printed status = printed
 
 pub ended_whole : {end : PartEnd} {ended : Ended} (before after : World) (text : List ℕ) →
     Ends (streams_of before after) text end ended →
@@ -150,15 +147,9 @@ ended_whole {end} {ended} before after text (inl whole) status memory = apart (s
     apart : PartNoMemory ≡ AllTaken → ⊥
     apart e = cc
 ended_whole {end} {ended} before after text (inr wrong) status memory =
-    not_memory (record {
-      faults = before.out.faults;
-      faults_after = after.out.faults;
-      told = before.out.told;
-      told_after = after.out.told;
-      text = text;
-    }) wrong.0 (subst
-    (λ (e : PartEnd). IsPrinted before.out.faults after.out.faults before.out.told after.out.told text e (Err wrong.0)) memory
-    wrong.1.0) (λ six. status (wrong.1.1.status ∙ six))
+    not_memory before.out after.out text wrong.0
+    (subst (λ (e : PartEnd). IsPrinted before.out after.out text e (Err wrong.0)) memory wrong.1.0)
+    (λ six. status (wrong.1.1.status ∙ six))
 
 -- a status with which the workers ran
 abbrev IsOfRun : ℕ → Type 0 → Type 0
@@ -174,20 +165,22 @@ other_status status AllParts no_zero no_five no_seven of_run = elim of_run [
 ]
 
 -- what kept a server from its work is told by other statuses, or parts are wanting
-not_kept : {content : Content} (served : ServingRun) (trouble : Trouble) →
-    IsServeTrouble served.serving served.told served.faults served.faults_after served.gate served.gate_after trouble →
+not_kept : {content : Content} (served : ServingRun) (trouble : Trouble) → Keeps served trouble →
     served.gate_after.told ≡ Some content →
     IsOfRun (status_of trouble) (length content.parts ≡ served.serving.listening.workers) → ⊥
 not_kept served Usage is tells of_run = is
 not_kept {content} served (Refused name fault) is tells of_run =
-    other_status 3 (length content.parts ≡ served.serving.listening.workers) (λ e. omega (arith, e)) (λ e. omega (arith, e))
+    other_status 3 (length content.parts ≡ served.serving.listening.workers) (λ e. omega (arith, e))
+    (λ e. omega (arith, e))
     (λ e. omega (arith, e)) of_run
 not_kept {content} served (StoreFault name) is tells of_run =
-    other_status 4 (length content.parts ≡ served.serving.listening.workers) (λ e. omega (arith, e)) (λ e. omega (arith, e))
+    other_status 4 (length content.parts ≡ served.serving.listening.workers) (λ e. omega (arith, e))
+    (λ e. omega (arith, e))
     (λ e. omega (arith, e)) of_run
 not_kept served SinkFault is tells of_run = is
 not_kept {content} served NoMemory is tells of_run =
-    other_status 6 (length content.parts ≡ served.serving.listening.workers) (λ e. omega (arith, e)) (λ e. omega (arith, e))
+    other_status 6 (length content.parts ≡ served.serving.listening.workers) (λ e. omega (arith, e))
+    (λ e. omega (arith, e))
     (λ e. omega (arith, e)) of_run
 not_kept {content} served GateFault is tells of_run =
     let few : HasTooFew served.serving.listening.workers content =
@@ -201,6 +194,11 @@ not_kept {content} served GateFault is tells of_run =
     ]
 not_kept served LinkFault is tells of_run = is
 
+-- what a server that served worked on
+abbrev pub work_of : {before after : World} {seed : List ℕ} {serving : Serving} {ended : Ended} →
+    HasServed before after seed serving ended → Working
+work_of {seed} {serving} {ended} served = working served.films serving seed ended.journal.items
+
 -- a server whose workers ran, and none of them lacked memory
 pub record HasRunAll (before after : World) (seed : List ℕ) (serving : Serving) (ended : Ended) : Type 0 where
   pub served : HasServed before after seed serving ended
@@ -211,14 +209,7 @@ pub run_all : {before after : World} {seed : List ℕ} {serving : Serving} {ende
     HaveRun serving ended gate → HasRunAll before after seed serving ended
 run_all {before} {after} {seed} {serving} {ended} {gate} (inl kept) told have_run =
     let AllParts = length gate.parts ≡ serving.listening.workers in
-    absurd (not_kept (record {
-      serving = serving;
-      told = before.store.told;
-      faults = before.store.faults;
-      faults_after = after.store.faults;
-      gate = before.gate;
-      gate_after = after.gate;
-    }) kept.0 kept.1.0 told
+    absurd (not_kept (serving_run before after serving) kept.0 kept.1.0 told
     (subst (λ (n : ℕ). IsOfRun n AllParts) kept.1.3.status have_run))
 run_all {before} {after} {seed} {serving} {ended} {gate} (inr served) told have_run =
     let AllParts = length gate.parts ≡ serving.listening.workers in
@@ -247,10 +238,9 @@ given_back (Some old) new (Some c) count served is =
 abbrev LastOf : World → World → Part → Type 0
 LastOf before after part = (part.last ≡ NoMore) ⊎ ((part.last ≡ Failed) × HasRisen before.gate.faults after.gate.faults)
 
-last_of : {serving : Serving} {by : Duty} {journal : List Entry} {report : PartReport} {end : PartEnd}
-    {new : Content} (before after : World) →
-    (worked : HasWorked serving by journal before.gate after.gate report) → report.end ≡ end
-    → end ≢ PartNoMemory → worked.after.told ≡ Some new → LastOf before after new.own
+last_of : {work : Working} {worker : ℕ} {report : PartReport} {end : PartEnd} {new : Content} (before after : World) →
+    (worked : HasWorked work before.gate after.gate worker report) → report.end ≡ end → end ≢ PartNoMemory →
+    worked.after.told ≡ Some new → LastOf before after new.own
 last_of {end = AllTaken} {new} before after worked is found told =
     inl (subst (λ (t : Option Content). IfSome t (λ c. c.own.last ≡ NoMore)) told (worked.served.all is))
 last_of {end = PartFault} {new} before after worked is found told =
@@ -261,36 +251,23 @@ last_of {end = PartFault} {new} before after worked is found told =
 last_of {end = PartNoMemory} {new} before after worked is found told = absurd (found refl)
 
 -- the part of a worker is back in the gate
-pub part_back : {before after : World} {serving : Serving} {by : Duty} {journal : List Entry} {content : Content}
-    {report : PartReport} → HasWorked serving by journal before.gate after.gate report →
-    report.end ≢ PartNoMemory → after.gate.told ≡ Some content
-    → (part : Part) × ((slice_index_or content.parts by.worker None ≡ Some part) × HasGivenBack before after part)
-part_back {before} {after} {by} {content} {report} worked found told =
-    let back : HasBack by.worker worked.after.told content =
-    subst (λ (t : Option Content). IfSome t (HasBack by.worker worked.after.told)) told worked.back in (
-      back.0.own,
-      (
-        back.1.1,
-        record {
-          back = (given_back worked.part back.0 worked.after.told (length report.reports.items) worked.served.served back.1.0).0;
-          last = last_of before after worked refl found back.1.0;
-        },
-      ),
-    )
+pub part_back : {before after : World} {work : Working} {worker : ℕ} {content : Content} {report : PartReport} →
+    HasWorked work before.gate after.gate worker report → report.end ≢ PartNoMemory → after.gate.told ≡ Some content →
+    (part : Part) × ((slice_index_or content.parts worker None ≡ Some part) × HasGivenBack before after part)
+part_back {before} {after} {worker = k} {content} {report} worked found told =
+    let back : HasBack k worked.after.told content =
+    subst (λ (t : Option Content). IfSome t (HasBack k worked.after.told)) told worked.back in
+    let given = given_back worked.part back.0 worked.after.told
+    (length report.reports.items) worked.served.served back.1.0 in
+    (back.0.own, (back.1.1, record { back = given.0; last = last_of before after worked refl found back.1.0 }))
 
 -- the worker of a number, from 0 on
-pub worker_of : (work : Working) (parts : List PartReport) →
-    AllWorked work 0 parts → (worker : ℕ)
-    (none : PartReport) → worker < length parts →
-    HasWorked work.serving (duty work.films (settings_of work.serving) work.seed worker) work.journal work.gate work.gate_after
-    (slice_index_or parts worker none)
-worker_of work parts all worker none inside =
-    subst (λ (n : ℕ). HasWorked serving (duty films (settings_of serving) seed n) journal gate gate'
-    (slice_index_or parts worker none)) (zero-add worker)
-    (worker_worked work 0 parts all worker
-    (record { none = none; inside = inside }))
-  where
-    open work use {films, serving, seed, journal, gate, gate_after as gate'}
+pub worker_of : {gate gate' : Outlet} (work : Working) (parts : List PartReport) → AllWorked work gate gate' 0 parts →
+    (worker : ℕ) (none : PartReport) → worker < length parts →
+    HasWorked work gate gate' worker (slice_index_or parts worker none)
+worker_of {gate} {gate'} work parts all worker none inside =
+    subst (λ (n : ℕ). HasWorked work gate gate' n (slice_index_or parts worker none)) (zero-add worker)
+    (worker_worked {gate = gate} work 0 parts all worker (record { none = none; inside = inside }))
 
 -- each worker found memory
 pub each_found : (parts : List PartReport) (end : PartEnd) (reports : List ConnReport) →
@@ -312,9 +289,7 @@ gives_each_back before after seed serving ended gate serves told have_run =
       count = subst (HasParts serving.listening.workers) told worked.split;
       each = λ worker inside.
           let within : worker < length worked.parts = omega (arith, inside, worked.count) in
-          part_back
-          (worker_of (record { films = run.served.films; serving = _; seed = seed; journal = _; gate = _; gate_after = _ })
-          worked.parts worked.each worker none within)
+          part_back (worker_of {gate = before.gate} (work_of run.served) worked.parts worked.each worker none within)
           (each_found worked.parts run.served.end ended.reports.items worked.left run.found worker none within) told;
     }
 
@@ -325,15 +300,18 @@ all_taken : {end : PartEnd} {ended : Ended} (before after : World) (text : List 
 all_taken {end} {ended} before after text (inl whole) status = whole.0.1
 all_taken {end} {ended} before after text (inr wrong) status = absurd (not_none wrong.0 (sym wrong.1.1.status ∙ status))
 
-part_taken : {serving : Serving} {by : Duty} {journal : List Entry} {gate gate' : Outlet} {content : Content}
-    {report : PartReport} → HasWorked serving by journal gate gate' report →
-    report.end ≡ AllTaken → gate'.told ≡ Some content
-    → (part : Part) × ((slice_index_or content.parts by.worker None ≡ Some part) × (part.last ≡ NoMore))
-part_taken {by} {content} worked taken told =
-    let back : HasBack by.worker worked.after.told content =
-    subst (λ (t : Option Content). IfSome t (HasBack by.worker worked.after.told)) told worked.back in (
+part_taken : {work : Working} {worker : ℕ} {gate gate' : Outlet} {content : Content} {report : PartReport} →
+    HasWorked work gate gate' worker report → report.end ≡ AllTaken → gate'.told ≡ Some content →
+    (part : Part) × ((slice_index_or content.parts worker None ≡ Some part) × (part.last ≡ NoMore))
+part_taken {worker = k} {content} worked taken told =
+    let back : HasBack k worked.after.told content =
+    subst (λ (t : Option Content). IfSome t (HasBack k worked.after.told)) told worked.back in (
       back.0.own,
-      (back.1.1, subst (λ (t : Option Content). IfSome t (λ c. c.own.last ≡ NoMore)) back.1.0 (worked.served.all taken)),
+      (
+        back.1.1,
+        subst (λ (t : Option Content). IfSome t (λ c. c.own.last ≡ NoMore)) back.1.0
+            (worked.served.all taken),
+      ),
     )
 
 pub leaves_none_out : LeavesNoneOut
@@ -348,15 +326,6 @@ leaves_none_out before after seed serving ended gate (inr served) status told =
       count = subst (HasParts serving.listening.workers) told worked.split;
       each = λ worker inside.
           let within : worker < length worked.parts = omega (arith, inside, worked.count) in
-          part_taken
-          (worker_of (record {
-            films = served.films;
-            serving = _;
-            seed = seed;
-            journal = _;
-            gate = _;
-            gate_after = _;
-          }) worked.parts
-          worked.each worker none within)
+          part_taken (worker_of {gate = before.gate} (work_of served) worked.parts worked.each worker none within)
           (worked.left.taken (all_taken before after _ served.ends status) worker none within) told;
     }

@@ -1,5 +1,7 @@
 -- The films that words name.
-use Rattle.std.proofs.Common.{◌≡◌, ◌∙◌, ◌+◌, ◌<◌, ◌≤◌, ℕ, true, List, [], ◌∷◌, ◌++◌, length, drop, get_or, Option, Some, None, inl, inr, refl, sym, ap, subst, suc, zero, arith, string_bytes, String, Global, add-one, add-zero, length-append}
+use Rattle.std.proofs.Common.{◌≡◌, ◌∙◌, ◌+◌, ◌<◌, ◌≤◌, ℕ, true, List, [], ◌∷◌, ◌++◌, length, drop}
+use Rattle.std.proofs.Common.{get_or, Option, Some, None, inl, inr, refl, sym, ap, subst, suc, zero}
+use Rattle.std.proofs.Common.{arith, string_bytes, String, Global, add-one, add-zero, length-append}
 use Rattle.std.specs.Prelude.{All, IfSome, codes, map, slice_index_or}
 use Rattle.std.specs.List.{Contains}
 use Rattle.std.specs.Option.{option_to_list}
@@ -11,7 +13,7 @@ use Rattle.vod_base.specs.Names.{is_good_name}
 use Rattle.film_frames.specs.declared.stores.Stored.{Stored}
 use Rattle.session.specs.Ranges.{AreFilms, names_of}
 use Rattle.turnstile.specs.declared.view.Joined.{Joined}
-use Rattle.conn.specs.Parts.{Outlet, duty}
+use Rattle.conn.specs.Parts.{Outlet}
 use Rattle.conn.specs.declared.reports.ConnReport.{ConnReport}
 use Rattle.conn.specs.declared.reports.PartReport.{PartReport}
 use Rattle.conn.specs.declared.reports.PartEnd.{PartEnd}
@@ -31,16 +33,19 @@ use Rattle.admission.specs.Histories.{IsLegal}
 use Rattle.admission.specs.Makers.{made_by}
 use Rattle.station.specs.Seats.{StationState, SeatState, IsJournalOf}
 use Rattle.command_words.specs.Words.{Serving}
-use Rattle.troubles.specs.Causes.{IsReadTrouble}
 use Rattle.troubles.specs.declared.faults.Fault.{Fault}
 use Rattle.troubles.specs.declared.faults.Trouble.{Trouble}
-use Rattle.troubles.specs.declared.faults.Trouble.TheVariants.{Usage, Refused, StoreFault, SinkFault, NoMemory, GateFault, LinkFault}
+use Rattle.troubles.specs.declared.faults.Trouble.TheVariants.{Usage, Refused, StoreFault}
+use Rattle.troubles.specs.declared.faults.Trouble.TheVariants.{SinkFault, NoMemory, GateFault, LinkFault}
 use Rattle.inputs.specs.Films.{IsHeldRefused}
-use Rattle.vodserve.specs.Worked.{AllWorked, AreLeft, AreLoaded, HasOne, HasTooFew, HasWorked, HaveWorked, IsHeld, IsOpenAs, IsOpenedOnce, MayBeServed, Working, opening_of, settings_of}
-use Rattle.vodserve.specs.Workers.{AreJoined, AreWorkers, HasFinished, IsMakeTrouble, report_of}
-use Rattle.vodserve.specs.Served.{HasOnlyOpened, IsFirstRefused, IsJournal, IsNewlyOpen, IsServeTrouble, IsWordNamed}
+use Rattle.vodserve.specs.Sights.{Seen}
+use Rattle.vodserve.specs.Worked.{AllWorked, AreLeft, AreLoaded, HasOne, HasTooFew, HasWorked, HaveWorked, IsHeld}
+use Rattle.vodserve.specs.Worked.{IsOpenAs, IsOpenedOnce, MayBeServed, Working, opening_of}
+use Rattle.vodserve.specs.Workers.{AreJoined, IsMakeTrouble, report_of}
+use Rattle.vodserve.specs.Served.{HasOnlyOpened, IsFilmTrouble, IsFirstRefused, IsJournal, IsNewlyOpen, IsServeTrouble}
+use Rattle.vodserve.specs.Served.{IsWordNamed}
 use Rattle.vodserve.specs.declared.workers.Worker.{Worker}
-use Rattle.vodserve.proofs.WorkerLemmas.{IsStationOf, all_worked}
+use Rattle.vodserve.proofs.WorkerLemmas.{HaveFinished, WorkersOf, all_worked}
 use Rattle.vodserve.proofs.GateLemmas.{counted_parts, risen_since, risen_some}
 
 contains_seam : (xs ys zs : List (List ℕ)) (y : List ℕ) → zs ≡ xs ++ y ∷ ys → Contains zs y
@@ -70,11 +75,13 @@ word_split : {word : String Global} {words : List (String Global)} (word_at : Wo
     (so_far : List (List ℕ)) (name : List ℕ) →
     values_of (codes "film") (texts words) ≡ so_far ++ values_of (codes "film") (texts (drop word_at.place words)) →
     IsWordNamed (string_bytes word) name →
-    values_of (codes "film") (texts words) ≡ so_far ++ name ∷ values_of (codes "film") (texts (drop (word_at.place + 1) words))
+    values_of (codes "film") (texts words) ≡ so_far
+    ++ name ∷ values_of (codes "film") (texts (drop (word_at.place + 1) words))
 word_split {word} {words} word_at so_far name whole named =
     whole ∙ ap (λ (vs : List (List ℕ)). so_far ++ vs)
     (values_rest (codes "film") words word_at.place word word_at.inside word_at.at
-    ∙ ap (λ (o : Option (List ℕ)). option_to_list o ++ values_of (codes "film") (texts (drop (word_at.place + 1) words))) named)
+    ∙ ap (λ (o : Option (List ℕ)). option_to_list o
+    ++ values_of (codes "film") (texts (drop (word_at.place + 1) words))) named)
 
 -- the film of a word is one of the films
 pub word_film : {word : String Global} {words : List (String Global)} (word_at : WordAt words word)
@@ -90,7 +97,8 @@ word_film {words} word_at so_far name whole named =
 pub all_accepted : (told : Option (List File)) (held : List File) (films : List Stored) → told ≡ Some held
     → All (IsHeld told) films → All (MayBeServed held) (names_of films)
 all_accepted told held films told_is all =
-    All-map (MayBeServed held) (λ (film : Stored). string_bytes film.name) films (λ i d inside. (all i d inside held told_is).1)
+    All-map (MayBeServed held) (λ (film : Stored). string_bytes film.name) films
+    (λ i d inside. (all i d inside held told_is).1)
 
 -- a store that holds these files, in which a name's file is refused
 pub record RefusedHeld (told : Option (List File)) (held : List File) (name : List ℕ) (fault : Fault) : Type 0 where
@@ -100,7 +108,8 @@ pub record RefusedHeld (told : Option (List File)) (held : List File) (name : Li
 -- where a film of a word is refused, it is the first one
 pub first_refused : {told : Option (List File)} {held : List File} {word : String Global} {name : List ℕ}
     {fault : Fault} {words : List (String Global)} (word_at : WordAt words word) (films : List Stored) →
-    values_of (codes "film") (texts words) ≡ names_of films ++ values_of (codes "film") (texts (drop word_at.place words)) →
+    values_of (codes "film") (texts words) ≡ names_of films
+    ++ values_of (codes "film") (texts (drop word_at.place words)) →
     IsWordNamed (string_bytes word) name → All (IsHeld told) films → RefusedHeld told held name fault →
     IsFirstRefused (values_of (codes "film") (texts words)) held name fault
 first_refused {told} {held} {name} {words} word_at films whole named all refused_held = record {
@@ -112,7 +121,8 @@ first_refused {told} {held} {name} {words} word_at films whole named all refused
 }
 
 -- films of names that may be served
-pub films_are : (films : List Stored) (names : List (List ℕ)) → are_films names ≡ true → names ≡ names_of films → AreFilms films
+pub films_are : (films : List Stored) (names : List (List ℕ)) → are_films names ≡ true → names ≡ names_of films →
+    AreFilms films
 films_are films names is named =
     let may : MayBeFilms (names_of films) =
     films_asked (names_of films) (subst (λ (ns : List (List ℕ)). are_films ns ≡ true) named is) in
@@ -134,28 +144,20 @@ held_film told film name named is may = λ held told_is. (
   subst (MayBeServed held) (sym named) (may held told_is),
 )
 
--- a serving whose store was read
-pub record StoreRead : Type 0 where
-  pub serving : Serving
-  pub told : Option (List File)
-  pub faults : ℕ
-  pub faults_after : ℕ
-
 -- a trouble of reading keeps from serving, before the gate is opened
-pub read_serves : (store : StoreRead) (gate : Outlet) (t : Trouble) →
-    IsReadTrouble (Contains store.serving.films) (IsFirstRefused store.serving.films) store.told store.faults
-    store.faults_after t →
-    IsServeTrouble store.serving store.told store.faults store.faults_after gate gate t
-read_serves store gate Usage is = is
-read_serves store gate (Refused name fault) is = (is, refl)
-read_serves store gate (StoreFault name) is = (is, refl)
-read_serves store gate SinkFault is = is
-read_serves store gate NoMemory is = inl refl
-read_serves store gate GateFault is = absurd is
-read_serves store gate LinkFault is = absurd is
+pub read_serves : (serving : Serving) (store store' : Seen (List File)) (gate : Outlet) (t : Trouble) →
+    IsFilmTrouble serving store store' t → IsServeTrouble serving store store' gate gate t
+read_serves serving store store' gate Usage is = is
+read_serves serving store store' gate (Refused name fault) is = (is, refl)
+read_serves serving store store' gate (StoreFault name) is = (is, refl)
+read_serves serving store store' gate SinkFault is = is
+read_serves serving store store' gate NoMemory is = inl refl
+read_serves serving store store' gate GateFault is = absurd is
+read_serves serving store store' gate LinkFault is = absurd is
 
 -- films that were loaded may be served
-pub loaded_accepted : (serving : Serving) (told : Option (List File)) (films : List Stored) → AreLoaded told serving.films films →
+pub loaded_accepted : (serving : Serving) (told : Option (List File)) (films : List Stored) →
+    AreLoaded told serving.films films →
     (held : List File) → told ≡ Some held → All (MayBeServed held) serving.films
 loaded_accepted serving told films loaded held is =
     subst (All (MayBeServed held)) loaded.names_are (all_accepted told held films is loaded.held)
@@ -167,26 +169,29 @@ pub only_opened : {serving : Serving} {told : Option (List File)} {gate gate' : 
 only_opened {serving} {told} films loaded once few =
     record { accepted = loaded_accepted serving told films loaded; once = once; few = few }
 
--- a serving with its store's files, and its store and gate before and after
+-- a serving, with its library and its gate before and after
 pub record ServingRun : Type 0 where
   pub serving : Serving
-  pub told : Option (List File)
-  pub faults : ℕ
-  pub faults_after : ℕ
+  pub store : Seen (List File)
+  pub store_after : Seen (List File)
   pub gate : Outlet
   pub gate_after : Outlet
 
+-- what kept it from its work
+abbrev pub Keeps : ServingRun → Trouble → Type 0
+Keeps served = IsServeTrouble served.serving served.store served.store_after served.gate served.gate_after
+
 -- and so does a trouble of making workers
-pub make_serves : (served : ServingRun) (gate' : ℕ) (t : Trouble) → IsMakeTrouble gate' served.gate_after.faults t →
-    served.gate.faults ≤ gate' → HasOnlyOpened served.serving served.told served.gate.told served.gate_after.told →
-    IsServeTrouble served.serving served.told served.faults served.faults_after served.gate served.gate_after t
-make_serves served gate' Usage is low opened = is
-make_serves served gate' (Refused name fault) is low opened = absurd is
-make_serves served gate' (StoreFault name) is low opened = absurd is
-make_serves served gate' SinkFault is low opened = is
-make_serves served gate' NoMemory is low opened = inr opened
-make_serves served gate' GateFault is low opened = (λ end. omega (arith, is end, low), opened)
-make_serves served gate' LinkFault is low opened = absurd is
+pub make_serves : (served : ServingRun) (before : ℕ) (t : Trouble) → IsMakeTrouble before served.gate_after.faults t →
+    served.gate.faults ≤ before →
+    HasOnlyOpened served.serving served.store.told served.gate.told served.gate_after.told → Keeps served t
+make_serves served before Usage is low opened = is
+make_serves served before (Refused name fault) is low opened = absurd is
+make_serves served before (StoreFault name) is low opened = absurd is
+make_serves served before SinkFault is low opened = is
+make_serves served before NoMemory is low opened = inr opened
+make_serves served before GateFault is low opened = (λ end. omega (arith, is end, low), opened)
+make_serves served before LinkFault is low opened = absurd is
 
 pub newly_open_as : (how : Opening) (gate : Option Content) → IsNewlyOpen how gate → IsOpenAs how gate
 newly_open_as how None is = tt
@@ -206,52 +211,42 @@ closed_journal {entries} back whole steps few count = record {
 }
 
 -- the workers that were made have finished, and are joined
-pub record DoneWorkers (G : Type 0) (told : G → Option Content) (faults : G → ℕ) (hall : StationState)
-    (films : List Stored) (serving : Serving) (seed : List ℕ) (workers : List (Worker G)) (seat : SeatState)
+pub record DoneWorkers {G : Type 0} (made : WorkersOf G) (work : Working) (workers : List (Worker G)) (seat : SeatState)
     (gate gate' : Outlet) : Type 0 where
-  pub all : AreWorkers told faults hall 0 workers
-  pub finished : All (HasFinished told faults films (settings_of serving) seed) workers
-  pub back : AreJoined told hall (length workers) workers seat gate'.told
-  pub counted : All (λ worker. 0 < faults worker.part → HasRisen gate.faults gate'.faults) workers
+  pub done : HaveFinished made.told made.faults made.hall work 0 workers
+  pub joined : AreJoined made.told made.hall (length workers) workers seat gate'.told
+  pub counted : All (λ worker. 0 < made.faults worker.part → HasRisen gate.faults gate'.faults) workers
 
 -- what the workers of a closed station did
-pub have_worked : {G : Type 0} {told : G → Option Content} {faults : G → ℕ} {films : List Stored} {seed : List ℕ}
-    {serving : Serving} {hall : StationState} {workers : List (Worker G)} {seat : SeatState} {entries : List Entry}
+pub have_worked : {G : Type 0} {made : WorkersOf G} {work : Working} {workers : List (Worker G)} {seat : SeatState}
     {gate gate' : Outlet} {end : PartEnd} {reports : List ConnReport} →
-    DoneWorkers G told faults hall films serving seed workers seat gate gate' → IsJournalOf seat entries →
-    IsStationOf serving hall → length workers ≡ serving.listening.workers → IsOpenAs (opening_of serving) gate'.told →
-    AreLeft (map report_of workers) end reports → HaveWorked films seed serving entries gate gate' end reports
-have_worked {films} {seed} {serving} {workers} {seat} {entries} {gate} {gate'} {end} done whole of_words count open_as left = record {
-  parts = map report_of workers;
-  count = length-map workers report_of ∙ count;
-  each = all_worked (record {
-    films = films;
-    serving = serving;
-    seed = seed;
-    journal = entries;
-    gate = gate;
-    gate_after = gate';
-  }) workers of_words all finished (record { back = back.back; counted = counted })
-      (record {
+    DoneWorkers made work workers seat gate gate' → IsJournalOf seat work.journal →
+    length workers ≡ work.serving.listening.workers → IsOpenAs (opening_of work.serving) gate'.told →
+    AreLeft (map report_of workers) end reports → HaveWorked work gate gate' end reports
+have_worked {work} {workers} {seat} {gate'} all_done whole count open_as left =
+    let Made : Joined → Type 0 = λ joined. joined.mine ≡ made_by joined.number work.journal in
+    record {
+      parts = map report_of workers;
+      count = length-map workers report_of ∙ count;
+      each = all_worked work workers done (record { back = joined.back; counted = counted }) (record {
         seen = seat.seen;
-        front = back.seen;
+        front = joined.seen;
         whole = whole.seen;
-        made = subst (All (λ (joined : Joined). joined.mine ≡ made_by joined.number entries)) back.joined whole.joined;
+        made = subst (All Made) joined.joined whole.joined;
       });
-  open_as = open_as;
-  split = counted_parts (length workers) (length workers) serving.listening.workers gate'.told back.out count;
-  left = left;
-}
+      open_as = open_as;
+      split = counted_parts (length workers)
+          (length workers) work.serving.listening.workers gate'.told joined.out count;
+      left = left;
+    }
   where
-    open done use {all, finished, back, counted}
+    open all_done use {done, joined, counted}
 
 -- the same from an earlier count of the gate's faults on
-worked_since : (work : Working) (before : Outlet) (from : ℕ) (parts : List PartReport) →
-    AllWorked work from parts →
-    before.faults ≤ work.gate.faults →
-    AllWorked (record work { gate = before }) from parts
+worked_since : {gate gate' : Outlet} (work : Working) (before : Outlet) (from : ℕ) (parts : List PartReport) →
+    AllWorked work gate gate' from parts → before.faults ≤ gate.faults → AllWorked work before gate' from parts
 worked_since work before from [] all low = tt
-worked_since work before from (part ∷ parts) all low = (
+worked_since {gate} {gate'} work before from (part ∷ parts) all low = (
   record {
     seat = all.0.seat;
     left = all.0.left;
@@ -264,31 +259,21 @@ worked_since work before from (part ∷ parts) all low = (
     seen = all.0.seen;
     made = all.0.made;
     back = all.0.back;
-    counted = λ some. risen_since before.faults work.gate.faults work.gate_after.faults (all.0.counted some) low;
+    counted = λ some. risen_since before.faults gate.faults gate'.faults (all.0.counted some) low;
   },
-  worked_since work before (from + 1) parts all.1 low,
+  worked_since {gate = gate} work before (from + 1) parts all.1 low,
 )
 
-pub have_worked_since : {films : List Stored} {seed : List ℕ} {serving : Serving} {entries : List Entry}
-    {before gate gate' : Outlet} {end : PartEnd} {reports : List ConnReport} →
-    HaveWorked films seed serving entries gate gate' end reports → before.faults ≤ gate.faults
-    → HaveWorked films seed serving entries before gate' end reports
-have_worked_since {films} {seed} {serving} {entries} {before} {gate} {gate'} {end} worked low =
-    record {
-      parts = worked.parts;
-      count = worked.count;
-      each = worked_since (record {
-        films = films;
-        serving = serving;
-        seed = seed;
-        journal = entries;
-        gate = gate;
-        gate_after = gate';
-      }) before 0 worked.parts worked.each low;
-      open_as = worked.open_as;
-      split = worked.split;
-      left = worked.left;
-    }
+pub have_worked_since : {work : Working} {before gate gate' : Outlet} {end : PartEnd} {reports : List ConnReport} →
+    HaveWorked work gate gate' end reports → before.faults ≤ gate.faults → HaveWorked work before gate' end reports
+have_worked_since {work} {before} {gate} worked low = record {
+  parts = worked.parts;
+  count = worked.count;
+  each = worked_since {gate = gate} work before 0 worked.parts worked.each low;
+  open_as = worked.open_as;
+  split = worked.split;
+  left = worked.left;
+}
 
 -- a place among parts
 pub record InsideParts (parts : List PartReport) (k : ℕ) : Type 0 where
@@ -296,42 +281,27 @@ pub record InsideParts (parts : List PartReport) (k : ℕ) : Type 0 where
   pub inside : k < length parts
 
 -- the worker of a number
-pub worker_worked : (work : Working) (from : ℕ) (parts : List PartReport) →
-    AllWorked work from parts → (k : ℕ)
-    (here : InsideParts parts k) →
-    HasWorked work.serving (duty work.films (settings_of work.serving) work.seed (from + k)) work.journal
-    work.gate work.gate_after
-    (slice_index_or parts k here.none)
+pub worker_worked : {gate gate' : Outlet} (work : Working) (from : ℕ) (parts : List PartReport) →
+    AllWorked work gate gate' from parts → (k : ℕ) (here : InsideParts parts k) →
+    HasWorked work gate gate' (from + k) (slice_index_or parts k here.none)
 worker_worked work from [] all k here = absurd (omega (arith, here.inside))
-worker_worked work from (part ∷ parts) all zero here =
-    subst (λ (n : ℕ). HasWorked serving (duty films (settings_of serving) seed n) entries gate gate' part)
-    (sym (add-zero from)) all.0
-  where
-    open work use {films, serving, seed, journal as entries, gate, gate_after as gate'}
-worker_worked work from (part ∷ parts) all (suc k) here =
+worker_worked {gate} {gate'} work from (part ∷ parts) all zero here =
+    subst (λ (n : ℕ). HasWorked work gate gate' n part) (sym (add-zero from)) all.0
+worker_worked {gate} {gate'} work from (part ∷ parts) all (suc k) here =
     let on : from + 1 + k ≡ from + suc k = omega arith in
-    subst (λ (n : ℕ). HasWorked serving (duty films (settings_of serving) seed n) entries gate gate'
-    (slice_index_or parts k none)) on
-    (worker_worked work (from + 1) parts all.1 k (record { none = none; inside = omega (arith, inside) }))
-  where
-    open work use {films, serving, seed, journal as entries, gate, gate_after as gate'}
-    open here use {none, inside}
+    subst (λ (n : ℕ). HasWorked work gate gate' n (slice_index_or parts k here.none)) on
+    (worker_worked {gate = gate} work (from + 1) parts all.1 k
+    (record { none = here.none; inside = omega (arith, here.inside) }))
 
 -- a part that failed was counted
-fault_counted : {parts : List PartReport} (work : Working) →
-    AllWorked work 0 parts →
-    HasOne PartFault parts → HasRisen work.gate.faults work.gate_after.faults
+fault_counted : {parts : List PartReport} {gate gate' : Outlet} (work : Working) →
+    AllWorked work gate gate' 0 parts → HasOne PartFault parts → HasRisen gate.faults gate'.faults
 fault_counted {parts = []} work all one = absurd (omega (arith, one.inside))
-fault_counted {parts = part ∷ parts} work all one =
-    let worked = worker_worked work 0
-    (part ∷ parts) all one.worker (record { none = part; inside = one.inside }) in
+fault_counted {parts = part ∷ parts} {gate} work all one =
+    let worked = worker_worked {gate = gate} work 0 (part ∷ parts) all one.worker
+    (record { none = part; inside = one.inside }) in
     worked.counted (risen_some 0 worked.after.faults (worked.served.fault (one.ended part)))
-  where
-    open work use {films, serving, seed, gate}
 
-pub fault_risen : {films : List Stored} {seed : List ℕ} {serving : Serving} {entries : List Entry}
-    {gate gate' : Outlet} {end : PartEnd} {reports : List ConnReport} →
-    HaveWorked films seed serving entries gate gate' end reports → end ≡ PartFault → HasRisen gate.faults gate'.faults
-fault_risen {films} {seed} {serving} {entries} {gate} {gate'} {end} worked is =
-    fault_counted (record { films = films; serving = serving; seed = seed; journal = entries; gate = gate; gate_after = gate' })
-    worked.each (worked.left.failed is)
+pub fault_risen : {work : Working} {gate gate' : Outlet} {end : PartEnd} {reports : List ConnReport} →
+    HaveWorked work gate gate' end reports → end ≡ PartFault → HasRisen gate.faults gate'.faults
+fault_risen {work} worked is = fault_counted work worked.each (worked.left.failed is)

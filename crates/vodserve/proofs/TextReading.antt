@@ -1,5 +1,6 @@
 -- The text of a server is read back.
-use Rattle.std.proofs.Common.{◌≡◌, ◌≢◌, ◌∙◌, ℕ, ◌<◌, ◌^◌, List, ◌∷◌, ◌++◌, All, length, flat_map, codes, decimal, refl, sym, arith}
+use Rattle.std.proofs.Common.{◌≡◌, ◌≢◌, ◌∙◌, ℕ, ◌<◌, ◌^◌, List, ◌∷◌, ◌++◌, All, length, flat_map}
+use Rattle.std.proofs.Common.{codes, decimal, refl, sym, arith}
 use Rattle.std.proofs.lemmas.Fmt.{decimal_injective}
 use Rattle.std.proofs.lemmas.List.{append_assoc, append_cancel_left, append_cancel_right}
 use Rattle.std.proofs.lemmas.List.Elements.{All-append}
@@ -28,18 +29,21 @@ last_line_of entries connections =
     let slots = flat_map (slot_line (booked_in (state_after entries)))
     (booked_slots (state_after entries).now (booked_in (state_after entries))) in
     record {
-      front = journal_text 0 entries ++ (first_words (state_after entries).now ++ (codes "\n" ++ (slots ++ codes "end")));
+      front = journal_text 0 entries
+          ++ (first_words (state_after entries).now ++ (codes "\n" ++ (slots ++ codes "end")));
       shape = simp append_assoc;
     }
 
 pub last_clean : (connections entries : ℕ) → connections < 2 ^ 64 → entries < 2 ^ 64 →
-    All (λ b. b ≢ 10) (codes "served connections=" ++ (decimal connections ++ 32 ∷ (codes "entries=" ++ decimal entries)))
+    All (λ b. b ≢ 10) (codes "served connections="
+    ++ (decimal connections ++ 32 ∷ (codes "entries=" ++ decimal entries)))
 last_clean connections entries small small' =
     let digits : (n : ℕ) → n < 2 ^ 64 → HasNo 10 (decimal n) =
     λ (n : ℕ) few. not_in_decimal 10 n few (λ within. omega (arith, within.0)) in
     All-append (λ b. b ≢ 10) (codes "served connections=")
     (decimal connections ++ 32 ∷ (codes "entries=" ++ decimal entries)) (none_is 10 (codes "served connections=") refl)
-    (All-append (λ b. b ≢ 10) (decimal connections) (32 ∷ (codes "entries=" ++ decimal entries)) (digits connections small)
+    (All-append (λ b. b ≢ 10) (decimal connections) (32 ∷ (codes "entries=" ++ decimal entries))
+    (digits connections small)
     (All-append (λ b. b ≢ 10) (codes " entries=") (decimal entries) (none_is 10 (codes " entries=") refl)
     (digits entries small')))
 
@@ -54,12 +58,17 @@ pub counts_told : {connections connections' : ℕ} {entries entries' : List Entr
 counts_told {connections} {connections'} {entries} {entries'} counts others e =
     let one = last_line_of entries connections in
     let other = last_line_of entries' connections' in
-    let line = codes "served connections=" ++ (decimal connections ++ 32 ∷ (codes "entries=" ++ decimal (length entries))) in
-    let line' = codes "served connections=" ++ (decimal connections' ++ 32 ∷ (codes "entries=" ++ decimal (length entries'))) in
+    let line = codes "served connections="
+    ++ (decimal connections ++ 32 ∷ (codes "entries=" ++ decimal (length entries))) in
+    let line' = codes "served connections="
+    ++ (decimal connections' ++ 32 ∷ (codes "entries=" ++ decimal (length entries'))) in
     let whole = append_cancel_right (one.front ++ 10 ∷ line) (other.front ++ 10 ∷ line') (codes "\n")
     (sym one.shape ∙ e ∙ other.shape) in
     let last = last_cut 10 one.front other.front whole (last_clean connections (length entries) counts.connections_fit
     counts.entries_fit) (last_clean connections' (length entries') others.connections_fit others.entries_fit) in
     let first = field_cut (codes "entries=") counts.connections_fit others.connections_fit
-    (append_cancel_left (codes "served connections=") _ _ last) in
-    (first.number, decimal_injective (length entries) (length entries') counts.entries_fit others.entries_fit first.rest)
+    (append_cancel_left (codes "served connections=") _ _ last) in (
+      first.number,
+      decimal_injective (length entries)
+          (length entries') counts.entries_fit others.entries_fit first.rest,
+    )

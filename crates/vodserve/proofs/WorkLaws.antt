@@ -1,5 +1,5 @@
 -- Commands whose inputs are accepted do their work.
-use Rattle.std.proofs.Common.{◌≡◌, ◌⊎◌, ◌∙◌, List, ℕ, Option, Some, inl, inr, refl, sym, subst}
+use Rattle.std.proofs.Common.{◌≡◌, ◌⊎◌, ◌∙◌, List, ℕ, Option, Some, None, inl, inr, refl, sym, subst}
 use Rattle.vod_base.specs.Outside.{File, HasRisen, told_more}
 use Rattle.admission.specs.declared.entries.Entry.{Entry}
 use Rattle.command_words.specs.declared.orders.FairRun.{FairRun}
@@ -9,12 +9,14 @@ use Rattle.troubles.specs.Causes.{IsReadTrouble}
 use Rattle.troubles.specs.Statuses.{status_of}
 use Rattle.troubles.specs.declared.faults.Fault.{Fault}
 use Rattle.troubles.specs.declared.faults.Trouble.{Trouble}
-use Rattle.troubles.specs.declared.faults.Trouble.TheVariants.{Usage, Refused, StoreFault, SinkFault, NoMemory, GateFault, LinkFault}
+use Rattle.troubles.specs.declared.faults.Trouble.TheVariants.{Usage, Refused, StoreFault}
+use Rattle.troubles.specs.declared.faults.Trouble.TheVariants.{SinkFault, NoMemory, GateFault, LinkFault}
 use Rattle.local_commands.specs.Carrying.{IsDone, IsInputRefused, IsRead}
 use Rattle.local_commands.specs.Days.{IsDayInput, IsDayRefused}
 use Rattle.vodserve.specs.Laws.{DoesWhatItMay, HasDone, HasNoFault, IsAccepted, IsServable, IsWorkOf}
-use Rattle.vodserve.specs.Run.{IsCause, IsTextWritten, Prints, RunsDay, RunsFair, Serves, World, streams_of}
-use Rattle.vodserve.specs.declared.run.Ended.{Ended}
+use Rattle.vodserve.specs.Run.{IsCause, IsWritten, Prints, RunsDay, RunsFair, Serves}
+use Rattle.vodserve.specs.Sights.{World, streams_of}
+use Rattle.vodserve.specs.declared.ends.Ended.{Ended}
 use Rattle.vodserve.proofs.OneDay.{runs_its_day}
 use Rattle.vodserve.proofs.ServeLaws.{ended_by_memory, kept_by_memory}
 
@@ -39,7 +41,8 @@ abbrev IsItsWork : Order → Type 0
 IsItsWork order = (told : Option (List File)) (ended : Ended) (text : List ℕ) →
     IsDone told order ended.status text ended.plan → IsWorkOf told order ended text
 
-printed_whole : {before after : World} {order : Order} {ended : Ended} → IsItsWork order → RefusesNone order before.store.told →
+printed_whole : {before after : World} {order : Order} {ended : Ended} → IsItsWork order →
+    RefusesNone order before.store.told →
     HasNoFault before after → Prints before after order ended → HasDone before after order ended ⊎ (ended.status ≡ 6)
 printed_whole {before} {after} {order} {ended} its may none prints = elim prints.out [
   | inl whole ↦ inl (record {
@@ -59,14 +62,16 @@ accepts order held told_is accepted name fault reads refused = accepted name fau
 
 -- a text that a fault cut off needs a fault
 text_whole : {ended : Ended} (before after : World) (text : List ℕ) → HasNoFault before after →
-    IsTextWritten (streams_of before after) text ended →
+    IsWritten (streams_of before after) text 0 None ended →
     (ended.status ≡ 0) × (after.out.told ≡ told_more before.out.told text) × (after.err ≡ before.err)
 text_whole before after text none (inl whole) = (whole.0, whole.2, whole.3)
 text_whole before after text none (inr cut) = absurd (none.out cut.0)
 
-day_by_memory : {before after : World} {run : ScriptRun} (trouble : Trouble) → IsAccepted (day_of run) before.store.told →
+day_by_memory : {before after : World} {run : ScriptRun} (trouble : Trouble) →
+    IsAccepted (day_of run) before.store.told →
     HasNoFault before after →
-    IsReadTrouble (IsDayInput before.store.told run.script) (IsDayRefused run.script) before.store.told before.store.faults
+    IsReadTrouble (IsDayInput before.store.told run.script)
+    (IsDayRefused run.script) before.store.told before.store.faults
     after.store.faults trouble → status_of trouble ≡ 6
 day_by_memory Usage may none is = absurd is
 day_by_memory (Refused name fault) may none is =
@@ -125,7 +130,8 @@ does_what_it_may before after seed version ended does may none =
 does_what_it_may before after seed (plan_of viewer) ended does may none =
     printed_whole (λ told end text done. done) (accepts (plan_of viewer) may.held may.told_is may.accepted) none does
 does_what_it_may before after seed (check_of viewer cert) ended does may none =
-    printed_whole (λ told end text done. done) (accepts (check_of viewer cert) may.held may.told_is may.accepted) none does
+    printed_whole (λ told end text done. done)
+    (accepts (check_of viewer cert) may.held may.told_is may.accepted) none does
 does_what_it_may before after seed (make_of kind number pictures) ended does may none =
     printed_whole (λ told end text done. done) (λ name fault reads refused. reads) none does.1
 does_what_it_may before after seed (scan_of film) ended does may none =

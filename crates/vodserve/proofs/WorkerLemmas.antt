@@ -1,5 +1,7 @@
 -- Workers that are made, run and joined.
-use Rattle.std.proofs.Common.{◌≡◌, ◌≢◌, ◌⊎◌, ◌∙◌, ◌+◌, ◌<◌, ◌≤◌, ℕ, List, [], ◌∷◌, ◌++◌, length, Option, Some, None, inl, inr, sym, ap, subst, refl, suc, zero, arith, add-zero, zero-add, length-append}
+use Rattle.std.proofs.Common.{◌≡◌, ◌≢◌, ◌⊎◌, ◌∙◌, ◌+◌, ◌<◌, ◌≤◌, ℕ, List, [], ◌∷◌, ◌++◌, length}
+use Rattle.std.proofs.Common.{Option, Some, None, inl, inr, sym, ap, subst, refl, suc, zero, arith}
+use Rattle.std.proofs.Common.{add-zero, zero-add, length-append}
 use Rattle.std.specs.Prelude.{IfSome, All, map, slice_index_or, slice_set}
 use mathlib.Core.List.{IsPrefix}
 use Rattle.std.proofs.Math.ListN.{length-set, get_or-append}
@@ -18,20 +20,22 @@ use Rattle.turnstile.specs.declared.view.Joined.{Joined}
 use Rattle.turnstile.proofs.Prefixes.{prefix_trans}
 use Rattle.conn.specs.Journals.{Terms, terms_of}
 use Rattle.station.specs.Seats.{StationState, IsSameSeat, SeatState, after_join}
-use Rattle.conn.specs.Parts.{Outlet, duty, outlet}
+use Rattle.conn.specs.Parts.{Outlet, outlet}
 use Rattle.conn.specs.declared.reports.ConnReport.{ConnReport}
 use Rattle.conn.specs.declared.reports.PartReport.{PartReport}
 use Rattle.conn.specs.declared.reports.PartEnd.{PartEnd}
 use Rattle.command_words.specs.Words.{Serving}
 use Rattle.conn.specs.declared.reports.PartEnd.TheVariants.{AllTaken, GateFault as PartFault, NoMemory}
-use Rattle.vodserve.specs.Worked.{AllWorked, AreLeft, HasBack, HasOne, HasWorked, IsWorse, Working, all_reports, settings_of, terms_for}
+use Rattle.vodserve.specs.Worked.{AllWorked, AreLeft, HasBack, HasOne, HasWorked, IsWorse, Working}
+use Rattle.vodserve.specs.Worked.{all_reports, settings_of, terms_for}
 use Rattle.vodserve.specs.Workers.{AreBack, AreJoined, AreOut, AreWorkers, HasFinished, IsWorker, joined_of, report_of}
 use Rattle.vodserve.specs.declared.workers.Worker.{Worker}
 
 -- a worker more
 pub workers_push : {G : Type 0} {told : G → Option Content} {faults : G → ℕ} {hall : StationState} {worker : Worker G}
     (from : ℕ) (workers : List (Worker G)) →
-    AreWorkers told faults hall from workers → worker.number ≡ from + length workers → IsWorker told faults hall worker →
+    AreWorkers told faults hall from workers → worker.number ≡ from + length workers →
+    IsWorker told faults hall worker →
     AreWorkers told faults hall from (workers ++ worker ∷ [])
 workers_push from [] all number is = (number ∙ add-zero from, is, tt)
 workers_push from (first ∷ workers) all number is =
@@ -67,7 +71,8 @@ worker_at from [] all i d inside = absurd (omega (arith, inside))
 worker_at from (first ∷ workers) all zero d inside = all.1
 worker_at from (first ∷ workers) all (suc i) d inside = worker_at (from + 1) workers all.2 i d (omega (arith, inside))
 
-pub all_workers : {G : Type 0} (told : G → Option Content) (faults : G → ℕ) (hall : StationState) (from : ℕ) (workers : List (Worker G)) →
+pub all_workers : {G : Type 0} (told : G → Option Content) (faults : G → ℕ) (hall : StationState) (from : ℕ)
+    (workers : List (Worker G)) →
     AreWorkers told faults hall from workers → All (IsWorker told faults hall) workers
 all_workers told faults hall from workers all = λ i d inside. worker_at from workers all i d inside
 
@@ -110,10 +115,12 @@ pub out_more : (count : ℕ) (content : Content) → AreOut 0 count content → 
 out_more count content are = record {
   counted = length-append content.parts (None ∷ []) ∙ ap (λ (n : ℕ). n + 1) are.counted;
   out = λ k low high. elim (cases_lt k count) [
-    | inl before ↦ get_or-append content.parts (None ∷ []) None k (omega (arith, before, are.counted)) ∙ are.out k low before
+    | inl before ↦ get_or-append content.parts (None ∷ []) None k (omega (arith, before, are.counted))
+        ∙ are.out k low before
     | inr last ↦
         let at : k ≡ length content.parts = omega (arith, last, high, are.counted) in
-        ap (λ (j : ℕ). slice_index_or (content.parts ++ None ∷ []) j None) at ∙ get_or-append_seam content.parts None [] None
+        ap (λ (j : ℕ). slice_index_or (content.parts ++ None ∷ []) j None) at
+        ∙ get_or-append_seam content.parts None [] None
   ];
 }
 
@@ -164,7 +171,8 @@ own_back {k} (Some p) (Some c) out_part = (
   ),
 )
 
-later : (part : Option Content) (k n : ℕ) → IfSome part (λ p. p.own.number ≡ n) → k < n → IfSome part (λ p. k < p.own.number)
+later : (part : Option Content) (k n : ℕ) → IfSome part (λ p. p.own.number ≡ n) → k < n →
+    IfSome part (λ p. k < p.own.number)
 later None k n number before = tt
 later (Some p) k n number before = omega (arith, number, before)
 
@@ -204,7 +212,7 @@ back_push parts from (first ∷ workers) worker all last = (
 )
 
 -- a worker is joined: its seat and its part of the gate go back
-pub record WorkerJoins (G : Type 0) (told : G → Option Content) (worker : Worker G) (seat seat' : SeatState)
+pub record WorkerJoins {G : Type 0} (told : G → Option Content) (worker : Worker G) (seat seat' : SeatState)
     (gate gate' : Option Content) : Type 0 where
   pub seated : seat' ≡ after_join seat worker.seat
   pub rejoins : gate' ≡ told_rejoined (told worker.part) gate
@@ -215,7 +223,7 @@ pub record WorkerJoins (G : Type 0) (told : G → Option Content) (worker : Work
 pub join_one : {G : Type 0} {told : G → Option Content} {faults : G → ℕ} {hall : StationState} {count : ℕ}
     {workers : List (Worker G)} {worker : Worker G} {seat seat' : SeatState} {gate gate' : Option Content} →
     AreJoined told hall count workers seat gate → IsWorker told faults hall worker → worker.number ≡ length workers →
-    length workers < count → WorkerJoins G told worker seat seat' gate gate' →
+    length workers < count → WorkerJoins told worker seat seat' gate gate' →
     AreJoined told hall count (workers ++ worker ∷ []) seat' gate'
 join_one {told} {count} {workers} {worker} {seat} {seat'} {gate} so_far is number inside joins =
     let own : IfSome (told worker.part) (λ content. content.own.number ≡ length workers) =
@@ -240,7 +248,8 @@ join_one {told} {count} {workers} {worker} {seat} {seat'} {gate} so_far is numbe
           (told_less (length workers) count (told worker.part) gate own so_far.out));
       back = subst (λ (c : Option Content). AreBack told c 0 (workers ++ worker ∷ [])) (sym rejoins)
           (back_push (record { told = told; gate = told_rejoined (told worker.part) gate }) 0 workers worker
-          (kept_back told 0 workers gate so_far.back (record { place = length workers; number = own; before = omega arith }))
+          (kept_back told 0 workers gate so_far.back
+          (record { place = length workers; number = own; before = omega arith }))
           (subst (λ (k : ℕ). IfSome (told_rejoined (told worker.part) gate) (HasBack k (told worker.part)))
           (sym (zero-add (length workers)))
           (own_back (told worker.part) gate (record { inside = inside; number = own; out = so_far.out }))));
@@ -249,15 +258,16 @@ join_one {told} {count} {workers} {worker} {seat} {seat'} {gate} so_far is numbe
     open joins use {seated, rejoins, longer, seen}
 
 -- the part of the worker that is joined next is out
-part_out : (place count : ℕ) (gate part : Option Content) → IfSome gate (AreOut place count) →
-    IfSome part (λ content. content.own.number ≡ place) → place < count →
+part_out : (place count : ℕ) (gate part : Option Content) → PartOut place count part gate →
     IfSome gate (λ content. IfSome part (λ own. IsOut own.own.number content))
-part_out place count None part out number inside = tt
-part_out place count (Some content) None out number inside = tt
-part_out place count (Some content) (Some own) out number inside = (
+part_out place count None part out_part = tt
+part_out place count (Some content) None out_part = tt
+part_out place count (Some content) (Some own) out_part = (
   omega (arith, number, out.counted, inside),
   subst (λ (k : ℕ). slice_index_or content.parts k None ≡ None) (sym number) (out.out place (omega arith) inside),
 )
+  where
+    open out_part use {inside, number, out}
 
 -- the same of a worker
 pub worker_out : {G : Type 0} {told : G → Option Content} {faults : G → ℕ} {hall : StationState} {worker : Worker G}
@@ -265,13 +275,14 @@ pub worker_out : {G : Type 0} {told : G → Option Content} {faults : G → ℕ}
     (worker.number ≡ place) × IsWorker told faults hall worker → place < count →
     IfSome gate (λ content. IfSome (told worker.part) (λ own. IsOut own.own.number content))
 worker_out {told} {worker} place count gate out is inside =
-    part_out place count gate (told worker.part) out (number_of (told worker.part) worker.number place is.1.part is.0) inside
+    part_out place count gate (told worker.part)
+    (record { inside = inside; number = number_of (told worker.part) worker.number place is.1.part is.0; out = out })
 
 -- how the parts of workers are told and their faults counted, and in which hall they sit
-record WorkersOf (G : Type 0) : Type 0 where
-  told : G → Option Content
-  faults : G → ℕ
-  hall : StationState
+pub record WorkersOf (G : Type 0) : Type 0 where
+  pub told : G → Option Content
+  pub faults : G → ℕ
+  pub hall : StationState
 
 -- every seat that was split is joined
 joined_at : {G : Type 0} {k : ℕ} (of_workers : WorkersOf G) (from : ℕ) (workers : List (Worker G)) →
@@ -283,13 +294,14 @@ joined_at {k} of_workers from (worker ∷ workers) all low high = elim (cases_lt
   | inr here ↦ inl (omega (arith, all.1.seat, all.0, here, low))
 ]
 
-pub all_joined : {G : Type 0} {told : G → Option Content} {hall : StationState} {workers : List (Worker G)} {seat : SeatState}
-    {gate : Option Content} (faults : G → ℕ) →
+pub all_joined : {G : Type 0} {told : G → Option Content} {hall : StationState}
+    {workers : List (Worker G)} {seat : SeatState} {gate : Option Content} (faults : G → ℕ) →
     AreWorkers told faults hall 0 workers → AreJoined told hall (length workers) workers seat gate
     → AllJoined seat.splits seat.joined
 all_joined {told} {hall} {workers} faults all back = record {
   each = λ k low high. subst (λ (js : List Joined). IsJoined js k) (sym back.joined)
-      (joined_at (record { told = told; faults = faults; hall = hall }) 0 workers all low (omega (arith, high, back.splits)));
+      (joined_at (record { told = told; faults = faults; hall = hall }) 0 workers all low
+      (omega (arith, high, back.splits)));
 }
 
 -- how the workers ended, and their reports
@@ -300,14 +312,17 @@ reports_push (first ∷ parts) part =
     ap (λ (rs : List ConnReport). first.reports.items ++ rs) (reports_push parts part)
     ∙ sym (append_assoc first.reports.items (all_reports parts) part.reports.items)
 
-one_before : (end : PartEnd) (parts : List PartReport) (part : PartReport) → HasOne end parts → HasOne end (parts ++ part ∷ [])
+one_before : (end : PartEnd) (parts : List PartReport) (part : PartReport) → HasOne end parts →
+    HasOne end (parts ++ part ∷ [])
 one_before end parts part one = record {
   worker = one.worker;
   inside = omega (arith, one.inside, length-append parts (part ∷ []));
-  ended = λ none. ap (λ (r : PartReport). r.end) (get_or-append parts (part ∷ []) none one.worker one.inside) ∙ one.ended none;
+  ended = λ none. ap (λ (r : PartReport). r.end) (get_or-append parts (part ∷ []) none one.worker one.inside)
+      ∙ one.ended none;
 }
 
-one_last : (end : PartEnd) (parts : List PartReport) (part : PartReport) → part.end ≡ end → HasOne end (parts ++ part ∷ [])
+one_last : (end : PartEnd) (parts : List PartReport) (part : PartReport) → part.end ≡ end →
+    HasOne end (parts ++ part ∷ [])
 one_last end parts part is = record {
   worker = length parts;
   inside = omega (arith, length-append parts (part ∷ []));
@@ -320,7 +335,8 @@ found_more : (parts : List PartReport) (part : PartReport) (end : PartEnd) →
     (end ≡ NoMemory) ⊎ All (λ (p : PartReport). p.end ≢ NoMemory) (parts ++ part ∷ [])
 found_more parts part end found none = by part.end refl
   where
-    by : (is : PartEnd) → part.end ≡ is → (end ≡ NoMemory) ⊎ All (λ (p : PartReport). p.end ≢ NoMemory) (parts ++ part ∷ [])
+    by : (is : PartEnd) → part.end ≡ is →
+        (end ≡ NoMemory) ⊎ All (λ (p : PartReport). p.end ≢ NoMemory) (parts ++ part ∷ [])
     by NoMemory is = inl (none is)
     by AllTaken is = inr (All-push (λ (p : PartReport). p.end ≢ NoMemory) parts part found (λ e. other (sym is ∙ e)))
       where
@@ -335,7 +351,8 @@ pub left_more : {parts : List PartReport} {end end' : PartEnd} {reports : List C
     AreLeft parts end reports → IsWorse end part.end end' →
     AreLeft (parts ++ part ∷ []) end' (reports ++ part.reports.items)
 left_more {parts} {end} {end'} part left worse = record {
-  taken = λ e. All-push (λ (p : PartReport). p.end ≡ AllTaken) parts part (left.taken (worse.taken e).0) (worse.taken e).1;
+  taken = λ e. All-push (λ (p : PartReport). p.end ≡ AllTaken) parts part (left.taken (worse.taken e).0)
+      (worse.taken e).1;
   failed = λ e. elim (worse.fault e) [
     | inl one ↦ one_before PartFault parts part (left.failed one)
     | inr other ↦ one_last PartFault parts part other
@@ -368,21 +385,21 @@ seat_terms {serving} {seat} {left} worker is same steps limit number =
     ∙ ap (λ (n : ℕ). terms_with serving.capacity serving.journal n) (sym same.number ∙ number)
 
 -- what a worker has seen of a journal, and its own entries of it
-record WorkerJournal (G : Type 0) (worker : Worker G) (journal : List Entry) : Type 0 where
+record WorkerJournal {G : Type 0} (worker : Worker G) (journal : List Entry) : Type 0 where
   seen : List Entry
   front : IsPrefix worker.seat.seen seen
   whole : IsPrefix seen journal
   made : worker.seat.mine ≡ made_by worker.seat.number journal
 
 -- a worker that served, as the closed journal and the gate tell of it
-one_worked : {G : Type 0} {told : G → Option Content} {faults : G → ℕ} {films : List Stored} {serving : Serving}
-    {seed : List ℕ} {journal : List Entry} {gate gate' : Outlet} {hall : StationState} {worker : Worker G} →
-    WorkerJournal G worker journal → IsStationOf serving hall → IsWorker told faults hall worker →
-    HasFinished told faults films (settings_of serving) seed worker →
+one_worked : {G : Type 0} {told : G → Option Content} {faults : G → ℕ} {work : Working} {gate gate' : Outlet}
+    {hall : StationState} {worker : Worker G} →
+    WorkerJournal worker work.journal → IsStationOf work.serving hall → IsWorker told faults hall worker →
+    HasFinished told faults work.films (settings_of work.serving) work.seed worker →
     IfSome gate'.told (HasBack worker.number (told worker.part)) →
     (0 < faults worker.part → HasRisen gate.faults gate'.faults) →
-    HasWorked serving (duty films (settings_of serving) seed worker.number) journal gate gate' worker.report
-one_worked {told} {faults} {seed} {journal} {worker} own of_words is finished back counted = record {
+    HasWorked work gate gate' worker.number worker.report
+one_worked {told} {faults} {work} {worker} own of_words is finished back counted = record {
   seat = finished.seat;
   left = worker.seat;
   part = finished.part;
@@ -391,8 +408,8 @@ one_worked {told} {faults} {seed} {journal} {worker} own of_words is finished ba
   terms = seat_terms worker.number of_words finished.served.seat is.steps is.limit is.seat;
   mine = finished.mine;
   untouched = finished.untouched;
-  seen = prefix_trans worker.seat.seen seen journal front whole;
-  made = made ∙ ap (λ (n : ℕ). made_by n journal) is.seat;
+  seen = prefix_trans worker.seat.seen seen work.journal front whole;
+  made = made ∙ ap (λ (n : ℕ). made_by n work.journal) is.seat;
   back = back;
   counted = counted;
 }
@@ -400,41 +417,47 @@ one_worked {told} {faults} {seed} {journal} {worker} own of_words is finished ba
     open own use {seen, front, whole, made}
 
 -- what workers have seen of a journal, and their own entries of it
-pub record WorkersJournal (G : Type 0) (workers : List (Worker G)) (journal : List Entry) : Type 0 where
+pub record WorkersJournal {G : Type 0} (workers : List (Worker G)) (journal : List Entry) : Type 0 where
   pub seen : List Entry
   pub front : All (λ worker. IsPrefix worker.seat.seen seen) workers
   pub whole : IsPrefix seen journal
   pub made : All (λ joined. joined.mine ≡ made_by joined.number journal) (map joined_of workers)
 
 -- the parts of workers are back, and their faults counted
-pub record WorkersBack (G : Type 0) (told : G → Option Content) (faults : G → ℕ) (gate gate' : Outlet)
+pub record WorkersBack {G : Type 0} (told : G → Option Content) (faults : G → ℕ) (gate gate' : Outlet)
     (from : ℕ) (workers : List (Worker G)) : Type 0 where
   pub back : AreBack told gate'.told from workers
   pub counted : All (λ worker. 0 < faults worker.part → HasRisen gate.faults gate'.faults) workers
 
+-- workers of a station of the words' capacity and limit have finished
+pub record HaveFinished {G : Type 0} (told : G → Option Content) (faults : G → ℕ) (hall : StationState)
+    (work : Working) (from : ℕ) (workers : List (Worker G)) : Type 0 where
+  pub of_words : IsStationOf work.serving hall
+  pub all : AreWorkers told faults hall from workers
+  pub finished : All (HasFinished told faults work.films (settings_of work.serving) work.seed) workers
+
 pub all_worked : {G : Type 0} {told : G → Option Content} {faults : G → ℕ} {hall : StationState} {from : ℕ}
-    (work : Working) (workers : List (Worker G)) → IsStationOf work.serving hall →
-    AreWorkers told faults hall from workers →
-    All (HasFinished told faults work.films (settings_of work.serving) work.seed) workers →
-    WorkersBack G told faults work.gate work.gate_after from workers → WorkersJournal G workers work.journal →
-    AllWorked work from (map report_of workers)
-all_worked work [] of_words all finished backs own = tt
-all_worked {told} {faults} {hall} {from} work (worker ∷ workers) of_words all finished backs own =
-    let Ends : Worker _ → Type 0 = HasFinished told faults films (settings_of serving) seed in
+    {gate gate' : Outlet} (work : Working) (workers : List (Worker G)) →
+    HaveFinished told faults hall work from workers → WorkersBack told faults gate gate' from workers →
+    WorkersJournal workers work.journal → AllWorked work gate gate' from (map report_of workers)
+all_worked work [] done backs own = tt
+all_worked {told} {faults} {hall} {from} {gate} {gate'} work (worker ∷ workers) done backs own =
+    let Ends : Worker _ → Type 0 = HasFinished told faults work.films (settings_of work.serving) work.seed in
     let Saw : Worker _ → Type 0 = λ worker. IsPrefix worker.seat.seen seen in
     let Counts : Worker _ → Type 0 = λ worker. 0 < faults worker.part → HasRisen gate.faults gate'.faults in
-    let Made : Joined → Type 0 = λ joined. joined.mine ≡ made_by joined.number journal in (
-      subst (λ (n : ℕ). HasWorked serving (duty films (settings_of serving) seed n) journal gate gate' worker.report) all.0
-          (one_worked (record {
-            seen = seen;
-            front = All-head Saw worker workers front;
-            whole = whole;
-            made = All-head Made (joined_of worker) (map joined_of workers) made;
-          }) of_words all.1
-          (All-head Ends worker workers finished) (subst (λ (n : ℕ). IfSome gate'.told (HasBack n (told worker.part))) (sym all.0)
-          back.0) (All-head Counts worker workers counted)),
-      all_worked {told = told} {faults = faults} {hall = hall} {from = from + 1} work workers of_words
-          all.2 (All-tail Ends worker workers finished)
+    let Made : Joined → Type 0 = λ joined. joined.mine ≡ made_by joined.number work.journal in
+    let first : WorkerJournal worker work.journal = record {
+      seen = seen;
+      front = All-head Saw worker workers front;
+      whole = whole;
+      made = All-head Made (joined_of worker) (map joined_of workers) made;
+    } in
+    let back_first = subst (λ (n : ℕ). IfSome gate'.told (HasBack n (told worker.part))) (sym all.0) back.0 in (
+      subst (λ (n : ℕ). HasWorked work gate gate' n worker.report) all.0
+          (one_worked {work = work} first of_words all.1 (All-head Ends worker workers finished) back_first
+          (All-head Counts worker workers counted)),
+      all_worked {told = told} {faults = faults} {hall = hall} {from = from + 1} work workers
+          (record { of_words = of_words; all = all.2; finished = All-tail Ends worker workers finished })
           (record { back = back.1; counted = All-tail Counts worker workers counted })
           (record {
             seen = seen;
@@ -444,6 +467,6 @@ all_worked {told} {faults} {hall} {from} work (worker ∷ workers) of_words all 
           }),
     )
   where
-    open work use {films, serving, seed, journal, gate, gate_after as gate'}
+    open done use {of_words, all, finished}
     open backs use {back, counted}
     open own use {seen, front, whole, made}

@@ -32,11 +32,11 @@ use Rattle.day_run.specs.declared.scripts.Script.{Script}
 use Rattle.local_commands.specs.Carrying.{IfTold, IsDone, IsInputRefused, IsRead}
 use Rattle.local_commands.specs.Days.{AreHeldAs, HoldsScript, IsDayRefused}
 use Rattle.vodserve.specs.Worked.{AreLoaded, IsOpenedOnce, all_reports, opening_of, settings_of}
-use Rattle.vodserve.specs.Worked.{terms_for}
-use Rattle.vodserve.specs.Run.{Does, HasRunScript, HasServedNothing, Seen, Serves, Streams}
-use Rattle.vodserve.specs.Run.{World}
+use Rattle.vodserve.specs.Worked.{Working, terms_for, working}
+use Rattle.vodserve.specs.Run.{Does, HasRunScript, HasServedNothing, Serves}
+use Rattle.vodserve.specs.Sights.{Seen, Streams, World}
 use Rattle.vodserve.specs.Served.{IsJournal, served_text}
-use Rattle.vodserve.specs.declared.run.Ended.{Ended}
+use Rattle.vodserve.specs.declared.ends.Ended.{Ended}
 
 -- the library tells what it holds, and refuses no film that the words name
 pub record IsServable (serving : Serving) (told : Option (List File)) : Type 0 where
@@ -196,31 +196,30 @@ TellsItsJournal =
 -- number after the worker's own, made up to its end are the first of the journal's entries of that
 -- seat, and all that the seat had seen by then is the journal's front. What its link told and its
 -- report agree with the journal, as the words' capacity and most entries have it
-pub record IsServedBy (films : List Stored) (seed : List ℕ) (serving : Serving)
-    (journal : List Entry) (worker place : ℕ) (returned : Returned) (report : ConnReport)
-    : Type 0 where
+pub record IsServedBy (work : Working) (worker place : ℕ) (returned : Returned)
+    (report : ConnReport) : Type 0 where
   pub worker_is : report.worker ≡ worker
-  pub words_are : report.words ≡ words_of seed worker place
+  pub words_are : report.words ≡ words_of work.seed worker place
   pub old : SeatState
   pub new : SeatState
-  pub served : HasServedOne films (settings_of serving) returned report old new
-  pub terms : terms_of new ≡ terms_for serving worker
-  pub entries : IsPrefix new.mine (made_by (worker + 1) journal)
-  pub seen : IsPrefix new.seen journal
-  pub agrees : AgreesIfTold (visit films (settings_of serving) returned report)
-      (terms_for serving worker) journal
+  pub served : HasServedOne work.films (settings_of work.serving) returned report old new
+  pub terms : terms_of new ≡ terms_for work.serving worker
+  pub entries : IsPrefix new.mine (made_by (worker + 1) work.journal)
+  pub seen : IsPrefix new.seen work.journal
+  pub agrees : AgreesIfTold (visit work.films (settings_of work.serving) returned report)
+      (terms_for work.serving worker) work.journal
 
 -- each connection of a part was served: it has the report at its place, and the entries that the
 -- reports tell are those that the journal has of the worker's seat, in order. Among these each play
 -- that was admitted is halted once, before the next one is admitted
-pub record IsServedPart (films : List Stored) (seed : List ℕ) (serving : Serving)
-    (journal : List Entry) (worker : ℕ) (part : Part) (reports : List ConnReport) : Type 0 where
+pub record IsServedPart (work : Working) (worker : ℕ) (part : Part) (reports : List ConnReport)
+    : Type 0 where
   pub count : length reports ≡ length part.back
   pub each : (k : ℕ) (none : Returned) (no_report : ConnReport) → k < length part.back →
-      IsServedBy films seed serving journal worker k (slice_index_or part.back k none)
+      IsServedBy work worker k (slice_index_or part.back k none)
       (slice_index_or reports k no_report)
-  pub entries : entries_told reports ≡ map receipt_for (made_by (worker + 1) journal)
-  pub halts : open_play_from Closed (made_by (worker + 1) journal) ≡ Closed
+  pub entries : entries_told reports ≡ map receipt_for (made_by (worker + 1) work.journal)
+  pub halts : open_play_from Closed (made_by (worker + 1) work.journal) ≡ Closed
 
 -- the films are those of the library, the journal is a legal history over the capacity, the gate
 -- was opened once, each connection of each worker was served, and the reports are those of the
@@ -236,7 +235,7 @@ pub record HasServedAll (before : World) (seed : List ℕ) (serving : Serving) (
   pub reports : ended.reports.items ≡ all_reports parts
   pub each : (worker : ℕ) (none : PartReport) → worker < serving.listening.workers →
       (part : Part) × ((slice_index_or gate.parts worker None ≡ Some part)
-      × IsServedPart films seed serving ended.journal.items worker part
+      × IsServedPart (working films serving seed ended.journal.items) worker part
       (slice_index_or parts worker none).reports.items)
 
 -- where the workers ran, each connection was served

@@ -1,3 +1,4 @@
+pub mod Sights
 pub mod Run
 pub mod Watches
 pub mod Worked

@@ -1,5 +1,7 @@
 -- What a run of the program did: it carried out what the words ask for, or it said what kept it
--- from that.
+-- from that. `Ran`, at the end, is what `run` promises, and `Does`, before it, has a definition for
+-- each command: `Prints` where a text is printed at the end, `RunsDay`, `RunsFair`, `Watches` and
+-- `Serves`. Above them stands what they are made of.
 use Rattle.std.specs.Prelude.{◌≡◌, ℕ, ◌≤◌, ◌<◌, ◌^◌, Bool, List, [], length, Option, Some, None}
 use Rattle.std.specs.Prelude.{Result, Ok, Err, IfSome, ◌⊎◌}
 use Rattle.vod_base.specs.Outside.{File, HasRisen, told_more, IsFrontMore}
@@ -39,52 +41,17 @@ use Rattle.troubles.specs.declared.faults.Trouble.TheVariants.{LinkFault}
 use Rattle.troubles.specs.declared.faults.Fault.TheVariants.{NoConnection}
 use Rattle.vodserve.specs.Watches.{HasHeardFilm, HasPart, IsWishOf, idle_part, opening_at}
 use Rattle.vodserve.specs.Watches.{IsShortWatched, refusal_of, watched_text}
-use Rattle.vod_base.specs.Gates.{Content}
 use Rattle.film_frames.specs.declared.stores.Stored.{Stored}
-use Rattle.conn.specs.Parts.{Outlet, outlet}
+use Rattle.conn.specs.Parts.{Outlet}
 use Rattle.conn.specs.declared.reports.PartEnd.{PartEnd}
 use Rattle.conn.specs.declared.reports.PartEnd.TheVariants.{GateFault as PartFault}
+use Rattle.vodserve.specs.Sights.{Seen, Streams, World, streams_of}
 use Rattle.vodserve.specs.Worked.{AreLoaded, HasTooFew, HaveWorked, IsOpenAs, IsOpenedOnce}
+use Rattle.vodserve.specs.Worked.{working}
 use Rattle.vodserve.specs.Served.{IsJournal, IsPrinted, IsServeTrouble, served_text}
 use Rattle.local_commands.specs.Carrying.{IfTold, IsDone, IsRead, IsInputRefused}
 use Rattle.local_commands.specs.declared.done.Done.{Done}
-use Rattle.vodserve.specs.declared.run.Ended.{Ended}
-
--- a library or a stream: how many faults it counted, and what it told of its content
-pub record Seen (T : Type 0) : Type 0 where
-  pub faults : ℕ
-  pub told : Option T
-
--- what is seen of a library, a stream or a gate
-abbrev pub sight_of : {S T : Type 0} → (S → ℕ) → (S → Option T) → S → Seen T
-sight_of faults told it = record { faults = faults it; told = told it }
-
-abbrev pub gate_seen : {G : Type 0} → (G → ℕ) → (G → Option Content) → G → Outlet
-gate_seen faults told gate = outlet (faults gate) (told gate)
-
--- the library, the output, the error stream and the gate
-pub record World : Type 0 where
-  pub store : Seen (List File)
-  pub out : Seen (List ℕ)
-  pub err : Seen (List ℕ)
-  pub gate : Outlet
-
-abbrev pub world : Seen (List File) → Seen (List ℕ) → Seen (List ℕ) → Outlet → World
-world store out err gate = record { store = store; out = out; err = err; gate = gate }
-
--- the output and the error stream, before a command and after it
-pub record Streams : Type 0 where
-  pub out : Seen (List ℕ)
-  pub out_after : Seen (List ℕ)
-  pub err : Seen (List ℕ)
-  pub err_after : Seen (List ℕ)
-
-abbrev pub streams : Seen (List ℕ) → Seen (List ℕ) → Seen (List ℕ) → Seen (List ℕ) → Streams
-streams out out' err err' =
-    record { out = out; out_after = out'; err = err; err_after = err' }
-
-abbrev pub streams_of : World → World → Streams
-streams_of before after = streams before.out after.out before.err after.err
+use Rattle.vodserve.specs.declared.ends.Ended.{Ended}
 
 -- a trouble's status, and its line on the error stream, or after a fault there a front of it; the
 -- trouble is one whose line tells its cause
@@ -111,33 +78,32 @@ pub record LeavesFront (before after : World) (order : Order) : Type 0 where
   pub risen : HasRisen before.out.faults after.out.faults
   pub front : IsFrontMore before.out.told after.out.told text
 
--- the text of what was done was written whole; or a fault left a front of it, and was said
-abbrev pub IsWritten : Streams → Done → Ended → Type 0
-IsWritten s done ended =
-    ((ended.status ≡ done.status) × (ended.plan ≡ done.plan)
-    × (s.out_after.told ≡ told_more s.out.told done.text.items) × (s.err_after ≡ s.err))
-    ⊎ (HasRisen s.out.faults s.out_after.faults
-    × IsFrontMore s.out.told s.out_after.told done.text.items
+-- a text was written whole, and status and plan are these; or a fault left a front of it, and was
+-- said
+abbrev pub IsWritten : Streams → List ℕ → ℕ → Option (List Segment) → Ended → Type 0
+IsWritten s text status plan ended =
+    ((ended.status ≡ status) × (ended.plan ≡ plan)
+    × (s.out_after.told ≡ told_more s.out.told text) × (s.err_after ≡ s.err))
+    ⊎ (HasRisen s.out.faults s.out_after.faults × IsFrontMore s.out.told s.out_after.told text
     × Fails s.err s.err_after SinkFault ended)
 
--- the same of what was done; a trouble that kept from it was said alone
+-- the text of what was done was written; or a trouble that kept from it was said alone
 abbrev pub Printed : Streams → Result Done Trouble → Ended → Type 0
-Printed s (Ok done) ended = IsWritten s done ended
+Printed s (Ok done) ended = IsWritten s done.text.items done.status done.plan ended
 Printed s (Err trouble) ended = (s.out_after ≡ s.out) × Fails s.err s.err_after trouble ended
+
+-- an input that a command reads is refused, or the library failed as it was read
+abbrev pub IsInputTrouble : Order → Seen (List File) → Seen (List File) → Trouble → Type 0
+IsInputTrouble order store store' =
+    IsReadTrouble (IsRead order) (IsInputRefused order) store.told store.faults store'.faults
 
 -- what a trouble comes from, and what it leaves of the output: before the text was made nothing was
 -- written
 abbrev pub IsCause : World → World → Order → Trouble → Type 0
 IsCause before after order (Refused name fault) =
-    IsReadTrouble (IsRead order)
-    (IsInputRefused order) before.store.told before.store.faults after.store.faults
-    (Refused name fault)
-    × (after.out ≡ before.out)
+    IsInputTrouble order before.store after.store (Refused name fault) × (after.out ≡ before.out)
 IsCause before after order (StoreFault name) =
-    IsReadTrouble (IsRead order)
-    (IsInputRefused order) before.store.told before.store.faults after.store.faults
-    (StoreFault name)
-    × (after.out ≡ before.out)
+    IsInputTrouble order before.store after.store (StoreFault name) × (after.out ≡ before.out)
 IsCause before after order SinkFault = LeavesFront before after order
 IsCause before after order NoMemory = after.out ≡ before.out
 IsCause before after order _ = ⊥
@@ -162,10 +128,10 @@ pub record Prints (before after : World) (order : Order) (ended : Ended) : Type 
 -- a server's end: its text was written whole; or what went wrong was said
 abbrev pub Ends : Streams → List ℕ → PartEnd → Ended → Type 0
 Ends s text end ended =
-    (IsPrinted s.out.faults s.out_after.faults s.out.told s.out_after.told text end (Ok tt)
+    (IsPrinted s.out s.out_after text end (Ok tt)
     × (ended.status ≡ 0) × (ended.plan ≡ None) × (s.err_after ≡ s.err))
     ⊎ ((trouble : Trouble)
-    × (IsPrinted s.out.faults s.out_after.faults s.out.told s.out_after.told text end (Err trouble)
+    × (IsPrinted s.out s.out_after text end (Err trouble)
     × Fails s.err s.err_after trouble ended))
 
 -- a server that served: the films as they were loaded, the journal, what the workers did over the
@@ -179,8 +145,8 @@ pub record HasServed (before after : World) (seed : List ℕ) (serving : Serving
   pub entries_short : length ended.journal.items < 2 ^ 64
   pub connections_short : length ended.reports.items < 2 ^ 64
   pub end : PartEnd
-  pub worked : HaveWorked films seed serving ended.journal.items before.gate after.gate end
-      ended.reports.items
+  pub worked : HaveWorked (working films serving seed ended.journal.items) before.gate after.gate
+      end ended.reports.items
   pub once : IfSome after.gate.told (IsOpenedOnce before.gate.told)
   pub fault : end ≡ PartFault → HasRisen before.gate.faults after.gate.faults
   pub ends : Ends (streams_of before after)
@@ -190,8 +156,7 @@ pub record HasServed (before after : World) (seed : List ℕ) (serving : Serving
 abbrev pub Serves : World → World → List ℕ → Serving → Ended → Type 0
 Serves before after seed serving ended =
     ((trouble : Trouble)
-    × (IsServeTrouble serving before.store.told before.store.faults after.store.faults before.gate
-    after.gate trouble
+    × (IsServeTrouble serving before.store after.store before.gate after.gate trouble
     × (after.out ≡ before.out) × HasServedNothing ended × Fails before.err after.err trouble ended))
     ⊎ HasServed before after seed serving ended
 
@@ -202,14 +167,6 @@ IsUsage before after ended =
     × HasServedNothing ended
     × Fails before.err after.err Usage ended
 
--- a text was written whole, and the status is 0; or a fault left a front of it, and was said
-abbrev pub IsTextWritten : Streams → List ℕ → Ended → Type 0
-IsTextWritten s text ended =
-    ((ended.status ≡ 0) × (ended.plan ≡ None) × (s.out_after.told ≡ told_more s.out.told text)
-    × (s.err_after ≡ s.err))
-    ⊎ (HasRisen s.out.faults s.out_after.faults × IsFrontMore s.out.told s.out_after.told text
-    × Fails s.err s.err_after SinkFault ended)
-
 -- a day that ran: its journal is a legal history over the link's capacity, and what it printed was
 -- written
 pub record HasRun (streams : Streams) (capacity : List CapacityStep)
@@ -218,7 +175,7 @@ pub record HasRun (streams : Streams) (capacity : List CapacityStep)
   pub no_reports : ended.reports.items ≡ []
   pub text : List ℕ
   pub day : IsDayOf text ended.journal.items
-  pub written : IsTextWritten streams text ended
+  pub written : IsWritten streams text 0 None ended
 
 -- what kept a day from its run: then nothing was written
 abbrev pub HasNotRun : Streams → (Trouble → Type 0) → Ended → Type 0
@@ -302,8 +259,7 @@ pub record HasWatchedFilm (streams : Streams) (gate gate' : Outlet) (watching : 
   pub open_as : IsOpenFor watching gate'
   pub once : IfSome gate'.told (IsOpenedOnce gate.told)
   pub end : WatchEnd
-  pub heard : HasHeardFilm wish gate'.told streams.out.faults streams.out_after.faults
-      streams.out.told streams.out_after.told end
+  pub heard : HasHeardFilm wish gate'.told streams.out streams.out_after end
   pub nothing : HasServedNothing ended
   pub ends : EndsWatch streams.err streams.err_after watching.film end ended
 

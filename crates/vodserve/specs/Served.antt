@@ -24,6 +24,7 @@ use Rattle.troubles.specs.declared.faults.Trouble.TheVariants.{Refused, StoreFau
 use Rattle.troubles.specs.declared.faults.Trouble.TheVariants.{NoMemory, GateFault}
 use Rattle.command_words.specs.Settings.{setting_value}
 use Rattle.command_words.specs.Words.{Serving}
+use Rattle.vodserve.specs.Sights.{Seen}
 use Rattle.vodserve.specs.Worked.{HasTooFew, IsOpenedOnce, MayBeServed}
 
 -- how many connections were served, and how many entries the journal has
@@ -66,24 +67,26 @@ pub record IsFirstRefused (names : List (List ℕ)) (held : List File) (name : L
   pub accepted : All (MayBeServed held) before
   pub refused : IsHeldRefused held name fault
 
--- what keeps a server from its work: the first film that is refused, in the order of the words, or
--- the library, and then the gate is as it was; want of memory; or the gate, which counted a fault.
--- No part of the gate gave a connection
-abbrev pub IsServeTrouble : Serving → Option (List File) → ℕ → ℕ → Outlet → Outlet → Trouble →
-    Type 0
-IsServeTrouble serving told faults faults' gate gate' (Refused name fault) =
-    IsReadTrouble (Contains serving.films) (IsFirstRefused serving.films) told faults faults'
-    (Refused name fault)
-    × (gate' ≡ gate)
-IsServeTrouble serving told faults faults' gate gate' (StoreFault name) =
-    IsReadTrouble (Contains serving.films) (IsFirstRefused serving.films) told faults faults'
-    (StoreFault name)
-    × (gate' ≡ gate)
-IsServeTrouble serving told faults faults' gate gate' NoMemory =
-    (gate' ≡ gate) ⊎ HasOnlyOpened serving told gate.told gate'.told
-IsServeTrouble serving told faults faults' gate gate' GateFault =
-    HasRisen gate.faults gate'.faults × HasOnlyOpened serving told gate.told gate'.told
-IsServeTrouble serving told faults faults' gate gate' _ = ⊥
+-- the first film that is refused, in the order of the words, or a fault of the library
+abbrev pub IsFilmTrouble : Serving → Seen (List File) → Seen (List File) → Trouble → Type 0
+IsFilmTrouble serving store store' =
+    IsReadTrouble (Contains serving.films) (IsFirstRefused serving.films) store.told store.faults
+    store'.faults
+
+-- what keeps a server from its work: a film that is refused, or the library, and then the gate is
+-- as it was; want of memory; or the gate, which counted a fault. No part of the gate gave a
+-- connection
+abbrev pub IsServeTrouble : Serving → Seen (List File) → Seen (List File) → Outlet → Outlet →
+    Trouble → Type 0
+IsServeTrouble serving store store' gate gate' (Refused name fault) =
+    IsFilmTrouble serving store store' (Refused name fault) × (gate' ≡ gate)
+IsServeTrouble serving store store' gate gate' (StoreFault name) =
+    IsFilmTrouble serving store store' (StoreFault name) × (gate' ≡ gate)
+IsServeTrouble serving store store' gate gate' NoMemory =
+    (gate' ≡ gate) ⊎ HasOnlyOpened serving store.told gate.told gate'.told
+IsServeTrouble serving store store' gate gate' GateFault =
+    HasRisen gate.faults gate'.faults × HasOnlyOpened serving store.told gate.told gate'.told
+IsServeTrouble serving store store' gate gate' _ = ⊥
 
 -- a gate that was opened in this way, and not split since
 abbrev pub IsNewlyOpen : Opening → Option Content → Type 0
@@ -97,13 +100,13 @@ IsWordNamed word name = setting_value (codes "film") word ≡ Some name
 -- the text was written whole and each part of the gate gave all its connections; or what went
 -- wrong: want of memory left a front of it; where no worker lacked memory a fault of the output,
 -- which was counted, left a front of it; else a part of the gate failed
-abbrev pub IsPrinted : ℕ → ℕ → Option (List ℕ) → Option (List ℕ) → List ℕ → PartEnd →
+abbrev pub IsPrinted : Seen (List ℕ) → Seen (List ℕ) → List ℕ → PartEnd →
     Result (Unit {0}) Trouble → Type 0
-IsPrinted faults faults' told told' text end (Ok done) = (told' ≡ told_more told text)
-    × (end ≡ AllTaken)
-IsPrinted faults faults' told told' text end (Err SinkFault) = HasRisen faults faults'
-    × IsFrontMore told told' text × (end ≢ PartNoMemory)
-IsPrinted faults faults' told told' text end (Err NoMemory) = IsFrontMore told told' text
-IsPrinted faults faults' told told' text end (Err GateFault) = (told' ≡ told_more told text)
-    × (end ≡ PartFault)
-IsPrinted faults faults' told told' text end (Err _) = ⊥
+IsPrinted out out' text end (Ok done) =
+    (out'.told ≡ told_more out.told text) × (end ≡ AllTaken)
+IsPrinted out out' text end (Err SinkFault) =
+    HasRisen out.faults out'.faults × IsFrontMore out.told out'.told text × (end ≢ PartNoMemory)
+IsPrinted out out' text end (Err NoMemory) = IsFrontMore out.told out'.told text
+IsPrinted out out' text end (Err GateFault) =
+    (out'.told ≡ told_more out.told text) × (end ≡ PartFault)
+IsPrinted out out' text end (Err _) = ⊥

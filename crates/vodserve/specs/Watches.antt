@@ -23,6 +23,7 @@ use Rattle.troubles.specs.Said.{with_label}
 use Rattle.troubles.specs.declared.faults.Fault.{Fault}
 use Rattle.troubles.specs.declared.faults.Fault.TheVariants.{RefusedWith, BadReply, BadFrame}
 use Rattle.troubles.specs.declared.faults.Fault.TheVariants.{Framing, EndedEarly, TurnsSpent}
+use Rattle.vodserve.specs.Sights.{Seen}
 
 -- the refusal that a server's fault is
 abbrev pub refusal_of : WatchFault → Fault
@@ -75,45 +76,37 @@ used_part conn = record { number = 0; given = 1; back = conn ∷ []; last = Gave
 abbrev pub HasPart : Option Content → Part → Type 0
 HasPart told part = IfSome told (λ content. slice_index_or content.parts 0 None ≡ Some part)
 
--- an output that nothing was written to
-pub record IsSameOutput (faults faults' : ℕ) (told told' : Option (List ℕ)) : Type 0 where
-  pub faults_are : faults' ≡ faults
-  pub told_is : told' ≡ told
-
--- a film was watched over a connection that had done nothing yet
-pub record HasHeardFilm (wish : Wish) (gate : Option Content) (faults faults' : ℕ)
-    (told told' : Option (List ℕ)) (end : WatchEnd) : Type 0 where
+-- a film was watched over a connection that had done nothing yet, and was given back
+pub record HasHeardFilm (wish : Wish) (gate : Option Content) (out out' : Seen (List ℕ))
+    (end : WatchEnd) : Type 0 where
   pub conn : Returned
   pub heard : Option (List Doing)
   pub fresh : IfSome heard (λ doings. doings ≡ [])
   pub part : HasPart gate (used_part conn)
   pub link : end ≡ LinkFault → HasRisen 0 conn.faults
-  pub out : end ≡ SinkFault → HasRisen faults faults'
-  pub watched : HasWatched wish end heard conn.told told told'
+  pub output : end ≡ SinkFault → HasRisen out.faults out'.faults
+  pub watched : HasWatched wish end heard conn.told out.told out'.told
 
 -- the same of a part
-pub record HasHeardPart (wish : Wish) (old new : Option Content) (faults faults' : ℕ)
-    (told told' : Option (List ℕ)) (end : WatchEnd) : Type 0 where
+pub record HasHeardPart (wish : Wish) (part part' : Option Content) (out out' : Seen (List ℕ))
+    (end : WatchEnd) : Type 0 where
   pub conn : Returned
   pub heard : Option (List Doing)
   pub fresh : IfSome heard (λ doings. doings ≡ [])
-  pub gave : new ≡ option_map (after_return conn) (option_map after_take old)
+  pub gave : part' ≡ option_map (after_return conn) (option_map after_take part)
   pub link : end ≡ LinkFault → HasRisen 0 conn.faults
-  pub out : end ≡ SinkFault → HasRisen faults faults'
-  pub watched : HasWatched wish end heard conn.told told told'
+  pub output : end ≡ SinkFault → HasRisen out.faults out'.faults
+  pub watched : HasWatched wish end heard conn.told out.told out'.told
 
 -- what a part came to: no connection, and then nothing was written; or a film that was watched
-abbrev pub HearsPart : Wish → Option Content → Option Content → ℕ → ℕ → Option (List ℕ) →
-    Option (List ℕ) → Option WatchEnd → Type 0
-HearsPart wish old new faults faults' told told' None =
-    (new ≡ option_map (after_empty_take NoMore) old) × IsSameOutput faults faults' told told'
-HearsPart wish old new faults faults' told told' (Some end) =
-    HasHeardPart wish old new faults faults' told told' end
+abbrev pub HearsPart : Wish → Option Content → Option Content → Seen (List ℕ) → Seen (List ℕ) →
+    Option WatchEnd → Type 0
+HearsPart wish part part' out out' None =
+    (part' ≡ option_map (after_empty_take NoMore) part) × (out' ≡ out)
+HearsPart wish part part' out out' (Some end) = HasHeardPart wish part part' out out' end
 
 -- the same of a gate
-abbrev pub Hears : Wish → Option Content → ℕ → ℕ → Option (List ℕ) → Option (List ℕ) →
-    Option WatchEnd → Type 0
-Hears wish gate faults faults' told told' None =
-    HasPart gate idle_part × IsSameOutput faults faults' told told'
-Hears wish gate faults faults' told told' (Some end) =
-    HasHeardFilm wish gate faults faults' told told' end
+abbrev pub Hears : Wish → Option Content → Seen (List ℕ) → Seen (List ℕ) → Option WatchEnd →
+    Type 0
+Hears wish gate out out' None = HasPart gate idle_part × (out' ≡ out)
+Hears wish gate out out' (Some end) = HasHeardFilm wish gate out out' end

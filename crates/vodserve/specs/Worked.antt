@@ -93,42 +93,46 @@ abbrev pub HasBack : ℕ → Option Content → Content → Type 0
 HasBack number told gate = (part : Content)
     × ((told ≡ Some part) × (slice_index_or gate.parts number None ≡ Some part.own))
 
--- A worker served its part of the gate, of which no connection had been taken before, from the seat
--- of the number after its own, under the capacity and the most entries that the words say. The
--- journal's entries of that seat are those that the worker made, and all that it saw of the journal
--- is its front. The part is back in the gate, and a fault of it was counted there.
-pub record HasWorked (serving : Serving) (by : Duty) (journal : List Entry) (gate gate' : Outlet)
-    (report : PartReport) : Type 0 where
-  pub seat : SeatState
-  pub left : SeatState
-  pub part : Option Content
-  pub after : Outlet
-  pub served : HasServedPart by seat left (outlet 0 part) after report
-  pub terms : terms_of seat ≡ terms_for serving by.worker
-  pub mine : seat.mine ≡ []
-  pub untouched : IfSome part IsUntouched
-  pub seen : IsPrefix left.seen journal
-  pub made : left.mine ≡ made_by (by.worker + 1) journal
-  pub back : IfSome gate'.told (HasBack by.worker after.told)
-  pub counted : 0 < after.faults → HasRisen gate.faults gate'.faults
-
--- what workers serve: films, by a serving and its seed, with the journal and the gate before and
--- after
+-- what the workers of a server serve: films, as the words say, with identities drawn from a seed;
+-- and the journal that they make
 pub record Working : Type 0 where
   pub films : List Stored
   pub serving : Serving
   pub seed : List ℕ
   pub journal : List Entry
-  pub gate : Outlet
-  pub gate_after : Outlet
+
+abbrev pub working : List Stored → Serving → List ℕ → List Entry → Working
+working films serving seed journal =
+    record { films = films; serving = serving; seed = seed; journal = journal }
+
+-- what the worker of a number serves
+abbrev pub duty_of : Working → ℕ → Duty
+duty_of work worker = duty work.films (settings_of work.serving) work.seed worker
+
+-- A worker served its part of the gate, of which no connection had been taken before, from the seat
+-- of the number after its own, under the capacity and the most entries that the words say. The
+-- journal's entries of that seat are those that the worker made, and all that it saw of the journal
+-- is its front. The part is back in the gate, and a fault of it was counted there.
+pub record HasWorked (work : Working) (gate gate' : Outlet) (worker : ℕ) (report : PartReport)
+    : Type 0 where
+  pub seat : SeatState
+  pub left : SeatState
+  pub part : Option Content
+  pub after : Outlet
+  pub served : HasServedPart (duty_of work worker) seat left (outlet 0 part) after report
+  pub terms : terms_of seat ≡ terms_for work.serving worker
+  pub mine : seat.mine ≡ []
+  pub untouched : IfSome part IsUntouched
+  pub seen : IsPrefix left.seen work.journal
+  pub made : left.mine ≡ made_by (worker + 1) work.journal
+  pub back : IfSome gate'.told (HasBack worker after.told)
+  pub counted : 0 < after.faults → HasRisen gate.faults gate'.faults
 
 -- workers whose numbers go on from one, with their reports
-abbrev pub AllWorked : Working → ℕ → List PartReport → Type 0
-AllWorked work from [] = ⊤
-AllWorked work from (report ∷ reports) =
-    HasWorked work.serving (duty work.films (settings_of work.serving) work.seed from) work.journal
-    work.gate work.gate_after report
-    × AllWorked work (from + 1) reports
+abbrev pub AllWorked : Working → Outlet → Outlet → ℕ → List PartReport → Type 0
+AllWorked work gate gate' from [] = ⊤
+AllWorked work gate gate' from (report ∷ reports) =
+    HasWorked work gate gate' from report × AllWorked work gate gate' (from + 1) reports
 
 -- the reports of workers on their connections: those of the first one, then those of the next, and
 -- so on
@@ -159,19 +163,11 @@ pub record AreLeft (parts : List PartReport) (end : PartEnd) (reports : List Con
 
 -- The workers of a server: as many as the words say, each over a part of a gate that was opened as
 -- they say, and what is left of them.
-pub record HaveWorked (films : List Stored) (seed : List ℕ) (serving : Serving)
-    (journal : List Entry) (gate gate' : Outlet) (end : PartEnd)
+pub record HaveWorked (work : Working) (gate gate' : Outlet) (end : PartEnd)
     (reports : List ConnReport) : Type 0 where
   pub parts : List PartReport
-  pub count : length parts ≡ serving.listening.workers
-  pub each : AllWorked (record {
-    films = films;
-    serving = serving;
-    seed = seed;
-    journal = journal;
-    gate = gate;
-    gate_after = gate';
-  }) 0 parts
-  pub open_as : IsOpenAs (opening_of serving) gate'.told
-  pub split : HasParts serving.listening.workers gate'.told
+  pub count : length parts ≡ work.serving.listening.workers
+  pub each : AllWorked work gate gate' 0 parts
+  pub open_as : IsOpenAs (opening_of work.serving) gate'.told
+  pub split : HasParts work.serving.listening.workers gate'.told
   pub left : AreLeft parts end reports

@@ -18,8 +18,8 @@ use Rattle.vodserve.specs.declared.workers.Worker.{Worker}
 
 -- a worker has the seat of the number after its own, and the part of the gate of its own number;
 -- where it ended by a fault of the part, the part counted one
-pub record IsWorker {G : Type 0} (told : G → Option Content) (faults : G →
-    ℕ) (hall : StationState) (worker : Worker G) : Type 0 where
+pub record IsWorker {G : Type 0} (told : G → Option Content) (faults : G → ℕ)
+    (hall : StationState) (worker : Worker G) : Type 0 where
   pub id : worker.seat.id ≡ hall.id
   pub steps : worker.seat.steps ≡ hall.steps
   pub limit : worker.seat.limit ≡ hall.limit
@@ -30,16 +30,15 @@ pub record IsWorker {G : Type 0} (told : G → Option Content) (faults : G →
 
 -- a worker that did nothing yet: its seat made no entry, and its part gave no connection and
 -- counted no fault
-pub record IsFresh {G : Type 0} (told : G → Option Content) (faults : G →
-    ℕ) (worker : Worker G) : Type 0 where
+pub record IsFresh {G : Type 0} (told : G → Option Content) (faults : G → ℕ)
+    (worker : Worker G) : Type 0 where
   pub mine : worker.seat.mine ≡ []
   pub part : IfSome (told worker.part) IsUntouched
   pub count : faults worker.part ≡ 0
 
 -- a worker that served its part, after it had done nothing yet
-pub record HasFinished {G : Type 0} (told : G → Option Content) (faults : G →
-    ℕ) (films : List Stored) (settings : Settings) (seed : List ℕ) (worker : Worker G)
-    : Type 0 where
+pub record HasFinished {G : Type 0} (told : G → Option Content) (faults : G → ℕ)
+    (films : List Stored) (settings : Settings) (seed : List ℕ) (worker : Worker G) : Type 0 where
   pub seat : SeatState
   pub part : Option Content
   pub served : HasServedPart (duty films settings seed worker.number) seat worker.seat
@@ -88,9 +87,8 @@ report_of worker = worker.report
 
 -- the first ones of `count` workers are back: their seats are joined to the first seat, which has
 -- seen what they have seen, and their parts are in the gate
-pub record AreJoined {G : Type 0} (told : G →
-    Option Content) (hall : StationState) (count : ℕ) (workers : List (Worker G)) (seat : SeatState)
-    (gate : Option Content) : Type 0 where
+pub record AreJoined {G : Type 0} (told : G → Option Content) (hall : StationState) (count : ℕ)
+    (workers : List (Worker G)) (seat : SeatState) (gate : Option Content) : Type 0 where
   pub id : seat.id ≡ hall.id
   pub steps : seat.steps ≡ hall.steps
   pub limit : seat.limit ≡ hall.limit

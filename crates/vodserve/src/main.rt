@@ -2,7 +2,9 @@
 //! smoothing plan.
 #![tactic(auto)]
 
-mod day_ends;
+mod days;
+mod ends;
+mod laws;
 mod run;
 mod served;
 mod serving;
@@ -12,7 +14,8 @@ mod text_laws;
 mod watches;
 mod workers;
 
-use crate::run::{end_with, run};
+use crate::ends::end_with;
+use crate::run::run;
 use command_words::{Command, command_named};
 use net_edge::{DialGate, FileLibrary, OutSink, TcpGate};
 use std::alloc::AllocError;

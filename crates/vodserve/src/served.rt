@@ -1,8 +1,12 @@
-//! What `serve` prints at its end: its journal, what is still booked, and a last line.
+//! The end of a server: its journal, what is still booked and a last line are printed, and journal
+//! and reports are handed out.
 
 ghost use Rattle.std.specs.Prelude.{◌≡◌, ◌≤◌, ◌++◌, length, IfOk, OnOk};
+ghost use Rattle.vodserve.specs.Run.{Ends};
 ghost use Rattle.vodserve.specs.Served.{IsPrinted, last_line, served_text};
+ghost use Rattle.vodserve.specs.Sights.{sight_of, streams};
 
+use crate::ends::{Ended, end_with};
 use crate::serving::Closed;
 use admission::Book;
 use conn::PartEnd;
@@ -11,20 +15,50 @@ use std::alloc::Global;
 use troubles::Trouble;
 use vod_base::{NoMemory, Sink, push, push_field};
 
+/// Ends a server: prints its journal, what is still booked and a last line, and hands journal and
+/// reports out.
+pub(crate) fn end_server<O: Sink, E: Sink>(
+    alloc: Global,
+    out: &mut O,
+    err: &mut E,
+    closed: Closed,
+) -> Ended
+    ensures journal { result.journal.items ≡ closed.book.entries }
+    ensures reports { result.reports.items ≡ closed.reports.items }
+    ensures count { O.faults out.old ≤ O.faults out.new }
+    ensures ends { Ends
+        (streams (sight_of O.faults O.written out.old) (sight_of O.faults O.written out.new)
+        (sight_of E.faults E.written err.old) (sight_of E.faults E.written err.new))
+        (served_text closed.book.entries (length closed.reports.items)) closed.end result }
+{
+    let mut ended = match print_served(alloc, out, &closed) {
+        Ok(()) => Ended::with_status(alloc, 0),
+        Err(trouble) => end_with(alloc, err, trouble),
+    };
+    let Closed {
+        book,
+        reports,
+        end: _,
+    } = closed;
+    ended.journal = book.into_entries();
+    ended.reports = reports;
+    ended
+}
+
 /// Writes the text of a closed server.
 ///
 /// # Errors
 ///
 /// What went wrong: want of memory, here or in a worker, before a fault of the output before one of
 /// the gate.
-pub(crate) fn print_served<O: Sink>(
+fn print_served<O: Sink>(
     alloc: Global,
     out: &mut O,
     closed: &Closed,
 ) -> Result<(), Trouble<'static>>
     ensures count { O.faults out.old ≤ O.faults out.new }
-    ensures printed { IsPrinted (O.faults out.old) (O.faults out.new) (O.written out.old)
-        (O.written out.new)
+    ensures printed { IsPrinted
+        (sight_of O.faults O.written out.old) (sight_of O.faults O.written out.new)
         (served_text closed.now.book.entries (length closed.now.reports.items))
         closed.now.end result }
 {

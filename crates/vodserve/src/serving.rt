@@ -8,7 +8,6 @@ ghost use Rattle.vod_base.specs.Outside.{HasRisen};
 ghost use Rattle.slot_calendar.specs.Profiles.{IsProfile};
 ghost use Rattle.session.specs.Ranges.{AreFilms, names_of};
 ghost use Rattle.station.specs.Seats.{first_seat};
-ghost use Rattle.conn.specs.Parts.{outlet};
 ghost use Rattle.command_words.specs.Settings.{setting_value, texts, values_of};
 ghost use Rattle.command_words.specs.Words.{are_films};
 ghost use Rattle.command_words.specs.Orders.{serving_of};
@@ -18,7 +17,8 @@ ghost use Rattle.inputs.specs.Films.{IsHeldRefused};
 ghost use Rattle.vodserve.specs.Served.{IsFirstRefused, IsJournal, IsNewlyOpen};
 ghost use Rattle.vodserve.specs.Served.{IsServeTrouble, IsWordNamed};
 ghost use Rattle.vodserve.specs.Worked.{AreLoaded, HasTooFew, HaveWorked, IsHeld, IsOpenedOnce};
-ghost use Rattle.vodserve.specs.Worked.{opening_of};
+ghost use Rattle.vodserve.specs.Worked.{opening_of, working};
+ghost use Rattle.vodserve.specs.Sights.{gate_seen, sight_of};
 ghost use Rattle.vodserve.specs.Workers.{IsMakeTrouble, IsNotOpened};
 
 use crate::workers::{Service, join_workers, make_workers, run_workers};
@@ -76,9 +76,8 @@ pub(crate) fn prepare<'a, L: Library, G: Gate>(
     ensures once { IfOk result (λ prepared.
         IfSome (G.told gate.new) (IsOpenedOnce (G.told gate.old))) }
     ensures trouble { IfErr result (IsServeTrouble (serving_of serving.entry.now)
-        (L.files library.old) (L.faults library.old) (L.faults library.new)
-        (outlet (G.faults gate.old) (G.told gate.old))
-        (outlet (G.faults gate.new) (G.told gate.new))) }
+        (sight_of L.faults L.files library.old) (sight_of L.faults L.files library.new)
+        (gate_seen G.faults G.told gate.old) (gate_seen G.faults G.told gate.new)) }
 {
     let films = load_films(alloc, library, serving.words)?;
     let opening = Opening {
@@ -117,10 +116,9 @@ where
     ensures count { G.faults gate.old ≤ G.faults gate.new }
     ensures closed { IfOk result (λ closed.
         IsJournal (serving_of serving.entry.now) closed.book.entries) }
-    ensures worked { IfOk result (λ closed. HaveWorked prepared.films.items seed
-        (serving_of serving.entry.now) closed.book.entries
-        (outlet (G.faults gate.old) (G.told gate.old))
-        (outlet (G.faults gate.new) (G.told gate.new))
+    ensures worked { IfOk result (λ closed. HaveWorked
+        (working prepared.films.items (serving_of serving.entry.now) seed closed.book.entries)
+        (gate_seen G.faults G.told gate.old) (gate_seen G.faults G.told gate.new)
         closed.end closed.reports.items) }
     ensures trouble { IfErr result (IsMakeTrouble (G.faults gate.old) (G.faults gate.new)) }
     ensures since { IfSome (G.told gate.new) (IsNotOpened (G.told gate.old)) }
@@ -139,19 +137,11 @@ where
     };
     let mut workers = Vec::new(alloc);
     let mut reports = Vec::new(alloc);
-    match make_workers(
-        alloc,
-        &station,
-        &mut seat,
-        gate,
-        serving.listening.workers,
-        &mut workers,
-    ) {
-        Ok(()) => {}
-        Err(trouble) => {
-            let _ = join_workers(&station, &mut seat, gate, workers, &mut reports);
-            return Err(trouble);
-        }
+    let count = serving.listening.workers;
+    if let Err(trouble) = make_workers(alloc, &station, &mut seat, gate, count, &mut workers) {
+        // what was made goes back to its station and its gate before the trouble is answered
+        let _ = join_workers(&station, &mut seat, gate, workers, &mut reports);
+        return Err(trouble);
     }
     let service = Service {
         station: &station,

@@ -10,14 +10,14 @@ ghost use Rattle.command_words.specs.Orders.{watching_of};
 ghost use Rattle.command_words.specs.Ranges.{IsWatchingInRange};
 ghost use Rattle.conn.specs.Parts.{IsUntouched};
 ghost use Rattle.troubles.specs.Said.{IsSaid};
-ghost use Rattle.vodserve.specs.Run.{EndsWatch, HasServedNothing, SaysWatched, Watches, gate_seen};
-ghost use Rattle.vodserve.specs.Run.{sight_of, streams};
-ghost use Rattle.vodserve.specs.Watches.{Hears, HearsPart, IsSameOutput, IsShortWatched};
+ghost use Rattle.vodserve.specs.Run.{EndsWatch, HasServedNothing, SaysWatched, Watches};
+ghost use Rattle.vodserve.specs.Sights.{gate_seen, sight_of, streams};
+ghost use Rattle.vodserve.specs.Watches.{Hears, HearsPart, IsShortWatched};
 ghost use Rattle.vodserve.specs.Watches.{IsWishOf, opening_at};
 ghost use Rattle.vodserve.specs.Watches.{refusal_of, watched_text};
 ghost use Rattle.vodserve.specs.Worked.{HasTooFew, IsOpenAs, IsOpenedOnce};
 
-use crate::run::{Ended, end_with};
+use crate::ends::{Ended, end_with};
 use command_words::Watching;
 use rtsp_client::{WatchEnd, WatchFault, Watched, Wish, watch};
 use std::alloc::Global;
@@ -118,12 +118,12 @@ fn watch_part<O: Sink, G: Gate>(
     ensures count { G.faults part.old ≤ G.faults part.new }
     ensures output { O.faults out.old ≤ O.faults out.new }
     ensures fault { OnErr result (HasRisen (G.faults part.old) (G.faults part.new)) }
-    ensures kept { OnErr result (IsSameOutput (O.faults out.old) (O.faults out.new)
-        (O.written out.old) (O.written out.new)) }
+    ensures kept { OnErr result
+        (sight_of O.faults O.written out.new ≡ sight_of O.faults O.written out.old) }
     ensures lost { OnErr result (G.told part.new ≡
         option_map (after_empty_take Failed) (G.told part.old)) }
     ensures heard { IfOk result (HearsPart wish.entry.now (G.told part.old) (G.told part.new)
-        (O.faults out.old) (O.faults out.new) (O.written out.old) (O.written out.new)) }
+        (sight_of O.faults O.written out.old) (sight_of O.faults O.written out.new)) }
 {
     let Some(mut link) = part.take()? else {
         return Ok(None);
@@ -145,14 +145,14 @@ fn watch_gate<O: Sink, G: Gate + Drop>(
     ensures count { G.faults gate.old ≤ G.faults gate.new }
     ensures output { O.faults out.old ≤ O.faults out.new }
     ensures fault { OnErr result (HasRisen (G.faults gate.old) (G.faults gate.new)) }
-    ensures kept { OnErr result (IsSameOutput (O.faults out.old) (O.faults out.new)
-        (O.written out.old) (O.written out.new)) }
+    ensures kept { OnErr result
+        (sight_of O.faults O.written out.new ≡ sight_of O.faults O.written out.old) }
     ensures opened { OnOk result (IsOpenAs (opening_at wish.entry.now.port
         wish.entry.now.slot_units) (G.told gate.new)) }
     ensures once { IfSome (G.told gate.new) (IsOpenedOnce (G.told gate.old)) }
     ensures few { OnErr result (IfSome (G.told gate.new) (HasTooFew 2)) }
     ensures heard { IfOk result (Hears wish.entry.now (G.told gate.new)
-        (O.faults out.old) (O.faults out.new) (O.written out.old) (O.written out.new)) }
+        (sight_of O.faults O.written out.old) (sight_of O.faults O.written out.new)) }
 {
     let opening = Opening {
         port: wish.port,

@@ -1,6 +1,6 @@
 //! What a run left, and the lines of a script that say what that is to be.
 
-use crate::run::Ended;
+use crate::ends::Ended;
 use crate::tests::materials::{Files, bytes_of, number_of, word_and_rest};
 use admission::{Answer, Entry};
 use conn::{ConnEnd, ConnReport};

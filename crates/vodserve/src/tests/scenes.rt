@@ -1,6 +1,7 @@
 //! Runs of the program over objects in memory, by scripts.
 
-use crate::run::{Ended, run};
+use crate::ends::Ended;
+use crate::run::run;
 use crate::tests::materials::{Files, bytes_of, number_of, word_and_rest, words_of};
 use crate::tests::outcomes::Outcome;
 use std::alloc::Global;
@@ -24,6 +25,26 @@ pub(crate) fn passes<R: Threads + Wait + Sync + Abort>(
         play_out(rt, alloc, script)?;
     }
     Ok(())
+}
+
+/// A script of inputs that are refused, each with its fault. A line of that kind makes a file of an
+/// input, and the command takes the file by its key.
+pub(crate) fn refusals_of(
+    alloc: Global,
+    kind: &str,
+    command: &str,
+    cases: &[(&str, &str)],
+) -> Result<String, NoMemory> {
+    let mut script = String::new(alloc);
+    for (number, (input, fault)) in cases.iter().enumerate() {
+        let file = format!(in alloc; "{kind} case{number} {input}\n")?;
+        let run = format!(in alloc; "> {command}=case{number}\n")?;
+        let line = format!(in alloc; "3 vodserve: case{number}: {fault}|\n")?;
+        script.push_str(file.as_str())?;
+        script.push_str(run.as_str())?;
+        script.push_str(line.as_str())?;
+    }
+    Ok(script)
 }
 
 /// The objects of the next run, and what the last run left that no line has read yet.

@@ -11,23 +11,28 @@ pub print-requires-in-Plan : goal.print-requires-in-Plan
 print-requires-in-Plan g c =
     good_result (causes_of _ _ _ (plan_of (viewer_of c.in-Plan.viewer))) c.plan_viewer-done.result
     (λ name is. subst (λ (n : List ℕ). is_good_name n ≡ true) (sym is)
-    (viewer_named (viewer_of c.in-Plan.viewer) (subst IsOrderInRange c.in-Plan.is ((c.in-Some.ensures {u = tt}).range))))
+    (viewer_named (viewer_of c.in-Plan.viewer)
+    (subst IsOrderInRange c.in-Plan.is ((c.in-Some.ensures {u = tt}).range))))
     c.plan_viewer-done.ensures.trouble
 
 pub print-requires-in-Check : goal.print-requires-in-Check
 print-requires-in-Check g c =
-    good_result (causes_of _ _ _ (check_of (viewer_of c.in-Check.viewer) c.in-Check.cert.now)) c.check_viewer-done.result
+    good_result (causes_of _ _ _ (check_of (viewer_of c.in-Check.viewer) c.in-Check.cert.now))
+    c.check_viewer-done.result
     (λ name is. elim is [
       | inl source ↦ subst (λ (n : List ℕ). is_good_name n ≡ true) (sym source)
-          (viewer_named (viewer_of c.in-Check.viewer) ((subst IsOrderInRange c.in-Check.is ((c.in-Some.ensures {u = tt}).range)).0))
-      | inr cert ↦ subst (λ (n : List ℕ). is_good_name n ≡ true) (sym cert) ((subst IsOrderInRange c.in-Check.is ((c.in-Some.ensures {u = tt}).range)).1)
+          (viewer_named (viewer_of c.in-Check.viewer)
+          ((subst IsOrderInRange c.in-Check.is ((c.in-Some.ensures {u = tt}).range)).0))
+      | inr cert ↦ subst (λ (n : List ℕ). is_good_name n ≡ true) (sym cert)
+          ((subst IsOrderInRange c.in-Check.is ((c.in-Some.ensures {u = tt}).range)).1)
     ])
     c.check_viewer-done.ensures.trouble
 
 pub print-requires-in-Scan : goal.print-requires-in-Scan
 print-requires-in-Scan g c =
     good_result (causes_of _ _ _ (scan_of c.in-Scan.film.now)) c.list_units-done.result
-    (λ name is. subst (λ (n : List ℕ). is_good_name n ≡ true) (sym is) (subst IsOrderInRange c.in-Scan.is ((c.in-Some.ensures {u = tt}).range)))
+    (λ name is. subst (λ (n : List ℕ). is_good_name n ≡ true) (sym is)
+    (subst IsOrderInRange c.in-Scan.is ((c.in-Some.ensures {u = tt}).range)))
     c.list_units-done.ensures.trouble
 
 pub print-requires-in-Make : goal.print-requires-in-Make
@@ -41,7 +46,8 @@ print-requires-in-Version g c = nameless c.done_with_text-in-Version.result c.do
 
 pub returns-in-Plan : goal.returns-in-Plan
 returns-in-Plan g c = record {
-  ran = ran_as ((c.in-Some.ensures {u = tt}).order) c.in-Plan.is c.plan_viewer-done.ensures.library c.print-in-Plan.ensures.count
+  ran = ran_as ((c.in-Some.ensures {u = tt}).order) c.in-Plan.is c.plan_viewer-done.ensures.library
+      c.print-in-Plan.ensures.count
       (omega arith) (printed c.plan_viewer-done.result refl c.print-in-Plan.ensures.nothing
       c.plan_viewer-done.ensures.done c.plan_viewer-done.ensures.trouble c.print-in-Plan.ensures.printed);
 }
@@ -72,7 +78,8 @@ returns-in-Make g c = record {
 
 pub returns-in-Scan : goal.returns-in-Scan
 returns-in-Scan g c = record {
-  ran = ran_as ((c.in-Some.ensures {u = tt}).order) c.in-Scan.is c.list_units-done.ensures.library c.print-in-Scan.ensures.count
+  ran = ran_as ((c.in-Some.ensures {u = tt}).order) c.in-Scan.is c.list_units-done.ensures.library
+      c.print-in-Scan.ensures.count
       (omega arith) (printed c.list_units-done.result refl c.print-in-Scan.ensures.nothing
       c.list_units-done.ensures.done c.list_units-done.ensures.trouble c.print-in-Scan.ensures.printed);
 }
@@ -94,7 +101,8 @@ returns-in-Version g c = record {
       c.print-in-Version.ensures.count (omega arith) (
         refl,
         printed c.done_with_text-in-Version.result refl c.print-in-Version.ensures.nothing
-            (version_done None c.version.result c.version.ensures c.done_with_text-in-Version.result c.done_with_text-in-Version.ensures.done)
+            (version_done None c.version.result c.version.ensures c.done_with_text-in-Version.result
+            c.done_with_text-in-Version.ensures.done)
             (no_memory _ _ _ version c.done_with_text-in-Version.result c.done_with_text-in-Version.ensures.trouble)
             c.print-in-Version.ensures.printed,
       );

@@ -4,9 +4,12 @@ use Rattle.conn.specs.Parts.{Outlet}
 use Rattle.conn.specs.declared.reports.ConnReport.{ConnReport}
 use Rattle.command_words.specs.Words.{Serving}
 use Rattle.command_words.specs.Orders.{serving_of}
+use Rattle.film_frames.specs.declared.stores.Stored.{Stored}
 use Rattle.vodserve.specs.Served.{IsJournal, served_text}
-use Rattle.vodserve.specs.Worked.{HaveWorked}
-use Rattle.vodserve.specs.Run.{Ends, Seen, gate_seen, sight_of, streams}
+use Rattle.vodserve.specs.Sights.{Seen, gate_seen, sight_of, streams}
+use Rattle.vodserve.specs.Worked.{HaveWorked, Working, working}
+use Rattle.vodserve.specs.Run.{Ends}
+use Rattle.vodserve.specs.declared.ends.Ended.{Ended}
 use Rattle.vodserve.proofs.ServeLemmas.{fault_risen, have_worked_since, make_serves, only_opened}
 use Rattle.vodserve.proofs.GateLemmas.{once_since}
 use Rattle.vodserve.proofs.NameLemmas.{good_make_trouble, good_serve_trouble}
@@ -16,9 +19,8 @@ pub end_with-requires : goal.end_with-requires
 end_with-requires g c =
     good_serve_trouble (record {
       serving = serving_of c.args.serving.now;
-      told = g.L.Library.files c.args.library.now;
-      faults = g.L.Library.faults c.args.library.now;
-      faults_after = g.L.Library.faults c.prepare.new.library;
+      store = sight_of g.L.Library.faults g.L.Library.files c.args.library.now;
+      store_after = sight_of g.L.Library.faults g.L.Library.files c.prepare.new.library;
       gate = gate_seen g.G.Gate.faults g.G.Gate.told c.args.gate.now;
       gate_after = gate_seen g.G.Gate.faults g.G.Gate.told c.prepare.new.gate;
     }) c.in-Err.trouble c.requires.films ((c.in-Err.ensures {u = tt}).trouble)
@@ -31,43 +33,40 @@ pub returns-in-Ok-run_server-clause-serves : goal.returns-in-Ok-run_server-claus
 returns-in-Ok-run_server-clause-serves g c =
     let entries : List Entry = c.in-Ok-run_server.closed.book.entries in
     let reports : List ConnReport = c.in-Ok-run_server.closed.reports.items in
+    let films : List Stored = c.in-Ok.prepared.films.items in
+    let ended : Ended = c.end_server.result in
     let serving : Serving = serving_of c.args.serving.now in
+    let work : List Entry → Working = working films serving c.args.seed in
     let before : Outlet = gate_seen g.G.Gate.faults g.G.Gate.told c.args.gate.now in
     let opened : Outlet = gate_seen g.G.Gate.faults g.G.Gate.told c.prepare.new.gate in
     let after : Outlet = gate_seen g.G.Gate.faults g.G.Gate.told c.run_server.new.gate in
-    let same : served_text entries (length reports)
-    ≡ served_text c.end_server.result.journal.items (length c.end_server.result.reports.items) =
+    let same : served_text entries (length reports) ≡ served_text ended.journal.items (length ended.reports.items) =
     ap (λ (es : List Entry). served_text es (length reports)) (sym c.end_server.ensures.journal)
-    ∙ ap (λ (rs : List ConnReport). served_text c.end_server.result.journal.items (length rs))
-    (sym c.end_server.ensures.reports) in
-    let worked : HaveWorked c.in-Ok.prepared.films.items c.args.seed serving c.end_server.result.journal.items
-    before after c.in-Ok-run_server.closed.end
-    c.end_server.result.reports.items =
+    ∙ ap (λ (rs : List ConnReport). served_text ended.journal.items (length rs)) (sym c.end_server.ensures.reports) in
+    let worked : HaveWorked (work ended.journal.items) before after c.in-Ok-run_server.closed.end ended.reports.items =
     subst (λ (rs : List ConnReport).
-    HaveWorked c.in-Ok.prepared.films.items c.args.seed serving c.end_server.result.journal.items before after
-    c.in-Ok-run_server.closed.end rs) (sym c.end_server.ensures.reports)
-    (subst (λ (es : List Entry). HaveWorked c.in-Ok.prepared.films.items c.args.seed serving es before after
-    c.in-Ok-run_server.closed.end reports) (sym c.end_server.ensures.journal)
-    (have_worked_since
-    ((c.in-Ok-run_server.ensures {u = tt}).worked) c.prepare.ensures.count)) in
+    HaveWorked (work ended.journal.items) before after c.in-Ok-run_server.closed.end rs)
+    (sym c.end_server.ensures.reports)
+    (subst (λ (es : List Entry). HaveWorked (work es) before after c.in-Ok-run_server.closed.end reports)
+    (sym c.end_server.ensures.journal)
+    (have_worked_since {gate = opened} ((c.in-Ok-run_server.ensures {u = tt}).worked) c.prepare.ensures.count)) in
     let out : Seen (List ℕ) = sight_of g.O.Sink.faults g.O.Sink.written c.args.out.now in
     let out' : Seen (List ℕ) = sight_of g.O.Sink.faults g.O.Sink.written c.end_server.new.out in
     let err : Seen (List ℕ) = sight_of g.E.Sink.faults g.E.Sink.written c.args.err.now in
     let err' : Seen (List ℕ) = sight_of g.E.Sink.faults g.E.Sink.written c.end_server.new.err in
     inr (record {
-      films = c.in-Ok.prepared.films.items;
+      films = films;
       loaded = (c.in-Ok.ensures {u = tt}).loaded;
       journal = subst (λ (es : List Entry). IsJournal serving es) (sym c.end_server.ensures.journal)
           ((c.in-Ok-run_server.ensures {u = tt}).closed);
-      entries_short = omega (arith, c.end_server.result.journal.ok);
-      connections_short = omega (arith, c.end_server.result.reports.ok);
+      entries_short = omega (arith, ended.journal.ok);
+      connections_short = omega (arith, ended.reports.ok);
       end = c.in-Ok-run_server.closed.end;
       worked = worked;
       once = once_since before.told opened.told after.told ((c.in-Ok.ensures {u = tt}).once) c.run_server.ensures.since;
-      fault = fault_risen
-          worked;
-      ends = subst (λ (text : List ℕ). Ends (streams out out' err err') text c.in-Ok-run_server.closed.end
-          c.end_server.result) same c.end_server.ensures.ends;
+      fault = fault_risen {gate = before} worked;
+      ends = subst (λ (text : List ℕ). Ends (streams out out' err err') text c.in-Ok-run_server.closed.end ended) same
+          c.end_server.ensures.ends;
     })
 
 pub returns-in-Err-run_server-clause-serves : goal.returns-in-Err-run_server-clause-serves
@@ -81,9 +80,8 @@ returns-in-Err-run_server-clause-serves g c =
       (
         make_serves (record {
           serving = serving;
-          told = g.L.Library.files c.args.library.now;
-          faults = g.L.Library.faults c.args.library.now;
-          faults_after = g.L.Library.faults c.prepare.new.library;
+          store = sight_of g.L.Library.faults g.L.Library.files c.args.library.now;
+          store_after = sight_of g.L.Library.faults g.L.Library.files c.prepare.new.library;
           gate = before;
           gate_after = after;
         }) opened.faults c.in-Err-run_server.trouble ((c.in-Err-run_server.ensures {u = tt}).trouble)

@@ -10,7 +10,8 @@ pub returns-clause-held : goal.returns-clause-held
 returns-clause-held g c =
     let Held : Stored → Type 0 = IsHeld (g.L.Library.files c.args.library.now) in
     let film : Held c.in_ok-film.film =
-    held_film (g.L.Library.files c.args.library.now) c.in_ok-film.film c.in-Some.name.now ((c.in_ok-film.ensures {u = tt}).name)
+    held_film (g.L.Library.files c.args.library.now) c.in_ok-film.film c.in-Some.name.now
+    ((c.in_ok-film.ensures {u = tt}).name)
     (λ held told. (c.in_ok-film.ensures {u = tt}).film held told)
     (λ held told. (c.in_ok-film.ensures {u = tt}).small held told) in
     λ all. subst (All Held) (sym ((c.in_ok-push.ensures {u = tt}).items))

@@ -78,13 +78,15 @@ loop-word-preserved g c =
     let rest : List (List ℕ) = values_of key (texts (drop (c.loop-word.word-index + 1) c.args.words.now)) in
     record {
       library = search rules;
-      held = subst (λ (t : Option (List File)). All (IsHeld t) c.add_film.new.films.items) c.loop-word.invariant.library.kept
+      held = subst (λ (t : Option (List File)). All (IsHeld t) c.add_film.new.films.items)
+          c.loop-word.invariant.library.kept
           ((c.in_ok-add_film.ensures {u = tt}).held
           (subst (λ (t : Option (List File)). All (IsHeld t) c.loop-word.films.items)
           (sym c.loop-word.invariant.library.kept) c.loop-word.invariant.held));
       names = c.loop-word.invariant.names
           ∙ ap (λ (vs : List (List ℕ)). so_far ++ vs)
-          (values_rest key c.args.words.now c.loop-word.word-index c.word-item.result c.loop-word-test.true c.word-item.is)
+          (values_rest key c.args.words.now c.loop-word.word-index c.word-item.result c.loop-word-test.true
+          c.word-item.is)
           ∙ ap (λ (w : List ℕ). so_far ++ (option_to_list (setting_value key w) ++ rest)) (sym c.as_str.ensures.value)
           ∙ sym (append_assoc so_far (option_to_list (setting_value key c.as_str.result.now)) rest)
           ∙ ap (λ (ns : List (List ℕ)). ns ++ rest) (sym ((c.in_ok-add_film.ensures {u = tt}).added));

@@ -1,5 +1,6 @@
 use Rattle.std.proofs.Common.{◌∙◌, ℕ, List, subst, arith}
 use Rattle.std.specs.Prelude.{All}
+use Rattle.vod_base.specs.declared.gates.Opening.{Opening}
 use Rattle.film_frames.specs.declared.stores.Stored.{Stored}
 use Rattle.command_words.specs.Words.{Serving}
 use Rattle.command_words.specs.Orders.{serving_of}
@@ -32,7 +33,8 @@ returns-clause-since g c =
 pub returns-in-Err-clause-few : goal.returns-in-Err-clause-few
 returns-in-Err-clause-few g c =
     joined_few c.args.serving.now.listening.workers (g.G.Gate.told c.join_workers.new.gate)
-    (record { joined = c.join_workers.ensures.joined; fresh = c.make_workers.ensures.fresh }) ((c.in-Err.ensures {u = tt}).fewer)
+    (record { joined = c.join_workers.ensures.joined; fresh = c.make_workers.ensures.fresh })
+    (c.in-Err.ensures.fewer)
 
 pub returns-clause-closed : goal.returns-clause-closed
 returns-clause-closed g c =
@@ -45,23 +47,27 @@ returns-clause-closed g c =
       c.join_workers-end.ensures.joined.limit,
       c.requires.limit,
     ))
-    (c.run_workers.ensures.count ∙ (c.in-Ok.ensures {u = tt}).made)
+    (c.run_workers.ensures.count ∙ c.in_default.ensures.made)
 
 pub returns-clause-worked : goal.returns-clause-worked
 returns-clause-worked g c =
     let serving : Serving = serving_of c.args.serving.now in
     let before : ℕ = g.G.Gate.faults c.args.gate.now in
     let after : ℕ = g.G.Gate.faults c.join_workers-end.new.gate in
-    have_worked (record {
-      all = c.run_workers.ensures.workers;
-      finished = subst (λ (films : List Stored). All (HasFinished g.G.Gate.told g.G.Gate.faults films (settings_of serving)
-          c.args.seed) c.run_workers.new.workers.items)
-          c.as_slice.ensures.value c.run_workers.ensures.finished;
-      back = c.join_workers-end.ensures.joined;
+    let opening : Opening = opening_of serving in
+    let IsDone : List Stored →
+    Type 0 = λ films. All (HasFinished g.G.Gate.told g.G.Gate.faults films (settings_of serving)
+    c.args.seed) c.run_workers.new.workers.items in
+    have_worked {made = record { told = g.G.Gate.told; faults = g.G.Gate.faults; hall = c.args.prepared.station }}
+    (record {
+      done = record {
+        of_words = record { steps = c.requires.steps; limit = c.requires.limit };
+        all = c.run_workers.ensures.workers;
+        finished = subst IsDone c.as_slice.ensures.value c.run_workers.ensures.finished;
+      };
+      joined = c.join_workers-end.ensures.joined;
       counted = λ i d h some. risen_since before (g.G.Gate.faults c.make_workers.new.gate) after
           (c.join_workers-end.ensures.counted i d h some) c.make_workers.ensures.count;
-    }) c.close-book.ensures.whole
-    (record { steps = c.requires.steps; limit = c.requires.limit })
-    (c.run_workers.ensures.count ∙ (c.in-Ok.ensures {u = tt}).made) (c.join_workers-end.ensures.opened (opening_of serving)
-    (c.make_workers.ensures.opened (opening_of serving) (newly_open_as (opening_of serving) (g.G.Gate.told c.args.gate.now)
-    c.requires.opened))) c.join_workers-end.ensures.left
+    }) c.close-book.ensures.whole (c.run_workers.ensures.count ∙ c.in_default.ensures.made)
+    (c.join_workers-end.ensures.opened opening (c.make_workers.ensures.opened opening
+    (newly_open_as opening (g.G.Gate.told c.args.gate.now) c.requires.opened))) c.join_workers-end.ensures.left

@@ -1,9 +1,9 @@
-use Rattle.vodserve.proofs.LineReading.{served-told}
+use Rattle.vodserve.proofs.LineReading.{served_told}
 use Rattle.vodserve.proofs.TextReading.{counts_told}
 use Rattle.vodserve.proofs.text_laws.law_served_tells_counts.Goals as goal
 
 pub returns-clause-line : goal.returns-clause-line
-returns-clause-line c = served-told
+returns-clause-line c = served_told
 
 pub returns-clause-connections : goal.returns-clause-connections
 returns-clause-connections c = λ entries entries' connections connections' few few' short short' same.

@@ -1,5 +1,6 @@
 use Rattle.std.proofs.Common.{inr, subst}
 use Rattle.command_words.specs.Orders.{watching_of}
+use Rattle.vodserve.specs.Sights.{sight_of}
 use Rattle.vodserve.specs.Watches.{Hears}
 use Rattle.vodserve.proofs.WatchLemmas.{opened_for}
 use Rattle.vodserve.proofs.watches.watch_film.Goals as goal
@@ -12,9 +13,9 @@ returns-in-Ok-Some-clause-watches g c = inr (record {
       ((c.in-Ok.ensures {u = tt}).words) ((c.in-Ok-Some.ensures {u = tt}).opened);
   once = c.watch_gate.ensures.once;
   end = c.in-Ok-Some.end;
-  heard = subst (Hears c.in-Ok.wish (g.G.Gate.told c.watch_gate.new.gate) (g.O.Sink.faults c.args.out.now)
-      (g.O.Sink.faults c.watch_gate.new.out)
-      (g.O.Sink.written c.args.out.now) (g.O.Sink.written c.watch_gate.new.out)) c.in-Ok-Some.field-0-is
+  heard = subst (Hears c.in-Ok.wish (g.G.Gate.told c.watch_gate.new.gate)
+      (sight_of g.O.Sink.faults g.O.Sink.written c.args.out.now)
+      (sight_of g.O.Sink.faults g.O.Sink.written c.watch_gate.new.out)) c.in-Ok-Some.field-0-is
       ((c.in-Ok-Some.ensures {u = tt}).heard);
   nothing = c.end_watch.ensures.nothing;
   ends = c.end_watch.ensures.ends;

@@ -9,7 +9,8 @@ pub returns-in-Ok : goal.returns-in-Ok
 returns-in-Ok c =
     let items : c.append.new.self.items ≡ c.args.reports.now.items ++ c.args.report.reports.items =
     subst (λ r. c.append.new.self.items
-    ≡ (if is_ok r then c.args.reports.now.items ++ c.args.report.reports.items else c.args.reports.now.items)) c.in-Ok.is
+    ≡ (if is_ok r then c.args.reports.now.items ++ c.args.report.reports.items else c.args.reports.now.items))
+    c.in-Ok.is
     c.append.ensures.items in
     record {
       left = λ parts left.

@@ -6,7 +6,8 @@ use Rattle.vodserve.specs.Workers.{AreWorkers, IsFresh, IsWorker}
 use Rattle.vodserve.specs.declared.workers.Worker.{Worker}
 use Rattle.std.proofs.lemmas.List.Elements.{All-push}
 use Rattle.vodserve.proofs.WorkerLemmas.{workers_push}
-use Rattle.vodserve.proofs.GateLemmas.{new_untouched, not_opened_split, told_out_more, split_open, split_still_open, new_number}
+use Rattle.vodserve.proofs.GateLemmas.{new_untouched, not_opened_split, told_out_more, split_open}
+use Rattle.vodserve.proofs.GateLemmas.{split_still_open, new_number}
 use Rattle.vodserve.proofs.workers.make_workers.Goals as goal
 
 pub loop-number-preserved : goal.loop-number-preserved
@@ -36,7 +37,8 @@ loop-number-preserved g c =
     } in
     let fresh : IsFresh g.G.Gate.told g.G.Gate.faults worker = record {
       mine = ap (λ (s : SeatState). s.mine) c.split-in-loop-number.ensures.new;
-      part = new_untouched (g.G.Gate.told c.loop-number.gate) (g.G.Gate.told c.in_ok-part.part) (((c.in_ok-part.ensures {u = tt}).part).0);
+      part = new_untouched (g.G.Gate.told c.loop-number.gate) (g.G.Gate.told c.in_ok-part.part)
+          (((c.in_ok-part.ensures {u = tt}).part).0);
       count = ((c.in_ok-part.ensures {u = tt}).part).1;
     } in
     record {

@@ -11,7 +11,8 @@ pub returns-clause-workers : goal.returns-clause-workers
 returns-clause-workers g c =
     let value : length c.as_mut_slice.result.now ≡ length c.args.workers.now.items =
     ap (λ (ws : List (Worker _)). length ws) c.as_mut_slice.ensures.value in
-    let long : length c.for_each_mut.new.s ≡ length c.args.workers.now.items = omega (arith, c.for_each_mut.auto.s, value) in
+    let long : length c.for_each_mut.new.s ≡ length c.args.workers.now.items =
+    omega (arith, c.for_each_mut.auto.s, value) in
     subst (AreWorkers g.G.Gate.told g.G.Gate.faults c.args.service.station.now 0)
     (sym (take_at c.for_each_mut.new.s (drop (length c.for_each_mut.new.s) c.args.workers.now.items)
     c.args.workers.now.len (omega (arith, long, c.args.workers.now.ok))))
@@ -29,9 +30,11 @@ pub returns-clause-finished : goal.returns-clause-finished
 returns-clause-finished g c =
     let value : length c.as_mut_slice.result.now ≡ length c.args.workers.now.items =
     ap (λ (ws : List (Worker _)). length ws) c.as_mut_slice.ensures.value in
-    let long : length c.for_each_mut.new.s ≡ length c.args.workers.now.items = omega (arith, c.for_each_mut.auto.s, value) in
+    let long : length c.for_each_mut.new.s ≡ length c.args.workers.now.items =
+    omega (arith, c.for_each_mut.auto.s, value) in
     let Ends : Worker _ → Type 0 =
-    HasFinished g.G.Gate.told g.G.Gate.faults c.args.service.films.now c.args.service.settings.now c.args.service.seed in
+    HasFinished g.G.Gate.told g.G.Gate.faults c.args.service.films.now c.args.service.settings.now
+    c.args.service.seed in
     subst (All Ends)
     (sym (take_at c.for_each_mut.new.s (drop (length c.for_each_mut.new.s) c.args.workers.now.items)
     c.args.workers.now.len (omega (arith, long, c.args.workers.now.ok))))

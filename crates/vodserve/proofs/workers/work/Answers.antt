@@ -15,7 +15,8 @@ returns-clause-worker g c =
       part = served_number (g.G.Gate.told c.args.worker.now.part) (g.G.Gate.told c.serve_part.new.part)
           (length c.serve_part.result.reports.items) c.args.worker.now.number
           served.served c.requires.worker.part;
-      fault = λ e. risen_some (g.G.Gate.faults c.args.worker.now.part) (g.G.Gate.faults c.serve_part.new.part) (served.fault e);
+      fault = λ e. risen_some (g.G.Gate.faults c.args.worker.now.part) (g.G.Gate.faults c.serve_part.new.part)
+          (served.fault e);
     }
 
 pub returns-clause-finished : goal.returns-clause-finished

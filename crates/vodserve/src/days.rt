@@ -1,12 +1,13 @@
 //! The commands `day` and `fair`.
 
-ghost use Rattle.std.specs.Prelude.{◌≡◌, ◌≤◌, [], List, ℕ};
+ghost use Rattle.std.specs.Prelude.{◌≡◌, ◌≤◌, None, [], List, ℕ};
 ghost use Rattle.command_words.specs.Orders.{script_run_of};
 ghost use Rattle.command_words.specs.Ranges.{IsFairRunInRange, IsScriptRunInRange};
 ghost use Rattle.troubles.specs.Causes.{IsReadOnly};
-ghost use Rattle.vodserve.specs.Run.{IsTextWritten, RunsDay, RunsFair, sight_of, streams};
+ghost use Rattle.vodserve.specs.Run.{IsWritten, RunsDay, RunsFair};
+ghost use Rattle.vodserve.specs.Sights.{sight_of, streams};
 
-use crate::run::{Ended, end_with};
+use crate::ends::{Ended, end_with};
 use command_words::{FairRun, ScriptRun};
 use day_run::Day;
 use local_commands::{load_script, load_sources, run_day, run_fair};
@@ -70,10 +71,10 @@ fn end_day<O: Sink, E: Sink>(alloc: Global, out: &mut O, err: &mut E, day: Day) 
     ensures journal { result.journal ≡ day.journal }
     ensures reports { result.reports.items ≡ [] }
     ensures count { O.faults out.old ≤ O.faults out.new }
-    ensures written { IsTextWritten
+    ensures written { IsWritten
         (streams (sight_of O.faults O.written out.old) (sight_of O.faults O.written out.new)
         (sight_of E.faults E.written err.old) (sight_of E.faults E.written err.new))
-        day.text.items result }
+        day.text.items 0 None result }
 {
     let Day { text, journal } = day;
     let mut ended = match out.write_all(&text) {

@@ -1,5 +1,5 @@
 use Rattle.local_commands.proofs.OneVerdict.{checked_not_refused, checked_once}
-use Rattle.vodserve.proofs.run.law_one_verdict.Goals as goal
+use Rattle.vodserve.proofs.laws.law_one_verdict.Goals as goal
 
 pub returns-clause-once : goal.returns-clause-once
 returns-clause-once c = λ held viewer cert status status' text text' p q.

@@ -10,7 +10,7 @@ use Rattle.inputs.specs.Files.{IsNamed}
 use Rattle.inputs.proofs.ScanLemmas.{read_trouble_map}
 use Rattle.local_commands.specs.Days.{IsDayInput, IsDayRefused, IsFirstNamedRefused, IsScriptRefused, names_in}
 use Rattle.local_commands.proofs.DayLemmas.{named_good, script_held}
-use Rattle.vodserve.proofs.day_ends.day.Goals as goal
+use Rattle.vodserve.proofs.days.day.Goals as goal
 
 pub end_with-requires : goal.end_with-requires
 end_with-requires g c =
@@ -77,8 +77,14 @@ returns-in-Err-load_sources-clause-runs g c =
                 is = (c.in-Ok.ensures {u = tt}).read;
                 names = rw c.deref.ensures.value at inside;
               });
-              refuses = λ held name fault told is refused. inr
-                  (c.in-Ok.script, (script_held held ((c.in-Ok.ensures {u = tt}).read) told, rw c.deref.ensures.value at refused));
+              refuses = λ held name fault told is refused. inr (
+                c.in-Ok.script,
+                (
+                  script_held held
+                      ((c.in-Ok.ensures {u = tt}).read) told,
+                  rw c.deref.ensures.value at refused,
+                ),
+              );
               keeps = λ held told. c.load_script.ensures.library.kept ∙ told;
               low = omega (arith, c.load_script.ensures.library.count);
               high = omega arith;
@@ -96,7 +102,8 @@ returns-in-Ok-run_day-clause-runs g c = inr (record {
   sources = c.in-Ok-load_sources.sources.items;
   read = (c.in-Ok.ensures {u = tt}).read;
   loaded = λ held told.
-      rw c.deref.ensures.value at ((c.in-Ok-load_sources.ensures {u = tt}).held held (c.load_script.ensures.library.kept ∙ told));
+      rw c.deref.ensures.value at
+      ((c.in-Ok-load_sources.ensures {u = tt}).held held (c.load_script.ensures.library.kept ∙ told));
   clients = (c.in-Ok.ensures {u = tt}).clients;
   lines = subst (λ (n : ℕ). AreLines n c.in-Ok.script.lines.items)
       (sym ((c.in-Ok-load_sources.ensures {u = tt}).count ∙ ap length c.deref.ensures.value))

@@ -1,5 +1,5 @@
 use Rattle.local_commands.proofs.OneAnswer.{planned_once, curves_not_refused}
-use Rattle.vodserve.proofs.run.law_one_plan.Goals as goal
+use Rattle.vodserve.proofs.laws.law_one_plan.Goals as goal
 
 pub returns-clause-once : goal.returns-clause-once
 returns-clause-once c = λ held viewer t t' plan plan' p q.
@@ -7,4 +7,5 @@ returns-clause-once c = λ held viewer t t' plan plan' p q.
 
 pub returns-clause-not_refused : goal.returns-clause-not_refused
 returns-clause-not_refused c =
-    λ held viewer text plan fault planned refused. curves_not_refused held viewer planned.curves fault planned.has refused
+    λ held viewer text plan fault planned refused.
+    curves_not_refused held viewer planned.curves fault planned.has refused

@@ -2,7 +2,7 @@ use Rattle.std.proofs.Common.{Vec, Global, inr, sym, subst}
 use Rattle.admission.specs.Histories.{IsLegal}
 use Rattle.admission.specs.declared.entries.Entry.{Entry}
 use Rattle.day_run.specs.FairDays.{IsFair}
-use Rattle.vodserve.proofs.day_ends.fair.Goals as goal
+use Rattle.vodserve.proofs.days.fair.Goals as goal
 
 pub returns-in-Ok-clause-runs : goal.returns-in-Ok-clause-runs
 returns-in-Ok-clause-runs g c = inr (record {

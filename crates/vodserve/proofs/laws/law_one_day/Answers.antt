@@ -1,5 +1,5 @@
 use Rattle.vodserve.proofs.OneDay.{has_one_day, runs_its_day}
-use Rattle.vodserve.proofs.run.law_one_day.Goals as goal
+use Rattle.vodserve.proofs.laws.law_one_day.Goals as goal
 
 pub returns-clause-once : goal.returns-clause-once
 returns-clause-once c = has_one_day

@@ -1,5 +1,5 @@
 use Rattle.vodserve.proofs.ServeLaws.{serves_no_refused, serves_what_it_may}
-use Rattle.vodserve.proofs.run.law_serves.Goals as goal
+use Rattle.vodserve.proofs.laws.law_serves.Goals as goal
 
 pub returns-clause-accepted : goal.returns-clause-accepted
 returns-clause-accepted c = serves_what_it_may
