@@ -11,7 +11,11 @@ mod serves;
 mod watches;
 
 use crate::tests::scenes::passes;
+use std::alloc::Global;
+use std::process::Abort;
+use std::sync::Wait;
 use std::test::Fail;
+use std::thread::Threads;
 
 /// Plans of traces, and verdicts on certificates of them.
 const PLANS: &str = "\
@@ -53,7 +57,32 @@ file endless smooth 1|slots 3|bytes 7|segment 3 7|
 3 vodserve: endless: BadCert 5|
 ";
 
-/// Words without meaning, and inputs that are refused.
+/// Command lines that mean nothing.
+const WITHOUT_MEANING: &[&str] = &[
+    "",
+    "plan buffer=10",
+    "plan trace=even trace=even",
+    "plan trace=even buffer=0",
+    "plan trace=even buffer=4398046511105",
+    "plan trace=even startup=10001",
+    "plan trace=even startup=+1",
+    "plan trace=even cert=cert",
+    "plan trace=.even",
+    "check trace=even cert=.cert",
+    "scan film=.film",
+    "day script=.script",
+    "plan trace",
+    "check trace=even",
+    "scan",
+    "scan film=a film=b",
+    "make kind=song seed=1 pictures=1",
+    "make kind=film seed=1 pictures=0",
+    "--help plan",
+    "serve",
+    "serve film=b.mpg film=b.mpg",
+];
+
+/// Inputs that are refused.
 const REFUSALS: &str = "\
 file even 10 10 10 10 10
 file small 3 9
@@ -61,56 +90,6 @@ file empty
 file word 1 x
 file large 4294967296 4294967297
 file cut smooth 1|slots 4|
->
-2 vodserve: usage|
-> plan buffer=10
-2 vodserve: usage|
-> plan trace=even trace=even
-2 vodserve: usage|
-> plan trace=even buffer=0
-2 vodserve: usage|
-> plan trace=even buffer=4398046511105
-2 vodserve: usage|
-> plan trace=even startup=10001
-2 vodserve: usage|
-> plan trace=even startup=+1
-2 vodserve: usage|
-> plan trace=even cert=cert
-2 vodserve: usage|
-> plan trace=.even
-2 vodserve: usage|
-> check trace=even cert=.cert
-2 vodserve: usage|
-> scan film=.film
-2 vodserve: usage|
-> day script=.script
-2 vodserve: usage|
-> plan trace
-2 vodserve: usage|
-> check trace=even
-2 vodserve: usage|
-> scan
-2 vodserve: usage|
-> scan film=a film=b
-2 vodserve: usage|
-> make kind=song seed=1 pictures=1
-2 vodserve: usage|
-> make kind=film seed=1 pictures=0
-2 vodserve: usage|
-> --help plan
-2 vodserve: usage|
-> serve
-2 vodserve: usage|
-> serve film=b.mpg film=b.mpg
-2 vodserve: usage|
-> serve film=0.mpg film=1.mpg film=2.mpg film=3.mpg film=4.mpg film=5.mpg film=6.mpg film=7.mpg film=8.mpg film=9.mpg \
-film=10.mpg film=11.mpg film=12.mpg film=13.mpg film=14.mpg film=15.mpg film=16.mpg film=17.mpg film=18.mpg \
-film=19.mpg film=20.mpg film=21.mpg film=22.mpg film=23.mpg film=24.mpg film=25.mpg film=26.mpg film=27.mpg \
-film=28.mpg film=29.mpg film=30.mpg film=31.mpg film=32.mpg film=33.mpg film=34.mpg film=35.mpg film=36.mpg \
-film=37.mpg film=38.mpg film=39.mpg film=40.mpg film=41.mpg film=42.mpg film=43.mpg film=44.mpg film=45.mpg \
-film=46.mpg film=47.mpg film=48.mpg film=49.mpg film=50.mpg film=51.mpg film=52.mpg film=53.mpg film=54.mpg \
-film=55.mpg film=56.mpg film=57.mpg film=58.mpg film=59.mpg film=60.mpg film=61.mpg film=62.mpg film=63.mpg film=64.mpg
-2 vodserve: usage|
 > scan film=none
 3 vodserve: none: NotFound|
 > plan trace=none
@@ -202,6 +181,30 @@ ends 0
 #[test]
 fn plans_and_checks_traces(rt: HostRuntime) -> Result<(), Fail> {
     passes(&rt, rt.alloc(), PLANS)
+}
+
+/// Plays a script in which these words mean nothing.
+fn mean_nothing<R: Threads + Wait + Sync + Abort>(
+    rt: &R,
+    alloc: Global,
+    words: &str,
+) -> Result<(), Fail> {
+    let script = format!(in alloc; "> {words}\n2 vodserve: usage|\n")?;
+    passes(rt, alloc, script.as_str())
+}
+
+#[test]
+fn names_words_without_meaning(rt: HostRuntime) -> Result<(), Fail> {
+    let alloc = rt.alloc();
+    for words in WITHOUT_MEANING {
+        mean_nothing(&rt, alloc, words)?;
+    }
+    let mut too_many = String::from_str(alloc, "serve")?;
+    for number in 0..65 {
+        let film = format!(in alloc; " film={number}.mpg")?;
+        too_many.push_str(film.as_str())?;
+    }
+    mean_nothing(&rt, alloc, too_many.as_str())
 }
 
 #[test]

@@ -1,6 +1,6 @@
 //! Scripts and drawn plays through `run`.
 
-use crate::tests::scenes::passes;
+use crate::tests::scenes::{passes, refusals_of};
 use std::test::Fail;
 
 /// A link that has room for one play at a time, a pause in mid-report, and what is refused.
@@ -49,7 +49,8 @@ tried start=3 slot=3 booked=3 asked=2|offer start=4 tried=3|\
 tried start=1 slot=3 booked=3 asked=3|tried start=2 slot=3 booked=3 asked=2|\
 tried start=3 slot=3 booked=3 asked=2|offer none tried=3|\
 1 seat=0 halt number=0 keep=0 halted|calendar from=0|end|
-bytes b.mpg 000001b316012013ffffe0a0 000001b800080040 00000100000ffff8 000001011234 000001000057fff880 000001011234
+bytes b.mpg 000001b316012013ffffe0a0 000001b800080040 00000100000ffff8 000001011234 \
+000001000057fff880 000001011234
 file P play 0 film b.mpg 1048576 2|slot 1|pause 0|slot 2|slot 3|resume 0|slot 4|
 > day script=P
 0 0 seat=0 play slot=0 slots=4 bytes=141 admitted start=1|slot 1 sent=35 booked=35|\
@@ -67,72 +68,6 @@ fails out 1
 > day script=S capacity=5
 counts 0 5
 5 vodserve: SinkFault|
-file X0 play 256 trace T 7 0|
-> day script=X0
-3 vodserve: X0: BadScript 1|
-file X1 play 0 trace T 0 0|
-> day script=X1
-3 vodserve: X1: BadScript 1|
-file X2 play 0 trace T 4398046511105 0|
-> day script=X2
-3 vodserve: X2: BadScript 1|
-file X3 play 0 trace T 7 10001|
-> day script=X3
-3 vodserve: X3: BadScript 1|
-file X4 play 0 movie T 7 0|
-> day script=X4
-3 vodserve: X4: BadScript 1|
-file X5 play 0 trace .T 7 0|
-> day script=X5
-3 vodserve: X5: BadScript 1|
-file X6 play 0 trace T 7|
-> day script=X6
-3 vodserve: X6: BadScript 1|
-file X7 play 0 trace T 7 0 0|
-> day script=X7
-3 vodserve: X7: BadScript 1|
-file X8 offer 0 trace T 7 0|
-> day script=X8
-3 vodserve: X8: BadScript 1|
-file X9 offer 0 trace T 7 0 256|
-> day script=X9
-3 vodserve: X9: BadScript 1|
-file X10 pause 256|
-> day script=X10
-3 vodserve: X10: BadScript 1|
-file X11 pause|
-> day script=X11
-3 vodserve: X11: BadScript 1|
-file X12 pause 0 |
-> day script=X12
-3 vodserve: X12: BadScript 1|
-file X13 resume x|
-> day script=X13
-3 vodserve: X13: BadScript 1|
-file X14 resume +1|
-> day script=X14
-3 vodserve: X14: BadScript 1|
-file X15 look 4611686018427387905|
-> day script=X15
-3 vodserve: X15: BadScript 1|
-file X16 slot 0|
-> day script=X16
-3 vodserve: X16: BadScript 1|
-file X17 slot 4611686018427387905|
-> day script=X17
-3 vodserve: X17: BadScript 1|
-file X18 slot 2|slot 2|
-> day script=X18
-3 vodserve: X18: BadScript 2|
-file X19 slot 5||look 1|slot 4|
-> day script=X19
-3 vodserve: X19: BadScript 4|
-file X20 stop 0|
-> day script=X20
-3 vodserve: X20: BadScript 1|
-file B pause 0|slot 0|
-> day script=B
-3 vodserve: B: BadScript 2|
 > day script=none
 3 vodserve: none: NotFound|
 file N play 0 trace word 7 0|
@@ -160,7 +95,39 @@ booked=137480547 peak=50000|
 0 fair turns=2000 admitted=0 overflow=2000 halted=0 full=0 last=2959 sent=0 booked=0 peak=0|
 ";
 
+/// Scripts with a line that means nothing, each with the first such line.
+const BAD_SCRIPTS: &[(&str, &str)] = &[
+    ("play 256 trace T 7 0|", "BadScript 1"),
+    ("play 0 trace T 0 0|", "BadScript 1"),
+    ("play 0 trace T 4398046511105 0|", "BadScript 1"),
+    ("play 0 trace T 7 10001|", "BadScript 1"),
+    ("play 0 movie T 7 0|", "BadScript 1"),
+    ("play 0 trace .T 7 0|", "BadScript 1"),
+    ("play 0 trace T 7|", "BadScript 1"),
+    ("play 0 trace T 7 0 0|", "BadScript 1"),
+    ("offer 0 trace T 7 0|", "BadScript 1"),
+    ("offer 0 trace T 7 0 256|", "BadScript 1"),
+    ("pause 256|", "BadScript 1"),
+    ("pause|", "BadScript 1"),
+    ("pause 0 |", "BadScript 1"),
+    ("resume x|", "BadScript 1"),
+    ("resume +1|", "BadScript 1"),
+    ("look 4611686018427387905|", "BadScript 1"),
+    ("slot 0|", "BadScript 1"),
+    ("slot 4611686018427387905|", "BadScript 1"),
+    ("slot 2|slot 2|", "BadScript 2"),
+    ("slot 5||look 1|slot 4|", "BadScript 4"),
+    ("stop 0|", "BadScript 1"),
+    ("pause 0|slot 0|", "BadScript 2"),
+];
+
 #[test]
 fn runs_scripts_and_drawn_plays(rt: HostRuntime) -> Result<(), Fail> {
     passes(&rt, rt.alloc(), DAYS)
+}
+
+#[test]
+fn names_the_first_bad_line(rt: HostRuntime) -> Result<(), Fail> {
+    let script = refusals_of(rt.alloc(), "file", "day script", BAD_SCRIPTS)?;
+    passes(&rt, rt.alloc(), script.as_str())
 }

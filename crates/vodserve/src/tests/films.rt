@@ -1,6 +1,6 @@
 //! Films and system streams through `run`.
 
-use crate::tests::scenes::passes;
+use crate::tests::scenes::{passes, refusals_of};
 use std::test::Fail;
 
 /// What a scan of `a.mpg` prints.
@@ -69,66 +69,43 @@ bytes two pack 000001e000320f b.mpg ends
 ",
 ];
 
-/// Films and system streams that are refused, each with its fault.
-const REFUSED: &str = "\
-bytes 0.mpg 
-> scan film=0.mpg
-3 vodserve: 0.mpg: Empty|
-bytes 1.mpg 000001b316012013ffffe0a0000001b80008004000000100000ffff8
-> scan film=1.mpg
-3 vodserve: 1.mpg: PictureWithoutSlices 20|
-bytes 2.mpg 000001b316012013ffffe0a0000001b80008004000000100000f
-> scan film=2.mpg
-3 vodserve: 2.mpg: ShortHeader 20|
-bytes 3.mpg 000001b316012013ffffe0a0
-> scan film=3.mpg
-3 vodserve: 3.mpg: HeadWithoutPicture 0|
-bytes 4.mpg 000001b316012013ffffe0a0000001b5
-> scan film=4.mpg
-3 vodserve: 4.mpg: Mpeg2 12|
-bytes 5.mpg 000001b316012013ffffe0a0000001ba
-> scan film=5.mpg
-3 vodserve: 5.mpg: SystemCode 12|
-bytes 6.mpg 000001b316012010ffffe0a0000001b8
-> scan film=6.mpg
-3 vodserve: 6.mpg: BadRate 0 0|
-bytes 7.mpg 000001b80008004000000100000ffff8000001011234
-> scan film=7.mpg
-3 vodserve: 7.mpg: NoSequence|
-bytes 8.mpg 000001ba
-> scan film=8.mpg
-3 vodserve: 8.mpg: Truncated 0|
-bytes 9.mpg 000001ba4400010001800003
-> scan film=9.mpg
-3 vodserve: 9.mpg: NotPack 0|
-bytes 10.mpg 12000001ba4400010001800003
-> scan film=10.mpg
-3 vodserve: 10.mpg: NotPack 1|
-bytes 11.mpg 000001ba2100010001800003 000001e0000100
-> scan film=11.mpg
-3 vodserve: 11.mpg: BadPacket 12|
-bytes 12.mpg 000001ba2100010001800003 41
-> scan film=12.mpg
-3 vodserve: 12.mpg: BadCode 12|
-bytes 13.mpg 000001ba2100010001800003 000001e000230f
-> scan film=13.mpg
-3 vodserve: 13.mpg: Truncated 12|
-bytes 14.mpg 000001ba2100010001800003
-> scan film=14.mpg
-3 vodserve: 14.mpg: Empty|
-bytes 15.mpg 000001ba2100010001800003 000001e000050f000001b9
-> scan film=15.mpg
-3 vodserve: 15.mpg: SystemCode 0|
-bytes 16.mpg 000001ba2100010001800003 000001e000050f000001b941
-> scan film=16.mpg
-3 vodserve: 16.mpg: BadCode 23|
-bytes 17.mpg 000001ba2100010001800003 000001e00034ffffffffffffffffffffffffffffffffff0f \
-000001b316012013ffffe0a0000001b80008004000000100000ffff8000001011234
-> scan film=17.mpg
-3 vodserve: 17.mpg: BadPacket 12|
-> plan film=0.mpg
-3 vodserve: 0.mpg: Empty|
-";
+/// Films and system streams that are refused, in hexadecimal digits, each with its fault.
+const REFUSED: &[(&str, &str)] = &[
+    ("", "Empty"),
+    (
+        "000001b316012013ffffe0a0000001b80008004000000100000ffff8",
+        "PictureWithoutSlices 20",
+    ),
+    (
+        "000001b316012013ffffe0a0000001b80008004000000100000f",
+        "ShortHeader 20",
+    ),
+    ("000001b316012013ffffe0a0", "HeadWithoutPicture 0"),
+    ("000001b316012013ffffe0a0000001b5", "Mpeg2 12"),
+    ("000001b316012013ffffe0a0000001ba", "SystemCode 12"),
+    ("000001b316012010ffffe0a0000001b8", "BadRate 0 0"),
+    ("000001b80008004000000100000ffff8000001011234", "NoSequence"),
+    ("000001ba", "Truncated 0"),
+    ("000001ba4400010001800003", "NotPack 0"),
+    ("12000001ba4400010001800003", "NotPack 1"),
+    ("000001ba2100010001800003 000001e0000100", "BadPacket 12"),
+    ("000001ba2100010001800003 41", "BadCode 12"),
+    ("000001ba2100010001800003 000001e000230f", "Truncated 12"),
+    ("000001ba2100010001800003", "Empty"),
+    (
+        "000001ba2100010001800003 000001e000050f000001b9",
+        "SystemCode 0",
+    ),
+    (
+        "000001ba2100010001800003 000001e000050f000001b941",
+        "BadCode 23",
+    ),
+    (
+        "000001ba2100010001800003 000001e00034ffffffffffffffffffffffffffffffffff0f \
+000001b316012013ffffe0a0000001b80008004000000100000ffff8000001011234",
+        "BadPacket 12",
+    ),
+];
 
 #[test]
 fn scans_and_plans_films(rt: HostRuntime) -> Result<(), Fail> {
@@ -141,5 +118,10 @@ fn scans_and_plans_films(rt: HostRuntime) -> Result<(), Fail> {
 
 #[test]
 fn names_the_refusal_of_a_film(rt: HostRuntime) -> Result<(), Fail> {
-    passes(&rt, rt.alloc(), REFUSED)
+    let alloc = rt.alloc();
+    for command in ["scan film", "plan film"] {
+        let script = refusals_of(alloc, "bytes", command, REFUSED)?;
+        passes(&rt, alloc, script.as_str())?;
+    }
+    Ok(())
 }

@@ -10,13 +10,19 @@ use std::test::Fail;
 const SHORT: &str = "\
 bytes a.mpg 000001b316012013ffffe0a0 000001b800080040 00000100000ffff8 000001011234
 bytes b.mpg a.mpg 000001000057fff880 000001011234
+reply asks SETUP rtsp://h/b.mpg RTSP/1.0|CSeq: 1|Transport: RTP/AVP/TCP;unicast;interleaved=0-1|\
+x-Startup: 2||
+reply first PLAY rtsp://h/b.mpg RTSP/1.0|CSeq: 2|Session: 789200f441f6aa57||
+reply second PLAY rtsp://h/b.mpg RTSP/1.0|CSeq: 2|Session: d67b3bbfad1f4676||
+reply ready RTSP/1.0 200 OK|CSeq: 1|\
+Transport: RTP/AVP/TCP;unicast;interleaved=0-1;ssrc=ba61f514|Session: 789200f441f6aa57||
+reply starts RTSP/1.0 200 OK|CSeq: 2|Session: 789200f441f6aa57|Range: npt=0.000-0.080|\
+RTP-Info: url=rtsp://h/b.mpg/video;seq=45996;rtptime=3701569932|x-Start: 1||
 # two race for the last room: one is admitted, the other reads where there is none
-hears SETUP rtsp://h/b.mpg RTSP/1.0|CSeq: 1|Transport: RTP/AVP/TCP;unicast;interleaved=0-1|x-Startup: 2||\
-PLAY rtsp://h/b.mpg RTSP/1.0|CSeq: 2|Session: 789200f441f6aa57||
+gets asks first
 slots 1 4
 part
-hears SETUP rtsp://h/b.mpg RTSP/1.0|CSeq: 1|Transport: RTP/AVP/TCP;unicast;interleaved=0-1|x-Startup: 2||\
-PLAY rtsp://h/b.mpg RTSP/1.0|CSeq: 2|Session: d67b3bbfad1f4676||
+gets asks second
 slots 1 4
 part
 > serve film=b.mpg workers=2 capacity=36
@@ -42,37 +48,34 @@ said 1 RTSP/1.0 200 OK|CSeq: 1|
 said 1 RTSP/1.0 200 OK|CSeq: 2|
 
 # the first take of part 1 fails: the connection of part 0 is served
-hears SETUP rtsp://h/b.mpg RTSP/1.0|CSeq: 1|Transport: RTP/AVP/TCP;unicast;interleaved=0-1|x-Startup: 2||\
-PLAY rtsp://h/b.mpg RTSP/1.0|CSeq: 2|Session: 789200f441f6aa57||
+gets asks first
 slots 1 4
 part
 part 1
 > serve film=b.mpg workers=2
 counts 1 2
 7 vodserve: GateFault|
-out 0 seat=1 play slot=0 slots=4 bytes=141 admitted start=1|1 seat=1 halt number=0 keep=141 halted|\
+out 0 seat=1 play slot=0 slots=4 bytes=141 admitted start=1|\
+1 seat=1 halt number=0 keep=141 halted|\
 calendar from=0|at 1 booked=35|at 2 booked=35|at 3 booked=36|at 4 booked=35|end|\
 served connections=1 entries=2|
-says RTSP/1.0 200 OK|CSeq: 1|Transport: RTP/AVP/TCP;unicast;interleaved=0-1;ssrc=ba61f514|Session: 789200f441f6aa57||
-says RTSP/1.0 200 OK|CSeq: 2|Session: 789200f441f6aa57|Range: npt=0.000-0.080|\
-RTP-Info: url=rtsp://h/b.mpg/video;seq=45996;rtptime=3701569932|x-Start: 1||
+sends ready starts
 plays b.mpg
 
 # the reply to a look in mid-report stands after the report's end
-hears SETUP rtsp://h/b.mpg RTSP/1.0|CSeq: 1|Transport: RTP/AVP/TCP;unicast;interleaved=0-1|x-Startup: 2||\
-PLAY rtsp://h/b.mpg RTSP/1.0|CSeq: 2|Session: 789200f441f6aa57||
+gets asks first
 slots 1 1
-hears GET_PARAMETER rtsp://h/b.mpg RTSP/1.0|CSeq: 3|Session: 789200f441f6aa57|Content-Length: 8||x-Booked
+hears GET_PARAMETER rtsp://h/b.mpg RTSP/1.0|CSeq: 3|Session: 789200f441f6aa57|Content-Length: 8||\
+x-Booked
 slots 2 3
 part
 > serve film=b.mpg workers=1
 counts 1 3
-says RTSP/1.0 200 OK|CSeq: 1|Transport: RTP/AVP/TCP;unicast;interleaved=0-1;ssrc=ba61f514|Session: 789200f441f6aa57||
-says RTSP/1.0 200 OK|CSeq: 2|Session: 789200f441f6aa57|Range: npt=0.000-0.080|\
-RTP-Info: url=rtsp://h/b.mpg/video;seq=45996;rtptime=3701569932|x-Start: 1||
-sends 24010030 80c80006 ba61f514 00000000 00000000 dca1798c 00000000 00000000 81ca0004 ba61f514 0108766f 64736572 \
-76650000
-says RTSP/1.0 200 OK|CSeq: 3|Content-Type: text/parameters|Content-Length: 35||x-Now: 0|x-Slot: 1|x-Booked: 35|
+sends ready starts
+sends 24010030 80c80006 ba61f514 00000000 00000000 dca1798c 00000000 00000000 81ca0004 ba61f514 \
+0108766f 64736572 76650000
+says RTSP/1.0 200 OK|CSeq: 3|Content-Type: text/parameters|Content-Length: 35||\
+x-Now: 0|x-Slot: 1|x-Booked: 35|
 plays a.mpg
 has |end|served connections=1 entries=3|
 ends 0
@@ -80,7 +83,8 @@ ends 0
 
 /// What keeps a server from its work.
 const KEPT: &str = "\
-bytes b.mpg 000001b316012013ffffe0a0 000001b800080040 00000100000ffff8 000001011234 000001000057fff880 000001011234
+bytes b.mpg 000001b316012013ffffe0a0 000001b800080040 00000100000ffff8 000001011234 \
+000001000057fff880 000001011234
 fails gate 1
 > serve film=b.mpg workers=2
 7 vodserve: GateFault|
@@ -108,9 +112,12 @@ const ORDINARY: &str = "\
 > make kind=film seed=1 pictures=250
 keeps news.mpg
 hears OPTIONS * RTSP/1.0|CSeq: 1||DESCRIBE rtsp://127.0.0.1:8554/news.mpg RTSP/1.0|CSeq: 2||
-hears SETUP rtsp://127.0.0.1:8554/news.mpg/video RTSP/1.0|CSeq: 3|Transport: RTP/AVP;unicast;client_port=5000-5001||
-hears SETUP rtsp://127.0.0.1:8554/news.mpg/video RTSP/1.0|CSeq: 4|Transport: RTP/AVP/TCP;unicast;interleaved=0-1||
-hears PLAY rtsp://127.0.0.1:8554/news.mpg RTSP/1.0|CSeq: 5|Session: 789200f441f6aa57|Range: npt=0.000-||
+hears SETUP rtsp://127.0.0.1:8554/news.mpg/video RTSP/1.0|CSeq: 3|\
+Transport: RTP/AVP;unicast;client_port=5000-5001||
+hears SETUP rtsp://127.0.0.1:8554/news.mpg/video RTSP/1.0|CSeq: 4|\
+Transport: RTP/AVP/TCP;unicast;interleaved=0-1||
+hears PLAY rtsp://127.0.0.1:8554/news.mpg RTSP/1.0|CSeq: 5|Session: 789200f441f6aa57|\
+Range: npt=0.000-||
 slots 1 100
 gets 240100080000000000000000
 slots 101 275
@@ -119,13 +126,15 @@ hears TEARDOWN rtsp://127.0.0.1:8554/news.mpg RTSP/1.0|CSeq: 7|Session: 789200f4
 part
 > serve film=news.mpg workers=1
 counts 1 2
-says RTSP/1.0 200 OK|CSeq: 1|Public: OPTIONS, DESCRIBE, SETUP, PLAY, PAUSE, TEARDOWN, GET_PARAMETER||
-says RTSP/1.0 200 OK|CSeq: 2|Content-Base: rtsp://127.0.0.1:8554/news.mpg/|Content-Type: application/sdp|\
-Content-Length: 142||\
+says RTSP/1.0 200 OK|CSeq: 1|\
+Public: OPTIONS, DESCRIBE, SETUP, PLAY, PAUSE, TEARDOWN, GET_PARAMETER||
+says RTSP/1.0 200 OK|CSeq: 2|Content-Base: rtsp://127.0.0.1:8554/news.mpg/|\
+Content-Type: application/sdp|Content-Length: 142||\
 v=0|o=- 0 0 IN IP4 127.0.0.1|s=news.mpg|c=IN IP4 0.0.0.0|t=0 0|a=control:*|a=range:npt=0-10.000|\
 m=video 0 RTP/AVP 32|a=control:video|
 says RTSP/1.0 461 Unsupported Transport|CSeq: 3||
-says RTSP/1.0 200 OK|CSeq: 4|Transport: RTP/AVP/TCP;unicast;interleaved=0-1;ssrc=ba61f514|Session: 789200f441f6aa57||
+says RTSP/1.0 200 OK|CSeq: 4|Transport: RTP/AVP/TCP;unicast;interleaved=0-1;ssrc=ba61f514|\
+Session: 789200f441f6aa57||
 says RTSP/1.0 200 OK|CSeq: 5|Session: 789200f441f6aa57|Range: npt=0.000-10.000|\
 RTP-Info: url=rtsp://127.0.0.1:8554/news.mpg/video;seq=45996;rtptime=3701569932|x-Start: 1||
 plays news.mpg

@@ -12,8 +12,10 @@ reply setup RTSP/1.0 200 OK|CSeq: 1|Transport: RTP/AVP/TCP;unicast;interleaved=0
 Session: 0123456789abcdef||
 reply play RTSP/1.0 200 OK|CSeq: 2|Session: 0123456789abcdef|Range: npt=0.000-0.080|x-Start: 1||
 reply teardown RTSP/1.0 200 OK|CSeq: 3|Session: 0123456789abcdef||
-reply asks_play PLAY rtsp://127.0.0.1:8554/b.mpg RTSP/1.0|CSeq: 2|Session: 0123456789abcdef|Range: npt=0-||
-reply asks_teardown TEARDOWN rtsp://127.0.0.1:8554/b.mpg RTSP/1.0|CSeq: 3|Session: 0123456789abcdef||
+reply asks_play PLAY rtsp://127.0.0.1:8554/b.mpg RTSP/1.0|CSeq: 2|Session: 0123456789abcdef|\
+Range: npt=0-||
+reply asks_teardown TEARDOWN rtsp://127.0.0.1:8554/b.mpg RTSP/1.0|CSeq: 3|\
+Session: 0123456789abcdef||
 reply asks_setup SETUP rtsp://127.0.0.1:8554/b.mpg/video RTSP/1.0|CSeq: 1|\
 Transport: RTP/AVP/TCP;unicast;interleaved=0-1|x-Buffer: 1048576|x-Startup: 2||
 reply asks_late SETUP rtsp://127.0.0.1:8554/b.mpg/video RTSP/1.0|CSeq: 1|\
