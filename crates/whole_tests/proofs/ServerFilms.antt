@@ -38,6 +38,6 @@ two_films a b good_a good_b shorter = record {
       (All-cons (λ (film : Stored). is_good_name (string_bytes film.name) ≡ true) b [] good_b
       (All-nil (λ (film : Stored). is_good_name (string_bytes film.name) ≡ true)));
   differ = λ i j before inside.
-      two_apart (string_bytes a.name) (string_bytes b.name) (λ same. absurd (omega (arith, shorter, ap length same))) i j
-      (record { before = before; inside = inside });
+      two_apart (string_bytes a.name) (string_bytes b.name) (λ same. absurd (omega (arith, shorter, ap length same)))
+      i j (record { before = before; inside = inside });
 }
