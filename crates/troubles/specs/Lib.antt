@@ -2,5 +2,4 @@ pub mod Said
 pub mod Lines
 pub mod Statuses
 pub mod Causes
-pub mod Spelling
 pub mod Messages

@@ -32,6 +32,10 @@ pub record FaultWords : Type 0 where
 abbrev pub words : List ℕ → List ℕ → FaultWords
 words name numbers = record { name = name; numbers = numbers }
 
+-- the name followed by the numbers
+abbrev pub words_text : FaultWords → List ℕ
+words_text refusal = refusal.name ++ flat_map number_text refusal.numbers
+
 abbrev pub curve_fault_words : CurveFault → FaultWords
 curve_fault_words NoPictures = words (codes "NoPictures") []
 curve_fault_words (TooManySlots slots) = words (codes "TooManySlots") (slots ∷ [])
@@ -75,9 +79,8 @@ fault_words Framing = words (codes "Framing") []
 fault_words (EndedEarly pictures) = words (codes "EndedEarly") (pictures ∷ [])
 fault_words TurnsSpent = words (codes "TurnsSpent") []
 
--- a refusal's name followed by its numbers
 abbrev pub fault_text : Fault → List ℕ
-fault_text fault = (fault_words fault).name ++ flat_map number_text (fault_words fault).numbers
+fault_text fault = words_text (fault_words fault)
 
 abbrev pub refusal_text : List ℕ → Fault → List ℕ
 refusal_text name fault =

@@ -1,14 +1,14 @@
 //! The line of a trouble.
 
-ghost use Rattle.std.specs.Prelude.{◌≡◌, ◌≤◌, ◌++◌, codes, flat_map, is_ok, take};
-ghost use Rattle.troubles.specs.Said.{IsSaid, with_label, number_text};
+ghost use Rattle.std.specs.Prelude.{◌≡◌, ◌++◌, codes, is_ok};
+ghost use Rattle.troubles.specs.Said.{IsSaid, with_label};
 ghost use Rattle.troubles.specs.Lines.{refusal_text, trouble_text};
 ghost use Rattle.troubles.specs.Messages.{HasGoodName, HasShortNumbers, IsOwnLine, MayBeSaid};
 ghost use Rattle.troubles.specs.Messages.{message_of};
 ghost use Rattle.troubles.specs.declared.faults.Trouble.{Trouble as Cause};
 
 use crate::faults::{Fault, Trouble};
-use crate::words::{Words, fault_words};
+use crate::words::say_fault;
 use vod_base::{Sink, SinkFault};
 
 /// Says one line of trouble. It takes no memory. An input with a good name makes it a line that
@@ -76,33 +76,8 @@ fn say_refusal<S: Sink>(sink: &mut S, name: &str, fault: Fault) -> Result<(), Si
         (S.written sink.new) (refusal_text name.now fault) (is_ok result) }
     ensures short { HasShortNumbers fault }
 {
-    let words = fault_words(fault);
     say_input(sink, name)?;
     sink.write_all(b": ")?;
-    say_words(sink, &words)?;
+    say_fault(sink, fault)?;
     sink.write_all(b"\n")
-}
-
-/// Writes a blank and a number.
-fn say_number<S: Sink>(sink: &mut S, number: u64) -> Result<(), SinkFault>
-    ensures { IsSaid (S.faults sink.old) (S.faults sink.new) (S.written sink.old)
-        (S.written sink.new) (number_text number) (is_ok result) }
-{
-    let mut buffer = itoa::Buffer::new();
-    sink.write_all(b" ")?;
-    sink.write_all(buffer.format(number).as_bytes())
-}
-
-/// Writes a refusal's name and its numbers.
-fn say_words<S: Sink>(sink: &mut S, words: &Words) -> Result<(), SinkFault>
-    requires { words.now.count ≤ 3 }
-    ensures { IsSaid (S.faults sink.old) (S.faults sink.new) (S.written sink.old)
-        (S.written sink.new) (words.now.name.now
-        ++ flat_map number_text (take words.now.count words.now.numbers)) (is_ok result) }
-{
-    sink.write_all(words.name.as_bytes())?;
-    for number in &words.numbers[..words.count] {
-        say_number(sink, *number)?;
-    }
-    Ok(())
 }

@@ -1,118 +1,110 @@
-//! The names of refusals, and the numbers that go with them.
+//! The words of a refusal: its name, and the numbers that go with it.
 
-ghost use Rattle.std.specs.Prelude.{◌∷◌, []};
+ghost use Rattle.std.specs.Prelude.{is_ok};
+ghost use Rattle.troubles.specs.Said.{IsSaid, number_text};
 ghost use Rattle.troubles.specs.Lines.{curve_fault_words, fault_words, film_fault_words};
-ghost use Rattle.troubles.specs.Lines.{system_fault_words, words};
-ghost use Rattle.troubles.specs.Spelling.{Spells};
+ghost use Rattle.troubles.specs.Lines.{system_fault_words, words, words_text};
+ghost use Rattle.troubles.specs.Messages.{HasShortNumbers};
 
 use crate::faults::Fault;
 use mpeg_scan::FilmFault;
 use sys_demux::SystemFault;
+use vod_base::{Sink, SinkFault};
 use wire_curve::CurveFault;
 
-/// A refusal's name, and the numbers that go with it: the first `count` of three.
-#[derive(Clone, Copy)]
-pub(crate) struct Words {
-    /// The refusal's name, as it is printed.
-    pub(crate) name: &'static str,
-    /// The numbers in their order, and 0 after them.
-    pub(crate) numbers: [u64; 3],
-    /// How many of the numbers are printed.
-    pub(crate) count: usize,
-}
-
-/// The words of a refusal.
-pub(crate) fn fault_words(fault: Fault) -> Words
-    ensures { Spells result (fault_words fault) }
+/// Writes the words of a refusal.
+pub(crate) fn say_fault<S: Sink>(sink: &mut S, fault: Fault) -> Result<(), SinkFault>
+    ensures said { IsSaid (S.faults sink.old) (S.faults sink.new) (S.written sink.old)
+        (S.written sink.new) (words_text (fault_words fault)) (is_ok result) }
+    ensures short { HasShortNumbers fault }
 {
     match fault {
-        Fault::NotFound => name("NotFound"),
-        Fault::BadTrace(place) => name_at("BadTrace", place),
-        Fault::Curves(fault) => curve_fault_words(fault),
-        Fault::BadCert(line) => name_at("BadCert", line),
-        Fault::BadScript(line) => name_at("BadScript", line),
-        Fault::Film(fault) => film_fault_words(fault),
-        Fault::System(fault) => system_fault_words(fault),
-        Fault::FilmTooLarge => name("FilmTooLarge"),
-        Fault::NoConnection => name("NoConnection"),
-        Fault::RefusedWith(code) => name_at("Refused", u64::from(code)),
-        Fault::BadReply(number) => name_at("BadReply", number),
-        Fault::BadFrame(number) => name_at("BadFrame", number),
-        Fault::Framing => name("Framing"),
-        Fault::EndedEarly(pictures) => name_at("EndedEarly", pictures),
-        Fault::TurnsSpent => name("TurnsSpent"),
+        Fault::NotFound => say_words(sink, "NotFound", &[]),
+        Fault::BadTrace(place) => say_words(sink, "BadTrace", &[place]),
+        Fault::Curves(fault) => say_curve_fault(sink, fault),
+        Fault::BadCert(line) => say_words(sink, "BadCert", &[line]),
+        Fault::BadScript(line) => say_words(sink, "BadScript", &[line]),
+        Fault::Film(fault) => say_film_fault(sink, fault),
+        Fault::System(fault) => say_system_fault(sink, fault),
+        Fault::FilmTooLarge => say_words(sink, "FilmTooLarge", &[]),
+        Fault::NoConnection => say_words(sink, "NoConnection", &[]),
+        Fault::RefusedWith(code) => say_words(sink, "Refused", &[u64::from(code)]),
+        Fault::BadReply(number) => say_words(sink, "BadReply", &[number]),
+        Fault::BadFrame(number) => say_words(sink, "BadFrame", &[number]),
+        Fault::Framing => say_words(sink, "Framing", &[]),
+        Fault::EndedEarly(pictures) => say_words(sink, "EndedEarly", &[pictures]),
+        Fault::TurnsSpent => say_words(sink, "TurnsSpent", &[]),
     }
 }
 
-/// A name alone.
-fn name(name: &'static str) -> Words
-    ensures { Spells result (words name.now []) }
-{
-    Words {
-        name,
-        numbers: [0; 3],
-        count: 0,
-    }
-}
-
-/// A name with the place or line that it speaks of.
-fn name_at(name: &'static str, place: u64) -> Words
-    ensures { Spells result (words name.now (place ∷ [])) }
-{
-    Words {
-        name,
-        numbers: [place, 0, 0],
-        count: 1,
-    }
-}
-
-/// The words of a refusal of a film's curves.
-fn curve_fault_words(fault: CurveFault) -> Words
-    ensures { Spells result (curve_fault_words fault) }
+/// Writes the words of a refusal of a film's curves.
+fn say_curve_fault<S: Sink>(sink: &mut S, fault: CurveFault) -> Result<(), SinkFault>
+    ensures { IsSaid (S.faults sink.old) (S.faults sink.new) (S.written sink.old)
+        (S.written sink.new) (words_text (curve_fault_words fault)) (is_ok result) }
 {
     match fault {
-        CurveFault::NoPictures => name("NoPictures"),
-        CurveFault::TooManySlots { slots } => name_at("TooManySlots", slots),
-        CurveFault::BufferTooSmall { slot, used, least } => Words {
-            name: "BufferTooSmall",
-            numbers: [slot, used, least],
-            count: 3,
-        },
+        CurveFault::NoPictures => say_words(sink, "NoPictures", &[]),
+        CurveFault::TooManySlots { slots } => say_words(sink, "TooManySlots", &[slots]),
+        CurveFault::BufferTooSmall { slot, used, least } => say_words(
+            sink,
+            "BufferTooSmall",
+            &[slot, used, least],
+        ),
     }
 }
 
-/// The words of a refusal of a film; places are in bytes from its first one.
-fn film_fault_words(fault: FilmFault) -> Words
-    ensures { Spells result (film_fault_words fault) }
+/// Writes the words of a refusal of a film; places are in bytes from its first one.
+fn say_film_fault<S: Sink>(sink: &mut S, fault: FilmFault) -> Result<(), SinkFault>
+    ensures { IsSaid (S.faults sink.old) (S.faults sink.new) (S.written sink.old)
+        (S.written sink.new) (words_text (film_fault_words fault)) (is_ok result) }
 {
     match fault {
-        FilmFault::Empty => name("Empty"),
-        FilmFault::NoSequence => name("NoSequence"),
-        FilmFault::SystemCode(place) => name_at("SystemCode", place),
-        FilmFault::Mpeg2(place) => name_at("Mpeg2", place),
-        FilmFault::ShortHeader(place) => name_at("ShortHeader", place),
-        FilmFault::BadRate(place, code) => Words {
-            name: "BadRate",
-            numbers: [place, u64::from(code), 0],
-            count: 2,
-        },
-        FilmFault::BadType(place) => name_at("BadType", place),
-        FilmFault::PictureWithoutSlices(place) => name_at("PictureWithoutSlices", place),
-        FilmFault::HeadTooLong(place) => name_at("HeadTooLong", place),
-        FilmFault::GroupTooLong(place) => name_at("GroupTooLong", place),
-        FilmFault::TooLong => name("TooLong"),
-        FilmFault::HeadWithoutPicture(place) => name_at("HeadWithoutPicture", place),
+        FilmFault::Empty => say_words(sink, "Empty", &[]),
+        FilmFault::NoSequence => say_words(sink, "NoSequence", &[]),
+        FilmFault::SystemCode(place) => say_words(sink, "SystemCode", &[place]),
+        FilmFault::Mpeg2(place) => say_words(sink, "Mpeg2", &[place]),
+        FilmFault::ShortHeader(place) => say_words(sink, "ShortHeader", &[place]),
+        FilmFault::BadRate(place, code) => say_words(sink, "BadRate", &[place, u64::from(code)]),
+        FilmFault::BadType(place) => say_words(sink, "BadType", &[place]),
+        FilmFault::PictureWithoutSlices(place) => say_words(sink, "PictureWithoutSlices", &[place]),
+        FilmFault::HeadTooLong(place) => say_words(sink, "HeadTooLong", &[place]),
+        FilmFault::GroupTooLong(place) => say_words(sink, "GroupTooLong", &[place]),
+        FilmFault::TooLong => say_words(sink, "TooLong", &[]),
+        FilmFault::HeadWithoutPicture(place) => say_words(sink, "HeadWithoutPicture", &[place]),
     }
 }
 
-/// The words of a refusal of a system stream; places are in bytes from its first one.
-fn system_fault_words(fault: SystemFault) -> Words
-    ensures { Spells result (system_fault_words fault) }
+/// Writes the words of a refusal of a system stream; places are in bytes from its first one.
+fn say_system_fault<S: Sink>(sink: &mut S, fault: SystemFault) -> Result<(), SinkFault>
+    ensures { IsSaid (S.faults sink.old) (S.faults sink.new) (S.written sink.old)
+        (S.written sink.new) (words_text (system_fault_words fault)) (is_ok result) }
 {
     match fault {
-        SystemFault::NotPack(place) => name_at("NotPack", place),
-        SystemFault::BadCode(place) => name_at("BadCode", place),
-        SystemFault::BadPacket(place) => name_at("BadPacket", place),
-        SystemFault::Truncated(place) => name_at("Truncated", place),
+        SystemFault::NotPack(place) => say_words(sink, "NotPack", &[place]),
+        SystemFault::BadCode(place) => say_words(sink, "BadCode", &[place]),
+        SystemFault::BadPacket(place) => say_words(sink, "BadPacket", &[place]),
+        SystemFault::Truncated(place) => say_words(sink, "Truncated", &[place]),
     }
+}
+
+/// Writes a name, and after it the numbers, each after a blank.
+fn say_words<S: Sink>(sink: &mut S, name: &str, numbers: &[u64]) -> Result<(), SinkFault>
+    ensures { IsSaid (S.faults sink.old) (S.faults sink.new) (S.written sink.old)
+        (S.written sink.new) (words_text (words name.now numbers.now)) (is_ok result) }
+{
+    sink.write_all(name.as_bytes())?;
+    for number in numbers {
+        say_number(sink, *number)?;
+    }
+    Ok(())
+}
+
+/// Writes a blank and a number.
+fn say_number<S: Sink>(sink: &mut S, number: u64) -> Result<(), SinkFault>
+    ensures { IsSaid (S.faults sink.old) (S.faults sink.new) (S.written sink.old)
+        (S.written sink.new) (number_text number) (is_ok result) }
+{
+    let mut buffer = itoa::Buffer::new();
+    sink.write_all(b" ")?;
+    sink.write_all(buffer.format(number).as_bytes())
 }

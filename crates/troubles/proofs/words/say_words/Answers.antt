@@ -4,7 +4,7 @@ use Rattle.std.proofs.lemmas.List.{append_assoc, append-nil, flat_map_more, take
 use Rattle.std.proofs.lemmas.List.Concat.{flat_map-append}
 use Rattle.troubles.specs.Said.{number_text}
 use Rattle.troubles.proofs.SaidLemmas.{said_as, said_lost, said_no_more, said_then, said_whole}
-use Rattle.troubles.proofs.lines.say_words.Goals as goal
+use Rattle.troubles.proofs.words.say_words.Goals as goal
 
 -- a number more after a name and the numbers before it
 more : (name numbers : List ℕ) (i : ℕ) → i < length numbers →
@@ -24,28 +24,25 @@ all name numbers i = append_assoc name (flat_map number_text (take i numbers)) (
 
 pub loop-number-init : goal.loop-number-init
 loop-number-init g c =
-    said_as (c.as_bytes.ensures.value ∙ sym (append-nil c.args.words.now.name.now))
+    said_as (c.as_bytes.ensures.value ∙ sym (append-nil c.args.name.now))
     (said_whole c.write_all.ensures.count ((c.in_ok-write_all.ensures {u = tt}).whole))
 
 pub returns-in_err-say_number : goal.returns-in_err-say_number
 returns-in_err-say_number g c =
-    let numbers : List ℕ = take c.args.words.now.count c.args.words.now.numbers in
     let i : ℕ = c.loop-number.number-index in
     said_lost c.from_residual-in_err-say_number.result c.from_residual-in_err-say_number.ensures.1
-    (said_as (all c.args.words.now.name.now numbers (i + 1))
-    (said_no_more (flat_map number_text (drop (i + 1) numbers))
-    (said_as (more c.args.words.now.name.now numbers i c.loop-number-test.true)
+    (said_as (all c.args.name.now c.args.numbers.now (i + 1))
+    (said_no_more (flat_map number_text (drop (i + 1) c.args.numbers.now))
+    (said_as (more c.args.name.now c.args.numbers.now i c.loop-number-test.true)
     (said_then c.loop-number.invariant c.in_err-say_number.ensures))))
 
 pub loop-number-preserved : goal.loop-number-preserved
 loop-number-preserved g c =
-    said_as (more c.args.words.now.name.now (take c.args.words.now.count c.args.words.now.numbers)
-    c.loop-number.number-index c.loop-number-test.true)
+    said_as (more c.args.name.now c.args.numbers.now c.loop-number.number-index c.loop-number-test.true)
     (said_then c.loop-number.invariant c.in_ok-say_number.ensures)
 
 pub returns : goal.returns
 returns g c =
-    said_as (ap (λ (ns : List ℕ). c.args.words.now.name.now ++ flat_map number_text ns)
-    (take_all c.loop-number.number-index (take c.args.words.now.count c.args.words.now.numbers)
-    c.loop-number-test.false))
+    said_as (ap (λ (ns : List ℕ). c.args.name.now ++ flat_map number_text ns)
+    (take_all c.loop-number.number-index c.args.numbers.now c.loop-number-test.false))
     c.loop-number.invariant

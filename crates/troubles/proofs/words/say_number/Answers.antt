@@ -1,6 +1,6 @@
 use Rattle.std.proofs.Common.{◌∙◌, ◌++◌, List, ℕ, ap, codes}
 use Rattle.troubles.proofs.SaidLemmas.{said_as, said_by, said_then, said_whole}
-use Rattle.troubles.proofs.lines.say_number.Goals as goal
+use Rattle.troubles.proofs.words.say_number.Goals as goal
 
 pub returns : goal.returns
 returns g c =
