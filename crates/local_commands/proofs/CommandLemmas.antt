@@ -1,5 +1,5 @@
 -- What the commands' answers mean, in terms of the definitions that the run cites.
-use Rattle.std.proofs.Common.{◌≡◌, ℕ, List, ◌++◌, Some, None, Result, Ok, Vec, Global, subst, inl, inr}
+use Rattle.std.proofs.Common.{◌≡◌, ◌∙◌, ℕ, List, ◌++◌, Some, None, Result, Ok, Vec, Global, ap, subst, sym, inl, inr}
 use Rattle.std.specs.Prelude.{IfOk, OnOk, codes}
 use Rattle.vod_base.specs.Outside.{File, file_named}
 use Rattle.wire_curve.specs.declared.curves.Curves.{Curves}
@@ -34,6 +34,20 @@ pub record HasCertificate (held : List File) (viewer : Viewer) (cert : List ℕ)
   pub slots : ℕ
   pub bytes : ℕ
   pub certificate : IsCertificate written slots bytes segments
+
+-- a certificate that was read from its file, beside the curves
+pub certificate_read : {held : List File} {viewer : Viewer} {cert items written : List ℕ} {curves : Curves}
+    {slots bytes : ℕ} {read segments : List Segment} → HasCurves held viewer curves →
+    file_named held cert ≡ Some items → written ≡ items → IsCertificate written slots bytes read →
+    segments ≡ read → HasCertificate held viewer cert curves segments
+certificate_read {written = written} {slots = slots} {bytes} has found written_is certificate segments_are = record {
+  has = has;
+  written = written;
+  found = found ∙ ap (λ (t : List ℕ). Some t) (sym written_is);
+  slots = slots;
+  bytes = bytes;
+  certificate = subst (IsCertificate written slots bytes) (sym segments_are) certificate;
+}
 
 -- with the verdict on that
 checked : {held : List File} {viewer : Viewer} {cert : List ℕ} {curves : Curves} {segments : List Segment} →

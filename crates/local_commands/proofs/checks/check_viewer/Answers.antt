@@ -8,7 +8,8 @@ use Rattle.local_commands.specs.Carrying.{IsDone, IsInputRefused, IsRead}
 use Rattle.std.specs.Prelude.{codes}
 use Rattle.local_commands.specs.Verdict.{refused_line}
 use Rattle.inputs.proofs.ScanLemmas.{handed_on, ok_map, read_trouble_map}
-use Rattle.local_commands.proofs.CommandLemmas.{on_ok_of, text_of, HasCertificate, least_checked, fault_checked}
+use Rattle.local_commands.proofs.CommandLemmas.{HasCertificate, certificate_read, on_ok_of, text_of}
+use Rattle.local_commands.proofs.CommandLemmas.{least_checked, fault_checked}
 use Rattle.local_commands.proofs.checks.check_viewer.Goals as goal
 
 pub returns-in_err-curves-clause-trouble : goal.returns-in_err-curves-clause-trouble
@@ -78,15 +79,10 @@ pub returns-in-Ok-check-clause-done : goal.returns-in-Ok-check-clause-done
 returns-in-Ok-check-clause-done g c =
     let read : (held : List File) → g.L.Library.files c.args.library.now ≡ Some held →
     HasCertificate held (viewer_of c.args.viewer) c.args.cert.now c.in_ok-curves.curves c.deref-2.result.now =
-    λ held told. record {
-      has = (c.in_ok-curves.ensures {u = tt}).curves held told;
-      written = c.deref.result.now;
-      found = (c.in_ok-written.ensures {u = tt}).found held (c.viewer_curves.ensures.library.kept ∙ told)
-          ∙ ap (λ (t : List ℕ). Some t) (sym c.deref.ensures.value);
-      slots = c.in-Ok.certificate.slots;
-      bytes = c.in-Ok.certificate.bytes;
-      certificate = rw c.deref-2.ensures.value ((c.in-Ok.ensures {u = tt}).read);
-    } in
+    λ held told.
+    certificate_read ((c.in_ok-curves.ensures {u = tt}).curves held told)
+    ((c.in_ok-written.ensures {u = tt}).found held (c.viewer_curves.ensures.library.kept ∙ told))
+    c.deref.ensures.value ((c.in-Ok.ensures {u = tt}).read) c.deref-2.ensures.value in
     ok_map (λ done. (done.status ≡ 0) × (c.from_slice.result ≡ Ok done.text) × (done.plan ≡ None))
     (λ done. IsDone (g.L.Library.files c.args.library.now) (check_of (viewer_of c.args.viewer) c.args.cert.now)
     done.status done.text.items done.plan) c.done_with_text.result
@@ -102,15 +98,10 @@ pub returns-clause-done : goal.returns-clause-done
 returns-clause-done g c =
     let read : (held : List File) → g.L.Library.files c.args.library.now ≡ Some held →
     HasCertificate held (viewer_of c.args.viewer) c.args.cert.now c.in_ok-curves.curves c.deref-2.result.now =
-    λ held told. record {
-      has = (c.in_ok-curves.ensures {u = tt}).curves held told;
-      written = c.deref.result.now;
-      found = (c.in_ok-written.ensures {u = tt}).found held (c.viewer_curves.ensures.library.kept ∙ told)
-          ∙ ap (λ (t : List ℕ). Some t) (sym c.deref.ensures.value);
-      slots = c.in-Ok.certificate.slots;
-      bytes = c.in-Ok.certificate.bytes;
-      certificate = rw c.deref-2.ensures.value ((c.in-Ok.ensures {u = tt}).read);
-    } in
+    λ held told.
+    certificate_read ((c.in_ok-curves.ensures {u = tt}).curves held told)
+    ((c.in_ok-written.ensures {u = tt}).found held (c.viewer_curves.ensures.library.kept ∙ told))
+    c.deref.ensures.value ((c.in-Ok.ensures {u = tt}).read) c.deref-2.ensures.value in
     ok_map (λ done. (done.status ≡ 1) × (c.refusal_text.result ≡ Ok done.text) × (done.plan ≡ None))
     (λ done. IsDone (g.L.Library.files c.args.library.now) (check_of (viewer_of c.args.viewer) c.args.cert.now)
     done.status done.text.items done.plan) c.done_with_text-in-Err.result

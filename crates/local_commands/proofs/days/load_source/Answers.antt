@@ -16,7 +16,8 @@ returns-in_err-film-in-Film-clause-trouble g c =
 
 pub returns-in_ok-sizes-in-Trace-clause-held : goal.returns-in_ok-sizes-in-Trace-clause-held
 returns-in_ok-sizes-in-Trace-clause-held g c = λ held told.
-    held_as {named = c.args.named.now} held _ (record { kind_is = c.in-Trace.is; name_is = c.as_str-name.ensures.value })
+    held_as {named = c.args.named.now} held _
+    (record { kind_is = c.in-Trace.is; name_is = c.as_str-name.ensures.value })
     ((c.in_ok-sizes-in-Trace.ensures {u = tt}).held held told)
 
 pub returns-in_err-sizes-in-Trace-clause-trouble : goal.returns-in_err-sizes-in-Trace-clause-trouble

@@ -9,7 +9,11 @@ use Rattle.local_commands.proofs.scan_text.scan_text.Goals as goal
 pub loop-number-preserved : goal.loop-number-preserved
 loop-number-preserved c = record {
   text = text-more (film_line c.args.bytes c.args.rate (length c.args.units.now)) c.args.units.now
-      (record { count = c.loop-number.number; within = c.loop-number-test.true; before = c.loop-number.invariant.text }) _
+      (record {
+        count = c.loop-number.number;
+        within = c.loop-number-test.true;
+        before = c.loop-number.invariant.text;
+      }) _
       ((c.in_ok-push_unit.ensures {u = tt}).line);
   short = subst (λ us. All IsShortUnit us)
       (sym (take_more c.args.units.now c.loop-number.number _ c.loop-number-test.true))
