@@ -113,12 +113,12 @@ part_told {work} {worker = k} {report} worked =
     subst (λ (n : ℕ). All (IsReceiptIn journal (n + 1)) (slice_index_or reports i none).receipts.items)
     (sym (worked.served.reports.worker_is i none inside)) (all i none inside)
 
-parts_told : {gate gate' : Outlet} (work : Working) (from : ℕ) (parts : List PartReport) →
+parts_told : (work : Working) (gate gate' : Outlet) (from : ℕ) (parts : List PartReport) →
     AllWorked work gate gate' from parts → All (IsReportIn work.journal) (all_reports parts)
-parts_told work from [] all = All-nil (IsReportIn work.journal)
-parts_told {gate} work from (part ∷ parts) all =
+parts_told work gate gate' from [] all = All-nil (IsReportIn work.journal)
+parts_told work gate gate' from (part ∷ parts) all =
     All-append (IsReportIn work.journal) part.reports.items (all_reports parts) (part_told all.0)
-    (parts_told {gate = gate} work (from + 1) parts all.1)
+    (parts_told work gate gate' (from + 1) parts all.1)
 
 -- the reports are those of the workers
 reports_whole : {before after : World} {seed : List ℕ} {serving : Serving} {ended : Ended}
@@ -135,7 +135,7 @@ tells_its_journal before after seed serving ended (inl kept) status =
 tells_its_journal before after seed serving ended (inr served) status =
     subst (All (IsReportIn ended.journal.items))
     (sym (reports_whole served (ended_whole before after _ served.ends status)))
-    (parts_told {gate = before.gate} (work_of served) 0 served.worked.parts served.worked.each)
+    (parts_told (work_of served) before.gate _ 0 served.worked.parts served.worked.each)
 
 -- ---- connections
 

@@ -62,19 +62,23 @@ content_is slot stored =
     ∙ ap (λ (ss : List ℕ). content_as video (rate_of (codes_of (read_after [] video)))
     (units_in (film_calls video)) ss) is.slices
 
+-- a source that a library holds under a name
+record IsHeldSource (held : List File) (name : List ℕ) (kind : SourceKind) (source : Source) : Type 0 where
+  held_as : IsHeldUnder kind held name source
+
 -- what is held under a name is played in one way
 content_once : {held : List File} {name : List ℕ} (slot : ℕ) (kind : SourceKind) (a b : Source) →
-    IsHeldUnder kind held name a → IsHeldUnder kind held name b → source_content slot a ≡ source_content slot b
+    IsHeldSource held name kind a → IsHeldSource held name kind b → source_content slot a ≡ source_content slot b
 content_once {held} {name} slot kinds.Film (Film a) (Film b) p q =
     content_is slot a
-    ∙ ap content_in (held_once held name a.film.bytes.items b.film.bytes.items p q)
+    ∙ ap content_in (held_once held name a.film.bytes.items b.film.bytes.items p.held_as q.held_as)
     ∙ sym (content_is slot b)
-content_once slot kinds.Film (Film a) (Trace b) p q = absurd q
-content_once slot kinds.Film (Trace a) b p q = absurd p
-content_once slot kinds.Trace (Film a) b p q = absurd p
-content_once slot kinds.Trace (Trace a) (Film b) p q = absurd q
+content_once slot kinds.Film (Film a) (Trace b) p q = absurd q.held_as
+content_once slot kinds.Film (Trace a) b p q = absurd p.held_as
+content_once slot kinds.Trace (Film a) b p q = absurd p.held_as
+content_once slot kinds.Trace (Trace a) (Film b) p q = absurd q.held_as
 content_once {held} {name} slot kinds.Trace (Trace a) (Trace b) p q =
-    ap (trace_content slot) (trace_once held name a.items b.items p q)
+    ap (trace_content slot) (trace_once held name a.items b.items p.held_as q.held_as)
 
 contents_same : (slot : ℕ) (xs ys : List Source) → length xs ≡ length ys →
     ((k : ℕ) (none : Source) → k < length xs →
@@ -114,9 +118,11 @@ reels_once {held} {name} {a} {b} {sources} {others} slot p q are others_are =
     ∙ ap (λ (ns : List Name). get_or ns k (name_of one)) names
     ∙ get_or-map name_of b.named.items k one in
     content_once {held = held} {name = string_bytes there.name} slot there.kind (get_or sources k none)
-    (get_or others k none)
-    (same_name here there alike held (get_or sources k none) (are.each k one none (omega (arith, inside, are.count))))
-    (others_are.each k one none (omega (arith, inside, long, others_are.count))))
+    (get_or others k none) (record {
+      held_as =
+          same_name here there alike held (get_or sources k none)
+          (are.each k one none (omega (arith, inside, are.count)));
+    }) (record { held_as = others_are.each k one none (omega (arith, inside, long, others_are.count)) }))
 
 day_once : {held : List File} {run : ScriptRun} {text text' : List ℕ} {journal journal' : List Entry} →
     IsScriptDay held run text journal → IsScriptDay held run text' journal' → (text ≡ text') × (journal ≡ journal')

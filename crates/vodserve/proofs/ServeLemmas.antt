@@ -242,11 +242,16 @@ have_worked {work} {workers} {seat} {gate'} all_done whole count open_as left =
   where
     open all_done use {done, joined, counted}
 
+-- a gate before, with an earlier count of its faults
+record Earlier (gate : Outlet) : Type 0 where
+  before : Outlet
+  low : before.faults ≤ gate.faults
+
 -- the same from an earlier count of the gate's faults on
-worked_since : {gate gate' : Outlet} (work : Working) (before : Outlet) (from : ℕ) (parts : List PartReport) →
-    AllWorked work gate gate' from parts → before.faults ≤ gate.faults → AllWorked work before gate' from parts
-worked_since work before from [] all low = tt
-worked_since {gate} {gate'} work before from (part ∷ parts) all low = (
+worked_since : {gate : Outlet} (earlier : Earlier gate) (work : Working) (gate' : Outlet) (from : ℕ)
+    (parts : List PartReport) → AllWorked work gate gate' from parts → AllWorked work earlier.before gate' from parts
+worked_since earlier work gate' from [] all = tt
+worked_since {gate} earlier work gate' from (part ∷ parts) all = (
   record {
     seat = all.0.seat;
     left = all.0.left;
@@ -259,17 +264,17 @@ worked_since {gate} {gate'} work before from (part ∷ parts) all low = (
     seen = all.0.seen;
     made = all.0.made;
     back = all.0.back;
-    counted = λ some. risen_since before.faults gate.faults gate'.faults (all.0.counted some) low;
+    counted = λ some. risen_since earlier.before.faults gate.faults gate'.faults (all.0.counted some) earlier.low;
   },
-  worked_since {gate = gate} work before (from + 1) parts all.1 low,
+  worked_since earlier work gate' (from + 1) parts all.1,
 )
 
 pub have_worked_since : {work : Working} {before gate gate' : Outlet} {end : PartEnd} {reports : List ConnReport} →
     HaveWorked work gate gate' end reports → before.faults ≤ gate.faults → HaveWorked work before gate' end reports
-have_worked_since {work} {before} {gate} worked low = record {
+have_worked_since {work} {before} {gate} {gate'} worked low = record {
   parts = worked.parts;
   count = worked.count;
-  each = worked_since {gate = gate} work before 0 worked.parts worked.each low;
+  each = worked_since {gate = gate} (record { before = before; low = low }) work gate' 0 worked.parts worked.each;
   open_as = worked.open_as;
   split = worked.split;
   left = worked.left;
@@ -294,14 +299,14 @@ worker_worked {gate} {gate'} work from (part ∷ parts) all (suc k) here =
     (record { none = here.none; inside = omega (arith, here.inside) }))
 
 -- a part that failed was counted
-fault_counted : {parts : List PartReport} {gate gate' : Outlet} (work : Working) →
+fault_counted : {parts : List PartReport} (work : Working) (gate gate' : Outlet) →
     AllWorked work gate gate' 0 parts → HasOne PartFault parts → HasRisen gate.faults gate'.faults
-fault_counted {parts = []} work all one = absurd (omega (arith, one.inside))
-fault_counted {parts = part ∷ parts} {gate} work all one =
+fault_counted {parts = []} work gate gate' all one = absurd (omega (arith, one.inside))
+fault_counted {parts = part ∷ parts} work gate gate' all one =
     let worked = worker_worked {gate = gate} work 0 (part ∷ parts) all one.worker
     (record { none = part; inside = one.inside }) in
     worked.counted (risen_some 0 worked.after.faults (worked.served.fault (one.ended part)))
 
 pub fault_risen : {work : Working} {gate gate' : Outlet} {end : PartEnd} {reports : List ConnReport} →
     HaveWorked work gate gate' end reports → end ≡ PartFault → HasRisen gate.faults gate'.faults
-fault_risen {work} worked is = fault_counted work worked.each (worked.left.failed is)
+fault_risen {work} {gate} {gate'} worked is = fault_counted work gate gate' worked.each (worked.left.failed is)

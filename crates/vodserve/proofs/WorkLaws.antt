@@ -1,7 +1,6 @@
 -- Commands whose inputs are accepted do their work.
 use Rattle.std.proofs.Common.{◌≡◌, ◌⊎◌, ◌∙◌, List, ℕ, Option, Some, None, inl, inr, refl, sym, subst}
-use Rattle.vod_base.specs.Outside.{File, HasRisen, told_more}
-use Rattle.admission.specs.declared.entries.Entry.{Entry}
+use Rattle.vod_base.specs.Outside.{File, told_more}
 use Rattle.command_words.specs.declared.orders.FairRun.{FairRun}
 use Rattle.command_words.specs.Words.{Order, ScriptRun, Serving, check_of, day_of, fair_of, help, make_of, plan_of}
 use Rattle.command_words.specs.Words.{scan_of, serve_of, version, watch_of}

@@ -11,7 +11,6 @@ use Rattle.std.proofs.lemmas.List.{append-nil, append_assoc, get_or-set_other, g
 use Rattle.std.proofs.lemmas.List.Elements.{All-head, All-push, All-tail}
 use Rattle.vod_base.specs.Outside.{HasRisen}
 use Rattle.vod_base.specs.Gates.{Content, IsOut, Part, after_rejoin, split_off, told_rejoined}
-use Rattle.film_frames.specs.declared.stores.Stored.{Stored}
 use Rattle.admission.specs.declared.entries.Entry.{Entry}
 use Rattle.admission.specs.Makers.{made_by}
 use Rattle.slot_calendar.specs.declared.profiles.CapacityStep.{CapacityStep}

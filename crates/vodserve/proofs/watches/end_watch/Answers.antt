@@ -1,21 +1,40 @@
-use Rattle.std.proofs.Common.{refl}
+use Rattle.std.proofs.Common.{sym, subst, refl}
 use Rattle.troubles.specs.declared.faults.Trouble.TheVariants.{Refused}
-use Rattle.vodserve.proofs.WatchLemmas.{ends_as}
+use Rattle.rtsp_client.specs.declared.wishes.WatchEnd.{WatchEnd}
+use Rattle.vodserve.specs.Run.{EndsWatch}
+use Rattle.vodserve.specs.Sights.{sight_of}
 use Rattle.vodserve.proofs.watches.end_watch.Goals as goal
 
 pub returns-in-Done-clause-ends : goal.returns-in-Done-clause-ends
-returns-in-Done-clause-ends g c = ends_as c.in-Done.is c.end_with_meter.ensures.says
+returns-in-Done-clause-ends g c =
+    subst (λ (e : WatchEnd). EndsWatch (sight_of g.E.Sink.faults g.E.Sink.written c.args.err.now)
+    (sight_of g.E.Sink.faults g.E.Sink.written c.end_with_meter.new.err) c.args.film.now e c.end_with_meter.result)
+    (sym c.in-Done.is) c.end_with_meter.ensures.says
 
 pub returns-in-Fault-clause-ends : goal.returns-in-Fault-clause-ends
 returns-in-Fault-clause-ends g c =
-    ends_as c.in-Fault.is
+    subst (λ (e : WatchEnd). EndsWatch (sight_of g.E.Sink.faults g.E.Sink.written c.args.err.now)
+    (sight_of g.E.Sink.faults g.E.Sink.written c.end_with.new.err) c.args.film.now e c.end_with.result)
+    (sym c.in-Fault.is)
     (Refused c.args.film c.refusal_of-refusal.result, ((refl, c.refusal_of-refusal.ensures), c.end_with.ensures.fails))
 
 pub returns-in-LinkFault-clause-ends : goal.returns-in-LinkFault-clause-ends
-returns-in-LinkFault-clause-ends g c = ends_as c.in-LinkFault.is c.end_with-in-LinkFault.ensures.fails
+returns-in-LinkFault-clause-ends g c =
+    subst (λ (e : WatchEnd). EndsWatch (sight_of g.E.Sink.faults g.E.Sink.written c.args.err.now)
+    (sight_of g.E.Sink.faults g.E.Sink.written c.end_with-in-LinkFault.new.err) c.args.film.now e
+    c.end_with-in-LinkFault.result)
+    (sym c.in-LinkFault.is) c.end_with-in-LinkFault.ensures.fails
 
 pub returns-in-SinkFault-clause-ends : goal.returns-in-SinkFault-clause-ends
-returns-in-SinkFault-clause-ends g c = ends_as c.in-SinkFault.is c.end_with-in-SinkFault.ensures.fails
+returns-in-SinkFault-clause-ends g c =
+    subst (λ (e : WatchEnd). EndsWatch (sight_of g.E.Sink.faults g.E.Sink.written c.args.err.now)
+    (sight_of g.E.Sink.faults g.E.Sink.written c.end_with-in-SinkFault.new.err) c.args.film.now e
+    c.end_with-in-SinkFault.result)
+    (sym c.in-SinkFault.is) c.end_with-in-SinkFault.ensures.fails
 
 pub returns-in-NoMemory-clause-ends : goal.returns-in-NoMemory-clause-ends
-returns-in-NoMemory-clause-ends g c = ends_as c.in-NoMemory.is c.end_with-in-NoMemory.ensures.fails
+returns-in-NoMemory-clause-ends g c =
+    subst (λ (e : WatchEnd). EndsWatch (sight_of g.E.Sink.faults g.E.Sink.written c.args.err.now)
+    (sight_of g.E.Sink.faults g.E.Sink.written c.end_with-in-NoMemory.new.err) c.args.film.now e
+    c.end_with-in-NoMemory.result)
+    (sym c.in-NoMemory.is) c.end_with-in-NoMemory.ensures.fails

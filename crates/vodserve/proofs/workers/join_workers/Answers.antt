@@ -1,5 +1,5 @@
-use Rattle.std.proofs.Common.{◌≡◌, ◌<◌, ◌++◌, ◌∷◌, [], List, length, ap, sym, subst, inr, refl, arith, rules}
-use Rattle.std.specs.Prelude.{All, map}
+use Rattle.std.proofs.Common.{◌<◌, ◌∷◌, [], List, length, ap, sym, subst, inr, arith, rules}
+use Rattle.std.specs.Prelude.{map}
 use Rattle.std.proofs.lemmas.Iterator.Adapters.{YieldsList-from_vec}
 use Rattle.std.proofs.lemmas.Iterator.Consumers.{YieldsList-turn}
 use Rattle.std.proofs.lemmas.List.{map-append}
