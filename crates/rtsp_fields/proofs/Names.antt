@@ -14,9 +14,9 @@ pub line_of_name : {X : Type 0} (now : X → List ℕ) (r : Option X) (path : Li
 line_of_name now None path h = tt
 line_of_name now (Some x) path h = one_line-name (now x) h.good
 
--- the name behind the reference is the one that was read
-pub name_behind : (r : Option (Bor (List ℕ))) (path : List ℕ) →
+-- the name that is lent is the one that was read
+pub name_lent : (r : Option (Bor (List ℕ))) (path : List ℕ) →
     MatchOption r ((name : List ℕ) → ¬ NamesFilm path name) (λ x. NamesFilm path x.now)
     → MatchOption (option_copied r) ((name : List ℕ) → ¬ NamesFilm path name) (NamesFilm path)
-name_behind None path h = h
-name_behind (Some x) path h = h
+name_lent None path h = h
+name_lent (Some x) path h = h

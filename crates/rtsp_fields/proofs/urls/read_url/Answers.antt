@@ -3,7 +3,7 @@ use Rattle.rtsp_text.specs.Grammar.{is_url_byte}
 use Rattle.rtsp_text.proofs.Inside.{all-take, all-drop}
 use Rattle.rtsp_text.proofs.OneLines.{one_line-url}
 use Rattle.rtsp_fields.proofs.Asked.{absolute_url}
-use Rattle.rtsp_fields.proofs.Names.{line_of_name, name_behind}
+use Rattle.rtsp_fields.proofs.Names.{line_of_name, name_lent}
 use Rattle.rtsp_fields.proofs.urls.read_url.Goals as goal
 
 pub returns-clause-read : goal.returns-clause-read
@@ -17,7 +17,7 @@ returns-clause-read c =
         end = path;
       });
       authority_is = refl;
-      name_is = name_behind c.film_name.result _ c.film_name.ensures;
+      name_is = name_lent c.film_name.result _ c.film_name.ensures;
     }
 
 pub returns-clause-authority_line : goal.returns-clause-authority_line
