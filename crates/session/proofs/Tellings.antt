@@ -245,7 +245,7 @@ film_url authority name tail is good is_tail =
                   get_or-append_right (codes "rtsp://") (authority ++ path) 7 (7 + length authority) 0 refl (omega arith)
                   ∙ get_or-append_right authority path (length authority) (7 + length authority - 7) 0 refl (omega arith)
                   ∙ ap (λ k. get_or path k 0) (let none : 7 + length authority - 7 - length authority ≡ 0 =
-              omega arith in none);
+                  omega arith in none);
             };
           });
       authority_is = sym (take_at authority path (7 + length authority - 7) (omega arith));
