@@ -52,12 +52,18 @@ placed_by (Offered at_slot note) made = []
 
 -- turns keep of a play what these entries keep of it
 abbrev KeepsAs : List Turn → List Placed → Type 0
-KeepsAs later made = (all : ℕ) → kept_later later all ≡ kept_among made all
+KeepsAs turns made = (all : ℕ) → kept_later turns all ≡ kept_among made all
+
+-- what comes later, as turns and as entries
+record Sequel : Type 0 where
+  turns : List Turn
+  made : List Placed
+  keeps : KeepsAs turns made
 
 -- a turn's note is that of the play that its entry tells, if any
 abbrev IsNoted : Standing → Outcome → Type 0
-IsNoted asking outcome = (later : List Turn) (made : List Placed) → KeepsAs later made
-    → map noted_play (notes_of_turns asking outcome later) ≡ placed_by outcome made
+IsNoted asking outcome = (later : Sequel)
+    → map noted_play (notes_of_turns asking outcome later.turns) ≡ placed_by outcome later.made
 
 abbrev AreNoted : List Turn → Type 0
 AreNoted [] = ⊤
@@ -95,20 +101,21 @@ turns_noted : (turns : List Turn) → AreNoted turns
 turns_noted [] are = refl
 turns_noted (turn ∷ turns) are =
     map-append noted_play (notes_of_turns turn.asking turn.outcome turns) (notes_of turns)
-    ∙ ap (λ ps. ps ++ map noted_play (notes_of turns)) (are.0 turns (made_by_turns turns) (keeps_as turns))
+    ∙ ap (λ ps. ps ++ map noted_play (notes_of turns))
+    (are.0 (record { turns = turns; made = made_by_turns turns; keeps = keeps_as turns }))
     ∙ ap (λ ps. placed_by turn.outcome (made_by_turns turns) ++ ps) (turns_noted turns are.1)
     ∙ placed_more turn.outcome (made_by_turns turns)
 
 -- ---- one turn
 unasked_noted : (asking : Standing) → IsNoted asking Unasked
-unasked_noted asking later made keeps = refl
+unasked_noted asking later = refl
 
 -- an entry that a session makes without asking for a play, and that admits none
 other_noted : (asking : Standing) (placed : Placed) → ((prepared : Prepared) → asking.awaited ≡ Play prepared → ⊥)
     → play_admitted placed.entry.command placed.entry.answer ≡ None → IsNoted asking (Entered placed)
-other_noted asking placed other none later made keeps =
-    ap (map noted_play) (no_note asking.state asking.awaited placed later other)
-    ∙ sym (ap (λ p. map (placed_play placed.place) (booked_by p made)) none)
+other_noted asking placed other none later =
+    ap (map noted_play) (no_note asking.state asking.awaited placed later.turns other)
+    ∙ sym (ap (λ p. map (placed_play placed.place) (booked_by p later.made)) none)
 
 halt_noted : (keep : ℕ) (asking new : Standing) (halt : Outcome)
     → ((prepared : Prepared) → asking.awaited ≡ Play prepared → ⊥) → IsHalted asking keep halt new → IsNoted asking halt
@@ -130,24 +137,25 @@ not_nothing : {awaited : Awaited} → awaited ≡ Nothing → (prepared : Prepar
 not_nothing rest prepared asks = let no : Nothing ≡ Play prepared = sym rest ∙ asks in cc no
 
 -- the note of a play is what its entry tells, and what is kept by what comes later
-note_is : (setup : Setup) (run : Run) (place : ℕ) (admitted : Option Booked) (later : List Turn) (made : List Placed)
-    → KeepsAs later made
-    → map noted_play (noted_for setup run place admitted later) ≡ map (placed_play place) (booked_by admitted made)
-note_is setup run place None later made keeps = refl
-note_is setup run place (Some booked) later made keeps =
-    ap (λ k. placed_play place (cut_play booked.start booked.segments k) ∷ []) (keeps booked.keep)
+note_is : (setup : Setup) (run : Run) (place : ℕ) (admitted : Option Booked) (later : Sequel)
+    → map noted_play (noted_for setup run place admitted later.turns)
+    ≡ map (placed_play place) (booked_by admitted later.made)
+note_is setup run place None later = refl
+note_is setup run place (Some booked) later =
+    ap (λ k. placed_play place (cut_play booked.start booked.segments k) ∷ []) (later.keeps booked.keep)
 
 asks_play : {setup : Setup} {paused : Option Run} {prepared : Prepared} (asking new : Standing) (outcome : Outcome)
     → IsAskAnswered asking (AskPlay prepared.plan) outcome new → asking.state ≡ Ready setup paused
     → asking.awaited ≡ Play prepared → IsNoted asking outcome
 asks_play asking new Unasked answered ready awaited = absurd answered
-asks_play {setup} {paused} {prepared} asking new (Entered placed) answered ready awaited = λ later made keeps.
+asks_play {setup} {paused} {prepared} asking new (Entered placed) answered ready awaited = λ later.
     ap (map noted_play)
-    (begun_note {asking = asking} later ready awaited (record { answer_is = refl; command = answered.0 }))
+    (begun_note {asking = asking} later.turns ready awaited (record { answer_is = refl; command = answered.0 }))
     ∙ note_is setup prepared.run placed.place (play_admitted (play_of asking.heard prepared.plan) placed.entry.answer)
-    later made keeps
-    ∙ sym (ap (λ c. map (placed_play placed.place) (booked_by (play_admitted c placed.entry.answer) made)) answered.0)
-asks_play asking new (WasFull more entries open_plays) answered ready awaited = λ later made keeps. refl
+    later
+    ∙ sym (ap (λ c. map (placed_play placed.place) (booked_by (play_admitted c placed.entry.answer) later.made))
+    answered.0)
+asks_play asking new (WasFull more entries open_plays) answered ready awaited = λ later. refl
 asks_play asking new (Offered at_slot note) answered ready awaited = absurd answered
 
 asks_look : {sequence : ℕ} (slot : ℕ) (asking new : Standing) (outcome : Outcome)
@@ -155,7 +163,7 @@ asks_look : {sequence : ℕ} (slot : ℕ) (asking new : Standing) (outcome : Out
 asks_look slot asking new Unasked answered awaited = absurd answered
 asks_look slot asking new (Entered placed) answered awaited =
     other_noted asking placed (not_look awaited) (ap (λ c. play_admitted c placed.entry.answer) answered.0)
-asks_look slot asking new (WasFull more entries open_plays) answered awaited = λ later made keeps. refl
+asks_look slot asking new (WasFull more entries open_plays) answered awaited = λ later. refl
 asks_look slot asking new (Offered at_slot note) answered awaited = absurd answered
 
 asks_offer : (plan : List Segment) (offers : Offers) (asking new : Standing) (outcome : Outcome)
@@ -163,7 +171,7 @@ asks_offer : (plan : List Segment) (offers : Offers) (asking new : Standing) (ou
 asks_offer plan offers asking new Unasked answered = absurd answered
 asks_offer plan offers asking new (Entered placed) answered = absurd answered
 asks_offer plan offers asking new (WasFull more entries open_plays) answered = absurd answered
-asks_offer plan offers asking new (Offered at_slot note) answered = λ later made keeps. refl
+asks_offer plan offers asking new (Offered at_slot note) answered = λ later. refl
 
 replied_noted : (asking new : Standing) (outcome : Outcome)
     → IsAskAnswered asking AskReply outcome new → IsNoted asking outcome

@@ -31,8 +31,8 @@ use Rattle.session.proofs.SetupHeard.{IsSetupRequest}
 use Rattle.transcript.proofs.Turning.{Begins, Ends, Starts, Stays, TurnsAs, turns_as}
 use Rattle.transcript.proofs.Waiting.{Beginning, IsWaiting, answered_waits, opened_waits, setup_asked}
 use Rattle.transcript.proofs.WholeReplies.{AreTeardowns, AreWhole, admitted_whole, answered_named, opened_named}
-use Rattle.transcript.proofs.WholeReplies.{play_room, reply_whole, rounds_torn, setup_room, takings_later}
-use Rattle.transcript.proofs.WholeReplies.{teardowns_cut}
+use Rattle.transcript.proofs.WholeReplies.{play_room, reply_whole, rounds_torn, setup_room, takings_torn}
+use Rattle.transcript.proofs.WholeReplies.{teardowns_cut, whole_later}
 use Rattle.transcript.specs.Replies.{replies_of, takings_replies}
 use Rattle.transcript.proofs.Wished.{IsWished, wished_play}
 
@@ -183,8 +183,10 @@ play_whole later heard taken whole (Ends after halts) = absurd (not_begun later 
 play_whole {out = out} {new = new} later heard taken whole (Starts after begins) =
     let begun = begun_same later taken begins in
     let small : begins.start < 2 ^ 64 = subst (λ (p : FilmPlay). p.start < 2 ^ 64) (sym begun.same) out.start in
-    admitted_whole begins.placed heard.asking heard.ask new begins.answer small whole
-    (subst (λ o. IsAskAnswered heard.asking heard.ask o new) begins.outcome_is heard.answered)
+    admitted_whole heard.ask begins.answer small (record {
+      whole = whole;
+      answered = subst (λ o. IsAskAnswered heard.asking heard.ask o new) begins.outcome_is heard.answered;
+    })
 
 -- what is taken up from these elements on, in this slot
 abbrev from_takings : (slot : ℕ) (old : Stage) (takings : List Taking) (new : Stage) → TakesAll old takings new
@@ -236,12 +238,13 @@ takings_walk {b} {out} {slot} {later} {ahead = []} old new (Answered message out
     let whole = replies_whole old.session message heard.ask heard.asking is.named (play_room b at) heard.hears in
     let torn : AreTeardowns b (front ++ later.requests) = subst (AreTeardowns b) (sym rest) is.teardowns in
     let cut = teardowns_cut b front later.requests torn in
+    let first = takings_torn {b = b} takes.0 new takings takes.1.1
+    (record { named = answered_named takes.1.0 is.named; teardowns = cut.0 }) in
     record {
       one = subst (λ h. IsOnePlay b out h 0 (h ∷ slots)) is.heard (play_turn more slots heard taken turns);
       whole = (
         play_whole more heard taken whole turns,
-        takings_later b later.replies takes.0 new takings takes.1.1
-            (answered_named takes.1.0 is.named) cut.0 (λ named. leads.torn named cut.1),
+        whole_later later.replies first (λ named. leads.torn named cut.1),
       );
     }
 takings_walk {b} {out} {later} {ahead = one ∷ ahead} old new (Answered message outcome parts ∷ takings) takes leads is =
@@ -303,7 +306,7 @@ rounds_walk {b} {out} {slot} old new (round ∷ rounds) follows ahead is =
     let after = takings_askings runs.opened round.takings mid runs.takes ++ more in
     let leads : Leads b out mid.session later (in_rounds later mid rounds new follows.1.1) = record {
       walk = λ further its. rounds_walk {slot = later} mid new rounds follows.1.1 further its;
-      torn = λ named are. rounds_torn b mid new rounds follows.1.1 named are;
+      torn = λ named are. rounds_torn {b = b} mid new rounds follows.1.1 (record { named = named; teardowns = are });
       none = λ stands are. rounds_none mid new rounds follows.1.1 stands are;
     } in
     let rec = takings_walk {ahead = ahead} runs.opened mid round.takings runs.takes leads (record {

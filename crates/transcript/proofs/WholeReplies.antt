@@ -88,38 +88,43 @@ IsOwnReply (AskHalt keep) = ⊤
 IsOwnReply (AskLook slot) = ⊥
 IsOwnReply (AskOffer plan offers) = ⊥
 
-own_whole : (asking : Standing) (ask : Ask) (outcome : Outcome) (new : Standing) → IsOwnReply ask
-    → RepliesWhole ask asking → IsAskAnswered asking ask outcome new → IsMessage new.text
-own_whole asking AskReply Unasked new own whole answered =
-    subst IsMessage (sym (ap (λ (s : Standing). s.text) answered)) whole
-own_whole asking AskReply (Entered placed) new own whole answered = absurd answered
-own_whole asking AskReply (WasFull more entries open_plays) new own whole answered = absurd answered
-own_whole asking AskReply (Offered at_slot note) new own whole answered = absurd answered
-own_whole asking (AskPlay plan) outcome new own whole answered = absurd own
-own_whole asking (AskHalt keep) outcome new own whole answered =
-    subst IsMessage (sym (halted_text asking keep outcome new answered)) whole
-own_whole asking (AskLook slot) outcome new own whole answered = absurd own
-own_whole asking (AskOffer plan offers) outcome new own whole answered = absurd own
+-- what is asked was answered, and each reply that it can have is whole
+pub record HasWholeReply (asking : Standing) (ask : Ask) (outcome : Outcome) (new : Standing) : Type 0 where
+  pub whole : RepliesWhole ask asking
+  pub answered : IsAskAnswered asking ask outcome new
+
+own_whole : {asking new : Standing} (ask : Ask) (outcome : Outcome) → IsOwnReply ask
+    → HasWholeReply asking ask outcome new → IsMessage new.text
+own_whole AskReply Unasked own has =
+    subst IsMessage (sym (ap (λ (s : Standing). s.text) has.answered)) has.whole
+own_whole AskReply (Entered placed) own has = absurd has.answered
+own_whole AskReply (WasFull more entries open_plays) own has = absurd has.answered
+own_whole AskReply (Offered at_slot note) own has = absurd has.answered
+own_whole (AskPlay plan) outcome own has = absurd own
+own_whole {asking} {new} (AskHalt keep) outcome own has =
+    subst IsMessage (sym (halted_text asking keep outcome new has.answered)) has.whole
+own_whole (AskLook slot) outcome own has = absurd own
+own_whole (AskOffer plan offers) outcome own has = absurd own
 
 -- the reply to a play that was admitted
-pub admitted_whole : {start : ℕ} (placed : Placed) (asking : Standing) (ask : Ask) (new : Standing)
+pub admitted_whole : {start : ℕ} {placed : Placed} {asking new : Standing} (ask : Ask)
     → placed.entry.answer ≡ Admitted start → start < 2 ^ 64
-    → RepliesWhole ask asking → IsAskAnswered asking ask (Entered placed) new → IsMessage new.text
-admitted_whole placed asking AskReply new is small whole answered = absurd answered
-admitted_whole {start} placed asking (AskPlay plan) new is small whole answered =
+    → HasWholeReply asking ask (Entered placed) new → IsMessage new.text
+admitted_whole AskReply is small has = absurd has.answered
+admitted_whole {start} {placed} {asking} {new} (AskPlay plan) is small has =
     let P : Answer → Type 0 = λ a. IsPlayAnswered asking placed a new in
-    let admitted = subst P is answered.1 in
-    subst IsMessage (sym (ap (λ (s : Standing). s.text) admitted.1)) (whole.admission placed.place start small)
-admitted_whole placed asking (AskHalt keep) new is small whole answered =
-    subst IsMessage (sym (ap (λ (s : Standing). s.text) answered.halts)) whole
-admitted_whole placed asking (AskLook slot) new is small whole answered =
-    let L : Answer → Type 0 = λ a. IsLookAnswered asking placed a new in absurd (subst L is answered.1)
-admitted_whole placed asking (AskOffer plan offers) new is small whole answered = absurd answered
+    let admitted = subst P is has.answered.1 in
+    subst IsMessage (sym (ap (λ (s : Standing). s.text) admitted.1)) (has.whole.admission placed.place start small)
+admitted_whole (AskHalt keep) is small has =
+    subst IsMessage (sym (ap (λ (s : Standing). s.text) has.answered.halts)) has.whole
+admitted_whole {start} {placed} {asking} {new} (AskLook slot) is small has =
+    let L : Answer → Type 0 = λ a. IsLookAnswered asking placed a new in absurd (subst L is has.answered.1)
+admitted_whole (AskOffer plan offers) is small has = absurd has.answered
 
 pub reply_whole : {old new : Standing} {message : List ℕ} {outcome : Outcome} (heard : HasHeard old message outcome new)
     → heard.ask ≡ AskReply → RepliesWhole heard.ask heard.asking → IsMessage new.text
-reply_whole {new = new} {outcome = outcome} heard is whole =
-    own_whole heard.asking heard.ask outcome new (subst IsOwnReply (sym is) tt) whole heard.answered
+reply_whole {outcome = outcome} heard is whole =
+    own_whole heard.ask outcome (subst IsOwnReply (sym is) tt) (record { whole = whole; answered = heard.answered })
 
 -- ---- TEARDOWN
 
@@ -235,46 +240,50 @@ pub texts_whole : (texts : List PlacedText) (more : List (List ℕ)) → AreWhol
 texts_whole [] more are = tt
 texts_whole (text ∷ texts) more are = (are.0, texts_whole texts more are.1)
 
+-- a session whose names are good is asked only to tear down
+pub record AsksTeardowns (b : Beginning) (session : Standing) (requests : List (List ℕ)) : Type 0 where
+  pub named : IsWellNamed session
+  pub teardowns : AreTeardowns b requests
+
 -- what is taken up is answered whole, and the session keeps its names
 pub record IsAnsweredWhole (new : Standing) (replies : List (List ℕ)) : Type 0 where
   pub named : IsWellNamed new
   pub whole : AreWhole replies
 
-takings_torn : (b : Beginning) (old new : Stage) (takings : List Taking) (takes : TakesAll old takings new)
-    → IsWellNamed old.session → AreTeardowns b (takings_requests takings)
+pub takings_torn : {b : Beginning} (old new : Stage) (takings : List Taking) (takes : TakesAll old takings new)
+    → AsksTeardowns b old.session (takings_requests takings)
     → IsAnsweredWhole new.session (takings_replies old takings new takes)
-takings_torn b old new [] takes named are =
-    record { named = subst (λ (s : Stage). IsWellNamed s.session) (sym takes) named; whole = tt }
-takings_torn b old new (Passed n ∷ takings) takes named are =
+takings_torn old new [] takes tears =
+    record { named = subst (λ (s : Stage). IsWellNamed s.session) (sym takes) tears.named; whole = tt }
+takings_torn {b} old new (Passed n ∷ takings) takes tears =
     let same : takes.0.session ≡ old.session = ap (λ (s : Stage). s.session) takes.1.0.2 in
-    takings_torn b takes.0 new takings takes.1.1 (subst IsWellNamed (sym same) named) are
-takings_torn b old new (Answered message outcome parts ∷ takings) takes named are =
+    takings_torn {b = b} takes.0 new takings takes.1.1
+    (record { named = subst IsWellNamed (sym same) tears.named; teardowns = tears.teardowns })
+takings_torn {b} old new (Answered message outcome parts ∷ takings) takes tears =
     let replied = takes.1.0 in
     let heard = replied.heard in
-    let own = teardown_own {message = message} b old.session heard.asking heard.ask are.0 heard.hears in
-    let whole = replies_whole old.session message heard.ask heard.asking named (teardown_room b are.0) heard.hears in
-    let rest = takings_torn b takes.0 new takings takes.1.1 (answered_named replied named) are.1 in
+    let is : message ≡ teardown_text b.wish b.session = tears.teardowns.0 in
+    let own = teardown_own {message = message} b old.session heard.asking heard.ask is heard.hears in
+    let whole = replies_whole old.session message heard.ask heard.asking tears.named (teardown_room b is) heard.hears in
+    let rest = takings_torn {b = b} takes.0 new takings takes.1.1
+    (record { named = answered_named replied tears.named; teardowns = tears.teardowns.1 }) in
     record {
       named = rest.named;
-      whole = (own_whole heard.asking heard.ask outcome replied.answered own whole heard.answered, rest.whole);
+      whole = (own_whole heard.ask outcome own (record { whole = whole; answered = heard.answered }), rest.whole);
     }
 
-pub rounds_torn : (b : Beginning) (old new : Stage) (rounds : List Round) (follows : Follows old rounds new)
-    → IsWellNamed old.session → AreTeardowns b (rounds_requests rounds)
-    → AreWhole (replies_of old rounds new follows)
-rounds_torn b old new [] follows named are = tt
-rounds_torn b old new (round ∷ rounds) follows named are =
-    let runs = follows.1.0 in
-    let cut = teardowns_cut b (takings_requests round.takings) (rounds_requests rounds) are in
-    let first = takings_torn b runs.opened follows.0 round.takings runs.takes (opened_named runs named) cut.0 in
-    whole_join (takings_replies runs.opened round.takings follows.0 runs.takes)
-    (replies_of follows.0 rounds new follows.1.1) first.whole
-    (rounds_torn b follows.0 new rounds follows.1.1 first.named cut.1)
-
 -- what is taken up and what comes later
-pub takings_later : (b : Beginning) (later : List (List ℕ)) (old new : Stage) (takings : List Taking)
-    (takes : TakesAll old takings new) → IsWellNamed old.session → AreTeardowns b (takings_requests takings)
-    → (IsWellNamed new.session → AreWhole later) → AreWhole (takings_replies old takings new takes ++ later)
-takings_later b later old new takings takes named are rest =
-    let first = takings_torn b old new takings takes named are in
-    whole_join (takings_replies old takings new takes) later first.whole (rest first.named)
+pub whole_later : {session : Standing} {replies : List (List ℕ)} (later : List (List ℕ))
+    → IsAnsweredWhole session replies → (IsWellNamed session → AreWhole later) → AreWhole (replies ++ later)
+whole_later {replies = replies} later first rest = whole_join replies later first.whole (rest first.named)
+
+pub rounds_torn : {b : Beginning} (old new : Stage) (rounds : List Round) (follows : Follows old rounds new)
+    → AsksTeardowns b old.session (rounds_requests rounds) → AreWhole (replies_of old rounds new follows)
+rounds_torn old new [] follows tears = tt
+rounds_torn {b} old new (round ∷ rounds) follows tears =
+    let runs = follows.1.0 in
+    let cut = teardowns_cut b (takings_requests round.takings) (rounds_requests rounds) tears.teardowns in
+    let first = takings_torn {b = b} runs.opened follows.0 round.takings runs.takes
+    (record { named = opened_named runs tears.named; teardowns = cut.0 }) in
+    whole_later (replies_of follows.0 rounds new follows.1.1) first
+    (λ named. rounds_torn {b = b} follows.0 new rounds follows.1.1 (record { named = named; teardowns = cut.1 }))
