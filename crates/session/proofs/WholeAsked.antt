@@ -61,9 +61,9 @@ from-zero = record {
   to = refl;
 }
 
-run-same : (a b : Run) → a.first_unit ≡ b.first_unit → a.end_unit ≡ b.end_unit → a.from_unit ≡ b.from_unit
+run-same : {a b : Run} → a.first_unit ≡ b.first_unit → a.end_unit ≡ b.end_unit → a.from_unit ≡ b.from_unit
     → a.sent ≡ b.sent → a.played ≡ b.played → a ≡ b
-run-same a b first end from sent played =
+run-same {a} {b} first end from sent played =
     ap (λ x. record a { first_unit = x }) first
     ∙ (ap (λ x. record a { first_unit = b.first_unit; end_unit = x }) end
     ∙ (ap (λ x. record a { first_unit = b.first_unit; end_unit = b.end_unit; from_unit = x }) from
@@ -77,7 +77,7 @@ whole-asked stored run some is =
     let by : run.first_unit * time * 1000000000 ≤ 0 * 360000 = is.begins.by_then in
     let least : run.first_unit * 1 ≤ run.first_unit * time = mul-le-mul_left run.first_unit some in
     let first : run.first_unit ≡ 0 = omega (arith, by, least) in
-    run-same run (whole_of stored) first is.ends (is.new.from_is ∙ first) is.new.sent_is is.new.played_is
+    run-same first is.ends (is.new.from_is ∙ first) is.new.sent_is is.new.played_is
 
 wanted-whole : (stored : Stored) (wanted : Wanted) → 1 ≤ picture_time stored.film.rate
     → IsWanted stored.film None (At 0) None wanted → run_of wanted ≡ whole_of stored

@@ -114,15 +114,28 @@ length-joined (part ∷ parts) = omega (arith, length-append part (joined_parts 
 short-decimal : (n : ℕ) → n < 2 ^ 64 → length (decimal n) ≤ 20
 short-decimal n small = (printed-decimal n small).short
 
+-- a code that a status line may tell, and whose phrase is short
+record IsStatus (code : ℕ) : Type 0 where
+  known : is_code code ≡ true
+  phrase_short : length (phrase code) ≤ 30
+
+ok : IsStatus 200
+ok = record { known = refl; phrase_short = omega arith }
+
+not_enough_bandwidth : IsStatus 453
+not_enough_bandwidth = record { known = refl; phrase_short = omega arith }
+
+unavailable : IsStatus 503
+unavailable = record { known = refl; phrase_short = omega arith }
+
 -- a reply of this code
-coded_whole : {sequence : ℕ} {fields : List Field} (code : ℕ) (body : List ℕ) → is_code code ≡ true → length
-    (phrase code) ≤ 30
-    → sequence < 2 ^ 64 → AreWritten 16256 fields → HasGivenLength fields body → length body ≤ 65536
+coded_whole : {code sequence : ℕ} {fields : List Field} (body : List ℕ) → IsStatus code → sequence < 2 ^ 64
+    → AreWritten 16256 fields → HasGivenLength fields body → length body ≤ 65536
     → IsMessage (reply_text code (Some sequence) fields body)
-coded_whole {sequence} {fields} code body known short number written given small =
+coded_whole {code} {sequence} {fields} body status number written given small =
     whole_of (record { code = code; sequence = Some sequence; fields = fields; body = body }) (record {
-      known = known;
-      phrase_short = short;
+      known = status.known;
+      phrase_short = status.phrase_short;
       number = number;
       written = written;
       given = given;
@@ -131,7 +144,7 @@ coded_whole {sequence} {fields} code body known short number written given small
 
 says_whole : {sequence : ℕ} {fields : List Field} (body : List ℕ) → sequence < 2 ^ 64 → AreWritten 16256 fields
     → HasGivenLength fields body → length body ≤ 65536 → IsMessage (reply_text 200 (Some sequence) fields body)
-says_whole body number written given small = coded_whole 200 body refl (omega arith) number written given small
+says_whole body number written given small = coded_whole body ok number written given small
 
 public_whole : (sequence : ℕ) → sequence < 2 ^ 64 → IsMessage (public_text sequence)
 unfolding value_named
@@ -162,18 +175,23 @@ parameters_whole sequence body number small =
     (written-more (codes "Content-Length") refl (printed-decimal (length body) fits) written-nil)))
     (decimal_read (length body) fits) small
 
+-- channels in numbers of 64 bits
+record AreSmall (channels : Channels) : Type 0 where
+  media : channels.media < 2 ^ 64
+  control : channels.control < 2 ^ 64
+
 -- the reply to a SETUP
-setup_whole : (sequence media control ssrc : ℕ) (id : List ℕ) → sequence < 2 ^ 64 → media < 2 ^ 64 → control < 2 ^ 64
-    → IsPrinted 16 id → IsMessage (setup_text sequence media control ssrc id)
+setup_whole : {channels : Channels} {id : List ℕ} (sequence ssrc : ℕ) → sequence < 2 ^ 64 → AreSmall channels
+    → IsPrinted 16 id → IsMessage (setup_text sequence channels.media channels.control ssrc id)
 unfolding value_named
-setup_whole sequence media control ssrc id number first second printed =
+setup_whole {channels} sequence ssrc number are printed =
     let front : IsPrinted 32 (codes "RTP/AVP/TCP;unicast;interleaved=") =
     record { short = omega arith; prints = refl } in
     let dash : IsPrinted 1 (codes "-") = record { short = omega arith; prints = refl } in
     let source : IsPrinted 6 (codes ";ssrc=") = record { short = omega arith; prints = refl } in
-    let transport : IsPrinted 87 (transport_value media control ssrc) =
-    printed-append front (printed-append (printed-decimal media first) (printed-append dash
-    (printed-append (printed-decimal control second)
+    let transport : IsPrinted 87 (transport_value channels.media channels.control ssrc) =
+    printed-append front (printed-append (printed-decimal channels.media are.media) (printed-append dash
+    (printed-append (printed-decimal channels.control are.control)
     (printed-append source (printed-append (printed-w32 ssrc) printed-nil))))) in
     says_whole [] number (written-within (omega arith) (written-more (codes "Transport") refl transport
     (written-more (codes "Session") refl printed written-nil))) refl (omega arith)
@@ -237,10 +255,10 @@ description_short name ms short small =
       short,
     )
 
-describe_whole : (sequence : ℕ) (authority name : List ℕ) (ms : ℕ) → sequence < 2 ^ 64 → IsPrinted 15872 authority
+describe_whole : {authority name : List ℕ} (sequence ms : ℕ) → sequence < 2 ^ 64 → IsPrinted 15872 authority
     → IsPrinted 64 name → ms < 2 ^ 64 → IsMessage (describe_text sequence authority name ms)
 unfolding value_named
-describe_whole sequence authority name ms number under named small =
+describe_whole {name} sequence ms number under named small =
     let body = description_text name ms in
     let short = description_short name ms named.short small in
     let fits : length body < 2 ^ 64 = omega (arith, short) in
@@ -425,11 +443,7 @@ fault_fits (BadHeader line) least same = absurd (let no : ⊥ = cc in no)
 fault_fits NoSequenceNumber least same = absurd (let no : ⊥ = cc in no)
 fault_fits BadLength least same = absurd (let no : ⊥ = cc in no)
 
--- the channels of a SETUP
-record AreSmall (channels : Channels) : Type 0 where
-  media : channels.media < 2 ^ 64
-  control : channels.control < 2 ^ 64
-
+-- the channels of a SETUP are small
 channels_small : {text : List ℕ} (channels : Channels) → AreNamedChannels text channels → AreSmall channels
 channels_small channels (inl named) =
     elim named.are [
@@ -470,15 +484,23 @@ authority_printed {message} {authority} {name} request is read short =
       prints = (authority_of url authority name read).prints;
     }
 
--- the answers to a PLAY
-overflow_whole : (sequence slot booked asked : ℕ) → sequence < 2 ^ 64 → slot < 2 ^ 64 → booked < 2 ^ 64 → asked < 2 ^ 64
-    → IsMessage (overflow_text sequence slot booked asked)
+-- the answers to a PLAY: what a slot without room tells, in its ranges
+record OverflowParts : Type 0 where
+  slot : ℕ
+  booked : ℕ
+  asked : ℕ
+  slot_fits : slot < 2 ^ 64
+  booked_fits : booked < 2 ^ 64
+  asked_fits : asked < 2 ^ 64
+
+overflow_whole : (sequence : ℕ) (p : OverflowParts) → sequence < 2 ^ 64
+    → IsMessage (overflow_text sequence p.slot p.booked p.asked)
 unfolding value_named
-overflow_whole sequence slot booked asked number one two three =
-    let fields = written-more (codes "x-Slot") refl (printed-decimal slot one)
-    (written-more (codes "x-Booked") refl (printed-decimal booked two)
-    (written-more (codes "x-Asked") refl (printed-decimal asked three) written-nil)) in
-    coded_whole 453 [] refl (omega arith) number (written-within (omega arith) fields) refl (omega arith)
+overflow_whole sequence p number =
+    let fields = written-more (codes "x-Slot") refl (printed-decimal p.slot p.slot_fits)
+    (written-more (codes "x-Booked") refl (printed-decimal p.booked p.booked_fits)
+    (written-more (codes "x-Asked") refl (printed-decimal p.asked p.asked_fits) written-nil)) in
+    coded_whole [] not_enough_bandwidth number (written-within (omega arith) fields) refl (omega arith)
 
 full_whole : (sequence entries open_plays : ℕ) → sequence < 2 ^ 64 → entries < 2 ^ 64 → open_plays < 2 ^ 64
     → IsMessage (full_text sequence entries open_plays)
@@ -486,7 +508,7 @@ unfolding value_named
 full_whole sequence entries open_plays number one two =
     let fields = written-more (codes "x-Entries") refl (printed-decimal entries one)
     (written-more (codes "x-Open") refl (printed-decimal open_plays two) written-nil) in
-    coded_whole 503 [] refl (omega arith) number (written-within (omega arith) fields) refl (omega arith)
+    coded_whole [] unavailable number (written-within (omega arith) fields) refl (omega arith)
 
 -- what a play's reply tells, in its ranges
 record PlayParts : Type 0 where
@@ -615,7 +637,7 @@ module _ (old : Standing) (message : List ℕ) (ask : Ask) (new : Standing) (nam
       (record { media = setup.media; control = setup.control }) read.channels in
       subst (λ (a : Ask). RepliesWhole a new) (sym is.0)
       (subst IsMessage (sym (ap (λ (s : Standing). s.text) is.1))
-      (setup_whole sequence setup.media setup.control old.source.ssrc old.id number small.media small.control own_id))
+      (setup_whole sequence old.source.ssrc number small own_id))
   sets_up sequence film head (Err refusal) number read is =
       refused_by sequence refusal number
       (λ least same. absurd (subst (λ r. IsSetupRead old.settings head film (Err r)) same read)) is
@@ -698,7 +720,15 @@ module _ (old : Standing) (message : List ℕ) (ask : Ask) (new : Standing) (nam
       subst (λ (a : Ask). RepliesWhole a new) (sym asks.command) (subst AnswersPlay (sym asks.state) (record {
         admission = λ place start small. play_whole parts (start - old.heard) (omega (arith, small));
         overflow = λ place slot booked asked one two three.
-            overflow_whole sequence slot booked asked number one two three;
+            let over : OverflowParts = record {
+              slot = slot;
+              booked = booked;
+              asked = asked;
+              slot_fits = one;
+              booked_fits = two;
+              asked_fits = three;
+            } in
+            overflow_whole sequence over number;
         full = λ entries open_plays one two. full_whole sequence entries open_plays number one two;
       }))
 
@@ -750,7 +780,7 @@ module _ (old : Standing) (message : List ℕ) (ask : Ask) (new : Standing) (nam
       let name = string_bytes is.stored.name in
       let ms = length_ms is.stored.film in
       replied (describe_text request.sequence asked.authority.now name ms)
-      (describe_whole request.sequence asked.authority.now name ms number
+      (describe_whole request.sequence ms number
       (authority_printed request read judged.film.named.read short)
       (name_printed name (good_at old.films asked.film is.stored named.films is.at))
       (time_fits is.stored.film (length is.stored.film.units.items) (film_few is.stored.film))) is.reply
