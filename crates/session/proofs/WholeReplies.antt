@@ -284,30 +284,37 @@ repeats_nothing = record { short = omega arith; one_line = refl; bare = refl }
 abbrev HasFitLeast : Refusal → Type 0
 HasFitLeast refusal = (least : ℕ) → refusal ≡ Buffer least → least < 2 ^ 64
 
+refusal_status : (refusal : Refusal) → IsStatus (code_of refusal)
+refusal_status BadRequest = record { known = refl; phrase_short = omega arith }
+refusal_status Version = record { known = refl; phrase_short = omega arith }
+refusal_status Method = record { known = refl; phrase_short = omega arith }
+refusal_status Required = record { known = refl; phrase_short = omega arith }
+refusal_status Session = record { known = refl; phrase_short = omega arith }
+refusal_status NoFilm = record { known = refl; phrase_short = omega arith }
+refusal_status NotNow = record { known = refl; phrase_short = omega arith }
+refusal_status Transport = record { known = refl; phrase_short = omega arith }
+refusal_status Parameter = record { known = refl; phrase_short = omega arith }
+refusal_status (Buffer least) = record { known = refl; phrase_short = omega arith }
+refusal_status Range = record { known = refl; phrase_short = omega arith }
+refusal_status Memory = record { known = refl; phrase_short = omega arith }
+
 record IsRefusing (refusal : Refusal) (option : List ℕ) : Type 0 where
-  known : is_code (code_of refusal) ≡ true
-  phrase_short : length (phrase (code_of refusal)) ≤ 30
   written : AreWritten 16256 (refusal_fields refusal option)
   given : HasGivenLength (refusal_fields refusal option) []
 
-says_nothing : (refusal : Refusal) (option : List ℕ) → is_code (code_of refusal) ≡ true
-    → length (phrase (code_of refusal)) ≤ 30 → refusal_fields refusal option ≡ [] → IsRefusing refusal option
+says_nothing : (refusal : Refusal) (option : List ℕ) → refusal_fields refusal option ≡ [] → IsRefusing refusal option
 unfolding value_named
-says_nothing refusal option known short none = record {
-  known = known;
-  phrase_short = short;
+says_nothing refusal option none = record {
   written = subst (AreWritten 16256) (sym none) (written-within (omega arith) written-nil);
   given = subst (λ (fields : List Field). HasGivenLength fields []) (sym none) refl;
 }
 
 refusing : (refusal : Refusal) (option : List ℕ) → IsRepeated option → HasFitLeast refusal → IsRefusing refusal option
 unfolding value_named
-refusing BadRequest option repeats fits = says_nothing BadRequest option refl (omega arith) refl
-refusing Version option repeats fits = says_nothing Version option refl (omega arith) refl
-refusing Method option repeats fits = says_nothing Method option refl (omega arith) refl
+refusing BadRequest option repeats fits = says_nothing BadRequest option refl
+refusing Version option repeats fits = says_nothing Version option refl
+refusing Method option repeats fits = says_nothing Method option refl
 refusing Required option repeats fits = record {
-  known = refl;
-  phrase_short = omega arith;
   written = written-within (omega arith)
       (plain-more (record {
         name_is = refl;
@@ -317,29 +324,28 @@ refusing Required option repeats fits = record {
       }) repeats.short written-nil);
   given = refl;
 }
-refusing Session option repeats fits = says_nothing Session option refl (omega arith) refl
-refusing NoFilm option repeats fits = says_nothing NoFilm option refl (omega arith) refl
-refusing NotNow option repeats fits = says_nothing NotNow option refl (omega arith) refl
-refusing Transport option repeats fits = says_nothing Transport option refl (omega arith) refl
-refusing Parameter option repeats fits = says_nothing Parameter option refl (omega arith) refl
+refusing Session option repeats fits = says_nothing Session option refl
+refusing NoFilm option repeats fits = says_nothing NoFilm option refl
+refusing NotNow option repeats fits = says_nothing NotNow option refl
+refusing Transport option repeats fits = says_nothing Transport option refl
+refusing Parameter option repeats fits = says_nothing Parameter option refl
 refusing (Buffer least) option repeats fits = record {
-  known = refl;
-  phrase_short = omega arith;
   written = written-within (omega arith)
       (written-more (codes "x-Least-Buffer") refl (printed-decimal least (fits least refl)) written-nil);
   given = refl;
 }
-refusing Range option repeats fits = says_nothing Range option refl (omega arith) refl
-refusing Memory option repeats fits = says_nothing Memory option refl (omega arith) refl
+refusing Range option repeats fits = says_nothing Range option refl
+refusing Memory option repeats fits = says_nothing Memory option refl
 
 refusal_whole : (sequence : Option ℕ) (refusal : Refusal) (option : List ℕ) → IfSome sequence (λ n. n < 2 ^ 64)
     → IsRepeated option → HasFitLeast refusal → IsMessage (refusal_text sequence refusal option)
 refusal_whole sequence refusal option number repeats fits =
+    let status = refusal_status refusal in
     let is = refusing refusal option repeats fits in
     whole_of (record { code = code_of refusal; sequence = sequence; fields = refusal_fields refusal option; body = [] })
     (record {
-      known = is.known;
-      phrase_short = is.phrase_short;
+      known = status.known;
+      phrase_short = status.phrase_short;
       number = number;
       written = is.written;
       given = is.given;
