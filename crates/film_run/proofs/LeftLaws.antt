@@ -50,7 +50,7 @@ abbrev run-with : ℕ → ℕ → ℕ → ℕ → ℕ → Run
 run-with first end from sent played =
     record { first_unit = first; end_unit = end; from_unit = from; sent = sent; played = played }
 
-run-same : {one other : Run} → one.first_unit ≡ other.first_unit → one.end_unit ≡ other.end_unit
+pub run-same : {one other : Run} → one.first_unit ≡ other.first_unit → one.end_unit ≡ other.end_unit
     → one.from_unit ≡ other.from_unit
     → one.sent ≡ other.sent → one.played ≡ other.played → one ≡ other
 run-same {one} {other} first end from sent played =

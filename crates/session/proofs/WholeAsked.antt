@@ -3,6 +3,7 @@ use Rattle.std.proofs.Common.{◌≡◌, ◌*◌, ◌≤◌, Some, None, length,
 use Rattle.std.proofs.Math.Nat.{mul-le-mul_left}
 use Rattle.mpeg_scan.specs.Rates.{picture_time}
 use Rattle.film_frames.specs.declared.stores.Stored.{Stored}
+use Rattle.film_run.proofs.LeftLaws.{run-same}
 use Rattle.film_run.specs.declared.runs.Run.{Run}
 use Rattle.film_run.specs.Seeks.{IsAsked as IsRunAsked}
 use Rattle.rtsp_fields.specs.declared.ranges.Origin.TheVariants.{At}
@@ -60,15 +61,6 @@ from-zero = record {
   from = zero-time;
   to = refl;
 }
-
-run-same : {a b : Run} → a.first_unit ≡ b.first_unit → a.end_unit ≡ b.end_unit → a.from_unit ≡ b.from_unit
-    → a.sent ≡ b.sent → a.played ≡ b.played → a ≡ b
-run-same {a} {b} first end from sent played =
-    ap (λ x. record a { first_unit = x }) first
-    ∙ (ap (λ x. record a { first_unit = b.first_unit; end_unit = x }) end
-    ∙ (ap (λ x. record a { first_unit = b.first_unit; end_unit = b.end_unit; from_unit = x }) from
-    ∙ (ap (λ x. record a { first_unit = b.first_unit; end_unit = b.end_unit; from_unit = b.from_unit; sent = x }) sent
-    ∙ ap (λ x. record b { played = x }) played)))
 
 whole-asked : (stored : Stored) (run : Run) → 1 ≤ picture_time stored.film.rate → IsRunAsked stored.film 0 None run
     → run ≡ whole_of stored
