@@ -16,7 +16,7 @@ use Rattle.inputs.specs.Scans.{HoldsVideo}
 use Rattle.inputs.specs.Videos.{IsRefusedAbove, IsStreamFault, IsStreamFaultFrom, IsVideo, IsVideoFrom}
 use Rattle.inputs.specs.Videos.{IsVideoRefused, pack_in}
 use Rattle.inputs.proofs.ReadLemmas.{first_front}
-use Rattle.inputs.proofs.RefusalLemmas.{each_film_fault, refusal_map, refusal_read}
+use Rattle.inputs.proofs.RefusalLemmas.{MeansRefused, each_film_fault, refusal_map, refusal_read}
 use Rattle.inputs.proofs.Tokens.{slice_from}
 
 -- a file whose size was found has too many bytes
@@ -63,9 +63,10 @@ pub record WasRead (told : Option (List File)) (name file : List ℕ) (most : �
 pub bytes_trouble : {told : Option (List File)} {name file : List ℕ} {most : ℕ} (over : Fault) (faults faults' : ℕ)
     (t : Trouble) → WasRead told name file most → IsBytesTrouble name file t →
     IsReadTrouble (IsNamed name) (IsRefusedAbove most over) told faults faults' t
-bytes_trouble {name = name} {file} {most} over faults faults' t read h =
-    refusal_read (IsRefusedAbove most over) name faults faults' t
-    (λ held fault is refused. inr (file, (read.found held is, inr (read.short, refused)))) h
+bytes_trouble {told} {name = name} {file} {most} over faults faults' t read h =
+    let means : MeansRefused told name (IsVideoRefused file) (IsRefusedAbove most over) =
+    record { refuses = λ held fault is refused. inr (file, (read.found held is, inr (read.short, refused))) } in
+    refusal_read faults faults' t means h
 
 pub film_loaded : {held : List File} {name file video : List ℕ} → file_named held name ≡ Some file
     → length file ≤ 2 ^ 40 → IsVideo file video → refusal video ≡ None → HoldsVideo held name video

@@ -40,16 +40,21 @@ pub film_trouble_map : {Refuses Refuses' : FilmFault → Type 0} (name : List �
 film_trouble_map {Refuses} {Refuses'} name t refuses h =
     refusal_map name t (λ fault is. each_film_fault (IsFilmFault Refuses') fault refuses is) h
 
+-- where the library tells what it holds, the one reason against a file of a name comes to the other
+pub record MeansRefused (told : Option (List File)) (name : List ℕ) (Reason : Fault → Type 0)
+    (Refuses : List File → List ℕ → Fault → Type 0) : Type 0 where
+  pub refuses : (held : List File) (fault : Fault) → told ≡ Some held → Reason fault → Refuses held name fault
+
 -- a refusal of what was read, where the library tells what it holds
-pub refusal_read : {told : Option (List File)} {Reason : Fault → Type 0} (Refuses : List File → List ℕ → Fault → Type 0)
-    (name : List ℕ) (faults faults' : ℕ) (t : Trouble) →
-    ((held : List File) (fault : Fault) → told ≡ Some held → Reason fault → Refuses held name fault) →
-    IsRefusal name Reason t → IsReadTrouble (IsNamed name) Refuses told faults faults' t
-refusal_read Refuses name faults faults' Usage refuses h = absurd h
-refusal_read Refuses name faults faults' (Refused other fault) refuses h =
-    (h.0, λ held is. subst (λ (n : List ℕ). Refuses held n fault) (sym h.0) (refuses held fault is h.1))
-refusal_read Refuses name faults faults' (StoreFault other) refuses h = absurd h
-refusal_read Refuses name faults faults' SinkFault refuses h = absurd h
-refusal_read Refuses name faults faults' NoMemory refuses h = tt
-refusal_read Refuses name faults faults' GateFault refuses h = absurd h
-refusal_read Refuses name faults faults' LinkFault refuses h = absurd h
+pub refusal_read : {told : Option (List File)} {name : List ℕ} {Reason : Fault → Type 0}
+    {Refuses : List File → List ℕ → Fault → Type 0} (faults faults' : ℕ) (t : Trouble) →
+    MeansRefused told name Reason Refuses → IsRefusal name Reason t →
+    IsReadTrouble (IsNamed name) Refuses told faults faults' t
+refusal_read faults faults' Usage means h = absurd h
+refusal_read {Refuses = Refuses} faults faults' (Refused other fault) means h =
+    (h.0, λ held is. subst (λ (n : List ℕ). Refuses held n fault) (sym h.0) (means.refuses held fault is h.1))
+refusal_read faults faults' (StoreFault other) means h = absurd h
+refusal_read faults faults' SinkFault means h = absurd h
+refusal_read faults faults' NoMemory means h = tt
+refusal_read faults faults' GateFault means h = absurd h
+refusal_read faults faults' LinkFault means h = absurd h

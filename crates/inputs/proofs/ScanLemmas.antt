@@ -22,13 +22,13 @@ use Rattle.troubles.specs.declared.faults.Fault.TheVariants.{Film}
 use Rattle.troubles.specs.declared.faults.Trouble.{Trouble}
 use Rattle.troubles.specs.Causes.{IsReadTrouble, IsStoreKept}
 use Rattle.troubles.proofs.CauseLemmas.{trouble_map}
-use Rattle.inputs.specs.Films.{IsFilmTrouble}
+use Rattle.inputs.specs.Films.{IsFilmFault, IsFilmTrouble}
 use Rattle.inputs.specs.Files.{IsFront, IsMissing, IsNamed, IsNever}
 use Rattle.inputs.specs.Scans.{HasEnded, HasHeard, HasRefused, HasScanned, HasScannedAll, HasTold}
 use Rattle.inputs.specs.Scans.{IsFilmRefused, IsOpened, IsScanTrouble, WasOpened}
 use Rattle.inputs.specs.Videos.{IsVideo, IsVideoFrom, pack_in}
 use Rattle.inputs.proofs.ReadLemmas.{first_front, front_rest, one_file}
-use Rattle.inputs.proofs.RefusalLemmas.{each_film_fault, refusal_read}
+use Rattle.inputs.proofs.RefusalLemmas.{MeansRefused, each_film_fault, refusal_read}
 
 -- a video that a file is
 pub plain_video : (held : List File) (name : List ℕ) (size : ℕ) (whole : List ℕ) → IsOpened held name size None
@@ -217,9 +217,12 @@ pub film_trouble : {told : Option (List File)} {Refuses : FilmFault → Type 0} 
     (t : Trouble) →
     ((held : List File) (fault : FilmFault) → told ≡ Some held → Refuses fault →
     IsFilmRefused held name (Film fault)) → IsFilmTrouble name Refuses t → IsScanTrouble name told faults faults' t
-film_trouble name faults faults' t refuses h =
-    refusal_read IsFilmRefused name faults faults' t
-    (λ held fault is r. each_film_fault (IsFilmRefused held name) fault (λ own its. refuses held own is its) r) h
+film_trouble {told} {Refuses} name faults faults' t refuses h =
+    let means : MeansRefused told name (IsFilmFault Refuses) IsFilmRefused = record {
+      refuses = λ held fault is r.
+          each_film_fault (IsFilmRefused held name) fault (λ own its. refuses held own is its) r;
+    } in
+    refusal_read faults faults' t means h
 
 -- the trouble of a read, where each cause follows from another
 pub read_trouble_map : {Reads Reads' : List ℕ → Type 0} {Refuses Refuses' : List File → List ℕ → Fault → Type 0}

@@ -20,7 +20,7 @@ use Rattle.sys_demux.proofs.Parts.{length_prefixed}
 use Rattle.troubles.specs.declared.faults.Fault.TheVariants.{Film, System}
 use Rattle.troubles.specs.declared.faults.Trouble.{Trouble}
 use Rattle.inputs.specs.Files.{IsFront}
-use Rattle.inputs.specs.Films.{IsMovedFault, IsSystemTrouble, IsToldFault}
+use Rattle.inputs.specs.Films.{IsMovedFault, IsSystemFault, IsSystemTrouble, IsToldFault}
 use Rattle.inputs.specs.Scans.{HasEnded, HasHeard, HasRefused, HasStreamed, HasStreamedAll, HasTaken}
 use Rattle.inputs.specs.Scans.{HasUnwrapped, IsFilmRefused, IsOpened, IsChunkRefused, IsScanTrouble}
 use Rattle.inputs.specs.Scans.{IsStreamFront, WasOpened}
@@ -29,7 +29,7 @@ use Rattle.inputs.specs.declared.streams.StreamRefused.TheVariants.{Fault as Str
 use Rattle.inputs.proofs.Tokens.{slice_from}
 use Rattle.inputs.specs.Videos.{IsStreamFaultFrom, IsVideo, IsVideoFrom, fault_from, pack_in, place_of}
 use Rattle.inputs.proofs.ReadLemmas.{front_rest, one_file}
-use Rattle.inputs.proofs.RefusalLemmas.{each_system_fault, refusal_read}
+use Rattle.inputs.proofs.RefusalLemmas.{MeansRefused, each_system_fault, refusal_read}
 use Rattle.inputs.proofs.ScanLemmas.{none_told}
 
 -- ---- the place of a fault lies in the stream
@@ -58,14 +58,18 @@ fault_within bytes fault h =
       length-append (bytes_of h.items) h.tail,
     )
 
+-- a kind of fault that names a place of the stream
+pub record NamesPlace (Variant : ℕ → SystemFault) : Type 0 where
+  pub place_is : (n : ℕ) → place_of (Variant n) ≡ n
+  pub moves : (place n : ℕ) → fault_from place (Variant n) ≡ Variant (place + n)
+
 -- a fault at a place of the stream, moved by a sum that has room
 pub moved : {at sum : ℕ} {fault : SystemFault} {bytes : List ℕ} (place : ℕ) (Variant : ℕ → SystemFault) →
-    ((n : ℕ) → place_of (Variant n) ≡ n) → ((n : ℕ) → fault_from place (Variant n) ≡ Variant (place + n)) →
-    fault ≡ Variant at → IsRefused bytes fault → (at ≤ length bytes → sum ≡ place + at) →
+    NamesPlace Variant → fault ≡ Variant at → IsRefused bytes fault → (at ≤ length bytes → sum ≡ place + at) →
     Variant sum ≡ fault_from place fault
-moved {at} {fault = fault} {bytes = bytes} place Variant place_is from_is is refused sum_is =
+moved {at} {fault = fault} {bytes = bytes} place Variant names is refused sum_is =
     let within : place_of fault ≤ length bytes = fault_within bytes fault refused in
-    ap Variant (sum_is (omega (arith, within, ap place_of is, place_is at))) ∙ sym (from_is at)
+    ap Variant (sum_is (omega (arith, within, ap place_of is, names.place_is at))) ∙ sym (names.moves place at)
     ∙ ap (fault_from place) (sym is)
 
 -- ---- a chunk more
@@ -210,9 +214,12 @@ pub system_trouble : {told : Option (List File)} {Refuses : SystemFault → Type
     (t : Trouble) →
     ((held : List File) (fault : SystemFault) → told ≡ Some held → Refuses fault →
     IsFilmRefused held name (System fault)) → IsSystemTrouble name Refuses t → IsScanTrouble name told faults faults' t
-system_trouble name faults faults' t refuses h =
-    refusal_read IsFilmRefused name faults faults' t
-    (λ held fault is r. each_system_fault (IsFilmRefused held name) fault (λ own its. refuses held own is its) r) h
+system_trouble {told} {Refuses} name faults faults' t refuses h =
+    let means : MeansRefused told name (IsSystemFault Refuses) IsFilmRefused = record {
+      refuses = λ held fault is r.
+          each_system_fault (IsFilmRefused held name) fault (λ own its. refuses held own is its) r;
+    } in
+    refusal_read faults faults' t means h
 
 -- ---- the whole stream
 
