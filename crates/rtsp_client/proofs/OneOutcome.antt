@@ -189,15 +189,15 @@ finals-once {wish} {old} {a} {b} later (Stopped bytes sent decided stops doings 
     ∙ sym doings') one.out_is
 
 -- the watching doesn't go on at the event that gives the answer
-closes-not-runs : {wish : Wish} {old mid : Stage} {count : ℕ} {f : Final} {round : Round} (later more : List Doing)
-    → Closes wish old count f → count < 2 ^ 40 → Runs old round mid → IsFirst mid.rest (Ok More)
+closes-not-runs : {wish : Wish} {old mid : Stage} {count : ℕ} {f : Final} {round : Round} {more : List Doing}
+    (later : List Doing) → Closes wish old count f → count < 2 ^ 40 → Runs old round mid → IsFirst mid.rest (Ok More)
     → events_in f.doings ++ later ≡ round.event ∷ more → ⊥
-closes-not-runs later more (Spent is all doings out) few runs idle same = omega (arith, all, few)
-closes-not-runs {old} {mid} {round} later more (Ended is _ doings out) few runs idle same =
+closes-not-runs later (Spent is all doings out) few runs idle same = omega (arith, all, few)
+closes-not-runs {old} {mid} {round} later (Ended is _ doings out) few runs idle same =
     let first : round.event ≡ HeardEnd =
     sym (ap event_or_end same) ∙ ap (λ ds. event_or_end (events_in ds ++ later)) doings in
     subst (λ e. Brings e old.rest round.moments mid.rest) first runs.brings
-closes-not-runs {old} {mid} {round} later more (Stopped bytes sent decided stops doings _) few runs idle same =
+closes-not-runs {old} {mid} {round} later (Stopped bytes sent decided stops doings _) few runs idle same =
     let first : round.event ≡ HeardBytes bytes =
     sym (ap event_or_end same) ∙ ap (λ ds. event_or_end (events_in ds ++ later)) doings in
     let brings : Brings (HeardBytes bytes) old.rest round.moments mid.rest =
@@ -228,13 +228,12 @@ courses-once {wish} {a} {b} later [] [] {old} {count} x y same =
 courses-once {wish} {a} {b} later [] (round ∷ other) {old} {count} x y same =
     let first : Closes wish old (count + 0) a = subst (λ s. Closes wish s (count + 0) a) x.runs x.closes in
     let few : count + length (round ∷ other) ≤ 2 ^ 40 = closes-few y.closes in
-    absurd (closes-not-runs later (events_of other ++ events_in b.doings) first (omega (arith, few)) y.runs.1.0
-    y.runs.1.1 (sym same))
+    absurd (closes-not-runs later first (omega (arith, few)) y.runs.1.0 y.runs.1.1 (sym same))
 courses-once {wish} {a} {b} later (round ∷ one) [] {old} {count} x y same =
     let second : Closes wish old (count + 0) b = subst (λ s. Closes wish s (count + 0) b) y.runs y.closes in
     let few : count + length (round ∷ one) ≤ 2 ^ 40 = closes-few x.closes in
-    absurd (closes-not-runs [] ((events_of one ++ events_in a.doings) ++ later) second (omega (arith, few))
-    x.runs.1.0 x.runs.1.1 (append-nil (events_in b.doings) ∙ same))
+    absurd (closes-not-runs [] second (omega (arith, few)) x.runs.1.0 x.runs.1.1
+    (append-nil (events_in b.doings) ∙ same))
 courses-once {wish} {a} {b} later (round ∷ one) (round' ∷ other) {old} {count} x y same =
     let event : round.event ≡ round'.event = sym (ap event_or_end same) in
     let next = runs-once x.runs.1.0 x.runs.1.1 y.runs.1.0 y.runs.1.1 event in

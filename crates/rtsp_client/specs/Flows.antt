@@ -1,4 +1,4 @@
--- What a call answers that may end the watching, read as a result: what it goes on with, or the end.
+-- A call's answer that may end the watching, read as a result: what it goes on with, or the end.
 use Rattle.std.specs.Prelude.{Result, Ok, Err}
 use Rattle.std.specs.declared.ops.ControlFlow.{ControlFlow}
 use Rattle.std.specs.declared.ops.ControlFlow.TheVariants.{Continue, Break}
