@@ -54,7 +54,7 @@ fn judges(rt: &impl Abort, alloc: Global, rows: &[Row<'_>]) -> Result<(), Fail> 
             "at {low:?} {pairs:?}"
         );
         if let Ok(()) = check(&curves, segments.as_slice()) {
-            law_best(&curves, segments.as_slice());
+            law_checked_plan_is_optimal(&curves, segments.as_slice());
         }
     }
     Ok(())

@@ -43,7 +43,7 @@ impl Gathered {
     }
 
     /// The bytes that wait.
-    pub(crate) fn waiting_bytes(&self) -> &[u8]
+    pub(crate) fn unsent_bytes(&self) -> &[u8]
         ensures { result.now ≡ self.now }
     {
         &self.bytes[self.start..]

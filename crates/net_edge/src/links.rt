@@ -130,10 +130,10 @@ impl<R: Clock> TcpLink<'_, R> {
         ensures { self.new.faults ≡ self.old.faults }
     {
         for _ in 0..u64::MAX {
-            if self.gathered.waiting_bytes().is_empty() {
+            if self.gathered.unsent_bytes().is_empty() {
                 return Ok(());
             }
-            match self.socket.write(self.gathered.waiting_bytes()) {
+            match self.socket.write(self.gathered.unsent_bytes()) {
                 Ok(0) => return Err(io::Error::from(ErrorKind::WriteZero)),
                 Ok(count) => {
                     self.gathered.drop_front(count);
@@ -218,7 +218,7 @@ impl<R: Clock> TcpLink<'_, R> {
         for _ in 0..u64::MAX {
             self.flush()?;
             let waited = begun.elapsed(self.rt)?;
-            if self.gathered.waiting_bytes().is_empty() || waited >= patience {
+            if self.gathered.unsent_bytes().is_empty() || waited >= patience {
                 return Ok(());
             }
             self.wait(patience.saturating_sub(waited))?;

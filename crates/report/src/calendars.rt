@@ -43,7 +43,7 @@ fn push_slots(out: &mut Vec<u8>, calendar: &Calendar) -> Result<(), NoMemory>
 {
     let now = calendar.now();
     for slot in now..now + RING_SLOTS {
-        let booked = calendar.booked_bytes(slot);
+        let booked = calendar.booked(slot);
         if booked > 0 {
             push_slot(out, slot, booked)?;
         }

@@ -3,7 +3,7 @@
 ghost use Rattle.std.specs.Prelude.{◌≡◌, drop};
 ghost use Rattle.vod_base.specs.Appends.{IsAppended};
 ghost use Rattle.report.specs.JournalTexts.{journal_text};
-ghost use Rattle.report.specs.Kinds.{AreOfKind};
+ghost use Rattle.report.specs.AnswerKinds.{AreOfKind};
 
 use crate::entries::entry_line;
 use admission::Entry;

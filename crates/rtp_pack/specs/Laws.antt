@@ -1,15 +1,15 @@
 -- What follows from the rules for cutting, in a reader's words.
 use Rattle.std.specs.Prelude.{ℕ, ◌+◌, ◌<◌, ◌≤◌, ◌≡◌, ◌⊎◌, true, false, List, [], ◌∷◌}
 use Rattle.rtp_pack.specs.declared.payloads.Packet.{Packet}
-use Rattle.rtp_pack.specs.Cutting.{IsCutting}
+use Rattle.rtp_pack.specs.Packetization.{AreCutPoints}
 use Rattle.rtp_pack.specs.Packets.{is_among}
 
 -- a fact of each cutting of a unit: where its headers of 1 to 1,380 bytes begin and end, the
 -- lengths of its slices, and its cut points
-abbrev pub OfCuttings : (ℕ → ℕ → List ℕ → List ℕ → Type 0) → Type 0
-OfCuttings Fact =
+abbrev pub ForAllCutPoints : (ℕ → ℕ → List ℕ → List ℕ → Type 0) → Type 0
+ForAllCutPoints Fact =
     (from headers_end : ℕ) (slices cuts : List ℕ) → from < headers_end → headers_end ≤ from + 1380
-    → IsCutting from headers_end slices cuts → Fact from headers_end slices cuts
+    → AreCutPoints from headers_end slices cuts → Fact from headers_end slices cuts
 
 -- portions of 1 to 1,380 bytes cover the bytes from a place to another in order, without gap or
 -- overlap

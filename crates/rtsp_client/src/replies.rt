@@ -15,7 +15,7 @@ use vod_base::{read_number, trim};
 ///
 /// None where its first line isn't `RTSP/1.0`, three digits and a phrase, or its CSeq isn't the
 /// number.
-#[tactic(auto, using(crate::proofs::Answering::answer_is))]
+#[tactic(auto, using(crate::proofs::WatchEnds::answer_is))]
 pub(crate) fn reply_code(message: &[u8], number: u64) -> Option<u16>
     requires { IsMessageLength message.now (length message.now) }
     ensures { MatchOption result ((code : ℕ) →

@@ -3,7 +3,7 @@
 use super::*;
 use std::alloc::Global;
 use std::test::Fail;
-use vod_base::{Event, MemoryLink, MemorySink, is_good_name};
+use vod_base::{Event, MemoryLink, MemorySink, good_name};
 
 /// What a link tells: a reply, bytes of the film as it is sent, other bytes, a slot, the end.
 #[derive(Clone, Copy)]
@@ -334,7 +334,7 @@ fn events_of(alloc: Global, tells: &[Tell], cut: bool) -> Result<Vec<Event>, Fai
 
 /// What comes of watching, what was sent and what was handed on.
 #[derive(Debug, Drop, PartialEq)]
-struct Outcome {
+struct WatchOutcome {
     end: WatchEnd,
     sent: Vec<u8>,
     out: Vec<u8>,
@@ -349,16 +349,16 @@ fn watch_events(
     buffer: u64,
     events: Vec<Event>,
     failing: Failing,
-) -> Result<Outcome, Fail> {
+) -> Result<WatchOutcome, Fail> {
     let name = String::from_str(alloc, "b.mpg")?;
-    if !is_good_name(name.as_bytes()) || buffer < 1 || buffer > 1 << 42 {
+    if !good_name(name.as_bytes()) || buffer < 1 || buffer > 1 << 42 {
         return Err(Fail::from("no such wish"));
     }
     let wish = Wish {
         name,
         port: 8554,
         buffer,
-        delay: 2,
+        startup: 2,
         slot_units: 14_400,
     };
     let (sends, nexts, writes) = failing;
@@ -371,9 +371,9 @@ fn watch_events(
         return Err(Fail::from("no memory"));
     };
     let end = watch(alloc, &wish, &mut link, &mut out);
-    Ok(Outcome {
+    Ok(WatchOutcome {
         end,
-        sent: Vec::from_slice(alloc, link.sent_bytes())?,
+        sent: Vec::from_slice(alloc, link.sent())?,
         out: Vec::from_slice(alloc, out.bytes())?,
     })
 }
@@ -401,9 +401,9 @@ fn film(alloc: Global, count: usize) -> Result<Vec<u8>, Fail> {
 }
 
 /// What should come of a case.
-fn wanted_outcome(alloc: Global, case: &Case) -> Result<Outcome, Fail> {
+fn wanted_outcome(alloc: Global, case: &Case) -> Result<WatchOutcome, Fail> {
     let sent = requests(alloc, case.requests, case.buffer)?;
-    Ok(Outcome {
+    Ok(WatchOutcome {
         end: case.end,
         sent: Vec::from_slice(alloc, sent.as_bytes())?,
         out: film(alloc, case.handed_on)?,

@@ -6,10 +6,10 @@ use Rattle.std.specs.List.{list_all}
 use Rattle.std.proofs.lemmas.Fmt.{digits_decimal}
 use Rattle.std.proofs.lemmas.List.{append_assoc, take_at, drop_at, take_all, length-append, get_or_append_left}
 use Rattle.std.proofs.lemmas.List.{get_or-append-add}
-use Rattle.vod_base.proofs.Digits.{decimal_numerals}
-use Rattle.rtsp_text.proofs.Inside.{all-append}
-use Rattle.rtsp_fields.specs.Descriptions.{seconds_text}
-use Rattle.rtsp_fields.specs.Parts.{HasNone}
+use Rattle.vod_base.proofs.DigitLemmas.{decimal_numerals}
+use Rattle.rtsp_text.proofs.LineBounds.{all-append}
+use Rattle.rtsp_fields.specs.Sdp.{seconds_text}
+use Rattle.rtsp_fields.specs.SeparatedParts.{HasNone}
 use Rattle.rtsp_fields.specs.Ranges.{IsLimit, IsOrigin, IsSpan}
 use Rattle.rtsp_fields.specs.declared.ranges.Span.{Span}
 use Rattle.rtsp_fields.specs.declared.ranges.Origin.TheVariants.{Now, At}

@@ -7,7 +7,7 @@ use Rattle.std.proofs.lemmas.List.{take_all, append-nil}
 use Rattle.std.proofs.lemmas.List.Elements.{All-head, All-tail}
 use Rattle.std.proofs.lemmas.List.Folds.{list_all-append}
 use Rattle.rtsp_fields.specs.Laws.{IsOtherParameter}
-use Rattle.rtsp_fields.specs.Parts.{HasNone, IsPart, NoPart}
+use Rattle.rtsp_fields.specs.SeparatedParts.{HasNone, IsPart, NoPart}
 use Rattle.rtsp_fields.specs.Transports.{AsksOtherDelivery, NamesChannels, IsDelivery, IsTransport, part_word}
 use Rattle.rtsp_fields.specs.declared.transports.Channels.{Channels}
 use Rattle.rtsp_fields.proofs.SeparatedTexts.{text_of, other_than, none_from, part_first, part_whole, none_more}

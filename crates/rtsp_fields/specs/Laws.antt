@@ -5,7 +5,7 @@ use Rattle.std.specs.Prelude.{flat_map, slice_index}
 use Rattle.std.specs.List.{list_all}
 use Rattle.vod_base.specs.Blanks.{without_blanks}
 use Rattle.rtsp_text.specs.Lines.{is_one_line}
-use Rattle.rtsp_fields.specs.Parts.{in_lower_case}
+use Rattle.rtsp_fields.specs.SeparatedParts.{in_lower_case}
 use Rattle.rtsp_fields.specs.Ranges.{IsSpan}
 use Rattle.rtsp_fields.specs.Urls.{IsStream}
 use Rattle.rtsp_fields.specs.declared.ranges.Origin.TheVariants.{At}

@@ -16,9 +16,9 @@ fn first_message(demux: &mut Demux) -> Option<&[u8]>
     ensures { IfSome result (λ message. IsMessageLength message.now (length message.now)) }
 {
     match demux.look() {
-        Ok(Step::Message(total)) => {
-            let waiting = demux.waiting_bytes();
-            law_whole_request(waiting, total);
+        Ok(Step::Request(total)) => {
+            let waiting = demux.waiting();
+            law_look_finds_whole_requests(waiting, total);
             Some(&waiting[..total])
         }
         _ => None,

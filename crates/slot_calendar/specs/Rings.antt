@@ -29,7 +29,7 @@ pub record IsReached (places : List ℕ) (b top : ℕ) : Type 0 where
 
 -- each block has its greatest total, but for the stale one, which has a number that is at least as
 -- great
-pub record IsTopped (places tops : List ℕ) (stale : Option ℕ) : Type 0 where
+pub record AreBlockMaxima (places tops : List ℕ) (stale : Option ℕ) : Type 0 where
   pub places_are : length places ≡ ring_slots
   pub tops_are : length tops ≡ 1024
   pub bounded : (i : ℕ) → i < ring_slots → slice_index places i ≤ slice_index tops (i / 1024)
@@ -45,7 +45,7 @@ slots_of_ring ring =
     }
 
 abbrev pub IsRing : Inside → Type 0
-IsRing ring = IsTopped ring.places.items ring.tops.items ring.stale
+IsRing ring = AreBlockMaxima ring.places.items ring.tops.items ring.stale
 
 -- the greatest of some numbers
 pub record IsGreatest (numbers : List ℕ) (top : ℕ) : Type 0 where

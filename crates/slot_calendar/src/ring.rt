@@ -2,7 +2,7 @@
 
 ghost use Rattle.std.specs.Prelude.{◌≡◌, ◌≢◌, ◌+◌, ◌-◌, ◌*◌, ◌/◌, ◌^◌, ◌<◌, ◌≤◌, ℕ, None, Some};
 ghost use Rattle.std.specs.Prelude.{length, IfOk};
-ghost use Rattle.slot_calendar.specs.Rings.{AreZeros, IsGreatest, IsTopped, total_of};
+ghost use Rattle.slot_calendar.specs.Rings.{AreZeros, IsGreatest, AreBlockMaxima, total_of};
 ghost use Rattle.slot_calendar.specs.Totals.{ring_slots};
 
 use std::alloc::Global;
@@ -211,8 +211,8 @@ fn greatest_of(numbers: &[u64]) -> u64
 
 /// Reads the stale block again, if there is one.
 fn settle_block(places: &[u64], tops: &mut [u64], stale: Option<usize>)
-    requires { IsTopped places.now tops.old stale }
-    ensures { IsTopped places.now tops.new None }
+    requires { AreBlockMaxima places.now tops.old stale }
+    ensures { AreBlockMaxima places.now tops.new None }
 {
     if let Some(block) = stale {
         let from = block * BLOCK as usize;
@@ -222,9 +222,9 @@ fn settle_block(places: &[u64], tops: &mut [u64], stale: Option<usize>)
 
 /// Reads the stale block again, unless it is this one, which becomes the stale one.
 fn settle_other(places: &[u64], tops: &mut [u64], stale: Option<usize>, block: usize)
-    requires topped { IsTopped places.now tops.old stale }
+    requires topped { AreBlockMaxima places.now tops.old stale }
     requires within { block < 1024 }
-    ensures { IsTopped places.now tops.new (Some block) }
+    ensures { AreBlockMaxima places.now tops.new (Some block) }
 {
     if let Some(other) = stale
         && other != block

@@ -3,8 +3,8 @@
 ghost use Rattle.vod_base.specs.Appends.{IsAppended};
 ghost use Rattle.vod_base.specs.Fields.{field};
 
+use crate::errors::NoMemory;
 use crate::numbers::push_number;
-use crate::outside::NoMemory;
 
 /// Appends a text.
 ///

@@ -2,9 +2,9 @@
 
 ghost use Rattle.std.specs.Prelude.{◌≡◌, ◌≤◌, ℕ, List, Option, Some, length, option_map, IfOk};
 ghost use Rattle.std.specs.Prelude.{OnErr};
-ghost use Rattle.vod_base.specs.Outside.{File, HasRisen, file_named, bytes_named, IsRead};
+ghost use Rattle.vod_base.specs.IoState.{File, HasRisen, file_named, bytes_named, IsRead};
 
-use crate::outside::StoreFault;
+use crate::errors::StoreFault;
 
 /// Named files that can be read at places.
 ///

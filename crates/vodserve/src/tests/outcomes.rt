@@ -1,6 +1,6 @@
 //! What a run left, and the lines of a script that say what that is to be.
 
-use crate::ends::Ended;
+use crate::run_results::Ended;
 use crate::tests::materials::{Files, bytes_of, number_of, word_and_rest};
 use admission::{Answer, Entry};
 use conn::{ConnEnd, ConnReport};
@@ -64,8 +64,8 @@ fn lacked_memory(reports: &[ConnReport]) -> bool {
 fn sent_of(alloc: Global, gate: &MemoryGate) -> Result<Vec<Vec<u8>>, NoMemory> {
     let mut sent = Vec::new(alloc);
     for number in 0..2 {
-        for link in gate.returned_links(number) {
-            sent.push(Vec::from_slice(alloc, link.sent_bytes())?)?;
+        for link in gate.given_back(number) {
+            sent.push(Vec::from_slice(alloc, link.sent())?)?;
         }
     }
     Ok(sent)

@@ -1,7 +1,7 @@
 //! Runs of the program over objects in memory, by scripts.
 
-use crate::ends::Ended;
 use crate::run::run;
+use crate::run_results::Ended;
 use crate::tests::materials::{Files, bytes_of, number_of, word_and_rest, words_of};
 use crate::tests::outcomes::Outcome;
 use std::alloc::Global;
@@ -233,7 +233,8 @@ impl Stage {
 ///
 /// `file NAME TEXT`, `reply NAME TEXT`, `bytes NAME WORDS`, `sizes NAME FILM`, `hears TEXT`, `gets
 /// WORDS`, `slots FIRST LAST`, `again COUNT` (the first so many events of the part before), `part
-/// [CALL]` and `fails OBJECT CALL` say what the next run is over; `> WORDS` runs; and the lines
+/// [CALL]` and `fails OBJECT CALL` write_error what the next run is over; `> WORDS` runs; and the
+/// lines
 /// after it say what it left: `STATUS TEXT` its status and its whole text, of the output or else of
 /// the error stream, `out TEXT`, `err TEXT` and `is NAME` a whole text, `has TEXT` a part of the
 /// output, `ends STATUS` its status, `counts REPORTS ENTRIES`, `says

@@ -3,9 +3,9 @@ use Rattle.std.proofs.Common.{arith}
 use Rattle.rtsp_text.specs.Replies.{reply_text}
 use Rattle.session.specs.Replies.{field, joined_parts}
 use Rattle.std.proofs.lemmas.List.{length-take-le}
-use Rattle.rtsp_fields.specs.Descriptions.{description_text}
+use Rattle.rtsp_fields.specs.Sdp.{description_text}
 use Rattle.rtsp_text.specs.Lines.{is_one_line}
-use Rattle.rtsp_text.proofs.OneLines.{one_line-name}
+use Rattle.rtsp_text.proofs.SingleLineTexts.{one_line-name}
 use Rattle.session.proofs.replies.put_description.Goals as goal
 
 pub field_of-requires-clause-one_line : goal.field_of-requires-clause-one_line

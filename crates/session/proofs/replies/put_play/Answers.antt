@@ -1,7 +1,7 @@
 use Rattle.std.proofs.Common.{◌≡◌, ℕ, List, [], ◌∷◌, Some, codes, decimal, refl, ap, ◌∙◌}
 use Rattle.rtsp_text.specs.Replies.{reply_front}
 use Rattle.session.specs.Replies.{field, joined_parts}
-use Rattle.rtsp_fields.specs.Descriptions.{seconds_text}
+use Rattle.rtsp_fields.specs.Sdp.{seconds_text}
 use Rattle.session.proofs.replies.put_play.Goals as goal
 
 pub returns-clause-text : goal.returns-clause-text

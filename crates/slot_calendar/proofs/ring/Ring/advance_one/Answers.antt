@@ -1,7 +1,7 @@
 use Rattle.std.proofs.Common.{◌≡◌, ◌<◌, ◌%◌, arith, ap, ◌∙◌}
 use Rattle.slot_calendar.specs.Rings.{rotation}
 use Rattle.slot_calendar.specs.Totals.{ring_slots, total_at}
-use Rattle.slot_calendar.proofs.Turns.{total-next}
+use Rattle.slot_calendar.proofs.RingRotation.{total-next}
 use Rattle.slot_calendar.proofs.ring.Ring.advance_one.Goals as goal
 
 pub returns-clause-totals : goal.returns-clause-totals

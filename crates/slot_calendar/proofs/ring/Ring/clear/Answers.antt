@@ -1,6 +1,6 @@
 use Rattle.std.proofs.Common.{arith, ◌∙◌}
-use Rattle.slot_calendar.proofs.Turns.{total-zeros}
-use Rattle.slot_calendar.proofs.Blocks.{topped-zeros}
+use Rattle.slot_calendar.proofs.RingRotation.{total-zeros}
+use Rattle.slot_calendar.proofs.BlockMaxima.{topped-zeros}
 use Rattle.slot_calendar.proofs.ring.Ring.clear.Goals as goal
 
 pub invariant_of-self : goal.invariant_of-self

@@ -4,10 +4,10 @@ use Rattle.std.proofs.Common.{set, arith, sym, ap, subst, ◌∙◌, inl, inr}
 use Rattle.std.proofs.lemmas.Bool.{cases_lt}
 use Rattle.std.proofs.lemmas.List.{get_or_read, take_at}
 use Rattle.std.proofs.lemmas.Nat.{mod_below}
-use Rattle.slot_calendar.specs.Rings.{IsTopped, rotation}
+use Rattle.slot_calendar.specs.Rings.{AreBlockMaxima, rotation}
 use Rattle.slot_calendar.specs.Totals.{ring_slots, total_at}
-use Rattle.slot_calendar.proofs.Turns.{HasPlaces, IsInTurn, total-in, total-past, set-here, set-there}
-use Rattle.slot_calendar.proofs.Blocks.{topped-lower}
+use Rattle.slot_calendar.proofs.RingRotation.{HasPlaces, IsInTurn, total-in, total-past, set-here, set-there}
+use Rattle.slot_calendar.proofs.BlockMaxima.{topped-lower}
 use Rattle.slot_calendar.proofs.ring.Ring.lower.Goals as goal
 
 -- the slot is one of the ring, since something is booked in it
@@ -29,14 +29,14 @@ invariant_of-self c =
     let value : c.index_mut.result.now ≡ get_or d.places.items p 0 =
     get_or_read d.places.items p c.index_mut.result.now (omega (arith, inside, c.self.invariant.places_are))
     c.index_mut.ensures.value 0 in
-    let P : List ℕ → Type 0 = λ xs. IsTopped xs c.settle_other.new.tops (Some (p / 1024)) in
+    let P : List ℕ → Type 0 = λ xs. AreBlockMaxima xs c.settle_other.new.tops (Some (p / 1024)) in
     let settled = subst P c.as_slice.ensures.value c.settle_other.ensures in
     let less = c.index_mut.result.now - c.args.by in
     let tops = c.settle_other.new.tops in
     let whole : take d.tops.len (tops ++ drop (length tops) d.tops.items) ≡ tops =
     take_at tops (drop (length tops) d.tops.items) d.tops.len
     (omega (arith, settled.tops_are, c.self.invariant.tops_are)) in
-    let T : List ℕ → Type 0 = λ ts. IsTopped (set d.places.items p less) ts (Some (p / 1024)) in
+    let T : List ℕ → Type 0 = λ ts. AreBlockMaxima (set d.places.items p less) ts (Some (p / 1024)) in
     subst T (sym whole) (topped-lower p less settled inside (omega (arith, value)))
 
 pub returns-clause-at : goal.returns-clause-at

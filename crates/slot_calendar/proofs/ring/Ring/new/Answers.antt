@@ -1,4 +1,4 @@
-use Rattle.slot_calendar.proofs.Blocks.{topped-zeros}
+use Rattle.slot_calendar.proofs.BlockMaxima.{topped-zeros}
 use Rattle.slot_calendar.proofs.ring.Ring.new.Goals as goal
 
 pub invariant_of-result : goal.invariant_of-result

@@ -2,10 +2,10 @@ use Rattle.std.proofs.lemmas.Grind.{common_steps}
 use Rattle.std.proofs.Common.{◌≡◌, ◌<◌, ◌+◌, ◌/◌, ◌%◌, ℕ, max, get_or, set, arith, sym, ap, subst, ◌∙◌}
 use Rattle.std.proofs.lemmas.List.{get_or_read}
 use Rattle.std.proofs.lemmas.Nat.{mod_below}
-use Rattle.slot_calendar.specs.Rings.{IsTopped}
+use Rattle.slot_calendar.specs.Rings.{AreBlockMaxima}
 use Rattle.slot_calendar.specs.Totals.{ring_slots, total_at}
-use Rattle.slot_calendar.proofs.Turns.{HasPlaces, IsInTurn, total-in, set-here, set-there}
-use Rattle.slot_calendar.proofs.Blocks.{topped-raise, block-in}
+use Rattle.slot_calendar.proofs.RingRotation.{HasPlaces, IsInTurn, total-in, set-here, set-there}
+use Rattle.slot_calendar.proofs.BlockMaxima.{topped-raise, block-in}
 use Rattle.slot_calendar.proofs.ring.Ring.raise.Goals as goal
 
 pub invariant_of-self : goal.invariant_of-self
@@ -21,7 +21,7 @@ invariant_of-self c =
     get_or_read d.tops.items (p / 1024) c.index-2.result.now
     (omega (arith, block-in p inside, c.self.invariant.tops_are)) c.index-2.ensures 0 in
     let top : c.max.result ≡ max (get_or d.tops.items (p / 1024) 0) v = c.max.ensures ∙ ap (λ x. max x v) old in
-    let P : ℕ → Type 0 = λ x. IsTopped (set d.places.items p v) (set d.tops.items (p / 1024) x) d.stale in
+    let P : ℕ → Type 0 = λ x. AreBlockMaxima (set d.places.items p v) (set d.tops.items (p / 1024) x) d.stale in
     subst P (sym top) (topped-raise p v c.self.invariant inside (omega (arith, value)))
 
 pub returns-clause-at : goal.returns-clause-at

@@ -2,8 +2,8 @@ use Rattle.std.proofs.Common.{◌≡◌, ◌<◌, ◌≤◌, ◌/◌, ◌%◌, g
 use Rattle.std.proofs.lemmas.List.{get_or_read}
 use Rattle.std.proofs.lemmas.Nat.{mod_below}
 use Rattle.slot_calendar.specs.Totals.{ring_slots, total_at}
-use Rattle.slot_calendar.proofs.Turns.{total-bounded}
-use Rattle.slot_calendar.proofs.Blocks.{block-in}
+use Rattle.slot_calendar.proofs.RingRotation.{total-bounded}
+use Rattle.slot_calendar.proofs.BlockMaxima.{block-in}
 use Rattle.slot_calendar.proofs.ring.Ring.top.Goals as goal
 
 pub returns : goal.returns

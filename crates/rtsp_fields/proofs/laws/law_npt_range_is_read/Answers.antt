@@ -1,0 +1,11 @@
+use Rattle.rtsp_fields.proofs.RangeTexts.{between_read, from_read, now_read}
+use Rattle.rtsp_fields.proofs.laws.law_npt_range_is_read.Goals as goal
+
+pub returns-clause-from : goal.returns-clause-from
+returns-clause-from c = from_read
+
+pub returns-clause-between : goal.returns-clause-between
+returns-clause-between c = between_read
+
+pub returns-clause-now : goal.returns-clause-now
+returns-clause-now c = now_read
