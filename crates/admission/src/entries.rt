@@ -68,7 +68,7 @@ pub struct Entry {
     pub answer: Answer,
 }
 
-/// The journal has no room for an entry besides those that the open plays will need for their
+/// The journal has no room for an entry beyond those that the open plays will need for their
 /// halts. Nothing was changed.
 #[derive(Clone, Copy, Debug, PartialEq, Eq, Error)]
 #[error("the journal is full: {entries} entries, {live} open plays")]

@@ -5,7 +5,7 @@ ghost use Rattle.cli_args.specs.InvocationViews.{source_name, source_read};
 
 use crate::capacity_steps::Steps;
 
-/// What the words of the command line ask for.
+/// What the arguments of the command line ask for.
 #[derive(Debug, Drop)]
 pub enum Invocation<'a> {
     /// `--help` alone.

@@ -1,4 +1,4 @@
-//! The words of the command line of `vodserve`: a command, and its settings `key=value`.
+//! The arguments of the command line of `vodserve`: a command, and its settings `key=value`.
 #![tactic(auto)]
 
 mod capacities;

@@ -1,4 +1,4 @@
-//! What the words of the command line mean.
+//! What the arguments of the command line mean.
 
 ghost use Rattle.std.specs.Prelude.{◌≡◌, Some, option_map, codes, IfSome};
 ghost use Rattle.cli_args.specs.Settings.{texts, values_of};
@@ -15,7 +15,7 @@ use crate::key_values::{cert_given, film_given, one_kind, pictures_given, seed_g
 use crate::server_args::{serve_args_given, watch_args_given};
 use crate::subcommands::{Subcommand, are_settings_of, subcommand_named};
 
-/// Reads what the words of the command line ask for, or None where they mean nothing.
+/// Reads what the arguments of the command line ask for, or None where they mean nothing.
 pub fn parse_args<'a>(words: &'a [String]) -> Option<Invocation<'a>>
     ensures order { option_map invocation_view result ≡ invocation_from (texts words.entry.now) }
     ensures range { IfSome result IsInvocationInRange }

@@ -58,8 +58,7 @@ pub enum InputError {
 }
 
 /// Why the words weren't carried out. [`write_error`](crate::say) writes it on the error stream as
-/// a line
-/// of names and numbers; its `Display` is prose.
+/// a line of names and numbers; its `Display` is prose.
 #[derive(Clone, Copy, Debug, Error)]
 pub enum CliError<'a> {
     /// The words have no meaning.

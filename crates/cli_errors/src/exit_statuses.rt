@@ -1,4 +1,4 @@
-//! The exit status of a trouble.
+//! The exit status of an error.
 
 ghost use Rattle.std.specs.Prelude.{◌≡◌};
 ghost use Rattle.cli_errors.specs.ExitStatuses.{DeterminesCause, status_of};
@@ -6,8 +6,9 @@ ghost use Rattle.cli_errors.specs.declared.errors.CliError.{CliError as Cause};
 
 use crate::errors::CliError;
 
-/// The exit status that goes with a trouble: 2 for words without meaning, 3 for a refused input,
-/// 4 for the library, 5 for the output, 6 for want of memory, 7 for the gate, 8 for the link.
+/// The exit status that goes with an error: 2 for arguments without a meaning, 3 for a refused
+/// input, 4 for the library, 5 for the output, 6 because memory ran out, 7 for the gate, 8 for the
+/// link.
 pub fn status_of(error: &CliError<'_>) -> u8
     ensures { result ≡ status_of error.now }
 {

@@ -1,4 +1,4 @@
-//! What keeps `vodserve` from its work: the troubles, the line that names each on the error
+//! What keeps `vodserve` from its work: the errors, the line that names each on the error
 //! stream, and its exit status.
 #![tactic(auto)]
 

@@ -39,7 +39,7 @@ use vod_base::{Heard, Link, LinkFault, NoMemory};
 pub(crate) struct Connection<'a> {
     /// What its requests and slots come to.
     session: Session<'a>,
-    /// The bytes that came and weren't taken up.
+    /// The bytes that came and weren't processed.
     input: Demux,
     /// The booking of the play that is sent.
     booking: Option<Booking>,
@@ -76,7 +76,7 @@ impl<'a> Connection<'a> {
         })
     }
 
-    /// Takes up an event, and answers how it ended the connection, if it did. The bytes that came
+    /// Processes an event, and answers how it ended the connection, if it did. The bytes that came
     /// stand in front of `bytes`.
     #[tactic(auto, using(crate::proofs::SharedLemmas::count_steps))]
     pub(crate) fn hear<R: Wait, K: Link>(
@@ -121,7 +121,7 @@ impl<'a> Connection<'a> {
         }
     }
 
-    /// Takes up a slot: what is due is sent, a waiting reply goes out, and a play that is done is
+    /// Processes a slot: what is due is sent, a waiting reply goes out, and a play that is done is
     /// halted.
     #[tactic(auto, using(crate::proofs::SharedLemmas::slot_steps))]
     fn step<R: Wait, K: Link>(
@@ -154,7 +154,7 @@ impl<'a> Connection<'a> {
         Ok(())
     }
 
-    /// Takes up what waits, and answers how it ended the connection, if it did.
+    /// Processes what waits, and answers how it ended the connection, if it did.
     #[tactic(auto, using(crate::proofs::SharedLemmas::count_steps))]
     fn process_input<R: Wait, K: Link>(
         &mut self,
@@ -183,8 +183,8 @@ impl<'a> Connection<'a> {
         }
     }
 
-    /// Takes up the element in front. A request is taken up only where no reply waits, and none is
-    /// once a TEARDOWN was answered 200.
+    /// Processes the element in front. A request is processed only where no reply waits, and none
+    /// is once a TEARDOWN was answered 200.
     #[tactic(auto, using(crate::proofs::SharedLemmas::count_steps))]
     fn process_next<R: Wait, K: Link>(
         &mut self,
@@ -222,7 +222,7 @@ impl<'a> Connection<'a> {
         }
     }
 
-    /// Takes up the request in front, which has this length, unless a reply waits, and sends its
+    /// Processes the request in front, which has this length, unless a reply waits, and sends its
     /// reply where it can go out.
     #[tactic(auto, using(crate::proofs::SharedLemmas::count_steps))]
     fn process_request<R: Wait, K: Link>(
@@ -411,9 +411,9 @@ impl<'a> Connection<'a> {
 
 /// What came of the element in front.
 pub(crate) enum InputProgress {
-    /// It was taken up and is gone.
+    /// It was processed and is gone.
     Gone,
-    /// Nothing more can be taken up: no whole element waits, or a request waits for a reply to be
+    /// Nothing more can be processed: no whole element waits, or a request waits for a reply to be
     /// sent.
     Waits,
     /// The connection ended.

@@ -29,7 +29,7 @@ use vod_base::{Link, MAX_EVENTS, MAX_READ_BYTES};
 /// ends the connection.
 ///
 /// What the link tells is the connection's course, event by event: what was sent in its slot, the
-/// halt of a play that is then done, and each request that was taken up with the station's answer
+/// halt of a play that is then done, and each request that was processed with the station's answer
 /// and the reply. The report tells what was noted on the way.
 #[allow(clippy::too_many_arguments)]
 pub fn serve_connection<R: Wait, K: Link>(

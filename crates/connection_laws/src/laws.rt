@@ -38,7 +38,7 @@ pub use crate::watch_laws::{
 };
 
 /// The events of a connection's course follow one another, with the last one where an element ended
-/// it, and so do those of each front of it.
+/// it, and so do those of each prefix of it.
 pub fn law_course_is_event_sequence()
     ensures all { (old new : Stage) (rounds : List Round) → RunsAll old rounds new
         → IsCourseBetween old rounds new }
@@ -78,21 +78,21 @@ pub fn law_replies_between_packets()
 {}
 
 /// Each reply stands at the first boundary of the films that are sent, the end of a frame or of a
-/// report, at or after what was due when its request was taken up (RFC 2326 section 10.12). Until
+/// report, at or after what was due when its request was processed (RFC 2326 section 10.12). Until
 /// what is due reaches that boundary, the reply waits.
 pub fn law_replies_at_next_boundary()
     ensures { (course : Course) → AreSentAt (greatest_slot course.rounds) (course_plays course)
         (slots_from 0 course.rounds) (course_texts course) }
 {}
 
-/// The requests in a connection's input are taken up in order. After each event so were all that
+/// The requests in a connection's input are processed in order. After each event so were all that
 /// are whole, unless an earlier reply waits or the 200 of a TEARDOWN was sent.
 pub fn law_requests_processed_in_order()
     ensures { (beginning : Beginning) (cutting : InputSplit beginning) → AreTaken beginning cutting }
 {}
 
 /// A connection's course is one of those of which the laws on cuttings speak, with the last event
-/// where an element ended it, and so is each front of it.
+/// where an element ended it, and so is each prefix of it.
 pub fn law_courses_are_input_splits()
     ensures all { (old new : Stage) (rounds : List Round) → RunsAll old rounds new
         → TakesUp old rounds new }
@@ -116,9 +116,9 @@ pub fn law_output_ignores_segmentation()
         → AllLackMemoryAlike (one ++ more) (other ++ further) → AllLackMemoryAlike one other }
 {}
 
-/// Where a send fails, all is sent that the course sent up to there, and a front of what it sends
-/// after the last event: where that was a slot, with no request taken up after it; and where it was
-/// the reply to a request, with those alone that were taken up before.
+/// Where a send fails, all is sent that the course sent up to there, and a prefix of what it sends
+/// after the last event: where that was a slot, with no request processed after it; and where it
+/// was the reply to a request, with those alone that were processed before.
 pub fn law_failed_send_leaves_prefix()
     ensures slot { (course : Course) (slot : ℕ) (front : List ℕ) (new : Stage)
         → HasFailedInSlot course.last slot front new

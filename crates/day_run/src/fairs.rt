@@ -178,7 +178,7 @@ fn law_entries_other(place: u64)
     ensures { (entries : List Entry) → is_full_line (journal_text place entries) ≡ false }
 {}
 
-/// Whether it is told that the journal is full.
+/// Whether the answer is that the journal is full.
 fn is_full(told: LineAnswer) -> bool
     ensures { (entries : List Entry) → is_full_line (reply_text entries told) ≡ result }
 {
@@ -193,7 +193,7 @@ fn is_full(told: LineAnswer) -> bool
     }
 }
 
-/// Whether a client was told that the journal is full.
+/// Whether a client is answered that the journal is full.
 fn is_refused(told: Option<LineAnswer>) -> bool
     ensures { (entries : List Entry) → is_full_line (said_text entries told) ≡ result }
 {

@@ -82,7 +82,7 @@ fn print_entries(book: &Book, from: usize, text: &mut Vec<u8>) -> Result<(), NoM
     journal_text(from, entries, text)
 }
 
-/// Prints what a client was told.
+/// Prints what a client is answered.
 fn print_answer(book: &Book, told: LineAnswer, text: &mut Vec<u8>) -> Result<(), NoMemory>
     ensures { OnOk result (text.new.items ≡ text.old.items ++ reply_text book.now.entries told) }
 {

@@ -68,7 +68,7 @@ pub fn law_frame_and_report_sizes_are_exact()
         (take (end_unit - first_unit) (drop first_unit film.units.items)))) }
 {}
 
-/// A run of fewer units is a front of a run: its pieces are the first ones.
+/// A run of fewer units is a prefix of a run: its pieces are the first ones.
 pub fn law_shorter_run_is_a_prefix()
     ensures { (film : Film) (first_unit mid_unit end_unit : ℕ) (identity : Identity)
         → mid_unit ≤ end_unit

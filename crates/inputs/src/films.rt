@@ -34,9 +34,8 @@ const MAX_HELD_BYTES: u64 = 1 << 30;
 ///
 /// [`CliError::Refused`] with [`InputError::NotFound`] where there is no such file, with
 /// [`InputError::FilmTooLarge`] where it has more bytes, and with [`InputError::System`] or
-/// [`InputError::Film`]
-/// where its stream or its video is refused; [`CliError::StoreFault`] where the library fails; and
-/// [`CliError::NoMemory`].
+/// [`InputError::Film`] where its stream or its video is refused; [`CliError::StoreFault`] where
+/// the library fails; and [`CliError::NoMemory`].
 pub fn load_film<'a, L: Library>(
     alloc: Global,
     library: &mut L,

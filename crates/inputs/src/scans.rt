@@ -18,7 +18,7 @@ use mpeg_scan::{Ending, FilmFault, Found, MAX_FILM_BYTES, ScanRefused, Scanner};
 use std::alloc::Global;
 use vod_base::Library;
 
-/// The trouble with the film of that name, where its scan is refused.
+/// The error of the film of that name, where its scan is refused.
 pub(crate) fn scan_error<'a>(name: &'a str, refused: ScanRefused) -> CliError<'a>
     ensures { IsFilmError name.entry.now (λ fault. refused ≡ ScanFault fault) result }
 {

@@ -68,7 +68,7 @@ pub(crate) fn move_fault(place: u64, fault: SystemFault) -> SystemFault
     }
 }
 
-/// The trouble with a file whose system stream begins at `from`, where the stream is refused.
+/// The error of a file whose system stream begins at `from`, where the stream is refused.
 pub(crate) fn stream_error<'a>(name: &'a str, from: u64, refused: StreamError) -> CliError<'a>
     ensures { IsSystemError name.entry.now (IsToldFault from refused) result }
 {

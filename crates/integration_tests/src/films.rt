@@ -16,7 +16,7 @@ use vod_base::{NoMemory, good_name};
 const FILM_B: &str = "000001b316012013ffffe0a0 000001b800080040 00000100000ffff8 000001011234 \
                       000001000057fff880 000001011234";
 
-/// A film under a name. One that is refused is answered as want of memory is, each time.
+/// A film under a name. One that is refused is answered as out of memory is, each time.
 fn stored(alloc: Global, name: &str, bytes: Vec<u8>) -> Result<Stored, NoMemory> {
     let Ok(film) = scan(alloc, bytes) else {
         return Err(NoMemory);

@@ -34,7 +34,7 @@ pub(crate) struct Failing<'a> {
     pub(crate) nexts: &'a [u64],
 }
 
-/// Whether a reply tells want of memory.
+/// Whether a reply tells out of memory.
 fn has_refusal(sent: &[u8]) -> bool {
     sent.windows(13)
         .any(|part| part == b"RTSP/1.0 500 ".as_slice())
@@ -138,7 +138,7 @@ impl Visit {
         Ok(())
     }
 
-    /// Takes up a line on what was sent.
+    /// Processes a line on what was sent.
     fn check<R: Abort>(
         &mut self,
         rt: &R,
@@ -166,7 +166,7 @@ impl Visit {
         Ok(true)
     }
 
-    /// Takes up a script's line.
+    /// Processes a script's line.
     fn take<R: Wait + Abort>(
         &mut self,
         rt: &R,

@@ -11,7 +11,7 @@ use std::process::Abort;
 use std::test::Fail;
 use vod_base::{MemoryLibrary, NoMemory};
 
-/// What the scanner told.
+/// What the scanner reported.
 #[derive(Clone, Copy, Debug, PartialEq, Eq)]
 enum Told {
     Head(u64, u64),
@@ -19,7 +19,7 @@ enum Told {
     Unit(Unit),
 }
 
-/// All that the scanner told, in order.
+/// All that the scanner reported, in order.
 #[derive(Drop)]
 struct Listener {
     told: Vec<Told>,

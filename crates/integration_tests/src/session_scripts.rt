@@ -200,7 +200,7 @@ impl<'a> Talk<'a> {
         Ok(())
     }
 
-    /// Hears a request. Where it is answered 500 for want of memory it is heard once more: the
+    /// Hears a request. Where it is answered 500 because memory ran out it is heard once more: the
     /// answer is what it would have been.
     fn hear<R: Abort>(
         &mut self,
@@ -268,7 +268,7 @@ impl<'a> Talk<'a> {
         Ok(())
     }
 
-    /// Takes up a script's line.
+    /// Processes a script's line.
     fn take<R: Abort>(
         &mut self,
         rt: &R,

@@ -50,7 +50,7 @@ pub fn law_elements_of_pieces_concatenate()
         → AreInputElements (heard ++ later) (elements ++ more) end }
 {}
 
-/// Two cuts of one stream agree: the elements of one are a front of the other's, which cuts the
+/// Two cuts of one stream agree: the elements of one are a prefix of the other's, which cuts the
 /// rest of the one further.
 pub fn law_any_two_splits_share_a_prefix()
     ensures { (heard : List ℕ) (one other : List (List ℕ)) (rest end : List ℕ)

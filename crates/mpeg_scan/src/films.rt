@@ -47,8 +47,7 @@ impl Film {
 /// # Errors
 ///
 /// [`ScanRefused::Fault`] with the film's refusal, the one that `law_refusals_match_the_standard`
-/// tells of;
-/// [`ScanRefused::NoMemory`] where there is none for its units and slices.
+/// tells of; [`ScanRefused::NoMemory`] where there is none for its units and slices.
 pub fn scan(alloc: Global, bytes: Vec<u8>) -> Result<Film, ScanRefused>
     ensures film { IfOk result (λ film. film.bytes.items ≡ bytes.items) }
     ensures grammatical { IfOk result (λ film. IsGrammatical (read_after [] film.bytes.items)) }

@@ -48,8 +48,8 @@ impl Scanner {
     /// # Errors
     ///
     /// [`ScanRefused::Fault`] where a code is refused, once all that ends before that code was
-    /// told; [`ScanRefused::NoMemory`] where `found` wants memory. Once it has answered either, it
-    /// answers the same again.
+    /// told; [`ScanRefused::NoMemory`] where `found` runs out of memory. Once it has answered
+    /// either, it answers the same again.
     pub fn feed<F: Found>(&mut self, chunk: &[u8], found: &mut F) -> Result<(), ScanRefused>
         requires short { bytes_fed self.old + length chunk.now ≤ 2 ^ 40 }
         requires ready { IsSliceReady (F.ready_at found.old) self.old }
@@ -88,7 +88,7 @@ impl Scanner {
     /// # Errors
     ///
     /// What `feed` has answered before; else [`ScanRefused::Fault`] with the refusal of the film's
-    /// end, where nothing is told, or [`ScanRefused::NoMemory`] where `found` wants memory.
+    /// end, where nothing is told, or [`ScanRefused::NoMemory`] where `found` runs out of memory.
     pub fn finish<F: Found>(self, found: &mut F) -> Result<Ending, ScanRefused>
         requires { IsSliceReady (F.ready_at found.old) self }
         ensures ended { IfOk result (λ e. (r : List ℕ) → HasScannedBytes self r
@@ -121,7 +121,7 @@ impl Scanner {
     }
 }
 
-/// What a whole film has besides its units.
+/// What a whole film has in addition to its units.
 #[derive(Clone, Copy, Debug, PartialEq, Eq)]
 pub struct Ending {
     /// The rate code of its first sequence header, from 1 to 8.

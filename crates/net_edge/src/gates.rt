@@ -51,7 +51,7 @@ impl<'a, R: Net<Listener = TcpListener, Stream = TcpStream> + Clock> TcpGate<'a,
     }
 
     /// The next connection that can be set up, or None where all were given. One that can't be, for
-    /// want of memory or of a file descriptor, is closed: it is the loss of one, not of a worker.
+    /// out of memory or of a file descriptor, is closed: it is the loss of one, not of a worker.
     fn next_link(&mut self) -> io::Result<Option<TcpLink<'a, R>>>
         ensures faults { self.new.faults ≡ self.old.faults }
         ensures fresh { IfOk result (λ next. IfSome next (λ link. link.faults.count ≡ 0)) }

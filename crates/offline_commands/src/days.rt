@@ -37,8 +37,7 @@ use vod_base::{Library, NoMemory};
 ///
 /// [`CliError::Refused`] with [`InputError::NotFound`] where there is no such file, and with
 /// [`InputError::BadScript`] and the first bad line where it is no script; [`CliError::StoreFault`]
-/// where
-/// the library fails; and [`CliError::NoMemory`].
+/// where the library fails; and [`CliError::NoMemory`].
 pub fn load_script<'a, L: Library>(
     alloc: Global,
     library: &mut L,

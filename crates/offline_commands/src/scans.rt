@@ -41,7 +41,7 @@ pub fn list_units<'a, L: Library>(
     )
 }
 
-/// A law: a film that a library holds has one scan, and isn't refused besides.
+/// A law: a film that a library holds has one scan, and is not refused as well.
 pub fn law_scan_is_unique()
     ensures once { (held : List File) (film text text' : List ℕ) → IsScanned held film text →
         IsScanned held film text' → text ≡ text' }

@@ -152,7 +152,7 @@ impl<T: Track> Pacer<T> {
     ///
     /// [`LinkFault`] only where the link's count of faults rose. What is due was raised; `sent`
     /// counts the bytes of the sends that succeeded, also of a frame's heads where the send of its
-    /// payload failed. What the failed one brought out after them is a front of one send: of one
+    /// payload failed. What the failed one brought out after them is a prefix of one send: of one
     /// report, or of the heads or the payload of one frame.
     pub fn step<K: Link>(
         &mut self,

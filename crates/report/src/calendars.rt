@@ -14,7 +14,7 @@ use vod_base::{NoMemory, push, push_field};
 ///
 /// # Errors
 ///
-/// After [`NoMemory`] a front of the text was appended.
+/// After [`NoMemory`] a prefix of the text was appended.
 pub fn calendar_text(calendar: &Calendar, out: &mut Vec<u8>) -> Result<(), NoMemory>
     ensures { IsAppended out.old.items
         (calendar_text calendar.now.first (booked_at calendar.now)) out.new.items result }

@@ -16,7 +16,7 @@ use vod_base::{NoMemory, push, push_field, push_number};
 ///
 /// # Errors
 ///
-/// After [`NoMemory`] a front of the line was appended.
+/// After [`NoMemory`] a prefix of the line was appended.
 pub fn entry_line(place: u64, entry: &Entry, out: &mut Vec<u8>) -> Result<(), NoMemory>
     requires { IsOfKind entry.now.command entry.now.answer }
     ensures { IsAppended out.old.items (entry_line place entry.now) out.new.items result }

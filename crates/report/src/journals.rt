@@ -14,7 +14,7 @@ use vod_base::NoMemory;
 ///
 /// # Errors
 ///
-/// After [`NoMemory`] a front of the text was appended.
+/// After [`NoMemory`] a prefix of the text was appended.
 pub fn journal_text(from: usize, entries: &[Entry], out: &mut Vec<u8>) -> Result<(), NoMemory>
     requires { AreOfKind entries.now }
     ensures { IsAppended out.old.items (journal_text from (drop from entries.now)) out.new.items

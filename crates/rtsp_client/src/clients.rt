@@ -68,7 +68,7 @@ impl Client {
         Ok(())
     }
 
-    /// Takes up an event. The bytes that came stand in front of `bytes`.
+    /// Processes an event. The bytes that came stand in front of `bytes`.
     ///
     /// Breaks with how it ended the watching, where it did.
     pub(crate) fn hear<K: Link, O: Sink>(
@@ -115,7 +115,7 @@ impl Client {
         }
     }
 
-    /// Takes up the whole elements that wait.
+    /// Processes the whole elements that wait.
     fn process_input<K: Link, O: Sink>(
         &mut self,
         wish: &Wish,
@@ -145,7 +145,7 @@ impl Client {
         }
     }
 
-    /// Takes up the element in front, and answers whether one was whole.
+    /// Processes the element in front, and answers whether one was whole.
     fn process_next<K: Link, O: Sink>(
         &mut self,
         wish: &Wish,
@@ -191,7 +191,7 @@ impl Client {
         }
     }
 
-    /// Takes up the block in front, which stays there.
+    /// Processes the block in front, which stays there.
     fn take_block<K: Link, O: Sink>(
         &mut self,
         wish: &Wish,
@@ -226,7 +226,7 @@ impl Client {
         }
     }
 
-    /// Takes up the frame in front: hands its payload on, and sends TEARDOWN once all pictures are
+    /// Processes the frame in front: hands its payload on, and sends TEARDOWN once all pictures are
     /// whole.
     fn take_frame<K: Link, O: Sink>(
         &mut self,
@@ -308,7 +308,7 @@ impl Client {
         reply_code(message, self.replies() + 1)
     }
 
-    /// Takes up the reply in front, which stays there.
+    /// Processes the reply in front, which stays there.
     fn take_reply<K: Link>(
         &mut self,
         wish: &Wish,
@@ -340,7 +340,7 @@ impl Client {
         }
     }
 
-    /// Takes up the reply to SETUP in front, and asks for PLAY.
+    /// Processes the reply to SETUP in front, and asks for PLAY.
     fn take_setup<K: Link>(
         &mut self,
         wish: &Wish,
@@ -368,7 +368,7 @@ impl Client {
         Ok(())
     }
 
-    /// Takes up the reply to PLAY in front.
+    /// Processes the reply to PLAY in front.
     fn take_play(&mut self, wish: &Wish, length: usize) -> Result<(), WatchEnd>
         requires second { replies_in self.old ≡ 1 }
         requires message { IsFirst self.old.input (Ok (Request length)) }

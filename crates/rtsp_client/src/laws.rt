@@ -20,8 +20,8 @@ ghost use Rattle.rtsp_client.specs.declared.watch_request.Wish.{Wish};
 use film_frames::laws::law_payloads_are_film_bytes;
 
 /// A watching has one answer. Where the client heard it, the events that were heard decide it, and
-/// what was sent and handed on too. No front of these events has another answer, so the first cause
-/// in the order of the events is the one that is answered.
+/// what was sent and handed on too. No prefix of these events has another answer, so the first
+/// cause in the order of the events is the one that is answered.
 pub fn law_events_decide_watch_result()
     ensures { (wish : Wish) (told later : List IoEvent) (out : Option (List ℕ))
         (one other : WatchOutcome) → IsOutcome wish told out one → IsOutcome wish told out other →

@@ -343,7 +343,7 @@ struct WatchOutcome {
 /// The numbers of the calls that fail: sends, calls of `next`, and writes.
 type Failing = (&'static [u64], &'static [u64], &'static [u64]);
 
-/// Watches the film over a link that gives these events, where these calls of the outside fail.
+/// Watches the film over a link that gives these events, where these calls of the environment fail.
 fn watch_events(
     alloc: Global,
     buffer: u64,

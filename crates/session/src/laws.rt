@@ -105,12 +105,11 @@ pub fn law_states_follow_rfc_2326()
         StaysOr PlayingStage ReadyStage old (after_halt old place) }
 {}
 
-/// A request changes neither the films, the settings, what was sent before, the heard slot, nor
-/// the notes of plays.
-/// What a SETUP settles is in its ranges (RFC 2326 section 10.4). A PLAY asks for the run that its
-/// Range means, or the paused one, with the plan that is taken for it. A PAUSE and a TEARDOWN in
-/// Playing ask for a halt that keeps what is sent up to the end of the frame or report in hand; no
-/// other request leaves one waiting.
+/// A request changes neither the films, the settings, what was sent before, the heard slot, nor the
+/// notes of plays. What a SETUP settles is in its ranges (RFC 2326 section 10.4). A PLAY asks for
+/// the run that its Range means, or the paused one, with the plan that is taken for it. A PAUSE and
+/// a TEARDOWN in Playing ask for a halt that keeps what is sent up to the end of the frame or
+/// report in hand; no other request leaves one waiting.
 pub fn law_request_effects_are_bounded()
     ensures ground { (old new : SessionState) (message : List ℕ) (ask : Ask) →
         Hears old message ask new → IsSameContext old new }
@@ -121,7 +120,7 @@ pub fn law_request_effects_are_bounded()
 {}
 
 /// No reply of the session's own is 453 or 503. A PLAY to which no refusal applies asks the station
-/// for its play, or is answered 500 for want of memory.
+/// for its play, or is answered 500 because memory ran out.
 pub fn law_valid_play_asks_the_station()
     ensures replies { (old new : SessionState) (message : List ℕ) (ask : Ask) →
         Hears old message ask new → RefusesNone ask new }

@@ -9,7 +9,7 @@ ghost use Rattle.session.specs.Laws.{Is500};
 ghost use Rattle.session.specs.LookLaws.{AsksBooked, HasLooksLeft};
 ghost use Rattle.session.specs.SessionStates.{SessionState};
 
-/// The first 1,024 looks of a connection are never refused for want of memory, whatever else
+/// The first 1,024 looks of a connection are never refused because memory ran out, whatever else
 /// happens to it.
 pub fn law_first_looks_never_lack_memory()
     ensures { (films : List Stored) (settings : Settings) (words : List ℕ) (old new : SessionState)

@@ -102,7 +102,7 @@ pub fn law_admitted_play_sends_its_run()
         (after_admission asked place start) }
 {}
 
-/// A slot is taken up where it is later than the heard one, and none above 2^62; no other changes
+/// A slot is processed where it is later than the heard one, and none above 2^62; no other changes
 /// anything.
 pub fn law_only_later_slots_are_processed()
     ensures later { (old : SessionState) (slot : ℕ) → old.heard < slot → slot ≤ 2 ^ 62 →

@@ -60,10 +60,10 @@ pub(crate) struct Asked<'m> {
     pub(crate) authority: &'m [u8],
 }
 
-/// A request that is taken up.
+/// A request that is processed.
 #[derive(Clone, Copy)]
 pub(crate) enum Task<'m> {
-    /// The methods that are spoken are told.
+    /// Lists the methods.
     Options,
     /// This film is described.
     Describe(Asked<'m>),
@@ -75,7 +75,7 @@ pub(crate) enum Task<'m> {
     Pause,
     /// The session ends.
     Teardown,
-    /// What the body asks for is told.
+    /// Answers what the body asks for.
     GetParameter,
 }
 

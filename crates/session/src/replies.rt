@@ -282,7 +282,7 @@ fn code_of(refusal: Refusal) -> u16
     }
 }
 
-/// What a refusal says besides.
+/// What a refusal says in addition.
 fn put_refusal_field(reply: &mut Reply, refusal: Refusal, option: &[u8])
     requires fits { length reply.old ≤ 75 }
     requires short { length option.now ≤ 16384 }

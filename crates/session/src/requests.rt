@@ -68,7 +68,7 @@ impl<'a> Session<'a> {
         }
     }
 
-    /// Hears a request that could be read: it is refused, or taken up by its method.
+    /// Hears a request that could be read: it is refused, or processed by its method.
     fn hear_request(&mut self, request: &Request<'_>) -> Ask
         requires hear { CanHandleRequest self.old }
         requires head { length request.now.head.now ≤ 16384 }
@@ -83,7 +83,7 @@ impl<'a> Session<'a> {
         }
     }
 
-    /// Takes up a request by its method.
+    /// Processes a request by its method.
     fn process_task(&mut self, request: &Request<'_>, task: Task<'_>) -> Ask
         requires hear { CanHandleRequest self.old }
         requires task { IsTask (length self.old.films) self.old.state task }

@@ -25,7 +25,7 @@ use std::mem;
 use vod_base::{Link, LinkFault};
 
 impl<'a> Session<'a> {
-    /// Takes up a slot, if it is a later one than the last and none above 2^62, and sends what is
+    /// Processes a slot, if it is a later one than the last and none above 2^62, and sends what is
     /// due in it. A waiting reply goes out at the first boundary that is reached.
     ///
     /// # Errors

@@ -1,4 +1,4 @@
-//! Threads that ask at one station side by side, and the refusals that a seat is told.
+//! Threads that ask at one station side by side, and the refusals that a seat receives.
 
 ghost use Rattle.std.specs.Prelude.{◌≡◌, ◌≤◌, [], ◌∷◌};
 ghost use Rattle.plan_cert.specs.PlanSlots.{total_bytes};

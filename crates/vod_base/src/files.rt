@@ -9,7 +9,7 @@ use crate::errors::StoreFault;
 /// Named files that can be read at places.
 ///
 /// A library counts its faults, and a call answers a fault only where the count rose in that call.
-/// What it holds may be told to contracts: in memory it is, over a real folder it isn't.
+/// What it holds may be exposed to contracts: in memory it is, over a real folder it isn't.
 pub trait Library {
     ghost faults: { Self → ℕ };
 

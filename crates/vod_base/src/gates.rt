@@ -28,7 +28,7 @@ pub struct Opening {
 /// Where connections come from. It is opened and split into parts, and each part gives connections.
 ///
 /// A gate counts its faults as a library does; a part begins with the count 0. What it did may be
-/// told to contracts.
+/// exposed to contracts.
 pub trait Gate: Sized {
     type Conn: Link;
 

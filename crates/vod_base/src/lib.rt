@@ -1,5 +1,5 @@
-//! What `vodserve` stands on: the outside as traits with a written meaning, objects in memory that
-//! keep it, and the few words and numbers that every input is read by.
+//! What `vodserve` stands on: the environment as traits with a written meaning, objects in memory
+//! that keep it, and the few words and numbers that every input is read by.
 #![tactic(auto)]
 
 mod appends;

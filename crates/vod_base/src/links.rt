@@ -30,8 +30,8 @@ pub enum Heard {
 
 /// A connection: bytes come and go, and slots begin.
 ///
-/// A link counts its faults as a library does. What it did may be told to contracts, as one list in
-/// order: the events that were heard, and each byte that was sent.
+/// A link counts its faults as a library does. What it did may be exposed to contracts, as one list
+/// in order: the events that were heard, and each byte that was sent.
 pub trait Link {
     ghost faults: { Self → ℕ };
 

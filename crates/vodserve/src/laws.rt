@@ -63,7 +63,7 @@ pub fn law_plan_is_unique()
 {}
 
 /// A law: a certificate of a trace or film that a library holds has one verdict, a status and a
-/// line, and neither of the two is refused besides.
+/// line, and neither of the two is refused.
 pub fn law_verdict_is_unique()
     ensures once { (held : List File) (viewer : ClientParams) (cert : List ℕ) (status status' : ℕ)
         (text text' : List ℕ) → IsChecked held viewer cert status text →

@@ -62,9 +62,9 @@ where
     run(rt, rt.alloc(), words, &mut library, out, err, gate, seed).status
 }
 
-/// Carries out the words of the command line, over a gate of the kind that they ask for: a client
-/// makes a connection where a server waits for them. The gate fails where there are no random
-/// bytes, from which the identities of a server's connections are drawn.
+/// Carries out the arguments of the command line, over a gate of the kind that they ask for: a
+/// client makes a connection where a server waits for them. The gate fails where there are no
+/// random bytes, from which the identities of a server's connections are drawn.
 fn main(rt: HostRuntime) -> ExitCode {
     let mut out = OutSink::new(rt.stdout());
     let mut err = OutSink::new(rt.stderr());

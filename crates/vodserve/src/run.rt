@@ -24,13 +24,13 @@ use std::sync::Wait;
 use std::thread::Threads;
 use vod_base::{Gate, Library, Sink};
 
-/// Carries out the words of the command line, which come without the program's name.
+/// Carries out the arguments of the command line, which come without the program's name.
 ///
-/// Each command's text goes to `out` when all of it is known, and a trouble's line to `err`. With
-/// the statuses 2, 3 and 4 nothing is written to `out`, with 5 a front of the text. With 6 and 7
-/// nothing is written either, unless `serve` ran its workers: then with 6 a front of its text, and
+/// Each command's text goes to `out` when all of it is known, and an error's line to `err`. With
+/// the statuses 2, 3 and 4 nothing is written to `out`, with 5 a prefix of the text. With 6 and 7
+/// nothing is written either, unless `serve` ran its workers: then with 6 a prefix of its text, and
 /// with 7 all of it. But `watch` writes the film's bytes to `out` as they come, so that those which
-/// came before a trouble stand there, with the statuses 3, 6 and 8 too; at the film's end it says
+/// came before an error stand there, with the statuses 3, 6 and 8 too; at the film's end it says
 /// one line on `err`. A fault of `err` changes no status. `serve` takes its connections from
 /// `gate`, and draws their identities from `seed`; `watch` makes its one connection by `gate`. What
 /// each command did is told by its own definition, below `RunSpec` in `specs/Run.antt`.

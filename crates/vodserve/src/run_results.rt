@@ -17,7 +17,7 @@ use vod_base::Sink;
 #[derive(Debug, Drop)]
 pub struct Ended {
     /// The exit status: 0 done, 1 a certificate was refused, 2 the words mean nothing, 3 an input
-    /// is refused, 4 the library failed, 5 the output failed, 6 want of memory, 7 the gate failed,
+    /// is refused, 4 the library failed, 5 the output failed, 6 out of memory, 7 the gate failed,
     /// 8 the link to a server failed.
     pub status: u8,
     /// The plan, for `plan` with status 0.
@@ -44,7 +44,7 @@ impl Ended {
     }
 }
 
-/// Ends with a trouble: says its line, whose own faults change nothing.
+/// Ends with an error: says its line, whose own faults change nothing.
 pub(crate) fn end_with<E: Sink>(alloc: Global, err: &mut E, error: CliError<'_>) -> Ended
     requires { HasGoodName error }
     ensures fails { FailsWith

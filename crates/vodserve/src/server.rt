@@ -140,7 +140,7 @@ where
     let mut reports = Vec::new(alloc);
     let count = serving.listening.workers;
     if let Err(error) = make_workers(alloc, &station, &mut seat, gate, count, &mut workers) {
-        // what was made goes back to its station and its gate before the trouble is answered
+        // what was made goes back to its station and its gate before the error is answered
         let _ = join_workers(&station, &mut seat, gate, workers, &mut reports);
         return Err(error);
     }

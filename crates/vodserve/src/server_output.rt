@@ -50,7 +50,7 @@ pub(crate) fn end_server<O: Sink, E: Sink>(
 ///
 /// # Errors
 ///
-/// What went wrong: want of memory, here or in a worker, before a fault of the output before one of
+/// What went wrong: out of memory, here or in a worker, before a fault of the output before one of
 /// the gate.
 fn print_served<O: Sink>(
     alloc: Global,

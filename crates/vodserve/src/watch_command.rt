@@ -89,7 +89,7 @@ fn wish_of(alloc: Global, watching: &WatchArgs<'_>) -> Result<Wish, NoMemory>
 ///
 /// # Errors
 ///
-/// [`SinkFault`] where a write fails: then a front of the line stands there.
+/// [`SinkFault`] where a write fails: then a prefix of the line stands there.
 fn write_watched<E: Sink>(err: &mut E, watched: Watched) -> Result<(), SinkFault>
     ensures said { IsTextWritten (E.faults err.old) (E.faults err.new) (E.written err.old)
         (E.written err.new) (watched_text watched) (is_ok result) }

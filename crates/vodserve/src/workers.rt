@@ -43,7 +43,7 @@ pub(crate) struct Service<'a> {
     pub(crate) seed: [u8; 32],
 }
 
-/// Makes workers, each with a part of the gate and a seat. After a trouble there are those that
+/// Makes workers, each with a part of the gate and a seat. After an error there are those that
 /// were made before it.
 pub(crate) fn make_workers<G: Gate + Drop>(
     alloc: Global,
@@ -122,7 +122,7 @@ where
 }
 
 /// Joins the workers' seats and parts, collects their reports in the order of the workers, and
-/// answers the worst of their ends, or want of memory where there was none for the reports.
+/// answers the worst of their ends, or out of memory where there was none for the reports.
 pub(crate) fn join_workers<G: Gate + Drop>(
     station: &Station,
     seat: &mut Seat,
@@ -183,7 +183,7 @@ fn work<R: Wait, G: Gate>(rt: &R, alloc: Global, service: Service<'_>, worker: &
     );
 }
 
-/// The worse of two ends: want of memory before a fault of the gate.
+/// The worse of two ends: out of memory before a fault of the gate.
 fn worse_end(one: PartEnd, other: PartEnd) -> PartEnd
     ensures { IsWorse one other result }
 {
@@ -194,7 +194,7 @@ fn worse_end(one: PartEnd, other: PartEnd) -> PartEnd
     }
 }
 
-/// Appends a worker's reports, and answers the worse of its end and of another, or want of memory
+/// Appends a worker's reports, and answers the worse of its end and of another, or out of memory
 /// where there was none for the reports.
 fn add_reports(end: PartEnd, report: PartReport, reports: &mut Vec<ConnReport>) -> PartEnd
     ensures left { (parts : List PartReport) → AreLeft parts end reports.old.items →

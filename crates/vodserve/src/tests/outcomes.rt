@@ -36,7 +36,7 @@ fn contains(bytes: &[u8], text: &[u8]) -> bool {
     text.is_empty() || bytes.windows(text.len()).any(|part| part == text)
 }
 
-/// Whether a link that sent this told want of memory.
+/// Whether a link that sent this told out of memory.
 fn is_refused(sent: &[u8]) -> bool {
     contains(sent, b"RTSP/1.0 500 ")
 }
@@ -55,7 +55,7 @@ fn all_halted(journal: &[Entry]) -> bool {
     admitted == halted
 }
 
-/// Whether a connection ended for want of memory, which changes no status.
+/// Whether a connection ended because memory ran out, which changes no status.
 fn lacked_memory(reports: &[ConnReport]) -> bool {
     reports.iter().any(|report| report.end == ConnEnd::NoMemory)
 }
@@ -165,7 +165,7 @@ impl Outcome {
         Ok(film)
     }
 
-    /// Takes up a line on what the run left, over these files.
+    /// Processes a line on what the run left, over these files.
     pub(crate) fn check<R: Abort>(
         &mut self,
         rt: &R,
@@ -203,7 +203,7 @@ impl Outcome {
         Ok(())
     }
 
-    /// Takes up a line on what was sent, or on a status and its text.
+    /// Processes a line on what was sent, or on a status and its text.
     fn check_sent<R: Abort>(
         &mut self,
         rt: &R,
