@@ -21,7 +21,7 @@ use vod_base::{Library, NoMemory};
 #[derive(Clone, Copy, Debug)]
 pub(crate) enum StreamError {
     /// They are no system stream; the place counts from the stream's first byte.
-    InputError(SystemFault),
+    Fault(SystemFault),
     /// Want of memory.
     NoMemory,
 }

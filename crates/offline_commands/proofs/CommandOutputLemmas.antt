@@ -11,7 +11,7 @@ use Rattle.cert_check.specs.declared.CertFault.{CertFault}
 use Rattle.mpeg_scan.specs.declared.units.Unit.{Unit as PictureUnit}
 use Rattle.inputs.specs.ChunkScans.{HoldsFilm}
 use Rattle.offline_commands.specs.ScanText.{scan_text}
-use Rattle.command_text.specs.Words.{ClientParams}
+use Rattle.cli_args.specs.Invocations.{ClientParams}
 use Rattle.offline_commands.specs.OfflineCommands.{IsScanned}
 use Rattle.offline_commands.specs.Plans.{HasCurves, IsChecked, IsVerdict}
 use Rattle.offline_commands.specs.VerdictText.{cert_fault_text}

@@ -1,14 +1,14 @@
 -- What `--help` tells, found in its text.
 use Rattle.std.proofs.Common.{◌≡◌, true, refl}
 use Rattle.std.specs.List.{list_all}
-use Rattle.command_text.specs.Commands.{keys_of}
-use Rattle.command_text.specs.Forms.{defaults}
-use Rattle.command_text.specs.Spelling.{name_of}
-use Rattle.command_text.specs.Words.{Invocation, help, version, plan_of, check_of, scan_of, make_of}
-use Rattle.command_text.specs.Words.{day_of, fair_of, serve_of, watch_of}
-use Rattle.command_text.specs.declared.commands.Subcommand.{Subcommand}
-use Rattle.command_text.specs.declared.commands.Subcommand.TheVariants.{Plan, Check, Scan, Make, Day, Fair, Serve}
-use Rattle.command_text.specs.declared.commands.Subcommand.TheVariants.{Watch}
+use Rattle.cli_args.specs.Subcommands.{keys_of}
+use Rattle.cli_args.specs.ArgumentSyntax.{defaults}
+use Rattle.cli_args.specs.ArgumentText.{name_of}
+use Rattle.cli_args.specs.Invocations.{Invocation, help, version, plan_of, check_of, scan_of, make_of}
+use Rattle.cli_args.specs.Invocations.{day_of, fair_of, serve_of, watch_of}
+use Rattle.cli_args.specs.declared.subcommands.Subcommand.{Subcommand}
+use Rattle.cli_args.specs.declared.subcommands.Subcommand.TheVariants.{Plan, Check, Scan, Make, Day, Fair, Serve}
+use Rattle.cli_args.specs.declared.subcommands.Subcommand.TheVariants.{Watch}
 use Rattle.offline_commands.specs.HelpLaws.{fits_into, shows_command, shows_default, shows_key}
 use Rattle.offline_commands.specs.HelpText.{help_text}
 

@@ -3,8 +3,8 @@ use Rattle.std.proofs.Common.{◌≡◌, ℕ, zero, suc, ◌≤◌, List, sym, s
 use Rattle.mpeg_scan.specs.PictureRates.{picture_time}
 use Rattle.wire_curve.specs.FilmCurves.{IsWithinLimits}
 use Rattle.inputs.specs.WireSizes.{AreSizesWithin}
-use Rattle.command_text.specs.Words.{ClientParams}
-use Rattle.command_text.specs.Spelling.{IsValidBuffer, IsValidSlot, IsValidDelay}
+use Rattle.cli_args.specs.Invocations.{ClientParams}
+use Rattle.cli_args.specs.ArgumentText.{IsValidBuffer, IsValidSlot, IsValidDelay}
 use Rattle.offline_commands.specs.Pictures.{MayHaveCurves}
 use Rattle.offline_commands.specs.Plans.{Pictures, timing_of}
 

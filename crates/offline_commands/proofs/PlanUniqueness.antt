@@ -25,7 +25,7 @@ use Rattle.inputs.specs.WireSizes.{sizes_of}
 use Rattle.inputs.specs.Traces.{Token, tokens_from, WriteSizes, IsTraceText, IsBadTraceText}
 use Rattle.inputs.proofs.ReadLemmas.{one_file}
 use Rattle.inputs.proofs.VideoLemmas.{held_not_refused, held_once}
-use Rattle.command_text.specs.Words.{Source, trace_source, film_source, ClientParams}
+use Rattle.cli_args.specs.Invocations.{Source, trace_source, film_source, ClientParams}
 use Rattle.offline_commands.specs.OfflineCommands.{IsScanned}
 use Rattle.offline_commands.specs.Plans.{ArePictures, HasCurves, HoldsTrace, IsPlanned}
 use Rattle.offline_commands.specs.Plans.{IsSourceRefused, IsTraceRefused, IsPlanRefused, Pictures}

@@ -13,10 +13,10 @@ use Rattle.std.proofs.lemmas.List.Elements.{All-cons, All-head, All-nil, All-tai
 use Rattle.std.specs.Option.{option_to_list}
 use Rattle.std.proofs.lemmas.List.Splits.{slice_split_at}
 use Rattle.plan_cert.proofs.DecimalLemmas.{not_in_decimal}
-use Rattle.command_text.specs.Settings.{setting_value, values_of}
-use Rattle.command_text.specs.Spelling.{Setting, number_setting, setting_text}
-use Rattle.command_text.proofs.SettingLemmas.{are_plain, picked, values_read}
-use Rattle.command_text.proofs.WordLemmas.{values_of-append}
+use Rattle.cli_args.specs.Settings.{setting_value, values_of}
+use Rattle.cli_args.specs.ArgumentText.{Setting, number_setting, setting_text}
+use Rattle.cli_args.proofs.SettingLemmas.{are_plain, picked, values_read}
+use Rattle.cli_args.proofs.KeyValueLemmas.{values_of-append}
 use Rattle.vod_base.proofs.SplitLemmas.{none_is}
 use Rattle.cli_errors.proofs.NumberTextLemmas.{HasNo}
 use Rattle.mpeg_scan.specs.declared.units.Kind.{Kind}

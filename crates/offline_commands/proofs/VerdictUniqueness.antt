@@ -13,7 +13,7 @@ use Rattle.cert_check.specs.declared.CertFault.TheVariants.{EmptySegment, WrongL
 use Rattle.cert_check.specs.declared.CertFault.TheVariants.{BelowLow, AboveUp, EqualSlopes}
 use Rattle.cert_check.specs.declared.CertFault.TheVariants.{RiseOffUpper, FallOffLower}
 use Rattle.inputs.proofs.ReadLemmas.{one_file}
-use Rattle.command_text.specs.Words.{ClientParams, check_of}
+use Rattle.cli_args.specs.Invocations.{ClientParams, check_of}
 use Rattle.cli_errors.specs.declared.errors.InputError.{InputError}
 use Rattle.cli_errors.specs.declared.errors.InputError.TheVariants.{BadCert}
 use Rattle.offline_commands.specs.OfflineCommands.{IsInputRefused}

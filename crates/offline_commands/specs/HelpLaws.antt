@@ -2,7 +2,7 @@
 use Rattle.std.specs.Prelude.{ℕ, Bool, true, false, ◌==◌, ◌&&◌, ◌||◌, nat_le, List, [], ◌∷◌, ◌++◌}
 use Rattle.std.specs.Prelude.{length, reverse, codes}
 use Rattle.std.specs.List.{list_all, list_any, slice_split}
-use Rattle.command_text.specs.Spelling.{Setting}
+use Rattle.cli_args.specs.ArgumentText.{Setting}
 
 -- a text begins with another
 abbrev pub begins_with : List ℕ → List ℕ → Bool

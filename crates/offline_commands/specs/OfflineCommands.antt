@@ -9,11 +9,11 @@ use Rattle.film_make.specs.Generator.{words_of}
 use Rattle.film_make.specs.Trace.{trace_of}
 use Rattle.film_make.specs.Film.{film_of}
 use Rattle.film_make.specs.SystemStream.{system_of}
-use Rattle.command_text.specs.Words.{Invocation, help, version, plan_of, check_of, scan_of, make_of}
-use Rattle.command_text.specs.Words.{day_of, fair_of, serve_of, watch_of}
-use Rattle.command_text.specs.Orders.{source_name}
-use Rattle.command_text.specs.declared.orders.MediaKind.{MediaKind}
-use Rattle.command_text.specs.declared.orders.MediaKind.TheVariants.{Film, Trace, System}
+use Rattle.cli_args.specs.Invocations.{Invocation, help, version, plan_of, check_of, scan_of, make_of}
+use Rattle.cli_args.specs.Invocations.{day_of, fair_of, serve_of, watch_of}
+use Rattle.cli_args.specs.InvocationViews.{source_name}
+use Rattle.cli_args.specs.declared.invocations.MediaKind.{MediaKind}
+use Rattle.cli_args.specs.declared.invocations.MediaKind.TheVariants.{Film, Trace, System}
 use Rattle.inputs.specs.LoadErrors.{IsServedFilmRefused}
 use Rattle.inputs.specs.ChunkScans.{HoldsFilm, IsFilmRefused}
 use Rattle.mpeg_scan.specs.declared.units.Unit.{Unit as PictureUnit}

@@ -17,7 +17,7 @@ use Rattle.mpeg_scan.specs.PictureRates.{picture_time}
 use Rattle.inputs.specs.FileReads.{IsMissing}
 use Rattle.inputs.specs.ChunkScans.{HoldsSizes, IsFilmRefused}
 use Rattle.inputs.specs.Traces.{IsTraceText, IsBadTraceText}
-use Rattle.command_text.specs.Words.{Source, trace_source, film_source, ClientParams}
+use Rattle.cli_args.specs.Invocations.{Source, trace_source, film_source, ClientParams}
 use Rattle.cli_errors.specs.declared.errors.InputError.{InputError}
 use Rattle.cli_errors.specs.declared.errors.InputError.TheVariants.{BadTrace, Curves, BadCert}
 use Rattle.offline_commands.specs.VerdictText.{refused_line}

@@ -6,7 +6,7 @@ use Rattle.std.specs.Str.{bytes_eq}
 use Rattle.mpeg_scan.specs.declared.units.Unit.{Unit as PictureUnit}
 use Rattle.cert_check.specs.declared.CertFault.{CertFault}
 use Rattle.cert_check.specs.CertFaults.{fault_number}
-use Rattle.command_text.specs.Settings.{values_of}
+use Rattle.cli_args.specs.Settings.{values_of}
 use Rattle.offline_commands.specs.ScanText.{kind_text}
 
 -- its number, if it has one, has 64 bits

@@ -1,9 +1,9 @@
 //! The command `check`: the verdict on a certificate.
 
 ghost use Rattle.std.specs.Prelude.{◌≡◌, ◌++◌, codes, IfOk, IfErr, OnOk};
-ghost use Rattle.command_text.specs.Words.{check_of};
-ghost use Rattle.command_text.specs.Orders.{client_params_of};
-ghost use Rattle.command_text.specs.Ranges.{IsClientInRange};
+ghost use Rattle.cli_args.specs.Invocations.{check_of};
+ghost use Rattle.cli_args.specs.InvocationViews.{client_params_of};
+ghost use Rattle.cli_args.specs.Ranges.{IsClientInRange};
 ghost use Rattle.cli_errors.specs.ReadErrors.{IsReadOnly, IsReadError};
 ghost use Rattle.offline_commands.specs.OfflineCommands.{IsOutputOf, IsInputRefused, IsRead};
 ghost use Rattle.offline_commands.specs.TextLaws.{IsShortFault};
@@ -12,8 +12,8 @@ ghost use Rattle.offline_commands.specs.VerdictText.{IsFaultText, cert_fault_tex
 use crate::command_output::{CommandOutput, output_with_text};
 use crate::curves::client_curves;
 use cert_check::{CertFault, check};
+use cli_args::ClientParams;
 use cli_errors::{CliError, InputError};
-use command_text::ClientParams;
 use inputs::read_input;
 use plan_cert::{CertRead, read_cert};
 use std::alloc::Global;

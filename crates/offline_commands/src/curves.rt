@@ -3,9 +3,9 @@
 ghost use Rattle.std.specs.Prelude.{◌≡◌, ◌≤◌, Some, List, IfOk, IfErr};
 ghost use Rattle.vod_base.specs.IoState.{File};
 ghost use Rattle.wire_curve.specs.SoundCurves.{AreSound};
-ghost use Rattle.command_text.specs.Orders.{source_name, source_read, client_params_of};
-ghost use Rattle.command_text.specs.Ranges.{IsSourceInRange, IsClientInRange};
-ghost use Rattle.command_text.specs.Spelling.{IsValidSlot};
+ghost use Rattle.cli_args.specs.InvocationViews.{source_name, source_read, client_params_of};
+ghost use Rattle.cli_args.specs.Ranges.{IsSourceInRange, IsClientInRange};
+ghost use Rattle.cli_args.specs.ArgumentText.{IsValidSlot};
 ghost use Rattle.cli_errors.specs.ReadErrors.{IsReadOnly, IsReadError};
 ghost use Rattle.inputs.specs.FileReads.{IsThatName};
 ghost use Rattle.inputs.specs.ChunkScans.{IsFilmRefused};
@@ -14,8 +14,8 @@ ghost use Rattle.offline_commands.specs.Plans.{IsSourceError, IsTraceRefused, Is
 ghost use Rattle.offline_commands.specs.Pictures.{MayHaveCurves, pictures_of};
 
 use crate::traces::load_trace;
+use cli_args::{ClientParams, Source};
 use cli_errors::{CliError, InputError};
-use command_text::{ClientParams, Source};
 use inputs::size_film;
 use mpeg_scan::picture_time;
 use std::alloc::Global;

@@ -4,7 +4,7 @@ ghost use Rattle.std.specs.Prelude.{◌≡◌, ◌≤◌, Some, List, ℕ, All, 
 ghost use Rattle.std.specs.List.{Contains};
 ghost use Rattle.vod_base.specs.IoState.{File};
 ghost use Rattle.admission.specs.Histories.{IsLegal};
-ghost use Rattle.command_text.specs.Ranges.{IsFairRunInRange, IsScriptRunInRange};
+ghost use Rattle.cli_args.specs.Ranges.{IsFairRunInRange, IsScriptRunInRange};
 ghost use Rattle.day_run.specs.DayLaws.{AreClients, IsLink};
 ghost use Rattle.day_run.specs.Days.{IsDay, link_of};
 ghost use Rattle.day_run.specs.FairDays.{IsFair};
@@ -22,8 +22,8 @@ ghost use Rattle.offline_commands.specs.Days.{IsNamedRefused, IsScriptOf, IsScri
 ghost use Rattle.offline_commands.specs.Days.{names_in};
 
 use crate::traces::load_trace;
+use cli_args::{FairRun, ScriptRun, profile_of};
 use cli_errors::{CliError, InputError};
-use command_text::{FairRun, ScriptRun, profile_of};
 use day_run::{
     Day, Named, Script, ScriptRefused, Source, SourceKind, fair, read_script, run_script,
 };

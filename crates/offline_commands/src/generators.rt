@@ -3,7 +3,7 @@
 ghost use Rattle.std.specs.Prelude.{◌≡◌, IfOk};
 ghost use Rattle.offline_commands.specs.OfflineCommands.{generated_text};
 
-use command_text::MediaKind;
+use cli_args::MediaKind;
 use film_make::{make_film, make_system, make_trace};
 use std::alloc::Global;
 use vod_base::NoMemory;

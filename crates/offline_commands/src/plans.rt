@@ -1,16 +1,16 @@
 //! The command `plan`: the smoothest plan of a trace or film, as a certificate.
 
 ghost use Rattle.std.specs.Prelude.{IfOk, IfErr};
-ghost use Rattle.command_text.specs.Words.{plan_of};
-ghost use Rattle.command_text.specs.Orders.{client_params_of};
-ghost use Rattle.command_text.specs.Ranges.{IsClientInRange};
+ghost use Rattle.cli_args.specs.Invocations.{plan_of};
+ghost use Rattle.cli_args.specs.InvocationViews.{client_params_of};
+ghost use Rattle.cli_args.specs.Ranges.{IsClientInRange};
 ghost use Rattle.cli_errors.specs.ReadErrors.{IsReadOnly, IsReadError};
 ghost use Rattle.offline_commands.specs.OfflineCommands.{IsOutputOf, IsInputRefused, IsRead};
 
 use crate::command_output::CommandOutput;
 use crate::curves::client_curves;
+use cli_args::ClientParams;
 use cli_errors::CliError;
-use command_text::ClientParams;
 use plan_cert::write_cert;
 use std::alloc::Global;
 use taut_plan::plan;

@@ -4,7 +4,7 @@ ghost use Rattle.std.specs.Prelude.{◌≡◌, ℕ, List, IfOk, IfErr};
 ghost use Rattle.vod_base.specs.IoState.{File};
 ghost use Rattle.inputs.specs.ChunkScans.{IsFilmRefused};
 ghost use Rattle.cli_errors.specs.declared.errors.InputError.{InputError};
-ghost use Rattle.command_text.specs.Words.{scan_of};
+ghost use Rattle.cli_args.specs.Invocations.{scan_of};
 ghost use Rattle.cli_errors.specs.ReadErrors.{IsReadOnly, IsReadError};
 ghost use Rattle.offline_commands.specs.OfflineCommands.{IsOutputOf, IsInputRefused, IsRead};
 ghost use Rattle.offline_commands.specs.OfflineCommands.{IsScanned};

@@ -5,11 +5,11 @@ ghost use Rattle.std.specs.Prelude.{◌≡◌, ◌≢◌, ◌<◌, ◌^◌, ℕ,
 ghost use Rattle.std.specs.List.{list_all};
 ghost use Rattle.mpeg_scan.specs.declared.units.Unit.{Unit};
 ghost use Rattle.cert_check.specs.declared.CertFault.{CertFault};
-ghost use Rattle.command_text.specs.Commands.{keys_of};
-ghost use Rattle.command_text.specs.Forms.{defaults};
-ghost use Rattle.command_text.specs.Spelling.{name_of};
-ghost use Rattle.command_text.specs.Words.{Invocation};
-ghost use Rattle.command_text.specs.declared.commands.Subcommand.{Subcommand};
+ghost use Rattle.cli_args.specs.Subcommands.{keys_of};
+ghost use Rattle.cli_args.specs.ArgumentSyntax.{defaults};
+ghost use Rattle.cli_args.specs.ArgumentText.{name_of};
+ghost use Rattle.cli_args.specs.Invocations.{Invocation};
+ghost use Rattle.cli_args.specs.declared.subcommands.Subcommand.{Subcommand};
 ghost use Rattle.offline_commands.specs.HelpLaws.{fits_into, shows_command, shows_default};
 ghost use Rattle.offline_commands.specs.HelpLaws.{shows_key};
 ghost use Rattle.offline_commands.specs.HelpText.{help_text};

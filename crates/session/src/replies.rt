@@ -66,7 +66,7 @@ pub(crate) fn put_description(
     let length = description(name, end_ms, &mut text);
     reply.clear();
     reply.start(200, Some(sequence));
-    reply.field_of(
+    reply.field_from_parts(
         b"Content-Base",
         &[
             b"rtsp://".as_slice(),
@@ -90,7 +90,7 @@ pub(crate) fn put_setup(reply: &mut Reply, sequence: u64, setup: &Setup, ssrc: u
     let (mut media, mut control) = (Buffer::new(), Buffer::new());
     reply.clear();
     reply.start(200, Some(sequence));
-    reply.field_of(
+    reply.field_from_parts(
         b"Transport",
         &[
             b"RTP/AVP/TCP;unicast;interleaved=".as_slice(),
@@ -191,7 +191,7 @@ pub(crate) fn put_play(reply: &mut Reply, sequence: u64, id: &[u8; 16], info: &I
     reply.clear();
     reply.start(200, Some(sequence));
     reply.field(b"Session", id);
-    reply.field_of(
+    reply.field_from_parts(
         b"Range",
         &[
             b"npt=".as_slice(),
@@ -200,7 +200,7 @@ pub(crate) fn put_play(reply: &mut Reply, sequence: u64, id: &[u8; 16], info: &I
             seconds_text(info.end_ms, &mut end),
         ],
     );
-    reply.field_of(
+    reply.field_from_parts(
         b"RTP-Info",
         &[
             b"url=rtsp://".as_slice(),

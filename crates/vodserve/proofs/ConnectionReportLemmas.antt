@@ -24,7 +24,7 @@ use Rattle.conn.specs.declared.reports.PartEnd.TheVariants.{NoMemory as PartNoMe
 use Rattle.conn.specs.declared.reports.PartReport.{PartReport}
 use Rattle.conn.proofs.Journals.{terms_same}
 use Rattle.conn.proofs.Visits.{agrees_longer, one_agrees}
-use Rattle.command_text.specs.Words.{ServeArgs}
+use Rattle.cli_args.specs.Invocations.{ServeArgs}
 use Rattle.vodserve.specs.Laws.{IsReceiptIn, IsReportIn, IsServedPart, EveryConnectionIsCorrect, ReportsMatchJournal}
 use Rattle.vodserve.specs.Run.{HasServed as HasServedFilms}
 use Rattle.vodserve.specs.IoStates.{World}

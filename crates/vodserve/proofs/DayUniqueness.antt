@@ -13,7 +13,7 @@ use Rattle.film_frames.specs.Pieces.{wire_size}
 use Rattle.film_frames.specs.FramedRuns.{run_pieces}
 use Rattle.film_frames.specs.declared.stored_films.Stored.{Stored}
 use Rattle.admission.specs.declared.entries.Entry.{Entry}
-use Rattle.command_text.specs.Words.{ScriptRun}
+use Rattle.cli_args.specs.Invocations.{ScriptRun}
 use Rattle.inputs.proofs.VideoLemmas.{held_once}
 use Rattle.day_run.specs.ClientStates.{MediaContent, source_content, trace_content}
 use Rattle.day_run.specs.Days.{IsDay, Link, link_of}

@@ -4,10 +4,10 @@ use Rattle.std.specs.Prelude.{IfErr}
 use Rattle.std.specs.List.{Contains}
 use Rattle.vod_base.specs.Names.{good_name}
 use Rattle.vod_base.specs.IoState.{File}
-use Rattle.command_text.specs.Orders.{source_name}
-use Rattle.command_text.specs.Spelling.{IsValidSource, IsValidClient}
-use Rattle.command_text.specs.Words.{Invocation, Source, ClientParams, are_films, film_source, trace_source}
-use Rattle.command_text.proofs.FilmLemmas.{films_asked}
+use Rattle.cli_args.specs.InvocationViews.{source_name}
+use Rattle.cli_args.specs.ArgumentText.{IsValidSource, IsValidClient}
+use Rattle.cli_args.specs.Invocations.{Invocation, Source, ClientParams, are_films, film_source, trace_source}
+use Rattle.cli_args.proofs.FilmLemmas.{films_asked}
 use Rattle.cli_errors.specs.ErrorReports.{HasGoodName}
 use Rattle.cli_errors.specs.declared.errors.CliError.{CliError}
 use Rattle.cli_errors.specs.declared.errors.CliError.TheVariants.{Usage, Refused, StoreFault}

@@ -18,10 +18,10 @@ use Rattle.conn.specs.declared.reports.ConnReport.{ConnReport}
 use Rattle.conn.specs.declared.reports.PartReport.{PartReport}
 use Rattle.conn.specs.declared.reports.PartEnd.{PartEnd}
 use Rattle.conn.specs.declared.reports.PartEnd.TheVariants.{GateFault as PartFault}
-use Rattle.command_text.specs.Settings.{setting_value, texts, values_of}
-use Rattle.command_text.specs.Spelling.{AreValidFilms}
-use Rattle.command_text.specs.Words.{are_films}
-use Rattle.command_text.proofs.FilmLemmas.{films_asked}
+use Rattle.cli_args.specs.Settings.{setting_value, texts, values_of}
+use Rattle.cli_args.specs.ArgumentText.{AreValidFilms}
+use Rattle.cli_args.specs.Invocations.{are_films}
+use Rattle.cli_args.proofs.FilmLemmas.{films_asked}
 use Rattle.vod_base.specs.IoState.{File, HasRisen}
 use Rattle.inputs.specs.ChunkScans.{HoldsVideo}
 use Rattle.vod_base.specs.Gates.{Content}
@@ -32,7 +32,7 @@ use Rattle.admission.specs.Books.{places_taken}
 use Rattle.admission.specs.Histories.{IsLegal}
 use Rattle.admission.specs.Makers.{entries_by}
 use Rattle.station.specs.Seats.{StationState, SeatState, IsJournalOf}
-use Rattle.command_text.specs.Words.{ServeArgs}
+use Rattle.cli_args.specs.Invocations.{ServeArgs}
 use Rattle.cli_errors.specs.declared.errors.InputError.{InputError}
 use Rattle.cli_errors.specs.declared.errors.CliError.{CliError}
 use Rattle.cli_errors.specs.declared.errors.CliError.TheVariants.{Usage, Refused, StoreFault}

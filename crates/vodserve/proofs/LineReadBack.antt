@@ -2,9 +2,9 @@
 use Rattle.std.proofs.Common.{◌≡◌, ◌∙◌, ℕ, ◌<◌, ◌^◌, true, List, [], ◌∷◌, ◌++◌, All, None, codes}
 use Rattle.std.proofs.Common.{decimal, length, refl, sym, ap}
 use Rattle.std.proofs.lemmas.List.{append-nil, append_assoc}
-use Rattle.command_text.specs.Settings.{setting_value, values_of}
-use Rattle.command_text.specs.Spelling.{Setting, number_setting, setting_text}
-use Rattle.command_text.proofs.SettingLemmas.{are_plain, picked}
+use Rattle.cli_args.specs.Settings.{setting_value, values_of}
+use Rattle.cli_args.specs.ArgumentText.{Setting, number_setting, setting_text}
+use Rattle.cli_args.proofs.SettingLemmas.{are_plain, picked}
 use Rattle.admission.specs.declared.entries.Entry.{Entry}
 use Rattle.rtsp_client.specs.Meters.{watched_in}
 use Rattle.rtsp_client.specs.ClientHistory.{History}

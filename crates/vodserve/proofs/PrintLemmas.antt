@@ -2,10 +2,10 @@
 use Rattle.std.proofs.Common.{◌≡◌, ◌∙◌, ◌≤◌, ℕ, ap, List, Option, Some, None, Result, Ok, Err, Vec}
 use Rattle.std.proofs.Common.{Global, inl, inr, sym, subst}
 use Rattle.std.specs.Prelude.{IfOk, IfErr}
-use Rattle.command_text.specs.Orders.{invocation_view}
-use Rattle.command_text.specs.declared.orders.MediaKind.{MediaKind}
-use Rattle.command_text.specs.declared.orders.Invocation.{Invocation as OrderRead}
-use Rattle.command_text.specs.Words.{Invocation, help, make_of, version}
+use Rattle.cli_args.specs.InvocationViews.{invocation_view}
+use Rattle.cli_args.specs.declared.invocations.MediaKind.{MediaKind}
+use Rattle.cli_args.specs.declared.invocations.Invocation.{Invocation as OrderRead}
+use Rattle.cli_args.specs.Invocations.{Invocation, help, make_of, version}
 use Rattle.plan_cert.specs.declared.Segment.{Segment}
 use Rattle.cli_errors.specs.ReadErrors.{IsLibraryUnchanged, IsReadError}
 use Rattle.cli_errors.specs.declared.errors.CliError.{CliError}

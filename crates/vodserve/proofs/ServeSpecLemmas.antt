@@ -10,7 +10,7 @@ use Rattle.conn.specs.declared.reports.ConnReport.{ConnReport}
 use Rattle.conn.specs.declared.reports.PartReport.{PartReport}
 use Rattle.conn.specs.declared.reports.PartEnd.{PartEnd}
 use Rattle.conn.specs.declared.reports.PartEnd.TheVariants.{AllTaken, GateFault as PartFault, NoMemory as PartNoMemory}
-use Rattle.command_text.specs.Words.{ServeArgs}
+use Rattle.cli_args.specs.Invocations.{ServeArgs}
 use Rattle.inputs.specs.LoadErrors.{IsServedFilmRefused}
 use Rattle.cli_errors.specs.ExitStatuses.{status_of}
 use Rattle.cli_errors.specs.declared.errors.InputError.{InputError}

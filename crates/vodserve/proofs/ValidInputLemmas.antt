@@ -1,10 +1,10 @@
 -- Commands whose inputs are accepted do their work.
 use Rattle.std.proofs.Common.{◌≡◌, ◌⊎◌, ◌∙◌, List, ℕ, Option, Some, None, inl, inr, refl, sym, subst}
 use Rattle.vod_base.specs.IoState.{File, told_more}
-use Rattle.command_text.specs.declared.orders.FairRun.{FairRun}
-use Rattle.command_text.specs.Words.{Invocation, ScriptRun, ServeArgs, check_of, day_of, fair_of, help, make_of}
-use Rattle.command_text.specs.Words.{plan_of}
-use Rattle.command_text.specs.Words.{scan_of, serve_of, version, watch_of}
+use Rattle.cli_args.specs.declared.invocations.FairRun.{FairRun}
+use Rattle.cli_args.specs.Invocations.{Invocation, ScriptRun, ServeArgs, check_of, day_of, fair_of, help, make_of}
+use Rattle.cli_args.specs.Invocations.{plan_of}
+use Rattle.cli_args.specs.Invocations.{scan_of, serve_of, version, watch_of}
 use Rattle.cli_errors.specs.ReadErrors.{IsReadError}
 use Rattle.cli_errors.specs.ExitStatuses.{status_of}
 use Rattle.cli_errors.specs.declared.errors.InputError.{InputError}

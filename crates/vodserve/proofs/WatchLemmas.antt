@@ -2,7 +2,7 @@
 use Rattle.std.proofs.Common.{ℕ, Option, Result, Ok, Err, subst}
 use Rattle.std.specs.Prelude.{OnErr}
 use Rattle.vod_base.specs.Gates.{Content}
-use Rattle.command_text.specs.Words.{WatchArgs}
+use Rattle.cli_args.specs.Invocations.{WatchArgs}
 use Rattle.rtsp_client.specs.declared.watch_request.Wish.{Wish}
 use Rattle.vodserve.specs.WatchSpec.{IsWishOf, opening_at}
 use Rattle.vodserve.specs.WorkerResults.{IsOpenAs}

@@ -23,7 +23,7 @@ use Rattle.conn.specs.Parts.{WorkerGate, worker_gate}
 use Rattle.conn.specs.declared.reports.ConnReport.{ConnReport}
 use Rattle.conn.specs.declared.reports.PartReport.{PartReport}
 use Rattle.conn.specs.declared.reports.PartEnd.{PartEnd}
-use Rattle.command_text.specs.Words.{ServeArgs}
+use Rattle.cli_args.specs.Invocations.{ServeArgs}
 use Rattle.conn.specs.declared.reports.PartEnd.TheVariants.{AllTaken, GateFault as PartFault, NoMemory}
 use Rattle.vodserve.specs.WorkerResults.{AreWorkerResults, AreLeft, IsPartBack, HasOne, IsWorkerResult, IsWorse}
 use Rattle.vodserve.specs.WorkerResults.{ServerRun}

@@ -21,8 +21,8 @@ use Rattle.conn.specs.declared.reports.ConnReport.{ConnReport}
 use Rattle.conn.specs.declared.reports.PartReport.{PartReport}
 use Rattle.inputs.specs.LoadErrors.{IsServedFilmRefused}
 use Rattle.cli_errors.specs.declared.errors.InputError.{InputError}
-use Rattle.command_text.specs.Words.{Invocation, ScriptRun, ServeArgs, day_of, fair_of, help}
-use Rattle.command_text.specs.Words.{make_of, serve_of, version, watch_of}
+use Rattle.cli_args.specs.Invocations.{Invocation, ScriptRun, ServeArgs, day_of, fair_of, help}
+use Rattle.cli_args.specs.Invocations.{make_of, serve_of, version, watch_of}
 use Rattle.day_run.specs.DayLaws.{AreClients, IsLink, SentIsBookedAfter}
 use Rattle.day_run.specs.Days.{IsDay, link_of}
 use Rattle.day_run.specs.FairDays.{IsFair}

@@ -33,10 +33,10 @@ use Rattle.rtsp_client.specs.declared.watch_request.WatchEnd.TheVariants.{
 }
 use Rattle.rtsp_client.specs.declared.watch_request.WatchEnd.TheVariants.{NoMemory as WatchNoMemory}
 use Rattle.rtsp_client.specs.declared.watch_request.WatchFault.{WatchFault}
-use Rattle.command_text.specs.Words.{ScriptRun, ServeArgs, WatchArgs, Invocation, help, version}
-use Rattle.command_text.specs.Words.{plan_of, check_of, scan_of, make_of, day_of, fair_of}
-use Rattle.command_text.specs.Words.{serve_of, watch_of}
-use Rattle.command_text.specs.declared.orders.FairRun.{FairRun}
+use Rattle.cli_args.specs.Invocations.{ScriptRun, ServeArgs, WatchArgs, Invocation, help, version}
+use Rattle.cli_args.specs.Invocations.{plan_of, check_of, scan_of, make_of, day_of, fair_of}
+use Rattle.cli_args.specs.Invocations.{serve_of, watch_of}
+use Rattle.cli_args.specs.declared.invocations.FairRun.{FairRun}
 use Rattle.cli_errors.specs.StreamWrites.{IsTextWritten}
 use Rattle.cli_errors.specs.ErrorLines.{error_text}
 use Rattle.cli_errors.specs.ErrorReports.{IsPrintableError}

@@ -22,8 +22,8 @@ use Rattle.cli_errors.specs.declared.errors.InputError.{InputError}
 use Rattle.cli_errors.specs.declared.errors.CliError.{CliError}
 use Rattle.cli_errors.specs.declared.errors.CliError.TheVariants.{Refused, StoreFault, SinkFault}
 use Rattle.cli_errors.specs.declared.errors.CliError.TheVariants.{NoMemory, GateFault}
-use Rattle.command_text.specs.Settings.{setting_value}
-use Rattle.command_text.specs.Words.{ServeArgs}
+use Rattle.cli_args.specs.Settings.{setting_value}
+use Rattle.cli_args.specs.Invocations.{ServeArgs}
 use Rattle.vodserve.specs.IoStates.{IoState}
 use Rattle.vodserve.specs.WorkerResults.{HasTooFewParts, IsOpenedOnce, MayBeServed}
 

@@ -24,7 +24,7 @@ use Rattle.rtsp_client.specs.declared.watch_request.WatchFault.TheVariants.{
   TurnsSpent as
       TurnsSpentOf,
 }
-use Rattle.command_text.specs.Words.{WatchArgs}
+use Rattle.cli_args.specs.Invocations.{WatchArgs}
 use Rattle.cli_errors.specs.StreamWrites.{with_label}
 use Rattle.cli_errors.specs.declared.errors.InputError.{InputError}
 use Rattle.cli_errors.specs.declared.errors.InputError.TheVariants.{RefusedWith, BadReply, BadFrame}

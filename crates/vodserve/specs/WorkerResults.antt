@@ -18,7 +18,7 @@ use Rattle.conn.specs.declared.reports.ConnReport.{ConnReport}
 use Rattle.conn.specs.declared.reports.PartReport.{PartReport}
 use Rattle.conn.specs.declared.reports.PartEnd.{PartEnd}
 use Rattle.conn.specs.declared.reports.PartEnd.TheVariants.{AllTaken, GateFault, NoMemory}
-use Rattle.command_text.specs.Words.{ServeArgs}
+use Rattle.cli_args.specs.Invocations.{ServeArgs}
 use Rattle.inputs.specs.LoadErrors.{IsServedFilmRefused, IsNotRefused}
 use Rattle.inputs.specs.ChunkScans.{HoldsVideo}
 

@@ -1,15 +1,15 @@
 //! The commands `day` and `fair`.
 
 ghost use Rattle.std.specs.Prelude.{◌≡◌, ◌≤◌, None, [], List, ℕ};
-ghost use Rattle.command_text.specs.Orders.{script_run_of};
-ghost use Rattle.command_text.specs.Ranges.{IsFairRunInRange, IsScriptRunInRange};
+ghost use Rattle.cli_args.specs.InvocationViews.{script_run_of};
+ghost use Rattle.cli_args.specs.Ranges.{IsFairRunInRange, IsScriptRunInRange};
 ghost use Rattle.cli_errors.specs.ReadErrors.{IsReadOnly};
 ghost use Rattle.vodserve.specs.Run.{IsWritten, DaySpec, FairSpec};
 ghost use Rattle.vodserve.specs.IoStates.{io_state_of, streams};
 
 use crate::run_results::{Ended, end_with};
+use cli_args::{FairRun, ScriptRun};
 use cli_errors::CliError;
-use command_text::{FairRun, ScriptRun};
 use day_run::Day;
 use offline_commands::{load_script, load_sources, run_day, run_fair};
 use std::alloc::Global;

@@ -1,7 +1,7 @@
 //! What holds of every run: laws over what `run` promises.
 
 ghost use Rattle.std.specs.Prelude.{◌≡◌, ℕ, List, Option};
-ghost use Rattle.command_text.specs.Words.{ClientParams, check_of};
+ghost use Rattle.cli_args.specs.Invocations.{ClientParams, check_of};
 ghost use Rattle.plan_cert.specs.declared.Segment.{Segment};
 ghost use Rattle.cli_errors.specs.declared.errors.InputError.{InputError};
 ghost use Rattle.vod_base.specs.IoState.{File};

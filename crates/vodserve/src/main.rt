@@ -16,8 +16,8 @@ mod workers;
 
 use crate::run::run;
 use crate::run_results::end_with;
+use cli_args::{Subcommand, subcommand_named};
 use cli_errors::CliError;
-use command_text::{Subcommand, subcommand_named};
 use net_edge::{DialGate, FileLibrary, OutSink, TcpGate};
 use std::alloc::AllocError;
 use std::env;

@@ -1,10 +1,10 @@
 //! The commands of the program, in one call.
 
 ghost use Rattle.std.specs.Prelude.{◌≡◌, ◌≤◌};
-ghost use Rattle.command_text.specs.Orders.{serve_args_of};
-ghost use Rattle.command_text.specs.Ranges.{AreServeArgsInRange};
-ghost use Rattle.command_text.specs.Settings.{texts};
-ghost use Rattle.command_text.specs.Words.{invocation_from};
+ghost use Rattle.cli_args.specs.InvocationViews.{serve_args_of};
+ghost use Rattle.cli_args.specs.Ranges.{AreServeArgsInRange};
+ghost use Rattle.cli_args.specs.Settings.{texts};
+ghost use Rattle.cli_args.specs.Invocations.{invocation_from};
 ghost use Rattle.cli_errors.specs.ReadErrors.{IsReadOnly};
 ghost use Rattle.vodserve.specs.Run.{RunSpec, ServeSpec};
 ghost use Rattle.vodserve.specs.IoStates.{gate_state_of, io_state_of, world};
@@ -14,8 +14,8 @@ use crate::run_results::{Ended, end_with, print};
 use crate::server::{prepare, run_server};
 use crate::server_output::end_server;
 use crate::watch_command::watch_film;
+use cli_args::{Invocation, ServeArgs, parse_args};
 use cli_errors::CliError;
-use command_text::{Invocation, ServeArgs, parse_args};
 use offline_commands::{
     check_plan, help, list_units, make, output_with_text, plan_source, version,
 };

@@ -1,7 +1,7 @@
 use Rattle.std.proofs.Common.{◌≡◌, ◌∙◌, List, ℕ, Some, None, Ok, refl, sym, ap, subst, arith, inl, inr}
 use Rattle.vod_base.specs.IoState.{File, file_named}
-use Rattle.command_text.specs.Words.{check_of}
-use Rattle.command_text.specs.Orders.{client_params_of}
+use Rattle.cli_args.specs.Invocations.{check_of}
+use Rattle.cli_args.specs.InvocationViews.{client_params_of}
 use Rattle.cli_errors.proofs.ReadErrorLemmas.{trouble_map}
 use Rattle.inputs.specs.FileReads.{IsMissing, IsThatName}
 use Rattle.offline_commands.specs.OfflineCommands.{IsOutputOf, IsInputRefused, IsRead}

@@ -1,6 +1,6 @@
 use Rattle.std.proofs.Common.{List, ℕ, inl, inr, subst, sym}
 use Rattle.wire_curve.specs.FilmCurves.{IsWithinLimits}
-use Rattle.command_text.specs.Orders.{client_params_of}
+use Rattle.cli_args.specs.InvocationViews.{client_params_of}
 use Rattle.offline_commands.specs.Pictures.{pictures_of}
 use Rattle.wire_curve.specs.CurveFaults.{HasCurveFault, IsRefused}
 use Rattle.offline_commands.specs.Plans.{Pictures, timing_of}

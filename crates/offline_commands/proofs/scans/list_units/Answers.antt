@@ -1,5 +1,5 @@
 use Rattle.std.proofs.Common.{◌≡◌, None, Ok}
-use Rattle.command_text.specs.Words.{scan_of}
+use Rattle.cli_args.specs.Invocations.{scan_of}
 use Rattle.inputs.specs.ChunkScans.{HoldsFilm}
 use Rattle.offline_commands.specs.OfflineCommands.{IsOutputOf}
 use Rattle.offline_commands.specs.ScanText.{scan_text}

@@ -1,8 +1,8 @@
 use Rattle.std.proofs.Common.{◌≡◌, ℕ, true, List, None, inl, inr, refl, sym, subst, arith}
 use Rattle.vod_base.specs.Names.{good_name}
-use Rattle.command_text.specs.Orders.{client_params_of}
-use Rattle.command_text.specs.Ranges.{IsInvocationInRange}
-use Rattle.command_text.specs.Words.{check_of, help, make_of, plan_of, scan_of, version}
+use Rattle.cli_args.specs.InvocationViews.{client_params_of}
+use Rattle.cli_args.specs.Ranges.{IsInvocationInRange}
+use Rattle.cli_args.specs.Invocations.{check_of, help, make_of, plan_of, scan_of, version}
 use Rattle.vodserve.proofs.ErrorNameLemmas.{causes_of, good_result, nameless, viewer_named}
 use Rattle.vodserve.proofs.PrintLemmas.{help_done, made_done, no_memory, printed, ran_as, version_done}
 use Rattle.vodserve.proofs.run.run.Goals as goal

@@ -2,8 +2,8 @@ use Rattle.std.proofs.Common.{◌≡◌, ◌∙◌, ℕ, List, length, inl, inr,
 use Rattle.admission.specs.declared.entries.Entry.{Entry}
 use Rattle.conn.specs.Parts.{WorkerGate}
 use Rattle.conn.specs.declared.reports.ConnReport.{ConnReport}
-use Rattle.command_text.specs.Words.{ServeArgs}
-use Rattle.command_text.specs.Orders.{serve_args_of}
+use Rattle.cli_args.specs.Invocations.{ServeArgs}
+use Rattle.cli_args.specs.InvocationViews.{serve_args_of}
 use Rattle.film_frames.specs.declared.stored_films.Stored.{Stored}
 use Rattle.vodserve.specs.ServerOutput.{IsJournal, served_text}
 use Rattle.vodserve.specs.IoStates.{IoState, gate_state_of, io_state_of, streams}

@@ -6,7 +6,7 @@ use Rattle.std.specs.List.{Contains}
 use Rattle.std.specs.Option.{option_to_list}
 use Rattle.std.proofs.lemmas.List.{append-nil, append_assoc, drop_all}
 use Rattle.session.specs.SettingRanges.{names_of}
-use Rattle.command_text.specs.Settings.{setting_value, texts, values_of}
+use Rattle.cli_args.specs.Settings.{setting_value, texts, values_of}
 use Rattle.cli_errors.proofs.ReadErrorLemmas.{trouble_map}
 use Rattle.inputs.specs.LoadErrors.{IsServedFilmRefused}
 use Rattle.vodserve.specs.ServerOutput.{IsFirstRefused, IsWordNamed}

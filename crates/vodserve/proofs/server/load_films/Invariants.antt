@@ -1,7 +1,7 @@
 use Rattle.std.proofs.Common.{◌≡◌, ◌++◌, drop}
 use Rattle.std.specs.Prelude.{All, codes}
 use Rattle.session.specs.SettingRanges.{names_of}
-use Rattle.command_text.specs.Settings.{texts, values_of}
+use Rattle.cli_args.specs.Settings.{texts, values_of}
 use Rattle.cli_errors.specs.ReadErrors.{IsLibraryUnchanged}
 use Rattle.vodserve.specs.WorkerResults.{IsHeld}
 use Rattle.vodserve.proofs.server.load_films.Given as goal

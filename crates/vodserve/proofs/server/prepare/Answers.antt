@@ -4,7 +4,7 @@ use Rattle.vod_base.specs.declared.gates.Opening.{Opening}
 use Rattle.vodserve.specs.IoStates.{gate_state_of, io_state_of}
 use Rattle.vodserve.specs.WorkerResults.{opening_of}
 use Rattle.vodserve.proofs.GateLemmas.{opened_few, opened_once}
-use Rattle.command_text.specs.Orders.{serve_args_of}
+use Rattle.cli_args.specs.InvocationViews.{serve_args_of}
 use Rattle.inputs.proofs.ScanLemmas.{handed_on}
 use Rattle.vodserve.proofs.FilmLoadLemmas.{only_opened, read_serves}
 use Rattle.vodserve.proofs.server.prepare.Goals as goal

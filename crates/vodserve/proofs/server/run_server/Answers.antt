@@ -2,8 +2,8 @@ use Rattle.std.proofs.Common.{◌∙◌, ℕ, List, subst, arith}
 use Rattle.std.specs.Prelude.{All}
 use Rattle.vod_base.specs.declared.gates.Opening.{Opening}
 use Rattle.film_frames.specs.declared.stored_films.Stored.{Stored}
-use Rattle.command_text.specs.Words.{ServeArgs}
-use Rattle.command_text.specs.Orders.{serve_args_of}
+use Rattle.cli_args.specs.Invocations.{ServeArgs}
+use Rattle.cli_args.specs.InvocationViews.{serve_args_of}
 use Rattle.vodserve.specs.WorkerResults.{opening_of, settings_of}
 use Rattle.vodserve.specs.Workers.{HasFinished}
 use Rattle.vodserve.proofs.FilmLoadLemmas.{closed_journal, have_worked, newly_open_as}

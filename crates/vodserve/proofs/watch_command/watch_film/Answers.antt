@@ -1,5 +1,5 @@
 use Rattle.std.proofs.Common.{inr, subst}
-use Rattle.command_text.specs.Orders.{watch_args_of}
+use Rattle.cli_args.specs.InvocationViews.{watch_args_of}
 use Rattle.vodserve.specs.IoStates.{io_state_of}
 use Rattle.vodserve.specs.WatchSpec.{Hears}
 use Rattle.vodserve.proofs.WatchLemmas.{opened_for}
