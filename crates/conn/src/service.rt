@@ -51,7 +51,7 @@ pub fn serve_connection<R: Wait, K: Link>(
     ensures words { result.words ≡ words }
     ensures served { ConnectionSpec (new_session_state films.now settings.now words)
         (K.told link.old) (K.told link.new) seat.old seat.new result }
-    ensures headline { MeetsGuarantee (new_session_state films.now settings.now words)
+    ensures guarantee { MeetsGuarantee (new_session_state films.now settings.now words)
         (K.told link.old) (K.told link.new) seat.old seat.new result }
     ensures count { K.faults link.old ≤ K.faults link.new }
     ensures fault { result.end ≡ LinkFault → HasRisen (K.faults link.old) (K.faults link.new) }

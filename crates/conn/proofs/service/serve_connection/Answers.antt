@@ -20,8 +20,8 @@ returns-clause-entries g c =
       same = search rules;
     }) both
 
-pub returns-clause-headline : goal.returns-clause-headline
-returns-clause-headline g c =
+pub returns-clause-guarantee : goal.returns-clause-guarantee
+returns-clause-guarantee g c =
     let session = new_session_state c.args.films.now c.args.settings.now c.args.words in
     let well = new_well c.args.films.now c.args.settings.now c.args.words c.law_all_films_are_traces.ensures
     c.requires.settings in
