@@ -1,6 +1,7 @@
 //! Plans worked out by hand, with the curves of their traces.
 
 use super::*;
+use crate::laws::law_checked_plan_is_optimal;
 use plan_cert::Segment;
 use std::alloc::{AllocError, Global};
 use std::process::Abort;

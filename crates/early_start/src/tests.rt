@@ -1,6 +1,9 @@
 //! The least start of a plan on links with bookings, by rows.
 
 use super::*;
+use crate::laws::{
+    law_offer_covers_past_slots, law_offer_is_unique, law_offered_start_is_earliest,
+};
 use plan_cert::Segment;
 use slot_calendar::{Profile, RING_SLOTS};
 use std::process::Abort;

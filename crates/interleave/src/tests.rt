@@ -1,6 +1,10 @@
 //! The requests and blocks are written by hand from RFC 2326.
 
 use super::*;
+use crate::laws::{
+    law_first_element_is_stable, law_first_element_is_unique, law_skipped_bytes_only_grow,
+    law_waiting_bytes_are_bounded,
+};
 use std::alloc::Global;
 use std::test::Fail;
 

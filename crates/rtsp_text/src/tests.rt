@@ -7,6 +7,7 @@ mod players;
 mod replies;
 
 use super::*;
+use crate::laws::law_look_finds_whole_requests;
 use interleave::{Demux, Step};
 use std::alloc::Global;
 use std::test::Fail;

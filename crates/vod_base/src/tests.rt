@@ -2,6 +2,7 @@
 //! their failing calls.
 
 use super::*;
+use crate::laws::law_blanks_are_space_and_tab;
 use std::alloc::Global;
 use std::process::Abort;
 use std::test::Fail;
