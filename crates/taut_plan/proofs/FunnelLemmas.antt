@@ -1,5 +1,5 @@
 -- One step of the funnel: the point joins, the other chain gives way, and the curves stand apart again.
-use Rattle.std.proofs.Common.{◌≡◌, ℕ, ◌+◌, ◌≤◌, List, [], ◌∷◌, ◌++◌, drop, arith, sym, subst, ap, ◌∙◌}
+use Rattle.std.proofs.Common.{◌≡◌, ℕ, ◌+◌, ◌<◌, ◌≤◌, length, List, [], ◌∷◌, ◌++◌, drop, arith, sym, subst, ap, ◌∙◌}
 use Rattle.plan_cert.specs.declared.Segment.{Segment}
 use Rattle.taut_plan.specs.declared.points.Point.{Point}
 use Rattle.taut_plan.specs.declared.points.Side.{Side}
@@ -9,6 +9,7 @@ use Rattle.taut_plan.specs.Chain.{on_curve, IsChain}
 use Rattle.taut_plan.specs.Funnel.{IsBand, IsCrossing, IsCrossed, IsUncrossed, IsFunnel, curve_on, other_curve_reach}
 use Rattle.taut_plan.specs.Funnel.{funnel_reach}
 use Rattle.taut_plan.specs.Path.{IsPath, segment_to}
+use Rattle.taut_plan.proofs.SlopeLemmas.{Seen, within_within, inside_weaker}
 use Rattle.taut_plan.proofs.BendLemmas.{IsOrdered, corner_of, crossing_moves, apart_again}
 use Rattle.taut_plan.proofs.CornerLemmas.{IsNewPlace, corner_rises, path_bends}
 
@@ -101,6 +102,30 @@ crossing_ends {side} {other} {s} {o} {own} {others} {point} is state un = record
   others = state.others;
   keeps = apart_again state (subst (IsUncrossed side o others) is un);
 }
+
+-- A point that isn't alone in its chain stands inside the chain's first point, which is within the other chain.
+pub uncrossed_behind : {side : Side} {curve other : ℕ → ℕ} {t s : ℕ} {o : Point} (own others : List Point)
+    {point : Point}
+    → point ≡ on_curve curve t → 1 < length own
+    → IsCrossing side curve other (funnel_reach t s o) own others → IsUncrossed side o others point
+uncrossed_behind [] others is several state = absurd (omega (arith, several))
+uncrossed_behind (p ∷ []) others is several state = absurd (omega (arith, several))
+uncrossed_behind (p ∷ q ∷ rest) [] is several state = tt
+uncrossed_behind {side} {curve} {other} {t} {s} {o} (p ∷ q ∷ rest) (corner ∷ others) {point} is several state =
+    let first = state.own.0 in
+    let second = state.own.1.0 in
+    let edge = state.others.0 in
+    let before : p.place < t = omega (arith, second.later, second.near) in
+    let seen : Seen = record { from = o; first = on_curve curve t; second = p; third = corner } in
+    let apart = state.apart.apart p.place corner.place first.later before edge.later edge.near in
+    let on_own : IsWithin side o p (on_curve other corner.place) =
+    subst (λ h. IsWithin side o (record { place = p.place; height = h }) (on_curve other corner.place)) (sym first.on)
+    apart in
+    let on_other : IsWithin side o p corner =
+    subst (λ h. IsWithin side o p (record { place = corner.place; height = h })) (sym edge.on) on_own in
+    subst (λ a. IsWithin side o a corner) (sym is)
+    (within_within side seen first.later
+    (inside_weaker side o (on_curve curve t) p (first.beyond t before (omega arith))) on_other)
 
 -- Seen from the other side.
 other_of_within : (side : Side) (o a b : Point) → IsWithin side o b a → IsWithin (other_side side) o a b

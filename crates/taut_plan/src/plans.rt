@@ -82,6 +82,12 @@ fn extend(
     ensures beyond { OnOk result (path.new.apex.place ≤ slot) }
 {
     let point = join(curves, side, path.apex, own, slot)?;
+
+    // Where the new point isn't alone in its chain, the first point of that chain stands further
+    // out and within the other chain, so that the new point can't cross it.
+    if own.has_several() {
+        return Ok(());
+    }
     while let Some(corner) = crossing(side, path.apex, others, point) {
         others.pop_first();
         path.bend_at(corner)?;

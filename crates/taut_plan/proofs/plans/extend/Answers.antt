@@ -5,7 +5,7 @@ use Rattle.taut_plan.specs.Path.{IsPath}
 use Rattle.taut_plan.specs.CurveSides.{lower_of, upper_of, side_of}
 use Rattle.taut_plan.proofs.BandLemmas.{band_of_sound}
 use Rattle.taut_plan.proofs.PointRangeLemmas.{corner_fits, first_fits, point_fits}
-use Rattle.taut_plan.proofs.FunnelLemmas.{chain_beyond, crossing_starts, bends_at, crossing_ends}
+use Rattle.taut_plan.proofs.FunnelLemmas.{chain_beyond, crossing_starts, bends_at, crossing_ends, uncrossed_behind}
 use Rattle.taut_plan.proofs.plans.extend.Goals as goal
 
 pub loop-corner-init : goal.loop-corner-init
@@ -81,3 +81,14 @@ returns-clause-funnel c =
     let curves = c.args.curves.now in
     crossing_ends c.in_ok-point.ensures.point
     c.loop-corner.invariant.crossing c.in_default.ensures
+
+pub returns-then-has_several-clause-funnel : goal.returns-then-has_several-clause-funnel
+returns-then-has_several-clause-funnel c =
+    let starts = crossing_starts c.requires.funnel c.in_ok-point.ensures.chain in
+    crossing_ends c.in_ok-point.ensures.point starts
+    (uncrossed_behind _ _ c.in_ok-point.ensures.point (c.has_several.ensures.0 c.if-has_several.true) starts)
+
+pub returns-then-has_several-clause-beyond : goal.returns-then-has_several-clause-beyond
+returns-then-has_several-clause-beyond c =
+    chain_beyond c.args.side (side_of c.args.curves.now c.args.side) c.args.slot c.args.path.now.apex c.args.own.now
+    c.requires.funnel.own
