@@ -21,8 +21,7 @@ later_none : (unit : PictureUnit) (starts : List ℕ) (from : ℕ) (cuts : List 
     → HaveNoSequenceHeader (portion_packets unit starts from cuts)
 later_none unit starts from [] past cover = tt
 later_none unit starts from (cut ∷ cuts) past cover =
-    let other : from ≢ unit.from = λ same. omega (arith, same, past) in
-    (
+    let other : from ≢ unit.from = λ same. omega (arith, same, past) in (
       ap (λ b. unit.has_sequence && b) (ne_eqb from unit.from other) ∙ and_false unit.has_sequence,
       later_none unit starts cut cuts (omega (arith, past, cover.1.0)) cover.1.1.1,
     )
