@@ -10,6 +10,7 @@ mod NextBytesLemmas
 pub mod EndedPieceLemmas
 pub mod PayloadLemmas
 mod ReportLemmas
+mod ReportCountLemmas
 mod RunPrefixLemmas
 mod ReportIndexLemmas
 mod PayloadPlaceLemmas

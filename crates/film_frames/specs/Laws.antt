@@ -8,6 +8,7 @@ use Rattle.mpeg_scan.specs.PictureRates.{picture_time}
 use Rattle.rtp_pack.specs.declared.heads.Head.{Head}
 use Rattle.rtp_pack.specs.declared.payloads.Packet.{Packet}
 use Rattle.rtp_pack.specs.declared.reports.Identity.{Identity}
+use Rattle.rtp_pack.specs.Fields.{octets_sent, packets_sent}
 use Rattle.rtp_pack.specs.Heads.{head_at, head_of, packet_head, video_word}
 use Rattle.rtp_pack.specs.Reports.{report_bytes, unit_report}
 use Rattle.interleave.specs.Elements.{StartsBlock, block_length}
@@ -103,6 +104,20 @@ abbrev pub ReportsCountFrames : FramedRun → Type 0
 ReportsCountFrames run =
     (k : ℕ) (unit : PictureUnit) → slice_get (pieces_in run) k ≡ Some (Report unit)
     → slice_index_or (run_pieces run) k [] ≡ counted_report run unit (begin_of (run_pieces run) k)
+
+-- the counts of a report of an interleaved block, each read at its bytes (RFC 3550 section 6.4.1):
+-- the packets and the octets that the session sent before the run, and those of the run's frames
+-- that have ended where the block begins, modulo 2^32. The block's first 4 bytes are its own head.
+pub record HasSessionCounts (run : FramedRun) (at : ℕ) (block : List ℕ) : Type 0 where
+  pub packets : packets_sent (drop 4 block)
+      ≡ (run.identity.packets + frames_before run at) % 2 ^ 32
+  pub octets : octets_sent (drop 4 block)
+      ≡ (run.identity.octets + octets_before run at) % 2 ^ 32
+
+abbrev pub ReportsHaveSessionCounts : FramedRun → Type 0
+ReportsHaveSessionCounts run =
+    (k : ℕ) (unit : PictureUnit) → slice_get (pieces_in run) k ≡ Some (Report unit)
+    → HasSessionCounts run (begin_of (run_pieces run) k) (slice_index_or (run_pieces run) k [])
 
 -- the head of a frame as it is read: that of its packet, with a video header of 32 bits
 abbrev pub head_read : FramedRun → PictureUnit → Packet → ℕ → Head

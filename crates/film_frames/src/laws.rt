@@ -6,7 +6,8 @@ ghost use Rattle.rtp_pack.specs.declared.reports.Identity.{Identity};
 ghost use Rattle.rtp_pack.specs.Packets.{OfUnit};
 ghost use Rattle.film_frames.specs.Laws.{AreCountsBefore, AreBlocks, AreOnChannels, AreConsecutive};
 ghost use Rattle.film_frames.specs.Laws.{HeadsRoundTrip, ReportsCountFrames, ReportsPrecedeGroups};
-ghost use Rattle.film_frames.specs.Laws.{HaveSizes, OfRuns, payloads, run_frames};
+ghost use Rattle.film_frames.specs.Laws.{HaveSizes, OfRuns, ReportsHaveSessionCounts, payloads};
+ghost use Rattle.film_frames.specs.Laws.{run_frames};
 ghost use Rattle.film_frames.specs.Pieces.{frames_in, wire_size};
 ghost use Rattle.film_frames.specs.FramedRuns.{FramedRun, HaveEnded, count_ended, run_of};
 ghost use Rattle.film_frames.specs.FramedRuns.{run_pieces};
@@ -41,10 +42,11 @@ pub fn law_sequence_numbers_are_consecutive()
 {}
 
 /// Each report counts, modulo 2^32, the packets and octets that the session sent before the run and
-/// those of the run's frames before the report. Reports are on the control channel, and frames on
-/// the other.
+/// those of the run's frames before the report, as they are read at their bytes (RFC 3550 section
+/// 6.4.1). Reports are on the control channel, and frames on the other.
 pub fn law_reports_count_frames_sent_before()
     ensures counts { (run : FramedRun) → ReportsCountFrames run }
+    ensures fields { (run : FramedRun) → ReportsHaveSessionCounts run }
     ensures channels { (run : FramedRun) → AreOnChannels run }
 {}
 

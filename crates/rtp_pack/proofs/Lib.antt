@@ -5,4 +5,6 @@ mod SliceFlagLemmas
 pub mod UnitPacketLemmas
 mod PacketizationLemmas
 pub mod MarkerLemmas
+mod SequenceHeaderLemmas
+pub mod ReportCountLemmas
 mod RuleUniquenessLemmas

@@ -1,5 +1,6 @@
 -- What follows from the rules for cutting, in a reader's words.
-use Rattle.std.specs.Prelude.{ℕ, ◌+◌, ◌<◌, ◌≤◌, ◌≡◌, ◌⊎◌, true, false, List, [], ◌∷◌}
+use Rattle.std.specs.Prelude.{ℕ, ◌+◌, ◌<◌, ◌≤◌, ◌≡◌, ◌⊎◌, Bool, true, false, List, []}
+use Rattle.std.specs.Prelude.{◌∷◌}
 use Rattle.rtp_pack.specs.declared.payloads.Packet.{Packet}
 use Rattle.rtp_pack.specs.Packetization.{AreCutPoints}
 use Rattle.rtp_pack.specs.Packets.{is_among}
@@ -41,3 +42,15 @@ abbrev pub IsLastMarked : List Packet → Type 0
 IsLastMarked [] = Unit {0}
 IsLastMarked (p ∷ []) = p.marker ≡ true
 IsLastMarked (p ∷ (q ∷ packets)) = (p.marker ≡ false) × IsLastMarked (q ∷ packets)
+
+-- no packet of these has S
+abbrev pub HaveNoSequenceHeader : List Packet → Type 0
+HaveNoSequenceHeader [] = Unit {0}
+HaveNoSequenceHeader (p ∷ packets) =
+    (p.sequence_header ≡ false) × HaveNoSequenceHeader packets
+
+-- S is on the first of these packets if its unit has a sequence header, and on no other
+abbrev pub OnlyFirstHasSequenceHeader : Bool → List Packet → Type 0
+OnlyFirstHasSequenceHeader has_sequence [] = Unit {0}
+OnlyFirstHasSequenceHeader has_sequence (p ∷ packets) =
+    (p.sequence_header ≡ has_sequence) × HaveNoSequenceHeader packets

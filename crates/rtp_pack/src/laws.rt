@@ -11,7 +11,7 @@ ghost use Rattle.rtp_pack.specs.Packetization.{AreCutPoints};
 ghost use Rattle.rtp_pack.specs.Fields.{HasReportFields, HasRtpFields, HasVideoFields, IsTickOf};
 ghost use Rattle.rtp_pack.specs.Heads.{head_bytes, head_of, unit_timestamp, video_word};
 ghost use Rattle.rtp_pack.specs.Laws.{ArePortions, AreShortUncut, DoLongEndPortions, IsLastMarked};
-ghost use Rattle.rtp_pack.specs.Laws.{IsUncut, ForAllCutPoints};
+ghost use Rattle.rtp_pack.specs.Laws.{IsUncut, ForAllCutPoints, OnlyFirstHasSequenceHeader};
 ghost use Rattle.rtp_pack.specs.Reports.{report_bytes, media_time};
 ghost use Rattle.rtp_pack.specs.PacketizationRules.{HaveBytes, MeetsRules};
 ghost use Rattle.rtp_pack.specs.Packets.{ArePackets, DoCover};
@@ -44,6 +44,14 @@ pub fn law_only_last_packet_has_marker()
     ensures { (unit : PictureUnit) (slice_starts : List ℕ) (packets : List Packet) →
         ArePackets slice_starts unit packets → DoCover unit.from packets unit.to →
         IsLastMarked packets }
+{}
+
+/// S is set on the first packet of a unit that has a sequence header, and on no other packet (RFC
+/// 2250 section 3.4). `packets` satisfies the premises.
+pub fn law_only_first_packet_has_sequence_header()
+    ensures { (unit : PictureUnit) (slice_starts : List ℕ) (packets : List Packet) →
+        ArePackets slice_starts unit packets → DoCover unit.from packets unit.to →
+        OnlyFirstHasSequenceHeader unit.has_sequence packets }
 {}
 
 /// A head is read back from what is written of it, whatever follows.

@@ -13,6 +13,7 @@ pub mod DescriptionLines
 pub mod ClockTexts
 pub mod SeparatedTexts
 pub mod TransportTexts
+pub mod TransportSpellings
 pub mod TransportDefaults
 pub mod SessionTexts
 pub mod RangeTexts

@@ -8,10 +8,12 @@ ghost use Rattle.std.specs.Str.Parse.{digits_value};
 ghost use Rattle.vod_base.specs.Names.{good_name};
 ghost use Rattle.rtsp_text.specs.Grammar.{IsUrl};
 ghost use Rattle.rtsp_fields.specs.Laws.{HasNoComma, IsDescription, IsFilmPath, IsOtherParameter};
+ghost use Rattle.rtsp_fields.specs.Laws.{IsPlayParameter, IsSpelling};
 ghost use Rattle.rtsp_fields.specs.Ranges.{IsSpan};
 ghost use Rattle.rtsp_fields.specs.declared.ranges.Span.{Span};
 ghost use Rattle.rtsp_fields.specs.declared.transports.Channels.{Channels};
 ghost use Rattle.rtsp_fields.specs.Sdp.{description_text, seconds_text};
+ghost use Rattle.rtsp_fields.specs.SeparatedParts.{in_lower_case};
 ghost use Rattle.rtsp_fields.specs.SessionIds.{IsSession};
 ghost use Rattle.rtsp_fields.specs.NptTimes.{IsTime};
 ghost use Rattle.rtsp_fields.specs.Transports.{IsTransport};
@@ -88,7 +90,8 @@ pub fn law_clock_time_is_read()
 {}
 
 /// A Range value in normal play time, of a time, `-`, and nothing or a second time, is read as the
-/// span from the one to the other; `now` stands for the present place (RFC 2326 section 3.6).
+/// span from the one to the other; `now` stands for the present place (RFC 2326 section 3.6). The
+/// letters of `npt` are in any case.
 pub fn law_npt_range_is_read()
     ensures from { (ms : ℕ) → ms < 10 ^ 12 →
         IsSpan (codes "npt=" ++ (seconds_text ms ++ codes "-"))
@@ -97,6 +100,11 @@ pub fn law_npt_range_is_read()
         IsSpan (codes "npt=" ++ (seconds_text ms ++ (codes "-" ++ seconds_text end_ms)))
         (record { from = Origin.At (ms * 1000000); to = Some (end_ms * 1000000) }) }
     ensures now { IsSpan (codes "npt=now-") (record { from = Origin.Now; to = None }) }
+    ensures now_to { (end_ms : ℕ) → end_ms < 10 ^ 12 →
+        IsSpan (codes "npt=now-" ++ seconds_text end_ms)
+        (record { from = Origin.Now; to = Some (end_ms * 1000000) }) }
+    ensures any_case { (unit rest : List ℕ) (span : Span) → in_lower_case unit ≡ codes "npt" →
+        IsSpan (codes "npt=" ++ rest) span → IsSpan (unit ++ codes "=" ++ rest) span }
 {}
 
 /// A Transport value that asks for unicast delivery on the connection itself is read as it says: on
@@ -117,6 +125,15 @@ pub fn law_interleaved_transport_is_read()
 pub fn law_default_channels_are_0_and_1()
     ensures { (parts : List (List ℕ)) → All IsOtherParameter parts →
         IsTransport (codes "RTP/AVP/TCP" ++ flat_map (λ part. codes ";" ++ part) parts)
+        (record { media = 0; control = 1 }) }
+{}
+
+/// Words of a Transport value are read in any case, with blanks around each part or not. `mode=play`
+/// and `mode="play"` ask for playback, which is what this server does (RFC 2326 section 12.39).
+pub fn law_transport_words_are_read_in_any_case()
+    ensures { (protocol : List ℕ) (parts : List (List ℕ)) →
+        IsSpelling (codes "rtp/avp/tcp") protocol → All IsPlayParameter parts →
+        IsTransport (protocol ++ flat_map (λ part. codes ";" ++ part) parts)
         (record { media = 0; control = 1 }) }
 {}
 
