@@ -18,3 +18,7 @@ pub mod RequestTexts
 pub mod MeterViolations
 pub mod UniqueEnd
 pub mod UniqueOutcome
+pub mod ReadingCounts
+pub mod NextFrames
+pub mod SessionIds
+pub mod StartRanges

@@ -13,7 +13,7 @@ use Rattle.rtsp_client.specs.declared.watch_request.Watched.{Watched}
 use Rattle.rtsp_client.specs.declared.watch_request.WatchEnd.{WatchEnd}
 use Rattle.rtsp_client.specs.declared.watch_request.WatchEnd.TheVariants.{Done, Fault, LinkFault, NoMemory}
 use Rattle.rtsp_client.specs.declared.watch_request.WatchFault.TheVariants.{Refused, BadReply}
-use Rattle.rtsp_client.specs.Replies.{IsAnswer, play_range, play_start, session_in}
+use Rattle.rtsp_client.specs.Replies.{IsAnswer, play_range, play_start, setup_session}
 use Rattle.rtsp_client.specs.Requests.{play_text}
 use Rattle.rtsp_client.specs.ClientHistory.{History, ClientEvent, Reply, replies, session}
 use Rattle.rtsp_client.specs.Answers.{Gives, GoesOn, IsOrderly, has_fields, is_awaited, payload_of, request_after}
@@ -67,7 +67,7 @@ pub refused-reply : {wish : Wish} {h : History} {c : Client} {m : List ℕ} {cod
 refused-reply {wish} {h} {c} {m} {code} {end} {s} k is other end_is =
     gives wish h (Reply m) end s (inr (inl (code, ((orderly k is, other), end_is))))
 
-fields-first : (h : History) (m : List ℕ) → replies h ≡ 0 → has_fields h m ≡ is_some (session_in m)
+fields-first : (h : History) (m : List ℕ) → replies h ≡ 0 → has_fields h m ≡ is_some (setup_session m)
 fields-first h m none = cond-true (replies h == 0) _ _ (eq-eqb (replies h) 0 none)
 
 fields-second : (h : History) (m : List ℕ) → replies h ≡ 1
@@ -85,7 +85,7 @@ fields-third h m two =
 
 pub setup-lacks : {wish : Wish} {h : History} {c : Client} {m : List ℕ} {end : WatchEnd} {s : Observed}
     → HistoryInvariant wish h c → replies_in c ≡ 0
-    → IsAwaited c m 200 → session_in m ≡ None → end ≡ Fault (BadReply 1) → HasEndedAt wish h (Reply m) end s s
+    → IsAwaited c m 200 → setup_session m ≡ None → end ≡ Fault (BadReply 1) → HasEndedAt wish h (Reply m) end s s
 setup-lacks {wish} {h} {c} {m} {end} {s} k first is none end_is =
     let zero_ : replies h ≡ 0 = sym k.replies_are ∙ first in
     gives wish h (Reply m) end s
@@ -98,23 +98,23 @@ setup-lacks {wish} {h} {c} {m} {end} {s} k first is none end_is =
 -- the reply that is awaited first, with the id of a session
 -- the session that was read of the message in front
 pub session-read : {X E : Type 0} {input waiting : List ℕ} {found : Option X} {r : Result X E} {s : X}
-    (now : X → List ℕ) (length : ℕ) → waiting ≡ input → option_map now found ≡ session_in (take length waiting)
-    → found ≡ result_ok r → r ≡ Ok s → session_in (take length input) ≡ Some (now s)
+    (now : X → List ℕ) (length : ℕ) → waiting ≡ input → option_map now found ≡ setup_session (take length waiting)
+    → found ≡ result_ok r → r ≡ Ok s → setup_session (take length input) ≡ Some (now s)
 session-read now length same read part was =
-    ap (λ i. session_in (take length i)) (sym same) ∙ sym read ∙ ap (option_map now) (part ∙ ap result_ok was)
+    ap (λ i. setup_session (take length i)) (sym same) ∙ sym read ∙ ap (option_map now) (part ∙ ap result_ok was)
 
 pub record SetupReply (wish : Wish) (h : History) (c : Client) (m id : List ℕ) : Type 0 where
   pub keeps : HistoryInvariant wish h c
   pub first : replies_in c ≡ 0
   pub awaited : IsAwaited c m 200
-  pub session_is : session_in m ≡ Some id
+  pub session_is : setup_session m ≡ Some id
 
 setup-good : {wish : Wish} {h : History} {c : Client} {m id : List ℕ} → SetupReply wish h c m id → GoesOn h (Reply m)
 setup-good {h} {m} reply =
     let zero_ : replies h ≡ 0 = sym reply.keeps.replies_are ∙ reply.first in
     ((orderly reply.keeps reply.awaited, fields-first h m zero_ ∙ ap is_some reply.session_is), omega (arith, zero_))
 
-setup-request : (wish : Wish) (h : History) (m id : List ℕ) → replies h ≡ 0 → session_in m ≡ Some id
+setup-request : (wish : Wish) (h : History) (m id : List ℕ) → replies h ≡ 0 → setup_session m ≡ Some id
     → request_after wish h (Reply m) ≡ play_text wish id
 setup-request wish h m id none some =
     cond-true (replies h == 0) _ _ (eq-eqb (replies h) 0 none) ∙ ap (λ o. play_text wish (unwrap_or o [])) some
@@ -237,14 +237,14 @@ play-done {wish} {h} {c} {new} {m} {s} reply same state =
           ∙ ap (λ n. n + 1) (sym one);
       session_is =
           session-same c new same
-          ∙ (k.session_is ∙ sym (cond-false (replies h == 0) (unwrap_or (session_in m) []) (session h) later));
+          ∙ (k.session_is ∙ sym (cond-false (replies h == 0) (unwrap_or (setup_session m) []) (session h) later));
       state =
           subst (λ w. StateInvariant wish (Reply m ∷ h) w) (sym state)
           (keeps-play k.state one reply.start_is reply.range_is);
     })
     (observed-none s
     ∙ ap (λ a. observed_more s a [])
-    (sym (cond-false (replies h == 0) (play_text wish (unwrap_or (session_in m) [])) [] later)))
+    (sym (cond-false (replies h == 0) (play_text wish (unwrap_or (setup_session m) [])) [] later)))
 
 -- ---- the reply to TEARDOWN
 

@@ -19,6 +19,7 @@ use Rattle.rtsp_text.specs.Replies.{Field, value_named}
 use Rattle.rtsp_text.specs.RequestTexts.{RequestPieces, request_head, request_text, IsHeaderField, AreFront, AreRequest}
 use Rattle.rtsp_text.specs.RequestTexts.{AreShort}
 use Rattle.vod_base.proofs.DigitLemmas.{decimal_numerals}
+use Rattle.vod_base.proofs.TextLemmas.{trimmed_is}
 use Rattle.rtsp_text.proofs.GrammarBytes.{word_of, value_of}
 use Rattle.rtsp_text.proofs.RequestTextLemmas.{request_found, request_of, values_of}
 use Rattle.rtsp_text.proofs.LineBounds.{all-append}
@@ -52,16 +53,27 @@ bare-front : (text : List ℕ) → (0 < length text → is_blank (get_or text 0 
 bare-front [] other = refl
 bare-front (c ∷ text) other = cond-false (is_blank c) (without_leading_blanks text) (c ∷ text) (other (omega arith))
 
-bare : (text : List ℕ) → list_all is_url_byte text ≡ true → without_blanks text ≡ text
-bare text all =
+bare-ends : (text : List ℕ) → (0 < length text → is_blank (get_or text 0 0) ≡ false)
+    → (0 < length text → is_blank (get_or text (length text - 1) 0) ≡ false) → without_blanks text ≡ text
+bare-ends text begins ends =
     let back : 0 < length (reverse text) → is_blank (get_or (reverse text) 0 0) ≡ false = λ some.
     let long : 0 < length text = omega (arith, some, length-reverse text) in
     let last : get_or (reverse text) 0 0 ≡ get_or text (length text - 1 - 0) 0 = get_or-reverse text 0 0 long in
-    ap is_blank last
-    ∙ not-blank (get_or text (length text - 1 - 0) 0) (byte-at text (length text - 1 - 0) all (omega (arith, long))) in
-    ap (λ l. reverse (without_leading_blanks (reverse l)))
-    (bare-front text (λ some. not-blank (get_or text 0 0) (byte-at text 0 all some)))
+    let same : length text - 1 - 0 ≡ length text - 1 = omega arith in
+    ap is_blank (last ∙ ap (λ k. get_or text k 0) same) ∙ ends long in
+    ap (λ l. reverse (without_leading_blanks (reverse l))) (bare-front text begins)
     ∙ ap reverse (bare-front (reverse text) back) ∙ reverse-reverse text
+
+bare : (text : List ℕ) → list_all is_url_byte text ≡ true → without_blanks text ≡ text
+bare text all =
+    bare-ends text (λ some. not-blank (get_or text 0 0) (byte-at text 0 all some))
+    (λ some. not-blank (get_or text (length text - 1) 0) (byte-at text (length text - 1) all (omega (arith, some))))
+
+-- what has no blanks around it any more has none
+pub bare-again : (text : List ℕ) → without_blanks (without_blanks text) ≡ without_blanks text
+bare-again text =
+    let trimmed = trimmed_is text in
+    bare-ends (without_blanks text) trimmed.begins trimmed.ends
 
 digits : (n : ℕ) → n < 2 ^ 64 → list_all is_url_byte (decimal n) ≡ true
 digits n small = all_of is_ascii_digit is_url_byte digit-in-url (decimal n) (digits_decimal decimal_numerals n small)
@@ -123,6 +135,16 @@ field-of name value token all = record {
   value_is = value_of value (all_of is_url_byte is_value_byte url-in-value value all);
   bare = bare value all;
 }
+
+-- the field of a session
+session-more : (session : List ℕ) (more : List Field) → IsSessionId session → All IsHeaderField more
+    → All IsHeaderField (record { name = codes "Session"; value = session } ∷ more)
+session-more session more id rest =
+    All-cons IsHeaderField (record { name = codes "Session"; value = session }) more (record {
+      name_is = word_of (codes "Session") refl;
+      value_is = value_of session id.bytes;
+      bare = id.bare;
+    }) rest
 
 -- one field more
 field-more : (name value : List ℕ) (more : List Field) → is_token name ≡ true
@@ -220,8 +242,7 @@ play-front wish session film id = record {
       field-more (codes "CSeq") (codes "2")
       (record { name = codes "Session"; value = session }
       ∷ record { name = codes "Range"; value = codes "npt=0-" } ∷ []) refl refl
-      (field-more (codes "Session") (session) (record { name = codes "Range"; value = codes "npt=0-" } ∷ [])
-      refl id.bytes
+      (session-more session (record { name = codes "Range"; value = codes "npt=0-" } ∷ []) id
       (field-more (codes "Range") (codes "npt=0-") [] refl refl
       (All-nil IsHeaderField)));
 }
@@ -258,8 +279,7 @@ teardown-front wish session film id = record {
   method_is = word_of (codes "TEARDOWN") refl;
   url_is = film-is-url wish film;
   fields_are = field-more (codes "CSeq") (codes "3") (record { name = codes "Session"; value = session } ∷ []) refl refl
-      (field-more (codes "Session") (session) [] refl id.bytes
-      (All-nil IsHeaderField));
+      (session-more session [] id (All-nil IsHeaderField));
 }
 
 teardown-request : (wish : Wish) (session : List ℕ) → IsFilm wish → IsSessionId session

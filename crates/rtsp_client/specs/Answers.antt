@@ -9,7 +9,7 @@ use Rattle.rtsp_client.specs.declared.watch_request.WatchEnd.{WatchEnd}
 use Rattle.rtsp_client.specs.declared.watch_request.WatchEnd.TheVariants.{Done, Fault}
 use Rattle.rtsp_client.specs.declared.watch_request.WatchFault.TheVariants.{Refused, BadReply}
 use Rattle.rtsp_client.specs.declared.watch_request.WatchFault.TheVariants.{BadFrame}
-use Rattle.rtsp_client.specs.Replies.{IsAnswer, play_range, play_start, session_in}
+use Rattle.rtsp_client.specs.Replies.{IsAnswer, play_range, play_start, setup_session}
 use Rattle.rtsp_client.specs.Requests.{play_text, teardown_text}
 use Rattle.rtsp_client.specs.ClientHistory.{History, ClientEvent, Frame, Reply, Report, Slot}
 use Rattle.rtsp_client.specs.ClientHistory.{frames, replies}
@@ -29,7 +29,7 @@ pub record IsOrderly (h : History) (message : List ℕ) (code : ℕ) : Type 0 wh
 -- what a reply with 200 has: a session; or a range from the film's beginning and a start
 abbrev pub has_fields : History → List ℕ → Bool
 has_fields h message =
-    if replies h == 0 then is_some (session_in message)
+    if replies h == 0 then is_some (setup_session message)
     else (if replies h == 1
     then is_some (play_range message) && is_some (play_start message) else true)
 
@@ -66,7 +66,7 @@ GoesOn h (Slot slot cut) = ⊤
 -- the last unit
 abbrev pub request_after : Wish → History → ClientEvent → List ℕ
 request_after wish h (Reply message) = if replies h == 0
-    then play_text wish (unwrap_or (session_in message) []) else []
+    then play_text wish (unwrap_or (setup_session message) []) else []
 request_after wish h (Frame block) = if is_complete (Frame block ∷ h)
     then teardown_text wish (session h) else []
 request_after wish h (Report block) = []

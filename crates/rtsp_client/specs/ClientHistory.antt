@@ -4,7 +4,7 @@ use Rattle.std.specs.Prelude.{ℕ, ◌+◌, ◌==◌, ◌&&◌, Bool, false}
 use Rattle.std.specs.Prelude.{not, max, nat_lt, if◌then◌else◌, List, [], ◌∷◌, ◌++◌, length}
 use Rattle.std.specs.Prelude.{drop, unwrap_or}
 use Rattle.rtp_pack.specs.Heads.{head_at}
-use Rattle.rtsp_client.specs.Replies.{play_range, play_start, session_in}
+use Rattle.rtsp_client.specs.Replies.{play_range, play_start, setup_session}
 
 -- a reply; a block on channel 0, a frame; a block on channel 1, a report; a slot began, while so
 -- many bytes waited of a block on channel 0 or 1 that wasn't whole
@@ -104,7 +104,7 @@ last_slot (Slot slot cut ∷ h) = max slot (last_slot h)
 abbrev pub session : History → List ℕ
 session [] = []
 session (Reply message ∷ h) = if replies h == 0
-    then unwrap_or (session_in message) [] else session h
+    then unwrap_or (setup_session message) [] else session h
 session (Frame block ∷ h) = session h
 session (Report block ∷ h) = session h
 session (Slot slot cut ∷ h) = session h

@@ -3,6 +3,7 @@ pub mod Replies
 pub mod ClientHistory
 pub mod Films
 pub mod Meters
+pub mod MeterReadings
 pub mod States
 pub mod ClientInvariant
 pub mod ControlFlows

@@ -1,6 +1,6 @@
 -- When the meter stays between empty and the buffer: when what came lies between a film's two
 -- curves at each reading.
-use Rattle.std.specs.Prelude.{◌≡◌, ℕ, ◌+◌, ◌<◌, ◌≤◌, ⊤, true, List, [], ◌∷◌, length, sum, take}
+use Rattle.std.specs.Prelude.{◌≡◌, ℕ, ◌+◌, ◌<◌, ◌≤◌, ⊤, true, List, [], ◌∷◌, ◌++◌, length, sum, take}
 use Rattle.rtsp_client.specs.declared.watch_request.Wish.{Wish}
 use Rattle.rtsp_client.specs.ClientHistory.{History, ClientEvent, Frame, Reply, Report, Slot}
 use Rattle.rtsp_client.specs.ClientHistory.{bytes_received, frames, sizes}
@@ -56,3 +56,11 @@ frames_of (Reply message ∷ moments) = frames_of moments
 frames_of (Frame block ∷ moments) = block ∷ frames_of moments
 frames_of (Report block ∷ moments) = frames_of moments
 frames_of (Slot slot cut ∷ moments) = frames_of moments
+
+-- the frames of a history, in order
+abbrev pub frames_heard : History → List (List ℕ)
+frames_heard [] = []
+frames_heard (Reply message ∷ h) = frames_heard h
+frames_heard (Frame block ∷ h) = frames_heard h ++ block ∷ []
+frames_heard (Report block ∷ h) = frames_heard h
+frames_heard (Slot slot cut ∷ h) = frames_heard h

@@ -1,10 +1,11 @@
 -- What a client asks for, as the parts of its requests (RFC 2326 sections 6, 10 and 12).
 use Rattle.std.specs.Prelude.{◌≡◌, ℕ, ◌≤◌, ◌++◌, true, List, [], ◌∷◌, length, codes, decimal, Ok}
 use Rattle.std.specs.List.{list_all}
+use Rattle.vod_base.specs.Blanks.{without_blanks}
 use Rattle.interleave.specs.Elements.{IsFirst}
 use Rattle.interleave.specs.declared.elements.Step.TheVariants.{Request}
 use Rattle.rtsp_text.specs.Fields.{header_value}
-use Rattle.rtsp_text.specs.Grammar.{is_url_byte}
+use Rattle.rtsp_text.specs.Grammar.{is_value_byte}
 use Rattle.rtsp_text.specs.Replies.{value_named}
 use Rattle.rtsp_text.specs.Requests.{IsRequest}
 use Rattle.rtsp_text.specs.RequestTexts.{RequestPieces, request_head}
@@ -45,10 +46,11 @@ teardown_parts wish session = record {
   body = [];
 }
 
--- the id of a session is of at most 1,024 printable bytes other than the space (section 3.4 allows
--- letters, digits and some signs)
+-- the id of a session that a header field may have, without blanks around it, of at most 1,024
+-- bytes (section 3.4 allows letters, digits and some signs)
 pub record IsSessionId (session : List ℕ) : Type 0 where
-  pub bytes : list_all is_url_byte session ≡ true
+  pub bytes : list_all is_value_byte session ≡ true
+  pub bare : without_blanks session ≡ session
   pub short : length session ≤ 1024
 
 -- a text is a request with these parts and this sequence number: it is found whole in front of

@@ -20,7 +20,7 @@ ghost use Rattle.rtsp_client.specs.ClientSteps.{StopsAtElements, TakesElements, 
 ghost use Rattle.rtsp_client.specs.WatchRequests.{IsWish};
 
 use crate::frames::HEADS;
-use crate::replies::{play_range, play_start, reply_code, session_in};
+use crate::replies::{play_range, play_start, reply_code, setup_session};
 use crate::requests::{play_request, setup_request, teardown_request};
 use crate::watch_request::{WatchEnd, WatchFault, Wish};
 use crate::watch_state::WatchState;
@@ -360,7 +360,7 @@ impl Client {
             (stand self.old (K.told link.old)) (stand self.new (K.told link.new)) }
     {
         let message = &self.input.waiting()[..length];
-        let session = session_in(message).ok_or(WatchFault::BadReply(1))?;
+        let session = setup_session(message).ok_or(WatchFault::BadReply(1))?;
         let request = play_request(self.alloc, wish, session)?;
         let kept = Vec::from_slice(self.alloc, session)?;
         link.send(request.as_slice())?;

@@ -1,18 +1,25 @@
 //! What the definitions of a watching come to.
 
-ghost use Rattle.std.specs.Prelude.{◌≡◌, ◌-◌, ◌^◌, ◌<◌, ◌≤◌, ◌↔◌, ◌++◌, ℕ, List, length, take};
-ghost use Rattle.std.specs.Prelude.{drop, Option};
+ghost use Rattle.std.specs.Prelude.{◌≡◌, ◌+◌, ◌-◌, ◌^◌, ◌<◌, ◌≤◌, ◌↔◌, ◌++◌, ℕ, List, length, take};
+ghost use Rattle.std.specs.Prelude.{◌∷◌, [], Option, Some, codes, drop, false, is_ok, true};
+ghost use Rattle.std.specs.List.{filter};
 ghost use Rattle.vod_base.specs.Links.{IoEvent};
 ghost use Rattle.rtp_pack.specs.Packets.{OfUnit};
-ghost use Rattle.film_frames.specs.Laws.{OfRuns, run_frames};
+ghost use Rattle.rtp_pack.specs.Heads.{head_at, head_of};
+ghost use Rattle.film_frames.specs.Laws.{AreConsecutive, OfRuns, run_frames};
 ghost use Rattle.film_frames.specs.FramedRuns.{run_of};
 ghost use Rattle.rtsp_client.specs.Answers.{payloads_of};
 ghost use Rattle.rtsp_client.specs.RequestParts.{IsRequestText, IsSessionId};
 ghost use Rattle.rtsp_client.specs.RequestParts.{play_parts, setup_parts, teardown_parts};
-ghost use Rattle.rtsp_client.specs.Meters.{most_waiting, count_over, count_under};
-ghost use Rattle.rtsp_client.specs.ClientHistory.{History, ClientEvent};
+ghost use Rattle.rtsp_client.specs.Meters.{most_waiting, count_over, count_under, watched_in};
+ghost use Rattle.rtsp_client.specs.MeterReadings.{is_overrun, is_underrun, readings};
+ghost use Rattle.rtsp_client.specs.Films.{is_complete, is_good_frame};
+ghost use Rattle.rtsp_client.specs.Replies.{number_in, play_start, setup_session};
+ghost use Rattle.rtsp_client.specs.ClientHistory.{History, ClientEvent, first_frame, frames};
+ghost use Rattle.rtsp_client.specs.ClientHistory.{is_playing};
 ghost use Rattle.rtsp_client.specs.Outcomes.{IsOutcome, WatchOutcome, events_in};
-ghost use Rattle.rtsp_client.specs.MeterGuarantee.{IsBetweenAlways, IsFilmHeardAlways, frames_of};
+ghost use Rattle.rtsp_client.specs.MeterGuarantee.{IsBetweenAlways, IsFilmHeardAlways};
+ghost use Rattle.rtsp_client.specs.MeterGuarantee.{frames_heard, frames_of};
 ghost use Rattle.rtsp_client.specs.Requests.{play_text, setup_text, teardown_text};
 ghost use Rattle.rtsp_client.specs.WatchRequests.{IsWish};
 ghost use Rattle.rtsp_client.specs.declared.watch_request.Wish.{Wish};
@@ -47,6 +54,42 @@ pub fn law_meter_detects_curve_violations()
         IsBetweenAlways wish sizes picture_time h }
     ensures most { (wish : Wish) (h : History) →
         (most_waiting wish h ≤ wish.buffer) ↔ (count_over wish h ≡ 0) }
+{}
+
+/// The meter counts its readings: `over` is the number of those at which more waited than the buffer
+/// holds, and `under` of those at which a picture was missing that was to be used by then.
+pub fn law_meter_counts_readings()
+    ensures over { (wish : Wish) (h : History) →
+        (watched_in wish h).over ≡ length (filter (is_overrun wish) (readings wish h)) }
+    ensures under { (wish : Wish) (h : History) →
+        (watched_in wish h).under ≡ length (filter is_underrun (readings wish h)) }
+{}
+
+/// A client accepts each further frame of its source whose sequence number is the next one, as long
+/// as units are missing. Numbers count on modulo 2^16 from any first one, so they may wrap: as
+/// those of a run do (RFC 3550 section 5.1).
+pub fn law_next_sequence_number_is_accepted()
+    ensures { (h : History) (block : List ℕ) (first : ℕ) → is_playing h ≡ true →
+        is_complete h ≡ false → 0 < frames h → is_ok (head_of (drop 4 block)) ≡ true →
+        (head_at (drop 4 block)).ssrc ≡ (head_at (drop 4 (first_frame h))).ssrc →
+        AreConsecutive first (frames_heard h ++ block ∷ []) → is_good_frame h block ≡ true }
+{}
+
+/// The start that a client reads in a reply to PLAY is from 1 to 2^62 + 1, and each number in that
+/// range is read.
+pub fn law_play_start_is_in_range()
+    ensures within { (message : List ℕ) (start : ℕ) → play_start message ≡ Some start →
+        (1 ≤ start) × (start ≤ 2 ^ 62 + 1) }
+    ensures read { (message : List ℕ) (start : ℕ) →
+        number_in message (codes "x-Start") ≡ Some start → 1 ≤ start → start ≤ 2 ^ 62 + 1 →
+        play_start message ≡ Some start }
+{}
+
+/// The id of a session that a client takes from the reply to SETUP may stand in a header field of
+/// its requests, where it has at most 1,024 bytes: it has no control byte but the tab.
+pub fn law_session_id_fits_requests()
+    ensures { (message id : List ℕ) → setup_session message ≡ Some id → length id ≤ 1024 →
+        IsSessionId id }
 {}
 
 /// Where the frames that came are those of a run of a film's units, what is handed on are the

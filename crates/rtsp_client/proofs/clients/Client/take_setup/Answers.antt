@@ -7,7 +7,7 @@ use Rattle.rtsp_client.specs.declared.watch_request.WatchFault.{WatchFault}
 use Rattle.rtsp_client.specs.declared.watch_request.WatchFault.TheVariants.{BadReply}
 use Rattle.rtsp_client.specs.HistoryInvariant.{HistoryInvariant}
 use Rattle.rtsp_client.specs.ClientHistory.{History}
-use Rattle.rtsp_client.specs.Replies.{session_in}
+use Rattle.rtsp_client.specs.Replies.{setup_session}
 use Rattle.rtsp_client.specs.Requests.{play_text}
 use Rattle.rtsp_client.proofs.Outcomes.{ok-or-err}
 use Rattle.rtsp_client.proofs.ReplyResults.{SetupReply, first-reply, session-read, setup-cut, setup-done, setup-lacks}
@@ -24,7 +24,7 @@ reply g c h k = record {
   first = c.requires.first;
   awaited = c.requires.good;
   session_is = session-read (λ s. s.now)
-      c.args.length c.waiting.ensures c.session_in.ensures c.ok_or.ensures.ok_part (c.in_ok-session.was {u = tt});
+      c.args.length c.waiting.ensures c.setup_session.ensures c.ok_or.ensures.ok_part (c.in_ok-session.was {u = tt});
 }
 
 pub returns-in_err-session-clause-ended : goal.returns-in_err-session-clause-ended
@@ -33,11 +33,11 @@ returns-in_err-session-clause-ended g c =
     let lacks = ok-or-err (BadReply 1) c.ok_or.ensures.value c.ok_or.ensures.ok_part (c.in_err-session.was {u = tt}) in
     rw (p.1, p.2)
     (λ out h k.
-    let here : session_in (take c.args.length c.waiting.result.now) ≡ None =
-    sym c.session_in.ensures ∙ ap (option_map (λ s. s.now)) lacks.0 in
+    let here : setup_session (take c.args.length c.waiting.result.now) ≡ None =
+    sym c.setup_session.ensures ∙ ap (option_map (λ s. s.now)) lacks.0 in
     setup-lacks
     k c.requires.first c.requires.good
-    (ap (λ i. session_in (take c.args.length i)) (sym c.waiting.ensures) ∙ here)
+    (ap (λ i. setup_session (take c.args.length i)) (sym c.waiting.ensures) ∙ here)
     (ap (λ (f : WatchFault). Fault f) lacks.1))
 
 pub returns-in_err-request-clause-ended : goal.returns-in_err-request-clause-ended
