@@ -61,10 +61,12 @@ put() {
     echo "$1 $3 $2" >>"$work/files"
 }
 
-# put_folder MODE FOLDER PLACE: notes all files of a folder.
+# put_folder FOLDER PLACE: notes all files of a folder.
 put_folder() {
-    for file in "$2"/*; do
-        [ ! -f "$file" ] || put "$1" "$file" "$3/${file##*/}"
+    for file in "$1"/*; do
+        mode=644
+        [ ! -x "$file" ] || mode=755
+        [ ! -f "$file" ] || put $mode "$file" "$2/${file##*/}"
     done
 }
 
@@ -80,7 +82,7 @@ list_files() {
     put 755 "$tools/start.py" "$lib/start.py"
     put 755 "$tools/monitor.py" "$lib/monitor.py"
     put 755 "$tools/draw.py" "$lib/draw.py"
-    put_folder 644 "$tools/vodtools" "$lib/vodtools"
+    put_folder "$tools/vodtools" "$lib/vodtools"
     put 644 "$tools/vodserve.1" "$man/man1/vodserve.1"
     echo '.so man1/vodserve.1' >"$work/other.1"
     put 644 "$work/other.1" "$man/man1/vodserve-monitor.1"
@@ -95,8 +97,8 @@ list_files() {
     for file in README.md CHANGELOG.md SECURITY.md; do
         [ ! -f "$top/$file" ] || put 644 "$top/$file" "$doc/$file"
     done
-    put_folder 644 "$top/docs" "$doc/docs"
-    put_folder 644 "$top/examples" "$doc/examples"
+    put_folder "$top/docs" "$doc/docs"
+    put_folder "$top/examples" "$doc/examples"
     # the settings of an administrator stay
     [ -e "$destdir$settings" ] || put 644 "$top/examples/vodserve.conf" "$settings"
 }
