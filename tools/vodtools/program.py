@@ -2,7 +2,6 @@
 
 import os
 import subprocess
-from fractions import Fraction
 from pathlib import Path
 
 TOOLS = Path(__file__).resolve().parent.parent
@@ -57,4 +56,4 @@ def slots_of(segments):
 
 def mbit_per_second(size, slot_units):
     """Returns bytes in a slot as Mbit/s."""
-    return float(Fraction(size * 8 * UNITS_PER_SECOND, slot_units * 1_000_000))
+    return size * 8 * UNITS_PER_SECOND / (slot_units * 1_000_000)

@@ -150,7 +150,12 @@ def check_film(folder, name):
 
 
 def read_films(text, folder):
-    """Returns the names of the films: those that are named, or all of the folder."""
+    """Returns the names of the films: those that are named, or all of the folder.
+
+    Without a folder, as on another machine than the server's, names aren't looked for.
+    """
+    if folder is None:
+        return [] if text == "all" else text.split()
     if not os.path.isdir(folder):
         raise BadValue(f"there is no folder {folder} for the films")
     if text == "all":
@@ -173,7 +178,7 @@ class Settings:
     """The settings of a file, each with its line, and what they mean to the program."""
 
     def __init__(self, file, folder="."):
-        self.file, self.folder = file, os.path.abspath(folder)
+        self.file, self.folder = file, os.path.abspath(folder) if folder else None
         self.lines = {}
         self.values = dict(DEFAULTS)
         self.read_lines()
