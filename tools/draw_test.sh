@@ -1,8 +1,15 @@
 #!/bin/sh
-# Compares the numbers that draw.py draws with what `plan` and `day` print: tools/draw_test.sh [PROGRAM]
+# Compares the numbers that draw.py draws with what `plan` and `day` print:
 #
-# PROGRAM is the built vodserve (default: ../crates/vodserve/out/vodserve). All files are made in a folder that is removed again.
+#   tools/draw_test.sh [PROGRAM]
+#
+# PROGRAM is the built vodserve (default: ../crates/vodserve/out/vodserve). All files are made in a
+# folder that is removed again.
+# shellcheck disable=SC2086
 set -eu
+case ${1-} in
+    -h | --help) sed -n '2,/^# shellcheck/{/^# shellcheck/d;s/^# \{0,1\}//p}' "$0" && exit 0 ;;
+esac
 here=$(cd "$(dirname "$0")" && pwd)
 program=$(realpath "${1:-$here/../crates/vodserve/out/vodserve}")
 folder=$(mktemp -d)
@@ -21,7 +28,8 @@ drawn = {}
 for kind in ("polyline", "path"):
     for element in minidom.parse("plan.svg").getElementsByTagName(kind):
         if element.hasAttribute("data-values"):
-            drawn[element.getAttribute("id")] = [int(n) for n in element.getAttribute("data-values").split()]
+            numbers = element.getAttribute("data-values").split()
+            drawn[element.getAttribute("id")] = list(map(int, numbers))
 lines = [line.split() for line in open("plan.txt")]
 slots, total = int(lines[1][1]), int(lines[2][1])
 sizes = [int(n) for n in open("trace.txt").read().split()]
@@ -74,7 +82,8 @@ from xml.dom import minidom
 drawn = {}
 for element in minidom.parse("day.svg").getElementsByTagName("path"):
     if element.hasAttribute("data-values"):
-        drawn[element.getAttribute("id")] = [int(n) for n in element.getAttribute("data-values").split()]
+        numbers = element.getAttribute("data-values").split()
+        drawn[element.getAttribute("id")] = list(map(int, numbers))
 plays = [values for name, values in drawn.items() if name.startswith("play")]
 booked = [sum(values) for values in zip(*plays)]
 lines = [line.split() for line in open("day.txt")]
