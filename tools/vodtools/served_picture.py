@@ -9,7 +9,7 @@ from collections import Counter
 
 from vodtools.day_picture import Play, capacity_steps
 from vodtools.panels import FACE, GAP, HEIGHT, LEFT, Panel, WIDTH, legend, svg_of_parts
-from vodtools.program import run, segments_of, slots_of
+from vodtools.program import mbit_per_second, run, segments_of, slots_of
 
 ENTRY = re.compile(
     r"(?P<number>\d+) seat=(?P<seat>\d+) (?:"
@@ -111,7 +111,16 @@ def stopped_early(play):
     return play.keep < play.total
 
 
-def table_of(served, booked, steps):
+def load_of(booked, steps, units):
+    """Returns the greatest load as a text: bytes, rate, slot, and share of the capacity."""
+    slot, size = max(booked.items(), key=lambda it: (it[1], -it[0]))
+    limit = [most for begin, most in steps if begin <= slot][-1]
+    rate = f"{mbit_per_second(size, units):.2f} Mbit/s"
+    share = f", {100 * size / limit:.0f} %" if limit else ""
+    return f"{size:,} of {limit:,} bytes in slot {slot:,} ({rate}{share})"
+
+
+def table_of(served, booked, steps, units):
     """Returns the summary as pairs of a name and a text."""
     plays, refused = len(served.plays), len(served.refused)
     rows = [
@@ -122,13 +131,10 @@ def table_of(served, booked, steps):
     rows.append(("halts", f"{len(served.halts):,}: {early:,} before the film's end"))
     rows.append(("looks", f"{len(served.looks):,}"))
     if booked:
-        slot, size = max(booked.items(), key=lambda it: (it[1], -it[0]))
-        limit = [most for begin, most in steps if begin <= slot][-1]
-        share = f" ({100 * size / limit:.0f} %)" if limit else ""
-        rows.append(("greatest load", f"{size:,} of {limit:,} bytes in slot {slot:,}{share}"))
+        rows.append(("greatest load", load_of(booked, steps, units)))
     counts = Counter(full for _, full in served.refused).most_common(MOST_ROWS)
     for slot, count in counts:
-        rows.append((f"no room in slot {slot:,}", f"{count:,} plays refused"))
+        rows.append((f"no room in slot {slot:,}", f"{count:,} refused"))
     rest = len({full for _, full in served.refused}) - len(counts)
     if rest > 0:
         rows.append(("other slots without room", f"{rest:,}"))
@@ -169,7 +175,7 @@ def draw_events(panel, served, top):
     return top
 
 
-def svg_of_served(served, steps):
+def svg_of_served(served, steps, units):
     """Returns the picture: bookings below the capacity, marks of plays, and the table."""
     booked = served.booked()
     used = [*booked, *(asked for asked, _ in served.refused)] or [0]
@@ -184,7 +190,7 @@ def svg_of_served(served, steps):
     panel.steps("booked", values_of(booked, first, count, each), "#2f6fb5", "#cfe0f3", 1)
     panel.steps("capacity", limits, "#c33")
     top = draw_events(panel, served, 30 + HEIGHT + GAP)
-    for name, text in table_of(served, booked, steps):
+    for name, text in table_of(served, booked, steps, units):
         top += 18
         panel.parts.append(
             f'<text x="{LEFT}" y="{top}" {FACE}>{name}</text>'
@@ -206,7 +212,8 @@ def plans_of(program, words):
 def draw_served(program, words):
     served = Served(words["file"], plans_of(program, words))
     steps = capacity_steps(words.get("capacity", "50000"))
+    units = int(words.get("slot", "14400"))
     if words.get("form") == "table":
-        rows = table_of(served, served.booked(), steps)
+        rows = table_of(served, served.booked(), steps, units)
         return "".join(f"{name:28}{text}\n" for name, text in rows)
-    return svg_of_served(served, steps)
+    return svg_of_served(served, steps, units)
