@@ -22,7 +22,7 @@ shown=0
 ask() {
     for line in "$@" ''; do
         printf '%s\r\n' "$line"
-    done | tee "$folder/request" >&3
+    done | tee "$folder/request" >&3 || true
     tr -d '\r' <"$folder/request" | sed 's/^/> /'
     for _ in 1 2 3 4 5 6 7 8 9 10 11 12 13 14 15 16 17 18 19 20; do
         sleep 0.2
@@ -42,6 +42,6 @@ session=$(tr -d '\r' <"$folder/replies" | LC_ALL=C sed -n 's/^Session: //p')
 ask "PLAY $url RTSP/1.0" "CSeq: 4" "Session: $session"
 sleep 1
 echo "(then media: $(($(wc -c <"$folder/replies") - shown)) bytes in a second)"
-printf 'TEARDOWN %s RTSP/1.0\r\nCSeq: 5\r\nSession: %s\r\n\r\n' "$url" "$session" >&3
+(printf 'TEARDOWN %s RTSP/1.0\r\nCSeq: 5\r\nSession: %s\r\n\r\n' "$url" "$session") >&3 || true
 exec 3>&-
 wait

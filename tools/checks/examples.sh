@@ -6,7 +6,10 @@ chmod -R u+w .
 
 # shown NAME: prints the block of README.md that follows the line `<!-- NAME -->`.
 shown() {
-    sed -n "/^<!-- $1 -->\$/,/^\`\`\`\$/{/^<!--/d;/^\`\`\`/d;p}" README.md
+    awk -v mark="<!-- $1 -->" '
+        $0 == mark {found = 1}
+        found && /^```/ {if (open) exit; open = 1; next}
+        open {print}' README.md
 }
 # mask: hides what differs from one run to another: session, source, first numbers, counts.
 mask() {

@@ -23,14 +23,14 @@ PYTHON
 draw capacity film=colours.mpg >film.svg
 try "capacity: a film, in three buffers" test "$(grep -c '<rect id="bar' film.svg)" = 4
 
-# a server of one worker: two plays, one of which is stopped early, and one without room
+# two plays, of which one has no room, and a look; then the server ends
 port=$(free_port)
 capacity=2000
 "$program" serve film=colours.mpg port="$port" workers=3 connections=1 capacity=$capacity \
-    startup=0 >served.txt &
+    >served.txt &
 server=$!
 wait_for_port "$port"
-watch() { "$program" watch film=colours.mpg port="$port" startup=0; }
+watch() { "$program" watch film=colours.mpg port="$port"; }
 watch >copy.mpg 2>/dev/null &
 first=$!
 sleep 1
@@ -44,8 +44,8 @@ with socket.create_connection(("127.0.0.1", int(sys.argv[1]))) as server:
     server.recv(65536)' "$port"
 wait $first $server
 same "serve ended by itself" $? 0
-draw served file=served.txt capacity=$capacity films=colours.mpg startup=0 >served.svg
-draw served file=served.txt capacity=$capacity films=colours.mpg startup=0 form=table >table.txt
+draw served file=served.txt capacity=$capacity films=colours.mpg >served.svg
+draw served file=served.txt capacity=$capacity films=colours.mpg form=table >table.txt
 try "served: the table" python3 - <<'PYTHON'
 rows = {line[:28].strip(): line[28:].strip() for line in open("table.txt")}
 assert rows["connections"] == "3" and rows["plays"] == "2: 1 admitted, 1 refused", rows
@@ -63,12 +63,12 @@ assert sum(booked) == size and max(booked) <= 2000, (sum(booked), size)
 # a refusal and a look name what was booked in a slot
 first = int(re.search(r"admitted start=(\d+)", text)[1])
 asked = min(first, *(int(it) for it in re.findall(r"play slot=(\d+) .*overflow", text)))
-for slot, value in re.findall(r"overflow slot=(\d+) booked=(\d+)|at=(\d+) booked=(\d+)", text) and [
-        (a or c, b or d) for a, b, c, d in
-        re.findall(r"overflow slot=(\d+) booked=(\d+)|at=(\d+) booked=(\d+)", text)]:
+named = re.findall(r"(?:overflow slot|at)=(\d+) booked=(\d+)", text)
+assert len(named) == 2, named
+for slot, value in named:
     assert booked[int(slot) - asked] == int(value), (slot, value)
 PYTHON
-draw served file=served.txt capacity=$capacity startup=0 form=table >even.txt
+draw served file=served.txt capacity=$capacity form=table >even.txt
 try "served: without films the bytes are spread evenly" grep -q "evenly spread" even.txt
 sed '2s/play/paly/' served.txt >bad.txt
 refuses "refused: not a line of serve" 1 "bad.txt:2: '1 seat=" draw served file=bad.txt
