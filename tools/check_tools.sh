@@ -4,7 +4,7 @@
 # PROGRAM is the built vodserve (default: crates/vodserve/out/vodserve). PART names files of
 # tools/checks (default: all of them). Prints a line for each check, and at the end how many passed,
 # failed, and were skipped because a program or a right is missing. The status is 0 if none failed.
-# All files are made in a folder for temporary files. Only the part `package` needs root: it
+# All files are in a temporary folder. Only the part `package` needs root: it
 # installs the package into a copy of this system that is thrown away.
 set -u
 tools=$(dirname -- "$(readlink -f -- "$0")")

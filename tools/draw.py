@@ -43,34 +43,34 @@ def fail(text, status=2):
     sys.exit(status)
 
 
-def words_of(picture, arguments):
+def args_of(picture, given):
     """Returns the arguments by key; refuses those that the picture doesn't take."""
     _, needed, others = PICTURES[picture]
-    words = {}
-    for argument in arguments:
+    args = {}
+    for argument in given:
         key, found, value = argument.partition("=")
-        if not found or not value or key in words:
+        if not found or not value or key in args:
             fail(f"'{argument}': an argument is key=value, each key once")
         if key not in (*needed, *others, "program"):
             fail(f"{picture} takes no '{key}'; it takes {', '.join((*needed, *others))}")
         if key in NUMBERS and not value.isdigit():
             fail(f"'{argument}': {key} is a number")
-        words[key] = value
-    if sum(key in words for key in needed) != 1:
+        args[key] = value
+    if sum(key in args for key in needed) != 1:
         fail(f"{picture} needs {' or '.join(f'{key}=NAME' for key in needed)}")
-    check_lists(picture, words)
-    return words
+    check_lists(picture, args)
+    return args
 
 
-def check_lists(picture, words):
+def check_lists(picture, args):
     """Refuses capacities and buffers that aren't numbers, and other forms than the table."""
-    parts = words.get("buffers", "1").split(",") + words.get("capacity", "1").split(",")
+    parts = args.get("buffers", "1").split(",") + args.get("capacity", "1").split(",")
     numbers = [number for part in parts for number in part.split(":")]
     if not all(number.isdigit() for number in numbers):
         fail("capacity and buffers are numbers of bytes, buffers several with ',' between them")
-    if picture == "capacity" and not words.get("capacity", "1").isdigit():
+    if picture == "capacity" and not args.get("capacity", "1").isdigit():
         fail("capacity is one number of bytes in a slot here, for example 50000")
-    if words.get("form", "table") != "table":
+    if args.get("form", "table") != "table":
         fail("form is 'table'; without it the picture is drawn")
 
 
@@ -80,10 +80,10 @@ def main():
         return
     if len(sys.argv) < 2 or sys.argv[1] not in PICTURES:
         fail(f"draw.py draws {', '.join(PICTURES)}; 'draw.py --help' shows how")
-    words = words_of(sys.argv[1], sys.argv[2:])
+    args = args_of(sys.argv[1], sys.argv[2:])
     try:
-        program = find_program(words.pop("program", None))
-        sys.stdout.write(PICTURES[sys.argv[1]][0](program, words))
+        program = find_program(args.pop("program", None))
+        sys.stdout.write(PICTURES[sys.argv[1]][0](program, args))
     except (ProgramError, BadText) as error:
         fail(error, 1)
     except OSError as error:

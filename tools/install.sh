@@ -50,7 +50,7 @@ esac
 prefix=$(realpath -ms -- "$prefix")
 settings=$prefix/etc/vodserve.conf
 [ "$prefix" != /usr ] || settings=/etc/vodserve.conf
-# one line a file that was installed, checksum and place, and one a folder that was made for it
+# one line a file that was installed, checksum and place, and one a folder that was created for it
 list=$prefix/lib/vodserve/installed
 work=$(mktemp -d)
 trap 'rm -rf "$work"' EXIT
@@ -121,15 +121,15 @@ check_places() {
     done <"$work/files"
 }
 
-# make_folder FOLDER: makes a folder and those above it, and notes each that wasn't there.
+# make_folder FOLDER: creates a folder and those above it, and notes each that wasn't there.
 make_folder() {
     [ ! -d "$destdir$1" ] || return 0
     make_folder "$(dirname "$1")"
-    mkdir "$destdir$1" 2>/dev/null || fail "$destdir$1 can't be made"
+    mkdir "$destdir$1" 2>/dev/null || fail "$destdir$1 can't be created"
     echo "folder - $1" >>"$work/installed"
 }
 
-# note_link PLACE TARGET: makes a name in PREFIX/bin for a tool, and notes it.
+# note_link PLACE TARGET: creates a name in PREFIX/bin for a tool, and notes it.
 note_link() {
     ln -sf "$2" "$destdir$1"
     echo "link $2 $1" >>"$work/installed"
@@ -148,7 +148,7 @@ put_files() {
     install -m 644 "$work/installed" "$destdir$list"
 }
 
-# keep_notes: prints what still stands of the earlier installation's list: settings and folders.
+# keep_notes: prints what is left of the earlier installation: settings and folders.
 keep_notes() {
     [ -f "$work/before" ] || return 0
     while read -r kind sum place; do

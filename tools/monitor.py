@@ -93,19 +93,19 @@ def start_page(state, given):
 
 
 def read_arguments():
-    words = argparse.ArgumentParser(
+    parser = argparse.ArgumentParser(
         description=__doc__, formatter_class=argparse.RawDescriptionHelpFormatter
     )
-    words.add_argument("settings", help="the server's settings file, as /etc/vodserve.conf")
-    words.add_argument("--folder", default="/var/lib/vodserve", help="the films' folder")
-    words.add_argument("--host", default="127.0.0.1", help="the server's address")
-    words.add_argument("--every", type=float, default=60, help="seconds between two questions")
-    words.add_argument("--hours", type=float, default=6, help="hours that the chart shows")
-    words.add_argument("--page", type=int, default=8555, help="the page's port; 0: no page")
-    words.add_argument("--no-look", action="store_true", help="never ask x-Booked")
-    words.add_argument("--once", action="store_true", help="ask once; status 1 if it is down")
-    words.add_argument("--program", help="the program for plans; default: the one that is here")
-    given = words.parse_args()
+    parser.add_argument("settings", help="the server's settings file, as /etc/vodserve.conf")
+    parser.add_argument("--folder", default="/var/lib/vodserve", help="the films' folder")
+    parser.add_argument("--host", default="127.0.0.1", help="the server's address")
+    parser.add_argument("--every", type=float, default=60, help="seconds between two questions")
+    parser.add_argument("--hours", type=float, default=6, help="hours that the chart shows")
+    parser.add_argument("--page", type=int, default=8555, help="the page's port; 0: no page")
+    parser.add_argument("--no-look", action="store_true", help="never ask x-Booked")
+    parser.add_argument("--once", action="store_true", help="ask once; status 1 if it is down")
+    parser.add_argument("--program", help="the program for plans; default: the one that is here")
+    given = parser.parse_args()
     if not given.every >= 1 or not 0 < given.hours <= 1000:
         fail("--every is at least 1 second, and --hours more than 0 and at most 1,000")
     if not 0 <= given.page <= 65535:

@@ -114,12 +114,12 @@ def raise_files(settings):
 
 
 def read_arguments():
-    words = argparse.ArgumentParser(description=__doc__.split("\n\n")[0])
-    words.add_argument("settings", help="the settings file, as examples/vodserve.conf")
-    words.add_argument("--check", action="store_true", help="print the command and start nothing")
-    words.add_argument("--program", help="the program to run; default: the one that belongs here")
-    words.add_argument("--folder", default=".", help="the films' folder; default: the current one")
-    return words.parse_args()
+    parser = argparse.ArgumentParser(description=__doc__.split("\n\n")[0])
+    parser.add_argument("settings", help="the settings file, as examples/vodserve.conf")
+    parser.add_argument("--check", action="store_true", help="print the command and start nothing")
+    parser.add_argument("--program", help="the program to run; default: the one that belongs here")
+    parser.add_argument("--folder", default=".", help="the films' folder; default: the current one")
+    return parser.parse_args()
 
 
 def main():

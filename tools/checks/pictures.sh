@@ -81,5 +81,7 @@ refuses "refused: an unknown argument" 2 "plan takes no 'film'; it takes trace, 
     draw plan film=colours.mpg
 refuses "refused: no input" 2 "capacity needs film=NAME or trace=NAME" draw capacity capacity=9
 refuses "refused: no number" 2 "'slot=x': slot is a number" draw capacity film=colours.mpg slot=x
+refuses "refused: a film as a trace" 1 "vodserve: colours.mpg: BadTrace 0" \
+    draw plan trace=colours.mpg
 refuses "refused: what the program refuses" 1 "vodserve: none.mpg: NotFound" \
     draw capacity film=none.mpg

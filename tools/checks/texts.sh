@@ -44,12 +44,12 @@ manual_has() {
     local word
     for word in $(sed -n 's/^  \([a-z]*\) .*[a-z]=.*/\1/p' help.txt) \
         $(grep -o '[a-z]*=' help.txt | sort -u) 0 1 2 3 4 5 6 7 8; do
-        grep -q -- "\b$word" page.txt || { echo "the page lacks $word" && return 1; }
+        grep -q -- "\b$word" page.txt || { echo "the page doesn't have $word" && return 1; }
     done
     # the defaults of the keys, where the page writes them with no unit
     awk '/^  [a-z]+ .* [0-9]+$/ {print $1, $NF}' help.txt | while read -r key default; do
         grep -A4 -- "^ *$key=" page.txt | grep -q "Default: $default" ||
-            { echo "the page lacks the default $default of $key" && return 1; }
+            { echo "the page has no default $default of $key" && return 1; }
     done
 }
 if have man && have col; then

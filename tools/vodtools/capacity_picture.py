@@ -22,10 +22,10 @@ FACE = 'font-family="sans-serif"'
 GREY, BLUE, INK, SOFT = "#9aa3ad", "#2f6fb5", "#1d2733", "#5b6775"
 
 
-def unsmoothed_peak(program, words):
+def unsmoothed_peak(program, args):
     """Returns the most bytes that one slot of the unsmoothed film needs."""
     try:
-        segments = segments_of(run(program, "plan", {**words, "buffer": 1}))
+        segments = segments_of(run(program, "plan", {**args, "buffer": 1}))
     except ProgramError as error:
         parts = str(error).split()
         if len(parts) == 6 and parts[2] == "BufferTooSmall":
@@ -42,18 +42,18 @@ def size_of(count):
     return f"{count:,} bytes"
 
 
-def rows_of(program, words, capacity, buffers):
+def rows_of(program, args, capacity, buffers):
     """Returns for each bar its name, the peak of a slot in bytes, and the number of streams."""
-    peak = unsmoothed_peak(program, words)
+    peak = unsmoothed_peak(program, args)
     rows = [("unsmoothed", peak, capacity // peak)]
     for buffer in buffers:
-        peak = peak_of(segments_of(run(program, "plan", {**words, "buffer": buffer})))
+        peak = peak_of(segments_of(run(program, "plan", {**args, "buffer": buffer})))
         rows.append((f"{size_of(buffer)} buffer", peak, capacity // peak))
     return rows
 
 
-def text(x, y, size, color, words, more=""):
-    return f'<text x="{x}" y="{y}" {FACE} font-size="{size}" fill="{color}" {more}>{words}</text>'
+def text(x, y, size, color, args, more=""):
+    return f'<text x="{x}" y="{y}" {FACE} font-size="{size}" fill="{color}" {more}>{args}</text>'
 
 
 def bar(place, row, most, slot):
@@ -73,14 +73,14 @@ def bar(place, row, most, slot):
     ]
 
 
-def draw_capacity(program, words):
-    capacity = int(words.pop("capacity", "50000"))
-    buffers = [int(it) for it in words.pop("buffers", BUFFERS).split(",")]
-    slot = int(words.get("slot", "14400"))
-    rows = rows_of(program, words, capacity, buffers)
-    film = words.get("film") or words["trace"]
+def draw_capacity(program, args):
+    capacity = int(args.pop("capacity", "50000"))
+    buffers = [int(it) for it in args.pop("buffers", BUFFERS).split(",")]
+    slot = int(args.get("slot", "14400"))
+    rows = rows_of(program, args, capacity, buffers)
+    film = args.get("film") or args["trace"]
     link = f"{mbit_per_second(capacity, slot):.4g} Mbit/s"
-    delay = int(words.get("startup", "25")) * slot / UNITS_PER_SECOND
+    delay = int(args.get("startup", "25")) * slot / UNITS_PER_SECOND
     parts = [
         text(24, 38, 22, INK, f"Streams that a link of {link} can guarantee", 'font-weight="600"'),
         text(24, 64, 15, SOFT, f"{film}, by the client's buffer; start delay {delay:g} s"),

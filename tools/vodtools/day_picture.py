@@ -33,11 +33,11 @@ class Play:
 class Day:
     """The plays of a script, as the lines that `day` printed show them."""
 
-    def __init__(self, program, words):
-        self.program, self.words = program, words
-        self.printed = run(program, "day", words)
+    def __init__(self, program, args):
+        self.program, self.args = program, args
+        self.printed = run(program, "day", args)
         self.at, self.slot, self.plays, self.open = 0, 0, [], {}
-        with open(words["script"], encoding="ascii") as script:
+        with open(args["script"], encoding="ascii") as script:
             self.lines = script.read().splitlines()
         for number, line in enumerate(self.lines, 1):
             self.follow(line.split(), number)
@@ -72,10 +72,10 @@ class Day:
 
     def asked(self, line):
         """Returns the bytes of each slot of the plan that a line `play` asks for."""
-        words = {line[2]: line[3], "buffer": line[4], "startup": line[5]}
-        if line[2] == "film" and "slot" in self.words:
-            words["slot"] = self.words["slot"]
-        return slots_of(segments_of(run(self.program, "plan", words)))
+        args = {line[2]: line[3], "buffer": line[4], "startup": line[5]}
+        if line[2] == "film" and "slot" in self.args:
+            args["slot"] = self.args["slot"]
+        return slots_of(segments_of(run(self.program, "plan", args)))
 
     def resumed(self, number, printed):
         """Returns the bytes of each slot of the plan with which the `resume` of a line asked.
@@ -94,14 +94,14 @@ class Day:
     def calendar_until(self, number, end):
         """Returns what `day` prints for the script up to a line, and then for the slot `end`."""
         lines = map(str.split, self.lines[:number])
-        names = {words[3] for words in lines if words and words[0] in ("play", "offer")}
+        names = {args[3] for args in lines if args and args[0] in ("play", "offer")}
         script = next(name for name in map(str, range(len(names) + 1)) if name not in names)
         with tempfile.TemporaryDirectory() as folder:
             for name in names:
                 os.symlink(os.path.abspath(name), os.path.join(folder, name))
             with open(os.path.join(folder, script), "w", encoding="ascii") as front:
                 front.write("\n".join(self.lines[:number] + [f"slot {end}"]) + "\n")
-            return run(self.program, "day", dict(self.words, script=script), folder)
+            return run(self.program, "day", dict(self.args, script=script), folder)
 
     def admit(self, client, printed, slots):
         play = Play(int(printed[0]), client, start_of(printed), slots)
@@ -133,10 +133,10 @@ def capacities_of(text, end):
     return values
 
 
-def draw_day(program, words):
-    day = Day(program, words)
+def draw_day(program, args):
+    day = Day(program, args)
     end = max([day.slot + 1] + [play.start + len(play.slots) for play in day.plays])
-    capacities = capacities_of(words.get("capacity", "50000"), end)
+    capacities = capacities_of(args.get("capacity", "50000"), end)
     title = "bytes booked in each slot, play on play, below the capacity"
     panel = Panel(30, end, max(capacities), title)
     below, layers = [0] * end, []

@@ -67,7 +67,7 @@ class Panel:
         ) + f"V{self.y(0)}"
 
     def steps(self, name, values, color, fill="none", width=2):
-        """Draws a value over the whole of each slot."""
+        """Draws a value across each slot."""
         path = self.outline(values)
         rest = f'd="{path}" fill="{fill}" stroke="{color}" stroke-width="{width}"'
         self.add("path", name, values, rest)

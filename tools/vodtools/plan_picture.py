@@ -20,11 +20,12 @@ def limits_of(sizes, buffer, startup):
     return low, high
 
 
-def draw_plan(program, words):
-    with open(words["trace"], encoding="ascii") as file:
-        sizes = [int(word) for word in file.read().split()]
-    buffer, startup = int(words.get("buffer", 1048576)), int(words.get("startup", 25))
-    plan = slots_of(segments_of(run(program, "plan", words)))
+def draw_plan(program, args):
+    buffer, startup = int(args.get("buffer", 1048576)), int(args.get("startup", 25))
+    plan = slots_of(segments_of(run(program, "plan", args)))
+    # the program accepted the trace, so it has numbers alone
+    with open(args["trace"], encoding="ascii") as file:
+        sizes = [int(number) for number in file.read().split()]
     low, high = limits_of(sizes, buffer, startup)
     pictures = [0] * (len(plan) - len(sizes)) + sizes
     upper = Panel(30, len(plan), high[-1], "bytes sent by the end of each slot")

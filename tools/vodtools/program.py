@@ -26,9 +26,9 @@ def find_program(given=None):
     raise ProgramError(f"there is no program at {' or '.join(map(str, places))}")
 
 
-def run(program, command, words, folder=None):
-    """Returns what a command prints, each line as its words. `words` maps keys to values."""
-    call = [program, command] + [f"{key}={value}" for key, value in words.items()]
+def run(program, command, args, folder=None):
+    """Returns what a command prints, each line split at blanks. `args` maps keys to values."""
+    call = [program, command] + [f"{key}={value}" for key, value in args.items()]
     done = subprocess.run(call, capture_output=True, text=True, cwd=folder, check=False)
     if done.returncode != 0:
         raise ProgramError(done.stderr.strip() or f"{program}: status {done.returncode}")

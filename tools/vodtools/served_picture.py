@@ -200,20 +200,20 @@ def svg_of_served(served, steps, units):
     return svg_of_parts(LEFT + WIDTH + 20, top + 40, panel.parts + legend(top + 28, entries))
 
 
-def plans_of(program, words):
+def plans_of(program, args):
     """Returns the plans of the films that are named."""
-    names = [name for name in words.get("films", "").split(",") if name]
-    keys = {key: words[key] for key in ("buffer", "startup", "slot") if key in words}
+    names = [name for name in args.get("films", "").split(",") if name]
+    keys = {key: args[key] for key in ("buffer", "startup", "slot") if key in args}
     return [
         slots_of(segments_of(run(program, "plan", {"film": name, **keys}))) for name in names
     ]
 
 
-def draw_served(program, words):
-    served = Served(words["file"], plans_of(program, words))
-    steps = capacity_steps(words.get("capacity", "50000"))
-    units = int(words.get("slot", "14400"))
-    if words.get("form") == "table":
+def draw_served(program, args):
+    served = Served(args["file"], plans_of(program, args))
+    steps = capacity_steps(args.get("capacity", "50000"))
+    units = int(args.get("slot", "14400"))
+    if args.get("form") == "table":
         rows = table_of(served, served.booked(), steps, units)
         return "".join(f"{name:28}{text}\n" for name, text in rows)
     return svg_of_served(served, steps, units)

@@ -40,14 +40,14 @@ class Film:
         if settings.folder is None:
             self.error = "the film isn't on this machine"
             return
-        words = {
+        args = {
             "film": self.name,
             "buffer": settings.buffer,
             "startup": settings.startup,
             "slot": settings.slot,
         }
         try:
-            segments = program.segments_of(program.run(path, "plan", words, settings.folder))
+            segments = program.segments_of(program.run(path, "plan", args, settings.folder))
         except (program.ProgramError, OSError) as error:
             self.error = str(error)
             return

@@ -193,7 +193,7 @@ class Settings:
         self.films = self.meaning("films", read_films, self.folder)
 
     def place_of(self, name):
-        """Returns where a setting stands: file and line, or the file alone."""
+        """Returns the place of a setting: file and line, or the file alone."""
         return f"{self.file}:{self.lines[name]}" if name in self.lines else str(self.file)
 
     def refuse(self, line, text):
@@ -237,7 +237,7 @@ class Settings:
 
     def arguments(self):
         """Returns the arguments of `vodserve`."""
-        words = [f"film={name}" for name in self.films]
+        films = [f"film={name}" for name in self.films]
         pairs = (
             ("port", self.port),
             ("bind", self.bind),
@@ -248,7 +248,7 @@ class Settings:
             ("workers", self.workers),
             ("journal", self.journal),
         )
-        return ["serve"] + words + [f"{key}={value}" for key, value in pairs]
+        return ["serve"] + films + [f"{key}={value}" for key, value in pairs]
 
     def film_bytes(self):
         """Returns how many bytes all films have."""
