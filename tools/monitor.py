@@ -89,7 +89,8 @@ def start_page(state, given):
     except OSError as error:
         fail(f"port {given.page} for the page: {error.strerror}; use another: --page 8556")
     threading.Thread(target=server.serve_forever, daemon=True).start()
-    print(f"vodserve-monitor: page at http://127.0.0.1:{server.server_port}/", flush=True)
+    state.page = f"http://127.0.0.1:{server.server_port}/"
+    print(f"vodserve-monitor: page at {state.page}", flush=True)
 
 
 def read_arguments():

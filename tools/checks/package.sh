@@ -71,7 +71,7 @@ else
     try "a second version is built" "$tools/package.sh" --program "$program" --revision 2 .
     first=$(echo ./*-1_*.deb) second=$(echo ./*-2_*.deb)
     if have lintian; then
-        try "lintian has no error" lintian --fail-on error --suppress-tags bad-distribution "$first"
+        try "lintian has no error" lintian --fail-on error "$first"
     else
         skip "lintian has no error" "it isn't installed"
     fi

@@ -79,6 +79,8 @@ class ServerState:
         self.samples = deque(maxlen=MOST_SAMPLES)
         self.looks = self.rounds = 0
         self.lock = threading.Lock()
+        # where the page is, if there is one
+        self.page = None
 
     def read_plans(self, path):
         for film in self.films:

@@ -64,4 +64,6 @@ def screen_of(state, hours, every, columns):
     lines.append("rates in Mbit/s; more viewers: what is free now by the peak of the film's plan")
     if state.look:
         lines.append(f"asks every {every:g} s; each look takes an entry of the server's journal")
+    if state.page:
+        lines.append(f"the same as a page: {state.page}")
     return "\n".join(lines)
