@@ -62,16 +62,19 @@ def check_port(settings):
             ) from error
 
 
-def memory_limit():
-    """Returns the bytes of memory that the service may have, or None where there is no limit."""
+def memory_limit(own="/proc/self/cgroup", groups="/sys/fs/cgroup"):
+    """Returns the bytes of memory that the service may have, or None if there is no limit.
+
+    The limit is the least of the service's control group and of those above it.
+    """
     limits = []
     try:
-        group = Path("/proc/self/cgroup").read_text(encoding="ascii").splitlines()
+        lines = Path(own).read_text(encoding="ascii").splitlines()
     except OSError:
         return None
-    for line in group:
+    for line in lines:
         if line.startswith("0::"):
-            folder = Path("/sys/fs/cgroup") / line[3:].lstrip("/")
+            folder = Path(groups) / line[3:].lstrip("/")
             for place in (folder, *folder.parents):
                 file = place / "memory.max"
                 text = file.read_text(encoding="ascii").strip() if file.is_file() else "max"

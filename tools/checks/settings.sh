@@ -90,6 +90,29 @@ refuses "refused: no folder" 78 "there is no folder $PWD/nowhere for the films" 
 refuses "refused: no program" 78 "there is no program at nothing" \
     "$tools/start.py" --check --program nothing --folder films empty.conf
 echo "workers = 256" >workers.conf
+# a control group of 30 MB below one of 20 MB, and a system without groups
+mkdir -p groups/system.slice/vodserve.service
+echo 30000000 >groups/system.slice/vodserve.service/memory.max
+echo 20000000 >groups/system.slice/memory.max
+echo max >groups/memory.max
+echo "0::/system.slice/vodserve.service" >own.txt
+try "the limit of memory is the least of the groups" python3 - "$tools" <<'PYTHON'
+import sys
+sys.path.insert(0, sys.argv[1])
+sys.dont_write_bytecode = True
+import start
+from vodtools.settings import Settings
+assert start.memory_limit("own.txt", "groups") == 20_000_000
+assert start.memory_limit("own.txt", "nowhere") is None
+assert start.memory_limit("none.txt", "groups") is None
+start.memory_limit = lambda: 20_000_000
+try:
+    start.check_memory(Settings("empty.conf", "films"))
+except start.LimitError as error:
+    assert "1 films and 32 workers need about 31 MB, and the service may have 20 MB" in str(error)
+else:
+    raise AssertionError("more memory than the limit was accepted")
+PYTHON
 few_files() { (ulimit -n 200 && "${start[@]}" "$1"); }
 refuses "refused: too few descriptors" 78 "256 workers need 800 open files, and the service may" \
     few_files workers.conf

@@ -45,10 +45,10 @@ def size_of(count):
 def rows_of(program, args, capacity, buffers):
     """Returns for each bar its name, the peak of a slot in bytes, and the number of streams."""
     peak = unsmoothed_peak(program, args)
-    rows = [("unsmoothed", peak, capacity // peak)]
+    rows = [("unsmoothed", peak, capacity // max(1, peak))]
     for buffer in buffers:
         peak = peak_of(segments_of(run(program, "plan", {**args, "buffer": buffer})))
-        rows.append((f"{size_of(buffer)} buffer", peak, capacity // peak))
+        rows.append((f"{size_of(buffer)} buffer", peak, capacity // max(1, peak)))
     return rows
 
 
