@@ -1,0 +1,1 @@
+"""What the operator's tools share: settings, the built program, an RTSP client, pictures."""
