@@ -28,8 +28,8 @@ from pathlib import Path
 
 sys.dont_write_bytecode = True
 TOP = Path(__file__).resolve().parent.parent
-# In bench/ stand the client, the server's start, the model of a film's packets, the plain programs of
-# `plan` and `fair`, and the crowd of sessions.
+# In bench/ stand the client, the server's start, the model of a film's packets, the plain programs
+# of `plan` and `fair`, and the crowd of sessions.
 PARTS = ("tools/program_checks", "bench", "bench/transcript", "bench/load")
 sys.path[:0] = [str(TOP / part) for part in PARTS]
 
@@ -136,7 +136,7 @@ def run(slow, quick, lab, results):
     end = time.monotonic() + LONGEST
     for thread in threads:
         thread.join(max(end - time.monotonic(), 0))
-    for check in sorted(results.running):
+    for check in list(results.running):
         results.add(check, f"wanted an end, it still runs after {LONGEST} s")
 
 

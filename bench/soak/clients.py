@@ -15,7 +15,7 @@ from viewer import OK, Viewer, Wire, shown, units_between, want
 
 SLOT = 14_400
 # Seconds that a client waits for what a healthy server does at once.
-PATIENCE = 60
+PATIENCE = 120
 # Seconds in which a peer that sent no complete request is given up at the latest. One that takes
 # nothing is given up a minute after the last byte that its system took.
 NO_REQUEST, TAKES_NOTHING = 60, 200

@@ -291,13 +291,13 @@ def cannot_write(lab):
 
 def lacks_memory(lab):
     """A journal of a million entries takes about 100 MB, which isn't allowed; one of four fits."""
-    limit = f"-v {96 * 1024}"
+    limit = f"-v {64 * 1024}"
     small = lab.run("day", "script=day4.txt", "journal=4", limits=limit)
-    want("`day journal=4` with 96 MB", (0, DAY_4.encode(), b""), small)
+    want("`day journal=4` with 64 MB", (0, DAY_4.encode(), b""), small)
     for line in ("day script=day4.txt journal=1048576", "serve film=tiny.mpg journal=1048576"):
         port = [f"port={lab.ports.take()}"] if line.startswith("serve") else []
         ran = lab.run(*line.split(), *port, limits=limit)
-        want(f"`{line}` with 96 MB", (6, b"", b"vodserve: NoMemory\n"), ran)
+        want(f"`{line}` with 64 MB", (6, b"", b"vodserve: NoMemory\n"), ran)
 
 
 def checks():
