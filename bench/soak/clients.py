@@ -9,7 +9,7 @@ import time
 
 from days import curves, plan
 from memory import Account
-from rtsp import Ended, TooLate, Wrong
+from rtsp import Ended, Wrong
 from serving import is_established
 from viewer import OK, Viewer, Wire, shown, units_between, want
 
