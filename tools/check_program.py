@@ -20,6 +20,7 @@ names. Prints one line for each check that fails, with what was wanted and what 
 import argparse
 import os
 import resource
+import signal
 import sys
 import tempfile
 import threading
@@ -157,7 +158,10 @@ def main():
     program = arguments.program.resolve()
     if not os.access(program, os.X_OK):
         print(f"check_program.py: no program {program}", file=sys.stderr)
+        print("0 passed, 1 failed")
         return 2
+    # Ended by a signal, it stops its servers too.
+    signal.signal(signal.SIGTERM, lambda *_: sys.exit(143))
     allow_many_files()
     results = Results(slow + quick)
     with tempfile.TemporaryDirectory(ignore_cleanup_errors=True) as folder:
