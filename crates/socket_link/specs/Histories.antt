@@ -1,8 +1,8 @@
 -- How a link's history follows from the calls of its socket.
-use Rattle.std.specs.Prelude.{◌≡◌, ℕ, ◌+◌, ◌-◌, ◌^◌, ◌<◌, ◌≤◌, Bool, true, false, List, [], ◌∷◌, ◌++◌, length}
-use Rattle.std.specs.Prelude.{Option, Some, None, slice_get, ◌⊎◌}
+use Rattle.std.specs.Prelude.{◌≡◌, ℕ, ◌-◌, ◌^◌, ◌≤◌, Bool, true, false, List, [], ◌∷◌, ◌++◌, length}
+use Rattle.std.specs.Prelude.{Option, Some, None, ◌⊎◌}
 use Rattle.vod_base.specs.Outside.{HasRisen}
-use Rattle.vod_base.specs.Links.{Doing, HeardBytes, HeardSlot, HeardEnd, Sent}
+use Rattle.vod_base.specs.Links.{Doing, HeardBytes, HeardSlot, HeardEnd}
 use Rattle.vod_base.specs.MemoryLinks.{sent_of}
 use Rattle.socket_link.specs.declared.limits.Watch.{Watch}
 use Rattle.socket_link.specs.Calls.{SocketCall, taken_of, arrivals_of}
@@ -44,3 +44,8 @@ Follows units watch calls waiting doings =
 abbrev pub IsCause : ℕ → ℕ → List SocketCall → Type 0
 IsCause old new calls =
     HasRisen old new ⊎ ((reached_limit no_watch calls ≡ true) ⊎ (2 ^ 64 - 1 ≤ length calls))
+
+-- the history, where the socket exposes its calls
+abbrev pub told_if : Bool → List Doing → Option (List Doing)
+told_if false doings = None
+told_if true doings = Some doings

@@ -1,5 +1,5 @@
 -- What is noted in a link's history.
-use Rattle.std.specs.Prelude.{ℕ, List, [], ◌∷◌}
+use Rattle.std.specs.Prelude.{List, [], ◌∷◌}
 use Rattle.vod_base.specs.Links.{Doing, doing_of, sends}
 use Rattle.socket_link.specs.declared.histories.Note.{Note}
 use Rattle.socket_link.specs.declared.histories.Note.TheVariants.{Came, Sent}

@@ -1,11 +1,11 @@
 -- Slots by the clock. A slot's length is given in 1/360,000 second, so that a slot of so many units
 -- lasts 25,000 / 9 times as many nanoseconds.
-use Rattle.std.specs.Prelude.{◌≡◌, ℕ, ◌+◌, ◌-◌, ◌*◌, ◌/◌, ◌^◌, ◌<◌, Bool, true, if◌then◌else◌, nat_lt, min}
+use Rattle.std.specs.Prelude.{◌≡◌, ℕ, ◌+◌, ◌-◌, ◌*◌, ◌/◌, ◌^◌, ◌<◌, Bool, true, false, if◌then◌else◌, nat_lt, min}
 use Rattle.std.specs.Prelude.{List, [], ◌∷◌, Option, Some, None, slice_get}
 use Rattle.socket_link.specs.declared.sockets.Purpose.{Purpose}
-use Rattle.socket_link.specs.declared.sockets.Purpose.TheVariants.{Accept, Slot, Patience, End}
-use Rattle.socket_link.specs.Calls.{SocketCall, GaveBytes, GaveNothing, GaveEnd, TookBytes, TookNothing}
-use Rattle.socket_link.specs.Calls.{WasInterrupted, ReadClock, Waited, ShutDown}
+use Rattle.socket_link.specs.declared.sockets.Purpose.TheVariants.{Slot}
+use Rattle.socket_link.specs.Calls.{SocketCall}
+use Rattle.socket_link.specs.Calls.{ReadClock}
 
 -- the slot that holds a time in nanoseconds since slot 0 began; after the latest slot, 2^62, that one
 abbrev pub slot_of : ℕ → ℕ → ℕ
@@ -35,3 +35,8 @@ slots_after units slots _ = slots
 abbrev pub slots_due : ℕ → List ℕ → List SocketCall → List ℕ
 slots_due units slots [] = slots
 slots_due units slots (call ∷ calls) = slots_due units (slots_after units slots call) calls
+
+-- whether a reading for this purpose counts for slots
+abbrev pub is_for_slots : Purpose → Bool
+is_for_slots Slot = true
+is_for_slots _ = false

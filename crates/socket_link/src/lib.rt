@@ -7,7 +7,14 @@ mod buffers;
 mod clocks;
 mod histories;
 mod limits;
+mod links;
+mod memory_sockets;
 mod sockets;
 
-pub use limits::{FIRST_SEND_LIMIT, IDLE_LIMIT, STUCK_LIMIT};
+pub use limits::{FIRST_SEND_LIMIT, IDLE_LIMIT, LINGER, STUCK_LIMIT};
+pub use links::{NewLinkError, SocketLink};
+pub use memory_sockets::{MemorySocket, ScriptedRead, ScriptedWrite};
 pub use sockets::{Purpose, ReadOutcome, Socket, SocketFault, WriteOutcome};
+
+#[cfg(test)]
+mod tests;

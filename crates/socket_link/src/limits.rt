@@ -15,6 +15,13 @@ pub const FIRST_SEND_LIMIT: u64 = 15_000_000_000;
 /// For how long a connection may be idle, on which no byte comes and none is taken: 3,600 s.
 pub const IDLE_LIMIT: u64 = 3_600_000_000_000;
 
+/// After how long a write is tried again while the peer takes nothing, at the latest: 1 s. The system
+/// may make room in its own buffer without waking the link.
+pub(crate) const RETRY: u64 = 1_000_000_000;
+
+/// For how long the link reads on after it shut its sending half down: 1 s.
+pub const LINGER: u64 = 1_000_000_000;
+
 /// The times that the limits count from, as readings of the clock.
 #[derive(Clone, Copy)]
 pub(crate) struct Watch {
@@ -53,7 +60,7 @@ impl Watch {
                 stuck: Some(self.stuck.unwrap_or(time)),
                 ..self
             },
-            Purpose::Slot | Purpose::End => Watch {
+            Purpose::Slot | Purpose::Idle | Purpose::End => Watch {
                 latest: time,
                 ..self
             },
@@ -87,8 +94,8 @@ impl Watch {
         ensures { result ≡ is_overdue self purpose time }
     {
         match purpose {
-            Purpose::Accept | Purpose::End => false,
-            Purpose::Slot => {
+            Purpose::Accept | Purpose::Slot | Purpose::End => false,
+            Purpose::Idle => {
                 has_passed(FIRST_SEND_LIMIT, self.unanswered, time)
                     || has_passed(IDLE_LIMIT, Some(self.active), time)
             }

@@ -43,11 +43,13 @@ pub enum WriteOutcome {
 pub enum Purpose {
     /// The connection was accepted.
     Accept,
-    /// Which slot it is, and how long nothing was sent or nothing happened.
+    /// Which slot it is.
     Slot,
-    /// How long the peer has taken nothing.
+    /// For how long nothing was sent, or no byte came or was taken.
+    Idle,
+    /// For how long the peer has taken nothing.
     Patience,
-    /// How long the end of the connection has taken.
+    /// For how long the end of the connection has taken.
     End,
 }
 
