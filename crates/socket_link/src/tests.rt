@@ -58,7 +58,7 @@ fn the_peer_takes_nothing_for_60_s(rt: HostRuntime) -> Result<(), Fail> {
     let alloc = rt.alloc();
     for (time, expected) in [(0, 60), (1, 61)] {
         let mut writes = vec![in alloc; ScriptedWrite::Bytes(1)]?;
-        for _ in 0..100 {
+        for _ in 0..200 {
             writes.push(ScriptedWrite::Nothing)?;
         }
         let mut link = scripted(alloc, time, SECOND, Vec::new(alloc), writes)?;
