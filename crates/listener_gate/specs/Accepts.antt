@@ -8,10 +8,11 @@ pub data FailedTry : Type 0 where
   ForLostConnection : FailedTry
   ForShortage : FailedTry
 
--- the wait after the next shortage, in ms: 10 at first, then twice as long each time, at most 1 s
+-- the wait for the first shortage, in ms
 abbrev pub first_wait : ℕ
 first_wait = 10
 
+-- and for the next one: twice as long, at most 1 s
 abbrev pub longer_wait : ℕ → ℕ
 longer_wait ms = min (2 * ms) 1000
 

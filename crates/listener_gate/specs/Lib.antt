@@ -1,3 +1,4 @@
 pub mod Accepts
+pub mod Histories
 pub mod Listeners
 pub mod Openings

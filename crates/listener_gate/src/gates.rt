@@ -5,11 +5,14 @@ ghost use Rattle.std.specs.Prelude.{IsTrue, IfOk, IfErr, OnOk, OnErr, IfSome, Is
 ghost use Rattle.vod_base.specs.Outside.{HasRisen, one_more};
 ghost use Rattle.vod_base.specs.Gates.{MaySplit, IsOut, HasOut};
 ghost use Rattle.listener_gate.specs.Listeners.{Bound, Copied, EndedConnection, Accepted, WasShort, Waited};
-ghost use Rattle.listener_gate.specs.Accepts.{longer_wait, IsAcceptedAfter};
+ghost use Rattle.listener_gate.specs.Accepts.{first_wait, longer_wait, IsAcceptedAfter};
 ghost use Rattle.listener_gate.specs.Accepts.{IsGivenUp, FailedTry, failed_try, wait_after};
 ghost use Rattle.listener_gate.specs.Openings.{address_of, MayGive, HasGivenAll};
+ghost use Rattle.listener_gate.specs.Histories.{splits_after};
 
 use crate::listeners::{AcceptError, Listener, ListenerFault};
+use crate::histories::{GateHistory, GateNote, PartHistory, PartNote};
+use http_server::Log;
 use vod_base::{Gate, GateFault, Opening};
 
 /// The first wait, in milliseconds, where descriptors or memory are short.
@@ -33,10 +36,15 @@ pub struct ListenerGate<L: Listener> {
     most: u64,
     /// How many it gave since it was opened or split off.
     given: u64,
-    /// The wait after the next shortage, in milliseconds.
+    /// The wait for the next shortage, in milliseconds.
     wait: u64,
+    /// How many parts were split off since it was opened.
+    splits: u32,
     faults: u64,
+    own: PartHistory<L::Conn>,
+    history: GateHistory<L::Conn>,
     ghost within: { 0 < most → given ≤ most },
+    ghost counted: { splits ≡ min (splits_after 0 history.items) (2 ^ 32 - 1) },
 }
 
 impl<L: Listener> ListenerGate<L> {
@@ -44,7 +52,10 @@ impl<L: Listener> ListenerGate<L> {
     pub fn new(listener: L) -> ListenerGate<L>
         ensures listener { result.listener ≡ listener }
         ensures closed { result.is_open ≡ false }
+        ensures wait { result.wait ≡ first_wait }
         ensures faults { result.faults ≡ 0 }
+        ensures history { (result.own.number ≡ 0) × (result.own.notes.items ≡ [])
+            × (result.history.items ≡ []) }
     {
         ListenerGate {
             listener,
@@ -52,7 +63,10 @@ impl<L: Listener> ListenerGate<L> {
             most: 0,
             given: 0,
             wait: FIRST_WAIT,
+            splits: 0,
             faults: 0,
+            own: PartHistory::new(0),
+            history: Log::new(),
         }
     }
 
@@ -63,27 +77,16 @@ impl<L: Listener> ListenerGate<L> {
         &self.listener
     }
 
-    /// Counts a fault of the listener.
-    fn fault(&mut self) -> GateFault
-        ensures count { self.new.faults ≡ one_more self.old.faults }
-        ensures listener { self.new.listener ≡ self.old.listener }
-        ensures open { self.new.is_open ≡ self.old.is_open }
-        ensures wait { self.new.wait ≡ self.old.wait }
-        ensures given { self.new.given ≡ self.old.given }
-        ensures most { self.new.most ≡ self.old.most }
-    {
-        self.faults = self.faults.saturating_add(1);
-        GateFault
-    }
-
     /// Tries to accept a connection. A lost connection is passed over, and a shortage is waited out
     /// for once.
     fn try_accept(&mut self) -> Result<Option<L::Conn>, ListenerFault>
         ensures same { (self.new.faults ≡ self.old.faults) × (self.new.is_open ≡ self.old.is_open)
-            × (self.new.given ≡ self.old.given) × (self.new.most ≡ self.old.most) }
+            × (self.new.given ≡ self.old.given) × (self.new.most ≡ self.old.most)
+            × (self.new.splits ≡ self.old.splits) × (self.new.own ≡ self.old.own)
+            × (self.new.history ≡ self.old.history) }
         ensures count { L.faults self.old.listener ≤ L.faults self.new.listener }
         ensures accepted { IfOk result (λ tried. IfSome tried (λ conn.
-            (self.new.wait ≡ FIRST_WAIT)
+            (self.new.wait ≡ first_wait)
             × (IsTrue L.tells → L.did self.new.listener ≡ L.did self.old.listener
                 ++ Accepted ∷ []))) }
         ensures fresh { IfOk result (λ tried. IfSome tried (λ conn. (L.Conn.faults conn ≡ 0)
@@ -112,7 +115,9 @@ impl<L: Listener> ListenerGate<L> {
     /// Waits for once where descriptors or memory are short, and makes the next wait longer.
     fn wait_out<C>(&mut self) -> Result<Option<C>, ListenerFault>
         ensures same { (self.new.faults ≡ self.old.faults) × (self.new.is_open ≡ self.old.is_open)
-            × (self.new.given ≡ self.old.given) × (self.new.most ≡ self.old.most) }
+            × (self.new.given ≡ self.old.given) × (self.new.most ≡ self.old.most)
+            × (self.new.splits ≡ self.old.splits) × (self.new.own ≡ self.old.own)
+            × (self.new.history ≡ self.old.history) }
         ensures none { IfOk result (λ none. none ≡ None) }
         ensures wait { OnOk result (self.new.wait ≡ longer_wait self.old.wait) }
         ensures count { L.faults self.old.listener ≤ L.faults self.new.listener }
@@ -135,8 +140,10 @@ impl<L: Listener> ListenerGate<L> {
     /// Accepts a connection. Lost connections are passed over, and shortages are waited out.
     fn accept(&mut self) -> Result<L::Conn, ListenerFault>
         ensures same { (self.new.faults ≡ self.old.faults) × (self.new.is_open ≡ self.old.is_open)
-            × (self.new.given ≡ self.old.given) × (self.new.most ≡ self.old.most) }
-        ensures wait { OnOk result (self.new.wait ≡ FIRST_WAIT) }
+            × (self.new.given ≡ self.old.given) × (self.new.most ≡ self.old.most)
+            × (self.new.splits ≡ self.old.splits) × (self.new.own ≡ self.old.own)
+            × (self.new.history ≡ self.old.history) }
+        ensures wait { OnOk result (self.new.wait ≡ first_wait) }
         ensures accepted { OnOk result (IsTrue L.tells →
             IsAcceptedAfter self.old.wait (L.did self.old.listener) (L.did self.new.listener)) }
         ensures fresh { IfOk result (λ conn. (L.Conn.faults conn ≡ 0)
@@ -154,4 +161,113 @@ impl<L: Listener> ListenerGate<L> {
         }
         Err(ListenerFault)
     }
+}
+
+impl<L: Listener + Drop> Gate for ListenerGate<L> {
+    ghost use Rattle.listener_gate.specs.Histories.{told_if, content_with, shared_after};
+    ghost use Rattle.listener_gate.specs.Histories.{none_shared, part_after};
+    ghost use Rattle.vod_base.specs.Gates.{fresh_part};
+
+    type Conn = L::Conn;
+
+    ghost faults = { λ g. g.faults };
+
+    ghost told = { λ g. told_if L.tells (content_with
+        (shared_after (λ p. part_after L.Conn.faults L.Conn.told (fresh_part p.number) p.notes.items)
+          none_shared g.history.items)
+        (part_after L.Conn.faults L.Conn.told (fresh_part g.own.number) g.own.notes.items)) };
+
+    fn open(&mut self, how: &Opening) -> Result<(), GateFault> {
+        self.is_open = false;
+        match self.listener.bind(address_of(how), how.port, how.slot_units) {
+            Ok(()) => {
+                self.is_open = true;
+                self.most = how.connections;
+                self.given = 0;
+                self.splits = 0;
+                self.history = self.history.and(&None, &GateNote::Opened(*how));
+                Ok(())
+            }
+            Err(ListenerFault) => {
+                self.splits = 0;
+                self.faults = self.faults.saturating_add(1);
+                self.history = self.history.and(&None, &GateNote::NotOpened);
+                Err(GateFault)
+            }
+        }
+    }
+
+    fn split(&mut self) -> Result<ListenerGate<L>, GateFault> {
+        if !self.is_open {
+            self.faults = self.faults.saturating_add(1);
+            return Err(GateFault);
+        }
+        match self.listener.copy() {
+            Ok(listener) => {
+                let number = self.splits;
+                self.splits = number.saturating_add(1);
+                self.history = self.history.and(&None, &GateNote::Split);
+                Ok(ListenerGate {
+                    listener,
+                    is_open: true,
+                    most: self.most,
+                    given: 0,
+                    wait: FIRST_WAIT,
+                    splits: 0,
+                    faults: 0,
+                    own: PartHistory::new(number),
+                    history: Log::new(),
+                })
+            }
+            Err(ListenerFault) => {
+                self.faults = self.faults.saturating_add(1);
+                Err(GateFault)
+            }
+        }
+    }
+
+    fn take(&mut self) -> Result<Option<L::Conn>, GateFault> {
+        if !self.is_open {
+            self.faults = self.faults.saturating_add(1);
+            self.own.note(&None, PartNote::Failed);
+            return Err(GateFault);
+        }
+        if self.most > 0 && self.given >= self.most {
+            self.own.note(&None, PartNote::NoMore);
+            return Ok(None);
+        }
+        match self.accept() {
+            Ok(conn) => {
+                self.given = self.given.saturating_add(1);
+                self.own.note(&None, PartNote::Gave);
+                Ok(Some(conn))
+            }
+            Err(ListenerFault) => {
+                self.faults = self.faults.saturating_add(1);
+                self.own.note(&None, PartNote::Failed);
+                Err(GateFault)
+            }
+        }
+    }
+
+    fn give_back(&mut self, conn: L::Conn) {
+        let back = Some(conn);
+        self.own.note(&back, PartNote::CameBack);
+        if let Some(conn) = back {
+            self.listener.end(conn);
+        }
+    }
+
+    fn rejoin(&mut self, part: ListenerGate<L>) {
+        let ListenerGate { own, faults, .. } = part;
+        self.faults = self.faults.saturating_add(faults);
+        self.history = self.history.and(&Some(own), &GateNote::CameBack);
+    }
+}
+
+/// The address that a gate listens at.
+fn address_of(how: &Opening) -> [u8; 4]
+    ensures { result ≡ address_of how.now }
+{
+    if how.all { [0, 0, 0, 0] } else { [127, 0, 0, 1] }
 }

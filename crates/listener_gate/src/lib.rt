@@ -3,7 +3,9 @@
 #![tactic(auto)]
 
 mod gates;
+mod histories;
 mod listeners;
 
 pub use gates::ListenerGate;
+pub use histories::{GateHistory, GateNote, PartHistory, PartNote};
 pub use listeners::{AcceptError, Listener, ListenerFault};

@@ -34,7 +34,7 @@ pub enum AcceptError {
 /// except for an accept that may succeed later. What it did may be told to contracts: `tells` says
 /// whether `did` is what it did, in order.
 pub trait Listener: Sized {
-    type Conn: Link;
+    type Conn: Link + Drop;
 
     ghost use Rattle.listener_gate.specs.Listeners.{ListenerDoing, Bound, Copied, Accepted, Waited};
     ghost use Rattle.listener_gate.specs.Listeners.{EndedConnection, failed_accept, IsBroken};

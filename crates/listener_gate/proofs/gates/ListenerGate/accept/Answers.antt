@@ -14,6 +14,9 @@ loop-n-preserved g c =
       open_ = now.same.1 ∙ held.open_;
       given = now.same.2 ∙ held.given;
       most = now.same.3 ∙ held.most;
+      splits = now.same.4 ∙ held.splits;
+      own = now.same.5 ∙ held.own;
+      history = now.same.6 ∙ held.history;
       count = omega (arith, held.count, rose);
       tried = more;
     }
