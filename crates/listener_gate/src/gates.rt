@@ -1,9 +1,11 @@
 //! A gate over a listener.
 
-ghost use Rattle.std.specs.Prelude.{◌≡◌, ◌<◌, ◌≤◌, ◌*◌, ◌+◌, ◌-◌, ◌^◌, ◌++◌, ◌∷◌, [], ◌⊎◌, min, None, Some};
+ghost use Rattle.std.specs.Prelude.{◌≡◌, ◌<◌, ◌≤◌, ◌*◌, ◌+◌, ◌-◌, ◌^◌, ◌++◌, ◌∷◌, [], ◌⊎◌, min, None, Some, option_map};
 ghost use Rattle.std.specs.Prelude.{IsTrue, IfOk, IfErr, OnOk, OnErr, IfSome, IsSome, IsErr, true, false};
 ghost use Rattle.vod_base.specs.Outside.{HasRisen, one_more};
-ghost use Rattle.vod_base.specs.Gates.{MaySplit, IsOut, HasOut};
+ghost use Rattle.vod_base.specs.Gates.{MaySplit, IsOut, HasOut, after_open, split_off};
+ghost use Rattle.vod_base.specs.Gates.{new_part, after_take, after_empty_take, after_return};
+ghost use Rattle.vod_base.specs.Gates.{NoMore, Failed, told_rejoined};
 ghost use Rattle.listener_gate.specs.Listeners.{Bound, Copied, EndedConnection, Accepted, WasShort, Waited};
 ghost use Rattle.listener_gate.specs.Accepts.{first_wait, longer_wait, IsAcceptedAfter};
 ghost use Rattle.listener_gate.specs.Accepts.{IsGivenUp, FailedTry, failed_try, wait_after};
@@ -177,7 +179,22 @@ impl<L: Listener + Drop> Gate for ListenerGate<L> {
           none_shared g.history.items)
         (part_after L.Conn.faults L.Conn.told (fresh_part g.own.number) g.own.notes.items)) };
 
-    fn open(&mut self, how: &Opening) -> Result<(), GateFault> {
+    fn open(&mut self, how: &Opening) -> Result<(), GateFault>
+        ensures count { self.old.faults ≤ self.new.faults }
+        ensures fault { OnErr result (HasRisen self.old.faults self.new.faults) }
+        ensures open { OnOk result (⟦<ListenerGate<L> as Gate>⟧.told self.new ≡
+            option_map (after_open (Some how.now)) (⟦<ListenerGate<L> as Gate>⟧.told self.old)) }
+        ensures lost { OnErr result (⟦<ListenerGate<L> as Gate>⟧.told self.new ≡
+            option_map (after_open None) (⟦<ListenerGate<L> as Gate>⟧.told self.old)) }
+        ensures bound { OnOk result (IsTrue L.tells →
+            L.did self.new.listener ≡ L.did self.old.listener
+            ++ Bound (address_of how.now) how.now.port how.now.slot_units ∷ []) }
+        ensures begun { OnOk result ((self.new.is_open ≡ true)
+            × (self.new.most ≡ how.now.connections) × (self.new.given ≡ 0)) }
+        ensures closed { OnErr result (self.new.is_open ≡ false) }
+        ensures cause { OnErr result
+            (HasRisen (L.faults self.old.listener) (L.faults self.new.listener)) }
+    {
         self.is_open = false;
         match self.listener.bind(address_of(how), how.port, how.slot_units) {
             Ok(()) => {
@@ -197,7 +214,26 @@ impl<L: Listener + Drop> Gate for ListenerGate<L> {
         }
     }
 
-    fn split(&mut self) -> Result<ListenerGate<L>, GateFault> {
+    fn split(&mut self) -> Result<ListenerGate<L>, GateFault>
+        requires may { IfSome (⟦<ListenerGate<L> as Gate>⟧.told self.old) MaySplit }
+        ensures count { self.old.faults ≤ self.new.faults }
+        ensures fault { OnErr result (HasRisen self.old.faults self.new.faults) }
+        ensures split { OnOk result (⟦<ListenerGate<L> as Gate>⟧.told self.new ≡ option_map split_off (⟦<ListenerGate<L> as Gate>⟧.told self.old)) }
+        ensures part { IfOk result (λ part.
+            (⟦<ListenerGate<L> as Gate>⟧.told part ≡ option_map new_part (⟦<ListenerGate<L> as Gate>⟧.told self.old))
+            × (part.faults ≡ 0)) }
+        ensures lost { OnErr result (⟦<ListenerGate<L> as Gate>⟧.told self.new ≡ ⟦<ListenerGate<L> as Gate>⟧.told self.old) }
+        ensures copied { OnOk result (IsTrue L.tells →
+            L.did self.new.listener ≡ L.did self.old.listener ++ Copied ∷ []) }
+        ensures fresh { IfOk result (λ part. IsTrue L.tells → L.did part.listener ≡ []) }
+        ensures begun { IfOk result (λ part. (part.is_open ≡ true)
+            × (part.most ≡ self.old.most) × (part.given ≡ 0) × (part.wait ≡ first_wait)) }
+        ensures same { (self.new.is_open ≡ self.old.is_open) × (self.new.most ≡ self.old.most)
+            × (self.new.given ≡ self.old.given) }
+        ensures was_open { OnOk result (self.old.is_open ≡ true) }
+        ensures cause { OnErr result ((self.old.is_open ≡ false)
+            ⊎ HasRisen (L.faults self.old.listener) (L.faults self.new.listener)) }
+    {
         if !self.is_open {
             self.faults = self.faults.saturating_add(1);
             return Err(GateFault);
@@ -226,7 +262,38 @@ impl<L: Listener + Drop> Gate for ListenerGate<L> {
         }
     }
 
-    fn take(&mut self) -> Result<Option<L::Conn>, GateFault> {
+    fn take(&mut self) -> Result<Option<L::Conn>, GateFault>
+        ensures count { self.old.faults ≤ self.new.faults }
+        ensures fault { OnErr result (HasRisen self.old.faults self.new.faults) }
+        ensures gave { IfOk result (λ taken. IfSome taken (λ conn.
+            ⟦<ListenerGate<L> as Gate>⟧.told self.new ≡ option_map after_take (⟦<ListenerGate<L> as Gate>⟧.told self.old))) }
+        ensures fresh { IfOk result (λ taken. IfSome taken (λ conn. (L.Conn.faults conn ≡ 0)
+            × IfSome (L.Conn.told conn) (λ doings. doings ≡ []))) }
+        ensures none { IfOk result (λ taken. taken ≡ None →
+            ⟦<ListenerGate<L> as Gate>⟧.told self.new ≡ option_map (after_empty_take NoMore) (⟦<ListenerGate<L> as Gate>⟧.told self.old)) }
+        ensures lost { OnErr result (⟦<ListenerGate<L> as Gate>⟧.told self.new ≡
+            option_map (after_empty_take Failed) (⟦<ListenerGate<L> as Gate>⟧.told self.old)) }
+        // a connection is given where fewer than all were given, and accepted after the waits that
+        // are due
+        ensures may { IfOk result (λ taken. IfSome taken (λ conn.
+            MayGive self.old.most self.old.given)) }
+        ensures counted { IfOk result (λ taken. IfSome taken (λ conn.
+            self.new.given ≡ one_more self.old.given)) }
+        ensures accepted { IfOk result (λ taken. IfSome taken (λ conn. IsTrue L.tells →
+            IsAcceptedAfter self.old.wait (L.did self.old.listener) (L.did self.new.listener))) }
+        ensures wait { IfOk result (λ taken. IfSome taken (λ conn. self.new.wait ≡ first_wait)) }
+        // none is given where all were given, and the listener does nothing
+        ensures all { IfOk result (λ taken. taken ≡ None →
+            HasGivenAll self.old.most self.old.given) }
+        ensures idle { IfOk result (λ taken. taken ≡ None →
+            (self.new.listener ≡ self.old.listener) × (self.new.wait ≡ self.old.wait)) }
+        ensures same { (self.new.is_open ≡ self.old.is_open) × (self.new.most ≡ self.old.most) }
+        ensures was_open { OnOk result (self.old.is_open ≡ true) }
+        // a fault comes where the gate isn't open, or of the listener
+        ensures cause { OnErr result ((self.old.is_open ≡ false)
+            ⊎ IsGivenUp self.old.wait (L.faults self.old.listener) (L.faults self.new.listener)
+            L.tells (L.did self.old.listener) (L.did self.new.listener)) }
+    {
         if !self.is_open {
             self.faults = self.faults.saturating_add(1);
             self.own.note(&None, PartNote::Failed);
@@ -250,7 +317,17 @@ impl<L: Listener + Drop> Gate for ListenerGate<L> {
         }
     }
 
-    fn give_back(&mut self, conn: L::Conn) {
+    fn give_back(&mut self, conn: L::Conn)
+        requires out { IfSome (⟦<ListenerGate<L> as Gate>⟧.told self.old) HasOut }
+        ensures count { self.old.faults ≤ self.new.faults }
+        ensures back { ⟦<ListenerGate<L> as Gate>⟧.told self.new ≡
+            option_map (after_return (record {
+              faults = L.Conn.faults conn;
+              told = L.Conn.told conn;
+            })) (⟦<ListenerGate<L> as Gate>⟧.told self.old) }
+        ensures ended { IsTrue L.tells →
+            L.did self.new.listener ≡ L.did self.old.listener ++ EndedConnection ∷ [] }
+    {
         let back = Some(conn);
         self.own.note(&back, PartNote::CameBack);
         if let Some(conn) = back {
@@ -258,7 +335,17 @@ impl<L: Listener + Drop> Gate for ListenerGate<L> {
         }
     }
 
-    fn rejoin(&mut self, part: ListenerGate<L>) {
+    fn rejoin(&mut self, part: ListenerGate<L>)
+        requires out { IfSome (⟦<ListenerGate<L> as Gate>⟧.told self.old) (λ c.
+            IfSome (⟦<ListenerGate<L> as Gate>⟧.told part) (λ p. IsOut p.own.number c)) }
+        ensures count { self.old.faults ≤ self.new.faults }
+        ensures risen { 0 < part.faults → HasRisen self.old.faults self.new.faults }
+        ensures joined { ⟦<ListenerGate<L> as Gate>⟧.told self.new ≡
+            told_rejoined (⟦<ListenerGate<L> as Gate>⟧.told part) (⟦<ListenerGate<L> as Gate>⟧.told self.old) }
+        ensures same { (self.new.listener ≡ self.old.listener)
+            × (self.new.is_open ≡ self.old.is_open) × (self.new.most ≡ self.old.most)
+            × (self.new.given ≡ self.old.given) × (self.new.wait ≡ self.old.wait) }
+    {
         let ListenerGate { own, faults, .. } = part;
         self.faults = self.faults.saturating_add(faults);
         self.history = self.history.and(&Some(own), &GateNote::CameBack);
