@@ -1,8 +1,9 @@
 -- Tries to accept, one after another.
 use Rattle.std.proofs.Common.{◌≡◌, ℕ, ◌+◌, ◌≤◌, ◌-◌, ◌^◌, Bool, IsTrue, List, [], ◌∷◌, ◌++◌, length, refl, sym, ap, ◌∙◌, arith, inl, inr, append_assoc, append-nil, length-append, ◌⊎◌}
 use Rattle.vod_base.specs.Outside.{HasRisen}
-use Rattle.listener_gate.specs.Listeners.{ListenerDoing, Accepted, WasShort}
-use Rattle.listener_gate.specs.Accepts.{FailedTry, ForLostConnection, ForShortage, wait_after, failed_try, failed_tries, wait_after_tries, IsAcceptedAfter, IsGivenUp, HasTried}
+use Rattle.listener_gate.specs.declared.listeners.ListenerDoing.{ListenerDoing}
+use Rattle.listener_gate.specs.declared.listeners.ListenerDoing.TheVariants.{Accepted, ShortageError}
+use Rattle.listener_gate.specs.Accepts.{FailedTry, RetriedAtOnce, RetriedAfterWait, wait_after, failed_try, failed_tries, wait_after_tries, IsAcceptedAfter, IsGivenUp, HasTried}
 
 wait_after_tries-append : (ms : ℕ) (ts : List FailedTry) (t : FailedTry) →
     wait_after_tries ms (ts ++ t ∷ []) ≡ wait_after t (wait_after_tries ms ts)
@@ -11,8 +12,8 @@ wait_after_tries-append ms (u ∷ us) t = wait_after_tries-append (wait_after u 
 
 failed_tries-append : (ms : ℕ) (ts : List FailedTry) (t : FailedTry) →
     failed_tries ms (ts ++ t ∷ []) ≡ failed_tries ms ts ++ failed_try (wait_after_tries ms ts) t
-failed_tries-append ms [] ForLostConnection = refl
-failed_tries-append ms [] ForShortage = refl
+failed_tries-append ms [] RetriedAtOnce = refl
+failed_tries-append ms [] RetriedAfterWait = refl
 failed_tries-append ms (u ∷ us) t =
     ap (λ (l : List ListenerDoing). failed_try ms u ++ l) (failed_tries-append (wait_after u ms) us t)
     ∙ sym (append_assoc (failed_try ms u) (failed_tries (wait_after u ms) us) (failed_try (wait_after_tries (wait_after u ms) us) t))
@@ -52,14 +53,14 @@ accepted_then was after tried is tells = record {
 -- or it failed for good
 pub failed_then : {ms wait count : ℕ} {tells : Bool} {before : List ListenerDoing} (was after : List ListenerDoing) (faults_before faults_was faults_after : ℕ) →
     HasTried ms wait count tells before was →
-    (IsTrue tells → (after ≡ was) ⊎ (after ≡ was ++ WasShort ∷ [])) →
+    (IsTrue tells → (after ≡ was) ⊎ (after ≡ was ++ ShortageError ∷ [])) →
     faults_before ≤ faults_was → HasRisen faults_was faults_after →
     IsGivenUp ms faults_before faults_after tells before after
 failed_then was after faults_before faults_was faults_after tried is low risen = record {
   tries = tried.tries;
   did = λ tells. elim (is tells) [
-    inl e ↦ inl (e ∙ tried.did tells)
-    | inr e ↦ inr (e ∙ ap (λ (l : List ListenerDoing). l ++ WasShort ∷ []) (tried.did tells))
+    | inl e ↦ inl (e ∙ tried.did tells)
+    | inr e ↦ inr (e ∙ ap (λ (l : List ListenerDoing). l ++ ShortageError ∷ []) (tried.did tells))
   ];
   why = inl (λ most. omega (arith, low, risen most));
 }

@@ -1,12 +1,14 @@
 -- How often and when a gate tries to accept a connection.
 use Rattle.std.specs.Prelude.{◌≡◌, ℕ, ◌*◌, ◌^◌, ◌-◌, ◌≤◌, Bool, IsTrue, min, List, [], ◌∷◌, ◌++◌, length, ◌⊎◌}
 use Rattle.vod_base.specs.Outside.{HasRisen}
-use Rattle.listener_gate.specs.Listeners.{ListenerDoing, Accepted, LostConnection, WasShort, Waited}
+use Rattle.listener_gate.specs.declared.listeners.ListenerDoing.{ListenerDoing}
+use Rattle.listener_gate.specs.declared.listeners.ListenerDoing.TheVariants.{Accepted, TransientError, ShortageError, Waited}
 
--- an accept that is tried again: the connection was lost, or descriptors or memory are short
+-- an accept that failed and is tried again: at once after a transient error, after a wait where
+-- descriptors or memory are short
 pub data FailedTry : Type 0 where
-  ForLostConnection : FailedTry
-  ForShortage : FailedTry
+  RetriedAtOnce : FailedTry
+  RetriedAfterWait : FailedTry
 
 -- the wait for the first shortage, in ms
 abbrev pub first_wait : ℕ
@@ -18,14 +20,13 @@ longer_wait ms = min (2 * ms) 1000
 
 -- the wait after the next shortage, after a failed try
 abbrev pub wait_after : FailedTry → ℕ → ℕ
-wait_after ForLostConnection ms = ms
-wait_after ForShortage ms = longer_wait ms
+wait_after RetriedAtOnce ms = ms
+wait_after RetriedAfterWait ms = longer_wait ms
 
--- a failed try as doings, where the wait for a shortage is `ms` now: a lost connection is passed
--- over at once
+-- a failed try as doings, where the wait for a shortage is `ms` now
 abbrev pub failed_try : ℕ → FailedTry → List ListenerDoing
-failed_try ms ForLostConnection = LostConnection ∷ []
-failed_try ms ForShortage = WasShort ∷ (Waited ms ∷ [])
+failed_try ms RetriedAtOnce = TransientError ∷ []
+failed_try ms RetriedAfterWait = ShortageError ∷ (Waited ms ∷ [])
 
 -- failed tries one after another, as doings
 abbrev pub failed_tries : ℕ → List FailedTry → List ListenerDoing
@@ -48,7 +49,7 @@ pub record IsAcceptedAfter (ms : ℕ) (before after : List ListenerDoing) : Type
 -- lasts.
 pub record IsGivenUp (ms faults_before faults_after : ℕ) (tells : Bool) (before after : List ListenerDoing) : Type 0 where
   pub tries : List FailedTry
-  pub did : IsTrue tells → (after ≡ before ++ failed_tries ms tries) ⊎ (after ≡ before ++ failed_tries ms tries ++ WasShort ∷ [])
+  pub did : IsTrue tells → (after ≡ before ++ failed_tries ms tries) ⊎ (after ≡ before ++ failed_tries ms tries ++ ShortageError ∷ [])
   pub why : HasRisen faults_before faults_after ⊎ (2 ^ 64 - 1 ≤ length tries)
 
 -- So many tries failed so far, and the wait for a shortage rose from `ms` to `wait`.

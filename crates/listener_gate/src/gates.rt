@@ -6,14 +6,13 @@ ghost use Rattle.vod_base.specs.Outside.{HasRisen, one_more};
 ghost use Rattle.vod_base.specs.Gates.{MaySplit, IsOut, HasOut, after_open, split_off};
 ghost use Rattle.vod_base.specs.Gates.{new_part, after_take, after_empty_take, after_return};
 ghost use Rattle.vod_base.specs.Gates.{NoMore, Failed, told_rejoined};
-ghost use Rattle.listener_gate.specs.Listeners.{Bound, Copied, EndedConnection, Accepted, WasShort, Waited};
 ghost use Rattle.listener_gate.specs.Accepts.{first_wait, longer_wait, IsAcceptedAfter};
 ghost use Rattle.listener_gate.specs.Accepts.{IsGivenUp, FailedTry, failed_try, wait_after};
 ghost use Rattle.listener_gate.specs.Openings.{address_of, MayGive, HasGivenAll};
 ghost use Rattle.listener_gate.specs.Histories.{splits_after};
 
-use crate::listeners::{AcceptError, Listener, ListenerFault};
 use crate::histories::{GateHistory, GateNote, PartHistory, PartNote};
+use crate::listeners::{AcceptError, Listener, ListenerDoing, ListenerFault};
 use http_server::Log;
 use vod_base::{Gate, GateFault, Opening};
 
@@ -90,16 +89,16 @@ impl<L: Listener> ListenerGate<L> {
         ensures accepted { IfOk result (λ tried. IfSome tried (λ conn.
             (self.new.wait ≡ first_wait)
             × (IsTrue L.tells → L.did self.new.listener ≡ L.did self.old.listener
-                ++ Accepted ∷ []))) }
+            ++ ListenerDoing.Accepted ∷ []))) }
         ensures fresh { IfOk result (λ tried. IfSome tried (λ conn. (L.Conn.faults conn ≡ 0)
             × IfSome (L.Conn.told conn) (λ doings. doings ≡ []))) }
         ensures failed { IfOk result (λ tried. tried ≡ None → (t : FailedTry)
             × ((self.new.wait ≡ wait_after t self.old.wait)
             × (IsTrue L.tells → L.did self.new.listener ≡ L.did self.old.listener
-                ++ failed_try self.old.wait t))) }
+            ++ failed_try self.old.wait t))) }
         ensures lost { OnErr result (IsTrue L.tells →
             (L.did self.new.listener ≡ L.did self.old.listener)
-            ⊎ (L.did self.new.listener ≡ L.did self.old.listener ++ WasShort ∷ [])) }
+            ⊎ (L.did self.new.listener ≡ L.did self.old.listener ++ ListenerDoing.ShortageError ∷ [])) }
         ensures fault { OnErr result
             (HasRisen (L.faults self.old.listener) (L.faults self.new.listener)) }
     {
@@ -108,7 +107,7 @@ impl<L: Listener> ListenerGate<L> {
                 self.wait = FIRST_WAIT;
                 Ok(Some(conn))
             }
-            Err(AcceptError::ConnectionLost) => Ok(None),
+            Err(AcceptError::Transient) => Ok(None),
             Err(AcceptError::Shortage) => self.wait_out(),
             Err(AcceptError::Broken) => Err(ListenerFault),
         }
@@ -124,7 +123,7 @@ impl<L: Listener> ListenerGate<L> {
         ensures wait { OnOk result (self.new.wait ≡ longer_wait self.old.wait) }
         ensures count { L.faults self.old.listener ≤ L.faults self.new.listener }
         ensures waited { OnOk result (IsTrue L.tells →
-            L.did self.new.listener ≡ L.did self.old.listener ++ Waited self.old.wait ∷ []) }
+            L.did self.new.listener ≡ L.did self.old.listener ++ ListenerDoing.Waited self.old.wait ∷ []) }
         ensures lost { OnErr result (IsTrue L.tells →
             L.did self.new.listener ≡ L.did self.old.listener) }
         ensures fault { OnErr result
@@ -176,7 +175,7 @@ impl<L: Listener + Drop> Gate for ListenerGate<L> {
 
     ghost told = { λ g. told_if L.tells (content_with
         (shared_after (λ p. part_after L.Conn.faults L.Conn.told (fresh_part p.number) p.notes.items)
-          none_shared g.history.items)
+        none_shared g.history.items)
         (part_after L.Conn.faults L.Conn.told (fresh_part g.own.number) g.own.notes.items)) };
 
     fn open(&mut self, how: &Opening) -> Result<(), GateFault>
@@ -188,7 +187,7 @@ impl<L: Listener + Drop> Gate for ListenerGate<L> {
             option_map (after_open None) (⟦<ListenerGate<L> as Gate>⟧.told self.old)) }
         ensures bound { OnOk result (IsTrue L.tells →
             L.did self.new.listener ≡ L.did self.old.listener
-            ++ Bound (address_of how.now) how.now.port how.now.slot_units ∷ []) }
+            ++ ListenerDoing.Bound (address_of how.now) how.now.port how.now.slot_units ∷ []) }
         ensures begun { OnOk result ((self.new.is_open ≡ true)
             × (self.new.most ≡ how.now.connections) × (self.new.given ≡ 0)) }
         ensures closed { OnErr result (self.new.is_open ≡ false) }
@@ -196,7 +195,10 @@ impl<L: Listener + Drop> Gate for ListenerGate<L> {
             (HasRisen (L.faults self.old.listener) (L.faults self.new.listener)) }
     {
         self.is_open = false;
-        match self.listener.bind(address_of(how), how.port, how.slot_units) {
+        match self
+            .listener
+            .bind(address_of(how), how.port, how.slot_units)
+        {
             Ok(()) => {
                 self.is_open = true;
                 self.most = how.connections;
@@ -224,7 +226,7 @@ impl<L: Listener + Drop> Gate for ListenerGate<L> {
             × (part.faults ≡ 0)) }
         ensures lost { OnErr result (⟦<ListenerGate<L> as Gate>⟧.told self.new ≡ ⟦<ListenerGate<L> as Gate>⟧.told self.old) }
         ensures copied { OnOk result (IsTrue L.tells →
-            L.did self.new.listener ≡ L.did self.old.listener ++ Copied ∷ []) }
+            L.did self.new.listener ≡ L.did self.old.listener ++ ListenerDoing.Copied ∷ []) }
         ensures fresh { IfOk result (λ part. IsTrue L.tells → L.did part.listener ≡ []) }
         ensures begun { IfOk result (λ part. (part.is_open ≡ true)
             × (part.most ≡ self.old.most) × (part.given ≡ 0) × (part.wait ≡ first_wait)) }
@@ -326,7 +328,8 @@ impl<L: Listener + Drop> Gate for ListenerGate<L> {
               told = L.Conn.told conn;
             })) (⟦<ListenerGate<L> as Gate>⟧.told self.old) }
         ensures ended { IsTrue L.tells →
-            L.did self.new.listener ≡ L.did self.old.listener ++ EndedConnection ∷ [] }
+            (L.did self.new.listener ≡ L.did self.old.listener)
+            × (L.ended self.new.listener ≡ one_more (L.ended self.old.listener)) }
     {
         let back = Some(conn);
         self.own.note(&back, PartNote::CameBack);
@@ -356,5 +359,9 @@ impl<L: Listener + Drop> Gate for ListenerGate<L> {
 fn address_of(how: &Opening) -> [u8; 4]
     ensures { result ≡ address_of how.now }
 {
-    if how.all { [0, 0, 0, 0] } else { [127, 0, 0, 1] }
+    if how.all {
+        [0, 0, 0, 0]
+    } else {
+        [127, 0, 0, 1]
+    }
 }

@@ -13,5 +13,5 @@ invariant-loop-n g l = record {
   history : l.self.history ≡ l.initial.self.history;
   count : g.L.Listener.faults l.initial.self.listener ≤ g.L.Listener.faults l.self.listener;
   tried : HasTried l.initial.self.wait l.self.wait l._n g.L.Listener.tells
-    (g.L.Listener.did l.initial.self.listener) (g.L.Listener.did l.self.listener);
+      (g.L.Listener.did l.initial.self.listener) (g.L.Listener.did l.self.listener);
 }

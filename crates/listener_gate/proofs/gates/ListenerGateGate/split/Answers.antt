@@ -20,7 +20,7 @@ returns-in-Ok-clause-split g c =
 pub returns-in-Ok-clause-part : goal.returns-in-Ok-clause-part
 returns-in-Ok-clause-part g c = (
   new_part_told (λ p. part_after g.L.Conn.Link.faults g.L.Conn.Link.told (fresh_part p.number) p.notes.items) g.L.Conn.Link.faults g.L.Conn.Link.told g.L.Listener.tells (part_after g.L.Conn.Link.faults g.L.Conn.Link.told (fresh_part c.args.self.now.own.number) c.args.self.now.own.notes.items)
-    c.args.self.now.history.items c.new.result.number c.new-in-Ok.result.items c.new.result.notes.items
-    c.new-in-Ok.ensures c.new.ensures.notes c.requires.may (c.new.ensures.number ∙ c.args.self.now.counted),
+      c.args.self.now.history.items c.new.result.number c.new-in-Ok.result.items c.new.result.notes.items
+      c.new-in-Ok.ensures c.new.ensures.notes c.requires.may (c.new.ensures.number ∙ c.args.self.now.counted),
   refl,
 )
