@@ -1,8 +1,8 @@
 -- What a gate tells after one more note.
-use Rattle.std.proofs.Common.{◌≡◌, ℕ, ◌+◌, ◌-◌, ◌^◌, ◌<◌, ◌≤◌, min, Bool, true, false, List, [], ◌∷◌, ◌++◌, length, Option, Some, None, option_map, IfSome, slice_set, refl, sym, ap, ◌∙◌, arith, length-append}
+use Rattle.std.proofs.Common.{◌≡◌, ℕ, ◌+◌, ◌-◌, ◌^◌, min, Bool, true, false, List, [], ◌∷◌, ◌++◌, length, Option, Some, None, option_map, IfSome, refl, sym, ap, ◌∙◌, arith, length-append}
 use Rattle.std.proofs.lemmas.List.{length-set}
 use Rattle.vod_base.specs.Links.{Doing}
-use Rattle.vod_base.specs.Gates.{Content, Part, MaySplit, fresh_part, new_part, after_rejoin, told_rejoined}
+use Rattle.vod_base.specs.Gates.{Content, Part, MaySplit, fresh_part, new_part, told_rejoined}
 use Rattle.listener_gate.specs.declared.histories.PartNote.{PartNote}
 use Rattle.listener_gate.specs.declared.histories.GateNote.{GateNote}
 use Rattle.listener_gate.specs.declared.histories.GateNote.TheVariants.{Opened, NotOpened, Split, CameBack}

@@ -1,5 +1,5 @@
 -- Tries to accept, one after another.
-use Rattle.std.proofs.Common.{◌≡◌, ℕ, ◌+◌, ◌≤◌, ◌-◌, ◌^◌, Bool, IsTrue, List, [], ◌∷◌, ◌++◌, length, refl, sym, ap, ◌∙◌, arith, inl, inr, append_assoc, append-nil, length-append, ◌⊎◌}
+use Rattle.std.proofs.Common.{◌≡◌, ℕ, ◌+◌, ◌≤◌, ◌-◌, ◌^◌, Bool, IsTrue, List, [], ◌∷◌, ◌++◌, refl, sym, ap, ◌∙◌, arith, inl, inr, append_assoc, append-nil, length-append, ◌⊎◌}
 use Rattle.vod_base.specs.Outside.{HasRisen}
 use Rattle.listener_gate.specs.declared.listeners.ListenerDoing.{ListenerDoing}
 use Rattle.listener_gate.specs.declared.listeners.ListenerDoing.TheVariants.{Accepted, ShortageError}

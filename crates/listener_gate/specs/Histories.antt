@@ -1,8 +1,8 @@
 -- What a gate tells of its connections and its parts, as its notes say.
-use Rattle.std.specs.Prelude.{◌≡◌, ℕ, ◌+◌, Bool, if◌then◌else◌, List, [], ◌∷◌, ◌++◌, Option, Some, None, slice_set}
+use Rattle.std.specs.Prelude.{ℕ, ◌+◌, Bool, if◌then◌else◌, List, [], ◌∷◌, ◌++◌, Option, Some, None, slice_set}
 use Rattle.vod_base.specs.Outside.{one_more}
 use Rattle.vod_base.specs.Links.{Doing}
-use Rattle.vod_base.specs.Gates.{Content, Part, Returned, fresh_part, Gave, NoMore, Failed}
+use Rattle.vod_base.specs.Gates.{Content, Part, Returned, Gave, NoMore, Failed}
 use Rattle.vod_base.specs.declared.gates.Opening.{Opening}
 use Rattle.listener_gate.specs.declared.histories.PartNote.{PartNote}
 use Rattle.listener_gate.specs.declared.histories.PartNote.TheVariants as part

@@ -1,8 +1,5 @@
 //! Over a listener in memory.
 
-ghost use Rattle.std.specs.Prelude.{IfSome};
-ghost use Rattle.vod_base.specs.Gates.{MaySplit};
-
 use super::*;
 use std::alloc::{AllocError, Global};
 use std::test::Fail;
@@ -139,5 +136,42 @@ fn fails_where_the_listener_fails(rt: HostRuntime) -> Result<(), Fail> {
         ]
         .as_slice()
     );
+    Ok(())
+}
+
+/// A gate that gives one connection of each part, and whose one part gives two connections.
+fn gate_of_one_part(alloc: Global) -> Result<ListenerGate<MemoryListener>, AllocError> {
+    let mut script = Vec::new(alloc);
+    script.push(Ok(Vec::new(alloc)))?;
+    script.push(Ok(Vec::new(alloc)))?;
+    let mut scripts = Vec::new(alloc);
+    scripts.push(script)?;
+    Ok(ListenerGate::new(MemoryListener::new(alloc, Vec::new(alloc), scripts, Vec::new(alloc))))
+}
+
+#[test]
+fn parts_go_out_and_come_back(rt: HostRuntime) -> Result<(), Fail> {
+    let mut gate = gate_of_one_part(rt.alloc())?;
+    let how = Opening {
+        connections: 1,
+        ..HOW
+    };
+    let Ok(()) = gate.open(&how) else {
+        return Err(Fail::from("not open"));
+    };
+    let Ok(mut part) = gate.split() else {
+        return Err(Fail::from("no part"));
+    };
+    let Ok(Some(conn)) = part.take() else {
+        return Err(Fail::from("no connection"));
+    };
+    part.give_back(conn);
+    assert_eq!(rt; part.listener().ended(), 1);
+    assert_eq!(rt;
+        part.listener().doings(),
+        [ListenerDoing::Accepted].as_slice()
+    );
+    gate.rejoin(part);
+    assert_eq!(rt; gate.listener().doings().len(), 2);
     Ok(())
 }

@@ -1,4 +1,3 @@
-use Rattle.std.proofs.Common.{None}
 use Rattle.vod_base.specs.Gates.{fresh_part}
 use Rattle.listener_gate.specs.Histories.{part_after, none_shared, shared_after}
 use Rattle.listener_gate.proofs.Noting.{rejoin_told, splits_stay}
