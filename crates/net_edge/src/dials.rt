@@ -128,6 +128,6 @@ fn dial<R: Net<Listener = TcpListener, Stream = TcpStream> + Clock>(
     let stream = TcpStream::connect(rt, SocketAddr::from((Ipv4Addr::LOCALHOST, how.port)))?;
     Ok(Dialed {
         stream,
-        clock: SlotClock::start(rt, how)?,
+        clock: SlotClock::start(rt, how.slot_units)?,
     })
 }

@@ -16,7 +16,7 @@ mod slots;
 
 pub use dials::DialGate;
 pub use files::FileLibrary;
-pub use gates::TcpGate;
+pub use gates::{TcpGate, TcpPort};
 pub use links::TcpLink;
 pub use outputs::OutSink;
 

@@ -5,7 +5,7 @@ ghost use Rattle.std.specs.Duration.{as_nanos};
 
 use std::io;
 use std::time::{Clock, Duration, Instant};
-use vod_base::{LATEST_SLOT, Opening};
+use vod_base::LATEST_SLOT;
 
 /// The clock of a gate's slots: when slot 0 began, and a slot's length in 1/360,000 second.
 #[derive(Clone, Copy)]
@@ -16,10 +16,10 @@ pub(crate) struct SlotClock {
 
 impl SlotClock {
     /// A clock whose slot 0 begins now.
-    pub(crate) fn start<R: Clock>(rt: &R, how: &Opening) -> io::Result<SlotClock> {
+    pub(crate) fn start<R: Clock>(rt: &R, slot_units: u32) -> io::Result<SlotClock> {
         Ok(SlotClock {
             opened: Instant::now(rt)?,
-            slot_units: how.slot_units,
+            slot_units,
         })
     }
 
