@@ -1,19 +1,23 @@
 -- What a gate tells after one more note.
-use Rattle.std.proofs.Common.{◌≡◌, ℕ, ◌+◌, ◌-◌, ◌^◌, min, Bool, true, false, List, [], ◌∷◌, ◌++◌, length, Option, Some, None, option_map, IfSome, refl, sym, ap, ◌∙◌, arith, length-append}
+use Rattle.std.proofs.Common.{◌≡◌, ℕ, ◌+◌, ◌-◌, ◌^◌, min, Bool, true, false, List, [], ◌∷◌, ◌++◌, length, Option, Some}
+use Rattle.std.proofs.Common.{None, option_map, IfSome, refl, sym, ap, ◌∙◌, arith, length-append}
 use Rattle.std.proofs.lemmas.List.{length-set}
-use Rattle.vod_base.specs.Links.{Doing}
+use Rattle.vod_base.specs.Links.{IoEvent}
 use Rattle.vod_base.specs.Gates.{Content, Part, MaySplit, fresh_part, new_part, told_rejoined}
 use Rattle.listener_gate.specs.declared.histories.PartNote.{PartNote}
 use Rattle.listener_gate.specs.declared.histories.GateNote.{GateNote}
 use Rattle.listener_gate.specs.declared.histories.GateNote.TheVariants.{Opened, NotOpened, Split, CameBack}
-use Rattle.listener_gate.specs.Histories.{part_noted, part_after, Shared, shared_noted, shared_after, split_noted, splits_after, none_shared, content_with, told_if}
+use Rattle.listener_gate.specs.Histories.{part_noted, part_after, Shared, shared_noted, shared_after, split_noted}
+use Rattle.listener_gate.specs.Histories.{splits_after, none_shared, content_with, told_if}
 
-part-append : {C : Type 0} (faults : C → ℕ) (told : C → Option (List Doing)) (p : Part) (ns : List (Option C × PartNote)) (n : Option C × PartNote)
+part-append : {C : Type 0} (faults : C → ℕ) (told : C → Option (List IoEvent)) (p : Part) (ns : List (Option C ×
+    PartNote)) (n : Option C × PartNote)
     → part_after faults told p (ns ++ n ∷ []) ≡ part_noted faults told (part_after faults told p ns) n
 part-append faults told p [] n = refl
 part-append faults told p (m ∷ ms) n = part-append faults told (part_noted faults told p m) ms n
 
-shared-append : {P : Type 0} (part_of : P → Part) (s : Shared) (ns : List (Option P × GateNote)) (n : Option P × GateNote)
+shared-append : {P : Type 0} (part_of : P → Part) (s : Shared) (ns : List (Option P × GateNote)) (n : Option P ×
+    GateNote)
     → shared_after part_of s (ns ++ n ∷ []) ≡ shared_noted part_of (shared_after part_of s ns) n
 shared-append part_of s [] n = refl
 shared-append part_of s (m ∷ ms) n = shared-append part_of (shared_noted part_of s m) ms n
@@ -58,7 +62,7 @@ gate_told part_of tells f own old new n is step =
     ∙ step (shared_after part_of none_shared old))
 
 -- after a note on the gate's own connections
-pub part_told : {C : Type 0} (faults : C → ℕ) (told : C → Option (List Doing)) (tells : Bool) (f : Content → Content)
+pub part_told : {C : Type 0} (faults : C → ℕ) (told : C → Option (List IoEvent)) (tells : Bool) (f : Content → Content)
     (s' s : Shared) (number' number : ℕ) (old was new : List (Option C × PartNote)) (n : Option C × PartNote) →
     s' ≡ s → number' ≡ number → was ≡ old → new ≡ was ++ n ∷ []
     → ((p : Part) → content_with s (part_noted faults told p n) ≡ f (content_with s p))
@@ -69,24 +73,29 @@ part_told faults told tells f s' s number' number old was new n same is_number s
     (content_with s' (part_after faults told (fresh_part number') new))
     (ap (λ (t : Shared). content_with t (part_after faults told (fresh_part number') new)) same
     ∙ ap (λ (k : ℕ). content_with s (part_after faults told (fresh_part k) new)) is_number
-    ∙ ap (λ (l : List _). content_with s (part_after faults told (fresh_part number) l)) (is ∙ ap (λ (l : List _). l ++ n ∷ []) same_notes)
+    ∙ ap (λ (l : List _). content_with s (part_after faults told (fresh_part number) l)) (is ∙ ap (λ (l : List _). l ++
+    n ∷ []) same_notes)
     ∙ ap (content_with s) (part-append faults told (fresh_part number) old n)
     ∙ step (part_after faults told (fresh_part number) old))
 
 -- a part that was split off
-pub new_part_told : {P C : Type 0} (part_of : P → Part) (faults : C → ℕ) (told : C → Option (List Doing)) (tells : Bool) (own : Part)
-    (old : List (Option P × GateNote)) (number : ℕ) (none : List (Option P × GateNote)) (no_notes : List (Option C × PartNote))
+pub new_part_told : {P C : Type 0} (part_of : P → Part) (faults : C → ℕ) (told : C → Option (List IoEvent)) (tells :
+    Bool) (own : Part)
+    (old : List (Option P × GateNote)) (number : ℕ) (none : List (Option P × GateNote)) (no_notes : List (Option C ×
+    PartNote))
     → none ≡ [] → no_notes ≡ []
     → IfSome (told_if tells (content_with (shared_after part_of none_shared old) own)) MaySplit
     → number ≡ min (splits_after 0 old) (2 ^ 32 - 1)
-    → told_if tells (content_with (shared_after part_of none_shared none) (part_after faults told (fresh_part number) no_notes))
+    → told_if tells (content_with (shared_after part_of none_shared none) (part_after faults told (fresh_part number)
+    no_notes))
     ≡ option_map new_part (told_if tells (content_with (shared_after part_of none_shared old) own))
 new_part_told part_of faults told false own old number none no_notes e f may is = refl
 new_part_told part_of faults told true own old number none no_notes e f may is =
     let parts = splits_are_parts part_of none_shared old in
     let room = may.1 in
     let right : number ≡ length (shared_after part_of none_shared old).parts = omega (arith, is, parts, room) in
-    ap Some (ap (λ (l : List _). content_with (shared_after part_of none_shared l) (part_after faults told (fresh_part number) no_notes)) e
+    ap Some (ap (λ (l : List _). content_with (shared_after part_of none_shared l) (part_after faults told (fresh_part
+    number) no_notes)) e
     ∙ ap (λ (l : List _). content_with none_shared (part_after faults told (fresh_part number) l)) f
     ∙ ap (λ (k : ℕ). content_with none_shared (fresh_part k)) right)
 

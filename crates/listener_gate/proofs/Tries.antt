@@ -1,9 +1,11 @@
 -- Tries to accept, one after another.
-use Rattle.std.proofs.Common.{◌≡◌, ℕ, ◌+◌, ◌≤◌, ◌-◌, ◌^◌, Bool, IsTrue, List, [], ◌∷◌, ◌++◌, refl, sym, ap, ◌∙◌, arith, inl, inr, append_assoc, append-nil, length-append, ◌⊎◌}
-use Rattle.vod_base.specs.Outside.{HasRisen}
+use Rattle.std.proofs.Common.{◌≡◌, ℕ, ◌+◌, ◌≤◌, ◌-◌, ◌^◌, Bool, IsTrue, List, [], ◌∷◌, ◌++◌, refl, sym, ap, ◌∙◌, arith}
+use Rattle.std.proofs.Common.{inl, inr, append_assoc, append-nil, length-append, ◌⊎◌}
+use Rattle.vod_base.specs.IoState.{HasRisen}
 use Rattle.listener_gate.specs.declared.listeners.ListenerDoing.{ListenerDoing}
 use Rattle.listener_gate.specs.declared.listeners.ListenerDoing.TheVariants.{Accepted, ShortageError}
-use Rattle.listener_gate.specs.Accepts.{FailedTry, RetriedAtOnce, RetriedAfterWait, wait_after, failed_try, failed_tries, wait_after_tries, IsAcceptedAfter, IsGivenUp, HasTried}
+use Rattle.listener_gate.specs.Accepts.{FailedTry, RetriedAtOnce, RetriedAfterWait, wait_after, failed_try}
+use Rattle.listener_gate.specs.Accepts.{failed_tries, wait_after_tries, IsAcceptedAfter, IsGivenUp, HasTried}
 
 wait_after_tries-append : (ms : ℕ) (ts : List FailedTry) (t : FailedTry) →
     wait_after_tries ms (ts ++ t ∷ []) ≡ wait_after t (wait_after_tries ms ts)
@@ -16,7 +18,8 @@ failed_tries-append ms [] RetriedAtOnce = refl
 failed_tries-append ms [] RetriedAfterWait = refl
 failed_tries-append ms (u ∷ us) t =
     ap (λ (l : List ListenerDoing). failed_try ms u ++ l) (failed_tries-append (wait_after u ms) us t)
-    ∙ sym (append_assoc (failed_try ms u) (failed_tries (wait_after u ms) us) (failed_try (wait_after_tries (wait_after u ms) us) t))
+    ∙ sym (append_assoc (failed_try ms u) (failed_tries (wait_after u ms) us) (failed_try (wait_after_tries (wait_after
+    u ms) us) t))
 
 -- before the first
 pub none_tried : (ms : ℕ) (tells : Bool) (did : List ListenerDoing) → HasTried ms ms 0 tells did did
@@ -28,8 +31,10 @@ none_tried ms tells did = record {
 }
 
 -- one more
-pub tried_more : {ms wait count : ℕ} {tells : Bool} {before : List ListenerDoing} (wait' : ℕ) (was after : List ListenerDoing) (t : FailedTry) →
-    HasTried ms wait count tells before was → wait' ≡ wait_after t wait → (IsTrue tells → after ≡ was ++ failed_try wait t) →
+pub tried_more : {ms wait count : ℕ} {tells : Bool} {before : List ListenerDoing} (wait' : ℕ) (was after : List
+    ListenerDoing) (t : FailedTry) →
+    HasTried ms wait count tells before was → wait' ≡ wait_after t wait → (IsTrue tells → after ≡ was ++ failed_try wait
+    t) →
     HasTried ms wait' (count + 1) tells before after
 tried_more {ms} {wait} {before = before} wait' was after t tried later is = record {
   tries = tried.tries ++ t ∷ [];
@@ -51,7 +56,8 @@ accepted_then was after tried is tells = record {
 }
 
 -- or it failed for good
-pub failed_then : {ms wait count : ℕ} {tells : Bool} {before : List ListenerDoing} (was after : List ListenerDoing) (faults_before faults_was faults_after : ℕ) →
+pub failed_then : {ms wait count : ℕ} {tells : Bool} {before : List ListenerDoing} (was after : List ListenerDoing)
+    (faults_before faults_was faults_after : ℕ) →
     HasTried ms wait count tells before was →
     (IsTrue tells → (after ≡ was) ⊎ (after ≡ was ++ ShortageError ∷ [])) →
     faults_before ≤ faults_was → HasRisen faults_was faults_after →
@@ -66,7 +72,8 @@ failed_then was after faults_before faults_was faults_after tried is low risen =
 }
 
 -- or all tries were made
-pub all_tried : {ms wait count : ℕ} {tells : Bool} {before after : List ListenerDoing} (faults_before faults_after : ℕ) →
+pub all_tried : {ms wait count : ℕ} {tells : Bool} {before after : List ListenerDoing} (faults_before faults_after : ℕ)
+    →
     HasTried ms wait count tells before after → 2 ^ 64 - 1 ≤ count →
     IsGivenUp ms faults_before faults_after tells before after
 all_tried faults_before faults_after tried many = record {

@@ -1,8 +1,11 @@
 -- How often and when a gate tries to accept a connection.
-use Rattle.std.specs.Prelude.{◌≡◌, ℕ, ◌*◌, ◌^◌, ◌-◌, ◌≤◌, Bool, IsTrue, min, List, [], ◌∷◌, ◌++◌, length, ◌⊎◌}
-use Rattle.vod_base.specs.Outside.{HasRisen}
+use Rattle.std.specs.Prelude.{◌≡◌, ℕ, ◌*◌, ◌^◌, ◌-◌, ◌≤◌, Bool, IsTrue, min, List, [], ◌∷◌, ◌++◌}
+use Rattle.std.specs.Prelude.{length, ◌⊎◌}
+use Rattle.vod_base.specs.IoState.{HasRisen}
 use Rattle.listener_gate.specs.declared.listeners.ListenerDoing.{ListenerDoing}
-use Rattle.listener_gate.specs.declared.listeners.ListenerDoing.TheVariants.{Accepted, TransientError, ShortageError, Waited}
+use Rattle.listener_gate.specs.declared.listeners.ListenerDoing.TheVariants.{Accepted}
+use Rattle.listener_gate.specs.declared.listeners.ListenerDoing.TheVariants.{TransientError}
+use Rattle.listener_gate.specs.declared.listeners.ListenerDoing.TheVariants.{ShortageError, Waited}
 
 -- an accept that failed and is tried again: at once after a transient error, after a wait where
 -- descriptors or memory are short
@@ -47,14 +50,17 @@ pub record IsAcceptedAfter (ms : ℕ) (before after : List ListenerDoing) : Type
 -- After tries that failed the next one failed for good: the last wait or the last accept did, as
 -- the listener's count of faults shows, or 2^64 - 1 were tried, which takes longer than a machine
 -- lasts.
-pub record IsGivenUp (ms faults_before faults_after : ℕ) (tells : Bool) (before after : List ListenerDoing) : Type 0 where
+pub record IsGivenUp (ms faults_before faults_after : ℕ) (tells : Bool) (before after : List
+    ListenerDoing) : Type 0 where
   pub tries : List FailedTry
-  pub did : IsTrue tells → (after ≡ before ++ failed_tries ms tries) ⊎ (after ≡ before ++ failed_tries ms tries ++ ShortageError ∷ [])
+  pub did : IsTrue tells → (after ≡ before ++ failed_tries ms tries) ⊎ (after ≡ before ++
+      failed_tries ms tries ++ ShortageError ∷ [])
   pub why : HasRisen faults_before faults_after ⊎ (2 ^ 64 - 1 ≤ length tries)
 
 -- So many tries failed so far, and the wait for a shortage rose from `ms` to `wait`.
-pub record HasTried (ms wait count : ℕ) (tells : Bool) (before after : List ListenerDoing) : Type 0 where
-  pub tries : List FailedTry
-  pub number : length tries ≡ count
-  pub waits : wait ≡ wait_after_tries ms tries
-  pub did : IsTrue tells → after ≡ before ++ failed_tries ms tries
+pub record HasTried (ms wait count : ℕ) (tells : Bool) (before after : List ListenerDoing) : Type 0
+  where
+    pub tries : List FailedTry
+    pub number : length tries ≡ count
+    pub waits : wait ≡ wait_after_tries ms tries
+    pub did : IsTrue tells → after ≡ before ++ failed_tries ms tries

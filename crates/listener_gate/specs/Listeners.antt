@@ -1,7 +1,8 @@
 -- What a listener did, as contracts see it.
 use Rattle.std.specs.Prelude.{⊤, List, [], ◌∷◌}
 use Rattle.listener_gate.specs.declared.listeners.AcceptError.{AcceptError}
-use Rattle.listener_gate.specs.declared.listeners.AcceptError.TheVariants.{Transient, Shortage, Broken}
+use Rattle.listener_gate.specs.declared.listeners.AcceptError.TheVariants.{Transient, Shortage}
+use Rattle.listener_gate.specs.declared.listeners.AcceptError.TheVariants.{Broken}
 use Rattle.listener_gate.specs.declared.listeners.ListenerDoing.{ListenerDoing}
 use Rattle.listener_gate.specs.declared.listeners.ListenerDoing.TheVariants as doing
 

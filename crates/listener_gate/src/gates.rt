@@ -1,9 +1,11 @@
 //! A gate over a listener.
 
-ghost use Rattle.std.specs.Prelude.{◌≡◌, ◌<◌, ◌≤◌, ◌*◌, ◌+◌, ◌-◌, ◌^◌, ◌++◌, ◌∷◌, [], ◌⊎◌, min, None, Some, option_map};
-ghost use Rattle.std.specs.Prelude.{IsTrue, IfOk, IfErr, OnOk, OnErr, IfSome, IsSome, IsErr, true, false};
-ghost use Rattle.vod_base.specs.Outside.{HasRisen, one_more};
-ghost use Rattle.vod_base.specs.Gates.{MaySplit, IsOut, HasOut, after_open, split_off};
+ghost use Rattle.std.specs.Prelude.{◌≡◌, ◌<◌, ◌≤◌, ◌*◌, ◌+◌, ◌-◌, ◌^◌, ◌++◌, ◌∷◌, [], ◌⊎◌, min};
+ghost use Rattle.std.specs.Prelude.{None, Some, option_map};
+ghost use Rattle.std.specs.Prelude.{IsTrue, IfOk, IfErr, OnOk, OnErr, IfSome, IsSome, IsErr, true};
+ghost use Rattle.std.specs.Prelude.{false};
+ghost use Rattle.vod_base.specs.IoState.{HasRisen, one_more};
+ghost use Rattle.vod_base.specs.Gates.{MaySplit, IsPartOut, HasConnOut, after_open, split_off};
 ghost use Rattle.vod_base.specs.Gates.{new_part, after_take, after_empty_take, after_return};
 ghost use Rattle.vod_base.specs.Gates.{NoMore, Failed, told_rejoined};
 ghost use Rattle.listener_gate.specs.Accepts.{first_wait, longer_wait, IsAcceptedAfter};
@@ -98,7 +100,8 @@ impl<L: Listener> ListenerGate<L> {
             ++ failed_try self.old.wait t))) }
         ensures lost { OnErr result (IsTrue L.tells →
             (L.did self.new.listener ≡ L.did self.old.listener)
-            ⊎ (L.did self.new.listener ≡ L.did self.old.listener ++ ListenerDoing.ShortageError ∷ [])) }
+            ⊎ (L.did self.new.listener ≡ L.did self.old.listener ++ ListenerDoing.ShortageError ∷
+            [])) }
         ensures fault { OnErr result
             (HasRisen (L.faults self.old.listener) (L.faults self.new.listener)) }
     {
@@ -123,7 +126,8 @@ impl<L: Listener> ListenerGate<L> {
         ensures wait { OnOk result (self.new.wait ≡ longer_wait self.old.wait) }
         ensures count { L.faults self.old.listener ≤ L.faults self.new.listener }
         ensures waited { OnOk result (IsTrue L.tells →
-            L.did self.new.listener ≡ L.did self.old.listener ++ ListenerDoing.Waited self.old.wait ∷ []) }
+            L.did self.new.listener ≡ L.did self.old.listener ++ ListenerDoing.Waited self.old.wait
+            ∷ []) }
         ensures lost { OnErr result (IsTrue L.tells →
             L.did self.new.listener ≡ L.did self.old.listener) }
         ensures fault { OnErr result
@@ -174,7 +178,8 @@ impl<L: Listener + Drop> Gate for ListenerGate<L> {
     ghost faults = { λ g. g.faults };
 
     ghost told = { λ g. told_if L.tells (content_with
-        (shared_after (λ p. part_after L.Conn.faults L.Conn.told (fresh_part p.number) p.notes.items)
+        (shared_after (λ p. part_after L.Conn.faults L.Conn.told (fresh_part p.number)
+        p.notes.items)
         none_shared g.history.items)
         (part_after L.Conn.faults L.Conn.told (fresh_part g.own.number) g.own.notes.items)) };
 
@@ -220,7 +225,8 @@ impl<L: Listener + Drop> Gate for ListenerGate<L> {
         requires may { IfSome (⟦<ListenerGate<L> as Gate>⟧.told self.old) MaySplit }
         ensures count { self.old.faults ≤ self.new.faults }
         ensures fault { OnErr result (HasRisen self.old.faults self.new.faults) }
-        ensures split { OnOk result (⟦<ListenerGate<L> as Gate>⟧.told self.new ≡ option_map split_off (⟦<ListenerGate<L> as Gate>⟧.told self.old)) }
+        ensures split { OnOk result (⟦<ListenerGate<L> as Gate>⟧.told self.new ≡ option_map
+            split_off (⟦<ListenerGate<L> as Gate>⟧.told self.old)) }
         ensures part { IfOk result (λ part.
             (⟦<ListenerGate<L> as Gate>⟧.told part ≡ option_map new_part (⟦<ListenerGate<L> as Gate>⟧.told self.old))
             × (part.faults ≡ 0)) }
@@ -272,7 +278,8 @@ impl<L: Listener + Drop> Gate for ListenerGate<L> {
         ensures fresh { IfOk result (λ taken. IfSome taken (λ conn. (L.Conn.faults conn ≡ 0)
             × IfSome (L.Conn.told conn) (λ doings. doings ≡ []))) }
         ensures none { IfOk result (λ taken. taken ≡ None →
-            ⟦<ListenerGate<L> as Gate>⟧.told self.new ≡ option_map (after_empty_take NoMore) (⟦<ListenerGate<L> as Gate>⟧.told self.old)) }
+            ⟦<ListenerGate<L> as Gate>⟧.told self.new ≡ option_map (after_empty_take NoMore)
+            (⟦<ListenerGate<L> as Gate>⟧.told self.old)) }
         ensures lost { OnErr result (⟦<ListenerGate<L> as Gate>⟧.told self.new ≡
             option_map (after_empty_take Failed) (⟦<ListenerGate<L> as Gate>⟧.told self.old)) }
         // a connection is given where fewer than all were given, and accepted after the waits that
@@ -320,7 +327,7 @@ impl<L: Listener + Drop> Gate for ListenerGate<L> {
     }
 
     fn give_back(&mut self, conn: L::Conn)
-        requires out { IfSome (⟦<ListenerGate<L> as Gate>⟧.told self.old) HasOut }
+        requires out { IfSome (⟦<ListenerGate<L> as Gate>⟧.told self.old) HasConnOut }
         ensures count { self.old.faults ≤ self.new.faults }
         ensures back { ⟦<ListenerGate<L> as Gate>⟧.told self.new ≡
             option_map (after_return (record {
@@ -340,11 +347,12 @@ impl<L: Listener + Drop> Gate for ListenerGate<L> {
 
     fn rejoin(&mut self, part: ListenerGate<L>)
         requires out { IfSome (⟦<ListenerGate<L> as Gate>⟧.told self.old) (λ c.
-            IfSome (⟦<ListenerGate<L> as Gate>⟧.told part) (λ p. IsOut p.own.number c)) }
+            IfSome (⟦<ListenerGate<L> as Gate>⟧.told part) (λ p. IsPartOut p.own.number c)) }
         ensures count { self.old.faults ≤ self.new.faults }
         ensures risen { 0 < part.faults → HasRisen self.old.faults self.new.faults }
         ensures joined { ⟦<ListenerGate<L> as Gate>⟧.told self.new ≡
-            told_rejoined (⟦<ListenerGate<L> as Gate>⟧.told part) (⟦<ListenerGate<L> as Gate>⟧.told self.old) }
+            told_rejoined (⟦<ListenerGate<L> as Gate>⟧.told part) (⟦<ListenerGate<L> as Gate>⟧.told
+            self.old) }
         ensures same { (self.new.listener ≡ self.old.listener)
             × (self.new.is_open ≡ self.old.is_open) × (self.new.most ≡ self.old.most)
             × (self.new.given ≡ self.old.given) × (self.new.wait ≡ self.old.wait) }

@@ -16,7 +16,8 @@ pub enum PartNote {
     CameBack,
 }
 
-/// What happened at a gate: it was opened, a call failed to open it, a part was split off, or a part
+/// What happened at a gate: it was opened, a call failed to open it, a part was split off, or a
+/// part
 /// came back.
 #[derive(Clone, Copy, Drop)]
 pub enum GateNote {

@@ -1,8 +1,9 @@
 //! What a listening socket must do.
 
-ghost use Rattle.std.specs.Prelude.{◌≡◌, ◌<◌, ◌≤◌, ℕ, Bool, List, [], ◌∷◌, ◌++◌, Option, IsTrue, IfSome};
+ghost use Rattle.std.specs.Prelude.{◌≡◌, ◌<◌, ◌≤◌, ℕ, Bool, List, [], ◌∷◌, ◌++◌, Option, IsTrue};
+ghost use Rattle.std.specs.Prelude.{IfSome};
 ghost use Rattle.std.specs.Prelude.{IfOk, IfErr, OnOk, OnErr};
-ghost use Rattle.vod_base.specs.Outside.{HasRisen, one_more};
+ghost use Rattle.vod_base.specs.IoState.{HasRisen, one_more};
 
 use thiserror::Error;
 use vod_base::Link;

@@ -1,7 +1,8 @@
 //! A listener in memory.
 
-ghost use Rattle.std.specs.Prelude.{◌≡◌, ◌≤◌, ◌++◌, ◌∷◌, [], true, OnOk, OnErr, IfOk, IfErr, IfSome, IsTrue};
-ghost use Rattle.vod_base.specs.Outside.{HasRisen};
+ghost use Rattle.std.specs.Prelude.{◌≡◌, ◌≤◌, ◌++◌, ◌∷◌, [], true, OnOk, OnErr, IfOk, IfErr};
+ghost use Rattle.std.specs.Prelude.{IfSome, IsTrue};
+ghost use Rattle.vod_base.specs.IoState.{HasRisen};
 ghost use Rattle.listener_gate.specs.Listeners.{failed_accept, IsBroken};
 
 use crate::listeners::{AcceptError, Listener, ListenerDoing, ListenerFault};
@@ -12,7 +13,8 @@ use vod_base::{Event, Link, MemoryLink, NoMemory};
 const ROOM: usize = 1 << 16;
 
 /// A listener in memory. Its accepts give what its script says, in order, and after the script the
-/// listener is broken. Its calls of `bind`, `copy` and `wait` fail at given numbers, from 1. A handle
+/// listener is broken. Its calls of `bind`, `copy` and `wait` fail at given numbers, from 1. A
+/// handle
 /// that is copied from it has a script of its own.
 #[derive(Drop)]
 pub struct MemoryListener {
@@ -27,7 +29,8 @@ pub struct MemoryListener {
 }
 
 impl MemoryListener {
-    /// A listener that isn't bound. `accepts` has the answers of its accepts, in order, and `copies`
+    /// A listener that isn't bound. `accepts` has the answers of its accepts, in order, and
+    /// `copies`
     /// those of each handle that is copied from it, in order; a copy past the last fails. `failing`
     /// has the numbers, from 1, of the calls of `bind`, `copy` and `wait` that are to fail.
     pub fn new(

@@ -15,7 +15,8 @@ use std::{io, thread};
 /// [`TcpPort`].
 pub type TcpGate<'a, R> = ListenerGate<TcpPort<'a, R>>;
 
-/// A listening TCP socket of the system. It tells contracts nothing: what each call does is one call
+/// A listening TCP socket of the system. It tells contracts nothing: what each call does is one
+/// call
 /// of std.
 #[derive(Drop)]
 pub struct TcpPort<'a, R: Net<Listener = TcpListener, Stream = TcpStream> + Clock> {
@@ -74,7 +75,9 @@ impl<'a, R: Net<Listener = TcpListener, Stream = TcpStream> + Clock> Listener fo
             return Err(ListenerFault);
         };
         let clock = bound.clock;
-        let listener = self.faults.pass_on(bound.listener.try_clone(), ListenerFault)?;
+        let listener = self
+            .faults
+            .pass_on(bound.listener.try_clone(), ListenerFault)?;
         Ok(TcpPort {
             rt: self.rt,
             alloc: self.alloc,

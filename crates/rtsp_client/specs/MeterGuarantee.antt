@@ -1,6 +1,7 @@
 -- When the meter stays between empty and the buffer: when what came lies between a film's two
 -- curves at each reading.
-use Rattle.std.specs.Prelude.{◌≡◌, ℕ, ◌+◌, ◌<◌, ◌≤◌, ⊤, true, List, [], ◌∷◌, ◌++◌, length, sum, take}
+use Rattle.std.specs.Prelude.{◌≡◌, ℕ, ◌+◌, ◌<◌, ◌≤◌, ⊤, true, List, [], ◌∷◌, ◌++◌, length, sum}
+use Rattle.std.specs.Prelude.{take}
 use Rattle.rtsp_client.specs.declared.watch_request.Wish.{Wish}
 use Rattle.rtsp_client.specs.ClientHistory.{History, ClientEvent, Frame, Reply, Report, Slot}
 use Rattle.rtsp_client.specs.ClientHistory.{bytes_received, frames, sizes}

@@ -56,7 +56,8 @@ pub fn law_meter_detects_curve_violations()
         (most_waiting wish h ≤ wish.buffer) ↔ (count_over wish h ≡ 0) }
 {}
 
-/// The meter counts its readings: `over` is the number of those at which more waited than the buffer
+/// The meter counts its readings: `over` is the number of those at which more waited than the
+/// buffer
 /// holds, and `under` of those at which a picture was missing that was to be used by then.
 pub fn law_meter_counts_readings()
     ensures over { (wish : Wish) (h : History) →

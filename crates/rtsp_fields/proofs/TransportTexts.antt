@@ -25,7 +25,8 @@ use Rattle.rtsp_fields.proofs.SeparatedTexts.{digits_other}
 
 -- ---- a text that neither begins nor ends with a blank
 
-pub bare_front : (text : List ℕ) → 0 < length text → is_blank (get_or text 0 0) ≡ false → without_leading_blanks text ≡ text
+pub bare_front : (text : List ℕ) → 0 < length text → is_blank (get_or text 0 0) ≡ false → without_leading_blanks text ≡
+    text
 bare_front [] some other = refl
 bare_front (x ∷ text) some other = cond-false (is_blank x) (without_leading_blanks text) (x ∷ text) other
 

@@ -2,9 +2,12 @@
 use Rattle.std.specs.Prelude.{ℕ, List, [], ◌∷◌, ◌++◌}
 use Rattle.socket_link.specs.declared.sockets.Purpose.{Purpose}
 
--- One call that succeeded. A read gave bytes, gave nothing now, or found the end; a write took bytes,
--- or nothing now; a signal interrupted a read or a write, which then did nothing; the clock was read
--- for a purpose, in nanoseconds; the call waited for at most so many nanoseconds; the sending half was
+-- One call that succeeded. A read gave bytes, gave nothing now, or found the end; a write took
+-- bytes,
+-- or nothing now; a signal interrupted a read or a write, which then did nothing; the clock was
+-- read
+-- for a purpose, in nanoseconds; the call waited for at most so many nanoseconds; the sending half
+-- was
 -- shut down.
 pub data SocketCall : Type 0 where
   GaveBytes : List ℕ → SocketCall

@@ -2,8 +2,10 @@
 use Rattle.std.specs.Prelude.{ℕ, ◌-◌, Bool, false, ◌||◌, nat_le, List, [], ◌∷◌, Option, Some, None}
 use Rattle.std.specs.Prelude.{unwrap_or}
 use Rattle.socket_link.specs.declared.sockets.Purpose.{Purpose}
-use Rattle.socket_link.specs.declared.sockets.Purpose.TheVariants.{Accept, Slot, Idle, Patience, End}
-use Rattle.socket_link.specs.declared.limits.TheConstants.{STUCK_LIMIT, FIRST_SEND_LIMIT, IDLE_LIMIT}
+use Rattle.socket_link.specs.declared.sockets.Purpose.TheVariants.{Accept, Slot, Idle, Patience}
+use Rattle.socket_link.specs.declared.sockets.Purpose.TheVariants.{End}
+use Rattle.socket_link.specs.declared.limits.TheConstants.{STUCK_LIMIT, FIRST_SEND_LIMIT}
+use Rattle.socket_link.specs.declared.limits.TheConstants.{IDLE_LIMIT}
 use Rattle.socket_link.specs.declared.limits.Watch.{Watch}
 use Rattle.socket_link.specs.Calls.{SocketCall, GaveBytes, TookBytes}
 use Rattle.socket_link.specs.Calls.{ReadClock}
@@ -12,10 +14,16 @@ use Rattle.socket_link.specs.Calls.{ReadClock}
 abbrev pub no_watch : Watch
 no_watch = record { latest = 0; active = 0; unanswered = None; stuck = None }
 
--- After a reading. One at the accept begins anew. One after a write that took nothing begins to count,
+-- After a reading. One at the accept begins anew. One after a write that took nothing begins to
+-- count,
 -- unless it counts already.
 abbrev pub clocked : Watch → Purpose → ℕ → Watch
-clocked w Accept time = record { latest = time; active = time; unanswered = Some time; stuck = None }
+clocked w Accept time = record {
+  latest = time;
+  active = time;
+  unanswered = Some time;
+  stuck = None;
+}
 clocked w Slot time = record w { latest = time }
 clocked w Idle time = record w { latest = time }
 clocked w Patience time = record w { latest = time; stuck = Some (unwrap_or w.stuck time) }
@@ -38,12 +46,14 @@ abbrev pub has_passed : ℕ → Option ℕ → ℕ → Bool
 has_passed limit None time = false
 has_passed limit (Some since) time = nat_le limit (time - since)
 
--- Whether a reading shows that a limit is reached. An idle reading: nothing was sent since the accept, or
+-- Whether a reading shows that a limit is reached. An idle reading: nothing was sent since the
+-- accept, or
 -- no byte came or was taken, for too long. A patience reading: the peer took nothing for too long.
 abbrev pub is_overdue : Watch → Purpose → ℕ → Bool
 is_overdue w Accept time = false
 is_overdue w Slot time = false
-is_overdue w Idle time = has_passed FIRST_SEND_LIMIT w.unanswered time || has_passed IDLE_LIMIT (Some w.active) time
+is_overdue w Idle time = has_passed FIRST_SEND_LIMIT w.unanswered time || has_passed IDLE_LIMIT
+    (Some w.active) time
 is_overdue w Patience time = has_passed STUCK_LIMIT w.stuck time
 is_overdue w End time = false
 

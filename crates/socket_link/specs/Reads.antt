@@ -1,7 +1,8 @@
 -- The answers of a socket's read.
 use Rattle.std.specs.Prelude.{ℕ, ◌≤◌, ⊤, List, take}
 use Rattle.socket_link.specs.declared.sockets.ReadOutcome.{ReadOutcome}
-use Rattle.socket_link.specs.declared.sockets.ReadOutcome.TheVariants.{Bytes, Nothing, Interrupted, End}
+use Rattle.socket_link.specs.declared.sockets.ReadOutcome.TheVariants.{Bytes, Nothing, Interrupted}
+use Rattle.socket_link.specs.declared.sockets.ReadOutcome.TheVariants.{End}
 use Rattle.socket_link.specs.Calls.{SocketCall, GaveBytes, GaveNothing, GaveEnd, WasInterrupted}
 
 -- an answer as a call, where `into` has the bytes that came in front

@@ -1,7 +1,10 @@
 -- What a socket in memory notes.
 use Rattle.socket_link.specs.declared.memory_sockets.NotedCall.{NotedCall}
-use Rattle.socket_link.specs.declared.memory_sockets.NotedCall.TheVariants.{Gave, Empty, Ended, Took, Full, Stopped, Clock, Wait, Shut}
-use Rattle.socket_link.specs.Calls.{SocketCall, GaveBytes, GaveNothing, GaveEnd, TookBytes, TookNothing}
+use Rattle.socket_link.specs.declared.memory_sockets.NotedCall.TheVariants.{Gave, Empty, Ended}
+use Rattle.socket_link.specs.declared.memory_sockets.NotedCall.TheVariants.{Took, Full, Stopped}
+use Rattle.socket_link.specs.declared.memory_sockets.NotedCall.TheVariants.{Clock, Wait, Shut}
+use Rattle.socket_link.specs.Calls.{SocketCall, GaveBytes, GaveNothing, GaveEnd, TookBytes}
+use Rattle.socket_link.specs.Calls.{TookNothing}
 use Rattle.socket_link.specs.Calls.{WasInterrupted, ReadClock, Waited, ShutDown}
 
 -- a note as the call that it stands for

@@ -3,7 +3,7 @@ use Rattle.std.specs.Prelude.{◌≡◌, ℕ, ◌-◌, ◌≤◌, List, [], ◌�
 use Rattle.std.specs.Prelude.{Option, Some, None, if◌then◌else◌, ◌⊎◌}
 use Rattle.vod_base.specs.declared.links.Heard.{Heard}
 use Rattle.vod_base.specs.declared.links.Heard.TheVariants.{Slot}
-use Rattle.vod_base.specs.Links.{Doing, HeardSlot, doing_of}
+use Rattle.vod_base.specs.Links.{IoEvent, HeardSlot, io_event_of}
 use Rattle.socket_link.specs.Calls.{SocketCall, GaveEnd, ShutDown, taken_of}
 use Rattle.socket_link.specs.declared.limits.TheConstants.{STUCK_LIMIT, LINGER}
 use Rattle.socket_link.specs.Limits.{no_watch, reached_limit}
@@ -11,7 +11,8 @@ use Rattle.socket_link.specs.Slots.{slot_of, is_newer}
 use Rattle.socket_link.specs.Waits.{last_from, WaitsFit}
 use Rattle.socket_link.specs.Purposes.{slot_reading, end_reading}
 
--- Further calls of the socket were made. No reading among them shows that a limit is reached, and each
+-- Further calls of the socket were made. No reading among them shows that a limit is reached, and
+-- each
 -- wait ends where it must.
 pub record HasServed (units : ℕ) (was now : List SocketCall) : Type 0 where
   pub more : List SocketCall
@@ -20,12 +21,12 @@ pub record HasServed (units : ℕ) (was now : List SocketCall) : Type 0 where
   pub waits : WaitsFit units (last_from None was) more
 
 -- what is noted of a read that may have given nothing
-abbrev pub doings_read : Option Heard → List ℕ → List Doing
+abbrev pub doings_read : Option Heard → List ℕ → List IoEvent
 doings_read None into = []
-doings_read (Some heard) into = doing_of heard into ∷ []
+doings_read (Some heard) into = io_event_of heard into ∷ []
 
 -- what is noted of a look at the clock
-abbrev pub doings_looked : Option ℕ → List Doing
+abbrev pub doings_looked : Option ℕ → List IoEvent
 doings_looked None = []
 doings_looked (Some slot) = HeardSlot slot ∷ []
 
@@ -34,7 +35,8 @@ abbrev pub if_newer : Option ℕ → ℕ → Option ℕ
 if_newer last slot = if is_newer last slot then Some slot else None
 
 -- the clock was read once, and the slot is due by that reading, or none is
-pub record HasLooked (units : ℕ) (last due : Option ℕ) (time : ℕ) (was now : List SocketCall) : Type 0 where
+pub record HasLooked (units : ℕ) (last due : Option ℕ) (time : ℕ) (was now : List SocketCall) : Type
+    0 where
   pub now_is : now ≡ was ++ slot_reading time ∷ []
   pub due_is : due ≡ if_newer last (slot_of units time)
 
@@ -58,7 +60,8 @@ pub record NoneIsDue (units : ℕ) (last : Option ℕ) (calls : List SocketCall)
   pub calls_are : calls ≡ (before ++ slot_reading time ∷ []) ++ call ∷ []
   pub due_is : None ≡ if_newer last (slot_of units time)
 
--- A slot comes before bytes and before the end: an event of the latter kind is reported only if no slot is
+-- A slot comes before bytes and before the end: an event of the latter kind is reported only if no
+-- slot is
 -- due by a reading of the clock directly before the read.
 abbrev pub IsInOrder : ℕ → Option ℕ → Heard → List SocketCall → Type 0
 IsInOrder units last (Slot slot) calls = IsDue units last slot calls
@@ -77,8 +80,10 @@ pub record HasFoundEnd (calls : List SocketCall) : Type 0 where
   pub before : List SocketCall
   pub calls_are : calls ≡ before ++ GaveEnd ∷ []
 
--- A connection was closed, after which nothing is written. First all that was sent was written out, or
--- the peer had 60 s for it; then the sending half was shut down; then the peer's end was found, or the
+-- A connection was closed, after which nothing is written. First all that was sent was written out,
+-- or
+-- the peer had 60 s for it; then the sending half was shut down; then the peer's end was found, or
+-- the
 -- link read on for 1 s.
 pub record HasClosed (sent : List ℕ) (was now : List SocketCall) : Type 0 where
   pub before : List SocketCall

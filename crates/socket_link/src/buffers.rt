@@ -15,7 +15,8 @@ pub(crate) struct WriteBuffer {
     start: usize,
 }
 
-/// The most bytes that wait: 16 KiB. A slot of 40 ms of a film of 3 Mbit/s leaves in one write, and a
+/// The most bytes that wait: 16 KiB. A slot of 40 ms of a film of 3 Mbit/s leaves in one write, and
+/// a
 /// late session, which sends several slots at once, touches no more memory.
 const ROOM: usize = 16_384;
 

@@ -3,7 +3,7 @@
 
 ghost use Rattle.std.specs.Prelude.{◌≡◌, List, [], ◌++◌};
 ghost use Rattle.std.specs.Borrow.{ftrue};
-ghost use Rattle.vod_base.specs.Links.{Doing};
+ghost use Rattle.vod_base.specs.Links.{IoEvent};
 
 use std::marker::Model;
 use vod_base::Heard;
@@ -11,14 +11,15 @@ use vod_base::Heard;
 /// What a link did, in order.
 #[derive(Drop)]
 pub(crate) struct History {
-    pub(crate) ghost doings: { List Doing },
+    pub(crate) ghost doings: { List IoEvent },
 }
 
 impl Model for History {
     ghost also_owns = { λ _. ftrue };
 }
 
-/// What is noted in one step: an event, with the bytes that came in front of a buffer; or bytes that
+/// What is noted in one step: an event, with the bytes that came in front of a buffer; or bytes
+/// that
 /// were given to `send`.
 #[derive(Clone, Copy, Drop)]
 pub(crate) enum Note<'a> {

@@ -15,7 +15,8 @@ pub const FIRST_SEND_LIMIT: u64 = 15_000_000_000;
 /// For how long a connection may be idle, on which no byte comes and none is taken: 3,600 s.
 pub const IDLE_LIMIT: u64 = 3_600_000_000_000;
 
-/// After how long a write is tried again while the peer takes nothing, at the latest: 1 s. The system
+/// After how long a write is tried again while the peer takes nothing, at the latest: 1 s. The
+/// system
 /// may make room in its own buffer without waking the link.
 pub(crate) const RETRY: u64 = 1_000_000_000;
 

@@ -1,17 +1,19 @@
 //! A link over a socket.
 
-ghost use Rattle.std.specs.Prelude.{◌≡◌, ℕ, ◌+◌, ◌-◌, ◌<◌, ◌≤◌, ◌++◌, ◌∷◌, ◌⊎◌, [], Some, None, false};
+ghost use Rattle.std.specs.Prelude.{◌≡◌, ℕ, ◌+◌, ◌-◌, ◌<◌, ◌≤◌, ◌++◌, ◌∷◌, ◌⊎◌, [], Some, None};
+ghost use Rattle.std.specs.Prelude.{false};
 ghost use Rattle.std.specs.Prelude.{IsTrue, IsSome, length, take, min, max, slice_get};
 ghost use Rattle.std.specs.Prelude.{IfOk, OnOk, OnErr, IfSome};
 ghost use Rattle.std.proofs.Props.{props};
-ghost use Rattle.vod_base.specs.Outside.{HasRisen};
-ghost use Rattle.vod_base.specs.Links.{doing_of, IsWithin, sends, told_more, IsFrontTold};
+ghost use Rattle.vod_base.specs.IoState.{HasRisen};
+ghost use Rattle.vod_base.specs.Links.{io_event_of, IsWithin, sends, told_more, IsSentPrefix};
 ghost use Rattle.vod_base.specs.MemoryLinks.{sent_of};
 ghost use Rattle.socket_link.specs.Calls.{ReadClock, ShutDown};
 ghost use Rattle.socket_link.specs.Limits.{clocked};
 ghost use Rattle.socket_link.specs.Slots.{is_for_slots, is_newer};
 ghost use Rattle.socket_link.specs.Histories.{Follows, slots_heard, IsCause, told_if};
-ghost use Rattle.socket_link.specs.Steps.{HasServed, HasCalled, HasLooked, HasLasted, HasFoundEnd, HasClosed};
+ghost use Rattle.socket_link.specs.Steps.{HasServed, HasCalled, HasLooked, HasLasted, HasFoundEnd};
+ghost use Rattle.socket_link.specs.Steps.{HasClosed};
 ghost use Rattle.socket_link.specs.Waits.{last_from, FitsAfter};
 ghost use Rattle.socket_link.specs.Flushes.{IsLeft};
 ghost use Rattle.socket_link.specs.Steps.{doings_read, doings_looked, IsInOrder, IsNoSlot};
@@ -437,7 +439,7 @@ impl<S: Socket> SocketLink<S> {
         ensures count { S.faults self.old.socket ≤ S.faults self.new.socket }
         ensures within { IfOk result (λ heard. IsWithin heard (length into.new)) }
         ensures heard { IfOk result (λ heard. self.new.history.doings
-            ≡ self.old.history.doings ++ doing_of heard into.new ∷ []) }
+            ≡ self.old.history.doings ++ io_event_of heard into.new ∷ []) }
         ensures lost { OnErr result (self.new.history.doings ≡ self.old.history.doings) }
         ensures left { OnOk result
             ((length self.new.buffer ≡ 0) ⊎ IsSome self.new.watch.stuck) }
@@ -547,7 +549,8 @@ impl<S: Socket> SocketLink<S> {
 
     /// Closes the connection: what waits is written out, for 60 s at most; the sending half is shut
     /// down; and what the peer still sends is read and dropped until it ends, for 1 s at most. A
-    /// socket that is closed with bytes unread is reset, and a last reply that is on its way is lost.
+    /// socket that is closed with bytes unread is reset, and a last reply that is on its way is
+    /// lost.
     pub fn close(&mut self) -> Result<(), LinkFault>
         ensures count { S.faults self.old.socket ≤ S.faults self.new.socket }
         ensures served { OnOk result (IsTrue S.tells →
@@ -581,7 +584,7 @@ impl<S: Socket> Link for SocketLink<S> {
         ensures fault { OnErr result (HasRisen self.old.faults self.new.faults) }
         ensures within { IfOk result (λ heard. IsWithin heard (length into.new)) }
         ensures heard { IfOk result (λ heard. told_if S.tells self.new.history.doings ≡
-            told_more (told_if S.tells self.old.history.doings) (doing_of heard into.new ∷ [])) }
+            told_more (told_if S.tells self.old.history.doings) (io_event_of heard into.new ∷ [])) }
         ensures lost { OnErr result (told_if S.tells self.new.history.doings
             ≡ told_if S.tells self.old.history.doings) }
         ensures units { self.new.slot_units ≡ self.old.slot_units }
@@ -606,7 +609,7 @@ impl<S: Socket> Link for SocketLink<S> {
         ensures fault { OnErr result (HasRisen self.old.faults self.new.faults) }
         ensures whole { OnOk result (told_if S.tells self.new.history.doings
             ≡ told_more (told_if S.tells self.old.history.doings) (sends bytes.now)) }
-        ensures front { OnErr result (IsFrontTold (told_if S.tells self.old.history.doings)
+        ensures front { OnErr result (IsSentPrefix (told_if S.tells self.old.history.doings)
             (told_if S.tells self.new.history.doings) bytes.now) }
         ensures units { self.new.slot_units ≡ self.old.slot_units }
         ensures served { OnOk result (IsTrue S.tells →

@@ -1,7 +1,7 @@
 //! A socket in memory, which follows a script.
 
 ghost use Rattle.std.specs.Prelude.{◌≡◌, ◌≤◌, ◌++◌, ◌∷◌, [], map, OnOk, OnErr};
-ghost use Rattle.vod_base.specs.Outside.{HasRisen};
+ghost use Rattle.vod_base.specs.IoState.{HasRisen};
 ghost use Rattle.socket_link.specs.Calls.{TookBytes};
 ghost use Rattle.socket_link.specs.Scripts.{call_noted};
 
@@ -11,7 +11,8 @@ use std::alloc::Global;
 /// What a read is to answer.
 #[derive(Debug, Drop)]
 pub enum ScriptedRead {
-    /// Bytes come, at least one. Those that are more than a read has room for come in several reads.
+    /// Bytes come, at least one. Those that are more than a read has room for come in several
+    /// reads.
     Bytes(Vec<u8>),
     /// Nothing came yet.
     Nothing,
@@ -51,7 +52,8 @@ pub(crate) enum NotedCall {
 }
 
 /// A socket in memory, whose reads and writes follow two scripts. After its script a read gives
-/// nothing, and a write takes everything. Time passes in waits alone, each of which lasts as long as
+/// nothing, and a write takes everything. Time passes in waits alone, each of which lasts as long
+/// as
 /// it may. A call also fails where there is no memory to note it.
 #[derive(Drop)]
 pub struct MemorySocket {

@@ -2,7 +2,7 @@
 
 ghost use Rattle.std.specs.Prelude.{◌≡◌, ◌<◌, ◌≤◌, ℕ, Bool, IsTrue, List, [], ◌∷◌, ◌++◌, length};
 ghost use Rattle.std.specs.Prelude.{IfOk, OnOk, OnErr};
-ghost use Rattle.vod_base.specs.Outside.{HasRisen};
+ghost use Rattle.vod_base.specs.IoState.{HasRisen};
 ghost use Rattle.socket_link.specs.Calls.{SocketCall, ReadClock, Waited, ShutDown};
 ghost use Rattle.socket_link.specs.Reads.{read_call, IsReadWithin};
 ghost use Rattle.socket_link.specs.Writes.{write_call, IsWrittenWithin};

@@ -7,7 +7,8 @@ loop-n-preserved g c =
     let held = c.loop-n.invariant in
     let now = c.in-Ok-None.ensures in
     let failed = now.failed c.in-Ok-None.field-0-is in
-    let more = tried_more c.try_accept.new.self.wait (g.L.Listener.did c.loop-n.self.listener) (g.L.Listener.did c.try_accept.new.self.listener) failed.0 held.tried failed.1.0 failed.1.1 in
+    let more = tried_more c.try_accept.new.self.wait (g.L.Listener.did c.loop-n.self.listener) (g.L.Listener.did
+    c.try_accept.new.self.listener) failed.0 held.tried failed.1.0 failed.1.1 in
     let rose = now.count in
     record {
       faults = now.same.0 ∙ held.faults;

@@ -11,6 +11,9 @@ returns-in-Some-clause-back g c =
       faults = g.L.Conn.Link.faults c.args.conn;
       told = g.L.Conn.Link.told c.args.conn;
     }))
-    (shared_after (λ p. part_after g.L.Conn.Link.faults g.L.Conn.Link.told (fresh_part p.number) p.notes.items) none_shared c.args.self.now.history.items) (shared_after (λ p. part_after g.L.Conn.Link.faults g.L.Conn.Link.told (fresh_part p.number) p.notes.items) none_shared c.args.self.now.history.items)
-    c.note.new.self.number c.args.self.now.own.number c.args.self.now.own.notes.items c.args.self.now.own.notes.items c.note.new.self.notes.items _
+    (shared_after (λ p. part_after g.L.Conn.Link.faults g.L.Conn.Link.told (fresh_part p.number) p.notes.items)
+    none_shared c.args.self.now.history.items) (shared_after (λ p. part_after g.L.Conn.Link.faults
+    g.L.Conn.Link.told (fresh_part p.number) p.notes.items) none_shared c.args.self.now.history.items)
+    c.note.new.self.number c.args.self.now.own.number c.args.self.now.own.notes.items c.args.self.now.own.notes.items
+    c.note.new.self.notes.items _
     refl c.note.ensures.number refl c.note.ensures.notes (λ p. refl)

@@ -19,11 +19,13 @@ invariant_of-self-in-Err g c = record {
 pub returns-in-Ok-clause-open : goal.returns-in-Ok-clause-open
 returns-in-Ok-clause-open g c =
     gate_told (λ p. part_after g.L.Conn.Link.faults g.L.Conn.Link.told (fresh_part p.number) p.notes.items)
-    g.L.Listener.tells (after_open (Some c.args.how.now)) (part_after g.L.Conn.Link.faults g.L.Conn.Link.told (fresh_part c.args.self.now.own.number) c.args.self.now.own.notes.items)
+    g.L.Listener.tells (after_open (Some c.args.how.now)) (part_after g.L.Conn.Link.faults g.L.Conn.Link.told
+    (fresh_part c.args.self.now.own.number) c.args.self.now.own.notes.items)
     c.args.self.now.history.items c.and-self.result.items _ c.and-self.ensures (λ s. refl)
 
 pub returns-in-Err-clause-lost : goal.returns-in-Err-clause-lost
 returns-in-Err-clause-lost g c =
     gate_told (λ p. part_after g.L.Conn.Link.faults g.L.Conn.Link.told (fresh_part p.number) p.notes.items)
-    g.L.Listener.tells (after_open None) (part_after g.L.Conn.Link.faults g.L.Conn.Link.told (fresh_part c.args.self.now.own.number) c.args.self.now.own.notes.items)
+    g.L.Listener.tells (after_open None) (part_after g.L.Conn.Link.faults g.L.Conn.Link.told (fresh_part
+    c.args.self.now.own.number) c.args.self.now.own.notes.items)
     c.args.self.now.history.items c.and-self-in-Err.result.items _ c.and-self-in-Err.ensures (λ s. refl)

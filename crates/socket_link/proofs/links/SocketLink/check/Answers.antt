@@ -8,7 +8,8 @@ invariant_of-self-clause-follows g c = λ tells.
     follows_call c.args.self.now.slot_units _ _ c.args.self.now.buffer c.args.self.now.buffer
     c.args.self.now.history.doings (ReadClock c.args.purpose c.in-Ok.time) (c.args.self.now.follows tells)
     (c.in-Ok.ensures.read tells) refl refl
-    (λ slots. slots_after-other c.args.self.now.slot_units c.args.purpose c.in-Ok.time slots c.requires) c.at-self.ensures
+    (λ slots. slots_after-other c.args.self.now.slot_units c.args.purpose c.in-Ok.time slots c.requires)
+    c.at-self.ensures
 
 pub returns-then-overdue-clause-cause : goal.returns-then-overdue-clause-cause
 returns-then-overdue-clause-cause g c = λ tells.

@@ -1,10 +1,12 @@
 use Rattle.std.proofs.Common.{refl, ◌∙◌}
-use Rattle.socket_link.proofs.Steps.{round_first, round_on, round_cause, round_end, round_longer, round_served, on_err, some_left, last_call}
+use Rattle.socket_link.proofs.Steps.{round_first, round_on, round_cause, round_end, round_longer, round_served, on_err}
+use Rattle.socket_link.proofs.Steps.{some_left, last_call}
 use Rattle.socket_link.proofs.links.SocketLink.flush.Goals as goal
 
 pub loop-init : goal.loop-init
 loop-init g c = record {
-  round = round_first c.args.self.now.slot_units g.S.Socket.tells (g.S.Socket.faults c.args.self.now.socket) (g.S.Socket.did c.args.self.now.socket);
+  round = round_first c.args.self.now.slot_units g.S.Socket.tells (g.S.Socket.faults c.args.self.now.socket)
+      (g.S.Socket.did c.args.self.now.socket);
   history = refl;
   faults = refl;
   units = refl;
@@ -32,13 +34,15 @@ returns-then-is_empty-clause-served g c =
     round_served _ _ _ _ _ _ _ _ c.loop.invariant.round (rw c.loop.invariant.units at c.in_ok-write.ensures.served)
 
 pub returns-then-is_empty-clause-longer : goal.returns-then-is_empty-clause-longer
-returns-then-is_empty-clause-longer g c = round_longer _ _ _ _ _ _ _ _ c.loop.invariant.round c.in_ok-write.ensures.longer
+returns-then-is_empty-clause-longer g c = round_longer _ _ _ _ _ _ _ _ c.loop.invariant.round
+    c.in_ok-write.ensures.longer
 
 pub returns-in-Nothing-clause-served : goal.returns-in-Nothing-clause-served
 returns-in-Nothing-clause-served g c =
     let r = round_on _ _ _ _ _ _ _ _ _ c.loop.invariant.round c.write.ensures.count
     (rw c.loop.invariant.units at c.in_ok-write.ensures.served) c.in_ok-write.ensures.longer in
-    round_served _ _ _ _ _ _ _ _ r (rw (c.write.ensures.same.2 ∙ c.loop.invariant.units) at c.in_ok-check.ensures.served)
+    round_served _ _ _ _ _ _ _ _ r (rw (c.write.ensures.same.2 ∙ c.loop.invariant.units) at
+    c.in_ok-check.ensures.served)
 
 pub returns-in-Nothing-clause-longer : goal.returns-in-Nothing-clause-longer
 returns-in-Nothing-clause-longer g c =

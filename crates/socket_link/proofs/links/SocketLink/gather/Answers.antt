@@ -5,7 +5,8 @@ use Rattle.socket_link.proofs.links.SocketLink.gather.Goals as goal
 
 pub loop-init : goal.loop-init
 loop-init g c = record {
-  round = round_first c.args.self.now.slot_units g.S.Socket.tells (g.S.Socket.faults c.args.self.now.socket) (g.S.Socket.did c.args.self.now.socket);
+  round = round_first c.args.self.now.slot_units g.S.Socket.tells (g.S.Socket.faults c.args.self.now.socket)
+      (g.S.Socket.did c.args.self.now.socket);
   part = part_first c.args.self.now.history.doings c.args.bytes.now;
   faults = refl;
   units = refl;
@@ -14,7 +15,8 @@ loop-init g c = record {
 pub returns-then-is_empty-clause-whole : goal.returns-then-is_empty-clause-whole
 returns-then-is_empty-clause-whole g c =
     part_whole _ _ _ _ c.is_empty.result
-    (part_on _ _ _ _ _ c.put-count.result c.loop.invariant.part c.put-count.ensures.told) c.is_empty.ensures c.if-is_empty.true
+    (part_on _ _ _ _ _ c.put-count.result c.loop.invariant.part c.put-count.ensures.told) c.is_empty.ensures
+    c.if-is_empty.true
 
 pub returns-then-is_empty-clause-served : goal.returns-then-is_empty-clause-served
 returns-then-is_empty-clause-served g c =
@@ -23,7 +25,8 @@ returns-then-is_empty-clause-served g c =
 pub returns-in_err-make_room-clause-front : goal.returns-in_err-make_room-clause-front
 returns-in_err-make_room-clause-front g c =
     on_err _ (part_front _ _ _ _
-    (part_on _ _ _ _ _ c.put-count.result c.loop.invariant.part (c.make_room.ensures.same.0 ∙ c.put-count.ensures.told)))
+    (part_on _ _ _ _ _ c.put-count.result c.loop.invariant.part (c.make_room.ensures.same.0 ∙
+    c.put-count.ensures.told)))
 
 pub returns-in_err-make_room-clause-cause : goal.returns-in_err-make_room-clause-cause
 returns-in_err-make_room-clause-cause g c =
@@ -37,7 +40,8 @@ loop-preserved g c =
     record {
       round = round_on _ _ _ _ _ _ _ _ _ r c.make_room.ensures.count
           (rw units at c.in_ok-make_room.ensures.served) c.in_ok-make_room.ensures.longer;
-      part = part_on _ _ _ _ _ c.put-count.result c.loop.invariant.part (c.make_room.ensures.same.0 ∙ c.put-count.ensures.told);
+      part = part_on _ _ _ _ _ c.put-count.result c.loop.invariant.part (c.make_room.ensures.same.0 ∙
+          c.put-count.ensures.told);
       faults = c.make_room.ensures.same.1 ∙ c.put-count.ensures.same.0 ∙ c.loop.invariant.faults;
       units = c.make_room.ensures.same.2 ∙ units;
     }

@@ -4,7 +4,8 @@ use Rattle.socket_link.proofs.links.SocketLink.hear.Goals as goal
 
 pub loop-init : goal.loop-init
 loop-init g c = record {
-  round = round_first c.args.self.now.slot_units g.S.Socket.tells (g.S.Socket.faults c.args.self.now.socket) (g.S.Socket.did c.args.self.now.socket);
+  round = round_first c.args.self.now.slot_units g.S.Socket.tells (g.S.Socket.faults c.args.self.now.socket)
+      (g.S.Socket.did c.args.self.now.socket);
   history = refl;
   faults = refl;
   units = refl;

@@ -6,7 +6,8 @@ use Rattle.socket_link.proofs.links.SocketLink.linger.Goals as goal
 
 pub loop-init : goal.loop-init
 loop-init g c = record {
-  round = round_first c.check.new.self.slot_units g.S.Socket.tells (g.S.Socket.faults c.check.new.self.socket) (g.S.Socket.did c.check.new.self.socket);
+  round = round_first c.check.new.self.slot_units g.S.Socket.tells (g.S.Socket.faults c.check.new.self.socket)
+      (g.S.Socket.did c.check.new.self.socket);
   faults = refl;
   units = refl;
 }
@@ -17,7 +18,8 @@ loop-preserved g c =
     (rw c.loop.invariant.units at c.in_ok-check-2.ensures.served) c.in_ok-check-2.ensures.longer in
     let units2 = c.check-in-loop.ensures.same.2 ∙ c.loop.invariant.units in
     record {
-      round = round_more _ _ _ _ _ _ _ _ _ r1 c.read_or_wait.ensures.count (rw units2 at c.in_ok-read_or_wait.ensures.served);
+      round = round_more _ _ _ _ _ _ _ _ _ r1 c.read_or_wait.ensures.count (rw units2 at
+          c.in_ok-read_or_wait.ensures.served);
       faults = c.read_or_wait.ensures.same.0 ∙ c.check-in-loop.ensures.same.1 ∙ c.loop.invariant.faults;
       units = c.read_or_wait.ensures.same.1 ∙ units2;
     }
@@ -46,7 +48,8 @@ returns-in-Some-End-clause-served g c =
     let r1 = round_more _ _ _ _ _ _ _ _ _ c.loop.invariant.round c.check-in-loop.ensures.count
     (rw c.loop.invariant.units at c.in_ok-check-2.ensures.served) in
     let units2 = c.check-in-loop.ensures.same.2 ∙ c.loop.invariant.units in
-    let r2 = round_more _ _ _ _ _ _ _ _ _ r1 c.read_or_wait.ensures.count (rw units2 at c.in_ok-read_or_wait.ensures.served) in
+    let r2 = round_more _ _ _ _ _ _ _ _ _ r1 c.read_or_wait.ensures.count (rw units2 at
+    c.in_ok-read_or_wait.ensures.served) in
     outer_served _ _ _ _ _ _ c.check.ensures.same.2 c.in_ok-check.ensures.served r2.served
 
 pub returns-in-Some-End-clause-ended : goal.returns-in-Some-End-clause-ended
@@ -62,4 +65,5 @@ pub returns-in_err-read_or_wait-clause-cause : goal.returns-in_err-read_or_wait-
 returns-in_err-read_or_wait-clause-cause g c =
     let r1 = round_more _ _ _ _ _ _ _ _ _ c.loop.invariant.round c.check-in-loop.ensures.count
     (rw c.loop.invariant.units at c.in_ok-check-2.ensures.served) in
-    on_err _ (outer_cause _ _ _ _ _ c.check.ensures.count (round_cause _ _ _ _ _ _ _ _ _ r1 c.in_err-read_or_wait.ensures.cause))
+    on_err _ (outer_cause _ _ _ _ _ c.check.ensures.count (round_cause _ _ _ _ _ _ _ _ _ r1
+    c.in_err-read_or_wait.ensures.cause))

@@ -10,7 +10,8 @@ invariant_of-self-clause-follows g c = λ tells.
     (c.in-Ok.ensures.waited tells) refl refl (λ slots. refl) refl
 
 pub returns-in-Ok-clause-served : goal.returns-in-Ok-clause-served
-returns-in-Ok-clause-served g c = λ tells. served_call _ _ _ (Waited c.args.most) (c.in-Ok.ensures.waited tells) refl (c.requires tells)
+returns-in-Ok-clause-served g c = λ tells. served_call _ _ _ (Waited c.args.most) (c.in-Ok.ensures.waited tells) refl
+    (c.requires tells)
 
 pub returns-in-Ok-clause-longer : goal.returns-in-Ok-clause-longer
 returns-in-Ok-clause-longer g c = λ tells. longer_call _ _ (Waited c.args.most) (c.in-Ok.ensures.waited tells)

@@ -16,24 +16,29 @@ invariant_of-self-clause-follows g c =
 
 pub returns-in-Ok-Bytes-clause-served : goal.returns-in-Ok-Bytes-clause-served
 returns-in-Ok-Bytes-clause-served g c =
-    let took = rw c.in-Ok-Bytes.field-0-is at c.in-Ok-Bytes.ensures.took in λ tells. served_call _ _ _ (TookBytes _) (took tells) refl tt
+    let took = rw c.in-Ok-Bytes.field-0-is at c.in-Ok-Bytes.ensures.took in λ tells. served_call _ _ _ (TookBytes _)
+    (took tells) refl tt
 
 pub returns-in-Ok-Nothing-clause-served : goal.returns-in-Ok-Nothing-clause-served
 returns-in-Ok-Nothing-clause-served g c =
-    let took = rw c.in-Ok-Nothing.field-0-is at c.in-Ok-Nothing.ensures.took in λ tells. served_call _ _ _ TookNothing (took tells) refl tt
+    let took = rw c.in-Ok-Nothing.field-0-is at c.in-Ok-Nothing.ensures.took in λ tells. served_call _ _ _ TookNothing
+    (took tells) refl tt
 
 pub returns-in-Ok-Interrupted-clause-served : goal.returns-in-Ok-Interrupted-clause-served
 returns-in-Ok-Interrupted-clause-served g c =
-    let took = rw c.in-Ok-Interrupted.field-0-is at c.in-Ok-Interrupted.ensures.took in λ tells. served_call _ _ _ WasInterrupted (took tells) refl tt
+    let took = rw c.in-Ok-Interrupted.field-0-is at c.in-Ok-Interrupted.ensures.took in λ tells. served_call _ _ _
+    WasInterrupted (took tells) refl tt
 
 pub invariant_of-self-in-Ok-Nothing-clause-follows : goal.invariant_of-self-in-Ok-Nothing-clause-follows
 invariant_of-self-in-Ok-Nothing-clause-follows g c =
     let took = rw c.in-Ok-Nothing.field-0-is at c.in-Ok-Nothing.ensures.took in λ tells.
     follows_call c.args.self.now.slot_units _ _ c.args.self.now.buffer c.args.self.now.buffer
-    c.args.self.now.history.doings TookNothing (c.args.self.now.follows tells) (took tells) refl refl (λ slots. refl) refl
+    c.args.self.now.history.doings TookNothing (c.args.self.now.follows tells) (took tells) refl refl (λ slots. refl)
+    refl
 
 pub invariant_of-self-in-Ok-Interrupted-clause-follows : goal.invariant_of-self-in-Ok-Interrupted-clause-follows
 invariant_of-self-in-Ok-Interrupted-clause-follows g c =
     let took = rw c.in-Ok-Interrupted.field-0-is at c.in-Ok-Interrupted.ensures.took in λ tells.
     follows_call c.args.self.now.slot_units _ _ c.args.self.now.buffer c.args.self.now.buffer
-    c.args.self.now.history.doings WasInterrupted (c.args.self.now.follows tells) (took tells) refl refl (λ slots. refl) refl
+    c.args.self.now.history.doings WasInterrupted (c.args.self.now.follows tells) (took tells) refl refl (λ slots. refl)
+    refl

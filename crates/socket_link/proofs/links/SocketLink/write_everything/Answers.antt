@@ -6,7 +6,8 @@ use Rattle.socket_link.proofs.links.SocketLink.write_everything.Goals as goal
 
 pub loop-init : goal.loop-init
 loop-init g c = record {
-  round = round_first c.check.new.self.slot_units g.S.Socket.tells (g.S.Socket.faults c.check.new.self.socket) (g.S.Socket.did c.check.new.self.socket);
+  round = round_first c.check.new.self.slot_units g.S.Socket.tells (g.S.Socket.faults c.check.new.self.socket)
+      (g.S.Socket.did c.check.new.self.socket);
   history = refl;
   faults = refl;
   units = refl;
@@ -23,10 +24,13 @@ loop-preserved g c =
     let units3 = c.check-in-loop.ensures.same.2 ∙ units2 in
     record {
       round = round_more _ _ _ _ _ _ _ _ _ r2 c.wait.ensures.count (rw units3 at c.in_ok-wait.ensures.served);
-      history = c.wait.ensures.same.0 ∙ c.check-in-loop.ensures.same.0 ∙ c.write_out.ensures.same.0 ∙ c.loop.invariant.history;
-      faults = c.wait.ensures.same.1 ∙ c.check-in-loop.ensures.same.1 ∙ c.write_out.ensures.same.1 ∙ c.loop.invariant.faults;
+      history = c.wait.ensures.same.0 ∙ c.check-in-loop.ensures.same.0 ∙ c.write_out.ensures.same.0 ∙
+          c.loop.invariant.history;
+      faults = c.wait.ensures.same.1 ∙ c.check-in-loop.ensures.same.1 ∙ c.write_out.ensures.same.1 ∙
+          c.loop.invariant.faults;
       units = c.wait.ensures.same.2 ∙ units3;
-      slot = c.wait.ensures.same.3 ∙ c.check-in-loop.ensures.same.3 ∙ c.write_out.ensures.same.3 ∙ c.loop.invariant.slot;
+      slot = c.wait.ensures.same.3 ∙ c.check-in-loop.ensures.same.3 ∙ c.write_out.ensures.same.3 ∙
+          c.loop.invariant.slot;
     }
 
 pub returns-clause-cause : goal.returns-clause-cause
@@ -41,7 +45,8 @@ returns-then-is_empty-clause-served g c =
     let r1 = round_more _ _ _ _ _ _ _ _ _ c.loop.invariant.round c.write_out.ensures.count
     (rw c.loop.invariant.units at c.in_ok-write_out.ensures.served) in
     let units2 = c.write_out.ensures.same.2 ∙ c.loop.invariant.units in
-    let r2 = round_more _ _ _ _ _ _ _ _ _ r1 c.check-in-loop.ensures.count (rw units2 at c.in_ok-check-2.ensures.served) in
+    let r2 = round_more _ _ _ _ _ _ _ _ _ r1 c.check-in-loop.ensures.count (rw units2 at c.in_ok-check-2.ensures.served)
+    in
     outer_served _ _ _ _ _ _ c.check.ensures.same.2 c.in_ok-check.ensures.served r2.served
 
 pub returns-then-is_empty-clause-written : goal.returns-then-is_empty-clause-written
@@ -53,7 +58,8 @@ returns-then-waited-ge-STUCK_LIMIT-clause-served g c =
     let r1 = round_more _ _ _ _ _ _ _ _ _ c.loop.invariant.round c.write_out.ensures.count
     (rw c.loop.invariant.units at c.in_ok-write_out.ensures.served) in
     let units2 = c.write_out.ensures.same.2 ∙ c.loop.invariant.units in
-    let r2 = round_more _ _ _ _ _ _ _ _ _ r1 c.check-in-loop.ensures.count (rw units2 at c.in_ok-check-2.ensures.served) in
+    let r2 = round_more _ _ _ _ _ _ _ _ _ r1 c.check-in-loop.ensures.count (rw units2 at c.in_ok-check-2.ensures.served)
+    in
     outer_served _ _ _ _ _ _ c.check.ensures.same.2 c.in_ok-check.ensures.served r2.served
 
 pub returns-then-waited-ge-STUCK_LIMIT-clause-written : goal.returns-then-waited-ge-STUCK_LIMIT-clause-written
@@ -73,12 +79,15 @@ pub returns-in_err-check-2-clause-cause : goal.returns-in_err-check-2-clause-cau
 returns-in_err-check-2-clause-cause g c =
     let r1 = round_more _ _ _ _ _ _ _ _ _ c.loop.invariant.round c.write_out.ensures.count
     (rw c.loop.invariant.units at c.in_ok-write_out.ensures.served) in
-    on_err _ (outer_cause _ _ _ _ _ c.check.ensures.count (round_cause _ _ _ _ _ _ _ _ _ r1 c.in_err-check-2.ensures.cause))
+    on_err _ (outer_cause _ _ _ _ _ c.check.ensures.count (round_cause _ _ _ _ _ _ _ _ _ r1
+    c.in_err-check-2.ensures.cause))
 
 pub returns-in_err-wait-clause-cause : goal.returns-in_err-wait-clause-cause
 returns-in_err-wait-clause-cause g c =
     let r1 = round_more _ _ _ _ _ _ _ _ _ c.loop.invariant.round c.write_out.ensures.count
     (rw c.loop.invariant.units at c.in_ok-write_out.ensures.served) in
     let units2 = c.write_out.ensures.same.2 ∙ c.loop.invariant.units in
-    let r2 = round_more _ _ _ _ _ _ _ _ _ r1 c.check-in-loop.ensures.count (rw units2 at c.in_ok-check-2.ensures.served) in
-    on_err _ (outer_cause _ _ _ _ _ c.check.ensures.count (round_cause _ _ _ _ _ _ _ _ _ r2 c.in_err-wait.ensures.cause))
+    let r2 = round_more _ _ _ _ _ _ _ _ _ r1 c.check-in-loop.ensures.count (rw units2 at c.in_ok-check-2.ensures.served)
+    in
+    on_err _ (outer_cause _ _ _ _ _ c.check.ensures.count (round_cause _ _ _ _ _ _ _ _ _ r2
+    c.in_err-wait.ensures.cause))
