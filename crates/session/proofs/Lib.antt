@@ -34,3 +34,5 @@ pub mod WholeFilmLemmas
 mod ReplyTextLemmas
 pub mod CompleteReplyLemmas
 mod WordLemmas
+mod RefusalLawLemmas
+mod ReplyNumberLemmas

@@ -25,3 +25,5 @@ pub mod LookLaws
 pub mod EndLaws
 pub mod PublicLaws
 pub mod CompleteReplies
+pub mod RefusalLaws
+pub mod ReplyNumbers

@@ -29,7 +29,7 @@ use Rattle.session.specs.Methods.{Describes}
 use Rattle.session.specs.RequestedPlans.{IsPlannedRun}
 use Rattle.session.specs.SessionStates.{SessionState}
 
--- the phrase of RFC 2326 section 7.1.1 for each cause
+-- the phrase for each cause, in this project's spelling of those of RFC 2326 section 7.1.1
 abbrev pub phrase_of : Refusal → List ℕ
 phrase_of BadRequest = codes "Bad Request"
 phrase_of Version = codes "RTSP Version Not Supported"

@@ -47,6 +47,10 @@ pub use crate::play_laws::{
     law_done_run_is_counted_in_full, law_halt_is_at_next_boundary, law_missed_slots_are_counted,
     law_note_matches_its_play, law_only_later_slots_are_processed, law_range_in_playing_is_refused,
 };
+pub use crate::refusal_laws::{
+    law_play_without_range_plays_whole_film, law_refusals_come_in_order,
+    law_replies_have_the_request_cseq,
+};
 
 /// A reply other than 200 leaves all of the session but the reply (RFC 2326 section 7.1.1). So do
 /// 453 and 503, which tell what the station answered: only its receipt is noted, and no answer is
@@ -149,7 +153,8 @@ pub fn law_one_answer_per_request()
         Hears old message ask new → NeverLacks ask new }
 {}
 
-/// Each refusal has the phrase that RFC 2326 section 7.1.1 has for its cause.
+/// Each refusal has the phrase for its cause, in this project's spelling of those of RFC 2326 section
+/// 7.1.1.
 pub fn law_refusals_have_rfc_phrases()
     ensures { (refusal : Refusal) → phrase (code_of refusal) ≡ phrase_of refusal }
 {}

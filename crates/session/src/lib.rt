@@ -14,6 +14,7 @@ mod plans;
 mod play_laws;
 mod play_requests;
 mod records;
+mod refusal_laws;
 mod refusals;
 mod replies;
 mod requests;
