@@ -14,8 +14,7 @@ const ROOM: usize = 1 << 16;
 
 /// A listener in memory. Its accepts give what its script says, in order, and after the script the
 /// listener is broken. Its calls of `bind`, `copy` and `wait` fail at given numbers, from 1. A
-/// handle
-/// that is copied from it has a script of its own.
+/// handle that is copied from it has a script of its own.
 #[derive(Drop)]
 pub struct MemoryListener {
     alloc: Global,
@@ -30,9 +29,9 @@ pub struct MemoryListener {
 
 impl MemoryListener {
     /// A listener that isn't bound. `accepts` has the answers of its accepts, in order, and
-    /// `copies`
-    /// those of each handle that is copied from it, in order; a copy past the last fails. `failing`
-    /// has the numbers, from 1, of the calls of `bind`, `copy` and `wait` that are to fail.
+    /// `copies` those of each handle that is copied from it, in order; a copy past the last fails.
+    /// `failing` has the numbers, from 1, of the calls of `bind`, `copy` and `wait` that are to
+    /// fail.
     pub fn new(
         alloc: Global,
         accepts: Vec<Result<Vec<Event>, AcceptError>>,

@@ -3,7 +3,7 @@
 ghost use Rattle.std.specs.Prelude.{[], false};
 
 use crate::faults::Faults;
-use crate::links::TcpLink;
+use crate::links::{TcpLink, link_over};
 use crate::slots::SlotClock;
 use listener_gate::{AcceptError, Listener, ListenerFault, ListenerGate, accept_error_of};
 use std::alloc::Global;
@@ -93,7 +93,7 @@ impl<'a, R: Net<Listener = TcpListener, Stream = TcpStream> + Clock> Listener fo
             return Err(AcceptError::Broken);
         };
         let error = match bound.listener.accept() {
-            Ok((stream, _)) => match TcpLink::new(self.rt, self.alloc, stream, bound.clock) {
+            Ok((stream, _)) => match link_over(self.rt, self.alloc, stream, bound.clock) {
                 Ok(link) => return Ok(link),
                 Err(_) => AcceptError::Shortage,
             },

@@ -9,7 +9,6 @@ mod dials;
 mod faults;
 mod files;
 mod gates;
-mod gathers;
 mod links;
 mod outputs;
 mod slots;
@@ -17,7 +16,7 @@ mod slots;
 pub use dials::DialGate;
 pub use files::FileLibrary;
 pub use gates::{TcpGate, TcpPort};
-pub use links::TcpLink;
+pub use links::{TcpLink, TcpSocket};
 pub use outputs::OutSink;
 
 #[cfg(test)]

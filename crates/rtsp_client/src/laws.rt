@@ -57,8 +57,7 @@ pub fn law_meter_detects_curve_violations()
 {}
 
 /// The meter counts its readings: `over` is the number of those at which more waited than the
-/// buffer
-/// holds, and `under` of those at which a picture was missing that was to be used by then.
+/// buffer holds, and `under` of those at which a picture was missing that was to be used by then.
 pub fn law_meter_counts_readings()
     ensures over { (wish : Wish) (h : History) →
         (watched_in wish h).over ≡ length (filter (is_overrun wish) (readings wish h)) }

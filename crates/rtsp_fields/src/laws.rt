@@ -129,8 +129,8 @@ pub fn law_default_channels_are_0_and_1()
 {}
 
 /// Words of a Transport value are read in any case, with blanks around each part or not.
-/// `mode=play`
-/// and `mode="play"` ask for playback, which is what this server does (RFC 2326 section 12.39).
+/// `mode=play` and `mode="play"` ask for playback, which is what this server does (RFC 2326 section
+/// 12.39).
 pub fn law_transport_words_are_read_in_any_case()
     ensures { (protocol : List ℕ) (parts : List (List ℕ)) →
         IsSpelling (codes "rtp/avp/tcp") protocol → All IsPlayParameter parts →

@@ -94,7 +94,8 @@ some_first : (one other : Option (List ℕ)) (value : List ℕ) → (one ≡ Som
 some_first None other value is = absurd (let none : ⊥ = cc in none)
 some_first (Some own) other value is = refl
 
-some_second : (one other : Option (List ℕ)) (value : List ℕ) → (other ≡ Some value) → is_some (first_of one other) ≡ true
+some_second : (one other : Option (List ℕ)) (value : List ℕ) → (other ≡ Some value) → is_some (first_of one other) ≡
+    true
 some_second None other value is = ap is_some is
 some_second (Some own) other value is = refl
 
@@ -119,7 +120,8 @@ foreign : (exists : Bool) (id value : List ℕ) (otherwise : Type 0) → IsForei
 foreign exists id value otherwise (inl none) = λ own. let none : ⊥ = cc (none, own.0) in none
 foreign exists id value otherwise (inr other) = λ own. other own.1
 
-lacking : (method : Method) (exists : Bool) (id : List ℕ) (named : Option (List ℕ)) → LacksSession method exists id named
+lacking : (method : Method) (exists : Bool) (id : List ℕ) (named : Option (List ℕ)) → LacksSession method exists id
+    named
     → ¬ FitsSession method exists id named
 lacking Options exists id named lacks = absurd lacks
 lacking Describe exists id named lacks = absurd lacks

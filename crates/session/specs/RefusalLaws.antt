@@ -1,6 +1,7 @@
 -- The refusals that all methods share, in RFC 2326's words and in their order, and what a PLAY
 -- without a Range plays.
-use Rattle.std.specs.Prelude.{ℕ, ◌≡◌, ◌≢◌, ◌*◌, ◌⊎◌, ⊤, true, false, Bool, List, [], Option, Some, None}
+use Rattle.std.specs.Prelude.{ℕ, ◌≡◌, ◌≢◌, ◌*◌, ◌⊎◌, ⊤, true, false, Bool, List, [], Option, Some}
+use Rattle.std.specs.Prelude.{None}
 use Rattle.std.specs.Prelude.{codes, length}
 use Rattle.mpeg_scan.specs.declared.films.Film.{Film}
 use Rattle.mpeg_scan.specs.PictureRates.{picture_time}

@@ -153,7 +153,8 @@ pub fn law_one_answer_per_request()
         Hears old message ask new → NeverLacks ask new }
 {}
 
-/// Each refusal has the phrase for its cause, in this project's spelling of those of RFC 2326 section
+/// Each refusal has the phrase for its cause, in this project's spelling of those of RFC 2326
+/// section
 /// 7.1.1.
 pub fn law_refusals_have_rfc_phrases()
     ensures { (refusal : Refusal) → phrase (code_of refusal) ≡ phrase_of refusal }

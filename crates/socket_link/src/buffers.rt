@@ -16,8 +16,7 @@ pub(crate) struct WriteBuffer {
 }
 
 /// The most bytes that wait: 16 KiB. A slot of 40 ms of a film of 3 Mbit/s leaves in one write, and
-/// a
-/// late session, which sends several slots at once, touches no more memory.
+/// a late session, which sends several slots at once, touches no more memory.
 const ROOM: usize = 16_384;
 
 impl Model for WriteBuffer {

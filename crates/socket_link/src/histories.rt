@@ -18,9 +18,11 @@ impl Model for History {
     ghost also_owns = { λ _. ftrue };
 }
 
+// It owns nothing.
+unsafe impl Send for History {}
+
 /// What is noted in one step: an event, with the bytes that came in front of a buffer; or bytes
-/// that
-/// were given to `send`.
+/// that were given to `send`.
 #[derive(Clone, Copy, Drop)]
 pub(crate) enum Note<'a> {
     Came(Heard, &'a [u8]),

@@ -16,8 +16,7 @@ pub const FIRST_SEND_LIMIT: u64 = 15_000_000_000;
 pub const IDLE_LIMIT: u64 = 3_600_000_000_000;
 
 /// After how long a write is tried again while the peer takes nothing, at the latest: 1 s. The
-/// system
-/// may make room in its own buffer without waking the link.
+/// system may make room in its own buffer without waking the link.
 pub(crate) const RETRY: u64 = 1_000_000_000;
 
 /// For how long the link reads on after it shut its sending half down: 1 s.

@@ -53,8 +53,7 @@ pub(crate) enum NotedCall {
 
 /// A socket in memory, whose reads and writes follow two scripts. After its script a read gives
 /// nothing, and a write takes everything. Time passes in waits alone, each of which lasts as long
-/// as
-/// it may. A call also fails where there is no memory to note it.
+/// as it may. A call also fails where there is no memory to note it.
 #[derive(Drop)]
 pub struct MemorySocket {
     alloc: Global,

@@ -171,3 +171,14 @@ fn a_closed_connection_is_written_out_and_read_on(rt: HostRuntime) -> Result<(),
     assert!(rt; matches!(link.socket.notes.last(), Some(NotedCall::Ended)));
     Ok(())
 }
+
+/// Takes a value that may go to another thread.
+fn take_sent<T: Send>(_value: &T) {}
+
+#[test]
+fn a_link_may_go_to_another_thread(rt: HostRuntime) -> Result<(), Fail> {
+    let alloc = rt.alloc();
+    let link = scripted(alloc, 0, SECOND, Vec::new(alloc), Vec::new(alloc))?;
+    take_sent(&link);
+    Ok(())
+}
