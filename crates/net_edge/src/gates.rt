@@ -74,7 +74,9 @@ impl<'a, R: Net<Listener = TcpListener, Stream = TcpStream> + Clock> Listener fo
             return Err(ListenerFault);
         };
         let clock = bound.clock;
-        let listener = self.faults.pass_on(bound.listener.try_clone(), ListenerFault)?;
+        let listener = self
+            .faults
+            .pass_on(bound.listener.try_clone(), ListenerFault)?;
         Ok(TcpPort {
             rt: self.rt,
             alloc: self.alloc,
