@@ -1,5 +1,7 @@
 //! Over the loopback interface and the test's own folder.
 
+mod sockets;
+
 ghost use Rattle.std.specs.Prelude.{IfSome};
 ghost use Rattle.vod_base.specs.Gates.{MaySplit};
 

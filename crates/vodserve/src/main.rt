@@ -18,7 +18,7 @@ use crate::run::run;
 use crate::run_results::end_with;
 use cli_args::{Subcommand, subcommand_named};
 use cli_errors::CliError;
-use net_edge::{DialGate, FileLibrary, OutSink, TcpGate};
+use net_edge::{DialGate, FileLibrary, OutSink, TcpGate, TcpPort};
 use std::alloc::AllocError;
 use std::env;
 use std::io::ErrorKind;
@@ -80,7 +80,7 @@ fn main(rt: HostRuntime) -> ExitCode {
         let mut gate = DialGate::new(&rt, rt.alloc());
         run_over_gate(&rt, &words, &mut out, &mut err, &mut gate, seed)
     } else {
-        let mut gate = TcpGate::new(&rt, rt.alloc());
+        let mut gate = TcpGate::new(TcpPort::new(&rt, rt.alloc()));
         run_over_gate(&rt, &words, &mut out, &mut err, &mut gate, seed)
     };
     ExitCode::from(status)
