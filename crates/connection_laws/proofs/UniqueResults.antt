@@ -21,7 +21,7 @@ use Rattle.session.specs.SessionStates.{awaited_answer}
 use Rattle.conn.specs.InputSteps.{Outcome, Unasked, Entered, WasFull, Offered, SentPart, HasStepped}
 use Rattle.conn.specs.InputSteps.{IsAskAnswered, IsFinished, IsHalted, IsLookAnswered, IsPlayAnswered}
 use Rattle.conn.specs.InputSteps.{after_reply}
-use Rattle.connection_laws.specs.InputSplits.{AreSameAnswers, HeardRequest, LackMemoryAlike, IsOutOfMemory, answer_in}
+use Rattle.connection_laws.specs.InputSplits.{AreSameAnswers, HeardRequest, LackMemoryAlike, RanOutOfMemory, answer_in}
 
 -- ---- a request is heard
 
@@ -29,8 +29,8 @@ abbrev pub hearing : SessionState → List ℕ → Ask → SessionState → Hear
 hearing session message ask asking = record { session = session; message = message; ask = ask; asking = asking }
 
 lacks_once : {one other : SessionState} {ask again : Ask} (old : SessionState) (message : List ℕ)
-    → IsOutOfMemory (hearing old message ask one)
-    → IsOutOfMemory (hearing old message again other) → (again ≡ ask) × (other ≡ one)
+    → RanOutOfMemory (hearing old message ask one)
+    → RanOutOfMemory (hearing old message again other) → (again ≡ ask) × (other ≡ one)
 lacks_once {one} {other} {ask} old message lacks also = (also.0 ∙ sym lacks.0, also.1 ∙ sym lacks.1)
 
 hears_by : {old one other : SessionState} {message : List ℕ} {ask again : Ask}

@@ -58,8 +58,8 @@ pub record HeardRequest : Type 0 where
   pub asking : SessionState
 
 -- memory was wanting for it: it is answered 500
-abbrev pub IsOutOfMemory : HeardRequest → Type 0
-IsOutOfMemory h = IsOutOfMemory h.session h.message h.ask h.asking
+abbrev pub RanOutOfMemory : HeardRequest → Type 0
+RanOutOfMemory h = IsOutOfMemory h.session h.message h.ask h.asking
 
 -- the requests that were heard, in order
 abbrev pub heard_requests_taken : (old : Stage) (takings : List ElementStep) (new : Stage)
@@ -89,8 +89,8 @@ AreSameAnswers (answer ∷ answers) (other ∷ others) = (answer ≡ other)
     × AreSameAnswers answers others
 
 pub record LackMemoryAlike (one other : HeardRequest) : Type 0 where
-  pub there : IsOutOfMemory one → IsOutOfMemory other
-  pub back : IsOutOfMemory other → IsOutOfMemory one
+  pub there : RanOutOfMemory one → RanOutOfMemory other
+  pub back : RanOutOfMemory other → RanOutOfMemory one
 
 abbrev pub AllLackMemoryAlike : List HeardRequest → List HeardRequest → Type 0
 AllLackMemoryAlike [] others = ⊤
