@@ -48,8 +48,10 @@ next-accepted h block first playing open_ some read source consecutive =
     let number : sequence_of block ≡ (first + length all) % 2 ^ 16 =
     sym (ap sequence_of (last-of all block)) ∙ consecutive (length all) (omega (arith, long)) in
     let before : sequence_of (latest_frame h) ≡ (first + (length all - 1)) % 2 ^ 16 =
-    ap sequence_of (is.latest more ∙ sym (get_or_append_left all (block ∷ []) [] (length all - 1) (omega (arith,
-        more))))
+    ap sequence_of (is.latest more ∙ sym (get_or_append_left all (block ∷ []) [] (length all - 1) (omega (
+      arith,
+      more,
+    ))))
     ∙ consecutive (length all - 1) (omega (arith, long)) in
     let next : sequence_of block ≡ (sequence_of (latest_frame h) + 1) % 2 ^ 16 =
     omega (arith, number, before, more) in

@@ -56,7 +56,7 @@ spelled word text bare s =
     let letters = s.letters in
     let inner = letters ++ s.back in
     let some : 0 < length letters = omega (arith, bare.some, lower_long letters, ap (λ (l : List ℕ). length l) s.same)
-        in
+    in
     let front : without_leading_blanks (s.front ++ inner) ≡ inner =
     front_off s.front inner s.front_is_blank
     ∙ bare_front inner (omega (arith, some, length-append letters s.back))

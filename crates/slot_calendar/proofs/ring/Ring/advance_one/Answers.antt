@@ -28,6 +28,6 @@ invariant_of-self c =
       maxima = c.self.invariant.maxima;
       empty = λ u since late.
           total-next d.first u (record { some = omega arith; length_is = c.self.invariant.maxima.places_are }) none
-              since
+          since
           ∙ c.self.invariant.empty u (omega (arith, since)) late;
     }
