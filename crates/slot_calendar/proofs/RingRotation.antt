@@ -136,6 +136,28 @@ total-next {n} {xs} first t places none since =
     more : (a b u : ℕ) → a + b ≤ u → u ≢ a + b → a + 1 + b ≤ u
     more a b u least other = omega arith
 
+-- all places are 0 where no slot of the turn holds anything
+pub empty-places : {n : ℕ} {xs : List ℕ} (first : ℕ) → HasPlaces n xs
+    → ((t : ℕ) → first ≤ t → total_at first (rotation (first % n) xs) t ≡ 0) → (i : ℕ) → get_or xs i 0 ≡ 0
+empty-places {n} {xs} first places empty i =
+    let h = first % n in
+    let below : h < n = mod_below first n places.some in
+    let whole : first / n * n + h ≡ first = div-add-mod' first n in
+    elim (cases_lt i n) [
+      | inl inside ↦ elim (cases_lt i h) [
+        | inl before ↦ at (first + (i + n - h)) (first / n + 1) (omega (arith, whole, before, below)) inside
+            (omega arith) (omega (arith, before, below))
+        | inr from ↦ at (first + (i - h)) (first / n) (omega (arith, whole, from)) inside (omega arith)
+            (omega (arith, from, inside))
+      ]
+      | inr past ↦ get_or_past xs i 0 (omega (arith, places.length_is, past))
+    ]
+  where
+    at : (slot q : ℕ) → slot ≡ q * n + i → i < n → first ≤ slot → slot < first + n → get_or xs i 0 ≡ 0
+    at slot q is inside from late =
+        ap (λ k. get_or xs k 0) (sym (mod-is slot n q i is inside))
+        ∙ sym (total-in {first = first} {t = slot} places (record { from = from; inside = late })) ∙ empty slot from
+
 -- nothing is booked where all places are 0
 pub total-zero : {n : ℕ} {xs : List ℕ} (first t : ℕ) → HasPlaces n xs → ((i : ℕ) → get_or xs i 0 ≡ 0) → first ≤ t
     → total_at first (rotation (first % n) xs) t ≡ 0

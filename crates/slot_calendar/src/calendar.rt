@@ -89,6 +89,16 @@ impl Calendar {
         self.ring.total(slot)
     }
 
+    /// A slot after which no bytes are booked, at most 1,048,576 after `now()`. It may lie before
+    /// `now()`, and slots up to it may have been released.
+    pub fn booked_through(&self) -> u64
+        ensures calendar { IsCalendar self.now }
+        ensures within { result ≤ self.now.first + ring_slots }
+        ensures after { (t : ℕ) → self.now.first ≤ t → result + 1 ≤ t → booked_at self.now t ≡ 0 }
+    {
+        self.ring.last().min(self.ring.now() + RING_SLOTS)
+    }
+
     /// The first slot where the bytes booked and those that this plan asks for, if it begins at
     /// `start`, are together above the capacity; None where it fits into every slot.
     ///

@@ -16,8 +16,8 @@ returns c = λ t since same. (
     ap (λ s. total_at s.first s.totals t) c.self.view_is in
     let top : c.index.result.now ≡ get_or d.tops.items (p / 1024) 0 =
     get_or_read d.tops.items (p / 1024) c.index.result.now
-    (omega (arith, block-in p inside, c.self.invariant.tops_are)) c.index.ensures 0 in
+    (omega (arith, block-in p inside, c.self.invariant.maxima.tops_are)) c.index.ensures 0 in
     let from : d.first ≤ c.args.slot = omega (arith, first, c.requires) in
-    let bound = total-bounded c.self.invariant from since same in
+    let bound = total-bounded c.self.invariant.maxima from since same in
     omega (arith, here, top, bound)
     )
