@@ -8,6 +8,7 @@ pub mod PlayLookup
 pub mod OpenPlays
 pub mod Makers
 pub mod UniqueHistory
-mod PlayCounts
+pub mod PlayCounts
 mod BookedBytes
 mod HaltRoom
+pub mod OneHalt

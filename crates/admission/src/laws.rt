@@ -65,6 +65,16 @@ pub fn law_plays_follow_from_entries()
         IsLegal steps entries → IsHalt entries i number keep → number < i }
 {}
 
+/// In a legal history no play is halted twice; where no play is open, each admission has its halt.
+pub fn law_each_play_is_halted_once()
+    ensures once { (steps : List CapStep) (entries : List Entry) (number keep kept i j : ℕ) →
+        IsLegal steps entries → IsHalt entries i number keep → IsHalt entries j number kept →
+        i ≡ j }
+    ensures closed { (steps : List CapStep) (entries : List Entry) (number start : ℕ)
+        (segments : List Segment) → IsLegal steps entries → open_count entries ≡ 0 →
+        IsAdmission entries number start segments → IsUnhalted entries number → ⊥ }
+{}
+
 /// The machine gives one answer and one next state to a command in a state.
 pub fn law_step_is_deterministic()
     ensures answer { (steps : List CapStep) (state next then : State) (place : ℕ)
