@@ -6,7 +6,6 @@ ghost use Rattle.admission.specs.Histories.{state_after};
 ghost use Rattle.admission.specs.Machine.{booked_in};
 
 use admission::Book;
-use slot_calendar::RING_SLOTS;
 
 /// The bytes booked in the slots after `from` up to `to`, and the most in one of them.
 pub(crate) fn booked_between(book: &Book, from: u64, to: u64) -> (u64, u64)
@@ -20,7 +19,7 @@ pub(crate) fn booked_between(book: &Book, from: u64, to: u64) -> (u64, u64)
     ensures few { result.0 ≤ (to - from) * 2 ^ 42 }
 {
     let calendar = book.calendar();
-    let end = to.min(calendar.now() + RING_SLOTS);
+    let end = to.min(calendar.booked_through());
     let mut booked = 0;
     let mut peak = 0;
     for slot in from + 1..end + 1 {

@@ -4,7 +4,8 @@ use admission::PlayFull;
 use plan_cert::Plan;
 use thiserror::Error;
 
-/// A play that was admitted and not halted. It must be spent, by `Station::halt`.
+/// A play that was admitted and not halted. It can't be dropped: `Station::halt` takes it. Its
+/// fields are public, so a caller that takes it apart has to make sure that the play is halted.
 pub struct Booking {
     /// Its number, the place of its entry.
     pub number: u64,

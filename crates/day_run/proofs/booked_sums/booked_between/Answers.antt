@@ -17,7 +17,7 @@ overflow_add-booked c =
     omega (
       arith,
       c.booked-here.ensures.within,
-      capacity-most calendar.steps c.loop-slot.slot c.now.ensures.calendar.profile,
+      capacity-most calendar.steps c.loop-slot.slot c.booked_through.ensures.calendar.profile,
     ) in
     let fits =
     booked-fits {from = c.args.from} {end = c.min-end.result} {now = calendar.first} (record {
@@ -26,7 +26,7 @@ overflow_add-booked c =
       small = small;
     }) (record {
       before = omega arith;
-      ring = omega arith;
+      ring = omega (arith, c.booked_through.ensures.within);
       first = omega (arith, c.calendar-calendar.ensures.now, c.requires.from_now);
     }) in
     omega (arith, fits)
@@ -38,7 +38,7 @@ loop-slot-preserved c =
     omega (
       arith,
       c.booked-here.ensures.within,
-      capacity-most calendar.steps c.loop-slot.slot c.now.ensures.calendar.profile,
+      capacity-most calendar.steps c.loop-slot.slot c.booked_through.ensures.calendar.profile,
     ) in
     let state = state_after c.args.book.now.entries in
     let begun : c.args.from + 1 ≤ c.loop-slot.slot = omega arith in
@@ -73,10 +73,11 @@ returns c =
     ≡ sum_by f (range_with_len (from + 1) (to - from)))
     × (fold max 0 (map f (range_with_len (from + 1) (slot - (from + 1))))
     ≡ fold max 0 (map f (range_with_len (from + 1) (to - from)))) =
-    elim (cases_lt (calendar.first + 1048576) to) [
+    elim (cases_lt c.booked_through.result to) [
       | inl short ↦
           let none : (t : ℕ) → from + 1 + (slot - (from + 1)) ≤ t → f t ≡ 0 = λ t late.
-          let empty : booked_at calendar t ≡ 0 = c.now.ensures.past t (omega (arith, late, short)) in
+          let empty : booked_at calendar t ≡ 0 =
+          c.booked_through.ensures.after t (omega (arith, late, known)) (omega (arith, late, short)) in
           sym (c.calendar-calendar.ensures.stands.each t (omega (arith, late, known))) ∙ empty in (
             sum-past f (from + 1) (slot - (from + 1)) (to - from) le none,
             peak-past f (from + 1) (slot - (from + 1)) (to - from) le none,
