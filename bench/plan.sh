@@ -14,6 +14,7 @@ need rustc cc python3
 enter_folder
 rustc --edition 2024 -O -o plain "$here/plan/plan.rs"
 cc -O2 -o plain_c "$here/plan/plan.c"
+cc -O2 -o funnel "$here/plan/funnel.c"
 
 # 1,000,000 sizes of a fixed linear congruence: 200 to 1,999, each twelfth four times as large.
 python3 - >generated.txt <<'PYTHON'
@@ -35,10 +36,11 @@ compare() { # TITLE TRACE BUFFER STARTUP, and WORDS with which the trace is read
     echo "$1: $(wc -l <"$2") sizes, buffer=$3 startup=$4, best of $rounds"
     words="plan trace=$2 buffer=$3 startup=$4"
     python3 "$here/measure.py" "$rounds" \
-        proved "$program $words" plain "./plain $words" in-c "./plain_c $words" \
+        proved "$program $words" plain "./plain $words" in-c "./plain_c $words" funnel "./funnel $words" \
         proved-refused "$program plan trace=$2 $5" plain-refused "./plain plan trace=$2 $5" \
         plain-reading "./plain $words stop=reading" plain-plan "./plain $words stop=plan" >times.txt
-    if ! cmp -s proved.out plain.out || ! cmp -s proved.out in-c.out || ! cmp -s proved-refused.err plain-refused.err; then
+    if ! cmp -s proved.out plain.out || ! cmp -s proved.out in-c.out ||
+        ! cmp -s proved.out funnel.out || ! cmp -s proved-refused.err plain-refused.err; then
         echo "  the outputs differ"
         exit 1
     fi
@@ -54,11 +56,13 @@ compare() { # TITLE TRACE BUFFER STARTUP, and WORDS with which the trace is read
         }
         { clock[$1] = $2 * 1000; processor[$1] = $3 * 1000; memory[$1] = $4 }
         END {
-            line("proved"); line("plain"); line("in-c")
+            line("proved"); line("plain"); line("in-c"); line("funnel")
             printf "  ratio   %7.2f by the clock,    %7.2f by processor time\n", clock["proved"] / clock["plain"],
                 processor["proved"] / processor["plain"]
             printf "  to C    %7.2f by the clock,    %7.2f by processor time\n", clock["proved"] / clock["in-c"],
                 processor["proved"] / processor["in-c"]
+            printf "  funnel  %7.2f by the clock,    %7.2f by processor time\n", clock["proved"] / clock["funnel"],
+                processor["proved"] / processor["funnel"]
             parts("proved"); parts("plain")
             printf "  plain   to start, read and parse %.1f ms (%.0f %%), curves and plan %.1f ms, text %.1f ms\n",
                 clock["plain-reading"], 100 * clock["plain-reading"] / clock["plain"],
@@ -66,9 +70,9 @@ compare() { # TITLE TRACE BUFFER STARTUP, and WORDS with which the trace is read
         }' times.txt
     if command -v valgrind >/dev/null; then
         awk -v proved="$(instructions "$program" $words)" -v plain="$(instructions ./plain $words)" \
-            -v c="$(instructions ./plain_c $words)" 'BEGIN {
-            printf "  instructions: %.1f million, plain %.1f (ratio %.2f), in C %.1f (ratio %.2f)\n", proved / 1e6,
-                plain / 1e6, proved / plain, c / 1e6, proved / c
+            -v c="$(instructions ./plain_c $words)" -v funnel="$(instructions ./funnel $words)" 'BEGIN {
+            printf "  instructions: %.1f million, plain %.1f (ratio %.2f), in C %.1f (ratio %.2f), funnel %.1f (ratio %.2f)\n",
+                proved / 1e6, plain / 1e6, proved / plain, c / 1e6, proved / c, funnel / 1e6, proved / funnel
         }'
     fi
 }

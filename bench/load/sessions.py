@@ -153,8 +153,8 @@ class Sessions:
 
     def play(self, seconds, watch):
         """Plays all of them through; `watch` is called as the plays begin and when all have the film."""
-        if not self.until(lambda session: session.asked == "ready", 60):
-            return ["not all sessions were set up in 60 seconds"]
+        if not self.until(lambda session: session.asked == "ready", 120):
+            return ["not all sessions were set up in 120 seconds"]
         watch()
         for session in self.all:
             if session.fault is None:

@@ -32,7 +32,10 @@ class Unit:
 class Film:
     def __init__(self, name, data):
         self.name, self.data = name, data
-        codes = [(i, data[i + 3]) for i in range(len(data) - 3) if data[i:i + 3] == b"\0\0\1"]
+        codes, at = [], data.find(b"\0\0\1")
+        while 0 <= at < len(data) - 3:
+            codes.append((at, data[at + 3]))
+            at = data.find(b"\0\0\1", at + 1)
         starts = unit_starts(codes) + [len(codes)]
         self.units = []
         for a, b in zip(starts, starts[1:]):

@@ -4,28 +4,28 @@ use Rattle.std.proofs.Common.{ap, subst, ◌∙◌}
 use Rattle.std.proofs.lemmas.List.{get_or_default, take_all}
 use Rattle.std.proofs.lemmas.List.Elements.{All-nil, All-push, All-weaker}
 use Rattle.plan_cert.specs.declared.Segment.{Segment}
-use Rattle.plan_cert.specs.Slots.{total_bytes}
-use Rattle.slot_calendar.specs.declared.profiles.CapacityStep.{CapacityStep}
+use Rattle.plan_cert.specs.PlanSlots.{total_bytes}
+use Rattle.slot_calendar.specs.declared.profiles.CapStep.{CapStep}
 use Rattle.slot_calendar.specs.Plays.{Play as Booked, whole_play}
 use Rattle.admission.specs.declared.entries.Entry.{Entry}
 use Rattle.admission.specs.declared.entries.Command.{Command}
 use Rattle.admission.specs.declared.entries.Command.TheVariants.{Play, Halt, Look}
 use Rattle.admission.specs.declared.entries.Answer.{Answer}
 use Rattle.admission.specs.declared.entries.Answer.TheVariants.{Admitted, Overflow, Halted, Looked}
-use Rattle.admission.specs.Machine.{State, Held, CanHalt, IsAnswer, held_as, next_state, admitted_play}
+use Rattle.admission.specs.Machine.{State, AdmittedPlay, CanHalt, IsAnswer, play_numbered, next_state, admitted_play}
 use Rattle.admission.specs.Histories.{IsLegal, play_admitted, state_after}
-use Rattle.admission.proofs.Runs.{Machine, machine_after, legal-at, next_of, no_entry, state-next}
+use Rattle.admission.proofs.HistoryPrefixes.{Machine, machine_after, legal-at, next_of, no_entry, state-next}
 use Rattle.admission.proofs.Halts.{all-halted, halting, holds-of, split}
-use Rattle.admission.proofs.Within.{IsWhole, sound-after}
+use Rattle.admission.proofs.CapacityBounds.{IsWhole, sound-after}
 
 -- the entry at its number, among the first `count`, admitted this play
-pub record IsKnown (entries : List Entry) (count : ℕ) (h : Held) : Type 0 where
+pub record IsKnown (entries : List Entry) (count : ℕ) (h : AdmittedPlay) : Type 0 where
   pub inside : h.number < count
   pub admitted : (none : Entry) →
       play_admitted (get_or entries h.number none).command (get_or entries h.number none).answer
       ≡ Some (whole_play h.play.start h.play.segments)
 
-known-more : (entries : List Entry) (n : ℕ) (held : List Held) → All (IsKnown entries n) held
+known-more : (entries : List Entry) (n : ℕ) (held : List AdmittedPlay) → All (IsKnown entries n) held
     → All (IsKnown entries (n + 1)) held
 known-more entries n held all =
     All-weaker (IsKnown entries n) (IsKnown entries (n + 1))
@@ -57,7 +57,7 @@ known-next m (Look slot) (Admitted start) is here all = absurd is
 known-next m (Look slot) (Overflow over booked asked) is here all = absurd is
 known-next m (Look slot) Halted is here all = absurd is
 
-pub known-at : (steps : List CapacityStep) (xs : List Entry) (n : ℕ) → IsLegal steps xs → n ≤ length xs
+pub known-at : (steps : List CapStep) (xs : List Entry) (n : ℕ) → IsLegal steps xs → n ≤ length xs
     → All (IsKnown xs n) (state_after (take n xs)).held
 known-at steps xs zero legal few = All-nil (IsKnown xs 0)
 known-at steps xs (suc n) legal few =
@@ -74,7 +74,7 @@ known-at steps xs (suc n) legal few =
     (subst K at (known-next (machine_after steps (take n xs)) e.command e.answer
     (legal-at steps xs n legal inside) here before))
 
-pub known-after : (steps : List CapacityStep) (xs : List Entry) → IsLegal steps xs
+pub known-after : (steps : List CapStep) (xs : List Entry) → IsLegal steps xs
     → All (IsKnown xs (length xs)) (state_after xs).held
 known-after steps xs legal =
     let S : List Entry → Type 0 = λ l. All (IsKnown xs (length xs)) (state_after l).held in
@@ -95,8 +95,8 @@ admission-of (Look slot) answer start segments is = let bad : ⊥ = cc in absurd
 
 -- the play that can be halted stands whole in the state, and this entry admitted it
 pub record IsOpenEntry (entries : List Entry) (number keep : ℕ) (e : Entry) : Type 0 where
-  pub held : Held
-  pub is : held_as number (state_after entries).held ≡ Some held
+  pub held : AdmittedPlay
+  pub is : play_numbered number (state_after entries).held ≡ Some held
   pub play_is : held.play ≡ whole_play held.play.start held.play.segments
   pub slot : ℕ
   pub command_is : e.command ≡ Play slot held.play.segments
@@ -104,7 +104,7 @@ pub record IsOpenEntry (entries : List Entry) (number keep : ℕ) (e : Entry) : 
   pub small : keep ≤ total_bytes held.play.segments
 
 -- its number is a place of the history
-pub open-inside : (steps : List CapacityStep) (entries : List Entry) (number keep : ℕ) → IsLegal steps entries
+pub open-inside : (steps : List CapStep) (entries : List Entry) (number keep : ℕ) → IsLegal steps entries
     → CanHalt (state_after entries) number keep → number < length entries
 open-inside steps entries number keep legal can =
     let state = state_after entries in
@@ -113,7 +113,7 @@ open-inside steps entries number keep legal can =
     (known-after steps entries legal) h.is in
     omega (arith, known.inside, (split number state.held h.held h.is).number_is)
 
-pub open-entry : {steps : List CapacityStep} {entries : List Entry} {number keep : ℕ} → IsLegal steps entries →
+pub open-entry : {steps : List CapStep} {entries : List Entry} {number keep : ℕ} → IsLegal steps entries →
     CanHalt (state_after entries) number keep →
     {e : Entry} → e ≡ get_or entries number e → IsOpenEntry entries number keep e
 open-entry {steps} {entries} {number} {keep} legal can {e} at =

@@ -2,25 +2,26 @@
 use Rattle.std.proofs.Common.{◌≡◌, ◌≤◌, ℕ, max, List, [], ◌∷◌, ◌++◌, map, Some, arith, sym, ap, subst, ◌∙◌}
 use Rattle.std.proofs.lemmas.List.{map_push}
 use Rattle.plan_cert.specs.declared.Segment.{Segment}
-use Rattle.slot_calendar.specs.declared.profiles.CapacityStep.{CapacityStep}
-use Rattle.slot_calendar.specs.Plays.{Play as Booked, cut_at, whole_play, cut_play}
-use Rattle.slot_calendar.specs.Calendars.{Bookings, StandsFor, booked_at}
+use Rattle.slot_calendar.specs.declared.profiles.CapStep.{CapStep}
+use Rattle.slot_calendar.specs.Plays.{Play as Booked, released_at, whole_play, truncated_play}
+use Rattle.slot_calendar.specs.Calendars.{CalendarState, Represents, booked_at}
 use Rattle.admission.specs.declared.entries.Command.TheVariants.{Look}
 use Rattle.admission.specs.declared.entries.Answer.TheVariants.{Looked}
-use Rattle.admission.specs.Machine.{State, Held, IsAnswer, halted_play, with_halted, held_as, admitted_play, plays_of}
-use Rattle.admission.specs.Kept.{Follows}
+use Rattle.admission.specs.Machine.{State, AdmittedPlay, IsAnswer, halted_play, with_halted, play_numbered}
+use Rattle.admission.specs.Machine.{admitted_play, plays_of}
+use Rattle.admission.specs.BookInvariant.{MatchesState}
 use Rattle.admission.proofs.Halts.{play_of, plays-split, split}
 
 -- a play more
-pub stands-opened : (calendar : Bookings) (held : List Held) (number start : ℕ) (segments : List Segment) →
-    StandsFor calendar (map play_of held ++ whole_play start segments ∷ []) →
-    StandsFor calendar (map play_of (held ++ admitted_play number start segments ∷ []))
+pub stands-opened : (calendar : CalendarState) (held : List AdmittedPlay) (number start : ℕ) (segments : List Segment) →
+    Represents calendar (map play_of held ++ whole_play start segments ∷ []) →
+    Represents calendar (map play_of (held ++ admitted_play number start segments ∷ []))
 stands-opened calendar held number start segments stands =
-    subst (StandsFor calendar) (sym (map_push play_of held (admitted_play number start segments))) stands
+    subst (Represents calendar) (sym (map_push play_of held (admitted_play number start segments))) stands
 
 -- the plays around one that stands whole
-pub plays-around : {h : Held} (state : State) (number start : ℕ) (segments : List Segment)
-    (is : held_as number state.held ≡ Some h) → h.play ≡ whole_play start segments →
+pub plays-around : {h : AdmittedPlay} (state : State) (number start : ℕ) (segments : List Segment)
+    (is : play_numbered number state.held ≡ Some h) → h.play ≡ whole_play start segments →
     plays_of state
     ≡ map play_of (split number state.held h is).before ++ whole_play start segments
     ∷ map play_of (split number state.held h is).after
@@ -31,46 +32,47 @@ plays-around {h} state number start segments is play_is =
 
 -- the state holds a play whole
 pub record HoldsWhole (state : State) (number start : ℕ) (segments : List Segment) : Type 0 where
-  pub held : Held
-  pub is : held_as number state.held ≡ Some held
+  pub held : AdmittedPlay
+  pub is : play_numbered number state.held ≡ Some held
   pub play_is : held.play ≡ whole_play start segments
 
 -- from now on each slot has booked what a play gives back that keeps so many bytes
-abbrev IsBooked : Bookings → ℕ → List Segment → ℕ → Type 0
+abbrev IsBooked : CalendarState → ℕ → List Segment → ℕ → Type 0
 IsBooked calendar start segments keep =
-    (t : ℕ) → calendar.first ≤ t → cut_at segments start keep t ≤ booked_at calendar t
+    (t : ℕ) → calendar.first ≤ t → released_at segments start keep t ≤ booked_at calendar t
 
 -- it may be cut
-pub cut-allowed : {calendar : Bookings} {state : State} {number start : ℕ} {segments : List Segment} (keep : ℕ)
-    → HoldsWhole state number start segments → StandsFor calendar (plays_of state)
-    → ((before after : List Booked) → StandsFor calendar (before ++ whole_play start segments ∷ after)
+pub cut-allowed : {calendar : CalendarState} {state : State} {number start : ℕ} {segments : List Segment} (keep : ℕ)
+    → HoldsWhole state number start segments → Represents calendar (plays_of state)
+    → ((before after : List Booked) → Represents calendar (before ++ whole_play start segments ∷ after)
     → IsBooked calendar start segments keep)
     → IsBooked calendar start segments keep
 cut-allowed {calendar} {state} {number} {start} {segments} keep whole stands law =
     let parts = split number state.held whole.held whole.is in
     law (map play_of parts.before) (map play_of parts.after)
-    (subst (StandsFor calendar) (plays-around state number start segments whole.is whole.play_is) stands)
+    (subst (Represents calendar) (plays-around state number start segments whole.is whole.play_is) stands)
 
 -- once it is cut, the calendar stands for the plays with that one halted
-pub stands-halted : {old new : Bookings} {state : State} {number start : ℕ} {segments : List Segment} (keep : ℕ)
-    → HoldsWhole state number start segments → StandsFor old (plays_of state)
-    → ((before after : List Booked) → StandsFor old (before ++ whole_play start segments ∷ after)
-    → StandsFor new (before ++ cut_play start segments keep ∷ after))
-    → StandsFor new (map play_of (with_halted number keep state.held))
+pub stands-halted : {old new : CalendarState} {state : State} {number start : ℕ} {segments : List Segment} (keep : ℕ)
+    → HoldsWhole state number start segments → Represents old (plays_of state)
+    → ((before after : List Booked) → Represents old (before ++ whole_play start segments ∷ after)
+    → Represents new (before ++ truncated_play start segments keep ∷ after))
+    → Represents new (map play_of (with_halted number keep state.held))
 stands-halted {old} {new} {state} {number} {start} {segments} keep whole stands cut =
     let h = whole.held in
     let parts = split number state.held h whole.is in
     let front = map play_of parts.before in
     let back = map play_of parts.after in
-    let becomes : map play_of (with_halted number keep state.held) ≡ front ++ cut_play start segments keep ∷ back =
+    let becomes : map play_of (with_halted number keep state.held) ≡ front ++ truncated_play start segments keep ∷ back
+    =
     ap (map play_of) (parts.becomes keep) ∙ plays-split parts.before parts.after (halted_play keep h)
-    ∙ ap (λ (p : Booked). front ++ cut_play p.start p.segments keep ∷ back) whole.play_is in
-    subst (StandsFor new) (sym becomes)
-    (cut front back (subst (StandsFor old) (plays-around state number start segments whole.is whole.play_is) stands))
+    ∙ ap (λ (p : Booked). front ++ truncated_play p.start p.segments keep ∷ back) whole.play_is in
+    subst (Represents new) (sym becomes)
+    (cut front back (subst (Represents old) (plays-around state number start segments whole.is whole.play_is) stands))
 
 -- what a look tells
-pub look-answer : {calendar : Bookings} {state : State} {now at booked : ℕ} (steps : List CapacityStep) (slot : ℕ) →
-    Follows calendar state → now ≡ calendar.first → at ≡ max now slot →
+pub look-answer : {calendar : CalendarState} {state : State} {now at booked : ℕ} (steps : List CapStep) (slot : ℕ) →
+    MatchesState calendar state → now ≡ calendar.first → at ≡ max now slot →
     booked ≡ booked_at calendar at → IsAnswer steps state (Look slot) (Looked now at booked)
 look-answer {at} steps slot follows now_is at_is booked_is = (
   now_is ∙ follows.now,

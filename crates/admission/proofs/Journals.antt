@@ -3,8 +3,8 @@ use Rattle.std.proofs.Common.{◌≡◌, ◌≤◌, ◌+◌, ℕ, cond, List, []
 use Rattle.std.proofs.lemmas.List.{length_push}
 use Rattle.std.proofs.lemmas.List.Sums.{sum_by-append, sum_by-cons, sum_by_push}
 use Rattle.plan_cert.specs.declared.Segment.{Segment}
-use Rattle.slot_calendar.specs.declared.profiles.CapacityStep.{CapacityStep}
-use Rattle.slot_calendar.specs.Calendars.{Bookings}
+use Rattle.slot_calendar.specs.declared.profiles.CapStep.{CapStep}
+use Rattle.slot_calendar.specs.Calendars.{CalendarState}
 use Rattle.admission.specs.declared.entries.Entry.{Entry}
 use Rattle.admission.specs.declared.entries.Full.{Full}
 use Rattle.admission.specs.declared.entries.Noted.{Noted}
@@ -12,11 +12,12 @@ use Rattle.admission.specs.declared.entries.Command.{Command}
 use Rattle.admission.specs.declared.entries.Command.TheVariants.{Play, Halt}
 use Rattle.admission.specs.declared.entries.Answer.{Answer}
 use Rattle.admission.specs.declared.entries.Answer.TheVariants.{Admitted, Overflow, Halted, Looked}
-use Rattle.admission.specs.Machine.{State, Held, CanHalt, IsAnswer, halted_play, next_state, open_plays, admitted_play}
+use Rattle.admission.specs.Machine.{State, AdmittedPlay, CanHalt, IsAnswer, halted_play, next_state, live}
+use Rattle.admission.specs.Machine.{admitted_play}
 use Rattle.admission.specs.Histories.{IsAnswered, IsLegal, is_admission, open_count, state_after}
 use Rattle.admission.specs.Books.{IsFull, IsNoted, Journal}
-use Rattle.admission.specs.Kept.{Follows, IsBookKept}
-use Rattle.admission.proofs.Runs.{Machine, legal-push, next_of, state-push}
+use Rattle.admission.specs.BookInvariant.{MatchesState, IsBookKept}
+use Rattle.admission.proofs.HistoryPrefixes.{Machine, legal-push, next_of, state-push}
 use Rattle.admission.proofs.Halts.{halting, split}
 
 -- ---- the number of open plays
@@ -29,21 +30,21 @@ opens-most (Looked now at booked) = omega arith
 -- a play that was asked for
 pub open-asked : (m : Machine) (place slot : ℕ) (segments : List Segment) (answer : Answer)
     → IsAnswer m.steps m.state (Play slot segments) answer
-    → open_plays (next_state m.state place (Play slot segments) answer)
-    ≡ open_plays m.state + cond (is_admission answer) 1 0
+    → live (next_state m.state place (Play slot segments) answer)
+    ≡ live m.state + cond (is_admission answer) 1 0
 open-asked m place slot segments (Admitted start) is =
-    sum_by_push (λ (h : Held). cond h.is_open 1 0) m.state.held (admitted_play place start segments)
+    sum_by_push (λ (h : AdmittedPlay). cond h.is_open 1 0) m.state.held (admitted_play place start segments)
 open-asked m place slot segments (Overflow over booked asked) is = omega arith
 open-asked m place slot segments Halted is = absurd is
 open-asked m place slot segments (Looked now at booked) is = absurd is
 
 -- a play that is halted
 pub open-halted : (state : State) (place number keep : ℕ) → CanHalt state number keep
-    → open_plays (next_state state place (Halt number keep) Halted) + 1 ≡ open_plays state
+    → live (next_state state place (Halt number keep) Halted) + 1 ≡ live state
 open-halted state place number keep can =
     let h = halting state number keep can in
     let parts = split number state.held h.held h.is in
-    let f : Held → ℕ = λ x. cond x.is_open 1 0 in
+    let f : AdmittedPlay → ℕ = λ x. cond x.is_open 1 0 in
     let one : f h.held ≡ 1 = ap (λ b. cond b 1 0) h.is_open in
     let old = ap (λ l. sum_by f l) parts.was ∙ sum_by-append f parts.before (h.held ∷ parts.after)
     ∙ ap (λ n. sum_by f parts.before + n) (sum_by-cons f h.held parts.after) in
@@ -54,27 +55,27 @@ open-halted state place number keep can =
 
 -- ---- one entry more
 -- the calendar and the entries of a book, with one entry more
-pub record HasGrown (calendar new : Bookings) (xs ys : List Entry) (e : Entry) : Type 0 where
+pub record HasGrown (calendar new : CalendarState) (xs ys : List Entry) (e : Entry) : Type 0 where
   pub entries_are : ys ≡ xs ++ e ∷ []
   pub answered : IsAnswered calendar.steps (state_after xs) e
   pub steps_are : new.steps ≡ calendar.steps
-  pub follows : Follows new (next_of (state_after xs) (length xs) e)
+  pub follows : MatchesState new (next_of (state_after xs) (length xs) e)
 
 -- and its counts: how many of its plays are open then, and that as many places are left
 pub record AreCounted (xs : List Entry) (e : Entry) (limit more : ℕ) : Type 0 where
-  pub more_is : more ≡ open_plays (next_of (state_after xs) (length xs) e)
+  pub more_is : more ≡ live (next_of (state_after xs) (length xs) e)
   pub fits : length xs + 1 + more ≤ limit
 
 -- what a book tells of its counts, by its fields
-pub counts-kept : {calendar : Bookings} {xs : List Entry} {journal : Journal} {full : Full} {limit count room : ℕ}
+pub counts-kept : {calendar : CalendarState} {xs : List Entry} {journal : Journal} {full : Full} {limit count room : ℕ}
     → IsBookKept calendar xs limit count room → xs ≡ journal.entries → IsFull journal full
-    → (full.entries ≡ length xs) × (full.open_plays ≡ count)
+    → (full.entries ≡ length xs) × (full.live ≡ count)
 counts-kept kept same full = (
   full.entries_are ∙ ap length (sym same),
   full.open_is ∙ ap open_count (sym same) ∙ sym kept.count_is,
 )
 
-pub kept-push : {calendar new : Bookings} {xs ys : List Entry} {e : Entry} {limit count more room wide : ℕ}
+pub kept-push : {calendar new : CalendarState} {xs ys : List Entry} {e : Entry} {limit count more room wide : ℕ}
     → IsBookKept calendar xs limit count room → HasGrown calendar new xs ys e → AreCounted xs e limit more
     → wide ≡ room → IsBookKept new ys limit more wide
 kept-push {calendar} {new} {xs} {ys} {e} {more} kept grown counted wide_is =
@@ -82,11 +83,11 @@ kept-push {calendar} {new} {xs} {ys} {e} {more} kept grown counted wide_is =
     let steps = grown.steps_are in
     let state : state_after ys ≡ next_of (state_after xs) (length xs) e = ap state_after is ∙ state-push xs e in
     let L : List Entry → Type 0 = λ l. IsLegal calendar.steps l in
-    let S : List CapacityStep → Type 0 = λ s. IsLegal s ys in
-    let open_is : open_count ys ≡ more = ap open_plays state ∙ sym counted.more_is in
+    let S : List CapStep → Type 0 = λ s. IsLegal s ys in
+    let open_is : open_count ys ≡ more = ap live state ∙ sym counted.more_is in
     record {
       legal = subst S (sym steps) (subst L (sym is) (legal-push calendar.steps xs e kept.legal grown.answered));
-      follows = subst (Follows new) (sym state) grown.follows;
+      follows = subst (MatchesState new) (sym state) grown.follows;
       count_is = sym open_is;
       within = omega (arith, open_is, ap length is, length_push xs e, counted.fits);
       few = kept.few;
@@ -99,7 +100,7 @@ pub record IsNotedAfter (xs ys : List Entry) (e : Entry) (noted : Noted) : Type 
   pub answer_is : noted.answer ≡ e.answer
   pub entries_are : ys ≡ xs ++ e ∷ []
 
-pub noted-push : {steps same : List CapacityStep} {maker : ℕ} {xs ys : List Entry} {command : Command} {answer : Answer}
+pub noted-push : {steps same : List CapStep} {maker : ℕ} {xs ys : List Entry} {command : Command} {answer : Answer}
     {noted : Noted} (limit : ℕ) → IsLegal steps xs → IsAnswer steps (state_after xs) command answer →
     IsNotedAfter xs ys (record { maker = maker; command = command; answer = answer }) noted → same ≡ steps
     → IsNoted (record { steps = steps; limit = limit; entries = xs }) maker command noted
@@ -109,8 +110,8 @@ noted-push {steps} {same} {maker} {xs} {ys} {command} {answer} limit legal is af
     let entries = after.entries_are in
     let e : Answer → Entry = λ a. record { maker = maker; command = command; answer = a } in
     let L : List Entry → Type 0 = λ l. IsLegal steps l in
-    let S : List CapacityStep → Type 0 = λ s. IsLegal s ys in
-    let J : List CapacityStep → List Entry → Journal = λ s l. record { steps = s; limit = limit; entries = l } in
+    let S : List CapStep → Type 0 = λ s. IsLegal s ys in
+    let J : List CapStep → List Entry → Journal = λ s l. record { steps = s; limit = limit; entries = l } in
     record {
       place_is = after.place_is;
       answer_is = subst (IsAnswer steps (state_after xs) command) (sym told) is;

@@ -1,13 +1,14 @@
-pub mod Runs
+pub mod HistoryPrefixes
 pub mod Halts
-pub mod Within
+pub mod CapacityBounds
 mod Admissions
 mod Calendars
 mod Journals
-pub mod Finds
-pub mod Opens
+pub mod PlayLookup
+pub mod OpenPlays
 pub mod Makers
-pub mod Once
-mod Counts
-mod Bookings
-mod Rests
+pub mod UniqueHistory
+pub mod PlayCounts
+mod BookedBytes
+mod HaltRoom
+pub mod OneHalt

@@ -5,19 +5,19 @@ use Rattle.std.proofs.Common.{inr, eq-eqb}
 use Rattle.std.proofs.lemmas.Bool.{cases_Bool, cond-true, cond-false, eqb-true}
 use Rattle.std.proofs.lemmas.List.{get_or_default}
 use Rattle.std.proofs.lemmas.List.Elements.{All-nil, All-cons, All-head, All-tail, All-weaker}
-use Rattle.slot_calendar.specs.declared.profiles.CapacityStep.{CapacityStep}
+use Rattle.slot_calendar.specs.declared.profiles.CapStep.{CapStep}
 use Rattle.slot_calendar.specs.Plays.{whole_play}
 use Rattle.admission.specs.declared.entries.Command.{Command}
 use Rattle.admission.specs.declared.entries.Command.TheVariants.{Play, Halt, Look}
 use Rattle.admission.specs.declared.entries.Entry.{Entry}
 use Rattle.admission.specs.Machine.{CanHalt}
 use Rattle.admission.specs.Histories.{Halts, IsHalt, IsLegal, IsStillOpen, play_admitted, state_after}
-use Rattle.admission.specs.Makers.{Placed, made_from, made_by, AreHaltsOwn, IsOpenAmong}
-use Rattle.admission.proofs.Runs.{no_entry}
-use Rattle.admission.proofs.Opens.{still-open}
+use Rattle.admission.specs.Makers.{PlacedEntry, made_from, entries_by, AreHaltsOwn, IsOpenAmong}
+use Rattle.admission.proofs.HistoryPrefixes.{no_entry}
+use Rattle.admission.proofs.OpenPlays.{still-open}
 
 -- ---- a maker's entries are entries of the history
-record IsMade (place maker : ℕ) (xs : List Entry) (p : Placed) : Type 0 where
+record IsMade (place maker : ℕ) (xs : List Entry) (p : PlacedEntry) : Type 0 where
   at : ℕ
   inside : at < length xs
   place_is : p.place ≡ place + at
@@ -36,7 +36,7 @@ all-made place maker (e ∷ rest) =
       entry_is = made.entry_is;
       maker_is = made.maker_is;
     }) (made_from (place + 1) maker rest) (all-made (place + 1) maker rest) in
-    let here : Placed = record { place = place; entry = e } in
+    let here : PlacedEntry = record { place = place; entry = e } in
     elim (cases_Bool (eqb e.maker maker)) [
       | inl his ↦ (
           let first : P here =
@@ -64,18 +64,18 @@ pub made-entries : (place maker : ℕ) (xs : List Entry)
 made-entries place maker [] = refl
 made-entries place maker (e ∷ rest) =
     let more = made_from (place + 1) maker rest in
-    let here : Placed = record { place = place; entry = e } in
+    let here : PlacedEntry = record { place = place; entry = e } in
     let others = filter (λ (x : Entry). eqb x.maker maker) rest in
     let later : map (λ p. p.entry) more ≡ others = made-entries (place + 1) maker rest in
     elim (cases_Bool (eqb e.maker maker)) [
-      | inl his ↦ ap (map (λ (p : Placed). p.entry)) (cond-true (eqb e.maker maker) (here ∷ more) more his)
+      | inl his ↦ ap (map (λ (p : PlacedEntry). p.entry)) (cond-true (eqb e.maker maker) (here ∷ more) more his)
           ∙ ap (λ es. e ∷ es) later ∙ sym (cond-true (eqb e.maker maker) (e ∷ others) others his)
-      | inr other ↦ ap (map (λ (p : Placed). p.entry)) (cond-false (eqb e.maker maker) (here ∷ more) more other)
+      | inr other ↦ ap (map (λ (p : PlacedEntry). p.entry)) (cond-false (eqb e.maker maker) (here ∷ more) more other)
           ∙ later ∙ sym (cond-false (eqb e.maker maker) (e ∷ others) others other)
     ]
 
 pub made-places : (maker : ℕ) (xs : List Entry)
-    → All (λ p. (p.place < length xs) × ((none : Entry) → get_or xs p.place none ≡ p.entry)) (made_by maker xs)
+    → All (λ p. (p.place < length xs) × ((none : Entry) → get_or xs p.place none ≡ p.entry)) (entries_by maker xs)
 made-places maker xs =
     All-weaker (IsMade 0 maker xs) (λ p. (p.place < length xs) × ((none : Entry) → get_or xs p.place none ≡ p.entry))
     (λ p made. (
@@ -83,7 +83,7 @@ made-places maker xs =
       λ none.
           let at : p.place ≡ made.at = omega (arith, made.place_is) in
           ap (λ (n : ℕ). get_or xs n none) at ∙ get_or_default xs made.at none no_entry made.inside ∙ sym made.entry_is,
-    )) (made_by maker xs) (all-made 0 maker xs)
+    )) (entries_by maker xs) (all-made 0 maker xs)
 
 -- ---- each entry of a maker is among them
 -- entry i is of this maker
@@ -91,11 +91,12 @@ record IsMadeBy (maker : ℕ) (xs : List Entry) (i : ℕ) : Type 0 where
   pub inside : i < length xs
   pub own : (get_or xs i no_entry).maker ≡ maker
 
-one-made : {maker : ℕ} (P : Placed → Type 0) (place : ℕ) (xs : List Entry) (i : ℕ) → All P (made_from place maker xs)
+one-made : {maker : ℕ} (P : PlacedEntry → Type 0) (place : ℕ) (xs : List Entry) (i : ℕ) → All P (made_from place maker
+    xs)
     → IsMadeBy maker xs i → P (record { place = place + i; entry = get_or xs i no_entry })
 one-made P place [] i all made = absurd (omega (arith, made.inside))
 one-made {maker} P place (e ∷ rest) zero all made =
-    let here : Placed = record { place = place; entry = e } in
+    let here : PlacedEntry = record { place = place; entry = e } in
     let at : place ≡ place + 0 = omega arith in
     let Q : ℕ → Type 0 = λ n. P (record { place = n; entry = e }) in
     let all' = subst (All P)
@@ -103,7 +104,7 @@ one-made {maker} P place (e ∷ rest) zero all made =
     (made_from (place + 1) maker rest) (eq-eqb e.maker maker made.own)) all in
     subst Q at (All-head P here (made_from (place + 1) maker rest) all')
 one-made {maker} P place (e ∷ rest) (suc i) all made =
-    let here : Placed = record { place = place; entry = e } in
+    let here : PlacedEntry = record { place = place; entry = e } in
     let later : All P (made_from (place + 1) maker rest) = elim (cases_Bool (eqb e.maker maker)) [
       | inl his ↦ All-tail P here (made_from (place + 1) maker rest)
           (subst (All P)
@@ -125,10 +126,10 @@ halt_is number (Play slot segments) same = absurd same
 halt_is number (Look slot) same = absurd same
 
 -- a play that is open among its maker's entries is open in the history
-pub open-own : {xs : List Entry} {number keep : ℕ} (steps : List CapacityStep) (maker : ℕ) → AreHaltsOwn xs
-    → IsOpenAmong (made_by maker xs) number keep → IsStillOpen xs number keep
+pub open-own : {xs : List Entry} {number keep : ℕ} (steps : List CapStep) (maker : ℕ) → AreHaltsOwn xs
+    → IsOpenAmong (entries_by maker xs) number keep → IsStillOpen xs number keep
 open-own {xs} {number} steps maker own open_ =
-    let none : Placed = record { place = 0; entry = no_entry } in
+    let none : PlacedEntry = record { place = 0; entry = no_entry } in
     let made = all-made 0 maker xs open_.index none open_.inside in
     let admits = open_.admission none in
     let at : made.at ≡ number = omega (arith, made.place_is, admits.place_is) in
@@ -160,7 +161,7 @@ open-own {xs} {number} steps maker own open_ =
       small = open_.small;
     }
 
-pub can-own : {steps : List CapacityStep} {xs : List Entry} (maker number keep : ℕ) → IsLegal steps xs → AreHaltsOwn xs
-    → IsOpenAmong (made_by maker xs) number keep → CanHalt (state_after xs) number keep
+pub can-own : {steps : List CapStep} {xs : List Entry} (maker number keep : ℕ) → IsLegal steps xs → AreHaltsOwn xs
+    → IsOpenAmong (entries_by maker xs) number keep → CanHalt (state_after xs) number keep
 can-own {steps} {xs} maker number keep legal own open_ =
     still-open steps xs number keep legal (open-own steps maker own open_)

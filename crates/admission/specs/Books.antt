@@ -1,6 +1,6 @@
 -- A book: the journal of one machine, with room for a limited number of entries.
 use Rattle.std.specs.Prelude.{ℕ, ◌≡◌, ◌+◌, List, [], ◌∷◌, ◌++◌, length}
-use Rattle.slot_calendar.specs.declared.profiles.CapacityStep.{CapacityStep}
+use Rattle.slot_calendar.specs.declared.profiles.CapStep.{CapStep}
 use Rattle.admission.specs.declared.entries.Command.{Command}
 use Rattle.admission.specs.declared.entries.Entry.{Entry}
 use Rattle.admission.specs.declared.entries.Full.{Full}
@@ -10,7 +10,7 @@ use Rattle.admission.specs.Histories.{IsLegal, open_count, state_after}
 
 -- what contracts see of a book: the steps of the link's capacity, the most entries, and the entries
 pub record Journal : Type 0 where
-  pub steps : List CapacityStep
+  pub steps : List CapStep
   pub limit : ℕ
   pub entries : List Entry
 
@@ -35,4 +35,4 @@ pub record IsNoted (old : Journal) (maker : ℕ) (command : Command) (noted : No
 -- what is told of a journal that has no room
 pub record IsFull (journal : Journal) (full : Full) : Type 0 where
   pub entries_are : full.entries ≡ length journal.entries
-  pub open_is : full.open_plays ≡ open_count journal.entries
+  pub open_is : full.live ≡ open_count journal.entries

@@ -3,15 +3,15 @@ use Rattle.std.specs.Prelude.{ℕ, ◌≡◌, ◌+◌, ◌<◌, ◌≤◌, List,
 use Rattle.std.specs.Prelude.{false, length, max, take, slice_index_or}
 use Rattle.std.specs.List.{fold}
 use Rattle.plan_cert.specs.declared.Segment.{Segment}
-use Rattle.plan_cert.specs.Slots.{total_bytes}
-use Rattle.slot_calendar.specs.declared.profiles.CapacityStep.{CapacityStep}
+use Rattle.plan_cert.specs.PlanSlots.{total_bytes}
+use Rattle.slot_calendar.specs.declared.profiles.CapStep.{CapStep}
 use Rattle.slot_calendar.specs.Plays.{Play as Booked, whole_play}
 use Rattle.admission.specs.declared.entries.Command.{Command}
 use Rattle.admission.specs.declared.entries.Command.TheVariants.{Halt, Play}
 use Rattle.admission.specs.declared.entries.Answer.{Answer}
 use Rattle.admission.specs.declared.entries.Answer.TheVariants.{Admitted}
 use Rattle.admission.specs.declared.entries.Entry.{Entry}
-use Rattle.admission.specs.Machine.{State, beginning, booked_in, open_plays, IsAnswer, next_state}
+use Rattle.admission.specs.Machine.{State, beginning, booked_in, live, IsAnswer, next_state}
 
 -- the state after entries that follow a state, the first of them at `place`
 abbrev pub state_from : State → ℕ → List Entry → State
@@ -29,15 +29,15 @@ booked_after entries t = booked_in (state_after entries) t
 
 -- how many plays are open after them
 abbrev pub open_count : List Entry → ℕ
-open_count entries = open_plays (state_after entries)
+open_count entries = live (state_after entries)
 
 -- the answer of an entry is the machine's in this state
-abbrev pub IsAnswered : List CapacityStep → State → Entry → Type 0
+abbrev pub IsAnswered : List CapStep → State → Entry → Type 0
 IsAnswered steps state e = IsAnswer steps state e.command e.answer
 
 -- a legal history: each entry is answered as the machine answers in the state after the entries
 -- before it
-pub record IsLegal (steps : List CapacityStep) (entries : List Entry) : Type 0 where
+pub record IsLegal (steps : List CapStep) (entries : List Entry) : Type 0 where
   pub each : (i : ℕ) (none : Entry) → i < length entries →
       IsAnswered steps (state_after (take i entries)) (slice_index_or entries i none)
 

@@ -1,7 +1,7 @@
 -- What contracts see of a book, and what its fields keep.
 use Rattle.std.specs.Prelude.{vec_capacity}
 use Rattle.admission.specs.Books.{Journal}
-use Rattle.admission.specs.Kept.{IsBookKept}
+use Rattle.admission.specs.BookInvariant.{IsBookKept}
 use Rattle.admission.specs.declared.book.Book.TheInside.{Inside}
 
 abbrev pub journal_of : Inside → Journal
@@ -12,5 +12,5 @@ journal_of book = record {
 }
 
 abbrev pub IsBook : Inside → Type 0
-IsBook book = IsBookKept book.calendar book.entries.items book.limit book.open_plays
+IsBook book = IsBookKept book.calendar book.entries.items book.limit book.live
     (vec_capacity book.entries)

@@ -2,5 +2,5 @@ pub mod Machine
 pub mod Histories
 pub mod Makers
 pub mod Books
-pub mod Kept
+pub mod BookInvariant
 pub mod Inside

@@ -2,13 +2,13 @@
 
 ghost use Rattle.std.specs.Prelude.{ℕ, ◌≡◌, ◌+◌, ◌^◌, ◌<◌, ◌≤◌, [], min, max, IfOk, IfErr, OnOk};
 ghost use Rattle.std.specs.Prelude.{OnErr};
-ghost use Rattle.plan_cert.specs.Slots.{total_bytes};
-ghost use Rattle.slot_calendar.specs.Calendars.{StandsFor};
+ghost use Rattle.plan_cert.specs.PlanSlots.{total_bytes};
+ghost use Rattle.slot_calendar.specs.Calendars.{Represents};
 ghost use Rattle.admission.specs.Machine.{CanHalt, plays_of};
 ghost use Rattle.admission.specs.Histories.{IsLegal, state_after};
 
 use crate::entries::{Answer, Command, Entry, Full, Noted, PlayFull};
-use crate::keeping::{admit, give_back, note, plays_opened};
+use crate::operations::{admit, note, opened_count, release_play};
 use plan_cert::Plan;
 use slot_calendar::{Calendar, Profile};
 use std::alloc::Global;
@@ -27,7 +27,7 @@ pub struct Book {
     /// The most entries.
     limit: u64,
     /// The plays that were admitted and not halted.
-    open_plays: u64,
+    live: u64,
 }
 
 impl Model for Book {
@@ -68,19 +68,19 @@ impl Book {
             calendar,
             entries: Vec::with_capacity(alloc, limit as usize)?,
             limit,
-            open_plays: 0,
+            live: 0,
         })
     }
 
     /// How many entries there are, and how many plays are open.
     fn counts(&self) -> Full
         ensures full { IsFull self.now result }
-        ensures within { result.entries + result.open_plays ≤ self.now.limit }
+        ensures within { result.entries + result.live ≤ self.now.limit }
         ensures few { self.now.limit ≤ 1048576 }
     {
         Full {
             entries: self.entries.len() as u64,
-            open_plays: self.open_plays,
+            live: self.live,
         }
     }
 
@@ -106,12 +106,12 @@ impl Book {
         ensures left { OnErr result (self.new ≡ self.old) }
     {
         let full = self.counts();
-        if full.entries + full.open_plays + 2 > self.limit {
+        if full.entries + full.live + 2 > self.limit {
             return Err(PlayFull { plan, full });
         }
         let slot = slot.min(LATEST_SLOT);
         let answer = admit(&mut self.calendar, slot, &plan);
-        self.open_plays += plays_opened(answer);
+        self.live += opened_count(answer);
         Ok(note(
             &mut self.entries,
             maker,
@@ -128,8 +128,8 @@ impl Book {
         ensures noted { IsNoted self.old maker (Command.Halt number keep) result self.new }
         ensures answer { result.answer ≡ Answer.Halted }
     {
-        give_back(&mut self.calendar, self.entries.as_slice(), number, keep);
-        self.open_plays -= 1;
+        release_play(&mut self.calendar, self.entries.as_slice(), number, keep);
+        self.live -= 1;
         note(
             &mut self.entries,
             maker,
@@ -154,13 +154,13 @@ impl Book {
         ensures left { OnErr result (self.new ≡ self.old) }
     {
         let full = self.counts();
-        if full.entries + full.open_plays + 1 > self.limit {
+        if full.entries + full.live + 1 > self.limit {
             return Err(full);
         }
         let slot = slot.min(LATEST_SLOT);
         let now = self.calendar.now();
         let at = now.max(slot);
-        let booked = self.calendar.booked_bytes(at);
+        let booked = self.calendar.booked(at);
         Ok(note(
             &mut self.entries,
             maker,
@@ -183,7 +183,7 @@ impl Book {
     pub fn calendar(&self) -> &Calendar
         ensures steps { result.now.steps ≡ self.now.steps }
         ensures now { result.now.first ≡ (state_after self.now.entries).now }
-        ensures stands { StandsFor result.now (plays_of (state_after self.now.entries)) }
+        ensures stands { Represents result.now (plays_of (state_after self.now.entries)) }
         ensures legal { IsLegal self.now.steps self.now.entries }
     {
         &self.calendar
@@ -200,7 +200,7 @@ impl Book {
             calendar: _,
             entries,
             limit: _,
-            open_plays: _,
+            live: _,
         } = self;
         entries
     }

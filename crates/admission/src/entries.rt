@@ -68,15 +68,15 @@ pub struct Entry {
     pub answer: Answer,
 }
 
-/// The journal has no room for an entry besides those that the open plays will need for their
+/// The journal has no room for an entry beyond those that the open plays will need for their
 /// halts. Nothing was changed.
 #[derive(Clone, Copy, Debug, PartialEq, Eq, Error)]
-#[error("the journal is full: {entries} entries, {open_plays} open plays")]
+#[error("the journal is full: {entries} entries, {live} open plays")]
 pub struct Full {
     /// How many entries the journal has.
     pub entries: u64,
     /// How many plays are open.
-    pub open_plays: u64,
+    pub live: u64,
 }
 
 /// An entry was made.

@@ -4,16 +4,11 @@
 
 mod book;
 mod entries;
-mod keeping;
-mod laws;
+pub mod laws;
+mod operations;
 
 pub use book::{Book, LATEST_SLOT, MAX_ENTRIES};
 pub use entries::{Answer, Command, Entry, Full, Noted, PlayFull};
-pub use laws::{
-    law_bookings, law_can_halt, law_counts, law_halts_fit, law_looks, law_makers,
-    law_never_overbooked, law_one_history, law_one_step, law_own_play, law_plays, law_prefix,
-    law_starts,
-};
 
 #[cfg(test)]
 mod tests;

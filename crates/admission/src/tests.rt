@@ -2,7 +2,7 @@
 
 ghost use Rattle.std.specs.Prelude.{◌≡◌, ◌≤◌, ◌↔◌, ℕ, List, Some, IsTrue};
 ghost use Rattle.plan_cert.specs.declared.Segment.{Segment};
-ghost use Rattle.plan_cert.specs.Slots.{total_bytes};
+ghost use Rattle.plan_cert.specs.PlanSlots.{total_bytes};
 ghost use Rattle.slot_calendar.specs.Plays.{whole_play};
 ghost use Rattle.admission.specs.Machine.{CanHalt};
 ghost use Rattle.admission.specs.Histories.{Halts, play_admitted, state_after};
@@ -12,7 +12,7 @@ mod plain;
 
 use super::*;
 use plan_cert::{Plan, Segment};
-use slot_calendar::{CapacityStep, Profile};
+use slot_calendar::{CapStep, Profile};
 use std::alloc::{AllocError, Global};
 use std::process::Abort;
 use std::test::Fail;
@@ -41,7 +41,7 @@ pub(crate) fn book_of(
 ) -> Result<Book, Fail> {
     let mut steps = Vec::new(alloc);
     for (from, bytes) in pairs {
-        steps.push(CapacityStep {
+        steps.push(CapStep {
             from: *from,
             bytes: *bytes,
         })?;
@@ -176,11 +176,8 @@ fn look_answer(place: u64, now: u64, at: u64, booked: u64) -> Result<Noted, Full
     noted_answer(place, Answer::Looked { now, at, booked })
 }
 
-fn refusal(entries: u64, open_plays: u64) -> Result<Noted, Full> {
-    Err(Full {
-        entries,
-        open_plays,
-    })
+fn refusal(entries: u64, live: u64) -> Result<Noted, Full> {
+    Err(Full { entries, live })
 }
 
 /// The bytes booked so many slots from now.
@@ -188,7 +185,7 @@ pub(crate) fn booked_ahead(rt: &impl Abort, book: &Book, ahead: u64) -> u64 {
     let calendar = book.calendar();
     let slot = calendar.now().saturating_add(ahead);
     assert!(rt; slot >= calendar.now());
-    calendar.booked_bytes(slot)
+    calendar.booked(slot)
 }
 
 /// Asks in turn, and compares each answer; then what is booked from now on.
@@ -279,7 +276,7 @@ fn keeps_each_capacity(rt: HostRuntime) -> Result<(), Fail> {
 fn tells_refusals(rt: HostRuntime) -> Result<(), Fail> {
     let full = Full {
         entries: 2,
-        open_plays: 1,
+        live: 1,
     };
     let plan = plan_of(&rt, rt.alloc(), &[(3, 7)])?;
     let text = "the journal is full: 2 entries, 1 open plays";

@@ -9,11 +9,11 @@ use Rattle.std.proofs.lemmas.Bool.{cases_lt}
 use Rattle.std.proofs.lemmas.List.{take-append-drop, length-take-le, length-drop}
 use Rattle.std.proofs.lemmas.List.Sums.{sum_by-cons, sum_by-append}
 use Rattle.plan_cert.specs.declared.Segment.{Segment}
-use Rattle.plan_cert.specs.Slots.{total_slots, total_bytes}
-use Rattle.slope_frac.specs.Order.{IsBelow}
-use Rattle.cert_check.specs.Line.{slope_of}
-use Rattle.cert_check.specs.Taut.{Bends, RunsTaut}
-use Rattle.cert_check.proofs.Over.{over, sum-le-over}
+use Rattle.plan_cert.specs.PlanSlots.{total_slots, total_bytes}
+use Rattle.slope_frac.specs.SlopeOrder.{IsLessSteep}
+use Rattle.cert_check.specs.ExactLine.{slope_of}
+use Rattle.cert_check.specs.TautRecursion.{Bends, RunsTaut}
+use Rattle.cert_check.proofs.ExcessLemmas.{over, sum-le-over}
 use Rattle.cert_check.proofs.SlotExcess.{line_over}
 
 -- the numbers ys, in m-ths, keep the running sum between the curves from place k, where it is `held`
@@ -94,7 +94,7 @@ hot_step {m} {p} hot =
 
 -- a segment above p that is followed by one at most p doesn't rise
 no_rise : (p : ℕ) (s next : Segment) → s.slots * p < s.bytes → next.bytes ≤ next.slots * p
-    → IsBelow (slope_of s) (slope_of next) → ⊥
+    → IsLessSteep (slope_of s) (slope_of next) → ⊥
 no_rise p s next is_hot is_cold rises =
     let one : s.slots * p * next.slots ≤ s.bytes * next.slots = mul-le-mul_right next.slots (omega arith) in
     let two : next.bytes * s.slots ≤ next.slots * p * s.slots = mul-le-mul_right s.slots is_cold in
@@ -102,7 +102,7 @@ no_rise p s next is_hot is_cold rises =
 
 -- a segment at most p that is followed by one above p doesn't fall
 no_fall : (p : ℕ) (s next : Segment) → s.bytes ≤ s.slots * p → next.slots * p < next.bytes
-    → IsBelow (slope_of next) (slope_of s) → ⊥
+    → IsLessSteep (slope_of next) (slope_of s) → ⊥
 no_fall p s next is_cold is_hot falls =
     let one : next.slots * p * s.slots ≤ next.bytes * s.slots = mul-le-mul_right s.slots (omega arith) in
     let two : s.bytes * next.slots ≤ s.slots * p * next.slots = mul-le-mul_right next.slots is_cold in

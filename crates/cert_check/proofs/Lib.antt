@@ -1,13 +1,13 @@
-mod Over
+mod ExcessLemmas
 mod SlotExcess
 mod LeastExcess
-pub mod Unique
-mod OneList
-mod LineKeeps
-mod LineAt
-mod Outside
-pub mod TautForms
-pub mod BestProof
-mod Turns
-mod Walking
-mod Naming
+pub mod SegmentUniqueness
+mod TautUniqueness
+mod FeasibilityLemmas
+mod ExactLineLemmas
+mod TautEquivalence
+pub mod TautFormLemmas
+pub mod OptimalityProof
+mod SegmentEnds
+mod LineWalkLemmas
+mod FirstFaultLemmas

@@ -8,10 +8,10 @@ use Rattle.std.proofs.lemmas.List.FromFn.{map-range_with_len_more}
 use Rattle.std.proofs.lemmas.List.Sums.{sum_by-cons, sum_by-append, sum_by_push}
 use Rattle.std.proofs.lemmas.List.Elements.{All-head, All-tail}
 use Rattle.plan_cert.specs.declared.Segment.{Segment}
-use Rattle.plan_cert.specs.Slots.{slot_of, slots_of, plan_slots}
-use Rattle.plan_cert.proofs.Floors.{slot_bounds}
+use Rattle.plan_cert.specs.PlanSlots.{slot_of, slots_of, plan_slots}
+use Rattle.plan_cert.proofs.FloorLemmas.{slot_bounds}
 use Rattle.plan_cert.proofs.SlotSums.{sum-slots_of}
-use Rattle.cert_check.proofs.Over.{over}
+use Rattle.cert_check.proofs.ExcessLemmas.{over}
 
 -- how much the exact line of the segments goes over the threshold p
 abbrev pub line_over : ℕ → List Segment → ℕ

@@ -1,6 +1,6 @@
-pub mod Line
-pub mod Taut
+pub mod ExactLine
+pub mod TautRecursion
 pub mod First
-pub mod Fault
-pub mod Whole
-pub mod Best
+pub mod CertFaults
+pub mod CheckerSteps
+pub mod Optimality

@@ -1,11 +1,11 @@
 //! Where the line of segments bends: on the curve that its side wants, or not.
 
 ghost use Rattle.std.specs.Prelude.{ℕ, ◌≡◌, ◌+◌, ◌↔◌, IsTrue, MatchOption};
-ghost use Rattle.slope_frac.specs.Order.{IsBelow, IsLevel};
-ghost use Rattle.cert_check.specs.Line.{slope_of};
+ghost use Rattle.slope_frac.specs.SlopeOrder.{IsLessSteep, IsEquallySteep};
+ghost use Rattle.cert_check.specs.ExactLine.{slope_of};
 ghost use Rattle.cert_check.specs.First.{IsFirst};
-ghost use Rattle.cert_check.specs.Fault.{IsEqualAt, IsRiseOffUpper, IsFallOffLower};
-ghost use Rattle.cert_check.specs.Whole.{AddsUp};
+ghost use Rattle.cert_check.specs.CertFaults.{IsEqualAt, IsRiseOffUpper, IsFallOffLower};
+ghost use Rattle.cert_check.specs.CheckerSteps.{AddsUp};
 
 use plan_cert::Segment;
 use slope_frac::{Slope, compare};
@@ -78,14 +78,14 @@ fn slope(segment: Segment) -> Slope
 
 /// Whether the first slope is less than the second.
 fn rises(before: Segment, after: Segment) -> bool
-    ensures { IsTrue result ↔ IsBelow (slope_of before) (slope_of after) }
+    ensures { IsTrue result ↔ IsLessSteep (slope_of before) (slope_of after) }
 {
     compare(slope(before), slope(after)).is_lt()
 }
 
 /// Whether the slopes are equal.
 fn stays_level(before: Segment, after: Segment) -> bool
-    ensures { IsTrue result ↔ IsLevel (slope_of before) (slope_of after) }
+    ensures { IsTrue result ↔ IsEquallySteep (slope_of before) (slope_of after) }
 {
     compare(slope(before), slope(after)).is_eq()
 }

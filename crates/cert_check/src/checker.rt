@@ -1,14 +1,14 @@
 //! The check of a certificate: its first fault, in the order of the laws.
 
 ghost use Rattle.std.specs.Prelude.{◌≡◌, ◌∷◌, [], ℕ, map, MatchResult, OnOk};
-ghost use Rattle.wire_curve.specs.Sound.{IsSound};
+ghost use Rattle.wire_curve.specs.SoundCurves.{AreSound};
 ghost use Rattle.cert_check.specs.declared.CertFault.TheVariants.{EmptySegment, WrongLength};
 ghost use Rattle.cert_check.specs.declared.CertFault.TheVariants.{WrongTotal, BelowLow, AboveUp};
 ghost use Rattle.cert_check.specs.declared.CertFault.TheVariants.{EqualSlopes, RiseOffUpper};
 ghost use Rattle.cert_check.specs.declared.CertFault.TheVariants.{FallOffLower};
-ghost use Rattle.cert_check.specs.Fault.{IsTaut, IsFirstFault, kind_of};
-ghost use Rattle.cert_check.specs.Whole.{StaysWithin};
-ghost use Rattle.cert_check.specs.Best.{IsBestPlan};
+ghost use Rattle.cert_check.specs.CertFaults.{IsTaut, IsFirstFault, kind_of};
+ghost use Rattle.cert_check.specs.CheckerSteps.{StaysWithin};
+ghost use Rattle.cert_check.specs.Optimality.{IsBestPlan};
 
 use crate::CertFault;
 use crate::bends::{first_equal, first_fall_off, first_rise_off};
@@ -18,10 +18,10 @@ use plan_cert::{Segment, has_slots};
 use wire_curve::Curves;
 
 /// Whether the segments are the taut line between the curves, or else the first fault. A list that
-/// passes is best, as [`law_best`] says. It takes no memory, and makes one pass over the slots and
-/// a few over the segments.
+/// passes is best, as [`law_checked_plan_is_optimal`] says. It takes no memory, and makes one pass
+/// over the slots and a few over the segments.
 pub fn check(curves: &Curves, segments: &[Segment]) -> Result<(), CertFault>
-    requires { IsSound curves.now.from curves.now.low.items curves.now.up.items }
+    requires { AreSound curves.now.from curves.now.low.items curves.now.up.items }
     ensures verdict { MatchResult result
         (λ _. IsTaut curves.now.from curves.now.low.items curves.now.up.items segments.now)
         (λ fault. IsFirstFault curves.now.from curves.now.low.items curves.now.up.items
@@ -35,8 +35,8 @@ pub fn check(curves: &Curves, segments: &[Segment]) -> Result<(), CertFault>
 /// The law: a list of segments that passes [`check`] is best. Its slots keep the running sum
 /// between the curves; no feasible list of slots sends less above any rate, nor has a smaller
 /// greatest slot; and no other list of segments passes.
-pub fn law_best(curves: &Curves, segments: &[Segment])
-    requires sound { IsSound curves.now.from curves.now.low.items curves.now.up.items }
+pub fn law_checked_plan_is_optimal(curves: &Curves, segments: &[Segment])
+    requires sound { AreSound curves.now.from curves.now.low.items curves.now.up.items }
     requires taut { IsTaut curves.now.from curves.now.low.items curves.now.up.items segments.now }
     ensures { IsBestPlan curves.now.from curves.now.low.items curves.now.up.items segments.now }
 {
@@ -45,7 +45,7 @@ pub fn law_best(curves: &Curves, segments: &[Segment])
 }
 
 /// The law: the kinds of faults are looked for in this order.
-pub fn law_order()
+pub fn law_faults_are_tried_in_order()
     ensures { (i : ℕ) → map kind_of
         (EmptySegment i ∷ WrongLength ∷ WrongTotal ∷ BelowLow i ∷ AboveUp i ∷ EqualSlopes i
         ∷ RiseOffUpper i ∷ FallOffLower i ∷ [])
@@ -54,7 +54,7 @@ pub fn law_order()
 
 /// The first fault.
 fn find_fault(curves: &Curves, segments: &[Segment]) -> Result<(), CertFault>
-    requires { IsSound curves.now.from curves.now.low.items curves.now.up.items }
+    requires { AreSound curves.now.from curves.now.low.items curves.now.up.items }
     ensures { MatchResult result
         (λ _. IsTaut curves.now.from curves.now.low.items curves.now.up.items segments.now)
         (λ fault. IsFirstFault curves.now.from curves.now.low.items curves.now.up.items

@@ -8,10 +8,11 @@
 
 mod bends;
 mod checker;
+pub mod laws;
 mod sums;
 mod walk;
 
-pub use checker::{check, law_best, law_order};
+pub use checker::check;
 use thiserror::Error;
 
 /// What is wrong with a list of segments. Faults are tried in this order, and within one kind the

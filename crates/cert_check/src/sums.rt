@@ -1,8 +1,8 @@
 //! Segments without slots, and the bytes that all segments come to.
 
 ghost use Rattle.std.specs.Prelude.{ℕ, ◌≡◌, ◌+◌, ◌↔◌, IsTrue, MatchOption};
-ghost use Rattle.plan_cert.specs.Slots.{total_bytes};
-ghost use Rattle.cert_check.specs.Fault.{IsEmptyAt};
+ghost use Rattle.plan_cert.specs.PlanSlots.{total_bytes};
+ghost use Rattle.cert_check.specs.CertFaults.{IsEmptyAt};
 ghost use Rattle.cert_check.specs.First.{IsFirst};
 
 use plan_cert::{Segment, has_bytes};

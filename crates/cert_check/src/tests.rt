@@ -1,6 +1,7 @@
 //! Plans worked out by hand, with the curves of their traces.
 
 use super::*;
+use crate::laws::law_checked_plan_is_optimal;
 use plan_cert::Segment;
 use std::alloc::{AllocError, Global};
 use std::process::Abort;
@@ -54,7 +55,7 @@ fn judges(rt: &impl Abort, alloc: Global, rows: &[Row<'_>]) -> Result<(), Fail> 
             "at {low:?} {pairs:?}"
         );
         if let Ok(()) = check(&curves, segments.as_slice()) {
-            law_best(&curves, segments.as_slice());
+            law_checked_plan_is_optimal(&curves, segments.as_slice());
         }
     }
     Ok(())

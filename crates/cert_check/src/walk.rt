@@ -1,8 +1,8 @@
 //! A walk along the line of segments, slot by slot, between the two curves.
 
 ghost use Rattle.std.specs.Prelude.{ℕ, ◌≡◌, ◌+◌, ◌*◌, ◌^◌, ◌<◌, ◌≤◌, length};
-ghost use Rattle.cert_check.specs.Whole.{AddsUp, next_walk, Leaves};
-ghost use Rattle.cert_check.specs.Line.{segment_at};
+ghost use Rattle.cert_check.specs.CheckerSteps.{AddsUp, next_walk, IsFirstExit};
+ghost use Rattle.cert_check.specs.ExactLine.{segment_at};
 
 use plan_cert::Segment;
 use wire_curve::Curves;
@@ -21,7 +21,8 @@ pub(crate) enum Outside {
 /// Where the exact line first leaves the curves, by one pass over the slots.
 pub(crate) fn first_outside(curves: &Curves, segments: &[Segment]) -> Outside
     requires { AddsUp curves.now.from curves.now.low.items curves.now.up.items segments.now }
-    ensures { Leaves curves.now.from curves.now.low.items curves.now.up.items segments.now result }
+    ensures { IsFirstExit curves.now.from curves.now.low.items curves.now.up.items segments.now
+        result }
 {
     let low = curves.low.as_slice();
     let up = curves.up.as_slice();

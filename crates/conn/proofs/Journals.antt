@@ -3,8 +3,8 @@ use Rattle.std.proofs.Common.{◌≡◌, ℕ, ◌+◌, ◌^◌, ◌≤◌, ◌++
 use Rattle.std.proofs.Common.{take, refl, ap, sym, ◌∙◌, subst, arith}
 use Rattle.std.proofs.lemmas.List.{append-nil, length-append, take_all}
 use mathlib.Core.List.{IsPrefix}
-use Rattle.early_start.specs.Offered.{IsOffer, Offers}
-use Rattle.slot_calendar.specs.declared.profiles.CapacityStep.{CapacityStep}
+use Rattle.early_start.specs.StartSearch.{IsOffer, Offers}
+use Rattle.slot_calendar.specs.declared.profiles.CapStep.{CapStep}
 use Rattle.slot_calendar.specs.Profiles.{capacity_at}
 use Rattle.plan_cert.specs.declared.Segment.{Segment}
 use Rattle.admission.specs.declared.entries.Answer.{Answer}
@@ -12,15 +12,15 @@ use Rattle.admission.specs.declared.entries.Command.{Command}
 use Rattle.admission.specs.declared.entries.Entry.{Entry}
 use Rattle.admission.specs.Histories.{booked_after, open_count, state_after}
 use Rattle.admission.specs.Machine.{start_after}
-use Rattle.admission.specs.Makers.{Placed, made_by}
+use Rattle.admission.specs.Makers.{PlacedEntry, entries_by}
 use Rattle.session.specs.declared.notes.OfferNote.{OfferNote}
-use Rattle.station.specs.Answers.{IsFull, HasMade}
+use Rattle.station.specs.Answers.{IsFull, HasMadeEntry}
 use Rattle.station.specs.Ledgers.{IsOffered}
 use Rattle.station.specs.declared.answers.Offered.{Offered as Told}
 use Rattle.station.specs.Seats.{IsSameSeat, IsSeat, SeatState}
-use Rattle.station.proofs.Grown.{last_entry, last_place, prefix_at, prefix_take}
+use Rattle.station.proofs.LongerJournals.{last_entry, last_place, prefix_at, prefix_take}
 use Rattle.conn.specs.Journals.{AgreeWith, IsFullIn, IsOfferedIn, StandsIn, Terms, entries_needed, terms_of}
-use Rattle.conn.specs.Turns.{Outcome, Unasked, Entered, WasFull, Offered}
+use Rattle.conn.specs.InputSteps.{Outcome, Unasked, Entered, WasFull, Offered}
 
 prefix_length : (journal longer : List Entry) → IsPrefix journal longer → length journal ≤ length longer
 prefix_length journal longer prefix =
@@ -70,7 +70,7 @@ agree_lower earlier (Offered at_slot note ∷ outcomes) agree = (
 )
 
 -- with a longer journal
-stands_longer : {terms : Terms} {from : ℕ} {journal longer : List Entry} {placed : Placed}
+stands_longer : {terms : Terms} {from : ℕ} {journal longer : List Entry} {placed : PlacedEntry}
     → IsPrefix journal longer → StandsIn terms journal from placed
     → StandsIn terms longer from placed
 stands_longer {from} {journal} {longer} {placed} prefix stands =
@@ -94,7 +94,7 @@ full_longer {from} {more} {entries} {journal} {longer} prefix full = record {
   full = full.full;
 }
 
-offered_longer : {steps : List CapacityStep} {from slot : ℕ} {journal longer : List Entry} {note : OfferNote}
+offered_longer : {steps : List CapStep} {from slot : ℕ} {journal longer : List Entry} {note : OfferNote}
     → IsPrefix journal longer
     → IsOfferedIn steps journal from slot note → IsOfferedIn steps longer from slot note
 offered_longer {steps} {from} {slot} {journal} {longer} {note} prefix offered =
@@ -162,7 +162,7 @@ agree_then grown from (Offered at_slot note ∷ first) more agree later = (
 
 -- ---- a seat
 
-abbrev terms_with : List CapacityStep → ℕ → ℕ → Terms
+abbrev terms_with : List CapStep → ℕ → ℕ → Terms
 terms_with steps limit maker = record { steps = steps; limit = limit; maker = maker }
 
 pub terms_same : (a b : SeatState) → IsSameSeat a b → terms_of b ≡ terms_of a
@@ -173,16 +173,16 @@ terms_same a b same =
 -- an entry of the seat's own comes after all that it had seen
 entry_after : {seat next : SeatState} {more : ℕ} {command : Command} {place : ℕ} {answer : Answer}
     (rest : List Entry) → IsSeat seat → IsSeat next
-    → next.number ≡ seat.number → seat.seen ++ rest ≡ next.seen → HasMade seat next more command place answer
+    → next.number ≡ seat.number → seat.seen ++ rest ≡ next.seen → HasMadeEntry seat next more command place answer
     → length seat.seen ≤ place
 entry_after {seat} {next} {more} {command} {place} {answer} [] kept also number longer made =
     let seen : next.seen ≡ seat.seen = sym longer ∙ append-nil seat.seen in
     let mine : next.mine ≡ seat.mine =
-    also.own ∙ ap (λ n. made_by n next.seen) number ∙ ap (made_by seat.number) seen ∙ sym kept.own in
-    let e : Placed =
+    also.own ∙ ap (λ n. entries_by n next.seen) number ∙ ap (entries_by seat.number) seen ∙ sym kept.own in
+    let e : PlacedEntry =
     record { place = place; entry = record { maker = seat.number; command = command; answer = answer } } in
     let long : length seat.mine ≡ length seat.mine + 1 =
-    ap (λ (ps : List Placed). length ps) (sym mine ∙ made.mine) ∙ length-append seat.mine (e ∷ []) in
+    ap (λ (ps : List PlacedEntry). length ps) (sym mine ∙ made.mine) ∙ length-append seat.mine (e ∷ []) in
     absurd (omega (arith, long))
 entry_after {seat} {next} {more} {command} {place} {answer} (x ∷ xs) kept also number longer made =
     let all : length seat.seen + length (x ∷ xs) ≡ length next.seen =
@@ -194,7 +194,7 @@ take_whole entries n is = take_all n entries (omega (arith, is))
 
 pub entry_agrees : {seat next : SeatState} {more : ℕ} {command : Command} {place : ℕ} {answer : Answer}
     → IsSeat seat → IsSeat next → IsSameSeat seat next
-    → HasMade seat next more command place answer → more ≡ entries_needed command
+    → HasMadeEntry seat next more command place answer → more ≡ entries_needed command
     → AgreeWith (terms_of seat) next.seen (length seat.seen)
     (Entered
     (record { place = place; entry = record { maker = seat.number; command = command; answer = answer } }) ∷ [])
@@ -246,7 +246,7 @@ offer_agrees {seat} {next} {heard} {plan} {told} {found} same offered =
             (sym whole);
         offer = subst (λ (xs : List Entry). IsOffer 0 (booked_after xs) (capacity_at seat.steps) plan told.first
             found) (sym whole)
-            (subst (λ (steps : List CapacityStep). IsOffer 0 (booked_after next.seen) (capacity_at steps) plan
+            (subst (λ (steps : List CapStep). IsOffer 0 (booked_after next.seen) (capacity_at steps) plan
             told.first found) same.steps offered.offer);
       },
       omega (arith, offered.seen_is),

@@ -1,37 +1,37 @@
-mod Admitting
-mod Agreeing
-mod Asking
-mod Answering
-mod Beginning
-pub mod Between
-mod Breaking
-mod Completing
-mod Counting
-mod Cutting
-pub mod Filming
-mod Going
-mod Grounds
-mod Halting
-mod Hearing
-mod Passing
-pub mod Playing
-mod Promising
-mod Refusing
-pub mod Replying
-mod Progress
-mod Steps
-mod Rooms
-mod Showing
+mod AdmittedPlays
+mod PartReports
+mod RequestAnswers
+mod PlayReplies
+mod PlayStart
+pub mod CurveBounds
+mod FailedSends
+mod PlayOutcomes
+mod FaultCounts
+mod ElementPrefixes
+pub mod FilmBytes
+mod ReservationSteps
+mod RunPlans
+mod HaltedPlays
+mod RequestInvariants
+mod SlotResults
+pub mod PlayProgress
+mod PlayGuarantees
+mod RefusedPlays
+pub mod ReplyPlacement
+mod WorkerProgress
+mod SharedLemmas
+mod InputLimit
+mod FilmTraces
 mod SeatReplies
-pub mod Sighting
+pub mod CourseSteps
 mod Outcomes
-mod Staying
-mod Stopping
-pub mod Telling
+mod SessionInvariant
+mod StoppedPlays
+pub mod ReplyContents
 pub mod Visits
 mod Workers
 pub mod Journals
-mod Keeping
-pub mod Occasions
-mod Spent
-mod Drawn
+mod SeatInvariants
+pub mod EventPremises
+mod EventLimit
+mod RandomWords

@@ -3,30 +3,30 @@ use Rattle.std.proofs.Common.{◌≡◌, ℕ, List}
 use Rattle.std.proofs.Common.{refl}
 use Rattle.std.proofs.Common.{sym, ◌∙◌}
 use Rattle.std.proofs.lemmas.List.{append-nil}
-use Rattle.station.specs.Answers.{IsFull, HasMade}
+use Rattle.station.specs.Answers.{IsFull, HasMadeEntry}
 use Rattle.station.specs.Ledgers.{IsOffered}
 use Rattle.station.specs.declared.answers.Offered.{Offered as Told}
 use Rattle.station.specs.Seats.{IsSameSeat, IsSeat, SeatState}
-use Rattle.early_start.specs.Offered.{Offers}
+use Rattle.early_start.specs.StartSearch.{Offers}
 use Rattle.plan_cert.specs.declared.Segment.{Segment}
 use Rattle.admission.specs.declared.entries.Answer.{Answer}
 use Rattle.admission.specs.declared.entries.Answer.TheVariants.{Halted}
 use Rattle.admission.specs.declared.entries.Command.{Command}
 use Rattle.admission.specs.declared.entries.Command.TheVariants.{Halt}
-use Rattle.session.specs.Hearings.{Halts}
-use Rattle.session.specs.declared.asks.Ask.{Ask}
-use Rattle.session.specs.declared.asks.Ask.TheVariants.{Halt as AskHalt}
-use Rattle.session.specs.Standings.{Standing}
+use Rattle.session.specs.RequestSteps.{Halts}
+use Rattle.session.specs.declared.commands.Ask.{Ask}
+use Rattle.session.specs.declared.commands.Ask.TheVariants.{Halt as AskHalt}
+use Rattle.session.specs.SessionStates.{SessionState}
 use Rattle.conn.specs.Journals.{entries_needed}
 use Rattle.conn.proofs.Journals.{entry_agrees, full_agrees, offer_agrees}
-use Rattle.conn.specs.Turns.{Entered, WasFull, Offered}
-use Rattle.conn.specs.Turns.{IsAskAnswered}
-use Rattle.conn.specs.Sights.{HasAnswered}
+use Rattle.conn.specs.InputSteps.{Entered, WasFull, Offered}
+use Rattle.conn.specs.InputSteps.{IsAskAnswered}
+use Rattle.conn.specs.Observations.{HasAnswered}
 
 -- the station's answers
-pub answered_entry : {old : Standing} {ask : Ask} {new : Standing} {seat next : SeatState} {more : ℕ}
+pub answered_entry : {old : SessionState} {ask : Ask} {new : SessionState} {seat next : SeatState} {more : ℕ}
     {command : Command} {place : ℕ} {answer : Answer}
-    → IsSeat seat → IsSeat next → IsSameSeat seat next → HasMade seat next more command place answer
+    → IsSeat seat → IsSeat next → IsSameSeat seat next → HasMadeEntry seat next more command place answer
     → more ≡ entries_needed command
     → IsAskAnswered old ask
     (Entered (record { place = place; entry = record { maker = seat.number; command = command; answer = answer } })) new
@@ -41,17 +41,18 @@ answered_entry {ask} {new} {seat} {next} {more} {command} {place} {answer} kept 
       noted = record { mine = made.mine; seat = same; agree = entry_agrees kept also same made needed };
     }
 
-pub answered_full : {old : Standing} {ask : Ask} {new : Standing} {seat next : SeatState} {more entries open_plays : ℕ}
+pub answered_full : {old : SessionState} {ask : Ask} {new : SessionState} {seat next : SeatState} {more entries live :
+    ℕ}
     → IsSameSeat seat next
-    → IsFull seat next more entries open_plays → IsAskAnswered old ask (WasFull more entries open_plays) new
+    → IsFull seat next more entries live → IsAskAnswered old ask (WasFull more entries live) new
     → HasAnswered old ask new seat next
-answered_full {ask} {new} {seat} {next} {more} {entries} {open_plays} same full answered = record {
-  outcome = WasFull more entries open_plays;
+answered_full {ask} {new} {seat} {next} {more} {entries} {live} same full answered = record {
+  outcome = WasFull more entries live;
   answered = answered;
   noted = record { mine = full.mine ∙ sym (append-nil seat.mine); seat = same; agree = full_agrees same full };
 }
 
-pub answered_offer : {old : Standing} {ask : Ask} {new : Standing} {seat next : SeatState} {heard : ℕ}
+pub answered_offer : {old : SessionState} {ask : Ask} {new : SessionState} {seat next : SeatState} {heard : ℕ}
     {plan : List Segment} {told : Told} {found : Offers}
     → IsSameSeat seat next → next.mine ≡ seat.mine → IsOffered next.steps next.seen heard plan told found
     → IsAskAnswered old ask (Offered heard
@@ -63,9 +64,9 @@ answered_offer {ask} {new} {seat} {next} {heard} {plan} {told} {found} same mine
   noted = record { mine = mine ∙ sym (append-nil seat.mine); seat = same; agree = offer_agrees same offered };
 }
 
-pub halted_entry : {old : Standing} {keep : ℕ} {new : Standing} {seat next : SeatState} {number place : ℕ}
+pub halted_entry : {old : SessionState} {keep : ℕ} {new : SessionState} {seat next : SeatState} {number place : ℕ}
     → IsSeat seat → IsSeat next → IsSameSeat seat next
-    → HasMade seat next 0 (Halt number keep) place Halted → Halts old place new
+    → HasMadeEntry seat next 0 (Halt number keep) place Halted → Halts old place new
     → HasAnswered old (AskHalt keep) new seat next
 halted_entry {keep} {new} {seat} {next} {number} {place} kept also same made halts = record {
   outcome = Entered

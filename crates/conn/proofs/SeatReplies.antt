@@ -8,63 +8,63 @@ use Rattle.std.proofs.lemmas.List.Elements.{Contains-push}
 use Rattle.admission.specs.declared.entries.Answer.TheVariants.{Overflow}
 use Rattle.admission.specs.Histories.{state_after}
 use Rattle.admission.specs.Machine.{IsAnswer, State as Journal, booked_in, start_after}
-use Rattle.admission.specs.Makers.{Placed, made_by}
+use Rattle.admission.specs.Makers.{PlacedEntry, entries_by}
 use Rattle.admission.specs.declared.entries.Command.{Command}
 use Rattle.admission.specs.declared.entries.Command.TheVariants.{Play, Halt, Look}
 use Rattle.admission.specs.declared.entries.Entry.{Entry}
 use Rattle.plan_cert.specs.declared.Segment.{Segment}
 use Rattle.slot_calendar.specs.Calendars.{IsFirstOverflow}
 use Rattle.slot_calendar.specs.Profiles.{capacity_at}
-use Rattle.slot_calendar.specs.declared.profiles.CapacityStep.{CapacityStep}
+use Rattle.slot_calendar.specs.declared.profiles.CapStep.{CapStep}
 use Rattle.station.specs.Seats.{IsSeat, SeatState}
 use Rattle.station.proofs.Makers.{IsAt, all_at}
 use Rattle.std.proofs.lemmas.Option.{slice_get-get_or}
-use Rattle.conn.specs.Turns.{Outcome, Unasked, Entered, WasFull, Offered, Part, Film, Text}
-use Rattle.conn.specs.Turns.{entry_in}
-use Rattle.conn.specs.Rounds.{entries_in}
-use Rattle.conn.specs.Promises.{AreRefusalsTold, TellsOverflowOf}
-use Rattle.conn.proofs.Telling.{AreTold, TellsOver}
+use Rattle.conn.specs.InputSteps.{Outcome, Unasked, Entered, WasFull, Offered, SentPart, Film, Text}
+use Rattle.conn.specs.InputSteps.{entry_in}
+use Rattle.conn.specs.EventSteps.{entries_in}
+use Rattle.conn.specs.Guarantees.{AreRefusalsJustified, ReportsOverflowOf}
+use Rattle.conn.proofs.ReplyContents.{AreReported, TellsOver}
 
 -- the entry of an answer, if it has one, is among these
-abbrev IsEntryAmong : List Placed → Outcome → Type 0
+abbrev IsEntryAmong : List PlacedEntry → Outcome → Type 0
 IsEntryAmong mine Unasked = Unit {0}
 IsEntryAmong mine (Entered placed) = Contains mine placed
-IsEntryAmong mine (WasFull more entries open_plays) = Unit {0}
+IsEntryAmong mine (WasFull more entries live) = Unit {0}
 IsEntryAmong mine (Offered at_slot note) = Unit {0}
 
-among_own : (outcome : Outcome) (rest : List Placed) → IsEntryAmong (entry_in outcome ++ rest) outcome
+among_own : (outcome : Outcome) (rest : List PlacedEntry) → IsEntryAmong (entry_in outcome ++ rest) outcome
 among_own Unasked rest = tt
 among_own (Entered placed) rest = Contains-append_left (placed ∷ []) rest placed (Contains-push [] placed)
-among_own (WasFull more entries open_plays) rest = tt
+among_own (WasFull more entries live) rest = tt
 among_own (Offered at_slot note) rest = tt
 
-among_more : (before mine : List Placed) (outcome : Outcome) → IsEntryAmong mine outcome
+among_more : (before mine : List PlacedEntry) (outcome : Outcome) → IsEntryAmong mine outcome
     → IsEntryAmong (before ++ mine) outcome
 among_more before mine Unasked among = tt
 among_more before mine (Entered placed) among = Contains-append_right before mine placed among
-among_more before mine (WasFull more entries open_plays) among = tt
+among_more before mine (WasFull more entries live) among = tt
 among_more before mine (Offered at_slot note) among = tt
 
 all_among : (made : List Outcome) → All (IsEntryAmong (entries_in made)) made
 all_among [] = All-nil (IsEntryAmong [])
 all_among (outcome ∷ made) =
-    let rest : List Placed = entries_in made in
-    let mine : List Placed = entry_in outcome ++ rest in
+    let rest : List PlacedEntry = entries_in made in
+    let mine : List PlacedEntry = entry_in outcome ++ rest in
     All-cons (IsEntryAmong mine) outcome made (among_own outcome rest)
     (All-weaker (IsEntryAmong rest) (IsEntryAmong mine) (among_more (entry_in outcome) rest) made (all_among made))
 
 -- a seat's own entries: those of these answers, with those before and after them
 pub record SeatEntries (seat : SeatState) (made : List Outcome) : Type 0 where
-  pub before : List Placed
-  pub after : List Placed
+  pub before : List PlacedEntry
+  pub after : List PlacedEntry
   pub seat_is : IsSeat seat
   pub mine_is : seat.mine ≡ (before ++ entries_in made) ++ after
 
 -- an answer's entry is the seat's own
-entered_own : {seat : SeatState} {made : List Outcome} (placed : Placed) → SeatEntries seat made →
+entered_own : {seat : SeatState} {made : List Outcome} (placed : PlacedEntry) → SeatEntries seat made →
     Contains made (Entered placed) → Contains seat.mine placed
 entered_own {seat} {made} placed own among =
-    let mine : List Placed = entries_in made in
+    let mine : List PlacedEntry = entries_in made in
     let entered : Contains mine placed =
     All-contains (IsEntryAmong mine) made (Entered placed) (all_among made) among in
     subst (λ ps. Contains ps placed) (sym own.mine_is)
@@ -72,7 +72,7 @@ entered_own {seat} {made} placed own among =
     (Contains-append_right own.before mine placed entered))
 
 -- an entry of a seat's stands in what it has seen, and was answered in the state before it
-overflow_stands : {command : Command} {slot booked asked : ℕ} (steps : List CapacityStep) (before : Journal) →
+overflow_stands : {command : Command} {slot booked asked : ℕ} (steps : List CapStep) (before : Journal) →
     IsAnswer steps before command (Overflow slot booked asked) →
     (heard : ℕ) ×
     ((plan : List Segment)
@@ -84,14 +84,14 @@ overflow_stands {command = Halt number keep} {slot} steps before is = absurd is
 overflow_stands {command = Look at} {slot} steps before is = absurd is
 
 overflow_seen : {seat : SeatState} {made : List Outcome} (text : List ℕ) → SeatEntries seat made → TellsOver made text →
-    TellsOverflowOf seat made text
+    ReportsOverflowOf seat made text
 overflow_seen {seat} text own told =
-    let placed : Placed = told.placed in
+    let placed : PlacedEntry = told.placed in
     let entry : Entry = placed.entry in
     let place : ℕ = placed.place in
-    let its : Contains (made_by seat.number seat.seen) placed =
+    let its : Contains (entries_by seat.number seat.seen) placed =
     subst (λ ps. Contains ps placed) is.own (entered_own placed own told.among) in
-    let at = All-contains (IsAt 0 seat.number entry seat.seen) (made_by seat.number seat.seen) placed
+    let at = All-contains (IsAt 0 seat.number entry seat.seen) (entries_by seat.number seat.seen) placed
     (all_at 0 seat.number entry seat.seen) its in
     let same : at.at ≡ place = omega (arith, at.place_is) in
     let inside : place < length seat.seen = subst (λ k. k < length seat.seen) same at.inside in
@@ -124,8 +124,8 @@ overflow_seen {seat} text own told =
     open own use {seat_is as is}
 
 -- over a whole course, by the seat at its end
-pub refusals_told : {seat : SeatState} {made : List Outcome} (parts : List Part) → SeatEntries seat made →
-    AreTold made parts → AreRefusalsTold seat made parts
+pub refusals_told : {seat : SeatState} {made : List Outcome} (parts : List SentPart) → SeatEntries seat made →
+    AreReported made parts → AreRefusalsJustified seat made parts
 refusals_told [] own told = tt
 refusals_told (Film bytes ∷ parts) own told = refusals_told parts own told
 refusals_told (Text text ∷ parts) own told = (

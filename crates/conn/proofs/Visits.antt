@@ -2,35 +2,35 @@
 use Rattle.std.proofs.Common.{◌≡◌, ◌<◌, ℕ, List, [], ◌∷◌, Some, length, sym, ◌∙◌, subst, arith, inl, inr, suc, zero}
 use Rattle.std.specs.Prelude.{slice_index_or}
 use mathlib.Core.List.{IsPrefix}
-use Rattle.vod_base.specs.Gates.{Returned}
-use Rattle.vod_base.specs.Links.{Doing}
-use Rattle.vod_base.specs.Outside.{HasRisen}
-use Rattle.film_frames.specs.declared.stores.Stored.{Stored}
+use Rattle.vod_base.specs.Gates.{ReturnedConn}
+use Rattle.vod_base.specs.Links.{IoEvent}
+use Rattle.vod_base.specs.IoState.{HasRisen}
+use Rattle.film_frames.specs.declared.stored_films.Stored.{Stored}
 use Rattle.admission.specs.declared.entries.Entry.{Entry}
 use Rattle.admission.specs.Histories.{IsLegal}
 use Rattle.session.specs.declared.settings.Settings.{Settings}
-use Rattle.session.specs.Hearings.{new_standing}
-use Rattle.session.specs.Standings.{Standing}
+use Rattle.session.specs.RequestSteps.{new_session_state}
+use Rattle.session.specs.SessionStates.{SessionState}
 use Rattle.station.specs.Seats.{IsSameSeat, SeatState}
 use Rattle.station.proofs.SameSeats.{seat_none, seat_on}
-use Rattle.conn.specs.Agreement.{Agrees, AgreesIfTold, Doings, Visit, doings_outcomes, visit}
+use Rattle.conn.specs.Agreement.{Agrees, AgreesIfObserved, Activity, Visit, doings_outcomes, visit}
 use Rattle.conn.specs.Journals.{AgreeWith, Terms, terms_of}
-use Rattle.conn.specs.Parts.{AreServed, HasServedOne, fresh_told}
-use Rattle.conn.specs.Promises.{KeepsCourse, KeepsPromise}
-use Rattle.conn.specs.Sights.{AreNoted}
+use Rattle.conn.specs.Parts.{AreServed, HasServedOne, fresh_history}
+use Rattle.conn.specs.Guarantees.{CourseMeetsGuarantee, MeetsGuarantee}
+use Rattle.conn.specs.Observations.{AreNoted}
 use Rattle.conn.specs.declared.reports.ConnEnd.TheVariants.{LinkFault}
 use Rattle.conn.specs.declared.reports.ConnReport.{ConnReport}
 use Rattle.conn.proofs.Journals.{agree_longer, agree_lower, terms_same}
-use Rattle.conn.proofs.Sighting.{noted_on}
+use Rattle.conn.proofs.CourseSteps.{noted_on}
 
-course_agrees : {told : List Doing} {old new : SeatState} (visit : Visit) →
-    KeepsCourse (new_standing visit.films visit.settings visit.report.words) (Some []) (Some told) old new
+course_agrees : {told : List IoEvent} {old new : SeatState} (visit : Visit) →
+    CourseMeetsGuarantee (new_session_state visit.films visit.settings visit.report.words) (Some []) (Some told) old new
     visit.report → visit.returned.told ≡ Some told → (visit.report.end ≡ LinkFault → HasRisen 0 visit.returned.faults) →
     Agrees visit (terms_of new) new.seen
 course_agrees {old} {new} visit keeps tells fault =
     let served = keeps.served in
     let course = served.course in
-    let doings : Doings = record { rounds = course.rounds; ending = course.ending; halt = served.closes.halt } in
+    let doings : Activity = record { rounds = course.rounds; ending = course.ending; halt = served.closes.halt } in
     let noted : AreNoted old new (doings_outcomes doings) = noted_on course.noted served.closes.noted in
     let agree : AgreeWith (terms_of new) new.seen 0 (doings_outcomes doings) =
     subst (λ terms. AgreeWith terms new.seen 0 (doings_outcomes doings)) (sym (terms_same old new noted.seat))
@@ -63,11 +63,11 @@ course_agrees {old} {new} visit keeps tells fault =
 -- what was served agrees with the seat's journal
 pub one_agrees : {old new : SeatState} (visit : Visit) →
     HasServedOne visit.films visit.settings visit.returned visit.report old new →
-    AgreesIfTold visit (terms_of new) new.seen
+    AgreesIfObserved visit (terms_of new) new.seen
 one_agrees {old} {new} visit one = λ told tells found.
-    let session : Standing = new_standing visit.films visit.settings visit.report.words in
-    let keeps : KeepsPromise session (Some []) (Some told) old new visit.report =
-    subst (λ t. KeepsPromise session (fresh_told t) t old new visit.report) tells one.keeps in
+    let session : SessionState = new_session_state visit.films visit.settings visit.report.words in
+    let keeps : MeetsGuarantee session (Some []) (Some told) old new visit.report =
+    subst (λ t. MeetsGuarantee session (fresh_history t) t old new visit.report) tells one.keeps in
     elim keeps [
       | inl course ↦ course_agrees visit course tells one.fault
       | inr nothing ↦ absurd (found nothing.end)
@@ -97,7 +97,7 @@ record GoesOn (old new : SeatState) : Type 0 where
 same_on : (old new : SeatState) → new ≡ old → GoesOn old new
 same_on old new same = subst (GoesOn old) (sym same) (record { seat = seat_none old; legal = λ legal. legal })
 
-one_on : {films : List Stored} {settings : Settings} {returned : Returned} {report : ConnReport}
+one_on : {films : List Stored} {settings : Settings} {returned : ReturnedConn} {report : ConnReport}
     {old new : SeatState} → HasServedOne films settings returned report old new → GoesOn old new
 one_on {old} {new} one = elim one.keeps [
   | inl keeps ↦ record {
@@ -116,7 +116,7 @@ agrees_on {visit} {old} {new} agrees on =
     subst (λ terms. Agrees visit terms new.seen) (sym (terms_same old new on.seat))
     (agrees_longer agrees on.seat.longer legal)
 
-all_on : {old new : SeatState} (films : List Stored) (settings : Settings) (back : List Returned)
+all_on : {old new : SeatState} (films : List Stored) (settings : Settings) (back : List ReturnedConn)
     (reports : List ConnReport) → AreServed films settings old back reports new → GoesOn old new
 all_on {old} {new} films settings [] [] served = same_on old new served
 all_on films settings [] (report ∷ reports) served = absurd served
@@ -130,17 +130,17 @@ all_on {old} {new} films settings (returned ∷ back) (report ∷ reports) serve
     }
 
 -- a place among the connections that were given back
-pub record InsideBack (back : List Returned) (k : ℕ) : Type 0 where
-  pub none : Returned
+pub record InsideBack (back : List ReturnedConn) (k : ℕ) : Type 0 where
+  pub none : ReturnedConn
   pub no_report : ConnReport
   pub inside : k < length back
 
 -- one of a part's connections agrees with what the seat has seen after the last one
-pub record IsOneOf (films : List Stored) (settings : Settings) (returned : Returned) (report : ConnReport)
+pub record IsOneOf (films : List Stored) (settings : Settings) (returned : ReturnedConn) (report : ConnReport)
     (first left : SeatState) : Type 0 where
-  pub agrees : AgreesIfTold (visit films settings returned report) (terms_of left) left.seen
+  pub agrees : AgreesIfObserved (visit films settings returned report) (terms_of left) left.seen
 
-pub all_agree : {films : List Stored} {settings : Settings} {old new : SeatState} (back : List Returned)
+pub all_agree : {films : List Stored} {settings : Settings} {old new : SeatState} (back : List ReturnedConn)
     (reports : List ConnReport) → AreServed films settings old back reports new → (k : ℕ) (here : InsideBack back k) →
     IsOneOf films settings (slice_index_or back k here.none) (slice_index_or reports k here.no_report) old new
 all_agree [] reports served k here = absurd (omega (arith, here.inside))

@@ -7,16 +7,17 @@ use Rattle.std.proofs.lemmas.List.{get_or_append_left}
 use Rattle.std.proofs.lemmas.List.Sums.{fold-append}
 use Rattle.std.proofs.Math.Seq.{get_or-append_seam}
 use Rattle.std.proofs.lemmas.Bool.{cases_lt}
-use Rattle.vod_base.specs.Gates.{Content, Returned, LastTake, HasOut, after_take, after_empty_take, after_return}
-use Rattle.admission.specs.Makers.{Placed}
+use Rattle.vod_base.specs.Gates.{Content, ReturnedConn, LastTake, HasConnOut, after_take, after_empty_take}
+use Rattle.vod_base.specs.Gates.{after_return}
+use Rattle.admission.specs.Makers.{PlacedEntry}
 use Rattle.session.specs.declared.notes.Receipt.{Receipt}
 use Rattle.station.specs.declared.answers.Booking.{Booking}
 use Rattle.conn.specs.declared.reports.ConnReport.{ConnReport}
-use Rattle.conn.specs.Keeping.{HasGone, Closed, at_rest, open_play_from, open_play_of, open_play_with}
-use Rattle.conn.specs.Keeping.{entry_receipts, receipt_for}
-use Rattle.conn.specs.Parts.{IsUntouched, IsServed, AreOf, entries_told, HasServed}
+use Rattle.conn.specs.ReservationInvariant.{HasAdvanced, Closed, at_rest, open_play_from, open_play_of, open_play_with}
+use Rattle.conn.specs.ReservationInvariant.{entry_receipts, receipt_for}
+use Rattle.conn.specs.Parts.{IsUntouched, IsServed, AreOf, entries_reported, HasServed}
 use Rattle.conn.specs.Words.{words_of}
-use Rattle.conn.proofs.Occasions.{TakenBack}
+use Rattle.conn.proofs.EventPremises.{TakenBack}
 
 -- a connection with no booking open and nothing noted, and what it noted by the time that none is open again
 pub record RestedBusiness (booking next : Option Booking) (receipts told lists : List Receipt) : Type 0 where
@@ -26,11 +27,11 @@ pub record RestedBusiness (booking next : Option Booking) (receipts told lists :
   pub same : lists ≡ told
 
 -- a connection from beginning to end: no booking is open before and after
-pub gone_whole : {booking next : Option Booking} {receipts told lists : List Receipt} (mine new : List Placed) →
+pub gone_whole : {booking next : Option Booking} {receipts told lists : List Receipt} (mine new : List PlacedEntry) →
     RestedBusiness booking next receipts told lists →
-    HasGone (record { mine = mine; booking = booking; receipts = receipts })
+    HasAdvanced (record { mine = mine; booking = booking; receipts = receipts })
     (record { mine = new; booking = next; receipts = told }) →
-    HasGone (at_rest mine []) (at_rest new lists)
+    HasAdvanced (at_rest mine []) (at_rest new lists)
 gone_whole {next} mine new rested gone = record {
   made = gone.made;
   mine_is = gone.mine_is;
@@ -53,13 +54,14 @@ served_none (Some part) untouched = record {
 }
 
 pub served_out : (old mid new : Option Content) (count : ℕ) → IsServed old mid count
-    → new ≡ option_map after_take mid → IfSome new HasOut
-served_out None mid new count served is = subst (λ c. IfSome c HasOut) (sym (is ∙ ap (option_map after_take) served)) tt
+    → new ≡ option_map after_take mid → IfSome new HasConnOut
+served_out None mid new count served is = subst (λ c. IfSome c HasConnOut) (sym (is ∙ ap (option_map after_take)
+    served)) tt
 served_out (Some old) None new count served is = absurd served
 served_out (Some old) (Some mid) new count served is =
-    subst (λ c. IfSome c HasOut) (sym is) (omega (arith, served.given, served.back))
+    subst (λ c. IfSome c HasConnOut) (sym is) (omega (arith, served.given, served.back))
 
-pub served_one : {taken new mid : Option Content} {conn : Returned} (old : Option Content) (count : ℕ) →
+pub served_one : {taken new mid : Option Content} {conn : ReturnedConn} (old : Option Content) (count : ℕ) →
     IsServed old mid count → TakenBack mid taken new conn → IsServed old new (count + 1)
 served_one {taken} {new} {conn} None count served back = back.returns ∙ ap (option_map (after_return conn))
     (back.takes ∙ ap (option_map after_take) served)
@@ -100,29 +102,31 @@ are_none seed worker reports none = subst (AreOf seed worker) (sym none) (record
   words_are = λ k d h. absurd (omega (arith, h));
 })
 
-entries_told-append : (xs ys : List ConnReport) → entries_told (xs ++ ys) ≡ entries_told xs ++ entries_told ys
-entries_told-append [] ys = refl
-entries_told-append (x ∷ xs) ys =
-    ap (λ rs. entry_receipts x.receipts.items ++ rs) (entries_told-append xs ys)
-    ∙ sym (append_assoc (entry_receipts x.receipts.items) (entries_told xs) (entries_told ys))
+entries_reported-append : (xs ys : List ConnReport) → entries_reported (xs ++ ys) ≡ entries_reported xs ++
+    entries_reported ys
+entries_reported-append [] ys = refl
+entries_reported-append (x ∷ xs) ys =
+    ap (λ rs. entry_receipts x.receipts.items ++ rs) (entries_reported-append xs ys)
+    ∙ sym (append_assoc (entry_receipts x.receipts.items) (entries_reported xs) (entries_reported ys))
 
-pub has_none : (mine : List Placed) (reports : List ConnReport) → reports ≡ [] → HasServed mine reports mine
+pub has_none : (mine : List PlacedEntry) (reports : List ConnReport) → reports ≡ [] → HasServed mine reports mine
 has_none mine reports none = record {
   made = [];
   mine_is = sym (append-nil mine);
-  receipts_are = ap entries_told none;
+  receipts_are = ap entries_reported none;
   open_is = refl;
 }
 
-pub has_one : {mine mid new : List Placed} {reports more : List ConnReport} (report : ConnReport) →
+pub has_one : {mine mid new : List PlacedEntry} {reports more : List ConnReport} (report : ConnReport) →
     HasServed mine reports mid →
-    HasGone (at_rest mid []) (at_rest new report.receipts.items) → more ≡ reports ++ report ∷ [] →
+    HasAdvanced (at_rest mid []) (at_rest new report.receipts.items) → more ≡ reports ++ report ∷ [] →
     HasServed mine more new
 has_one {mine} {new} {reports} {more} report served gone is = record {
   made = served.made ++ gone.made;
   mine_is = gone.mine_is ∙ ap (λ xs. xs ++ gone.made) served.mine_is ∙ append_assoc mine served.made gone.made;
-  receipts_are = ap entries_told is ∙ entries_told-append reports (report ∷ [])
-      ∙ ap (λ rs. entries_told reports ++ rs) (append-nil (entry_receipts report.receipts.items) ∙ gone.receipts_are)
+  receipts_are = ap entries_reported is ∙ entries_reported-append reports (report ∷ [])
+      ∙ ap (λ rs. entries_reported reports ++ rs) (append-nil (entry_receipts report.receipts.items) ∙
+      gone.receipts_are)
       ∙ ap (λ rs. rs ++ map receipt_for gone.made) served.receipts_are
       ∙ sym (map-append receipt_for served.made gone.made);
   open_is = fold-append open_play_with Closed served.made gone.made

@@ -9,23 +9,23 @@ use Rattle.admission.specs.Histories.{IsLegal, booked_after, open_count, state_a
 use Rattle.admission.specs.Machine.{start_after}
 use Rattle.admission.specs.declared.entries.Answer.{Answer}
 use Rattle.admission.specs.declared.entries.Answer.TheVariants.{Admitted, Halted, Looked, Overflow}
-use Rattle.admission.specs.Makers.{Placed}
+use Rattle.admission.specs.Makers.{PlacedEntry}
 use Rattle.station.specs.Ledgers.{play_of}
 use Rattle.session.specs.declared.states.Play.{Play as Played}
 use Rattle.session.specs.declared.states.State.TheVariants.{Playing}
-use Rattle.session.specs.Changes.{HasCode, IsPlayAsked}
+use Rattle.session.specs.RequestEffects.{HasCode, IsPlayAsked}
 use Rattle.session.specs.Replies.{full_text, overflow_text}
-use Rattle.session.specs.Standings.{Standing}
-use Rattle.conn.specs.Turns.{Outcome, Unasked, Entered, WasFull, Offered}
+use Rattle.session.specs.SessionStates.{SessionState}
+use Rattle.conn.specs.InputSteps.{Outcome, Unasked, Entered, WasFull, Offered}
 use Rattle.conn.specs.Films.{HasSent}
 use Rattle.conn.specs.Journals.{AgreeWith, HasRoomAt, Terms}
 
 -- It is admitted: the reply is 200, and the play of the run that is asked for begins, by the plan
 -- that its entry in the journal has, from the slot that the entry names. Nothing is sent of it yet.
-pub record HasBegunPlay (old : Standing) (placed : Placed) (start : ℕ) (new : Standing)
+pub record HasBegunPlay (old : SessionState) (placed : PlacedEntry) (start : ℕ) (new : SessionState)
     : Type 0 where
   pub ok : HasCode 200 new.text
-  pub asking : Standing
+  pub asking : SessionState
   pub asked : IsPlayAsked old asking
   pub command : placed.entry.command ≡ play_of old.heard asked.planned.plan
   pub play : Played
@@ -37,7 +37,7 @@ pub record HasBegunPlay (old : Standing) (placed : Placed) (start : ℕ) (new : 
   pub sent : HasSent play new.heard []
 
 -- by the entry's answer
-abbrev pub IsEntryReplied : Standing → Placed → Answer → Standing → Type 0
+abbrev pub IsEntryReplied : SessionState → PlacedEntry → Answer → SessionState → Type 0
 IsEntryReplied old placed (Admitted start) new = HasBegunPlay old placed start new
 IsEntryReplied old placed (Overflow slot booked asked) new = (sequence : ℕ)
     × (new.text ≡ overflow_text sequence slot booked asked)
@@ -53,8 +53,9 @@ start_at journal turn heard = start_after (state_after (take turn journal)) (min
 -- room for its entry and its halt's it is answered 503, with the journal's entries and open plays.
 -- Else, where a slot would be booked above the link's capacity, 453 with the first one. Else it is
 -- admitted with 200.
-pub record IsDecided (terms : Terms) (journal : List Entry) (old : Standing) (plan : List Segment)
-    (turn : ℕ) (new : Standing) : Type 0 where
+pub record IsDecided (terms : Terms) (journal : List Entry) (old : SessionState) (plan : List
+    Segment)
+    (turn : ℕ) (new : SessionState) : Type 0 where
   pub full : terms.limit < turn + open_count (take turn journal) + 2
       → (sequence : ℕ) × (new.text ≡ full_text sequence turn (open_count (take turn journal)))
   pub over : HasRoomAt terms journal turn 2 → (over : Over)
@@ -64,12 +65,12 @@ pub record IsDecided (terms : Terms) (journal : List Entry) (old : Standing) (pl
   pub admitted : HasRoomAt terms journal turn 2
       → HasRoom 0 (booked_after (take turn journal)) (capacity_at terms.steps)
       (start_at journal turn old.heard) plan
-      → (placed : Placed) × HasBegunPlay old placed (start_at journal turn old.heard) new
+      → (placed : PlacedEntry) × HasBegunPlay old placed (start_at journal turn old.heard) new
 
 -- the plan of the run that a PLAY asks for was looked at, at a turn from a place on
-pub record HasTurn (terms : Terms) (journal : List Entry) (from : ℕ) (old new : Standing)
+pub record HasTurn (terms : Terms) (journal : List Entry) (from : ℕ) (old new : SessionState)
     : Type 0 where
-  pub asking : Standing
+  pub asking : SessionState
   pub asked : IsPlayAsked old asking
   pub turn : ℕ
   pub after : from ≤ turn
@@ -78,7 +79,7 @@ pub record HasTurn (terms : Terms) (journal : List Entry) (from : ℕ) (old new 
 
 -- in each legal journal with which the station's answer agrees: it had its turn, or it is answered
 -- 500 for want of memory, and the station isn't asked
-abbrev pub IsPlayCompleted : Standing → Outcome → Standing → Type 0
+abbrev pub IsPlayCompleted : SessionState → Outcome → SessionState → Type 0
 IsPlayCompleted old outcome new =
     (terms : Terms) (journal : List Entry) (from : ℕ) → IsLegal terms.steps journal
     → AgreeWith terms journal from (outcome ∷ [])
@@ -86,9 +87,9 @@ IsPlayCompleted old outcome new =
 
 -- 500, and the station isn't asked; 200 where the entry admits the play, and 453 where the link has
 -- no room; 503 where the journal was full
-abbrev pub IsPlayReplied : Standing → Outcome → Standing → Type 0
+abbrev pub IsPlayReplied : SessionState → Outcome → SessionState → Type 0
 IsPlayReplied old Unasked new = HasCode 500 new.text
 IsPlayReplied old (Entered placed) new = IsEntryReplied old placed placed.entry.answer new
-IsPlayReplied old (WasFull more entries open_plays) new = (sequence : ℕ)
-    × (new.text ≡ full_text sequence entries open_plays)
+IsPlayReplied old (WasFull more entries live) new = (sequence : ℕ)
+    × (new.text ≡ full_text sequence entries live)
 IsPlayReplied old (Offered at_slot note) new = ⊥

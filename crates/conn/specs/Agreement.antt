@@ -1,58 +1,58 @@
 -- When what a link told and a report go with a journal.
 use Rattle.std.specs.Prelude.{◌≡◌, ◌≢◌, ℕ, ◌+◌, ◌≤◌, ◌^◌, List, [], ◌∷◌, ◌++◌, length, Some}
-use Rattle.vod_base.specs.Gates.{Returned}
-use Rattle.vod_base.specs.Links.{Doing}
-use Rattle.vod_base.specs.Outside.{HasRisen}
-use Rattle.film_frames.specs.declared.stores.Stored.{Stored}
+use Rattle.vod_base.specs.Gates.{ReturnedConn}
+use Rattle.vod_base.specs.Links.{IoEvent}
+use Rattle.vod_base.specs.IoState.{HasRisen}
+use Rattle.film_frames.specs.declared.stored_films.Stored.{Stored}
 use Rattle.admission.specs.declared.entries.Entry.{Entry}
 use Rattle.admission.specs.Histories.{IsLegal}
 use Rattle.session.specs.declared.settings.Settings.{Settings}
-use Rattle.session.specs.Hearings.{new_standing}
-use Rattle.session.specs.Standings.{Standing, open_of}
-use Rattle.conn.specs.Rounds.{Ending, Ends, Round, RunsAll, ending_doings, ending_events}
-use Rattle.conn.specs.Rounds.{ending_outcomes, rounds_doings, rounds_outcomes}
+use Rattle.session.specs.RequestSteps.{new_session_state}
+use Rattle.session.specs.SessionStates.{SessionState, open_of}
+use Rattle.conn.specs.EventSteps.{Ending, Ends, Round, RunsAll, ending_doings, ending_events}
+use Rattle.conn.specs.EventSteps.{ending_outcomes, rounds_doings, rounds_outcomes}
 use Rattle.conn.specs.Journals.{AgreeWith, Terms}
 use Rattle.conn.specs.Plays.{ArePlaysKept, ending_rounds}
-use Rattle.conn.specs.Served.{IsToldOf}
-use Rattle.conn.specs.Turns.{IsClosed, Outcome, Stage, stage}
+use Rattle.conn.specs.ConnectionService.{IsReportOf}
+use Rattle.conn.specs.InputSteps.{IsClosed, Outcome, Stage, stage}
 use Rattle.conn.specs.declared.reports.ConnEnd.TheVariants.{LinkFault, NoMemory}
 use Rattle.conn.specs.declared.reports.ConnReport.{ConnReport}
 
 -- what a connection did from its first event to its end, and the halt of a booking that was open
 -- then
-pub record Doings : Type 0 where
+pub record Activity : Type 0 where
   pub rounds : List Round
   pub ending : Ending
   pub halt : Outcome
 
 -- the doings as a link tells them, and the entries that were made, in order
-abbrev pub doings_told : Doings → List Doing
-doings_told doings = rounds_doings doings.rounds ++ ending_doings doings.ending
+abbrev pub doings_observed : Activity → List IoEvent
+doings_observed doings = rounds_doings doings.rounds ++ ending_doings doings.ending
 
-abbrev pub doings_outcomes : Doings → List Outcome
+abbrev pub doings_outcomes : Activity → List Outcome
 doings_outcomes doings =
     (rounds_outcomes doings.rounds ++ ending_outcomes doings.ending) ++ doings.halt ∷ []
 
 -- a connection with these films, settings and words did this, and its report tells it
-pub record HasDone (films : List Stored) (settings : Settings) (words : List ℕ) (doings : Doings)
+pub record HasDone (films : List Stored) (settings : Settings) (words : List ℕ) (doings : Activity)
     (report : ConnReport) : Type 0 where
   pub mid : Stage
-  pub runs : RunsAll (stage (new_standing films settings words) []) doings.rounds mid
+  pub runs : RunsAll (stage (new_session_state films settings words) []) doings.rounds mid
   pub last : Stage
   pub ends : Ends mid (length doings.rounds) doings.ending report.end last
   pub few : length doings.rounds + length (ending_events doings.ending) ≤ 2 ^ 40
-  pub closed : Standing
+  pub closed : SessionState
   pub closes : IsClosed (open_of last.session) last.session doings.halt closed
-  pub report_is : IsToldOf closed report
+  pub report_is : IsReportOf closed report
 
 -- a connection: what it was served with, its link as it was given back, and its report
 pub record Visit : Type 0 where
   pub films : List Stored
   pub settings : Settings
-  pub returned : Returned
+  pub returned : ReturnedConn
   pub report : ConnReport
 
-abbrev pub visit : List Stored → Settings → Returned → ConnReport → Visit
+abbrev pub visit : List Stored → Settings → ReturnedConn → ConnReport → Visit
 visit films settings returned report =
     record { films = films; settings = settings; returned = returned; report = report }
 
@@ -64,15 +64,15 @@ visit films settings returned report =
 -- link counted a fault.
 pub record Agrees (visit : Visit) (terms : Terms) (journal : List Entry) : Type 0 where
   pub legal : IsLegal terms.steps journal
-  pub doings : Doings
-  pub told_is : visit.returned.told ≡ Some (doings_told doings)
+  pub doings : Activity
+  pub told_is : visit.returned.told ≡ Some (doings_observed doings)
   pub done : HasDone visit.films visit.settings visit.report.words doings visit.report
   pub agree : AgreeWith terms journal 0 (doings_outcomes doings)
-  pub plays : ArePlaysKept (new_standing visit.films visit.settings visit.report.words)
+  pub plays : ArePlaysKept (new_session_state visit.films visit.settings visit.report.words)
       (doings.rounds ++ ending_rounds doings.ending)
   pub fault : visit.report.end ≡ LinkFault → HasRisen 0 visit.returned.faults
 
 -- they do, where the link told what was done and memory was found before the first event
-abbrev pub AgreesIfTold : Visit → Terms → List Entry → Type 0
-AgreesIfTold visit terms journal = (told : List Doing) → visit.returned.told ≡ Some told
+abbrev pub AgreesIfObserved : Visit → Terms → List Entry → Type 0
+AgreesIfObserved visit terms journal = (told : List IoEvent) → visit.returned.told ≡ Some told
     → visit.report.end ≢ NoMemory → Agrees visit terms journal

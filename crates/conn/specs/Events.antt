@@ -1,22 +1,22 @@
 -- What an event brings: what was taken up, and how the connection ended, if it did.
 use Rattle.std.specs.Prelude.{◌≡◌, ℕ, ◌+◌, ◌<◌, ◌≤◌, ◌⊎◌, ◌++◌, ⊤, Bool, true, false, if◌then◌else◌}
 use Rattle.std.specs.Prelude.{nat_lt, List, length, take, Option, Some, None, Ok, Err}
-use Rattle.vod_base.specs.Outside.{HasRisen}
+use Rattle.vod_base.specs.IoState.{HasRisen}
 use Rattle.vod_base.specs.declared.links.Heard.{Heard}
 use Rattle.vod_base.specs.declared.links.Heard.TheVariants.{Bytes, Slot, End as PeerEnd}
 use Rattle.interleave.specs.Elements.{IsFirst}
-use Rattle.interleave.specs.Streams.{AreCut}
-use Rattle.interleave.specs.declared.elements.Step.TheVariants.{Message, More}
+use Rattle.interleave.specs.Streams.{AreInputElements}
+use Rattle.interleave.specs.declared.elements.Step.TheVariants.{Request, More}
 use Rattle.interleave.specs.declared.elements.DemuxFault.{DemuxFault}
 use Rattle.interleave.specs.declared.elements.DemuxFault.TheVariants.{HeadTooLong as LongHead}
 use Rattle.interleave.specs.declared.elements.DemuxFault.TheVariants.{BodyTooLong as LongBody}
 use Rattle.conn.specs.declared.connections.Connection.{Connection}
-use Rattle.conn.specs.declared.connections.Taken.{Taken}
-use Rattle.conn.specs.declared.connections.Taken.TheVariants.{Gone, Waits, End}
+use Rattle.conn.specs.declared.connections.InputProgress.{InputProgress}
+use Rattle.conn.specs.declared.connections.InputProgress.TheVariants.{Gone, Waits, End}
 use Rattle.conn.specs.declared.reports.ConnEnd.{ConnEnd}
 use Rattle.conn.specs.declared.reports.ConnEnd.TheVariants.{Ended, TornDown, LinkFault}
 use Rattle.conn.specs.declared.reports.ConnEnd.TheVariants.{TooMuchInput, HeadTooLong, BodyTooLong}
-use Rattle.conn.specs.declared.reports.ConnEnd.TheVariants.{EventsSpent, NoMemory}
+use Rattle.conn.specs.declared.reports.ConnEnd.TheVariants.{TurnsSpent, NoMemory}
 
 -- a framing fault as the end of a connection
 abbrev pub IsEndOf : DemuxFault → ConnEnd → Type 0
@@ -27,32 +27,32 @@ IsEndOf LongBody end = end ≡ BodyTooLong
 -- sent
 abbrev pub IsWaiting : Connection → Type 0
 IsWaiting c = IsFirst c.input (Ok More)
-    ⊎ ((n : ℕ) × (IsFirst c.input (Ok (Message n)) × (c.session.waits ≡ true)))
+    ⊎ ((n : ℕ) × (IsFirst c.input (Ok (Request n)) × (c.session.waits ≡ true)))
 
 -- what waits was taken up, and the connection goes on; or it ended, for this cause
-abbrev pub IsTakenUp : Option ConnEnd → Connection → Type 0
-IsTakenUp None c = (c.session.torn ≡ false) × (c.session.lost ≡ false) × IsWaiting c
-IsTakenUp (Some TornDown) c = c.session.torn ≡ true
-IsTakenUp (Some LinkFault) c = ⊤
-IsTakenUp (Some HeadTooLong) c = IsFirst c.input (Err LongHead)
-IsTakenUp (Some BodyTooLong) c = IsFirst c.input (Err LongBody)
-IsTakenUp (Some Ended) c = ⊥
-IsTakenUp (Some TooMuchInput) c = ⊥
-IsTakenUp (Some EventsSpent) c = ⊥
-IsTakenUp (Some NoMemory) c = ⊥
+abbrev pub IsProcessed : Option ConnEnd → Connection → Type 0
+IsProcessed None c = (c.session.torn ≡ false) × (c.session.lost ≡ false) × IsWaiting c
+IsProcessed (Some TornDown) c = c.session.torn ≡ true
+IsProcessed (Some LinkFault) c = ⊤
+IsProcessed (Some HeadTooLong) c = IsFirst c.input (Err LongHead)
+IsProcessed (Some BodyTooLong) c = IsFirst c.input (Err LongBody)
+IsProcessed (Some Ended) c = ⊥
+IsProcessed (Some TooMuchInput) c = ⊥
+IsProcessed (Some TurnsSpent) c = ⊥
+IsProcessed (Some NoMemory) c = ⊥
 
 -- an event was taken up, where so many bytes waited before it
 abbrev pub HasTakenEvent : Heard → ℕ → Option ConnEnd → Connection → Type 0
 HasTakenEvent PeerEnd waiting end c = end ≡ Some Ended
-HasTakenEvent (Slot slot) waiting end c = IsTakenUp end c
+HasTakenEvent (Slot slot) waiting end c = IsProcessed end c
 HasTakenEvent (Bytes n) waiting end c =
     ((131072 < waiting + n) × (end ≡ Some TooMuchInput))
-    ⊎ ((waiting + n < 131073) × IsTakenUp end c)
+    ⊎ ((waiting + n < 131073) × IsProcessed end c)
 
 -- however bytes were cut into elements and this rest, they are cut into elements and that one too
 pub record CutsOn (old new : List ℕ) : Type 0 where
-  pub each : (bytes : List ℕ) (elements : List (List ℕ)) → AreCut bytes elements old →
-      (more : List (List ℕ)) × AreCut bytes more new
+  pub each : (bytes : List ℕ) (elements : List (List ℕ)) → AreInputElements bytes elements old →
+      (more : List (List ℕ)) × AreInputElements bytes more new
 
 -- what waits, with the bytes that an event brought; where too many would wait, without them
 abbrev pub with_heard : List ℕ → Heard → List ℕ → List ℕ
@@ -63,10 +63,10 @@ with_heard input PeerEnd into = input
 
 -- what came of the element in front: it was taken up and is gone; nothing more can be taken up; or
 -- the connection ended
-abbrev pub IsTaken : Taken → ℕ → Connection → Type 0
+abbrev pub IsTaken : InputProgress → ℕ → Connection → Type 0
 IsTaken Gone waiting c = (c.session.lost ≡ false) × (length c.input < waiting)
-IsTaken Waits waiting c = IsTakenUp None c
-IsTaken (End end) waiting c = IsTakenUp (Some end) c
+IsTaken Waits waiting c = IsProcessed None c
+IsTaken (End end) waiting c = IsProcessed (Some end) c
 
 -- the link failed
 abbrev pub is_fault : Option ConnEnd → Bool
@@ -77,10 +77,10 @@ is_fault (Some TornDown) = false
 is_fault (Some TooMuchInput) = false
 is_fault (Some HeadTooLong) = false
 is_fault (Some BodyTooLong) = false
-is_fault (Some EventsSpent) = false
+is_fault (Some TurnsSpent) = false
 is_fault (Some NoMemory) = false
 
-abbrev pub end_in : Taken → Option ConnEnd
+abbrev pub end_in : InputProgress → Option ConnEnd
 end_in Gone = None
 end_in Waits = None
 end_in (End end) = Some end

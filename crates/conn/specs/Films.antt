@@ -1,13 +1,13 @@
 -- What was sent of a film, as long as its play isn't halted.
 use Rattle.std.specs.Prelude.{◌≡◌, ℕ, ◌+◌, ◌-◌, ◌≤◌, ⊤, List, [], ◌∷◌, ◌++◌, length, take, drop}
-use Rattle.film_frames.specs.Runs.{run_pieces}
+use Rattle.film_frames.specs.FramedRuns.{run_pieces}
 use Rattle.film_frames.specs.Tracks.{IsBoundary, framed_bytes}
 use Rattle.film_run.specs.declared.plans.Playback.{Playback}
 use Rattle.film_run.specs.declared.runs.Run.{Run}
 use Rattle.film_run.specs.Plans.{rest_sizes, timing_of}
-use Rattle.plan_cert.specs.Slots.{total_bytes}
+use Rattle.plan_cert.specs.PlanSlots.{total_bytes}
 use Rattle.wire_curve.specs.FilmCurves.{low_at, up_at}
-use Rattle.pacer.specs.Pacings.{IsPacing, Pacing, first_slots}
+use Rattle.pacer.specs.PacerStates.{IsPacerState, PacerState, first_slots}
 use Rattle.admission.specs.declared.entries.Command.{Command}
 use Rattle.admission.specs.declared.entries.Command.TheVariants.{Play, Halt, Look}
 use Rattle.session.specs.declared.states.Play.{Play as Played}
@@ -15,25 +15,26 @@ use Rattle.session.specs.declared.states.Prepared.{Prepared}
 use Rattle.session.specs.declared.states.Setup.{Setup}
 use Rattle.session.specs.declared.states.State.{State}
 use Rattle.session.specs.declared.states.State.TheVariants.{Init, Playing, Ready, Stopping}
-use Rattle.admission.specs.Makers.{Placed}
+use Rattle.admission.specs.Makers.{PlacedEntry}
 use Rattle.plan_cert.specs.declared.Segment.{Segment}
 use Rattle.slot_calendar.specs.declared.calendar.Overflow.{Overflow}
 use Rattle.station.specs.Ledgers.{play_of}
 use Rattle.session.specs.Replies.{overflow_text}
-use Rattle.session.specs.Standings.{Standing, sequence_of}
-use Rattle.conn.specs.Turns.{Outcome, Unasked, Entered, WasFull, Offered, Part, Film, Text, Stage}
-use Rattle.conn.specs.Turns.{Taking, Passed, Answered, TakesAll, film_bytes}
-use Rattle.conn.specs.Rounds.{Round, RunsAll, rounds_outcomes, takings_outcomes}
+use Rattle.session.specs.SessionStates.{SessionState, sequence_of}
+use Rattle.conn.specs.InputSteps.{Outcome, Unasked, Entered, WasFull, Offered, SentPart, Film, Text}
+use Rattle.conn.specs.InputSteps.{Stage}
+use Rattle.conn.specs.InputSteps.{ElementStep, Passed, Answered, TakesAll, film_bytes}
+use Rattle.conn.specs.EventSteps.{Round, RunsAll, rounds_outcomes, takings_outcomes}
 
 -- the bytes that a plan sends up to the end of a slot, of frames and reports from a place on
-abbrev pub planned_bytes : Pacing → ℕ → List ℕ
+abbrev pub planned_bytes : PacerState → ℕ → List ℕ
 planned_bytes p slot =
     take (first_slots p.plan (slot + 1 - p.start)) (drop p.before (framed_bytes p.pieces))
 
 -- of a play these bytes were sent up to the heard slot: what its plan has for its slots up to that
 -- one, all in order
 pub record HasSent (play : Played) (heard : ℕ) (film : List ℕ) : Type 0 where
-  pub pacing : IsPacing play.pacer
+  pub pacing : IsPacerState play.pacer
   pub plan : play.pacer.plan ≡ play.plan
   pub before : play.pacer.before ≡ play.run.sent
   pub kept : play.pacer.keep ≡ total_bytes play.pacer.plan
@@ -51,7 +52,7 @@ IsNoHalt (Look slot) = ⊤
 abbrev pub HasNoHalt : Outcome → Type 0
 HasNoHalt Unasked = ⊤
 HasNoHalt (Entered placed) = IsNoHalt placed.entry.command
-HasNoHalt (WasFull more entries open_plays) = ⊤
+HasNoHalt (WasFull more entries live) = ⊤
 HasNoHalt (Offered at_slot note) = ⊤
 
 abbrev pub HaveNoHalt : List Outcome → Type 0
@@ -78,7 +79,7 @@ pub record IsBetween (sizes : List ℕ) (playback : Playback) (run : Run) (slot 
   pub below : sent ≤ up_at (rest_sizes sizes run) (timing_of playback run) slot
 
 -- a play that was admitted begins in a slot: nothing is sent of it
-pub record HasBegun (setup : Setup) (prepared : Prepared) (place start : ℕ) (session : Standing)
+pub record HasBegun (setup : Setup) (prepared : Prepared) (place start : ℕ) (session : SessionState)
     : Type 0 where
   pub play : Played
   pub state : session.state ≡ Playing setup play
@@ -92,28 +93,28 @@ pub record HasBegun (setup : Setup) (prepared : Prepared) (place start : ℕ) (s
   pub sent : HasSent play session.heard []
 
 -- the parts of a round, and of rounds
-abbrev pub takings_parts : List Taking → List Part
+abbrev pub takings_parts : List ElementStep → List SentPart
 takings_parts [] = []
 takings_parts (Passed n ∷ takings) = takings_parts takings
 takings_parts (Answered message outcome parts ∷ takings) = parts ++ takings_parts takings
 
-abbrev pub round_parts : Round → List Part
+abbrev pub round_parts : Round → List SentPart
 round_parts round = round.due ++ takings_parts round.takings
 
-abbrev pub rounds_parts : List Round → List Part
+abbrev pub rounds_parts : List Round → List SentPart
 rounds_parts [] = []
 rounds_parts (round ∷ rounds) = round_parts round ++ rounds_parts rounds
 
 -- parts that are sent from a place of a film's frames and reports on: each reply stands between two
 -- of them
-abbrev pub StandBetween : List (List ℕ) → ℕ → List Part → Type 0
+abbrev pub StandBetween : List (List ℕ) → ℕ → List SentPart → Type 0
 StandBetween pieces place [] = ⊤
 StandBetween pieces place (Film bytes ∷ parts) = StandBetween pieces (place + length bytes) parts
 StandBetween pieces place (Text text ∷ parts) = IsBoundary pieces place
     × StandBetween pieces place parts
 
 -- the play goes on, and of it these bytes were sent
-pub record HasSentOn (setup : Setup) (play : Played) (session : Standing) (film : List ℕ)
+pub record HasSentOn (setup : Setup) (play : Played) (session : SessionState) (film : List ℕ)
     : Type 0 where
   pub now : Played
   pub state : session.state ≡ Playing setup now
@@ -129,17 +130,17 @@ pub record HasSentOn (setup : Setup) (play : Played) (session : Standing) (film 
 -- a part of a connection's course with a play in it: where the connection stands at its beginning,
 -- the bytes of the play's film that were sent by then, the pieces that are taken up from there, the
 -- events after them, and where it stands at the end
-pub record Stretch : Type 0 where
+pub record PlaySpan : Type 0 where
   pub old : Stage
   pub play : Played
   pub film : List ℕ
-  pub takings : List Taking
+  pub takings : List ElementStep
   pub rounds : List Round
   pub new : Stage
 
 -- the play goes on all the while: pieces were taken up, and event after event, and no booking was
 -- halted
-pub record GoesOn (stretch : Stretch) : Type 0 where
+pub record GoesOn (stretch : PlaySpan) : Type 0 where
   pub setup : Setup
   pub state : stretch.old.session.state ≡ Playing setup stretch.play
   pub sent : HasSent stretch.play stretch.old.session.heard stretch.film
@@ -151,8 +152,8 @@ pub record GoesOn (stretch : Stretch) : Type 0 where
 
 -- a play that the link has no room for is answered with the slot that its entry names, and with the
 -- bytes booked and asked in it
-pub record TellsOverflow (old : Standing) (plan : List Segment) (placed : Placed)
-    (over : Overflow) (new : Standing) : Type 0 where
+pub record ReportsOverflow (old : SessionState) (plan : List Segment) (placed : PlacedEntry)
+    (over : Overflow) (new : SessionState) : Type 0 where
   pub command : placed.entry.command ≡ play_of old.heard plan
   pub text_is : new.text
       ≡ overflow_text (sequence_of old.awaited) over.slot over.booked over.asked

@@ -1,23 +1,23 @@
 -- The station's answers to a connection, as a journal has them.
 use Rattle.std.specs.Prelude.{◌≡◌, ℕ, ◌+◌, ◌^◌, ◌<◌, ◌≤◌, min, List, [], ◌∷◌, length, take}
 use Rattle.std.specs.Prelude.{slice_index_or}
-use Rattle.slot_calendar.specs.declared.profiles.CapacityStep.{CapacityStep}
+use Rattle.slot_calendar.specs.declared.profiles.CapStep.{CapStep}
 use Rattle.slot_calendar.specs.Profiles.{capacity_at}
 use Rattle.admission.specs.declared.entries.Command.{Command}
 use Rattle.admission.specs.declared.entries.Command.TheVariants.{Play, Halt, Look}
 use Rattle.admission.specs.declared.entries.Entry.{Entry}
 use Rattle.admission.specs.Histories.{booked_after, open_count, state_after}
 use Rattle.admission.specs.Machine.{start_after}
-use Rattle.admission.specs.Makers.{Placed}
-use Rattle.early_start.specs.Offered.{IsOffer}
+use Rattle.admission.specs.Makers.{PlacedEntry}
+use Rattle.early_start.specs.StartSearch.{IsOffer}
 use Rattle.session.specs.declared.notes.OfferNote.{OfferNote}
 use Rattle.station.specs.Seats.{SeatState}
-use Rattle.conn.specs.Turns.{Outcome, Unasked, Entered, WasFull, Offered}
+use Rattle.conn.specs.InputSteps.{Outcome, Unasked, Entered, WasFull, Offered}
 
 -- a journal's terms, and the maker of a connection's entries: the steps of the link's capacity, and
 -- the most entries
 pub record Terms : Type 0 where
-  pub steps : List CapacityStep
+  pub steps : List CapStep
   pub limit : ℕ
   pub maker : ℕ
 
@@ -37,7 +37,7 @@ abbrev pub HasRoomAt : Terms → List Entry → ℕ → ℕ → Type 0
 HasRoomAt terms journal place more = place + open_count (take place journal) + more ≤ terms.limit
 
 -- an entry stands in a journal, at its place, which is from a place on, and there was room for it
-pub record StandsIn (terms : Terms) (journal : List Entry) (from : ℕ) (placed : Placed)
+pub record StandsIn (terms : Terms) (journal : List Entry) (from : ℕ) (placed : PlacedEntry)
     : Type 0 where
   pub after : from ≤ placed.place
   pub within : placed.place < length journal
@@ -47,16 +47,16 @@ pub record StandsIn (terms : Terms) (journal : List Entry) (from : ℕ) (placed 
 
 -- a front of the journal had no room for so many more entries, beside those for the halts of its
 -- open plays: these are its two numbers
-pub record IsFullIn (limit : ℕ) (journal : List Entry) (from more entries open_plays : ℕ)
+pub record IsFullIn (limit : ℕ) (journal : List Entry) (from more entries live : ℕ)
     : Type 0 where
   pub after : from ≤ entries
   pub within : entries ≤ length journal
-  pub open_is : open_plays ≡ open_count (take entries journal)
-  pub full : limit < entries + open_plays + more
+  pub open_is : live ≡ open_count (take entries journal)
+  pub full : limit < entries + live + more
 
 -- an offer is the one that is made in the state after a front of the journal, from the slot after
 -- the heard one and after now on
-pub record IsOfferedIn (steps : List CapacityStep) (journal : List Entry) (from slot : ℕ)
+pub record IsOfferedIn (steps : List CapStep) (journal : List Entry) (from slot : ℕ)
     (note : OfferNote) : Type 0 where
   pub after : from ≤ note.seen
   pub within : note.seen ≤ length journal
@@ -72,8 +72,8 @@ AgreeWith terms journal from (Unasked ∷ outcomes) = AgreeWith terms journal fr
 AgreeWith terms journal from (Entered placed ∷ outcomes) =
     StandsIn terms journal from placed
     × AgreeWith terms journal (placed.place + 1) outcomes
-AgreeWith terms journal from (WasFull more entries open_plays ∷ outcomes) =
-    IsFullIn terms.limit journal from more entries open_plays
+AgreeWith terms journal from (WasFull more entries live ∷ outcomes) =
+    IsFullIn terms.limit journal from more entries live
     × AgreeWith terms journal entries outcomes
 AgreeWith terms journal from (Offered at_slot note ∷ outcomes) =
     IsOfferedIn terms.steps journal from at_slot note × AgreeWith terms journal note.seen outcomes

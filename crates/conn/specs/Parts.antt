@@ -2,22 +2,22 @@
 -- given back.
 use Rattle.std.specs.Prelude.{◌≡◌, ℕ, ◌<◌, ◌≤◌, List, [], ◌∷◌, ◌++◌, length, map, slice_index_or}
 use Rattle.std.specs.Prelude.{Option, Some, None, IfSome, ⊤}
-use Rattle.vod_base.specs.Outside.{HasRisen}
-use Rattle.vod_base.specs.Gates.{Content, Returned, NoMore, Failed}
-use Rattle.vod_base.specs.Links.{Doing}
-use Rattle.admission.specs.Makers.{Placed}
-use Rattle.film_frames.specs.declared.stores.Stored.{Stored}
+use Rattle.vod_base.specs.IoState.{HasRisen}
+use Rattle.vod_base.specs.Gates.{Content, ReturnedConn, NoMore, Failed}
+use Rattle.vod_base.specs.Links.{IoEvent}
+use Rattle.admission.specs.Makers.{PlacedEntry}
+use Rattle.film_frames.specs.declared.stored_films.Stored.{Stored}
 use Rattle.session.specs.declared.notes.Receipt.{Receipt}
 use Rattle.session.specs.declared.settings.Settings.{Settings}
-use Rattle.session.specs.Hearings.{new_standing}
+use Rattle.session.specs.RequestSteps.{new_session_state}
 use Rattle.station.specs.Seats.{SeatState, IsSameSeat}
 use Rattle.conn.specs.declared.reports.ConnReport.{ConnReport}
 use Rattle.conn.specs.declared.reports.PartReport.{PartReport}
 use Rattle.conn.specs.declared.reports.PartEnd.TheVariants.{AllTaken, GateFault}
-use Rattle.conn.specs.Keeping.{Closed, open_play_from, entry_receipts, receipt_for}
+use Rattle.conn.specs.ReservationInvariant.{Closed, open_play_from, entry_receipts, receipt_for}
 use Rattle.conn.specs.declared.reports.ConnEnd.TheVariants.{LinkFault}
-use Rattle.conn.specs.Promises.{KeepsPromise}
-use Rattle.conn.specs.Served.{HasServedConnection}
+use Rattle.conn.specs.Guarantees.{MeetsGuarantee}
+use Rattle.conn.specs.ConnectionService.{ConnectionSpec}
 use Rattle.conn.specs.Words.{words_of}
 
 -- a part that no connection was taken of
@@ -48,36 +48,37 @@ pub record AreOf (seed : List ℕ) (worker : ℕ) (reports : List ConnReport) : 
       (slice_index_or reports k none).words ≡ words_of seed worker k
 
 -- the entry receipts of all reports, in order
-abbrev pub entries_told : List ConnReport → List Receipt
-entries_told [] = []
-entries_told (report ∷ reports) = entry_receipts report.receipts.items ++ entries_told reports
+abbrev pub entries_reported : List ConnReport → List Receipt
+entries_reported [] = []
+entries_reported (report ∷ reports) = entry_receipts report.receipts.items ++ entries_reported
+    reports
 
 -- the entries that the seat made are those that the reports tell, in order, and each admission is
 -- followed by its halt
-pub record HasServed (mine : List Placed) (reports : List ConnReport) (new : List Placed)
+pub record HasServed (mine : List PlacedEntry) (reports : List ConnReport) (new : List PlacedEntry)
     : Type 0 where
-  pub made : List Placed
+  pub made : List PlacedEntry
   pub mine_is : new ≡ mine ++ made
-  pub receipts_are : entries_told reports ≡ map receipt_for made
+  pub receipts_are : entries_reported reports ≡ map receipt_for made
   pub open_is : open_play_from Closed made ≡ Closed
 
 -- before its first event a connection did nothing, where it tells what it does
-abbrev pub fresh_told : Option (List Doing) → Option (List Doing)
-fresh_told None = None
-fresh_told (Some told) = Some []
+abbrev pub fresh_history : Option (List IoEvent) → Option (List IoEvent)
+fresh_history None = None
+fresh_history (Some told) = Some []
 
 -- a connection that came back, and its report: what it tells is its course, in which it keeps what
 -- it promises, and it failed only where its count rose
-pub record HasServedOne (films : List Stored) (settings : Settings) (returned : Returned)
+pub record HasServedOne (films : List Stored) (settings : Settings) (returned : ReturnedConn)
     (report : ConnReport) (old new : SeatState) : Type 0 where
-  pub served : HasServedConnection (new_standing films settings report.words)
-      (fresh_told returned.told) returned.told old new report
-  pub keeps : KeepsPromise (new_standing films settings report.words)
-      (fresh_told returned.told) returned.told old new report
+  pub served : ConnectionSpec (new_session_state films settings report.words)
+      (fresh_history returned.told) returned.told old new report
+  pub keeps : MeetsGuarantee (new_session_state films settings report.words)
+      (fresh_history returned.told) returned.told old new report
   pub fault : report.end ≡ LinkFault → HasRisen 0 returned.faults
 
 -- connections that came back, and their reports, one after another: each with its own
-abbrev pub AreServed : List Stored → Settings → SeatState → List Returned → List ConnReport →
+abbrev pub AreServed : List Stored → Settings → SeatState → List ReturnedConn → List ConnReport →
     SeatState → Type 0
 AreServed films settings old [] [] new = new ≡ old
 AreServed films settings old [] (report ∷ reports) new = ⊥
@@ -87,41 +88,43 @@ AreServed films settings old (returned ∷ back) (report ∷ reports) new =
     × AreServed films settings mid back reports new)
 
 -- the same of what is told of the part
-abbrev pub AreTold : List Stored → Settings → Option Content → List ConnReport →
+abbrev pub AreReported : List Stored → Settings → Option Content → List ConnReport →
     SeatState → SeatState → Type 0
-AreTold films settings None reports old new = ⊤
-AreTold films settings (Some content) reports old new =
+AreReported films settings None reports old new = ⊤
+AreReported films settings (Some content) reports old new =
     AreServed films settings old content.own.back reports new
 
 -- a part of a gate: its count of faults, and what it tells
-pub record Outlet : Type 0 where
+pub record WorkerGate : Type 0 where
   pub faults : ℕ
   pub told : Option Content
 
-abbrev pub outlet : ℕ → Option Content → Outlet
-outlet faults told = record { faults = faults; told = told }
+abbrev pub worker_gate : ℕ → Option Content → WorkerGate
+worker_gate faults told = record { faults = faults; told = told }
 
 -- what a worker is given to serve with: the films, their settings, the seed of all words, and its
 -- own number
-pub record Duty : Type 0 where
+pub record WorkerInput : Type 0 where
   pub films : List Stored
   pub settings : Settings
   pub seed : List ℕ
   pub worker : ℕ
 
-abbrev pub duty : List Stored → Settings → List ℕ → ℕ → Duty
-duty films settings seed worker =
+abbrev pub worker_input : List Stored → Settings → List ℕ → ℕ → WorkerInput
+worker_input films settings seed worker =
     record { films = films; settings = settings; seed = seed; worker = worker }
 
 -- all that a worker's part of a gate brings: what it leaves of the seat and of the part, and its
 -- report
-pub record HasServedPart (duty : Duty) (old_seat new_seat : SeatState) (old new : Outlet)
+pub record WorkerSpec (worker_input : WorkerInput) (old_seat new_seat : SeatState) (old new :
+    WorkerGate)
     (result : PartReport) : Type 0 where
   pub seat : IsSameSeat old_seat new_seat
   pub entries : HasServed old_seat.mine result.reports.items new_seat.mine
-  pub reports : AreOf duty.seed duty.worker result.reports.items
+  pub reports : AreOf worker_input.seed worker_input.worker result.reports.items
   pub served : IsServed old.told new.told (length result.reports.items)
-  pub connections : AreTold duty.films duty.settings new.told result.reports.items old_seat new_seat
+  pub connections : AreReported worker_input.films worker_input.settings new.told
+      result.reports.items old_seat new_seat
   -- a part failed only where its count rose; the last take is told
   pub count : old.faults ≤ new.faults
   pub all : result.end ≡ AllTaken → IfSome new.told (λ c. c.own.last ≡ NoMore)

@@ -2,17 +2,17 @@
 -- between the client's curves; and while the rest of a halted play is sent.
 use Rattle.std.specs.Prelude.{◌≡◌, ℕ, ◌+◌, ◌-◌, ◌≤◌, ◌++◌, ⊤, Bool, false, if◌then◌else◌, List, []}
 use Rattle.std.specs.Prelude.{◌∷◌, length, min, take, drop}
-use Rattle.vod_base.specs.Links.{Doing, HeardBytes, HeardEnd, HeardSlot, Sent}
-use Rattle.mpeg_scan.specs.Rates.{picture_time}
-use Rattle.film_frames.specs.declared.stores.Stored.{Stored}
-use Rattle.film_frames.specs.Runs.{run_pieces}
+use Rattle.vod_base.specs.Links.{IoEvent, HeardBytes, HeardEnd, HeardSlot, Sent}
+use Rattle.mpeg_scan.specs.PictureRates.{picture_time}
+use Rattle.film_frames.specs.declared.stored_films.Stored.{Stored}
+use Rattle.film_frames.specs.FramedRuns.{run_pieces}
 use Rattle.film_frames.specs.Tracks.{IsBoundaryAfter, framed_bytes}
 use Rattle.film_run.specs.declared.plans.Playback.{Playback}
 use Rattle.film_run.specs.Laws.{IsSending}
 use Rattle.film_run.specs.Plans.{IsBestPlanOf}
 use Rattle.film_run.specs.Units.{AreUnitSizes, stored_sizes}
 use Rattle.admission.specs.Histories.{is_admission}
-use Rattle.pacer.specs.Pacings.{first_slots}
+use Rattle.pacer.specs.PacerStates.{first_slots}
 use Rattle.session.specs.declared.notes.PlayNote.{PlayNote}
 use Rattle.session.specs.declared.states.Play.{Play as Played}
 use Rattle.session.specs.declared.states.Setup.{Setup}
@@ -20,13 +20,14 @@ use Rattle.session.specs.declared.states.State.{State}
 use Rattle.session.specs.declared.states.State.TheVariants.{Init, Playing, Ready, Stopping}
 use Rattle.session.specs.declared.states.Stop.{Stop}
 use Rattle.session.specs.Films.{IsFilmAt, sending_of}
-use Rattle.session.specs.Playing.{playback_of}
-use Rattle.session.specs.Sendings.{is_sending, note_of}
-use Rattle.session.specs.Standings.{Standing, taken_up}
-use Rattle.conn.specs.Turns.{Outcome, Unasked, Entered, WasFull, Offered, Stage, Taking, Passed}
-use Rattle.conn.specs.Turns.{Answered, film_bytes, stage}
-use Rattle.conn.specs.Rounds.{Comes, Ending, Unheard, PeerEnded, Overfull, AtElement, InSlot}
-use Rattle.conn.specs.Rounds.{InReply, Round, RunsAll}
+use Rattle.session.specs.RunRequests.{playback_of}
+use Rattle.session.specs.SlotSteps.{is_sending, note_of}
+use Rattle.session.specs.SessionStates.{SessionState, last_heard_slot}
+use Rattle.conn.specs.InputSteps.{Outcome, Unasked, Entered, WasFull, Offered, Stage, ElementStep}
+use Rattle.conn.specs.InputSteps.{Passed}
+use Rattle.conn.specs.InputSteps.{Answered, film_bytes, stage}
+use Rattle.conn.specs.EventSteps.{Comes, Ending, Unheard, PeerEnded, Overfull, AtElement, InSlot}
+use Rattle.conn.specs.EventSteps.{InReply, Round, RunsAll}
 use Rattle.conn.specs.Films.{IsBetween}
 
 -- what holds of each film: its units are those of a trace, and a picture's time is in its range
@@ -39,7 +40,7 @@ pub record IsShown (stored : Stored) : Type 0 where
 abbrev pub is_admitted : Outcome → Bool
 is_admitted Unasked = false
 is_admitted (Entered placed) = is_admission placed.entry.answer
-is_admitted (WasFull more entries open_plays) = false
+is_admitted (WasFull more entries live) = false
 is_admitted (Offered at_slot note) = false
 
 -- The film's bytes that were sent since the last admission: with one more answer of the station,
@@ -47,7 +48,7 @@ is_admitted (Offered at_slot note) = false
 abbrev pub film_since : List ℕ → Outcome → List ℕ
 film_since film outcome = if is_admitted outcome then [] else film
 
-abbrev pub film_taken : List ℕ → List Taking → List ℕ
+abbrev pub film_taken : List ℕ → List ElementStep → List ℕ
 film_taken film [] = film
 film_taken film (Passed n ∷ takings) = film_taken film takings
 film_taken film (Answered message outcome parts ∷ takings) =
@@ -59,26 +60,26 @@ film_in film (round ∷ rounds) =
     film_in (film_taken (film ++ film_bytes round.due) round.takings) rounds
 
 -- the last heard slot, with an event
-abbrev pub heard_by : ℕ → Doing → ℕ
+abbrev pub heard_by : ℕ → IoEvent → ℕ
 heard_by heard (HeardBytes bytes) = heard
-heard_by heard (HeardSlot slot) = taken_up heard slot
+heard_by heard (HeardSlot slot) = last_heard_slot heard slot
 heard_by heard HeardEnd = heard
 heard_by heard (Sent byte) = heard
 
 -- the frames and reports of a play's run, numbered on from what the session sent before
-abbrev pub play_pieces : Standing → Stored → Setup → Played → List (List ℕ)
+abbrev pub play_pieces : SessionState → Stored → Setup → Played → List (List ℕ)
 play_pieces session stored setup play =
     run_pieces (sending_of stored.film session.source setup session.counts play.run)
 
 -- How the client plays the film, by what SETUP settled.
-abbrev pub client_of : Standing → Stored → Setup → Playback
+abbrev pub client_of : SessionState → Stored → Setup → Playback
 client_of session stored setup = playback_of stored.film session.settings setup
 
 -- By the end of a slot these bytes were sent of a play. Its plan is its run's own, than which no
 -- plan between the client's curves has less excess. They are as many as the plan has through that
 -- slot, in order, of the run's frames and reports from where its sending goes on. With what was
 -- sent of the run before, they lie between the two curves, in each slot from the play's start on.
-pub record IsSentBy (session : Standing) (stored : Stored) (setup : Setup) (play : Played)
+pub record IsSentBy (session : SessionState) (stored : Stored) (setup : Setup) (play : Played)
     (heard : ℕ) (film : List ℕ) : Type 0 where
   pub at : IsFilmAt session.films setup.film stored
   pub sending : IsSending (stored_sizes stored) (client_of session stored setup) play.run play.plan
@@ -95,7 +96,7 @@ pub record IsSentBy (session : Standing) (stored : Stored) (setup : Setup) (play
 -- bytes are as many as the plan has through that slot, but none past what is kept, in order, of the
 -- run's frames and reports from where its sending goes on. What is kept ends with the frame or
 -- report in hand: at the first boundary at or after what was sent.
-pub record IsCutBy (session : Standing) (stored : Stored) (setup : Setup) (stop : Stop)
+pub record IsCutBy (session : SessionState) (stored : Stored) (setup : Setup) (stop : Stop)
     (heard : ℕ) (film : List ℕ) : Type 0 where
   pub at : IsFilmAt session.films setup.film stored
   pub play : Played
@@ -111,7 +112,7 @@ pub record IsCutBy (session : Standing) (stored : Stored) (setup : Setup) (stop 
       (play.run.sent + length film) (play.run.sent + stop.pacer.keep)
 
 -- of the play that goes on, or of the one that was halted as long as its rest is sent, if any
-abbrev pub IsKeptIn : State → Standing → ℕ → List ℕ → Type 0
+abbrev pub IsKeptIn : State → SessionState → ℕ → List ℕ → Type 0
 IsKeptIn Init session heard film = ⊤
 IsKeptIn (Ready setup paused) session heard film = ⊤
 IsKeptIn (Playing setup play) session heard film = (stored : Stored)
@@ -129,7 +130,8 @@ ending_rounds (InSlot slot front) = []
 ending_rounds (InReply round message outcome front) = round ∷ []
 
 -- among these rounds, from a session on, this one comes after those, in this stage
-pub record IsRoundIn (first : Standing) (rounds before : List Round) (round : Round) (old : Stage)
+pub record IsRoundIn (first : SessionState) (rounds before : List Round) (round : Round) (old :
+    Stage)
     : Type 0 where
   pub after : List Round
   pub rounds_are : rounds ≡ before ++ round ∷ after
@@ -141,7 +143,7 @@ pub record IsRoundIn (first : Standing) (rounds before : List Round) (round : Ro
 -- follows at the earliest, what was sent of it is by its plan and between its curves. After the
 -- halt, until the rest up to a boundary was sent, it is by its plan and cut at that boundary. Else
 -- nothing of a film is sent.
-abbrev pub ArePlaysKept : Standing → List Round → Type 0
+abbrev pub ArePlaysKept : SessionState → List Round → Type 0
 ArePlaysKept first rounds =
     (before : List Round) (round : Round) (old : Stage) → IsRoundIn first rounds before round old
     → IsKeptIn old.session.state old.session (heard_by old.session.heard round.event)

@@ -6,15 +6,15 @@ use Rattle.station.specs.declared.answers.PlayRefused.TheVariants.{Overflow as P
 use Rattle.session.specs.declared.notes.Receipt.{Receipt}
 use Rattle.session.specs.declared.notes.Receipt.TheVariants.{Entry as EntryReceipt}
 use Rattle.session.specs.declared.notes.Receipt.TheVariants.{Full as FullReceipt}
-use Rattle.session.specs.Hearings.{after_full, after_overflow}
-use Rattle.session.specs.Standings.{Standing}
+use Rattle.session.specs.RequestSteps.{after_full, after_overflow}
+use Rattle.session.specs.SessionStates.{SessionState}
 
-abbrev pub after_refusal : Standing → PlayRefused → Standing
-after_refusal old (JournalFull plan entries open_plays) = after_full old entries open_plays
+abbrev pub after_refusal : SessionState → PlayRefused → SessionState
+after_refusal old (JournalFull plan entries live) = after_full old entries live
 after_refusal old (PlayOverflow place slot booked asked) =
     after_overflow old place slot booked asked
 
 abbrev pub refusal_receipt : PlayRefused → Receipt
-refusal_receipt (JournalFull plan entries open_plays) = FullReceipt entries open_plays
+refusal_receipt (JournalFull plan entries live) = FullReceipt entries live
 refusal_receipt (PlayOverflow place slot booked asked) =
     EntryReceipt place (Overflow slot booked asked)

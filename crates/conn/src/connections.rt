@@ -2,27 +2,31 @@
 
 ghost use Rattle.std.specs.Prelude.{◌≡◌, ◌≤◌, Ok, false, None, [], drop, take};
 ghost use Rattle.std.specs.Prelude.{length as list_length, IfOk, IsSome, OnOk, OnErr, Some};
-ghost use Rattle.vod_base.specs.Links.{IsWithin, doing_of};
+ghost use Rattle.vod_base.specs.Links.{IsWithin, io_event_of};
 ghost use Rattle.interleave.specs.Elements.{IsFirst, IsMessageLength};
-ghost use Rattle.interleave.specs.declared.elements.Step.TheVariants.{Message};
-ghost use Rattle.session.specs.Standings.{AreFilms, AreSettings, CanKeep, IsAtRest, IsHalt};
-ghost use Rattle.session.specs.Standings.{IsHandedIn, IsPlay, PlayAnswer, LookAnswer, OfferAnswer};
-ghost use Rattle.session.specs.Standings.{awaited_answer, open_of};
-ghost use Rattle.conn.specs.Keeping.{IsHeld, IsQuiet, KeepsBusiness};
+ghost use Rattle.interleave.specs.declared.elements.Step.TheVariants.{Request};
+ghost use Rattle.session.specs.SessionStates.{AreFilms, AreSettings, CanKeep, AwaitsNoAnswer};
+ghost use Rattle.session.specs.SessionStates.{IsHalt};
+ghost use Rattle.session.specs.SessionStates.{IsAnswerRecorded, IsPlay, PlayAnswer, LookAnswer};
+ghost use Rattle.session.specs.SessionStates.{OfferAnswer};
+ghost use Rattle.session.specs.SessionStates.{awaited_answer, open_of};
+ghost use Rattle.conn.specs.ReservationInvariant.{IsHeld, IsQuiet, KeepsReservations};
 ghost use Rattle.conn.specs.Refusals.{after_refusal, refusal_receipt};
-ghost use Rattle.conn.specs.Sights.{HasAnswered, HasAsked, HasBroken, HasComeTo};
-ghost use Rattle.conn.specs.Sights.{HasPassed, HasTakenUp, TakesNext, sight};
-ghost use Rattle.session.specs.declared.asks.Ask.{Ask};
-ghost use Rattle.conn.specs.Served.{HasClosed};
-ghost use Rattle.session.specs.Hearings.{new_standing};
-ghost use Rattle.conn.specs.Events.{CutsOn, HasCounted, HasTakenEvent, IsEndOf, IsTaken, IsTakenUp};
+ghost use Rattle.conn.specs.Observations.{HasAnswered, HasAsked, HasFailedSend, HasHandledEvent};
+ghost use Rattle.conn.specs.Observations.{HasTakenSlot, HasProcessedInput, TakesNext, observed};
+ghost use Rattle.session.specs.declared.commands.Ask.{Ask};
+ghost use Rattle.conn.specs.ConnectionService.{HasClosed};
+ghost use Rattle.session.specs.RequestSteps.{new_session_state};
+ghost use Rattle.conn.specs.Events.{CutsOn, HasCounted, HasTakenEvent, IsEndOf, IsTaken};
+ghost use Rattle.conn.specs.Events.{IsProcessed};
 ghost use Rattle.conn.specs.Events.{IsWaiting, end_in, with_heard};
-ghost use Rattle.vod_base.specs.Outside.{HasRisen};
+ghost use Rattle.vod_base.specs.IoState.{HasRisen};
 
 use crate::reports::ConnEnd;
 use early_start::Offers;
 use film_frames::Stored;
-use interleave::{Demux, DemuxFault, Step, law_few_wait};
+use interleave::laws::law_waiting_bytes_are_bounded;
+use interleave::{Demux, DemuxFault, Step};
 use plan_cert::Plan;
 use session::{Ask, Notes, Session, Settings, Slotted};
 use station::{Booking, PlayRefused, Seat, Station};
@@ -35,7 +39,7 @@ use vod_base::{Heard, Link, LinkFault, NoMemory};
 pub(crate) struct Connection<'a> {
     /// What its requests and slots come to.
     session: Session<'a>,
-    /// The bytes that came and weren't taken up.
+    /// The bytes that came and weren't processed.
     input: Demux,
     /// The booking of the play that is sent.
     booking: Option<Booking>,
@@ -54,9 +58,9 @@ impl<'a> Connection<'a> {
         ensures input { IfOk result (λ connection. connection.input ≡ []) }
         ensures waiting { IfOk result IsWaiting }
         ensures exact { IfOk result
-            (λ connection. connection.session ≡ new_standing films.now settings.now words) }
+            (λ connection. connection.session ≡ new_session_state films.now settings.now words) }
         ensures booking { IfOk result (λ connection. connection.booking ≡ None) }
-        ensures session { IfOk result (λ connection. IsAtRest connection.session) }
+        ensures session { IfOk result (λ connection. AwaitsNoAnswer connection.session) }
         ensures open { IfOk result (λ connection. open_of connection.session ≡ None) }
         ensures receipts { IfOk result (λ connection. connection.session.receipts ≡ []) }
         ensures waits { IfOk result (λ connection. connection.session.waits ≡ false) }
@@ -72,9 +76,9 @@ impl<'a> Connection<'a> {
         })
     }
 
-    /// Takes up an event, and answers how it ended the connection, if it did. The bytes that came
+    /// Processes an event, and answers how it ended the connection, if it did. The bytes that came
     /// stand in front of `bytes`.
-    #[tactic(auto, using(crate::proofs::Steps::count_steps))]
+    #[tactic(auto, using(crate::proofs::SharedLemmas::count_steps))]
     pub(crate) fn hear<R: Wait, K: Link>(
         &mut self,
         rt: &R,
@@ -91,10 +95,10 @@ impl<'a> Connection<'a> {
         requires few { list_length bytes.now ≤ 16384 }
         requires waiting { IsWaiting self.old }
         requires lost { self.old.session.lost ≡ false }
-        ensures kept { KeepsBusiness seat.old seat.new self.old self.new }
-        ensures comes { HasComeTo result (doing_of heard bytes.now)
-            (sight self.old (K.told link.old) seat.old)
-            (sight self.new (K.told link.new) seat.new) }
+        ensures kept { KeepsReservations seat.old seat.new self.old self.new }
+        ensures comes { HasHandledEvent result (io_event_of heard bytes.now)
+            (observed self.old (K.told link.old) seat.old)
+            (observed self.new (K.told link.new) seat.new) }
         ensures cut { CutsOn (with_heard self.old.input heard bytes.now) self.new.input }
         ensures taken { HasTakenEvent heard (list_length self.old.input) result self.new }
         ensures counted { HasCounted result (K.faults link.old) (K.faults link.new) }
@@ -102,24 +106,24 @@ impl<'a> Connection<'a> {
         match heard {
             Heard::End => Some(ConnEnd::Ended),
             Heard::Bytes(count) => {
-                law_few_wait(&self.input);
+                law_waiting_bytes_are_bounded(&self.input);
                 if self.input.put(&bytes[..count]).is_err() {
                     return Some(ConnEnd::TooMuchInput);
                 }
-                self.take_up(rt, station, seat, link)
+                self.process_input(rt, station, seat, link)
             }
             Heard::Slot(slot) => {
                 if self.step(rt, station, seat, link, slot).is_err() {
                     return Some(ConnEnd::LinkFault);
                 }
-                self.take_up(rt, station, seat, link)
+                self.process_input(rt, station, seat, link)
             }
         }
     }
 
-    /// Takes up a slot: what is due is sent, a waiting reply goes out, and a play that is done is
+    /// Processes a slot: what is due is sent, a waiting reply goes out, and a play that is done is
     /// halted.
-    #[tactic(auto, using(crate::proofs::Steps::slot_steps))]
+    #[tactic(auto, using(crate::proofs::SharedLemmas::slot_steps))]
     fn step<R: Wait, K: Link>(
         &mut self,
         rt: &R,
@@ -131,13 +135,13 @@ impl<'a> Connection<'a> {
         requires seat { seat.old.id ≡ station.now.id }
         requires quiet { IsQuiet seat.old.mine self.old }
         requires lost { self.old.session.lost ≡ false }
-        ensures kept { KeepsBusiness seat.old seat.new self.old self.new }
-        ensures passed { OnOk result (HasPassed
-            (sight self.old (K.told link.old) seat.old)
-            (sight self.new (K.told link.new) seat.new) slot) }
-        ensures broken { OnErr result (HasBroken
-            (sight self.old (K.told link.old) seat.old)
-            (sight self.new (K.told link.new) seat.new) slot) }
+        ensures kept { KeepsReservations seat.old seat.new self.old self.new }
+        ensures passed { OnOk result (HasTakenSlot
+            (observed self.old (K.told link.old) seat.old)
+            (observed self.new (K.told link.new) seat.new) slot) }
+        ensures broken { OnErr result (HasFailedSend
+            (observed self.old (K.told link.old) seat.old)
+            (observed self.new (K.told link.new) seat.new) slot) }
         ensures input { self.new.input ≡ self.old.input }
         ensures lost { OnOk result (self.new.session.lost ≡ false) }
         ensures count { K.faults link.old ≤ K.faults link.new }
@@ -150,9 +154,9 @@ impl<'a> Connection<'a> {
         Ok(())
     }
 
-    /// Takes up what waits, and answers how it ended the connection, if it did.
-    #[tactic(auto, using(crate::proofs::Steps::count_steps))]
-    fn take_up<R: Wait, K: Link>(
+    /// Processes what waits, and answers how it ended the connection, if it did.
+    #[tactic(auto, using(crate::proofs::SharedLemmas::count_steps))]
+    fn process_input<R: Wait, K: Link>(
         &mut self,
         rt: &R,
         station: &Station,
@@ -162,93 +166,93 @@ impl<'a> Connection<'a> {
         requires seat { seat.old.id ≡ station.now.id }
         requires quiet { IsQuiet seat.old.mine self.old }
         requires lost { self.old.session.lost ≡ false }
-        ensures kept { KeepsBusiness seat.old seat.new self.old self.new }
-        ensures up { HasTakenUp result
-            (sight self.old (K.told link.old) seat.old)
-            (sight self.new (K.told link.new) seat.new) }
+        ensures kept { KeepsReservations seat.old seat.new self.old self.new }
+        ensures up { HasProcessedInput result
+            (observed self.old (K.told link.old) seat.old)
+            (observed self.new (K.told link.new) seat.new) }
         ensures cut { CutsOn self.old.input self.new.input }
-        ensures taken { IsTakenUp result self.new }
+        ensures taken { IsProcessed result self.new }
         ensures counted { HasCounted result (K.faults link.old) (K.faults link.new) }
     {
         'elements: loop {
-            match self.take_next(rt, station, seat, link) {
-                Taken::Gone => {}
-                Taken::Waits => return None,
-                Taken::End(end) => return Some(end),
+            match self.process_next(rt, station, seat, link) {
+                InputProgress::Gone => {}
+                InputProgress::Waits => return None,
+                InputProgress::End(end) => return Some(end),
             }
         }
     }
 
-    /// Takes up the element in front. A request is taken up only where no reply waits, and none is
-    /// once a TEARDOWN was answered 200.
-    #[tactic(auto, using(crate::proofs::Steps::count_steps))]
-    fn take_next<R: Wait, K: Link>(
+    /// Processes the element in front. A request is processed only where no reply waits, and none
+    /// is once a TEARDOWN was answered 200.
+    #[tactic(auto, using(crate::proofs::SharedLemmas::count_steps))]
+    fn process_next<R: Wait, K: Link>(
         &mut self,
         rt: &R,
         station: &Station,
         seat: &mut Seat,
         link: &mut K,
-    ) -> Taken
+    ) -> InputProgress
         requires seat { seat.old.id ≡ station.now.id }
         requires quiet { IsQuiet seat.old.mine self.old }
         requires lost { self.old.session.lost ≡ false }
-        ensures kept { KeepsBusiness seat.old seat.new self.old self.new }
+        ensures kept { KeepsReservations seat.old seat.new self.old self.new }
         ensures takes { TakesNext result
-            (sight self.old (K.told link.old) seat.old)
-            (sight self.new (K.told link.new) seat.new) }
+            (observed self.old (K.told link.old) seat.old)
+            (observed self.new (K.told link.new) seat.new) }
         ensures cut { CutsOn self.old.input self.new.input }
         ensures taken { IsTaken result (list_length self.old.input) self.new }
         ensures counted { HasCounted (end_in result) (K.faults link.old) (K.faults link.new) }
     {
-        if self.session.is_torn() {
-            return Taken::End(ConnEnd::TornDown);
+        if self.session.torn() {
+            return InputProgress::End(ConnEnd::TornDown);
         }
         match self.input.look() {
-            Err(fault) => Taken::End(end_of(fault)),
-            Ok(Step::More) => Taken::Waits,
+            Err(fault) => InputProgress::End(end_of(fault)),
+            Ok(Step::More) => InputProgress::Waits,
             Ok(Step::Skip(count)) => {
                 self.input.drop_front(count);
-                Taken::Gone
+                InputProgress::Gone
             }
             Ok(Step::Block(_, count)) => {
                 self.input.drop_front(count);
-                Taken::Gone
+                InputProgress::Gone
             }
-            Ok(Step::Message(length)) => self.take_request(rt, station, seat, link, length),
+            Ok(Step::Request(length)) => self.process_request(rt, station, seat, link, length),
         }
     }
 
-    /// Takes up the request in front, which has this length, unless a reply waits, and sends its
+    /// Processes the request in front, which has this length, unless a reply waits, and sends its
     /// reply where it can go out.
-    #[tactic(auto, using(crate::proofs::Steps::count_steps))]
-    fn take_request<R: Wait, K: Link>(
+    #[tactic(auto, using(crate::proofs::SharedLemmas::count_steps))]
+    fn process_request<R: Wait, K: Link>(
         &mut self,
         rt: &R,
         station: &Station,
         seat: &mut Seat,
         link: &mut K,
         length: usize,
-    ) -> Taken
+    ) -> InputProgress
         requires seat { seat.old.id ≡ station.now.id }
         requires quiet { IsQuiet seat.old.mine self.old }
         requires torn { self.old.session.torn ≡ false }
         requires lost { self.old.session.lost ≡ false }
-        requires first { IsFirst self.old.input (Ok (Message length)) }
-        ensures kept { KeepsBusiness seat.old seat.new self.old self.new }
+        requires first { IsFirst self.old.input (Ok (Request length)) }
+        ensures kept { KeepsReservations seat.old seat.new self.old self.new }
         ensures takes { TakesNext result
-            (sight self.old (K.told link.old) seat.old)
-            (sight self.new (K.told link.new) seat.new) }
+            (observed self.old (K.told link.old) seat.old)
+            (observed self.new (K.told link.new) seat.new) }
         ensures cut { CutsOn self.old.input self.new.input }
         ensures taken { IsTaken result (list_length self.old.input) self.new }
         ensures counted { HasCounted (end_in result) (K.faults link.old) (K.faults link.new) }
     {
         if self.session.waits() {
-            return Taken::Waits;
+            return InputProgress::Waits;
         }
         self.answer_request(rt, station, seat, length);
         match self.session.reply(link) {
-            Ok(()) => Taken::Gone,
-            Err(_) => Taken::End(ConnEnd::LinkFault),
+            Ok(()) => InputProgress::Gone,
+            Err(_) => InputProgress::End(ConnEnd::LinkFault),
         }
     }
 
@@ -261,13 +265,13 @@ impl<'a> Connection<'a> {
         requires whole { IsMessageLength self.old.input length }
         requires within { length ≤ list_length self.old.input }
         requires lost { self.old.session.lost ≡ false }
-        ensures kept { KeepsBusiness seat.old seat.new self.old self.new }
+        ensures kept { KeepsReservations seat.old seat.new self.old self.new }
         ensures heard { HasAsked self.old.session (take length self.old.input) self.new.session
             seat.old seat.new }
         ensures input { self.new.input ≡ drop length self.old.input }
         ensures lost { self.new.session.lost ≡ self.old.session.lost }
     {
-        let ask = self.session.hear(&self.input.waiting_bytes()[..length]);
+        let ask = self.session.hear(&self.input.waiting()[..length]);
         self.input.drop_front(length);
         match ask {
             Ask::Reply => {}
@@ -284,7 +288,7 @@ impl<'a> Connection<'a> {
         requires held { IsHeld seat.old.mine self.old.booking (open_of self.old.session) }
         requires asked { awaited_answer self.old.session ≡ PlayAnswer plan }
         requires closed { open_of self.old.session ≡ None }
-        ensures kept { KeepsBusiness seat.old seat.new self.old self.new }
+        ensures kept { KeepsReservations seat.old seat.new self.old self.new }
         ensures answered { HasAnswered self.old.session (Ask.Play plan) self.new.session
             seat.old seat.new }
         ensures input { self.new.input ≡ self.old.input }
@@ -293,7 +297,7 @@ impl<'a> Connection<'a> {
         seat.holds();
         match station.play(rt, seat, self.session.heard_slot(), plan) {
             Ok(booking) => {
-                self.session.hear_admission(booking.number, booking.start);
+                self.session.admitted(booking.number, booking.start);
                 hold(&mut self.booking, booking);
             }
             Err(refused) => hear_refusal(&mut self.session, refused),
@@ -306,7 +310,7 @@ impl<'a> Connection<'a> {
         requires held { IsHeld seat.old.mine self.old.booking (open_of self.old.session) }
         requires asked { IsHalt (awaited_answer self.old.session) (open_of self.old.session) }
         requires keep { CanKeep (open_of self.old.session) keep }
-        ensures kept { KeepsBusiness seat.old seat.new self.old self.new }
+        ensures kept { KeepsReservations seat.old seat.new self.old self.new }
         ensures answered { HasAnswered self.old.session (Ask.Halt keep) self.new.session
             seat.old seat.new }
         ensures input { self.new.input ≡ self.old.input }
@@ -317,17 +321,17 @@ impl<'a> Connection<'a> {
         seat.holds();
         let booking = release(&mut self.booking);
         let place = station.halt(rt, seat, booking, keep);
-        self.session.hear_halt(place);
+        self.session.halted(place);
     }
 
     /// Looks at a slot.
-    #[tactic(auto, using(crate::proofs::Going::held_at_look))]
+    #[tactic(auto, using(crate::proofs::ReservationSteps::held_at_look))]
     fn look<R: Wait>(&mut self, rt: &R, station: &Station, seat: &mut Seat, slot: u64)
         requires seat { seat.old.id ≡ station.now.id }
         requires held { IsHeld seat.old.mine self.old.booking (open_of self.old.session) }
         requires asked { awaited_answer self.old.session ≡ LookAnswer }
         requires slot { slot ≡ self.old.session.heard }
-        ensures kept { KeepsBusiness seat.old seat.new self.old self.new }
+        ensures kept { KeepsReservations seat.old seat.new self.old self.new }
         ensures answered { HasAnswered self.old.session (Ask.Look slot) self.new.session
             seat.old seat.new }
         ensures input { self.new.input ≡ self.old.input }
@@ -337,14 +341,14 @@ impl<'a> Connection<'a> {
         match station.look(rt, seat, slot) {
             Ok(looked) => {
                 self.session
-                    .hear_look(looked.place, looked.now, looked.at, looked.booked)
+                    .looked(looked.place, looked.now, looked.at, looked.booked)
             }
-            Err(full) => self.session.hear_full(full.entries, full.open_plays),
+            Err(full) => self.session.full(full.entries, full.live),
         }
     }
 
     /// Asks from which slot on a plan fits.
-    #[tactic(auto, using(crate::proofs::Going::gone_still))]
+    #[tactic(auto, using(crate::proofs::ReservationSteps::gone_still))]
     fn offer<R: Wait>(
         &mut self,
         rt: &R,
@@ -356,7 +360,7 @@ impl<'a> Connection<'a> {
         requires seat { seat.old.id ≡ station.now.id }
         requires held { IsHeld seat.old.mine self.old.booking (open_of self.old.session) }
         requires asked { awaited_answer self.old.session ≡ OfferAnswer }
-        ensures kept { KeepsBusiness seat.old seat.new self.old self.new }
+        ensures kept { KeepsReservations seat.old seat.new self.old self.new }
         ensures answered { HasAnswered self.old.session (Ask.Offer plan offers) self.new.session
             seat.old seat.new }
         ensures input { self.new.input ≡ self.old.input }
@@ -365,15 +369,15 @@ impl<'a> Connection<'a> {
         let heard = self.session.heard_slot();
         let offered = station.offer(rt, seat, heard, &plan, &mut offers);
         self.session
-            .hear_offer(offered.seen, offered.first, plan, offers);
+            .offered(offered.seen, offered.first, plan, offers);
     }
 
     /// Ends the connection: an open booking is halted at what is due.
-    #[tactic(auto, using(crate::proofs::Steps::close_steps))]
+    #[tactic(auto, using(crate::proofs::SharedLemmas::close_steps))]
     pub(crate) fn close<R: Wait>(&mut self, rt: &R, station: &Station, seat: &mut Seat)
         requires seat { seat.old.id ≡ station.now.id }
         requires quiet { IsQuiet seat.old.mine self.old }
-        ensures kept { KeepsBusiness seat.old seat.new self.old self.new }
+        ensures kept { KeepsReservations seat.old seat.new self.old self.new }
         ensures closed { HasClosed self.old.session self.new.session seat.old seat.new }
         ensures open { open_of self.new.session ≡ None }
         ensures booking { self.new.booking ≡ None }
@@ -385,7 +389,7 @@ impl<'a> Connection<'a> {
 
     /// What a closed connection leaves for its report.
     pub(crate) fn notes(self) -> Notes
-        requires rest { IsAtRest self.session }
+        requires rest { AwaitsNoAnswer self.session }
         requires open { open_of self.session ≡ None }
         requires booking { self.booking ≡ None }
         ensures receipts { result.receipts.items ≡ self.entry.session.receipts }
@@ -406,10 +410,10 @@ impl<'a> Connection<'a> {
 }
 
 /// What came of the element in front.
-pub(crate) enum Taken {
-    /// It was taken up and is gone.
+pub(crate) enum InputProgress {
+    /// It was processed and is gone.
     Gone,
-    /// Nothing more can be taken up: no whole element waits, or a request waits for a reply to be
+    /// Nothing more can be processed: no whole element waits, or a request waits for a reply to be
     /// sent.
     Waits,
     /// The connection ended.
@@ -431,21 +435,17 @@ fn hear_refusal(session: &mut Session<'_>, refused: PlayRefused)
     requires asked { IsPlay (awaited_answer session.old) }
     requires closed { open_of session.old ≡ None }
     ensures exact { session.new ≡ after_refusal session.old refused }
-    ensures handed { IsHandedIn session.old (refusal_receipt refused) session.new }
+    ensures handed { IsAnswerRecorded session.old (refusal_receipt refused) session.new }
     ensures open { open_of session.new ≡ None }
 {
     match refused {
-        PlayRefused::JournalFull {
-            entries,
-            open_plays,
-            ..
-        } => session.hear_full(entries, open_plays),
+        PlayRefused::JournalFull { entries, live, .. } => session.full(entries, live),
         PlayRefused::Overflow {
             place,
             slot,
             booked,
             asked,
-        } => session.hear_overflow(place, slot, booked, asked),
+        } => session.overflowed(place, slot, booked, asked),
     }
 }
 

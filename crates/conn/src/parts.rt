@@ -1,11 +1,11 @@
 //! A worker's connections, one after another.
 
 ghost use Rattle.std.specs.Prelude.{◌≡◌, IfSome};
-ghost use Rattle.session.specs.Standings.{AreFilms, AreSettings};
-ghost use Rattle.conn.specs.Parts.{HasServedPart, IsUntouched, duty, outlet};
+ghost use Rattle.session.specs.SessionStates.{AreFilms, AreSettings};
+ghost use Rattle.conn.specs.Parts.{WorkerSpec, IsUntouched, worker_input, worker_gate};
 
 use crate::reports::{PartEnd, PartReport};
-use crate::serving::serve_connection;
+use crate::service::serve_connection;
 use crate::words::connection_words;
 use film_frames::Stored;
 use session::Settings;
@@ -35,9 +35,9 @@ pub fn serve_part<R: Wait, G: Gate>(
     requires settings { AreSettings settings.now }
     requires films { AreFilms films.now }
     requires untouched { IfSome (G.told part.old) IsUntouched }
-    ensures part { HasServedPart (duty films.now settings.now seed worker) seat.old seat.new
-        (outlet (G.faults part.old) (G.told part.old))
-        (outlet (G.faults part.new) (G.told part.new)) result }
+    ensures part { WorkerSpec (worker_input films.now settings.now seed worker) seat.old seat.new
+        (worker_gate (G.faults part.old) (G.told part.old))
+        (worker_gate (G.faults part.new) (G.told part.new)) result }
 {
     let mut reports = Vec::new(alloc);
     'connections: for _ in rt.forever() {

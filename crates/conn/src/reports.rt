@@ -18,7 +18,7 @@ pub enum ConnEnd {
     /// A request's body is longer than 65,536 bytes.
     BodyTooLong,
     /// So many events were heard as a connection may have, 2^40.
-    EventsSpent,
+    TurnsSpent,
     /// There was no memory for the connection. Nothing was heard and nothing was sent.
     NoMemory,
 }

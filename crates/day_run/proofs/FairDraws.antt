@@ -6,7 +6,7 @@ use Rattle.std.proofs.lemmas.List.FromFn.{map-range_with_len_more}
 use Rattle.film_make.specs.Generator.{words_after}
 use Rattle.film_make.specs.Trace.{sizes_of}
 use Rattle.day_run.specs.FairDays.{after_traces, picture_count, trace_drawn, traces_drawn}
-use Rattle.day_run.specs.Fairs.{sizes_in}
+use Rattle.day_run.specs.FairProgress.{sizes_in}
 
 -- the trace that is drawn by the next words
 pub record TraceDrawn (left : ℕ → ℕ) (pictures : ℕ) (words : ℕ → ℕ) (k : ℕ) (trace : Vec ℕ) : Type 0 where

@@ -7,32 +7,32 @@ use Rattle.std.specs.List.{fold, range_with_len}
 use Rattle.std.proofs.lemmas.List.{append-nil, append_assoc, take_at}
 use Rattle.std.proofs.lemmas.List.Sums.{sum_by-cons}
 use Rattle.film_make.specs.Generator.{words_after}
-use Rattle.slot_calendar.specs.declared.profiles.CapacityStep.{CapacityStep}
+use Rattle.slot_calendar.specs.declared.profiles.CapStep.{CapStep}
 use Rattle.slot_calendar.specs.Profiles.{capacity_at}
 use Rattle.admission.specs.declared.entries.Entry.{Entry}
 use Rattle.admission.specs.Histories.{IsLegal, booked_after, state_after}
 use Rattle.admission.specs.Machine.{booked_in}
-use Rattle.admission.proofs.Runs.{legal-take}
-use Rattle.admission.proofs.Within.{sound-after}
-use Rattle.day_run.specs.Balanced.{IsReady}
-use Rattle.day_run.specs.Days.{IsAsked, IsPauseLine, IsResumeLine, Link, Moment}
+use Rattle.admission.proofs.HistoryPrefixes.{legal-take}
+use Rattle.admission.proofs.CapacityBounds.{sound-after}
+use Rattle.day_run.specs.BookingBalance.{IsReady}
+use Rattle.day_run.specs.Days.{IsAsked, IsPauseLine, IsResumeLine, Link, DayState}
 use Rattle.day_run.specs.Days.{at_slot, halts_at, last_halts, last_journal, rest_at, state_at}
 use Rattle.day_run.specs.FairDays.{AreTurns, IsDone, IsTurn, Turn, after_turn, at_later, client_of}
 use Rattle.day_run.specs.FairDays.{line_drawn, most_up_to, turn_booked, turn_peak, turn_sent}
 use Rattle.day_run.specs.ClientStates.{Rest, ClientState, Idle, Playing, Pausing, Paused}
-use Rattle.day_run.proofs.BalancedLines.{pause-heard, play-heard, ready-sent, resume-heard, slot-ready}
-use Rattle.day_run.proofs.FairTurns.{done-ready}
-use Rattle.day_run.proofs.Takings.{IsPlayTaken, LineStep}
+use Rattle.day_run.proofs.LineBalance.{pause-heard, play-heard, ready-sent, resume-heard, slot-ready}
+use Rattle.day_run.proofs.FairBalance.{done-ready}
+use Rattle.day_run.proofs.ScriptLineFacts.{IsPlayTaken, LineStep}
 
 -- ---- what is sent is what is booked
-pub later-ready : (old : Moment) (later : ℕ) → IsReady old → IsReady (at_later old later)
+pub later-ready : (old : DayState) (later : ℕ) → IsReady old → IsReady (at_later old later)
 later-ready old later ready = ready-if (later == 0)
   where
     ready-if : (b : Bool) → IsReady (cond b old (at_slot old (old.heard + later)))
     ready-if true = ready
     ready-if false = slot-ready old (at_slot old (old.heard + later)) (old.heard + later) (omega arith) refl ready
 
-pub later-heard : (old : Moment) (later : ℕ) → old.heard ≤ (at_later old later).heard
+pub later-heard : (old : DayState) (later : ℕ) → old.heard ≤ (at_later old later).heard
 later-heard old later = heard-if (later == 0)
   where
     heard-if : (b : Bool) → old.heard ≤ (cond b old (at_slot old (old.heard + later))).heard
@@ -42,7 +42,7 @@ later-heard old later = heard-if (later == 0)
 pub turn-ready : (link : Link) (words : ℕ → ℕ) (turn : Turn) → IsTurn link words turn → IsReady turn.old
     → IsReady turn.new
 turn-ready link words turn is ready =
-    let R : Moment → Type 0 = λ m. IsReady m in
+    let R : DayState → Type 0 = λ m. IsReady m in
     let mid : IsReady turn.mid = subst R (sym is.slot) (later-ready turn.old (words 0 % 4) ready) in
     done-ready (record { link = link; old = turn.mid; new = turn.new; text = turn.text }) (words_after 2 words)
     (record { client = omega arith; at = refl }) is.done mid
@@ -50,15 +50,15 @@ turn-ready link words turn is ready =
 turn-balanced : (link : Link) (words : ℕ → ℕ) (turn : Turn) → IsTurn link words turn → IsReady turn.old
     → turn_sent turn ≡ turn_booked turn
 turn-balanced link words turn is ready =
-    let M : Moment → Type 0 = λ m. turn.old.heard ≤ m.heard in
+    let M : DayState → Type 0 = λ m. turn.old.heard ≤ m.heard in
     ready-sent turn.old turn.mid.heard (subst M (sym is.slot) (later-heard turn.old (words 0 % 4))) ready
 
-pub turns-balanced : {old : Moment} (link : Link) (words : ℕ → ℕ) (turns : List Turn) (new : Moment)
+pub turns-balanced : {old : DayState} (link : Link) (words : ℕ → ℕ) (turns : List Turn) (new : DayState)
     → AreTurns link words turns old new → IsReady old
     → sum_by turn_sent turns ≡ sum_by turn_booked turns
 turns-balanced link words [] new run ready = refl
 turns-balanced link words (turn ∷ turns) new run ready =
-    let R : Moment → Type 0 = λ m. IsReady m in
+    let R : DayState → Type 0 = λ m. IsReady m in
     let begun : IsReady turn.old = subst R (sym run.0) ready in
     omega (
       arith,
@@ -73,9 +73,9 @@ pub record HasGrown (old new : List Entry) : Type 0 where
   pub made : List Entry
   pub new_is : new ≡ old ++ made
 
-kept-grown : (old new : Moment) → new ≡ old → HasGrown old.entries new.entries
+kept-grown : (old new : DayState) → new ≡ old → HasGrown old.entries new.entries
 kept-grown old new kept =
-    record { made = []; new_is = ap (λ (m : Moment). m.entries) kept ∙ sym (append-nil old.entries) }
+    record { made = []; new_is = ap (λ (m : DayState). m.entries) kept ∙ sym (append-nil old.entries) }
 
 grown-on : (a b c : List Entry) → HasGrown a b → HasGrown b c → HasGrown a c
 grown-on a b c one two =
@@ -84,12 +84,12 @@ grown-on a b c one two =
       new_is = two.new_is ∙ ap (λ l. l ++ two.made) one.new_is ∙ append_assoc a one.made two.made;
     }
 
-asked-grown : {link : Link} {c : ℕ} {rest : Rest} {old new : Moment} {text : List ℕ}
+asked-grown : {link : Link} {c : ℕ} {rest : Rest} {old new : DayState} {text : List ℕ}
     → IsAsked link c rest old new text → HasGrown old.entries new.entries
 asked-grown {c} {old} {new} {text} (inl faulty) = kept-grown old new faulty.told.kept
 asked-grown {c} {old} {new} {text} (inr planned) = elim planned.done [
   | inl full ↦ kept-grown old new full.told.kept
-  | inr made ↦ record { made = _; new_is = ap (λ (m : Moment). m.entries) made.noted.new_is }
+  | inr made ↦ record { made = _; new_is = ap (λ (m : DayState). m.entries) made.noted.new_is }
 ]
 
 play-grown : (step : LineStep) (c : ℕ) (rest : Rest) (state : ClientState)
@@ -109,7 +109,7 @@ resume-grown step c (Paused rest) is = asked-grown is
 pause-grown : (step : LineStep) (c : ℕ) (state : ClientState)
     → IsPauseLine step.link c state step.old step.new step.text → HasGrown step.old.entries step.new.entries
 pause-grown step c Idle is = kept-grown step.old step.new is.kept
-pause-grown step c (Playing play) is = record { made = _; new_is = ap (λ (m : Moment). m.entries) is.noted.new_is }
+pause-grown step c (Playing play) is = record { made = _; new_is = ap (λ (m : DayState). m.entries) is.noted.new_is }
 pause-grown step c (Pausing stop rest) is = kept-grown step.old step.new is.kept
 pause-grown step c (Paused rest) is = kept-grown step.old step.new is.kept
 
@@ -123,7 +123,7 @@ done-grown step words c (Playing play) is = pause-grown step c (state_at step.ol
 done-grown step words c (Pausing stop rest) is = kept-grown step.old step.new is.kept
 done-grown step words c (Paused rest) is = resume-grown step c (state_at step.old c) is
 
-later-grown : (old : Moment) (later : ℕ) → HasGrown old.entries (at_later old later).entries
+later-grown : (old : DayState) (later : ℕ) → HasGrown old.entries (at_later old later).entries
 later-grown old later = grown-if (later == 0)
   where
     grown-if : (b : Bool) → HasGrown old.entries (cond b old (at_slot old (old.heard + later))).entries
@@ -133,17 +133,17 @@ later-grown old later = grown-if (later == 0)
 turn-grown : (link : Link) (words : ℕ → ℕ) (turn : Turn) → IsTurn link words turn
     → HasGrown turn.old.entries turn.new.entries
 turn-grown link words turn is =
-    let G : Moment → Type 0 = λ m. HasGrown turn.old.entries m.entries in
+    let G : DayState → Type 0 = λ m. HasGrown turn.old.entries m.entries in
     grown-on turn.old.entries turn.mid.entries turn.new.entries
     (subst G (sym is.slot) (later-grown turn.old (words 0 % 4)))
     (done-grown (record { link = link; old = turn.mid; new = turn.new; text = turn.text }) (words_after 2 words)
     (client_of words) _ is.done)
 
-turns-grown : (link : Link) (words : ℕ → ℕ) (turns : List Turn) (old new : Moment)
+turns-grown : (link : Link) (words : ℕ → ℕ) (turns : List Turn) (old new : DayState)
     → AreTurns link words turns old new → HasGrown old.entries new.entries
 turns-grown link words [] old new run = kept-grown old new run
 turns-grown link words (turn ∷ turns) old new run =
-    let G : Moment → Type 0 = λ m. HasGrown m.entries new.entries in
+    let G : DayState → Type 0 = λ m. HasGrown m.entries new.entries in
     subst G run.0 (grown-on turn.old.entries turn.new.entries new.entries (turn-grown link words turn run.1.0)
     (turns-grown link (after_turn words turn) turns turn.new new run.1.1))
 
@@ -154,12 +154,12 @@ most-of f most top [] small each = small
 most-of f most top (t ∷ ts) small each = most-of f most (max top (f t)) ts (omega (arith, small, each t)) each
 
 -- a legal journal that goes on from a moment's, on a link of so much capacity at most
-pub record GrownJournal (steps : List CapacityStep) (journal : List Entry) (moment : Moment) (most : ℕ) : Type 0 where
+pub record GrownJournal (steps : List CapStep) (journal : List Entry) (moment : DayState) (most : ℕ) : Type 0 where
   pub legal : IsLegal steps journal
   pub grown : HasGrown moment.entries journal
   pub capacity : (t : ℕ) → capacity_at steps t ≤ most
 
-moment-within : {steps : List CapacityStep} {journal : List Entry} {m : Moment} {most : ℕ} (slot : ℕ)
+moment-within : {steps : List CapStep} {journal : List Entry} {m : DayState} {most : ℕ} (slot : ℕ)
     → GrownJournal steps journal m most
     → most_up_to m slot ≤ most
 moment-within {steps} {journal} {m} {most} slot given =
@@ -182,11 +182,11 @@ moment-within {steps} {journal} {m} {most} slot given =
 pub record TurnRun (turns : List Turn) : Type 0 where
   pub link : Link
   pub words : ℕ → ℕ
-  pub old : Moment
-  pub new : Moment
+  pub old : DayState
+  pub new : DayState
   pub run : AreTurns link words turns old new
 
-pub turns-within : {steps : List CapacityStep} {journal : List Entry} {most : ℕ} (turns : List Turn)
+pub turns-within : {steps : List CapStep} {journal : List Entry} {most : ℕ} (turns : List Turn)
     (come : TurnRun turns) (top : ℕ)
     → GrownJournal steps journal come.new most → top ≤ most → fold max top (map turn_peak turns) ≤ most
 turns-within [] come top given small = small
@@ -205,7 +205,7 @@ turns-within {journal} {most} (turn ∷ turns) come top given small =
   where
     open come use {link, words, new, run}
 
-pub evening-grown : (evening : Moment) (journal : List Entry) → journal ≡ last_journal evening
+pub evening-grown : (evening : DayState) (journal : List Entry) → journal ≡ last_journal evening
     → HasGrown evening.entries journal
 evening-grown evening journal is = record { made = last_halts evening; new_is = is }
 
@@ -216,37 +216,37 @@ done-heard step words c Idle is =
     play-heard step c (rest_at step.link (words 0 % 16) (16384 + words 1 % 16384) (words 2 % 26))
     (state_at step.old c) is
 done-heard step words c (Playing play) is = pause-heard step c (state_at step.old c) is
-done-heard step words c (Pausing stop rest) is = ap (λ (m : Moment). m.heard) is.kept
+done-heard step words c (Pausing stop rest) is = ap (λ (m : DayState). m.heard) is.kept
 done-heard step words c (Paused rest) is = resume-heard step c (state_at step.old c) is
 
-later-most : (old : Moment) (later : ℕ) → (at_later old later).heard ≤ old.heard + later
+later-most : (old : DayState) (later : ℕ) → (at_later old later).heard ≤ old.heard + later
 later-most old later = most-if (later == 0)
   where
     most-if : (b : Bool) → (cond b old (at_slot old (old.heard + later))).heard ≤ old.heard + later
     most-if true = omega arith
     most-if false = omega arith
 
-pub turns-heard : (link : Link) (words : ℕ → ℕ) (turns : List Turn) (old new : Moment)
+pub turns-heard : (link : Link) (words : ℕ → ℕ) (turns : List Turn) (old new : DayState)
     → AreTurns link words turns old new → new.heard ≤ old.heard + 3 * length turns
-turns-heard link words [] old new run = omega (arith, ap (λ (m : Moment). m.heard) run)
+turns-heard link words [] old new run = omega (arith, ap (λ (m : DayState). m.heard) run)
 turns-heard link words (turn ∷ turns) old new run =
     let is = run.1.0 in
-    let M : Moment → Type 0 = λ m. m.heard ≤ turn.old.heard + words 0 % 4 in
+    let M : DayState → Type 0 = λ m. m.heard ≤ turn.old.heard + words 0 % 4 in
     omega (
       arith,
-      ap (λ (m : Moment). m.heard) run.0,
+      ap (λ (m : DayState). m.heard) run.0,
       subst M (sym is.slot) (later-most turn.old (words 0 % 4)),
       done-heard (record { link = link; old = turn.mid; new = turn.new; text = turn.text }) (words_after 2 words)
           (client_of words) _ is.done,
       turns-heard link (after_turn words turn) turns turn.new new run.1.1,
     )
 
-pub turns-ready : {old new : Moment} (link : Link) (words : ℕ → ℕ) (turns : List Turn)
+pub turns-ready : {old new : DayState} (link : Link) (words : ℕ → ℕ) (turns : List Turn)
     → AreTurns link words turns old new → IsReady old → IsReady new
 turns-ready {new} link words [] run ready =
-    let R : Moment → Type 0 = λ m. IsReady m in
+    let R : DayState → Type 0 = λ m. IsReady m in
     subst R (sym run) ready
 turns-ready {new} link words (turn ∷ turns) run ready =
-    let R : Moment → Type 0 = λ m. IsReady m in
+    let R : DayState → Type 0 = λ m. IsReady m in
     turns-ready link (after_turn words turn) turns run.1.1
     (turn-ready link words turn run.1.0 (subst R (sym run.0) ready))

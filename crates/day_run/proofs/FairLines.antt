@@ -3,17 +3,17 @@ use Rattle.std.proofs.Common.{◌≡◌, ◌-◌, ℕ, List, map, max, ap, refl,
 use Rattle.std.specs.Prelude.{sum_by}
 use Rattle.std.specs.List.{fold, range_with_len}
 use Rattle.film_make.specs.Generator.{words_of}
-use Rattle.slot_calendar.specs.declared.profiles.CapacityStep.{CapacityStep}
+use Rattle.slot_calendar.specs.declared.profiles.CapStep.{CapStep}
 use Rattle.admission.specs.declared.entries.Entry.{Entry}
 use Rattle.admission.specs.Histories.{IsLegal, booked_after}
 use Rattle.day_run.specs.Days.{first_moment}
 use Rattle.day_run.specs.DayLaws.{IsFairLine}
 use Rattle.day_run.specs.FairDays.{IsFair, after_traces, counts_of, fair_link}
-use Rattle.day_run.proofs.BalancedLines.{morning-ready}
+use Rattle.day_run.proofs.LineBalance.{morning-ready}
 use Rattle.day_run.proofs.FairLaws.{TurnRun, evening-grown, turns-balanced, turns-heard, turns-ready, turns-within}
 use Rattle.day_run.proofs.PastSlots.{fair-past}
 
-pub fair-line : {number : ℕ} (steps : List CapacityStep) (plays : ℕ) (text : List ℕ) (journal : List Entry)
+pub fair-line : {number : ℕ} (steps : List CapStep) (plays : ℕ) (text : List ℕ) (journal : List Entry)
     → IsFair steps number plays text journal → IsLegal steps journal → IsFairLine steps plays text journal
 fair-line {number} steps plays text journal fair legal =
     let link = fair_link steps (words_of number) in

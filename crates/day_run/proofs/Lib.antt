@@ -1,41 +1,41 @@
-mod Takings
-mod Cuts
-mod Quiet
-mod ReadLines
+mod ScriptLineFacts
+mod TextSplitLemmas
+mod IgnoredLineLemmas
+mod LineReadLemmas
 mod ScriptLines
-mod Places
-mod Bookings
-mod Pausing
-mod DaySteps
-mod Sweeps
-mod Timings
-mod LineSteps
-mod DayRuns
-mod Peaks
-mod FullLines
+mod NamePlaceLemmas
+mod OpenBookingLemmas
+mod PauseLemmas
+mod JournalStepLemmas
+mod ClientSweepLemmas
+mod PacerTimingLemmas
+mod LineStepLemmas
+mod LineSequenceLemmas
+mod PeakLemmas
+mod FullJournalLines
 mod FairDraws
-mod FairTurns
+mod FairBalance
 mod FairLaws
 mod SoundClients
-pub mod OneDay
-pub mod OneFair
+pub mod DayUniqueness
+pub mod FairUniqueness
 mod PastSlots
 mod FairLines
-mod Balances
-mod BalancedSlots
-mod BalancedLines
-pub mod DayFronts
-mod SourceReels
-mod PlayableReels
-mod TraceReels
+mod SentBookedLemmas
+mod SlotBalance
+mod LineBalance
+pub mod DayPrefixLemmas
+mod SourceMedia
+mod PlayableMedia
+mod TraceMediaLemmas
 mod SlotSums
-mod Drawn
-mod TriedTexts
-mod TextLaws
+mod DrawnTraceLemmas
+mod TriedStartTexts
+mod AppendedTextLemmas
 mod OfferLaws
-mod SpelledLines
-mod SpelledWords
-mod SpelledScripts
+mod LineTextLemmas
+mod WordReadBack
+mod ScriptReadBack
 mod RefusedLines
-mod ScriptEnds
-mod DrawnTurns
+mod LineEndLemmas
+mod FairTurnLemmas

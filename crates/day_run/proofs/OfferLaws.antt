@@ -7,10 +7,10 @@ use Rattle.slot_calendar.specs.Profiles.{capacity_at}
 use Rattle.admission.specs.Histories.{booked_after, state_after}
 use Rattle.admission.specs.Machine.{start_after}
 use Rattle.early_start.specs.declared.Tried.{Tried}
-use Rattle.early_start.specs.Offered.{AreRefusals, CanStart, IsStart}
-use Rattle.early_start.proofs.Refusals.{no_room_tried}
-use Rattle.day_run.specs.DayLaws.{IsCount, IsLeast, IsOfferTold}
-use Rattle.day_run.specs.Days.{IsFaulty, IsOfferLine, Link, Moment}
+use Rattle.early_start.specs.StartSearch.{AreRefusals, CanStart, IsStart}
+use Rattle.early_start.proofs.RefusedStarts.{no_room_tried}
+use Rattle.day_run.specs.DayLaws.{IsCount, IsLeast, IsOfferAnswer}
+use Rattle.day_run.specs.Days.{IsFaulty, IsOfferLine, Link, DayState}
 use Rattle.day_run.specs.ClientStates.{Rest}
 
 start-least : {booked capacity : ℕ → ℕ} {plan : List Segment} {first : ℕ} {tried : List Tried} (wait : ℕ)
@@ -31,9 +31,9 @@ start-count : (is_fit : ℕ → Type 0) (first wait tried : ℕ) (start : Option
 start-count is_fit first wait tried None is = omega (arith, is)
 start-count is_fit first wait tried (Some start) is = sym is.1
 
-pub offer-told : {link : Link} {rest : Rest} {wait : ℕ} {old new : Moment} {text : List ℕ}
+pub offer-told : {link : Link} {rest : Rest} {wait : ℕ} {old new : DayState} {text : List ℕ}
     → IsOfferLine link rest wait old new text
-    → IsFaulty rest old new text ⊎ IsOfferTold link rest wait old text
+    → IsFaulty rest old new text ⊎ IsOfferAnswer link rest wait old text
 offer-told {new} {text} (inl faulty) = inl faulty
 offer-told {link} {wait} {old} {new} {text} (inr offered) =
     let booked = booked_after old.entries in

@@ -12,41 +12,42 @@ use Rattle.admission.specs.declared.entries.Answer.TheVariants.{Admitted, Overfl
 use Rattle.admission.specs.declared.entries.Command.TheVariants as commands
 use Rattle.admission.specs.declared.entries.Entry.{Entry}
 use Rattle.admission.specs.Histories.{IsAnswered, booked_after, state_after}
-use Rattle.admission.specs.Machine.{Held, State, booked_in}
-use Rattle.admission.proofs.Runs.{state-push}
+use Rattle.admission.specs.Machine.{AdmittedPlay, State, booked_in}
+use Rattle.admission.proofs.HistoryPrefixes.{state-push}
 use Rattle.day_run.specs.declared.scripts.Line.{Line}
 use Rattle.day_run.specs.declared.scripts.Line.TheVariants as lines
-use Rattle.day_run.specs.Balanced.{IsReady, share_of}
+use Rattle.day_run.specs.BookingBalance.{IsReady, share_of}
 use Rattle.day_run.specs.Clients.{after_open}
 use Rattle.day_run.specs.Days.{AskedPlay}
 use Rattle.day_run.specs.Days.{IsAsked, IsHaltedPlay, IsLine, IsLookLine, IsOfferLine, IsPauseLine}
-use Rattle.day_run.specs.Days.{IsResumeLine, Link, Moment, at_slot, entry_by}
+use Rattle.day_run.specs.Days.{IsResumeLine, Link, DayState, at_slot, entry_by}
 use Rattle.day_run.specs.Days.{last_journal, first_moment, rest_at, state_at, with_play}
 use Rattle.day_run.specs.FairDays.{AreTurns, IsDone, IsTurn, Turn, after_turn, at_later, client_of}
 use Rattle.day_run.specs.FairDays.{line_drawn, turn_booked, turn_peak}
 use Rattle.day_run.specs.ClientStates.{Idle, Playing, Pausing, Paused, Play, Rest, ClientState, booking_of, sent_by}
-use Rattle.day_run.proofs.BalancedSlots.{BegunPlay, its-held, last-later, last-stays, play-stays}
-use Rattle.day_run.proofs.BalancedSlots.{slot-stays, stays-halt}
-use Rattle.day_run.proofs.BalancedLines.{morning-ready, taken-ready}
-use Rattle.day_run.proofs.Takings.{ClientOf, IsPlayTaken, LineStep, LinesTaken, NextTaken, StandingLine}
+use Rattle.day_run.proofs.SlotBalance.{BegunPlay, its-held, last-later, last-stays, play-stays}
+use Rattle.day_run.proofs.SlotBalance.{slot-stays, stays-halt}
+use Rattle.day_run.proofs.LineBalance.{morning-ready, taken-ready}
+use Rattle.day_run.proofs.ScriptLineFacts.{ClientOf, IsPlayTaken, LineStep, LinesTaken, NextTaken, StandingLine}
 use Rattle.day_run.proofs.FairLaws.{done-heard, later-heard, turn-ready, later-ready}
 use Rattle.day_run.proofs.SoundClients.{kept-most}
-use Rattle.day_run.proofs.Peaks.{peak-slots}
+use Rattle.day_run.proofs.PeakLemmas.{peak-slots}
 use Rattle.day_run.proofs.SlotSums.{sum-slots}
 
-abbrev pub Past : Moment → Moment → Type 0
+abbrev pub Past : DayState → DayState → Type 0
 Past old new = (t : ℕ) → t ≤ old.heard → booked_after new.entries t ≡ booked_after old.entries t
 
-kept-past : (old new : Moment) → new ≡ old → Past old new
-kept-past old new kept t past = ap (λ (m : Moment). booked_after m.entries t) kept
+kept-past : (old new : DayState) → new ≡ old → Past old new
+kept-past old new kept t past = ap (λ (m : DayState). booked_after m.entries t) kept
 
-same-past : (old new : Moment) (e : Entry) (states : List ClientState)
+same-past : (old new : DayState) (e : Entry) (states : List ClientState)
     → new ≡ record { entries = old.entries ++ e ∷ []; states = states; heard = old.heard }
     → (state_after (old.entries ++ e ∷ [])).held ≡ (state_after old.entries).held → Past old new
 same-past old new e states is same t past =
-    ap (λ (m : Moment). booked_after m.entries t) is ∙ ap (λ hs. booked_by (map (λ (h : Held). h.play) hs) t) same
+    ap (λ (m : DayState). booked_after m.entries t) is ∙ ap (λ hs. booked_by (map (λ (h : AdmittedPlay). h.play) hs) t)
+    same
 
-answered-past : {new : Moment} (answer : Answer) (link : Link) (ask : AskedPlay) (old : Moment)
+answered-past : {new : DayState} (answer : Answer) (link : Link) (ask : AskedPlay) (old : DayState)
     → IsAnswered link.steps (state_after old.entries) (entry_by ask.client (commands.Play old.heard ask.plan) answer)
     → new ≡ record {
       entries = old.entries ++ entry_by ask.client (commands.Play old.heard ask.plan) answer ∷ [];
@@ -63,7 +64,7 @@ answered-past {new} (Admitted start) link ask old answered is = λ t past.
       plan = ask.plan;
       is = ap (λ (s : State). s.held) (state-push old.entries e);
     } in
-    ap (λ (m : Moment). booked_after m.entries t) is
+    ap (λ (m : DayState). booked_after m.entries t) is
     ∙ play-stays old.entries old.heard t begun early past
 answered-past {new} (Overflow over booked asked) link ask old answered is =
     let e = entry_by ask.client (commands.Play old.heard ask.plan) (Overflow over booked asked) in
@@ -75,7 +76,7 @@ answered-past {new} (Looked now at booked) link ask old answered is =
     let e = entry_by ask.client (commands.Play old.heard ask.plan) (Looked now at booked) in
     same-past old new e old.states is (ap (λ (s : State). s.held) (state-push old.entries e))
 
-asked-past : {link : Link} {c : ℕ} {rest : Rest} {old new : Moment} {text : List ℕ}
+asked-past : {link : Link} {c : ℕ} {rest : Rest} {old new : DayState} {text : List ℕ}
     → IsAsked link c rest old new text → Past old new
 asked-past {c} {old} {new} {text} (inl faulty) = kept-past old new faulty.told.kept
 asked-past {link} {c} {rest} {old} {new} {text} (inr planned) = elim planned.done [
@@ -99,14 +100,14 @@ resume-past step c (Playing play) is = kept-past step.old step.new is.kept
 resume-past step c (Pausing stop rest) is = kept-past step.old step.new is.kept
 resume-past step c (Paused rest) is = asked-past is
 
-halted-past : {link : Link} {c : ℕ} {play : Play} {old new : Moment} {text : List ℕ} → c < 256
+halted-past : {link : Link} {c : ℕ} {play : Play} {old new : DayState} {text : List ℕ} → c < 256
     → get_or old.states c Idle ≡ Playing play → IsReady old
     → IsHaltedPlay link c play old new text → Past old new
 halted-past {c} {play} {old} {new} {text} client at ready is t past =
     let held = its-held c (omega (arith, client, ready.count)) at ready.balanced in
     let most = kept-most old.entries play is.keep held is.noted.answered in
     let sent : sent_by (booking_of play) old.heard ≤ is.keep = omega (arith, is.pause.boundary.after) in
-    ap (λ (m : Moment). booked_after m.entries t) is.noted.new_is
+    ap (λ (m : DayState). booked_after m.entries t) is.noted.new_is
     ∙ stays-halt old.entries c is.keep play held (record { sent = sent; most = most }) t past
 
 pause-past : {c : ℕ} {state : ClientState} (step : LineStep) → ClientOf step.old c state → IsReady step.old
@@ -116,7 +117,7 @@ pause-past {c} {state = Playing play} step own ready is = halted-past own.client
 pause-past {c} {state = Pausing stop rest} step own ready is = kept-past step.old step.new is.kept
 pause-past {c} {state = Paused rest} step own ready is = kept-past step.old step.new is.kept
 
-look-past : (link : Link) (slot : ℕ) (old new : Moment) (text : List ℕ) → IsLookLine link slot old new text
+look-past : (link : Link) (slot : ℕ) (old new : DayState) (text : List ℕ) → IsLookLine link slot old new text
     → Past old new
 look-past link slot old new text (inl full) = kept-past old new full.told.kept
 look-past link slot old new text (inr made) =
@@ -128,7 +129,7 @@ look-past link slot old new text (inr made) =
     look-held answer slot entries =
         ap (λ (s : State). s.held) (state-push entries (entry_by 0 (commands.Look slot) answer))
 
-offer-past : {link : Link} {rest : Rest} {wait : ℕ} {old new : Moment} {text : List ℕ}
+offer-past : {link : Link} {rest : Rest} {wait : ℕ} {old new : DayState} {text : List ℕ}
     → IsOfferLine link rest wait old new text → Past old new
 offer-past {old} {new} {text} (inl faulty) = kept-past old new faulty.told.kept
 offer-past {old} {new} {text} (inr offered) = kept-past old new offered.told.kept
@@ -142,7 +143,7 @@ line-past step (lines.Pause c) standing ready is =
 line-past step (lines.Resume c) standing ready is = resume-past step c (state_at step.old c) is
 line-past step (lines.Look slot) standing ready is = look-past step.link _ step.old step.new step.text is
 line-past step (lines.Slot slot) standing ready is = λ t past.
-    ap (λ (m : Moment). booked_after m.entries t) is.0
+    ap (λ (m : DayState). booked_after m.entries t) is.0
     ∙ slot-stays step.old slot t (omega (arith, standing.stands.0))
     (omega (arith, past, standing.stands.0)) ready.balanced
 line-past step (lines.Offer c source buffer delay wait) standing ready is =
@@ -172,7 +173,7 @@ done-past {c} {state = Pausing stop rest} step words own ready is = kept-past st
 done-past {c} {state = Paused rest} step words own ready is = resume-past step c (state_at step.old c) is
 
 -- a slot or none leaves what is booked up to it
-later-past : (old : Moment) (later t : ℕ) → IsReady old → t ≤ (at_later old later).heard
+later-past : (old : DayState) (later t : ℕ) → IsReady old → t ≤ (at_later old later).heard
     → booked_after (at_later old later).entries t ≡ booked_after old.entries t
 later-past old later t ready = past-if (later == 0)
   where
@@ -185,9 +186,9 @@ turn-past : {link : Link} {words : ℕ → ℕ} {turn : Turn} (t : ℕ) → IsTu
     → t ≤ turn.mid.heard
     → booked_after turn.new.entries t ≡ booked_after turn.old.entries t
 turn-past {link} {words} {turn} t is ready past =
-    let R : Moment → Type 0 = λ m. IsReady m in
+    let R : DayState → Type 0 = λ m. IsReady m in
     let mid : IsReady turn.mid = subst R (sym is.slot) (later-ready turn.old (words 0 % 4) ready) in
-    let P : Moment → Type 0 = λ m. t ≤ m.heard → booked_after m.entries t ≡ booked_after turn.old.entries t in
+    let P : DayState → Type 0 = λ m. t ≤ m.heard → booked_after m.entries t ≡ booked_after turn.old.entries t in
     let to-mid : P turn.mid = subst P (sym is.slot) (later-past turn.old (words 0 % 4) t ready) in
     done-past (record { link = link; old = turn.mid; new = turn.new; text = turn.text }) (words_after 2 words)
     (record { client = omega arith; at = refl }) mid is.done t past ∙ to-mid past
@@ -265,31 +266,31 @@ pub record AreBooked (booked : ℕ → ℕ) (turns : List Turn) (from to : ℕ) 
   pub sum_is : sum_by turn_booked turns ≡ sum_by booked (range_with_len (from + 1) (to - from))
   pub peak_is : fold max 0 (map turn_peak turns) ≡ fold max 0 (map booked (range_with_len (from + 1) (to - from)))
 
-pub turns-past : {turns : List Turn} {old : Moment} {booked : ℕ → ℕ} (link : Link) (words : ℕ → ℕ)
-    (new : Moment) → AreTurns link words turns old new → IsReady old
+pub turns-past : {turns : List Turn} {old : DayState} {booked : ℕ → ℕ} (link : Link) (words : ℕ → ℕ)
+    (new : DayState) → AreTurns link words turns old new → IsReady old
     → ((t : ℕ) → t ≤ new.heard → booked t ≡ booked_after new.entries t)
     → AreBooked booked turns old.heard new.heard × ((t : ℕ) → t ≤ old.heard → booked t ≡ booked_after old.entries t)
 turns-past {turns = []} {old} {booked} link words new run ready same =
-    let heard : new.heard ≡ old.heard = ap (λ (m : Moment). m.heard) run in
+    let heard : new.heard ≡ old.heard = ap (λ (m : DayState). m.heard) run in
     let none : new.heard - old.heard ≡ 0 = omega (arith, heard) in (
       record {
         order = omega (arith, heard);
         sum_is = sym (ap (λ k. sum_by booked (range_with_len (old.heard + 1) k)) none);
         peak_is = sym (ap (λ k. fold max 0 (map booked (range_with_len (old.heard + 1) k))) none);
       },
-      λ t past. same t (omega (arith, past, heard)) ∙ ap (λ (m : Moment). booked_after m.entries t) run,
+      λ t past. same t (omega (arith, past, heard)) ∙ ap (λ (m : DayState). booked_after m.entries t) run,
     )
 turns-past {turns = turn ∷ turns} {old} {booked} link words new run ready same =
-    let R : Moment → Type 0 = λ m. IsReady m in
+    let R : DayState → Type 0 = λ m. IsReady m in
     let begun : IsReady turn.old = subst R (sym run.0) ready in
     let is = run.1.0 in
     let rest = turns-past {turns = turns} {old = turn.new} {booked = booked} link (after_turn words turn) new
     run.1.1 (turn-ready link words turn is begun) same in
-    let from : turn.old.heard ≡ old.heard = ap (λ (m : Moment). m.heard) run.0 in
+    let from : turn.old.heard ≡ old.heard = ap (λ (m : DayState). m.heard) run.0 in
     let mid : turn.new.heard ≡ turn.mid.heard =
     done-heard (record { link = link; old = turn.mid; new = turn.new; text = turn.text }) (words_after 2 words)
     (client_of words) _ is.done in
-    let M : Moment → Type 0 = λ m. turn.old.heard ≤ m.heard in
+    let M : DayState → Type 0 = λ m. turn.old.heard ≤ m.heard in
     let later : turn.old.heard ≤ turn.mid.heard = subst M (sym is.slot) (later-heard turn.old (words 0 % 4)) in
     let here : (t : ℕ) → t ≤ turn.mid.heard → booked t ≡ booked_after turn.old.entries t =
     λ t past. rest.1 t (omega (arith, past, mid))
@@ -326,10 +327,10 @@ turns-past {turns = turn ∷ turns} {old} {booked} link words new run ready same
               ap (λ k. fold max 0 (map booked (range_with_len (turn.old.heard + 1) k))) whole,
             );
       }),
-      λ t past. here t (omega (arith, past, from, later)) ∙ ap (λ (x : Moment). booked_after x.entries t) run.0,
+      λ t past. here t (omega (arith, past, from, later)) ∙ ap (λ (x : DayState). booked_after x.entries t) run.0,
     )
 
-pub fair-past : {turns : List Turn} {evening : Moment} {journal : List Entry} (link : Link) (words : ℕ → ℕ)
+pub fair-past : {turns : List Turn} {evening : DayState} {journal : List Entry} (link : Link) (words : ℕ → ℕ)
     → AreTurns link words turns first_moment evening
     → journal ≡ last_journal evening → IsReady evening → AreBooked (booked_after journal) turns 0 evening.heard
 fair-past {evening} link words run is ready =
@@ -337,22 +338,22 @@ fair-past {evening} link words run is ready =
     (λ t past. ap (λ es. booked_after es t) is ∙ last-stays evening t past ready.balanced)).0
 
 -- ---- looks and offers
-pub look-leaves : (link : Link) (slot : ℕ) (old new : Moment) (text : List ℕ)
+pub look-leaves : (link : Link) (slot : ℕ) (old new : DayState) (text : List ℕ)
     → IsLine link (lines.Look slot) old new text
     → (new.states ≡ old.states) × (new.heard ≡ old.heard) × (state_after new.entries ≡ state_after old.entries)
 look-leaves link slot old new text (inl full) = (
-  ap (λ (m : Moment). m.states) full.told.kept,
-  ap (λ (m : Moment). m.heard) full.told.kept,
-  ap (λ (m : Moment). state_after m.entries) full.told.kept,
+  ap (λ (m : DayState). m.states) full.told.kept,
+  ap (λ (m : DayState). m.heard) full.told.kept,
+  ap (λ (m : DayState). state_after m.entries) full.told.kept,
 )
 look-leaves link slot old new text (inr made) = (
-  ap (λ (m : Moment). m.states) made.noted.new_is,
-  ap (λ (m : Moment). m.heard) made.noted.new_is,
-  ap (λ (m : Moment). state_after m.entries) made.noted.new_is
+  ap (λ (m : DayState). m.states) made.noted.new_is,
+  ap (λ (m : DayState). m.heard) made.noted.new_is,
+  ap (λ (m : DayState). state_after m.entries) made.noted.new_is
       ∙ state-push old.entries (entry_by 0 (commands.Look _) made.answer),
 )
 
-pub offer-leaves : {link : Link} {wait : ℕ} {old new : Moment} {text : List ℕ} (client source buffer delay : ℕ)
+pub offer-leaves : {link : Link} {wait : ℕ} {old new : DayState} {text : List ℕ} (client source buffer delay : ℕ)
     → IsLine link (lines.Offer client source buffer delay wait) old new text → new ≡ old
 offer-leaves client source buffer delay (inl faulty) = faulty.told.kept
 offer-leaves client source buffer delay (inr offered) = offered.told.kept

@@ -8,26 +8,26 @@ use Rattle.std.specs.Option.{option_and_then}
 use Rattle.std.specs.Str.{bytes_eq}
 use Rattle.std.proofs.lemmas.Bool.{cases_Bool, false_from_ne_true, ltb-true}
 use Rattle.std.proofs.lemmas.List.{get_or_at, length-append, length-map, take_at}
-use Rattle.vod_base.specs.Names.{is_good_name}
+use Rattle.vod_base.specs.Names.{good_name}
 use Rattle.day_run.specs.declared.scripts.Line.{Line}
 use Rattle.day_run.specs.declared.scripts.Line.TheVariants.{Play, Pause, Resume, Look, Slot, Offer}
-use Rattle.day_run.specs.Lines.{lines_of_script}
-use Rattle.day_run.specs.Readings.{IsBadLine, Name, Reading, line_read, lines_read, nothing_read}
-use Rattle.day_run.specs.Readings.{with_saying, with_words}
-use Rattle.day_run.specs.Sayings.{asked_in, pair_in, saying_in}
+use Rattle.day_run.specs.TextLines.{lines_of_script}
+use Rattle.day_run.specs.ScriptReading.{IsBadLine, Name, Reading, line_read, lines_read, nothing_read}
+use Rattle.day_run.specs.ScriptReading.{with_message, with_words}
+use Rattle.day_run.specs.MessageWords.{asked_in, pair_in, message_in}
 use Rattle.day_run.specs.Scripts.{latest_slot}
-use Rattle.day_run.specs.Spelling.{AreWritten, IsAskedInWords, IsAsking, IsInWords, MayStand}
-use Rattle.day_run.specs.Spelling.{is_verb, is_word, kind_text}
-use Rattle.day_run.specs.Spelling.{line_text, name_at, names_used, script_text, words_text, words_of}
-use Rattle.day_run.proofs.SpelledLines.{spaced-line}
-use Rattle.day_run.proofs.SpelledWords.{kind-back, read-or, words-plain}
-use Rattle.day_run.proofs.SpelledScripts.{ReadSoFar, asked-of, line-words, read_so_far, text-read}
-use Rattle.day_run.proofs.SpelledScripts.{texts-lines, texts-read}
+use Rattle.day_run.specs.ScriptText.{AreWritten, IsAskedInWords, IsAsking, IsInWords, MayStand}
+use Rattle.day_run.specs.ScriptText.{is_verb, is_word, kind_text}
+use Rattle.day_run.specs.ScriptText.{line_text, name_at, names_used, script_text, words_text, words_of}
+use Rattle.day_run.proofs.LineTextLemmas.{spaced-line}
+use Rattle.day_run.proofs.WordReadBack.{kind-back, read-or, words-plain}
+use Rattle.day_run.proofs.ScriptReadBack.{ReadSoFar, asked-of, line-words, read_so_far, text-read}
+use Rattle.day_run.proofs.ScriptReadBack.{texts-lines, texts-read}
 
 -- ---- a line that may not stand there
 abbrev IsAskedOr : Name → ℕ → ℕ → ℕ → Type 0
 IsAskedOr name client buffer delay =
-    ((good : is_good_name name.name ≡ true) → IsAsking name client buffer delay)
+    ((good : good_name name.name ≡ true) → IsAsking name client buffer delay)
     × (asked_in (decimal client) (kind_text name.kind) (decimal buffer) (decimal delay)
     ≡ Some (asked-of name client buffer delay))
 
@@ -54,7 +54,7 @@ pair-bad : (r : Reading) (names : List Name) (line : Line) → IsInWords names l
 pair-bad r names (Play client source buffer delay) own not =
     elim (asked-or (name_at names source) client buffer delay own) [
       | inr bad ↦ rw bad.1 refl
-      | inl asked ↦ elim (cases_Bool (is_good_name (name_at names source).name)) [
+      | inl asked ↦ elim (cases_Bool (good_name (name_at names source).name)) [
         | inl good ↦ absurd (not (asked.0 good))
         | inr ill ↦ rw asked.1 (rw ill refl)
       ]
@@ -81,7 +81,7 @@ pair-bad r names (Offer client source buffer delay wait) own not =
       | inr bad ↦ rw bad.1 refl
       | inl asked ↦ elim (read-or 0 255 wait own.1) [
         | inr out ↦ rw asked.1 (rw out.1 refl)
-        | inl fits ↦ elim (cases_Bool (is_good_name (name_at names source).name)) [
+        | inl fits ↦ elim (cases_Bool (good_name (name_at names source).name)) [
           | inl good ↦ absurd (not (asked.0 good, fits.1))
           | inr ill ↦ rw asked.1 (rw fits.2 (rw ill refl))
         ]
@@ -128,7 +128,7 @@ two-words verb =
 
 -- words of which the first is no verb of lines of so many words say nothing
 pub verb-unknown : (verb : List ℕ) (words : List (List ℕ)) → is_verb (length (verb ∷ words)) verb ≡ false
-    → saying_in (verb ∷ words) ≡ None
+    → message_in (verb ∷ words) ≡ None
 verb-unknown verb [] unknown = refl
 verb-unknown verb (b ∷ []) unknown = pair-unknown verb b unknown
 verb-unknown verb (b ∷ c ∷ []) unknown = refl
@@ -203,6 +203,6 @@ verb-bad script spoken rest =
     let r = read_so_far script.names script.lines (names_used script.lines) (latest_slot script.lines) in
     first-bad rest script.written (spaced-line (verb ∷ words) rest plain)
     (text-read r verb words some plain
-    ∙ ap (option_and_then (with_saying r (verb ∷ words))) (verb-unknown verb words unknown))
+    ∙ ap (option_and_then (with_message r (verb ∷ words))) (verb-unknown verb words unknown))
   where
     open spoken use {verb, words, plain, some, unknown}

@@ -8,7 +8,7 @@ use Rattle.std.proofs.lemmas.List.{get_or-map, get_or-replicate, get_or-set_othe
 use Rattle.std.proofs.lemmas.List.{length-map, length-take, take_all}
 use Rattle.std.proofs.lemmas.List.Elements.{All-from_get_or}
 use Rattle.plan_cert.specs.declared.Segment.{Segment}
-use Rattle.plan_cert.specs.Slots.{plan_slots, sum_through, total_bytes, total_slots}
+use Rattle.plan_cert.specs.PlanSlots.{plan_slots, sum_through, total_bytes, total_slots}
 use Rattle.plan_cert.proofs.SlotSums.{length-plan_slots, sum-plan_slots}
 use Rattle.wire_curve.specs.declared.film.Timing.{Timing}
 use Rattle.film_frames.specs.Tracks.{IsBoundary}
@@ -16,32 +16,32 @@ use Rattle.film_run.specs.Laws.{IsSending}
 use Rattle.film_run.specs.Pauses.{IsHalt}
 use Rattle.film_run.specs.Plans.{IsPlanOf, IsTautFor, rest_sizes, timing_of}
 use Rattle.film_run.specs.Runs.{bytes_between}
-use Rattle.film_run.proofs.SumLaws.{bytes-none}
-use Rattle.film_run.proofs.LeftLaws.{halted-plays}
+use Rattle.film_run.proofs.SumLemmas.{bytes-none}
+use Rattle.film_run.proofs.RemainingRunLemmas.{halted-plays}
 use Rattle.slot_calendar.specs.Plays.{Play as Booked, sent_before}
 use Rattle.admission.specs.declared.entries.Answer.{Answer}
 use Rattle.admission.specs.declared.entries.Answer.TheVariants.{Admitted, Overflow, Halted, Looked}
 use Rattle.admission.specs.declared.entries.Command.TheVariants as commands
 use Rattle.admission.specs.declared.entries.Entry.{Entry}
 use Rattle.admission.specs.Histories.{IsAnswered, state_after}
-use Rattle.admission.specs.Machine.{CanHalt, Held, admitted_play, held_as}
+use Rattle.admission.specs.Machine.{CanHalt, AdmittedPlay, admitted_play, play_numbered}
 use Rattle.day_run.specs.declared.scripts.Line.{Line}
 use Rattle.day_run.specs.declared.scripts.Line.TheVariants as lines
-use Rattle.day_run.specs.Balanced.{AreHeldOf, IsHeld, IsReady}
+use Rattle.day_run.specs.BookingBalance.{AreHeldOf, IsHeld, IsReady}
 use Rattle.day_run.specs.DayLaws.{IsLink, IsSoundPlay, IsSoundRest, IsSoundClient}
-use Rattle.day_run.specs.Days.{AreRun, IsAsked, IsHaltedPlay, IsLine, IsLookLine, IsOfferLine}
-use Rattle.day_run.specs.Days.{IsPauseLine, IsResumeLine, Link, Moment, at_slot}
+use Rattle.day_run.specs.Days.{AreLineSteps, IsAsked, IsHaltedPlay, IsLine, IsLookLine, IsOfferLine}
+use Rattle.day_run.specs.Days.{IsPauseLine, IsResumeLine, Link, DayState, at_slot}
 use Rattle.day_run.specs.Days.{entry_by, first_moment, rest_at, state_at, with_play}
 use Rattle.day_run.specs.Scripts.{IsWish}
 use Rattle.day_run.specs.ClientStates.{Idle, Playing, Pausing, Paused, IsPause, Play, Rest}
 use Rattle.day_run.specs.ClientStates.{ClientState, after_play, after_sending, booking_of, is_done}
-use Rattle.day_run.specs.ClientStates.{no_reel, sent_by, slot_sent}
-use Rattle.day_run.proofs.BalancedLines.{heard-after, line-ready, morning-ready, slot-ready}
-use Rattle.day_run.proofs.Takings.{ClientOf, IsPlayTaken, LineStep, LinesTaken, StandingLine, StandingLines}
-use Rattle.day_run.proofs.Takings.{first-standing, rest-standing, standing-of}
+use Rattle.day_run.specs.ClientStates.{no_medium, sent_by, slot_sent}
+use Rattle.day_run.proofs.LineBalance.{heard-after, line-ready, morning-ready, slot-ready}
+use Rattle.day_run.proofs.ScriptLineFacts.{ClientOf, IsPlayTaken, LineStep, LinesTaken, StandingLine, StandingLines}
+use Rattle.day_run.proofs.ScriptLineFacts.{first-standing, rest-standing, standing-of}
 
 -- ---- what holds of the clients
-pub record IsSound (m : Moment) : Type 0 where
+pub record IsSound (m : DayState) : Type 0 where
   pub ready : IsReady m
   pub each : (c : ℕ) → c < 256 → IsSoundClient m.heard (get_or m.states c Idle)
 
@@ -68,9 +68,9 @@ set-sound {heard} {c} {state} states count own each d inside = elim (cases_eq d 
       subst S (sym (get_or-set_other states c d state Idle other)) (each d inside)
 ]
 
-kept-states : (old new : Moment) → new ≡ old → AreStates old.heard old.states → AreStates new.heard new.states
+kept-states : (old new : DayState) → new ≡ old → AreStates old.heard old.states → AreStates new.heard new.states
 kept-states old new kept each =
-    let M : Moment → Type 0 = λ m. AreStates m.heard m.states in
+    let M : DayState → Type 0 = λ m. AreStates m.heard m.states in
     subst M (sym kept) each
 
 -- a client asks for what can be sent, by its plan
@@ -80,7 +80,7 @@ record SoundAsking (rest : Rest) (plan : List Segment) (c : ℕ) : Type 0 where
   plan_is : IsPlanOf rest.sizes rest.playback rest.run plan
 
 -- ---- a play that begins
-answered-states : {rest : Rest} {plan : List Segment} {old : Moment} {c : ℕ} (answer : Answer) (link : Link)
+answered-states : {rest : Rest} {plan : List Segment} {old : DayState} {c : ℕ} (answer : Answer) (link : Link)
     → SoundAsking rest plan c → IsSound old
     → IsAnswered link.steps (state_after old.entries) (entry_by c (commands.Play old.heard plan) answer)
     → AreStates old.heard (with_play c rest plan (length old.entries) answer old.states)
@@ -94,14 +94,14 @@ answered-states (Overflow over booked asked) link ask sound answer = sound.each
 answered-states Halted link ask sound answer = sound.each
 answered-states (Looked now at booked) link ask sound answer = sound.each
 
-asked-states : {link : Link} {c : ℕ} {rest : Rest} {old new : Moment} {text : List ℕ} → c < 256
+asked-states : {link : Link} {c : ℕ} {rest : Rest} {old new : DayState} {text : List ℕ} → c < 256
     → (0 < length (rest_sizes rest.sizes rest.run) → IsSoundRest rest)
     → IsSound old → IsAsked link c rest old new text → AreStates new.heard new.states
 asked-states {c} {old} {new} {text} client own sound (inl faulty) = kept-states old new faulty.told.kept sound.each
 asked-states {link} {c} {old} {new} {text} client own sound (inr planned) = elim planned.done [
   | inl full ↦ kept-states old new full.told.kept sound.each
   | inr made ↦
-      let M : Moment → Type 0 = λ m. AreStates m.heard m.states in
+      let M : DayState → Type 0 = λ m. AreStates m.heard m.states in
       subst M (sym made.noted.new_is)
       (answered-states {c = c} made.answer link (record {
         client = client;
@@ -184,11 +184,11 @@ halt-if {b = false} {play} {heard} late sound pause most =
 
 -- the bytes that are kept are those of the plan at most
 pub kept-most : (entries : List Entry) (play : Play) (keep : ℕ)
-    → held_as play.number (state_after entries).held ≡ Some (admitted_play play.number play.start play.plan)
+    → play_numbered play.number (state_after entries).held ≡ Some (admitted_play play.number play.start play.plan)
     → CanHalt (state_after entries) play.number keep → keep ≤ total_bytes play.plan
 kept-most entries play keep held can =
-    let P : Option Held → Type 0 =
-    λ o. IsSomeAnd o (λ (h : Held). IsTrue h.is_open × (keep ≤ total_bytes h.play.segments)) in
+    let P : Option AdmittedPlay → Type 0 =
+    λ o. IsSomeAnd o (λ (h : AdmittedPlay). IsTrue h.is_open × (keep ≤ total_bytes h.play.segments)) in
     (subst P held can).1
 
 left-sound : {play : Play} {heard keep : ℕ} {state : ClientState} → IsSoundPlay heard play
@@ -211,7 +211,7 @@ pausing-sound : (heard slot : ℕ) (b : Bool) (stop : Booked) (rest : Rest) → 
 pausing-sound heard slot true stop rest own = own
 pausing-sound heard slot false stop rest own = own
 
-halted-states : {link : Link} {c : ℕ} {play : Play} {old new : Moment} {text : List ℕ} → c < 256
+halted-states : {link : Link} {c : ℕ} {play : Play} {old new : DayState} {text : List ℕ} → c < 256
     → get_or old.states c Idle ≡ Playing play → IsSound old
     → IsHaltedPlay link c play old new text → AreStates new.heard new.states
 halted-states {c} {play} {old} {new} {text} client at sound is =
@@ -224,7 +224,7 @@ halted-states {c} {play} {old} {new} {text} client at sound is =
     let rest = left-sound own is.pause most in
     let state : IsSoundClient old.heard is.state =
     subst P (sym is.pause.state_is) (pausing-sound old.heard old.heard _ _ _ rest) in
-    let M : Moment → Type 0 = λ m. AreStates m.heard m.states in
+    let M : DayState → Type 0 = λ m. AreStates m.heard m.states in
     subst M (sym is.noted.new_is)
     (set-sound old.states sound.ready.count (record { client = client; sound = state }) sound.each)
 
@@ -247,7 +247,7 @@ state-slot heard slot (Playing play) own = done-if slot play (is_done slot play)
 state-slot heard slot (Pausing stop rest) own = pause-if slot (sent_by stop slot == stop.keep) stop rest own
 state-slot heard slot (Paused rest) own = own
 
-slot-states : (old : Moment) (slot : ℕ) → IsSound old → AreStates slot (at_slot old slot).states
+slot-states : (old : DayState) (slot : ℕ) → IsSound old → AreStates slot (at_slot old slot).states
 slot-states old slot sound c client =
     let inside : c < length old.states = omega (arith, client, sound.ready.count) in
     let within : c < length (map (after_sending slot) old.states) =
@@ -257,27 +257,27 @@ slot-states old slot sound c client =
     ∙ ap (after_play slot) (get_or-map (after_sending slot) old.states c Idle Idle inside)))
     (state-slot old.heard slot (get_or old.states c Idle) (sound.each c client))
 
-pub slot-sound : (old : Moment) (slot : ℕ) → old.heard ≤ slot → IsSound old → IsSound (at_slot old slot)
+pub slot-sound : (old : DayState) (slot : ℕ) → old.heard ≤ slot → IsSound old → IsSound (at_slot old slot)
 slot-sound old slot later sound = record {
   ready = slot-ready old (at_slot old slot) slot later refl sound.ready;
   each = slot-states old slot sound;
 }
 
 -- ---- all of a reel
-pub whole-sound : {link : Link} {source buffer delay : ℕ} → IsLink link → IsWish (length link.reels) source buffer delay
+pub whole-sound : {link : Link} {source buffer delay : ℕ} → IsLink link → IsWish (length link.media) source buffer delay
     → 0 < length (rest_sizes (rest_at link source buffer delay).sizes (rest_at link source buffer delay).run)
     → IsSoundRest (rest_at link source buffer delay)
 whole-sound {link} {source} {buffer} {delay} link-is wish some =
     let rest = rest_at link source buffer delay in
-    let reel = link-is.reels source no_reel wish.inside in
+    let medium = link-is.media source no_medium wish.inside in
     let count : 0 < length rest.sizes = omega (arith, some, length-take (length rest.sizes - 0) (drop 0 rest.sizes)) in
     let none : bytes_between rest.sizes 0 0 ≡ 0 = bytes-none rest.sizes 0 in
     record {
       can = record {
-        sizes_are = reel.sizes;
+        sizes_are = medium.sizes;
         playback_is = record {
-          some_picture_units = reel.some_picture_units;
-          picture_units_fit = reel.picture_units_fit;
+          some_picture_units = medium.some_picture_units;
+          picture_units_fit = medium.picture_units_fit;
           some_slot_units = link-is.some_slot_units;
           slot_units_fit = link-is.slot_units_fit;
           some_buffer = wish.some_buffer;
@@ -323,21 +323,21 @@ pause-states {c} {state = Playing play} step own sound is = halted-states own.cl
 pause-states {c} {state = Pausing stop rest} step own sound is = kept-states step.old step.new is.kept sound.each
 pause-states {c} {state = Paused rest} step own sound is = kept-states step.old step.new is.kept sound.each
 
-look-states : {link : Link} {slot : ℕ} {old new : Moment} {text : List ℕ} → IsSound old
+look-states : {link : Link} {slot : ℕ} {old new : DayState} {text : List ℕ} → IsSound old
     → IsLookLine link slot old new text → AreStates new.heard new.states
 look-states {slot} {old} {new} {text} sound (inl full) = kept-states old new full.told.kept sound.each
 look-states {slot} {new} {text} sound (inr made) =
-    let M : Moment → Type 0 = λ m. AreStates m.heard m.states in
+    let M : DayState → Type 0 = λ m. AreStates m.heard m.states in
     subst M (sym made.noted.new_is) sound.each
 
-offer-states : {link : Link} {rest : Rest} {wait : ℕ} {old new : Moment} {text : List ℕ} → IsSound old
+offer-states : {link : Link} {rest : Rest} {wait : ℕ} {old new : DayState} {text : List ℕ} → IsSound old
     → IsOfferLine link rest wait old new text → AreStates new.heard new.states
 offer-states {old} {new} {text} sound (inl faulty) = kept-states old new faulty.told.kept sound.each
 offer-states {old} {new} {text} sound (inr offered) = kept-states old new offered.told.kept sound.each
 
 -- ---- lines leave the clients sound
 line-states : (step : LineStep) (line : Line) → IsLink step.link
-    → StandingLine step.old.heard (length step.link.reels) line → IsSound step.old
+    → StandingLine step.old.heard (length step.link.media) line → IsSound step.old
     → IsLine step.link line step.old step.new step.text → AreStates step.new.heard step.new.states
 line-states step (lines.Play c source buffer delay) link-is standing sound is =
     play-states step (state_at step.old c) standing.client (whole-sound link-is standing.stands) sound is
@@ -347,13 +347,13 @@ line-states step (lines.Resume c) link-is standing sound is =
     resume-states step (record { client = standing.client; at = refl }) sound is
 line-states step (lines.Look slot) link-is standing sound is = look-states sound is
 line-states step (lines.Slot slot) link-is standing sound is =
-    let M : Moment → Type 0 = λ m. AreStates m.heard m.states in
+    let M : DayState → Type 0 = λ m. AreStates m.heard m.states in
     subst M (sym is.0) (slot-states step.old slot sound)
 line-states step (lines.Offer c source buffer delay wait) link-is standing sound is =
     offer-states sound is
 
 pub line-sound : (step : LineStep) (line : Line) → IsLink step.link
-    → StandingLine step.old.heard (length step.link.reels) line → IsSound step.old
+    → StandingLine step.old.heard (length step.link.media) line → IsSound step.old
     → IsLine step.link line step.old step.new step.text → IsSound step.new
 line-sound step line link-is standing sound is = record {
   ready = line-ready step line standing is sound.ready;
@@ -361,10 +361,10 @@ line-sound step line link-is standing sound is = record {
 }
 
 -- after lines, all clients are sound
-run-sound : {link : Link} {old new : Moment} (ls : List Line) (texts : List (List ℕ)) → IsLink link
-    → StandingLines old.heard (length link.reels) ls → IsSound old → AreRun link ls texts old new → IsSound new
+run-sound : {link : Link} {old new : DayState} (ls : List Line) (texts : List (List ℕ)) → IsLink link
+    → StandingLines old.heard (length link.media) ls → IsSound old → AreLineSteps link ls texts old new → IsSound new
 run-sound {new} [] [] link-is standing sound run =
-    let S : Moment → Type 0 = λ m. IsSound m in
+    let S : DayState → Type 0 = λ m. IsSound m in
     subst S (sym run) sound
 run-sound {new} [] (t ∷ ts) link-is standing sound run = absurd run
 run-sound {new} (l ∷ ls) [] link-is standing sound run = absurd run
@@ -379,7 +379,7 @@ idle-sound c client =
     let S : ClientState → Type 0 = λ s. IsSoundClient 0 s in
     subst S (sym (get_or-replicate 256 c Idle Idle client)) tt
 
-pub day-sound : {link : Link} (taken : LinesTaken link (length link.reels)) (c : ℕ) → IsLink link → c < 256
+pub day-sound : {link : Link} (taken : LinesTaken link (length link.media)) (c : ℕ) → IsLink link → c < 256
     → IsSoundClient taken.moment.heard (state_at taken.moment c)
 day-sound taken c link-is inside =
     let morning : IsSound first_moment = record { ready = morning-ready; each = idle-sound } in

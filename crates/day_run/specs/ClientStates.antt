@@ -2,34 +2,34 @@
 use Rattle.std.specs.Prelude.{ℕ, ◌+◌, ◌-◌, min, nat_lt, nat_le, ◌&&◌, ◌==◌, Bool, true, false, ◌≡◌}
 use Rattle.std.specs.Prelude.{if◌then◌else◌, List, [], length, Option, Some, None}
 use Rattle.plan_cert.specs.declared.Segment.{Segment}
-use Rattle.plan_cert.specs.Slots.{total_bytes}
-use Rattle.mpeg_scan.specs.Rates.{picture_time}
+use Rattle.plan_cert.specs.PlanSlots.{total_bytes}
+use Rattle.mpeg_scan.specs.PictureRates.{picture_time}
 use Rattle.film_frames.specs.Tracks.{IsBoundaryAfter, zero_frames}
-use Rattle.film_run.specs.Pauses.{IsLeft}
+use Rattle.film_run.specs.Pauses.{IsRemainingRun}
 use Rattle.film_run.specs.Units.{stored_sizes}
 use Rattle.film_run.specs.declared.plans.Playback.{Playback}
 use Rattle.film_run.specs.declared.runs.Run.{Run}
-use Rattle.slot_calendar.specs.Plays.{Play as Booked, cut_play, sent_before, whole_play}
-use Rattle.day_run.specs.Reels.{film_pieces}
-use Rattle.day_run.specs.declared.reels.Source.{Source}
-use Rattle.day_run.specs.declared.reels.Source.TheVariants.{Film, Trace}
+use Rattle.slot_calendar.specs.Plays.{Play as Booked, truncated_play, sent_before, whole_play}
+use Rattle.day_run.specs.MediaPieces.{film_pieces}
+use Rattle.day_run.specs.declared.media.Source.{Source}
+use Rattle.day_run.specs.declared.media.Source.TheVariants.{Film, Trace}
 
 -- A film or trace as it is played: the sizes of its units on the wire, the frames and reports by
 -- which they are sent, and the time of a picture in 1/360,000 s.
-pub record ReelContent : Type 0 where
+pub record MediaContent : Type 0 where
   pub sizes : List ℕ
   pub pieces : List (List ℕ)
   pub picture_units : ℕ
 
-abbrev pub no_reel : ReelContent
-no_reel = record { sizes = []; pieces = []; picture_units = 0 }
+abbrev pub no_medium : MediaContent
+no_medium = record { sizes = []; pieces = []; picture_units = 0 }
 
 -- a trace has one picture a slot
-abbrev pub trace_content : ℕ → List ℕ → ReelContent
+abbrev pub trace_content : ℕ → List ℕ → MediaContent
 trace_content slot_units sizes =
     record { sizes = sizes; pieces = zero_frames sizes; picture_units = slot_units }
 
-abbrev pub source_content : ℕ → Source → ReelContent
+abbrev pub source_content : ℕ → Source → MediaContent
 source_content slot_units (Film stored) =
     record {
       sizes = stored_sizes stored;
@@ -46,19 +46,19 @@ pub record Rest : Type 0 where
   pub run : Run
 
 -- all of a reel, for a client with such a buffer and start delay
-abbrev pub whole_rest : ℕ → ReelContent → ℕ → ℕ → Rest
-whole_rest slot_units reel buffer delay = record {
-  sizes = reel.sizes;
-  pieces = reel.pieces;
+abbrev pub whole_rest : ℕ → MediaContent → ℕ → ℕ → Rest
+whole_rest slot_units medium buffer delay = record {
+  sizes = medium.sizes;
+  pieces = medium.pieces;
   playback = record {
-    picture_units = reel.picture_units;
+    picture_units = medium.picture_units;
     slot_units = slot_units;
     buffer = buffer;
     delay = delay;
   };
   run = record {
     first_unit = 0;
-    end_unit = length reel.sizes;
+    end_unit = length medium.sizes;
     from_unit = 0;
     sent = 0;
     played = 0;
@@ -149,7 +149,9 @@ pub record IsPause (play : Play) (heard keep : ℕ) (state : ClientState) : Type
   pub boundary : IsBoundaryAfter play.rest.pieces (play.rest.run.sent
       + sent_by (booking_of play) heard) (play.rest.run.sent + keep)
   pub left : Run
-  pub left_is : IsLeft play.rest.sizes play.rest.playback play.rest.run play.plan
+  pub left_is : IsRemainingRun play.rest.sizes play.rest.playback play.rest.run play.plan
       (slot_sent play.start heard) keep left
   pub state_is : state ≡
-      pausing_state heard (cut_play play.start play.plan keep) (record play.rest { run = left })
+      pausing_state heard (truncated_play play.start play.plan keep) (record play.rest {
+        run = left;
+      })

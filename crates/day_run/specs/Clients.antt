@@ -3,12 +3,12 @@
 use Rattle.std.specs.Prelude.{ℕ, ◌≡◌, ◌+◌, ◌-◌, ◌<◌, ◌≤◌, false, List, [], length, map, sum, sum_by}
 use Rattle.std.specs.Prelude.{slice_index_or, Option, Some, None}
 use Rattle.plan_cert.specs.declared.Segment.{Segment}
-use Rattle.plan_cert.specs.Slots.{total_bytes}
-use Rattle.slot_calendar.specs.Plays.{cut_play}
+use Rattle.plan_cert.specs.PlanSlots.{total_bytes}
+use Rattle.slot_calendar.specs.Plays.{truncated_play}
 use Rattle.film_frames.specs.Tracks.{IsBoundary}
 use Rattle.film_run.specs.Runs.{Fits, IsRun}
 use Rattle.film_run.specs.Plans.{IsPlanOf, IsPlayback}
-use Rattle.pacer.specs.Pacings.{IsPacing, is_done}
+use Rattle.pacer.specs.PacerStates.{IsPacerState, is_done}
 use Rattle.admission.specs.declared.entries.Entry.{Entry}
 use Rattle.admission.specs.Books.{Journal}
 use Rattle.admission.specs.Histories.{state_after}
@@ -18,10 +18,10 @@ use Rattle.day_run.specs.declared.clients.Client.TheVariants.{Idle, Playing, Pau
 use Rattle.day_run.specs.declared.clients.Halt.{Halt}
 use Rattle.day_run.specs.declared.clients.Play.{Play}
 use Rattle.day_run.specs.declared.clients.Rest.{Rest}
-use Rattle.day_run.specs.declared.clients.Stop.{Stop}
+use Rattle.day_run.specs.declared.clients.PausingPlay.{PausingPlay}
 use Rattle.day_run.specs.declared.clients.HaltedPlays.{HaltedPlays}
 use Rattle.day_run.specs.declared.clients.HaltedPlays.TheVariants.{Done, Open}
-use Rattle.day_run.specs.Reels.{reel_pieces, reel_sizes}
+use Rattle.day_run.specs.MediaPieces.{media_pieces, media_sizes}
 use Rattle.day_run.specs.ClientStates as states
 use Rattle.day_run.specs.Days.{done_halt, halt_by, open_halt}
 
@@ -29,33 +29,33 @@ use Rattle.day_run.specs.Days.{done_halt, halt_by, open_halt}
 -- were sent, and what was sent and isn't played fits in the client's buffer.
 pub record IsRest (rest : Rest) : Type 0 where
   pub playback : IsPlayback rest.playback
-  pub run : IsRun (reel_sizes rest.reel.now) rest.run
+  pub run : IsRun (media_sizes rest.medium.now) rest.run
   pub first : rest.run.first_unit ≡ 0
-  pub end : rest.run.end_unit ≡ length (reel_sizes rest.reel.now)
-  pub boundary : IsBoundary (reel_pieces rest.reel.now) rest.run.sent
+  pub end : rest.run.end_unit ≡ length (media_sizes rest.medium.now)
+  pub boundary : IsBoundary (media_pieces rest.medium.now) rest.run.sent
   pub fits : Fits rest.playback.buffer rest.run
 
 -- the plan by which a rest is sent, which sends all of it
 pub record IsPlanFor (rest : Rest) (plan : List Segment) : Type 0 where
-  pub plan_is : IsPlanOf (reel_sizes rest.reel.now) rest.playback rest.run plan
-  pub whole : rest.run.sent + total_bytes plan ≡ sum (reel_sizes rest.reel.now)
+  pub plan_is : IsPlanOf (media_sizes rest.medium.now) rest.playback rest.run plan
+  pub whole : rest.run.sent + total_bytes plan ≡ sum (media_sizes rest.medium.now)
 
 -- a play sends the plan of its rest, and has sent all that is due
 pub record IsPlaying (play : Play) : Type 0 where
   pub rest : IsRest play.rest
-  pub plan : IsPlanOf (reel_sizes play.rest.reel.now) play.rest.playback play.rest.run play.plan
+  pub plan : IsPlanOf (media_sizes play.rest.medium.now) play.rest.playback play.rest.run play.plan
   pub plan_is : play.pacer.plan ≡ play.plan
-  pub pieces_are : play.pacer.pieces ≡ reel_pieces play.rest.reel.now
+  pub pieces_are : play.pacer.pieces ≡ media_pieces play.rest.medium.now
   pub before_is : play.pacer.before ≡ play.rest.run.sent
   pub whole : play.pacer.keep ≡ total_bytes play.plan
-  pub pacing : IsPacing play.pacer
+  pub pacing : IsPacerState play.pacer
   pub all_sent : play.pacer.sent ≡ play.pacer.due
 
 -- a play that was halted sends up to what it keeps
-pub record IsStopping (stop : Stop) : Type 0 where
+pub record IsStopping (stop : PausingPlay) : Type 0 where
   pub rest : IsRest stop.rest
   pub keep_is : stop.pacer.keep ≡ stop.keep
-  pub pacing : IsPacing stop.pacer
+  pub pacing : IsPacerState stop.pacer
   pub all_sent : stop.pacer.sent ≡ stop.pacer.due
 
 -- a client's sending goes on soundly
@@ -126,8 +126,8 @@ pub record AreIdle (clients : List Client) : Type 0 where
 -- what is left of a client's rest, and what the client does, in the words of a day
 abbrev pub rest_of : Rest → states.Rest
 rest_of rest = record {
-  sizes = reel_sizes rest.reel.now;
-  pieces = reel_pieces rest.reel.now;
+  sizes = media_sizes rest.medium.now;
+  pieces = media_pieces rest.medium.now;
   playback = rest.playback;
   run = rest.run;
 }
@@ -144,7 +144,7 @@ abbrev pub state_of : Client → states.ClientState
 state_of Idle = states.Idle
 state_of (Playing play) = states.Playing (play_of play)
 state_of (Pausing stop) =
-    states.Pausing (cut_play stop.pacer.start stop.pacer.plan stop.keep) (rest_of stop.rest)
+    states.Pausing (truncated_play stop.pacer.start stop.pacer.plan stop.keep) (rest_of stop.rest)
 state_of (Paused rest) = states.Paused (rest_of rest)
 
 -- a client's play has come to the slot that was heard last

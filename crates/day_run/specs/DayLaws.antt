@@ -9,22 +9,23 @@ use Rattle.early_start.specs.declared.Tried.{Tried}
 use Rattle.vod_base.specs.Fields.{field}
 use Rattle.slot_calendar.specs.Calendars.{HasRoom, IsFirstOverflow}
 use Rattle.plan_cert.specs.declared.Segment.{Segment}
-use Rattle.slot_calendar.specs.declared.profiles.CapacityStep.{CapacityStep}
+use Rattle.slot_calendar.specs.declared.profiles.CapStep.{CapStep}
 use Rattle.slot_calendar.specs.Profiles.{capacity_at}
 use Rattle.admission.specs.declared.entries.Entry.{Entry}
-use Rattle.day_run.specs.declared.counts.Counts.{Counts}
-use Rattle.plan_cert.specs.Slots.{sum_through, total_bytes}
+use Rattle.day_run.specs.declared.fair_totals.FairTotals.{FairTotals}
+use Rattle.plan_cert.specs.PlanSlots.{sum_through, total_bytes}
 use Rattle.film_run.specs.Units.{AreUnitSizes}
-use Rattle.day_run.specs.Days.{AreRun, IsLine, IsTold, Link, Moment, booked_up_to, first_moment}
+use Rattle.day_run.specs.Days.{AreLineSteps, IsLine, IsTold, Link, DayState, booked_up_to}
+use Rattle.day_run.specs.Days.{first_moment}
 use Rattle.day_run.specs.Days.{sent_up_to}
 use Rattle.film_frames.specs.Tracks.{IsBoundary}
 use Rattle.film_run.specs.Plans.{CanPlay, IsPlanOf}
 use Rattle.day_run.specs.ClientStates.{ClientState, Idle, Playing, Pausing, Paused}
 use Rattle.day_run.specs.ClientStates.{Play as ClientPlay, Rest}
-use Rattle.day_run.specs.ClientStates.{ReelContent, source_content}
+use Rattle.day_run.specs.ClientStates.{MediaContent, source_content}
 use Rattle.day_run.specs.FairDays.{Turn, at_later, entry_counts_of}
-use Rattle.day_run.specs.Prints.{fair_text, start_words, tried_text}
-use Rattle.day_run.specs.declared.reels.Source.{Source}
+use Rattle.day_run.specs.LineTexts.{fair_text, start_words, tried_text}
+use Rattle.day_run.specs.declared.media.Source.{Source}
 use Rattle.day_run.specs.declared.scripts.Line.{Line}
 use Rattle.day_run.specs.declared.scripts.Line.TheVariants.{Play, Pause, Resume, Look, Slot, Offer}
 
@@ -41,22 +42,22 @@ pub record AreClients (lines : List Line) : Type 0 where
   pub each : (i : ℕ) (none : Line) → i < length lines → IsClient (slice_index_or lines i none)
 
 -- a reel that can be played: its sizes are those of a trace, and its pictures have a time
-pub record IsReel (reel : ReelContent) : Type 0 where
-  pub sizes : AreUnitSizes reel.sizes
-  pub some_picture_units : 1 ≤ reel.picture_units
-  pub picture_units_fit : reel.picture_units ≤ 360000
+pub record IsSoundMedia (medium : MediaContent) : Type 0 where
+  pub sizes : AreUnitSizes medium.sizes
+  pub some_picture_units : 1 ≤ medium.picture_units
+  pub picture_units_fit : medium.picture_units ≤ 360000
 
 -- a film or trace that can be played, in slots from 1/360,000 s to 1 s
 abbrev pub IsPlayable : Source → Type 0
 IsPlayable source = (slot_units : ℕ) → 1 ≤ slot_units → slot_units ≤ 360000 →
-    IsReel (source_content slot_units source)
+    IsSoundMedia (source_content slot_units source)
 
 -- a link whose slots are from 1/360,000 s to 1 s, and whose reels can be played
 pub record IsLink (link : Link) : Type 0 where
   pub some_slot_units : 1 ≤ link.slot_units
   pub slot_units_fit : link.slot_units ≤ 360000
-  pub reels : (i : ℕ) (none : ReelContent) → i < length link.reels →
-      IsReel (slice_index_or link.reels i none)
+  pub media : (i : ℕ) (none : MediaContent) → i < length link.media →
+      IsSoundMedia (slice_index_or link.media i none)
 
 -- What is left for a client can be played, and what was sent of it are whole frames and reports.
 pub record IsSoundRest (rest : Rest) : Type 0 where
@@ -79,21 +80,21 @@ IsSoundClient heard (Paused rest) = IsSoundRest rest
 -- A day's moment after so many of its lines: what the clients are sent in the slots up to any later
 -- one, after the slot that was heard last, is what is booked there, and within the capacity of
 -- those slots.
-pub record KeepsAfter (link : Link) (lines : List Line) (count : ℕ) : Type 0 where
+pub record SentIsBookedAfter (link : Link) (lines : List Line) (count : ℕ) : Type 0 where
   pub texts : List (List ℕ)
-  pub moment : Moment
-  pub run : AreRun link (take count lines) texts first_moment moment
+  pub moment : DayState
+  pub run : AreLineSteps link (take count lines) texts first_moment moment
   pub sent : (slot : ℕ) → moment.heard ≤ slot → sent_up_to moment slot ≡ booked_up_to moment slot
   pub within : (slot : ℕ) → moment.heard ≤ slot → sent_up_to moment slot ≤
       sum_by (capacity_at link.steps) (range_with_len (moment.heard + 1) (slot - moment.heard))
 
 -- a plan that begins in a slot has room in each slot, beside all that is booked at a moment
-abbrev pub HasRoomFor : Link → Moment → List Segment → ℕ → Type 0
+abbrev pub HasRoomFor : Link → DayState → List Segment → ℕ → Type 0
 HasRoomFor link moment plan start =
     HasRoom 0 (booked_after moment.entries) (capacity_at link.steps) start plan
 
 -- a start at which it has none, with the first slot without room
-pub record IsWithoutRoom (link : Link) (moment : Moment) (plan : List Segment) (start : ℕ)
+pub record IsWithoutRoom (link : Link) (moment : DayState) (plan : List Segment) (start : ℕ)
     (tried : Tried) : Type 0 where
   pub start_is : tried.start ≡ start
   pub over : IsFirstOverflow 0 (booked_after moment.entries) (capacity_at link.steps) start plan
@@ -115,7 +116,7 @@ IsCount first last None count = first + count ≡ last + 1
 -- What an offer tells at a moment: of the starts from the one that a play would get which is asked
 -- for in the slot that was heard last, up to the wait, the least at which the whole plan has room
 -- beside all that is booked; and for each earlier one, in order, the first slot without room.
-pub record IsOfferTold (link : Link) (rest : Rest) (wait : ℕ) (moment : Moment) (text : List ℕ)
+pub record IsOfferAnswer (link : Link) (rest : Rest) (wait : ℕ) (moment : DayState) (text : List ℕ)
     : Type 0 where
   pub plan : List Segment
   pub plan_is : IsPlanOf rest.sizes rest.playback rest.run plan
@@ -133,9 +134,9 @@ pub record IsOfferTold (link : Link) (rest : Rest) (wait : ℕ) (moment : Moment
 -- what the line of a large day says: a turn brings at most three slots; as many bytes were sent as
 -- the journal books in all slots up to the last; the peak is the most that it books in one of them,
 -- which is no more than the greatest capacity
-pub record IsFairLine (steps : List CapacityStep) (plays : ℕ) (text : List ℕ) (journal : List Entry)
+pub record IsFairLine (steps : List CapStep) (plays : ℕ) (text : List ℕ) (journal : List Entry)
     : Type 0 where
-  pub counts : Counts
+  pub counts : FairTotals
   pub text_is : text ≡ fair_text counts (entry_counts_of journal)
   pub turns_are : counts.turns ≡ plays
   pub last : counts.last ≤ 3 * plays

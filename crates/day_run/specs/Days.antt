@@ -5,11 +5,11 @@ use Rattle.std.specs.Prelude.{[], ◌∷◌, ◌++◌, flat_map, length, map, re
 use Rattle.std.specs.Prelude.{slice_index_or, slice_set}
 use Rattle.std.specs.List.{range_with_len}
 use Rattle.plan_cert.specs.declared.Segment.{Segment}
-use Rattle.plan_cert.specs.Slots.{total_bytes}
+use Rattle.plan_cert.specs.PlanSlots.{total_bytes}
 use Rattle.wire_curve.specs.declared.film.CurveFault.{CurveFault}
-use Rattle.wire_curve.specs.Refusal.{HasFault}
+use Rattle.wire_curve.specs.CurveFaults.{HasCurveFault}
 use Rattle.film_run.specs.Plans.{IsPlanOf, rest_sizes, timing_of}
-use Rattle.slot_calendar.specs.declared.profiles.CapacityStep.{CapacityStep}
+use Rattle.slot_calendar.specs.declared.profiles.CapStep.{CapStep}
 use Rattle.slot_calendar.specs.Profiles.{capacity_at}
 use Rattle.admission.specs.declared.entries.Answer.{Answer}
 use Rattle.admission.specs.declared.entries.Answer.TheVariants.{Admitted, Halted}
@@ -20,47 +20,47 @@ use Rattle.admission.specs.declared.entries.Full.{Full}
 use Rattle.admission.specs.Books.{places_taken}
 use Rattle.admission.specs.Histories.{IsAnswered, open_count, state_after}
 use Rattle.admission.specs.Machine.{booked_in}
-use Rattle.early_start.specs.Offered.{IsOffer, Offers}
+use Rattle.early_start.specs.StartSearch.{IsOffer, Offers}
 use Rattle.report.specs.CalendarTexts.{calendar_text}
 use Rattle.report.specs.EntryLines.{entry_line}
 use Rattle.report.specs.JournalTexts.{journal_text}
-use Rattle.day_run.specs.declared.reels.Source.{Source}
+use Rattle.day_run.specs.declared.media.Source.{Source}
 use Rattle.day_run.specs.declared.scripts.Line.{Line}
 use Rattle.day_run.specs.declared.scripts.Line.TheVariants as lines
-use Rattle.day_run.specs.Prints.{fault_text, full_text, offer_text, slot_text, state_text}
+use Rattle.day_run.specs.LineTexts.{fault_text, full_text, offer_text, slot_text, state_text}
 use Rattle.day_run.specs.ClientStates.{ClientState, Idle, Playing, Pausing, Paused, IfBusy}
-use Rattle.day_run.specs.ClientStates.{IsPause, ReelContent, Rest, Play}
-use Rattle.day_run.specs.ClientStates.{after_play, after_sending, booking_of, is_done, no_reel}
+use Rattle.day_run.specs.ClientStates.{IsPause, MediaContent, Rest, Play}
+use Rattle.day_run.specs.ClientStates.{after_play, after_sending, booking_of, is_done, no_medium}
 use Rattle.day_run.specs.ClientStates.{sent_between, sent_by, source_content, whole_rest}
 
 -- the steps of the link's capacity, the most entries of its journal, the time of a slot in
 -- 1/360,000 s, and what can be played
 pub record Link : Type 0 where
-  pub steps : List CapacityStep
+  pub steps : List CapStep
   pub limit : ℕ
   pub slot_units : ℕ
-  pub reels : List ReelContent
+  pub media : List MediaContent
 
-abbrev pub link_of : List CapacityStep → ℕ → ℕ → List Source → Link
+abbrev pub link_of : List CapStep → ℕ → ℕ → List Source → Link
 link_of steps limit slot_units sources =
     record {
       steps = steps;
       limit = limit;
       slot_units = slot_units;
-      reels = map (source_content slot_units) sources;
+      media = map (source_content slot_units) sources;
     }
 
 -- a day as far as it has come: the journal, the clients, and the slot that was heard last
-pub record Moment : Type 0 where
+pub record DayState : Type 0 where
   pub entries : List Entry
   pub states : List ClientState
   pub heard : ℕ
 
 -- no client plays, and no slot was heard
-abbrev pub first_moment : Moment
+abbrev pub first_moment : DayState
 first_moment = record { entries = []; states = replicate 256 Idle; heard = 0 }
 
-abbrev pub state_at : Moment → ℕ → ClientState
+abbrev pub state_at : DayState → ℕ → ClientState
 state_at moment client = slice_index_or moment.states client Idle
 
 abbrev pub entry_by : ℕ → Command → Answer → Entry
@@ -69,15 +69,15 @@ entry_by maker command answer = record { maker = maker; command = command; answe
 -- all of a reel, the one at this place
 abbrev pub rest_at : Link → ℕ → ℕ → ℕ → Rest
 rest_at link source buffer delay =
-    whole_rest link.slot_units (slice_index_or link.reels source no_reel) buffer delay
+    whole_rest link.slot_units (slice_index_or link.media source no_medium) buffer delay
 
 -- nothing but a text
-pub record IsTold (told : List ℕ) (old new : Moment) (text : List ℕ) : Type 0 where
+pub record IsTold (told : List ℕ) (old new : DayState) (text : List ℕ) : Type 0 where
   pub kept : new ≡ old
   pub text_is : text ≡ told
 
 -- The machine's answer is noted and printed, and the clients are then these.
-pub record IsNoted (link : Link) (entry : Entry) (states : List ClientState) (old new : Moment)
+pub record IsNoted (link : Link) (entry : Entry) (states : List ClientState) (old new : DayState)
     (text : List ℕ) : Type 0 where
   pub answered : IsAnswered link.steps (state_after old.entries) entry
   pub new_is : new ≡ record {
@@ -89,16 +89,17 @@ pub record IsNoted (link : Link) (entry : Entry) (states : List ClientState) (ol
 
 -- the journal has no room for so many more entries
 abbrev pub full_of : List Entry → Full
-full_of entries = record { entries = length entries; open_plays = open_count entries }
+full_of entries = record { entries = length entries; live = open_count entries }
 
-pub record IsFull (link : Link) (places : ℕ) (old new : Moment) (text : List ℕ) : Type 0 where
+pub record IsFull (link : Link) (places : ℕ) (old new : DayState) (text : List ℕ) : Type 0 where
   pub full : link.limit < places_taken old.entries + places
   pub told : IsTold (full_text (full_of old.entries)) old new text
 
 -- the curves of what is to be sent are refused
-pub record IsFaulty (rest : Rest) (old new : Moment) (text : List ℕ) : Type 0 where
+pub record IsFaulty (rest : Rest) (old new : DayState) (text : List ℕ) : Type 0 where
   pub fault : CurveFault
-  pub fault_is : HasFault (rest_sizes rest.sizes rest.run) (timing_of rest.playback rest.run) fault
+  pub fault_is : HasCurveFault (rest_sizes rest.sizes rest.run) (timing_of rest.playback rest.run)
+      fault
   pub told : IsTold (fault_text fault) old new text
 
 -- the clients, of which one begins a play where it was admitted
@@ -119,7 +120,7 @@ pub record AskedPlay : Type 0 where
   pub plan : List Segment
 
 -- the machine answers a play, for whose entry and whose halt's the journal has room
-pub record IsAnsweredPlay (link : Link) (asked : AskedPlay) (old new : Moment) (text : List ℕ)
+pub record IsAnsweredPlay (link : Link) (asked : AskedPlay) (old new : DayState) (text : List ℕ)
     : Type 0 where
   pub room : places_taken old.entries + 2 ≤ link.limit
   pub answer : Answer
@@ -128,7 +129,7 @@ pub record IsAnsweredPlay (link : Link) (asked : AskedPlay) (old new : Moment) (
       old new text
 
 -- there is a plan, and the journal has no room or the play is answered
-pub record IsPlanned (link : Link) (client : ℕ) (rest : Rest) (old new : Moment) (text : List ℕ)
+pub record IsPlanned (link : Link) (client : ℕ) (rest : Rest) (old new : DayState) (text : List ℕ)
     : Type 0 where
   pub plan : List Segment
   pub plan_is : IsPlanOf rest.sizes rest.playback rest.run plan
@@ -136,26 +137,27 @@ pub record IsPlanned (link : Link) (client : ℕ) (rest : Rest) (old new : Momen
       ⊎ IsAnsweredPlay link (record { client = client; rest = rest; plan = plan }) old new text
 
 -- a client asks for what is to be sent: the curves are judged first, then the journal
-abbrev pub IsAsked : Link → ℕ → Rest → Moment → Moment → List ℕ → Type 0
+abbrev pub IsAsked : Link → ℕ → Rest → DayState → DayState → List ℕ → Type 0
 IsAsked link client rest old new text = IsFaulty rest old new text
     ⊎ IsPlanned link client rest old new text
 
 -- a client that plays, or whose pause isn't done, can't ask for a play; one that is paused begins
 -- anew
-abbrev pub IsPlayLine : Link → ℕ → Rest → Moment → Moment → List ℕ → Type 0
+abbrev pub IsPlayLine : Link → ℕ → Rest → DayState → DayState → List ℕ → Type 0
 IsPlayLine link client rest old new text =
     IfBusy (state_at old client) (IsTold state_text old new text)
     (IsAsked link client rest old new text)
 
 -- a client that is paused goes on with what is left
-abbrev pub IsResumeLine : Link → ℕ → ClientState → Moment → Moment → List ℕ → Type 0
+abbrev pub IsResumeLine : Link → ℕ → ClientState → DayState → DayState → List ℕ → Type 0
 IsResumeLine link client Idle old new text = IsTold state_text old new text
 IsResumeLine link client (Playing play) old new text = IsTold state_text old new text
 IsResumeLine link client (Pausing stop rest) old new text = IsTold state_text old new text
 IsResumeLine link client (Paused rest) old new text = IsAsked link client rest old new text
 
 -- a play is halted at the boundary where its pause ends
-pub record IsHaltedPlay (link : Link) (client : ℕ) (play : Play) (old new : Moment) (text : List ℕ)
+pub record IsHaltedPlay (link : Link) (client : ℕ) (play : Play) (old new : DayState) (text : List
+    ℕ)
     : Type 0 where
   pub keep : ℕ
   pub state : ClientState
@@ -164,25 +166,26 @@ pub record IsHaltedPlay (link : Link) (client : ℕ) (play : Play) (old new : Mo
       (slice_set old.states client state) old new text
 
 -- a client that plays can be paused
-abbrev pub IsPauseLine : Link → ℕ → ClientState → Moment → Moment → List ℕ → Type 0
+abbrev pub IsPauseLine : Link → ℕ → ClientState → DayState → DayState → List ℕ → Type 0
 IsPauseLine link client Idle old new text = IsTold state_text old new text
 IsPauseLine link client (Playing play) old new text = IsHaltedPlay link client play old new text
 IsPauseLine link client (Pausing stop rest) old new text = IsTold state_text old new text
 IsPauseLine link client (Paused rest) old new text = IsTold state_text old new text
 
 -- the machine answers a look, for whose entry the journal has room
-pub record IsAnsweredLook (link : Link) (slot : ℕ) (old new : Moment) (text : List ℕ) : Type 0 where
-  pub room : places_taken old.entries + 1 ≤ link.limit
-  pub answer : Answer
-  pub noted : IsNoted link (entry_by 0 (commands.Look slot) answer) old.states old new text
+pub record IsAnsweredLook (link : Link) (slot : ℕ) (old new : DayState) (text : List ℕ) : Type 0
+  where
+    pub room : places_taken old.entries + 1 ≤ link.limit
+    pub answer : Answer
+    pub noted : IsNoted link (entry_by 0 (commands.Look slot) answer) old.states old new text
 
-abbrev pub IsLookLine : Link → ℕ → Moment → Moment → List ℕ → Type 0
+abbrev pub IsLookLine : Link → ℕ → DayState → DayState → List ℕ → Type 0
 IsLookLine link slot old new text = IsFull link 1 old new text
     ⊎ IsAnsweredLook link slot old new text
 
 -- The earliest start within a wait is told: of the starts after now and after the slot that was
 -- heard last. Nothing is booked.
-pub record IsOffered (link : Link) (rest : Rest) (wait : ℕ) (old new : Moment) (text : List ℕ)
+pub record IsOffered (link : Link) (rest : Rest) (wait : ℕ) (old new : DayState) (text : List ℕ)
     : Type 0 where
   pub plan : List Segment
   pub plan_is : IsPlanOf rest.sizes rest.playback rest.run plan
@@ -192,7 +195,7 @@ pub record IsOffered (link : Link) (rest : Rest) (wait : ℕ) (old new : Moment)
       (max (state_after old.entries).now old.heard + 1) found
   pub told : IsTold (offer_text found) old new text
 
-abbrev pub IsOfferLine : Link → Rest → ℕ → Moment → Moment → List ℕ → Type 0
+abbrev pub IsOfferLine : Link → Rest → ℕ → DayState → DayState → List ℕ → Type 0
 IsOfferLine link rest wait old new text = IsFaulty rest old new text
     ⊎ IsOffered link rest wait old new text
 
@@ -222,33 +225,33 @@ halt_entries halt client (state ∷ states) =
 
 -- the bytes that all clients are sent in the slots after the one that was heard last up to this
 -- one, and those booked there
-abbrev pub sent_up_to : Moment → ℕ → ℕ
+abbrev pub sent_up_to : DayState → ℕ → ℕ
 sent_up_to moment slot = sum_by (sent_between moment.heard slot) moment.states
 
-abbrev pub booked_up_to : Moment → ℕ → ℕ
+abbrev pub booked_up_to : DayState → ℕ → ℕ
 booked_up_to moment slot =
     sum_by (booked_in (state_after moment.entries)) (range_with_len (moment.heard
     + 1) (slot - moment.heard))
 
 -- the halts of the plays that are done once a slot was sent
-abbrev pub halts_at : Moment → ℕ → List Entry
+abbrev pub halts_at : DayState → ℕ → List Entry
 halts_at moment slot = halt_entries (done_halt slot) 0 moment.states
 
 -- The link comes to a slot: what is due is sent, and then the plays that are done are halted.
-abbrev pub at_slot : Moment → ℕ → Moment
+abbrev pub at_slot : DayState → ℕ → DayState
 at_slot moment slot = record {
   entries = moment.entries ++ halts_at moment slot;
   states = map (after_play slot) (map (after_sending slot) moment.states);
   heard = slot;
 }
 
-abbrev pub slot_lines : Moment → ℕ → List ℕ
+abbrev pub slot_lines : DayState → ℕ → List ℕ
 slot_lines moment slot =
     slot_text slot (sent_up_to moment slot) (booked_up_to moment slot)
     ++ journal_text (length moment.entries) (halts_at moment slot)
 
 -- what a line makes of a moment, and what it prints
-abbrev pub IsLine : Link → Line → Moment → Moment → List ℕ → Type 0
+abbrev pub IsLine : Link → Line → DayState → DayState → List ℕ → Type 0
 IsLine link (lines.Play client source buffer delay) old new text =
     IsPlayLine link client (rest_at link source buffer delay) old new text
 IsLine link (lines.Pause client) old new text =
@@ -261,21 +264,21 @@ IsLine link (lines.Offer client source buffer delay wait) old new text =
     IsOfferLine link (rest_at link source buffer delay) wait old new text
 
 -- what lines make of a moment, one after the other, and what each of them prints
-abbrev pub AreRun : Link → List Line → List (List ℕ) → Moment → Moment → Type 0
-AreRun link [] [] old new = new ≡ old
-AreRun link (line ∷ lines) (text ∷ texts) old new =
-    (next : Moment) × (IsLine link line old next text × AreRun link lines texts next new)
-AreRun link _ _ old new = ⊥
+abbrev pub AreLineSteps : Link → List Line → List (List ℕ) → DayState → DayState → Type 0
+AreLineSteps link [] [] old new = new ≡ old
+AreLineSteps link (line ∷ lines) (text ∷ texts) old new =
+    (next : DayState) × (IsLine link line old next text × AreLineSteps link lines texts next new)
+AreLineSteps link _ _ old new = ⊥
 
 -- the halts of the plays that are open at a day's end
-abbrev pub last_halts : Moment → List Entry
+abbrev pub last_halts : DayState → List Entry
 last_halts moment = halt_entries (open_halt moment.heard) 0 moment.states
 
-abbrev pub last_journal : Moment → List Entry
+abbrev pub last_journal : DayState → List Entry
 last_journal moment = moment.entries ++ last_halts moment
 
 -- their lines, and what is then booked
-abbrev pub last_lines : Moment → List ℕ
+abbrev pub last_lines : DayState → List ℕ
 last_lines moment =
     journal_text (length moment.entries) (last_halts moment)
     ++ calendar_text (state_after (last_journal moment)).now
@@ -285,8 +288,8 @@ last_lines moment =
 -- and the end's.
 pub record IsDay (link : Link) (lines : List Line) (text : List ℕ) (journal : List Entry)
     : Type 0 where
-  pub evening : Moment
+  pub evening : DayState
   pub texts : List (List ℕ)
-  pub run : AreRun link lines texts first_moment evening
+  pub run : AreLineSteps link lines texts first_moment evening
   pub text_is : text ≡ flat_map (λ (t : List ℕ). t) texts ++ last_lines evening
   pub journal_is : journal ≡ last_journal evening

@@ -8,19 +8,19 @@ use Rattle.std.specs.List.{range_with_len}
 use Rattle.std.specs.Str.{bytes_eq}
 use Rattle.film_make.specs.Generator.{words_after, words_of}
 use Rattle.film_make.specs.Trace.{sizes_of}
-use Rattle.slot_calendar.specs.declared.profiles.CapacityStep.{CapacityStep}
+use Rattle.slot_calendar.specs.declared.profiles.CapStep.{CapStep}
 use Rattle.admission.specs.declared.entries.Answer.{Answer}
 use Rattle.admission.specs.declared.entries.Answer.TheVariants.{Overflow, Halted}
 use Rattle.admission.specs.declared.entries.Entry.{Entry}
 use Rattle.admission.specs.Histories.{is_admission, state_after}
 use Rattle.admission.specs.Machine.{booked_in}
-use Rattle.day_run.specs.declared.counts.Counts.{Counts}
-use Rattle.day_run.specs.declared.counts.EntryCounts.{EntryCounts}
+use Rattle.day_run.specs.declared.fair_totals.FairTotals.{FairTotals}
+use Rattle.day_run.specs.declared.fair_totals.EntryCounts.{EntryCounts}
 use Rattle.day_run.specs.declared.scripts.Line.{Line}
 use Rattle.day_run.specs.declared.scripts.Line.TheVariants as lines
-use Rattle.day_run.specs.Days.{IsLine, IsTold, Link, Moment, at_slot, booked_up_to, last_journal}
+use Rattle.day_run.specs.Days.{IsLine, IsTold, Link, DayState, at_slot, booked_up_to, last_journal}
 use Rattle.day_run.specs.Days.{first_moment, state_at, sent_up_to}
-use Rattle.day_run.specs.Prints.{fair_text}
+use Rattle.day_run.specs.LineTexts.{fair_text}
 use Rattle.day_run.specs.ClientStates.{ClientState, Idle, Playing, Pausing, Paused, trace_content}
 
 -- ---- the traces
@@ -42,25 +42,25 @@ abbrev pub traces_drawn : ℕ → (ℕ → ℕ) → List (List ℕ)
 traces_drawn k words = map (λ i. trace_drawn (after_traces i words)) (range_with_len 0 k)
 
 -- a link of that capacity with 16 traces to play, in slots of 40 ms, and the longest journal
-abbrev pub fair_link : List CapacityStep → (ℕ → ℕ) → Link
+abbrev pub fair_link : List CapStep → (ℕ → ℕ) → Link
 fair_link steps words = record {
   steps = steps;
   limit = 1048576;
   slot_units = 14400;
-  reels = map (trace_content 14400) (traces_drawn 16 words);
+  media = map (trace_content 14400) (traces_drawn 16 words);
 }
 
 -- ---- the turns
 -- a turn as it came: the moments before it, after its slot, and at its end, and what the client was
 -- told
 pub record Turn : Type 0 where
-  pub old : Moment
-  pub mid : Moment
-  pub new : Moment
+  pub old : DayState
+  pub mid : DayState
+  pub new : DayState
   pub text : List ℕ
 
 -- the link comes to a slot that is so many later, if it is
-abbrev pub at_later : Moment → ℕ → Moment
+abbrev pub at_later : DayState → ℕ → DayState
 at_later moment later = if later == 0 then moment else at_slot moment (moment.heard + later)
 
 -- What a client does follows from its state: it plays one of the traces with a drawn buffer and
@@ -73,7 +73,7 @@ line_drawn words client (Pausing stop rest) = None
 line_drawn words client (Paused rest) = Some (lines.Resume client)
 
 -- such a line is run, or nothing is done
-abbrev pub IsDone : Link → Option Line → Moment → Moment → List ℕ → Type 0
+abbrev pub IsDone : Link → Option Line → DayState → DayState → List ℕ → Type 0
 IsDone link (Some line) old new text = IsLine link line old new text
 IsDone link None old new text = IsTold [] old new text
 
@@ -104,7 +104,7 @@ abbrev pub after_turn : (ℕ → ℕ) → Turn → ℕ → ℕ
 after_turn words turn = words_after (2 + words_for (state_in words turn)) words
 
 -- turns one after the other
-abbrev pub AreTurns : Link → (ℕ → ℕ) → List Turn → Moment → Moment → Type 0
+abbrev pub AreTurns : Link → (ℕ → ℕ) → List Turn → DayState → DayState → Type 0
 AreTurns link words [] old new = new ≡ old
 AreTurns link words (turn ∷ turns) old new =
     (turn.old ≡ old) × (IsTurn link words turn
@@ -118,7 +118,7 @@ turn_sent turn = sent_up_to turn.old turn.mid.heard
 abbrev pub turn_booked : Turn → ℕ
 turn_booked turn = booked_up_to turn.old turn.mid.heard
 
-abbrev pub most_up_to : Moment → ℕ → ℕ
+abbrev pub most_up_to : DayState → ℕ → ℕ
 most_up_to moment slot =
     fold max 0 (map (booked_in (state_after moment.entries)) (range_with_len (moment.heard
     + 1) (slot - moment.heard)))
@@ -135,7 +135,7 @@ is_refused turn = is_full_line turn.text
 
 -- the turns, those in which a full journal refused a play, the last slot, all bytes that were sent,
 -- all that were booked in the slots up to it, and the most in one of these
-abbrev pub counts_of : List Turn → Moment → Counts
+abbrev pub counts_of : List Turn → DayState → FairTotals
 counts_of turns evening = record {
   turns = length turns;
   full = count_by is_refused turns;
@@ -163,10 +163,10 @@ entry_counts_of entries = record {
 
 -- A number's day of so many turns: the journal, which at the end has the halts of the plays that
 -- are open, and the one line that is printed.
-pub record IsFair (steps : List CapacityStep) (number plays : ℕ) (text : List ℕ)
+pub record IsFair (steps : List CapStep) (number plays : ℕ) (text : List ℕ)
     (journal : List Entry) : Type 0 where
   pub turns : List Turn
-  pub evening : Moment
+  pub evening : DayState
   pub count : length turns ≡ plays
   pub run : AreTurns (fair_link steps (words_of number)) (after_traces 16 (words_of number)) turns
       first_moment evening

@@ -2,13 +2,13 @@
 
 ghost use Rattle.std.specs.Prelude.{◌≡◌, ◌+◌, ◌-◌, ◌^◌, ◌≤◌, ◌<◌, ℕ, List, false, IfSome, IfNone};
 ghost use Rattle.std.specs.Prelude.{OnSome, IsTrue};
-ghost use Rattle.plan_cert.specs.Slots.{total_bytes};
-ghost use Rattle.pacer.specs.Pacings.{IsPacing, is_done, after_step};
+ghost use Rattle.plan_cert.specs.PlanSlots.{total_bytes};
+ghost use Rattle.pacer.specs.PacerStates.{IsPacerState, is_done, after_step};
 ghost use Rattle.admission.specs.declared.entries.Entry.{Entry};
 ghost use Rattle.film_run.specs.Plans.{IsPlanOf};
 ghost use Rattle.film_run.specs.Pauses.{IsHalt};
 ghost use Rattle.film_frames.specs.Tracks.{IsBoundary};
-ghost use Rattle.day_run.specs.Reels.{reel_pieces, reel_sizes};
+ghost use Rattle.day_run.specs.MediaPieces.{media_pieces, media_sizes};
 ghost use Rattle.day_run.specs.Clients.{IsBooked, IsGoing, IsHaltOf, IsPauseOf, IsPlaying, IsQuiet};
 ghost use Rattle.day_run.specs.Clients.{IsRest, IsStep, IsTimed, IsUndone, IsUnpaused};
 ghost use Rattle.day_run.specs.declared.clients.Client.TheVariants.{Paused};
@@ -17,8 +17,8 @@ ghost use Rattle.day_run.specs.Clients.{state_for, state_of};
 ghost use Rattle.day_run.specs.Days.{done_halt, open_halt};
 ghost use Rattle.day_run.specs.ClientStates.{IsPause, after_play, is_busy};
 
-use crate::drains::Drain;
-use crate::reels::{Reel, Sending};
+use crate::media::{Media, Sending};
+use crate::null_link::NullLink;
 use film_run::{Playback, Run, run_after};
 use pacer::Pacer;
 use plan_cert::Plan;
@@ -27,7 +27,7 @@ use std::mem::replace;
 /// What is still to be sent of a source, and to what kind of client.
 #[derive(Clone, Copy)]
 pub(crate) struct Rest<'r> {
-    pub(crate) reel: &'r Reel<'r>,
+    pub(crate) medium: &'r Media<'r>,
     pub(crate) playback: Playback,
     /// Its pictures, and how many bytes of theirs were sent and played.
     pub(crate) run: Run,
@@ -46,7 +46,7 @@ pub(crate) struct Play<'r> {
 
 /// A play that was halted: the frame or report in hand is sent to its end.
 #[derive(Drop)]
-pub(crate) struct Stop<'r> {
+pub(crate) struct PausingPlay<'r> {
     /// The bytes of its plan that it keeps.
     pub(crate) keep: u64,
     /// What the pause leaves.
@@ -62,7 +62,7 @@ pub(crate) enum Client<'r> {
     /// Its play is open.
     Playing(Play<'r>),
     /// Its play was halted, and the frame or report in hand isn't sent whole.
-    Pausing(Stop<'r>),
+    Pausing(PausingPlay<'r>),
     /// Its play was halted, and this is left to be sent.
     Paused(Rest<'r>),
 }
@@ -101,7 +101,7 @@ impl<'r> Client<'r> {
             Client::Playing(play) => send(&mut play.pacer, slot),
             Client::Pausing(stop) => {
                 let sent = send(&mut stop.pacer, slot);
-                if stop.pacer.bytes_sent() == stop.keep {
+                if stop.pacer.sent() == stop.keep {
                     let rest = stop.rest;
                     *self = Client::Paused(rest);
                 }
@@ -143,10 +143,10 @@ impl<'r> Client<'r> {
     {
         match self {
             Client::Playing(play) => {
-                if play.pacer.is_done() {
+                if play.pacer.done() {
                     Some(Halt {
                         number: play.number,
-                        keep: play.pacer.bytes_sent(),
+                        keep: play.pacer.sent(),
                     })
                 } else {
                     None
@@ -168,7 +168,7 @@ impl<'r> Client<'r> {
         match self {
             Client::Playing(play) => Some(Halt {
                 number: play.number,
-                keep: play.pacer.bytes_due(),
+                keep: play.pacer.due(),
             }),
             _ => None,
         }
@@ -221,9 +221,9 @@ impl<'r> Client<'r> {
 fn send(pacer: &mut Pacer<Sending<'_>>, slot: u64) -> u64
     ensures state { pacer.new ≡ after_step false slot pacer.old }
     ensures sent { result ≡ pacer.new.sent - pacer.old.sent }
-    ensures pacing { IsPacing pacer.new }
+    ensures pacing { IsPacerState pacer.new }
 {
-    match pacer.step(slot, false, &mut Drain) {
+    match pacer.step(slot, false, &mut NullLink) {
         Ok(sending) => sending.sent,
         Err(_) => unreachable!(),
     }
@@ -250,13 +250,13 @@ fn pause_play<'r>(play: Play<'r>) -> (Halt, Client<'r>)
         mut pacer,
     } = play;
     let last = pacer.last_slot();
-    let sent = pacer.bytes_sent();
+    let sent = pacer.sent();
     let keep = pacer.ask_halt();
-    let run = run_after(rest.reel, &rest.playback, &rest.run, &plan, last, keep);
+    let run = run_after(rest.medium, &rest.playback, &rest.run, &plan, last, keep);
     let rest = Rest { run, ..rest };
     let halt = Halt { number, keep };
     if sent == keep {
         return (halt, Client::Paused(rest));
     }
-    (halt, Client::Pausing(Stop { keep, rest, pacer }))
+    (halt, Client::Pausing(PausingPlay { keep, rest, pacer }))
 }

@@ -6,24 +6,26 @@ ghost use Rattle.film_make.specs.Generator.{words_after, words_left};
 ghost use Rattle.film_run.specs.Units.{AreUnitSizes};
 ghost use Rattle.admission.specs.declared.entries.Entry.{Entry};
 ghost use Rattle.admission.specs.Histories.{IsLegal};
-ghost use Rattle.day_run.specs.Balanced.{IsReady};
+ghost use Rattle.day_run.specs.BookingBalance.{IsReady};
 ghost use Rattle.report.specs.JournalTexts.{journal_text};
 ghost use Rattle.day_run.specs.Days.{IsPlayLine, first_moment, rest_at, state_at};
 ghost use Rattle.day_run.specs.FairDays.{IsDone, IsFair, after_traces, at_later};
 ghost use Rattle.day_run.specs.FairDays.{entry_counts_of, is_full_line, line_drawn, traces_drawn};
 ghost use Rattle.day_run.specs.FairDays.{words_for};
-ghost use Rattle.day_run.specs.Fairs.{AreTraces, HasCome, HasTurned, IsFitting, drawn_to};
-ghost use Rattle.day_run.specs.Fairs.{said_text, sizes_in, with_slot};
-ghost use Rattle.day_run.specs.Runners.{IsKept, IsRunner, link_on, moment_of, told_text};
+ghost use Rattle.day_run.specs.FairProgress.{AreTraces, AreTurnResults, IsTurnResult, IsFitting};
+ghost use Rattle.day_run.specs.FairProgress.{drawn_to};
+ghost use Rattle.day_run.specs.FairProgress.{said_text, sizes_in, with_slot};
+ghost use Rattle.day_run.specs.MachineState.{IsKept, IsDayMachine, link_on, day_state_of};
+ghost use Rattle.day_run.specs.MachineState.{reply_text};
 ghost use Rattle.day_run.specs.ClientStates.{trace_content};
-ghost use Rattle.day_run.specs.ReelContents.{reel_content};
+ghost use Rattle.day_run.specs.MediaContents.{media_content};
 
 use crate::clients::Client;
-use crate::counts::{Counts, EntryCounts};
-use crate::days::Day;
-use crate::reels::Reel;
-use crate::runners::{Runner, Told};
-use crate::texts::push_fair;
+use crate::fair_totals::{EntryCounts, FairTotals};
+use crate::line_texts::push_fair;
+use crate::machine::{DayMachine, LineAnswer};
+use crate::media::Media;
+use crate::script_run::Day;
 use admission::{Answer, Book, Entry, MAX_ENTRIES};
 use film_make::{Draws, draw_sizes};
 use slot_calendar::Profile;
@@ -51,11 +53,11 @@ pub fn fair(alloc: Global, seed: u64, plays: u32, profile: Profile) -> Result<Da
 {
     let mut draws = Draws::new(seed);
     let traces = draw_traces(alloc, &mut draws)?;
-    let reels = trace_reels(alloc, &traces)?;
-    let mut runner = Runner::new(alloc, &reels, profile, MAX_ENTRIES, SLOT_UNITS)?;
-    let counts = run_turns(alloc, &mut draws, &mut runner, plays)?;
-    runner.end();
-    let journal = runner.into_entries();
+    let media = trace_media(alloc, &traces)?;
+    let mut machine = DayMachine::new(alloc, &media, profile, MAX_ENTRIES, SLOT_UNITS)?;
+    let counts = run_turns(alloc, &mut draws, &mut machine, plays)?;
+    machine.end();
+    let journal = machine.into_entries();
     let entries = count_entries(&journal);
     let mut text = Vec::new(alloc);
     push_fair(&mut text, &counts, &entries)?;
@@ -79,89 +81,92 @@ fn draw_traces(alloc: Global, draws: &mut Draws) -> Result<Vec<Vec<u64>>, NoMemo
 }
 
 /// The traces as they are played.
-fn trace_reels<'s>(alloc: Global, traces: &'s [Vec<u64>]) -> Result<Vec<Reel<'s>>, NoMemory>
+fn trace_media<'s>(alloc: Global, traces: &'s [Vec<u64>]) -> Result<Vec<Media<'s>>, NoMemory>
     requires { AreTraces traces.now }
-    ensures count { IfOk result (λ reels. length reels.items ≡ length traces.entry.now) }
-    ensures contents { IfOk result (λ reels. map (reel_content 14400) reels.items
+    ensures count { IfOk result (λ media. length media.items ≡ length traces.entry.now) }
+    ensures contents { IfOk result (λ media. map (media_content 14400) media.items
         ≡ map (trace_content 14400) (sizes_in traces.entry.now)) }
 {
-    let mut reels = Vec::with_capacity(alloc, traces.len())?;
+    let mut media = Vec::with_capacity(alloc, traces.len())?;
     for trace in traces {
-        reels.push(Reel::trace(alloc, trace)?)?;
+        media.push(Media::trace(alloc, trace)?)?;
     }
-    Ok(reels)
+    Ok(media)
 }
 
 /// A client asks for a drawn play.
 fn play_drawn(
     alloc: Global,
     draws: &mut Draws,
-    runner: &mut Runner<'_>,
+    machine: &mut DayMachine<'_>,
     client: u8,
-) -> Result<Told, NoMemory>
-    requires runner { IsRunner runner.old }
-    requires reels { length runner.old.reels.now ≡ 16 }
-    ensures runner { OnOk result (IsRunner runner.new) }
-    ensures kept { OnOk result (IsKept runner.old runner.new) }
-    ensures heard { OnOk result (runner.new.heard ≡ runner.old.heard) }
+) -> Result<LineAnswer, NoMemory>
+    requires machine { IsDayMachine machine.old }
+    requires media { length machine.old.media.now ≡ 16 }
+    ensures machine { OnOk result (IsDayMachine machine.new) }
+    ensures kept { OnOk result (IsKept machine.old machine.new) }
+    ensures heard { OnOk result (machine.new.heard ≡ machine.old.heard) }
     ensures line { IfOk result (λ told.
-        IsPlayLine (link_on runner.old) client (rest_at (link_on runner.old)
+        IsPlayLine (link_on machine.old) client (rest_at (link_on machine.old)
         (words_left draws.old 0 % 16) (16384 + words_left draws.old 1 % 16384)
-        (words_left draws.old 2 % 26)) (moment_of runner.old) (moment_of runner.new)
-        (told_text runner.new.book.entries told)) }
+        (words_left draws.old 2 % 26)) (day_state_of machine.old) (day_state_of machine.new)
+        (reply_text machine.new.book.entries told)) }
     ensures left { OnOk result (words_left draws.new ≡ words_after 3 (words_left draws.old)) }
 {
     let source = draws.draw(TRACES as u32) as usize;
     let buffer = 16_384 + u64::from(draws.draw(16_384));
     let delay = u64::from(draws.draw(26));
-    runner.play(alloc, client, source, buffer, delay)
+    machine.play(alloc, client, source, buffer, delay)
 }
 
 /// What the drawn client does, by its state.
 fn turn_client(
     alloc: Global,
     draws: &mut Draws,
-    runner: &mut Runner<'_>,
+    machine: &mut DayMachine<'_>,
     client: u8,
-) -> Result<Option<Told>, NoMemory>
-    requires runner { IsRunner runner.old }
-    requires reels { length runner.old.reels.now ≡ 16 }
-    ensures runner { OnOk result (IsRunner runner.new) }
-    ensures kept { OnOk result (IsKept runner.old runner.new) }
-    ensures heard { OnOk result (runner.new.heard ≡ runner.old.heard) }
+) -> Result<Option<LineAnswer>, NoMemory>
+    requires machine { IsDayMachine machine.old }
+    requires media { length machine.old.media.now ≡ 16 }
+    ensures machine { OnOk result (IsDayMachine machine.new) }
+    ensures kept { OnOk result (IsKept machine.old machine.new) }
+    ensures heard { OnOk result (machine.new.heard ≡ machine.old.heard) }
     ensures done { IfOk result (λ told.
-        IsDone (link_on runner.old)
-        (line_drawn (words_left draws.old) client (state_at (moment_of runner.old) client))
-        (moment_of runner.old) (moment_of runner.new) (said_text runner.new.book.entries told)) }
+        IsDone (link_on machine.old)
+        (line_drawn (words_left draws.old) client (state_at (day_state_of machine.old) client))
+        (day_state_of machine.old) (day_state_of machine.new) (said_text machine.new.book.entries
+        told)) }
     ensures left { OnOk result (words_left draws.new
-        ≡ words_after (words_for (state_at (moment_of runner.old) client)) (words_left draws.old)) }
+        ≡ words_after (words_for (state_at (day_state_of machine.old) client)) (words_left
+        draws.old)) }
 {
-    match &runner.clients[client as usize] {
-        Client::Playing(_) => Ok(Some(runner.pause(client))),
+    match &machine.clients[client as usize] {
+        Client::Playing(_) => Ok(Some(machine.pause(client))),
         Client::Pausing(_) => Ok(None),
-        Client::Paused(_) => Ok(Some(runner.resume(alloc, client)?)),
-        Client::Idle => Ok(Some(play_drawn(alloc, draws, runner, client)?)),
+        Client::Paused(_) => Ok(Some(machine.resume(alloc, client)?)),
+        Client::Idle => Ok(Some(play_drawn(alloc, draws, machine, client)?)),
     }
 }
 
 /// Comes to a slot that is so many later, if it is.
-fn advance(runner: &mut Runner<'_>, later: u64, counts: &mut Counts)
-    requires runner { IsRunner runner.old }
-    requires ready { IsReady (moment_of runner.old) }
+fn advance(machine: &mut DayMachine<'_>, later: u64, counts: &mut FairTotals)
+    requires machine { IsDayMachine machine.old }
+    requires ready { IsReady (day_state_of machine.old) }
     requires few { later ≤ 3 }
-    requires early { runner.old.heard ≤ 2 ^ 20 }
-    requires fitting { IsFitting runner.old.heard counts.old }
-    ensures runner { IsRunner runner.new }
-    ensures ready { IsReady (moment_of runner.new) }
-    ensures kept { IsKept runner.old runner.new }
-    ensures heard { runner.new.heard ≡ runner.old.heard + later }
-    ensures moment { moment_of runner.new ≡ at_later (moment_of runner.old) later }
-    ensures counts { counts.new ≡ with_slot counts.old (moment_of runner.old) runner.new.heard }
-    ensures fitting { IsFitting runner.new.heard counts.new }
+    requires early { machine.old.heard ≤ 2 ^ 20 }
+    requires fitting { IsFitting machine.old.heard counts.old }
+    ensures machine { IsDayMachine machine.new }
+    ensures ready { IsReady (day_state_of machine.new) }
+    ensures kept { IsKept machine.old machine.new }
+    ensures heard { machine.new.heard ≡ machine.old.heard + later }
+    ensures moment { day_state_of machine.new ≡ at_later (day_state_of machine.old) later }
+    ensures counts { counts.new ≡ with_slot counts.old (day_state_of machine.old) machine.new.heard
+        }
+    ensures fitting { IsFitting machine.new.heard counts.new }
 {
     if later > 0 {
-        let slot = runner.heard + later;
-        let passed = runner.slot(slot);
+        let slot = machine.heard + later;
+        let passed = machine.slot(slot);
         counts.last = slot;
         counts.sent += passed.sent;
         counts.booked += passed.booked;
@@ -174,23 +179,23 @@ fn law_entries_other(place: u64)
     ensures { (entries : List Entry) → is_full_line (journal_text place entries) ≡ false }
 {}
 
-/// Whether it is told that the journal is full.
-fn is_full(told: Told) -> bool
-    ensures { (entries : List Entry) → is_full_line (told_text entries told) ≡ result }
+/// Whether the answer is that the journal is full.
+fn is_full(told: LineAnswer) -> bool
+    ensures { (entries : List Entry) → is_full_line (reply_text entries told) ≡ result }
 {
     match told {
-        Told::Full(_) => true,
-        Told::Entry(place) => {
+        LineAnswer::Full(_) => true,
+        LineAnswer::Entry(place) => {
             law_entries_other(place);
             false
         }
-        Told::State => false,
-        Told::Fault(_) => false,
+        LineAnswer::State => false,
+        LineAnswer::Fault(_) => false,
     }
 }
 
-/// Whether a client was told that the journal is full.
-fn is_refused(told: Option<Told>) -> bool
+/// Whether a client is answered that the journal is full.
+fn is_refused(told: Option<LineAnswer>) -> bool
     ensures { (entries : List Entry) → is_full_line (said_text entries told) ≡ result }
 {
     match told {
@@ -200,7 +205,7 @@ fn is_refused(told: Option<Told>) -> bool
 }
 
 /// Counts a turn.
-fn count_turn(counts: &mut Counts, full: bool)
+fn count_turn(counts: &mut FairTotals, full: bool)
     requires turns { counts.old.turns < 2 ^ 32 }
     requires full { counts.old.full ≤ counts.old.turns }
     ensures { counts.new ≡ record counts.old {
@@ -218,28 +223,28 @@ fn count_turn(counts: &mut Counts, full: bool)
 fn run_turn(
     alloc: Global,
     draws: &mut Draws,
-    runner: &mut Runner<'_>,
-    counts: &mut Counts,
+    machine: &mut DayMachine<'_>,
+    counts: &mut FairTotals,
 ) -> Result<(), NoMemory>
-    requires runner { IsRunner runner.old }
-    requires ready { IsReady (moment_of runner.old) }
-    requires reels { length runner.old.reels.now ≡ 16 }
-    requires early { runner.old.heard ≤ 2 ^ 20 }
+    requires machine { IsDayMachine machine.old }
+    requires ready { IsReady (day_state_of machine.old) }
+    requires media { length machine.old.media.now ≡ 16 }
+    requires early { machine.old.heard ≤ 2 ^ 20 }
     requires turns { counts.old.turns < 2 ^ 32 }
-    requires fitting { IsFitting runner.old.heard counts.old }
-    ensures runner { OnOk result (IsRunner runner.new) }
-    ensures ready { OnOk result (IsReady (moment_of runner.new)) }
-    ensures kept { OnOk result (IsKept runner.old runner.new) }
-    ensures heard { OnOk result (runner.new.heard ≤ runner.old.heard + 3) }
-    ensures fitting { OnOk result (IsFitting runner.new.heard counts.new) }
-    ensures turned { OnOk result (HasTurned (link_on runner.old)
-        (drawn_to (words_left draws.old) counts.old (moment_of runner.old))
-        (drawn_to (words_left draws.new) counts.new (moment_of runner.new))) }
+    requires fitting { IsFitting machine.old.heard counts.old }
+    ensures machine { OnOk result (IsDayMachine machine.new) }
+    ensures ready { OnOk result (IsReady (day_state_of machine.new)) }
+    ensures kept { OnOk result (IsKept machine.old machine.new) }
+    ensures heard { OnOk result (machine.new.heard ≤ machine.old.heard + 3) }
+    ensures fitting { OnOk result (IsFitting machine.new.heard counts.new) }
+    ensures turned { OnOk result (IsTurnResult (link_on machine.old)
+        (drawn_to (words_left draws.old) counts.old (day_state_of machine.old))
+        (drawn_to (words_left draws.new) counts.new (day_state_of machine.new))) }
 {
     let later = u64::from(draws.draw(4));
-    advance(runner, later, counts);
+    advance(machine, later, counts);
     let client = draws.draw(256) as u8;
-    let told = turn_client(alloc, draws, runner, client)?;
+    let told = turn_client(alloc, draws, machine, client)?;
     count_turn(counts, is_refused(told));
     Ok(())
 }
@@ -269,19 +274,20 @@ fn count_entries(entries: &[Entry]) -> EntryCounts
 fn run_turns(
     alloc: Global,
     draws: &mut Draws,
-    runner: &mut Runner<'_>,
+    machine: &mut DayMachine<'_>,
     turns: u32,
-) -> Result<Counts, NoMemory>
-    requires runner { IsRunner runner.old }
-    requires morning { moment_of runner.old ≡ first_moment }
-    requires reels { length runner.old.reels.now ≡ 16 }
+) -> Result<FairTotals, NoMemory>
+    requires machine { IsDayMachine machine.old }
+    requires morning { day_state_of machine.old ≡ first_moment }
+    requires media { length machine.old.media.now ≡ 16 }
     requires few { turns ≤ 100000 }
-    ensures runner { OnOk result (IsRunner runner.new) }
-    ensures kept { OnOk result (IsKept runner.old runner.new) }
-    ensures come { IfOk result (λ counts. HasCome (link_on runner.old) (words_left draws.old)
-        (words_left draws.new) turns counts (moment_of runner.new)) }
+    ensures machine { OnOk result (IsDayMachine machine.new) }
+    ensures kept { OnOk result (IsKept machine.old machine.new) }
+    ensures come { IfOk result (λ counts. AreTurnResults (link_on machine.old) (words_left
+        draws.old)
+        (words_left draws.new) turns counts (day_state_of machine.new)) }
 {
-    let mut counts = Counts {
+    let mut counts = FairTotals {
         turns: 0,
         full: 0,
         last: 0,
@@ -290,7 +296,7 @@ fn run_turns(
         peak: 0,
     };
     for turn in 0..turns {
-        run_turn(alloc, draws, runner, &mut counts)?;
+        run_turn(alloc, draws, machine, &mut counts)?;
     }
     Ok(counts)
 }

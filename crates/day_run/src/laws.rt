@@ -5,40 +5,42 @@ ghost use Rattle.std.specs.Prelude.{length, map, sum_by, All, [], ◌≢◌, sli
 ghost use Rattle.std.specs.List.{list_all, range_with_len};
 ghost use Rattle.day_run.specs.declared.scripts.Line.{Line};
 ghost use Rattle.day_run.specs.declared.scripts.Line.TheVariants as Lines;
-ghost use Rattle.slot_calendar.specs.declared.profiles.CapacityStep.{CapacityStep};
+ghost use Rattle.slot_calendar.specs.declared.profiles.CapStep.{CapStep};
 ghost use Rattle.slot_calendar.specs.Profiles.{capacity_at};
 ghost use Rattle.admission.specs.declared.entries.Entry.{Entry};
 ghost use Rattle.admission.specs.Histories.{IsLegal, booked_after, state_after};
-ghost use Rattle.day_run.specs.Balanced.{share_of};
+ghost use Rattle.day_run.specs.BookingBalance.{share_of};
 ghost use Rattle.day_run.specs.Clients.{after_open};
 ghost use Rattle.day_run.specs.DayLaws.{AreClients, IsClient, IsDrawnTurn, IsFairLine, IsLink};
-ghost use Rattle.day_run.specs.DayLaws.{IsOfferTold, IsSoundClient, KeepsAfter};
-ghost use Rattle.day_run.specs.Days.{AreRun, IsDay, IsFaulty, IsLine, Link, Moment, booked_up_to};
+ghost use Rattle.day_run.specs.DayLaws.{IsOfferAnswer, IsSoundClient, SentIsBookedAfter};
+ghost use Rattle.day_run.specs.Days.{AreLineSteps, IsDay, IsFaulty, IsLine, Link, DayState};
+ghost use Rattle.day_run.specs.Days.{booked_up_to};
 ghost use Rattle.day_run.specs.Days.{last_journal, first_moment, rest_at, state_at, sent_up_to};
 ghost use Rattle.day_run.specs.FairDays.{IsFair, IsTurn, Turn};
 ghost use Rattle.day_run.specs.declared.scripts.Script.{Script};
-ghost use Rattle.day_run.specs.Lines.{lines_of_script};
-ghost use Rattle.day_run.specs.Readings.{IsBadLine, IsScript, Name, Reading, lines_read, names_of};
+ghost use Rattle.day_run.specs.TextLines.{lines_of_script};
+ghost use Rattle.day_run.specs.ScriptReading.{IsBadLine, IsScript, Name, Reading, lines_read};
+ghost use Rattle.day_run.specs.ScriptReading.{names_of};
 ghost use Rattle.day_run.specs.Scripts.{AreLines, StandsAfter, latest_slot};
-ghost use Rattle.day_run.specs.Spelling.{AreWritten, IsInWords, MayStand, is_verb, is_word};
-ghost use Rattle.day_run.specs.Spelling.{line_text, names_used, script_text, words_text};
+ghost use Rattle.day_run.specs.ScriptText.{AreWritten, IsInWords, MayStand, is_verb, is_word};
+ghost use Rattle.day_run.specs.ScriptText.{line_text, names_used, script_text, words_text};
 
 /// After lines of a script, what the clients are sent in the slots up to any later one, after the
 /// slot that was heard last, is what is booked in those slots.
-pub fn law_clients_sent()
+pub fn law_sent_is_what_is_booked()
     ensures { (link : Link) (sources : ℕ) (lines : List Line) (texts : List (List ℕ))
-        (moment : Moment) (slot : ℕ) → AreClients lines → AreLines sources lines →
-        AreRun link lines texts first_moment moment → moment.heard ≤ slot →
+        (moment : DayState) (slot : ℕ) → AreClients lines → AreLines sources lines →
+        AreLineSteps link lines texts first_moment moment → moment.heard ≤ slot →
         sent_up_to moment slot ≡ booked_up_to moment slot }
 {}
 
 /// After lines of a script, where the journal is legal, what the clients are sent in the slots up
 /// to any later one, after the slot that was heard last, is no more than the capacity of those
 /// slots.
-pub fn law_capacity_kept()
+pub fn law_sent_is_within_capacity()
     ensures { (link : Link) (sources : ℕ) (lines : List Line) (texts : List (List ℕ))
-        (moment : Moment) (slot : ℕ) → AreClients lines → AreLines sources lines →
-        AreRun link lines texts first_moment moment → IsLegal link.steps moment.entries →
+        (moment : DayState) (slot : ℕ) → AreClients lines → AreLines sources lines →
+        AreLineSteps link lines texts first_moment moment → IsLegal link.steps moment.entries →
         moment.heard ≤ slot → sent_up_to moment slot ≤ sum_by (capacity_at link.steps)
         (range_with_len (moment.heard + 1) (slot - moment.heard)) }
 {}
@@ -46,29 +48,30 @@ pub fn law_capacity_kept()
 /// A script's day, whose journal is legal, comes to a moment after each of its lines: what the
 /// clients are sent in the slots up to any later one, after the slot that was heard last, is what
 /// is booked there, and no more than the capacity of those slots.
-pub fn law_each_line()
+pub fn law_each_line_sends_what_is_booked()
     ensures { (link : Link) (sources count : ℕ) (lines : List Line) (text : List ℕ)
         (journal : List Entry) → AreClients lines → AreLines sources lines →
-        IsDay link lines text journal → IsLegal link.steps journal → KeepsAfter link lines count }
+        IsDay link lines text journal → IsLegal link.steps journal → SentIsBookedAfter link lines
+        count }
 {}
 
 /// A day prints one text for each line of its script.
-pub fn law_texts()
-    ensures { (link : Link) (lines : List Line) (texts : List (List ℕ)) (old new : Moment) →
-        AreRun link lines texts old new → length texts ≡ length lines }
+pub fn law_one_text_per_line()
+    ensures { (link : Link) (lines : List Line) (texts : List (List ℕ)) (old new : DayState) →
+        AreLineSteps link lines texts old new → length texts ≡ length lines }
 {}
 
 /// What the line of a large day says holds: what was sent is what the journal books in its slots,
 /// and no slot has more than the capacity.
-pub fn law_fair()
-    ensures { (steps : List CapacityStep) (number plays : ℕ) (text : List ℕ)
+pub fn law_fair_line_is_correct()
+    ensures { (steps : List CapStep) (number plays : ℕ) (text : List ℕ)
         (journal : List Entry) → IsFair steps number plays text journal → IsLegal steps journal →
         IsFairLine steps plays text journal }
 {}
 
 /// Each turn of a large day is a script's: at most one slot, of the next three, and then at most
 /// one line, by which one of 256 clients plays, pauses or goes on.
-pub fn law_drawn_turns()
+pub fn law_fair_turns_are_script_lines()
     ensures { (link : Link) (words : ℕ → ℕ) (turn : Turn) → IsTurn link words turn →
         IsDrawnTurn link turn }
 {}
@@ -77,7 +80,7 @@ pub fn law_drawn_turns()
 /// their ranges, whose name is none that a file may have, whose slot isn't later, or whose first
 /// word is none of the six verbs with its number of words, is named as the first bad one, whatever
 /// stands after it.
-pub fn law_script_read_back()
+pub fn law_written_script_reads_back()
     ensures read { (script : Script) →
         AreWritten (names_of script.named.items) script.lines.items →
         names_used script.lines.items ≡ length (names_of script.named.items) →
@@ -96,7 +99,7 @@ pub fn law_script_read_back()
 
 /// A line of a script is ended by LF or CR LF, the last one also by the end of the text; an empty
 /// line says nothing.
-pub fn law_script_lines()
+pub fn law_script_lines_end_at_line_feeds()
     ensures ended { (line rest : List ℕ) → All (λ b. b ≢ 10) line →
         slice_index line (length line - 1) ≢ 13 →
         lines_of_script (line ++ 10 ∷ rest) ≡ line ∷ lines_of_script rest }
@@ -109,11 +112,11 @@ pub fn law_script_lines()
 {}
 
 /// A look changes no client, no booking and no slot, only the journal; an offer changes nothing.
-pub fn law_looks()
-    ensures look { (link : Link) (slot : ℕ) (old new : Moment) (text : List ℕ) →
+pub fn law_looks_and_offers_book_nothing()
+    ensures look { (link : Link) (slot : ℕ) (old new : DayState) (text : List ℕ) →
         IsLine link (Lines.Look slot) old new text → (new.states ≡ old.states)
         × (new.heard ≡ old.heard) × (state_after new.entries ≡ state_after old.entries) }
-    ensures offer { (link : Link) (client source buffer delay wait : ℕ) (old new : Moment)
+    ensures offer { (link : Link) (client source buffer delay wait : ℕ) (old new : DayState)
         (text : List ℕ) → IsLine link (Lines.Offer client source buffer delay wait) old new text →
         new ≡ old }
 {}
@@ -121,33 +124,33 @@ pub fn law_looks()
 /// An offer tells the least start within its wait at which the play's plan has room beside all that
 /// is booked, from the start on that a play would get which is asked for in the slot that was heard
 /// last; or the fault of the curves. For each earlier start it names the first slot without room.
-pub fn law_offers()
-    ensures { (link : Link) (client source buffer delay wait : ℕ) (old new : Moment)
+pub fn law_offer_is_the_earliest_start()
+    ensures { (link : Link) (client source buffer delay wait : ℕ) (old new : DayState)
         (text : List ℕ) → IsLine link (Lines.Offer client source buffer delay wait) old new text →
         IsFaulty (rest_at link source buffer delay) old new text
-        ⊎ IsOfferTold link (rest_at link source buffer delay) wait old text }
+        ⊎ IsOfferAnswer link (rest_at link source buffer delay) wait old text }
 {}
 
 /// What is booked in the slots that were heard stays: no line of a script changes it, nor does the
 /// end of the day.
-pub fn law_heard_slots_stay()
+pub fn law_past_slots_never_change()
     ensures line { (link : Link) (sources slot : ℕ) (lines : List Line) (texts : List (List ℕ))
-        (moment next : Moment) (line : Line) (text : List ℕ) → AreClients lines →
-        AreLines sources lines → AreRun link lines texts first_moment moment → IsClient line →
+        (moment next : DayState) (line : Line) (text : List ℕ) → AreClients lines →
+        AreLines sources lines → AreLineSteps link lines texts first_moment moment → IsClient line →
         StandsAfter moment.heard sources line → IsLine link line moment next text →
         slot ≤ moment.heard → booked_after next.entries slot ≡ booked_after moment.entries slot }
     ensures end { (link : Link) (sources slot : ℕ) (lines : List Line) (texts : List (List ℕ))
-        (moment : Moment) → AreClients lines → AreLines sources lines →
-        AreRun link lines texts first_moment moment → slot ≤ moment.heard →
+        (moment : DayState) → AreClients lines → AreLines sources lines →
+        AreLineSteps link lines texts first_moment moment → slot ≤ moment.heard →
         booked_after (last_journal moment) slot ≡ booked_after moment.entries slot }
 {}
 
 /// At the day's end no play is open: the slots to come have only what is still sent to clients
 /// whose pause isn't done.
-pub fn law_end()
+pub fn law_no_play_is_open_at_the_end()
     ensures { (link : Link) (sources slot : ℕ) (lines : List Line) (texts : List (List ℕ))
-        (moment : Moment) → AreClients lines → AreLines sources lines →
-        AreRun link lines texts first_moment moment → moment.heard < slot →
+        (moment : DayState) → AreClients lines → AreLines sources lines →
+        AreLineSteps link lines texts first_moment moment → moment.heard < slot →
         booked_after (last_journal moment) slot
         ≡ sum_by (share_of slot) (map after_open moment.states) }
 {}
@@ -155,25 +158,25 @@ pub fn law_end()
 /// After lines of a script each client goes on soundly: a play is sent by the plan of what was left
 /// as it began, and isn't done; what a pause leaves can be played, and what was sent before it are
 /// whole frames and reports.
-pub fn law_clients()
-    ensures { (link : Link) (lines : List Line) (texts : List (List ℕ)) (moment : Moment)
-        (client : ℕ) → IsLink link → AreClients lines → AreLines (length link.reels) lines →
-        AreRun link lines texts first_moment moment → client < 256 →
+pub fn law_every_client_is_sound()
+    ensures { (link : Link) (lines : List Line) (texts : List (List ℕ)) (moment : DayState)
+        (client : ℕ) → IsLink link → AreClients lines → AreLines (length link.media) lines →
+        AreLineSteps link lines texts first_moment moment → client < 256 →
         IsSoundClient moment.heard (state_at moment client) }
 {}
 
 /// A script has one text and one journal.
-pub fn law_one_day()
+pub fn law_script_run_is_unique()
     ensures { (link : Link) (lines : List Line) (text other : List ℕ)
         (journal others : List Entry) → IsLink link → AreClients lines →
-        AreLines (length link.reels) lines → IsDay link lines text journal →
+        AreLines (length link.media) lines → IsDay link lines text journal →
         IsDay link lines other others → (text ≡ other) × (journal ≡ others) }
 {}
 
 /// A large day has one line and one journal: its number, its turns and the link's capacity
 /// determine them.
-pub fn law_one_fair()
-    ensures { (steps : List CapacityStep) (number plays : ℕ) (text other : List ℕ)
+pub fn law_fair_is_unique()
+    ensures { (steps : List CapStep) (number plays : ℕ) (text other : List ℕ)
         (journal others : List Entry) → IsFair steps number plays text journal →
         IsFair steps number plays other others → (text ≡ other) × (journal ≡ others) }
 {}

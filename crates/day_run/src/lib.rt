@@ -2,32 +2,27 @@
 //! against one calendar.
 #![tactic(auto)]
 
-mod all_clients;
-mod beginnings;
+mod booked_sums;
+mod client_set;
 mod clients;
-mod counts;
-mod days;
-mod drains;
+mod fair_totals;
 mod fairs;
-mod laws;
-mod reading;
-mod reels;
-mod runners;
-mod sayings;
+pub mod laws;
+mod line_split;
+mod line_texts;
+mod machine;
+mod media;
+mod media_sources;
+mod messages;
+mod null_link;
+mod play_start;
+mod script_reader;
+mod script_run;
 mod scripts;
-mod sources;
-mod splits;
-mod sums;
-mod texts;
-mod trace_reels;
+mod trace_media;
 
-pub use days::{Day, run_script};
 pub use fairs::fair;
-pub use laws::{
-    law_capacity_kept, law_clients, law_clients_sent, law_drawn_turns, law_each_line, law_end,
-    law_fair, law_heard_slots_stay, law_looks, law_offers, law_one_day, law_one_fair,
-    law_script_lines, law_script_read_back, law_texts,
-};
-pub use reading::read_script;
-pub use reels::Source;
+pub use media::Source;
+pub use script_reader::read_script;
+pub use script_run::{Day, run_script};
 pub use scripts::{Line, Named, Script, ScriptRefused, SourceKind};

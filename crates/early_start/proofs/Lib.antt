@@ -1,2 +1,2 @@
-pub mod Refusals
-pub mod Everywhere
+pub mod RefusedStarts
+pub mod AllSlotOffers

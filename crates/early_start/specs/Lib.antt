@@ -1,2 +1,2 @@
-pub mod Offered
-pub mod Kept
+pub mod StartSearch
+pub mod OffersInvariant

@@ -4,11 +4,10 @@
 
 ghost use Rattle.std.specs.Prelude.{◌≡◌, ◌+◌, ◌^◌, ◌<◌, ◌≤◌, None, [], IfOk, MatchOption, length};
 ghost use Rattle.std.specs.Prelude.{vec_len, vec_capacity};
-ghost use Rattle.early_start.specs.Offered.{AreRefusalsIn, IsOfferIn, IsStartIn};
+ghost use Rattle.early_start.specs.StartSearch.{AreRefusalsIn, IsOfferIn, IsStartIn};
 
-mod laws;
+pub mod laws;
 
-pub use laws::{law_least_start, law_offer_of_plays, law_one_offer};
 use plan_cert::Plan;
 use slot_calendar::{Calendar, Overflow};
 use std::alloc::Global;
@@ -35,12 +34,12 @@ pub struct Offers {
 }
 
 impl Model for Offers {
-    ghost use Rattle.early_start.specs.Offered.{Offers};
-    ghost use Rattle.early_start.specs.Kept.{found_of, AreOffersKept};
+    ghost use Rattle.early_start.specs.StartSearch.{Offers};
+    ghost use Rattle.early_start.specs.OffersInvariant.{offers_state, AreOffersKept};
 
     ghost Value = { Offers };
 
-    ghost view = { found_of };
+    ghost view = { offers_state };
 
     ghost invariant = { AreOffersKept };
 }
@@ -86,7 +85,7 @@ impl Offers {
 
     /// The starts before it, at which the plan doesn't fit, in order; all of them where there is
     /// none. At most `wait() + 1` starts.
-    pub fn tries(&self) -> &[Tried]
+    pub fn tried(&self) -> &[Tried]
         ensures value { result.now ≡ self.now.tried }
         ensures few { length result.now ≤ self.now.wait + 1 }
     {

@@ -1,6 +1,9 @@
 //! The least start of a plan on links with bookings, by rows.
 
 use super::*;
+use crate::laws::{
+    law_offer_covers_past_slots, law_offer_is_unique, law_offered_start_is_earliest,
+};
 use plan_cert::Segment;
 use slot_calendar::{Profile, RING_SLOTS};
 use std::process::Abort;
@@ -23,7 +26,7 @@ fn run(
 ) -> Result<(), Fail> {
     let plan = plan_of(rt, alloc, segments)?;
     assert!(rt; capacity <= 1 << 42);
-    let mut calendar = Calendar::new(alloc, Profile::of_one_step(alloc, capacity)?)?;
+    let mut calendar = Calendar::new(alloc, Profile::flat(alloc, capacity)?)?;
     assert!(rt; calendar.now() == 0 && plan.slots() < RING_SLOTS);
     assert!(rt; calendar.first_overflow(1, &plan).is_none());
     calendar.book(1, &plan);
@@ -33,7 +36,7 @@ fn run(
         offers.find(&calendar, &plan, *first);
         assert_eq!(rt; (offers.wait(), offers.start()), (*wait, *start));
         let mut told = Vec::new(alloc);
-        for Tried { start, over } in offers.tries() {
+        for Tried { start, over } in offers.tried() {
             told.push((*start, over.slot, over.booked, over.asked))?;
         }
         assert_eq!(rt; told.as_slice(), *tried);
@@ -43,9 +46,9 @@ fn run(
 
 #[test]
 fn finds_the_least_start(rt: HostRuntime) -> Result<(), Fail> {
-    law_least_start();
-    law_one_offer();
-    law_offer_of_plays();
+    law_offered_start_is_earliest();
+    law_offer_is_unique();
+    law_offer_covers_past_slots();
     let segments = [Segment { slots: 3, bytes: 7 }];
     let tried: &[(u64, u64, u64, u64)] = &[(1, 3, 3, 3), (2, 3, 3, 2), (3, 3, 3, 2)];
     let rows = [

@@ -1,18 +1,19 @@
 pub mod TrackLemmas
 pub mod TraceLemmas
 pub mod PieceLemmas
-pub mod FilmLemmas
+pub mod FilmPieceLemmas
 mod TableLemmas
-mod FrontLemmas
-pub mod RunLemmas
-pub mod SentLemmas
-mod NextLemmas
-pub mod CountLemmas
-pub mod BackLemmas
+mod FirstUnitLemmas
+pub mod RunBytesLemmas
+pub mod RunPieceLemmas
+mod NextBytesLemmas
+pub mod EndedPieceLemmas
+pub mod PayloadLemmas
 mod ReportLemmas
-mod RunFronts
-mod ReportNumbers
-mod PlaceLemmas
-mod StandLemmas
-mod FrameFacts
-mod HeadLemmas
+mod ReportCountLemmas
+mod RunPrefixLemmas
+mod ReportIndexLemmas
+mod PayloadPlaceLemmas
+mod ReportPlacementLemmas
+mod FramedRunFacts
+mod HeadEndLemmas

@@ -8,7 +8,7 @@ use Rattle.mpeg_scan.specs.declared.units.Unit.{Unit as PictureUnit}
 use Rattle.rtp_pack.specs.declared.payloads.Packet.{Packet}
 use Rattle.rtp_pack.specs.Packets.{DoCover, IsLaid, frames_size, portion_packets, unit_packets}
 use Rattle.rtp_pack.specs.Packets.{unit_starts}
-use Rattle.rtp_pack.proofs.UnitLemmas.{packets-are, packets-bound, packets-cover, packets-size}
+use Rattle.rtp_pack.proofs.UnitPacketLemmas.{packets-are, packets-bound, packets-cover, packets-size}
 use Rattle.film_frames.specs.declared.pieces.Piece.{Piece}
 use Rattle.film_frames.specs.declared.pieces.Piece.TheVariants.{Report, Frame}
 use Rattle.film_frames.specs.Pieces.{pieces_of, unit_pieces, unit_reports, wire_in, wire_of}

@@ -5,12 +5,12 @@ use Rattle.std.proofs.lemmas.Option.{slice_get_within}
 use Rattle.mpeg_scan.specs.declared.units.Unit.{Unit as PictureUnit}
 use Rattle.film_frames.specs.declared.pieces.Piece.{Piece}
 use Rattle.film_frames.specs.declared.pieces.Piece.TheVariants.{Report, Frame}
-use Rattle.film_frames.specs.Laws.{AreBefore, AreOnChannels, DoReportsCount, channel_of}
+use Rattle.film_frames.specs.Laws.{AreCountsBefore, AreOnChannels, ReportsCountFrames, channel_of}
 use Rattle.film_frames.specs.Pieces.{frames_in, octets_in}
-use Rattle.film_frames.specs.Runs.{HaveEnded, FramedRun, count_ended, frames_before, octets_before, piece_bytes}
-use Rattle.film_frames.specs.Runs.{run_pieces, pieces_in}
+use Rattle.film_frames.specs.FramedRuns.{HaveEnded, FramedRun, count_ended, frames_before, octets_before, piece_bytes}
+use Rattle.film_frames.specs.FramedRuns.{run_pieces, pieces_in}
 use Rattle.film_frames.specs.Tracks.{begin_of}
-use Rattle.film_frames.proofs.RunLemmas.{count_ended-is, blocks_from-at, blocks_from-count}
+use Rattle.film_frames.proofs.RunBytesLemmas.{count_ended-is, blocks_from-at, blocks_from-count}
 use Rattle.film_frames.proofs.TrackLemmas.{begin-more}
 
 -- where a report begins, the pieces before it have ended
@@ -28,7 +28,7 @@ count_ended-before run k unit at =
       next = λ h. omega (arith, begin-more pieces k within, long);
     })
 
-pub reports-count : (run : FramedRun) → DoReportsCount run
+pub reports-count : (run : FramedRun) → ReportsCountFrames run
 reports-count run = λ k unit at.
     let before = sym (count_ended-before run k unit at) in
     let f : 0 + frames_in (take k (pieces_in run)) ≡ frames_in (take k (pieces_in run)) = omega arith in
@@ -42,7 +42,8 @@ reports-count run = λ k unit at.
     ∙ ap (λ n. piece_bytes run (frames_before run (begin_of (run_pieces run) k)) n (Report unit)) octets
 
 -- what counts before a place
-pub counted-before : (run : FramedRun) (at count : ℕ) → HaveEnded (run_pieces run) at count → AreBefore run at count
+pub counted-before : (run : FramedRun) (at count : ℕ) → HaveEnded (run_pieces run) at count → AreCountsBefore run at
+    count
 counted-before run at count have =
     let is = count_ended-is (run_pieces run) at count have in
     record {

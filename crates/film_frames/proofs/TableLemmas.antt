@@ -13,19 +13,19 @@ use Rattle.film_frames.specs.declared.pieces.Piece.{Piece}
 use Rattle.film_frames.specs.declared.pieces.Piece.TheVariants.{Report, Frame}
 use Rattle.rtp_pack.specs.declared.payloads.Packet.{Packet}
 use Rattle.rtp_pack.specs.Packets.{unit_packets}
-use Rattle.mpeg_scan.proofs.BoundLemmas.{film-bytes}
-use Rattle.film_frames.specs.declared.rows.Kept.{Kept}
-use Rattle.film_frames.specs.declared.rows.Kept.TheVariants.{Report as KeptReport, Frame as KeptFrame}
-use Rattle.film_frames.specs.declared.rows.Row.{Row}
+use Rattle.mpeg_scan.proofs.FilmBoundLemmas.{film-bytes}
+use Rattle.film_frames.specs.declared.table_rows.PieceKind.{PieceKind}
+use Rattle.film_frames.specs.declared.table_rows.PieceKind.TheVariants.{Report as KeptReport, Frame as KeptFrame}
+use Rattle.film_frames.specs.declared.table_rows.Row.{Row}
 use Rattle.film_frames.specs.declared.tables.FrameTable.{FrameTable}
 use Rattle.film_frames.specs.Pieces.{film_pieces, from_of, front_pieces, pieces_of, unit_of}
 use Rattle.film_frames.specs.Pieces.{unit_pieces, unit_reports, wire_in, wire_of, wire_size}
-use Rattle.film_frames.specs.Tables.{IsFrameKept, IsFrameRow, IsRow, IsSound, IsTable, IsTableOf}
-use Rattle.film_frames.specs.Tables.{kept_piece, with_report}
+use Rattle.film_frames.specs.Tables.{IsFrameKind, IsFrameRow, IsRow, IsSound, IsTable, IsTableOf}
+use Rattle.film_frames.specs.Tables.{piece_of_kind, with_report}
 use Rattle.film_frames.proofs.PieceLemmas.{length-le-wire, sound-at, unit-wire, wire-append}
-use Rattle.film_frames.proofs.FilmLemmas.{film-sound, unit-laid}
-use Rattle.film_frames.proofs.FrontLemmas.{front-back, front-bound, front-more}
-use Rattle.film_frames.proofs.ReportNumbers.{reports-push}
+use Rattle.film_frames.proofs.FilmPieceLemmas.{film-sound, unit-laid}
+use Rattle.film_frames.proofs.FirstUnitLemmas.{front-back, front-bound, front-more}
+use Rattle.film_frames.proofs.ReportIndexLemmas.{reports-push}
 use Rattle.mpeg_scan.specs.declared.films.Film.{Film}
 
 -- ---- one more piece
@@ -204,8 +204,8 @@ pub wire-least : (film : List ℕ) (piece : Piece) → IsSound film piece → 20
 wire-least film (Report unit) sound = omega arith
 wire-least film (Frame unit its) sound = omega arith
 
-kept-within : (kept : Kept) (film : List ℕ) (piece : Piece) →
-    kept_piece kept (unit_of piece) (from_of piece) (wire_of piece) ≡ piece → IsFrameKept kept → IsSound film piece →
+kept-within : (kept : PieceKind) (film : List ℕ) (piece : Piece) →
+    piece_of_kind kept (unit_of piece) (from_of piece) (wire_of piece) ≡ piece → IsFrameKind kept → IsSound film piece →
     from_of piece + wire_of piece ≤ length film + 20
 kept-within KeptReport film piece same frame sound = absurd frame
 kept-within (KeptFrame begin end) film (Report unit) same frame sound = cc

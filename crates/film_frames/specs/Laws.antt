@@ -4,18 +4,19 @@ use Rattle.std.specs.Prelude.{false, flat_map, slice_get, slice_index, slice_ind
 use Rattle.std.specs.Prelude.{Ok, Some}
 use Rattle.mpeg_scan.specs.declared.units.Unit.{Unit as PictureUnit}
 use Rattle.mpeg_scan.specs.declared.films.Film.{Film}
-use Rattle.mpeg_scan.specs.Rates.{picture_time}
+use Rattle.mpeg_scan.specs.PictureRates.{picture_time}
 use Rattle.rtp_pack.specs.declared.heads.Head.{Head}
 use Rattle.rtp_pack.specs.declared.payloads.Packet.{Packet}
 use Rattle.rtp_pack.specs.declared.reports.Identity.{Identity}
+use Rattle.rtp_pack.specs.Fields.{octets_sent, packets_sent}
 use Rattle.rtp_pack.specs.Heads.{head_at, head_of, packet_head, video_word}
 use Rattle.rtp_pack.specs.Reports.{report_bytes, unit_report}
 use Rattle.interleave.specs.Elements.{StartsBlock, block_length}
 use Rattle.film_frames.specs.declared.pieces.Piece.{Piece}
 use Rattle.film_frames.specs.declared.pieces.Piece.TheVariants.{Report, Frame}
 use Rattle.film_frames.specs.Pieces.{frames_in, octets_in, octets_of}
-use Rattle.film_frames.specs.Runs.{FramedRun, frames_before, interleaved_block, octets_before}
-use Rattle.film_frames.specs.Runs.{pieces_in, run_pieces}
+use Rattle.film_frames.specs.FramedRuns.{FramedRun, frames_before, interleaved_block, octets_before}
+use Rattle.film_frames.specs.FramedRuns.{pieces_in, run_pieces}
 use Rattle.film_frames.specs.Tracks.{begin_of}
 
 -- a fact of each run of one or more of a film's units, which goes from one to another that isn't in
@@ -45,8 +46,8 @@ abbrev pub sequence_of : List ℕ → ℕ
 sequence_of frame = (head_at (drop 4 frame)).sequence
 
 -- sequence numbers count on from a first, modulo 2^16
-abbrev pub DoCountOn : ℕ → List (List ℕ) → Type 0
-DoCountOn sequence frames = (k : ℕ) → k < length frames →
+abbrev pub AreConsecutive : ℕ → List (List ℕ) → Type 0
+AreConsecutive sequence frames = (k : ℕ) → k < length frames →
     sequence_of (slice_index_or frames k []) ≡ (sequence + k) % 2 ^ 16
 
 -- a report has 52 bytes; a frame has 21 to 1,400, and its octets are all but 16 of them
@@ -81,15 +82,15 @@ AreOnChannels run =
 
 -- a report stands directly before the first frame of a unit that starts a group, before each of
 -- them, and nowhere else
-abbrev pub DoReportsStand : List Piece → Type 0
-DoReportsStand [] = Unit {0}
-DoReportsStand (Report unit ∷ []) = ⊥
-DoReportsStand (Report unit ∷ (Report other ∷ pieces)) = ⊥
-DoReportsStand (Report unit ∷ (Frame other packet ∷ pieces)) =
+abbrev pub ReportsPrecedeGroups : List Piece → Type 0
+ReportsPrecedeGroups [] = Unit {0}
+ReportsPrecedeGroups (Report unit ∷ []) = ⊥
+ReportsPrecedeGroups (Report unit ∷ (Report other ∷ pieces)) = ⊥
+ReportsPrecedeGroups (Report unit ∷ (Frame other packet ∷ pieces)) =
     ((other ≡ unit) × ((packet.from ≡ unit.from) × (unit.starts_group ≡ true)))
-    × DoReportsStand pieces
-DoReportsStand (Frame unit packet ∷ pieces) =
-    (packet.from ≡ unit.from → unit.starts_group ≡ false) × DoReportsStand pieces
+    × ReportsPrecedeGroups pieces
+ReportsPrecedeGroups (Frame unit packet ∷ pieces) =
+    (packet.from ≡ unit.from → unit.starts_group ≡ false) × ReportsPrecedeGroups pieces
 
 -- a report of a unit that begins at a place: what it counts is what the session sent before the
 -- run, and the run's frames that have ended at that place
@@ -99,10 +100,24 @@ counted_report run unit at =
     (octets_before run at) in
     interleaved_block run.identity.control (report_bytes report)
 
-abbrev pub DoReportsCount : FramedRun → Type 0
-DoReportsCount run =
+abbrev pub ReportsCountFrames : FramedRun → Type 0
+ReportsCountFrames run =
     (k : ℕ) (unit : PictureUnit) → slice_get (pieces_in run) k ≡ Some (Report unit)
     → slice_index_or (run_pieces run) k [] ≡ counted_report run unit (begin_of (run_pieces run) k)
+
+-- the counts of a report of an interleaved block, each read at its bytes (RFC 3550 section 6.4.1):
+-- the packets and the octets that the session sent before the run, and those of the run's frames
+-- that have ended where the block begins, modulo 2^32. The block's first 4 bytes are its own head.
+pub record HasSessionCounts (run : FramedRun) (at : ℕ) (block : List ℕ) : Type 0 where
+  pub packets : packets_sent (drop 4 block)
+      ≡ (run.identity.packets + frames_before run at) % 2 ^ 32
+  pub octets : octets_sent (drop 4 block)
+      ≡ (run.identity.octets + octets_before run at) % 2 ^ 32
+
+abbrev pub ReportsHaveSessionCounts : FramedRun → Type 0
+ReportsHaveSessionCounts run =
+    (k : ℕ) (unit : PictureUnit) → slice_get (pieces_in run) k ≡ Some (Report unit)
+    → HasSessionCounts run (begin_of (run_pieces run) k) (slice_index_or (run_pieces run) k [])
 
 -- the head of a frame as it is read: that of its packet, with a video header of 32 bits
 abbrev pub head_read : FramedRun → PictureUnit → Packet → ℕ → Head
@@ -112,14 +127,14 @@ head_read run unit packet before =
     }
 
 -- the head of each frame reads back whole: its packet's, with the frames of the run before it
-abbrev pub DoHeadsReadBack : FramedRun → Type 0
-DoHeadsReadBack run =
+abbrev pub HeadsRoundTrip : FramedRun → Type 0
+HeadsRoundTrip run =
     (k : ℕ) (unit : PictureUnit) (packet : Packet) →
     slice_get (pieces_in run) k ≡ Some (Frame unit packet)
     → head_of (drop 4 (slice_index_or (run_pieces run) k []))
     ≡ Ok (head_read run unit packet (frames_in (take k (pieces_in run))))
 
 -- the frames before a place of a run, and their octets, are those among so many of its first pieces
-pub record AreBefore (run : FramedRun) (at count : ℕ) : Type 0 where
+pub record AreCountsBefore (run : FramedRun) (at count : ℕ) : Type 0 where
   pub frames : frames_before run at ≡ frames_in (take count (pieces_in run))
   pub octets : octets_before run at ≡ octets_in (take count (pieces_in run))

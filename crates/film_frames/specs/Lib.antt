@@ -1,5 +1,5 @@
 pub mod Tracks
 pub mod Pieces
-pub mod Runs
+pub mod FramedRuns
 pub mod Tables
 pub mod Laws

@@ -7,29 +7,29 @@ use Rattle.rtp_pack.specs.declared.payloads.Packet.{Packet}
 use Rattle.rtp_pack.specs.Packets.{packet}
 use Rattle.film_frames.specs.declared.pieces.Piece.{Piece}
 use Rattle.film_frames.specs.declared.pieces.Piece.TheVariants.{Report, Frame}
-use Rattle.film_frames.specs.declared.rows.Kept.{Kept}
-use Rattle.film_frames.specs.declared.rows.Kept.TheVariants.{Report as KeptReport}
-use Rattle.film_frames.specs.declared.rows.Kept.TheVariants.{Frame as KeptFrame}
-use Rattle.film_frames.specs.declared.rows.Row.{Row}
+use Rattle.film_frames.specs.declared.table_rows.PieceKind.{PieceKind}
+use Rattle.film_frames.specs.declared.table_rows.PieceKind.TheVariants.{Report as KeptReport}
+use Rattle.film_frames.specs.declared.table_rows.PieceKind.TheVariants.{Frame as KeptFrame}
+use Rattle.film_frames.specs.declared.table_rows.Row.{Row}
 use Rattle.film_frames.specs.declared.tables.FrameTable.{FrameTable}
 use Rattle.film_frames.specs.Pieces.{film_pieces, pieces_of, from_of, unit_of, wire_of, wire_in}
 
 -- the piece of what a row keeps, where its unit, the place of its payload and its bytes are known
-abbrev pub kept_piece : Kept → PictureUnit → ℕ → ℕ → Piece
-kept_piece KeptReport unit from size = Report unit
-kept_piece (KeptFrame begin end) unit from size =
+abbrev pub piece_of_kind : PieceKind → PictureUnit → ℕ → ℕ → Piece
+piece_of_kind KeptReport unit from size = Report unit
+piece_of_kind (KeptFrame begin end) unit from size =
     Frame unit (packet unit from (from + (size - 20)) begin end)
 
 abbrev pub row_piece : Row → PictureUnit → ℕ → ℕ → Piece
-row_piece row unit from size = kept_piece row.kept unit from size
+row_piece row unit from size = piece_of_kind row.kept unit from size
 
 -- a row is that of a frame
-abbrev pub IsFrameKept : Kept → Type 0
-IsFrameKept KeptReport = ⊥
-IsFrameKept (KeptFrame begin end) = Unit {0}
+abbrev pub IsFrameKind : PieceKind → Type 0
+IsFrameKind KeptReport = ⊥
+IsFrameKind (KeptFrame begin end) = Unit {0}
 
 abbrev pub IsFrameRow : Row → Type 0
-IsFrameRow row = IsFrameKept row.kept
+IsFrameRow row = IsFrameKind row.kept
 
 -- a frame's packet has 1 to 1,380 bytes of the film, and its flags are those of its place in the
 -- unit

@@ -1,24 +1,25 @@
 //! The track of a run of a film's units.
 
 ghost use Rattle.mpeg_scan.specs.declared.units.Unit.{Unit as PictureUnit};
-ghost use Rattle.mpeg_scan.specs.Rates.{picture_time};
+ghost use Rattle.mpeg_scan.specs.PictureRates.{picture_time};
 ghost use Rattle.std.specs.Prelude.{◌≡◌, ◌+◌, ◌-◌, ◌^◌, ◌++◌, ◌<◌, ◌≤◌, ℕ, [], length, take, drop};
 ghost use Rattle.std.specs.Prelude.{slice_get, slice_range, Some};
 ghost use Rattle.film_frames.specs.Pieces.{frames_in, octets_in, wire_in};
-ghost use Rattle.film_frames.specs.Runs.{HaveEnded, count_ended, frames_before, octets_before};
-ghost use Rattle.film_frames.specs.Runs.{payload, piece_bytes};
-ghost use Rattle.film_frames.specs.Runs.{run_of, run_pieces, pieces_in};
+ghost use Rattle.film_frames.specs.FramedRuns.{HaveEnded, count_ended, frames_before};
+ghost use Rattle.film_frames.specs.FramedRuns.{octets_before};
+ghost use Rattle.film_frames.specs.FramedRuns.{payload, piece_bytes};
+ghost use Rattle.film_frames.specs.FramedRuns.{run_of, run_pieces, pieces_in};
 ghost use Rattle.film_frames.specs.Tables.{IsCutPacket, IsSound};
 ghost use Rattle.film_frames.specs.declared.pieces.Piece.TheVariants.{Frame, Report};
 ghost use Rattle.film_frames.specs.Tracks.{IsBoundary, IsNext, IsSplit, begin_of, framed_bytes};
 
+use crate::binary_search::ends_below;
 use crate::heads::{put_frame_heads, report_block};
 use crate::pieces::Piece;
-use crate::searches::ends_below;
-use crate::stores::Stored;
+use crate::stored_films::Stored;
 use crate::tracks::{Part, Track};
 use mpeg_scan::Unit;
-use rtp_pack::{FRAME_HEADS, Identity, Packet, REPORT_BYTES, packet_head, unit_report};
+use rtp_pack::{FRAME_HEAD_BYTES, Identity, Packet, REPORT_BYTES, packet_head, unit_report};
 use std::marker::Model;
 
 /// The bytes of a frame that its octets don't count: the interleaved head and the RTP header.
@@ -36,7 +37,7 @@ pub struct Frames<'a> {
 
 impl<'a> Model for Frames<'a> {
     ghost use Rattle.std.specs.Prelude.{◌≤◌, ◌<◌, length};
-    ghost use Rattle.film_frames.specs.Runs.{FramedRun, run_of};
+    ghost use Rattle.film_frames.specs.FramedRuns.{FramedRun, run_of};
 
     ghost Value = { FramedRun };
 
@@ -228,9 +229,9 @@ impl Track for Frames<'_> {
             Piece::Frame(unit, packet) => {
                 self.put_heads(number, &unit, &packet, head);
                 Part {
-                    head_from: inside.min(FRAME_HEADS) as usize,
-                    head_to: FRAME_HEADS as usize,
-                    payload: self.payload(&packet, inside.max(FRAME_HEADS) - FRAME_HEADS),
+                    head_from: inside.min(FRAME_HEAD_BYTES) as usize,
+                    head_to: FRAME_HEAD_BYTES as usize,
+                    payload: self.payload(&packet, inside.max(FRAME_HEAD_BYTES) - FRAME_HEAD_BYTES),
                 }
             }
         }

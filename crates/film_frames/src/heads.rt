@@ -3,9 +3,9 @@
 ghost use Rattle.std.specs.Prelude.{◌≡◌, ◌+◌, ◌++◌, ◌≤◌, ◌/◌, ◌%◌, ◌∷◌, take};
 ghost use Rattle.rtp_pack.specs.Heads.{head_bytes};
 ghost use Rattle.rtp_pack.specs.Reports.{report_bytes};
-ghost use Rattle.film_frames.specs.Runs.{interleaved_block};
+ghost use Rattle.film_frames.specs.FramedRuns.{interleaved_block};
 
-use interleave::block_head;
+use interleave::frame_head;
 use rtp_pack::{Head, Report, write_head, write_report};
 
 /// A report with its interleaved head.
@@ -13,7 +13,7 @@ pub(crate) fn report_block(control: u8, report: &Report) -> [u8; 52]
     ensures { result ≡ interleaved_block control (report_bytes report.now) }
 {
     let mut block = [0; 52];
-    block[..4].copy_from_slice(&block_head(control, 48));
+    block[..4].copy_from_slice(&frame_head(control, 48));
     block[4..].copy_from_slice(&write_report(report));
     block
 }
@@ -25,6 +25,6 @@ pub(crate) fn put_frame_heads(block: &mut [u8; 52], channel: u8, head: &Head, le
     ensures { take 20 block.new ≡
         36 ∷ channel ∷ ((16 + length) / 256) ∷ ((16 + length) % 256) ∷ head_bytes head.now }
 {
-    block[..4].copy_from_slice(&block_head(channel, 16 + length as u16));
+    block[..4].copy_from_slice(&frame_head(channel, 16 + length as u16));
     block[4..20].copy_from_slice(&write_head(head));
 }

@@ -3,24 +3,19 @@
 //! between them (RFC 3550, RFC 2250); and the track of a trace, whose frames are zero bytes.
 #![tactic(auto)]
 
+mod binary_search;
 mod frames;
 mod heads;
-mod laws;
+pub mod laws;
 mod pieces;
-mod rows;
-mod searches;
-mod stores;
+mod stored_films;
+mod table_rows;
 mod tables;
 mod traces;
 mod tracks;
 
 pub use frames::Frames;
-pub use laws::{
-    law_counts_on, law_film_comes_back, law_frames_before, law_heads_read_back, law_piece_sizes,
-    law_pieces_ended, law_reports_count, law_reports_stand, law_run_front, law_unit_blocks,
-    law_wire_sizes,
-};
-pub use stores::Stored;
+pub use stored_films::Stored;
 pub use tables::FrameTable;
 pub use traces::TraceTrack;
 pub use tracks::{Part, Track};

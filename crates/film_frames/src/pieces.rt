@@ -5,7 +5,7 @@ ghost use Rattle.film_frames.specs.Pieces.{wire_of};
 ghost use Rattle.film_frames.specs.Tables.{IsSound};
 
 use mpeg_scan::Unit;
-use rtp_pack::{FRAME_HEADS, Packet, REPORT_BYTES};
+use rtp_pack::{FRAME_HEAD_BYTES, Packet, REPORT_BYTES};
 
 /// A report or a frame, and the unit that it belongs to.
 #[derive(Clone, Copy)]
@@ -23,6 +23,6 @@ pub(crate) fn wire_of(piece: &Piece) -> u64
 {
     match piece {
         Piece::Report(_) => REPORT_BYTES,
-        Piece::Frame(_, packet) => FRAME_HEADS + (packet.to - packet.from),
+        Piece::Frame(_, packet) => FRAME_HEAD_BYTES + (packet.to - packet.from),
     }
 }

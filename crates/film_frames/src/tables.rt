@@ -14,7 +14,7 @@ ghost use Rattle.film_frames.specs.Tables.{IsTable, IsTableOf};
 ghost use Rattle.film_frames.specs.Tables.{with_report};
 
 use crate::pieces::{Piece, wire_of};
-use crate::rows::Row;
+use crate::table_rows::Row;
 use mpeg_scan::{Film, Unit};
 use rtp_pack::{Packet, refill_packets};
 use std::alloc::Global;

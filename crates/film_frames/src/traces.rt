@@ -5,7 +5,7 @@ ghost use Rattle.std.specs.Prelude.{replicate, slice_range, sum, Ok};
 ghost use Rattle.film_frames.specs.Tracks.{IsBoundaryAfter, IsNext, IsSplit, framed_bytes};
 ghost use Rattle.film_frames.specs.Tracks.{zero_frames};
 
-use crate::searches::ends_below;
+use crate::binary_search::ends_below;
 use crate::tracks::{Part, Track};
 use std::marker::Model;
 use vod_base::NoMemory;

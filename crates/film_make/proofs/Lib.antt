@@ -1,4 +1,4 @@
-pub mod Steps
+pub mod Appends
 pub mod GeneratorLemmas
 mod FilmLemmas
 pub mod TraceLemmas

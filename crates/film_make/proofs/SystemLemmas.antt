@@ -6,14 +6,14 @@ use Rattle.std.proofs.Common.{◌++◌, length, take, drop, None, refl, sym, ap,
 use Rattle.std.specs.List.{flat_map, range_with_len}
 use Rattle.std.proofs.lemmas.List.{append_assoc, drop-drop, drop-take, length-take, take_all}
 use Rattle.std.proofs.lemmas.List.{take-append-drop, take-take}
-use Rattle.sys_demux.specs.Standard.{Element, element_bytes, stream_bytes, AreElements, first_video}
-use Rattle.sys_demux.specs.Standard.{video_of_stream}
-use Rattle.sys_demux.specs.Standard.Element.{PackHeader, VideoPacket}
-use Rattle.sys_demux.specs.Standard.Stamps.{NoStamp}
-use Rattle.sys_demux.specs.Streams.{IsSystem}
-use Rattle.sys_demux.proofs.StandardStreams.{stream_read}
+use Rattle.sys_demux.specs.StandardFields.{Element, element_bytes, stream_bytes, AreElements, first_video}
+use Rattle.sys_demux.specs.StandardFields.{video_of_stream}
+use Rattle.sys_demux.specs.StandardFields.Element.{PackHeader, VideoPacket}
+use Rattle.sys_demux.specs.StandardFields.Stamps.{NoStamp}
+use Rattle.sys_demux.specs.SystemStreams.{IsSystem}
+use Rattle.sys_demux.proofs.StandardStreamLemmas.{stream_read}
 use Rattle.film_make.specs.Generator.{end_to_end}
-use Rattle.film_make.specs.System.{pack_header, pack_of, system_of}
+use Rattle.film_make.specs.SystemStream.{pack_header, pack_of, system_of}
 
 -- the packet of some video
 abbrev packet : List ℕ → Element

@@ -1,6 +1,6 @@
 pub mod Generator
 pub mod Trace
 pub mod Film
-pub mod System
+pub mod SystemStream
 pub mod Headers
 pub mod Slices

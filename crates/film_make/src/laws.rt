@@ -4,19 +4,20 @@ ghost use Rattle.std.specs.Prelude.{◌≡◌, ◌≢◌, ℕ, ◌+◌, ◌*◌,
 ghost use Rattle.std.specs.Prelude.{decimal};
 ghost use Rattle.std.specs.Prelude.{drop, flat_map, length, take};
 ghost use Rattle.std.specs.Int.{IsInRange};
-ghost use Rattle.mpeg_scan.specs.Standard.{backward_vector, forward_vector, picture_coding_type};
-ghost use Rattle.mpeg_scan.specs.Standard.{temporal_reference};
-ghost use Rattle.sys_demux.specs.Streams.{IsSystem};
+ghost use Rattle.mpeg_scan.specs.StandardUnits.{backward_vector, forward_vector};
+ghost use Rattle.mpeg_scan.specs.StandardUnits.{picture_coding_type};
+ghost use Rattle.mpeg_scan.specs.StandardUnits.{temporal_reference};
+ghost use Rattle.sys_demux.specs.SystemStreams.{IsSystem};
 ghost use Rattle.film_make.specs.Film.{film_of, picture_of, pictures_of, sequence_and_group};
 ghost use Rattle.film_make.specs.Headers.{IsGroupHeader, IsSequenceHeader, field_of};
 ghost use Rattle.film_make.specs.Slices.{EndsWithSlices};
-ghost use Rattle.film_make.specs.System.{system_of};
+ghost use Rattle.film_make.specs.SystemStream.{system_of};
 ghost use Rattle.film_make.specs.Trace.{sizes_of, trace_of, trace_size};
 
 /// The sizes of a trace: as many as pictures were asked for, the first of each twelve from 800 to
 /// 7,996 bytes, every other from 200 to 1,999, where each size comes of some word; fewer pictures
 /// have the first of them. Its text has them line by line.
-pub fn law_trace()
+pub fn law_trace_sizes_are_in_range()
     ensures count { (words : ℕ → ℕ) (n : ℕ) → length (sizes_of words n) ≡ n }
     ensures first { (words : ℕ → ℕ) (k : ℕ) → k % 12 ≡ 0 → IsInRange 800 7996 (trace_size words k) }
     ensures other { (words : ℕ → ℕ) (k : ℕ) → k % 12 ≢ 0 → IsInRange 200 1999 (trace_size words k) }
@@ -32,7 +33,7 @@ pub fn law_trace()
 /// what is meant: pictures of 352 by 288 square samples, 25 a second, in closed groups; and of the
 /// twelve pictures of a group, in the order of the stream, the types (1 is I, 2 P, 3 B), the places
 /// in the order of showing, and the vectors' fields (0 full-pel, f-code 1).
-pub fn law_film_headers()
+pub fn law_film_headers_are_standard()
     ensures begins { (words : ℕ → ℕ) (n : ℕ) → 1 ≤ n →
         take 20 (film_of words n) ≡ sequence_and_group }
     ensures sequence { IsSequenceHeader (take 12 sequence_and_group) }
@@ -49,7 +50,7 @@ pub fn law_film_headers()
 
 /// The bytes of a picture with its headers: four slices, each with its code and 300 to 1,499 bytes
 /// of an I picture, 60 to 459 of a P picture and 30 to 229 of a B picture.
-pub fn law_picture_sizes()
+pub fn law_picture_sizes_are_bounded()
     ensures intra { (words : ℕ → ℕ) (k : ℕ) → k % 12 ≡ 0 →
         IsInRange (28 + 4 * (4 + 300)) (28 + 4 * (4 + 1499)) (length (picture_of words k)) }
     ensures predicted { (words : ℕ → ℕ) (k : ℕ) → k % 12 % 2 ≡ 1 →
@@ -61,7 +62,7 @@ pub fn law_picture_sizes()
 /// A picture is its headers and four slices, and nothing else: with those of its sequence and group
 /// 28 bytes of headers, else 9, and slices 1 to 4 in order, each with its start code and bytes
 /// among which no other start code stands.
-pub fn law_picture_slices()
+pub fn law_picture_has_four_slices()
     ensures first { (words : ℕ → ℕ) (k : ℕ) → k % 12 ≡ 0 →
         EndsWithSlices 28 4 (picture_of words k) }
     ensures other { (words : ℕ → ℕ) (k : ℕ) → k % 12 ≢ 0 →
@@ -69,12 +70,12 @@ pub fn law_picture_slices()
 {}
 
 /// A film of fewer pictures is the front of a film of more, but for its end.
-pub fn law_more_pictures()
+pub fn law_shorter_film_is_a_prefix()
     ensures { (words : ℕ → ℕ) (m n : ℕ) → m ≤ n →
         (rest : List ℕ) × (pictures_of words n ≡ pictures_of words m ++ rest) }
 {}
 
 /// A made system stream is one, and its video is the film that was wrapped.
-pub fn law_system_unwraps()
+pub fn law_system_stream_unwraps_to_its_film()
     ensures { (video : List ℕ) → IsSystem (system_of video) video }
 {}

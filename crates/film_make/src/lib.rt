@@ -4,18 +4,14 @@
 
 mod draws;
 mod films;
-mod laws;
+pub mod laws;
 mod pictures;
-mod systems;
+mod system_streams;
 mod traces;
 
 pub use draws::Draws;
 pub use films::make_film;
-pub use laws::{
-    law_film_headers, law_more_pictures, law_picture_sizes, law_picture_slices, law_system_unwraps,
-    law_trace,
-};
-pub use systems::make_system;
+pub use system_streams::make_system;
 pub use traces::{draw_sizes, draw_trace, make_trace};
 
 #[cfg(test)]

@@ -12,7 +12,7 @@ use crate::draws::Draws;
 use vod_base::NoMemory;
 
 /// Pictures of a group.
-pub(crate) const GROUP: u32 = 12;
+pub(crate) const GROUP_PICTURES: u32 = 12;
 
 /// Slices of a picture.
 const SLICES: u8 = 4;
@@ -78,7 +78,7 @@ impl CodingType {
 }
 
 /// Appends picture `index` of a film, whose draws are the next ones.
-#[tactic(auto, using(crate::proofs::Steps::appends), unfolding(crate::specs::Film::picture_of))]
+#[tactic(auto, using(crate::proofs::Appends::appends), unfolding(crate::specs::Film::picture_of))]
 pub(crate) fn write_picture(
     draws: &mut Draws,
     index: u32,
@@ -89,7 +89,7 @@ pub(crate) fn write_picture(
     ensures left { OnOk result (words_left draws.new ≡
         slice_words (coding_type (index % 12)) (words_left draws.old) 4) }
 {
-    let place = index % GROUP;
+    let place = index % GROUP_PICTURES;
     begin_group(place, out)?;
     write_picture_header(place, out)?;
     write_slices(draws, CodingType::at(place), out)
@@ -134,7 +134,8 @@ fn write_fields(kind: CodingType, shown: u32, out: &mut Vec<u8>) -> Result<(), N
 }
 
 /// Appends the header of a picture of a group.
-#[tactic(auto, using(crate::proofs::Steps::appends), unfolding(crate::specs::Film::picture_header))]
+#[tactic(auto, using(crate::proofs::Appends::appends),
+    unfolding(crate::specs::Film::picture_header))]
 fn write_picture_header(place: u32, out: &mut Vec<u8>) -> Result<(), NoMemory>
     requires { place < 12 }
     ensures { OnOk result (out.new.items ≡ out.old.items ++ picture_header place) }

@@ -6,7 +6,7 @@ ghost use Rattle.film_make.specs.Generator.{words_after, words_left, words_of};
 ghost use Rattle.film_make.specs.Trace.{sizes_of, trace_of};
 
 use crate::draws::Draws;
-use crate::pictures::GROUP;
+use crate::pictures::GROUP_PICTURES;
 use std::alloc::Global;
 use vod_base::{NoMemory, push_number};
 
@@ -53,7 +53,11 @@ fn next_size(draws: &mut Draws, index: u32) -> u32
     ensures left { words_left draws.new ≡ words_after 1 (words_left draws.old) }
 {
     let size = 200 + draws.draw(1800);
-    if index % GROUP == 0 { 4 * size } else { size }
+    if index % GROUP_PICTURES == 0 {
+        4 * size
+    } else {
+        size
+    }
 }
 
 /// Appends a line with a number.

@@ -1,12 +1,12 @@
-pub mod SumLaws
-pub mod CurveLaws
-mod UsedLaws
-mod TimeLaws
-mod SeekLaws
-pub mod NewRuns
-mod HaltLaws
-pub mod PlayLaws
-pub mod LeftLaws
-mod BoundaryLaws
-mod UsedPictures
-mod SeekTimes
+pub mod SumLemmas
+pub mod CurveLemmas
+mod UsedBytesLemmas
+mod TimeUnitLemmas
+mod SeekLemmas
+pub mod NewRunLemmas
+mod HaltLemmas
+pub mod PlanLemmas
+pub mod RemainingRunLemmas
+mod BoundaryLemmas
+mod UsedPictureLemmas
+mod SeekTimeLemmas

@@ -1,17 +1,17 @@
 -- What plans and halts promise a client, in its own words.
 use Rattle.std.specs.Prelude.{ℕ, ◌≡◌, ◌+◌, ◌-◌, ◌*◌, ◌<◌, ◌≤◌, ◌⊎◌, ◌↔◌, List, Option, Some, None}
 use Rattle.plan_cert.specs.declared.Segment.{Segment}
-use Rattle.plan_cert.specs.Slots.{sum_through, total_bytes, total_slots}
+use Rattle.plan_cert.specs.PlanSlots.{sum_through, total_bytes, total_slots}
 use Rattle.mpeg_scan.specs.declared.films.Film.{Film}
 use Rattle.rtp_pack.specs.declared.reports.Identity.{Identity}
 use Rattle.film_frames.specs.Tracks.{IsBoundary}
-use Rattle.film_frames.specs.Runs.{run_of, run_pieces}
+use Rattle.film_frames.specs.FramedRuns.{run_of, run_pieces}
 use Rattle.wire_curve.specs.FilmCurves.{due_slot}
 use Rattle.film_run.specs.declared.runs.Run.{Run}
 use Rattle.film_run.specs.declared.plans.Playback.{Playback}
 use Rattle.film_run.specs.Runs.{bytes_between}
 use Rattle.film_run.specs.Plans.{CanPlay, IsPlanOf, timing_of}
-use Rattle.film_run.specs.Pauses.{IsHalt, IsLeft}
+use Rattle.film_run.specs.Pauses.{IsHalt, IsRemainingRun}
 
 -- a run is sent by a plan of its own
 pub record IsSending (sizes : List ℕ) (playback : Playback) (run : Run) (plan : List Segment)
@@ -74,14 +74,14 @@ IsOnlyPlan sizes playback run plan = (other : List Segment) → IsPlanOf sizes p
 abbrev pub LeavesOne : List ℕ → Playback → Run → List Segment → Type 0
 LeavesOne sizes playback run plan =
     (last : Option ℕ) (keep : ℕ) (left other : Run)
-    → IsLeft sizes playback run plan last keep left →
-    IsLeft sizes playback run plan last keep other → other ≡ left
+    → IsRemainingRun sizes playback run plan last keep left →
+    IsRemainingRun sizes playback run plan last keep other → other ≡ left
 
 -- the client can play what a halt leaves
 abbrev pub LeavesRun : List ℕ → Playback → Run → List Segment → Type 0
 LeavesRun sizes playback run plan =
     (last : Option ℕ) (keep : ℕ) (left : Run)
-    → IsHalt plan last keep → IsLeft sizes playback run plan last keep left →
+    → IsHalt plan last keep → IsRemainingRun sizes playback run plan last keep left →
     CanPlay sizes playback left
 
 -- A client has used a picture of a halted play: in a slot before the one last stepped, or in one at
@@ -95,15 +95,15 @@ IsUsedBy playback run plan (Some last) keep unit =
 abbrev pub CountsUsed : List ℕ → Playback → Run → List Segment → Type 0
 CountsUsed sizes playback run plan =
     (last : Option ℕ) (keep : ℕ) (left : Run) (unit : ℕ)
-    → IsLeft sizes playback run plan last keep left → IsUnplayed run unit
+    → IsRemainingRun sizes playback run plan last keep left → IsUnplayed run unit
     → (unit < left.from_unit) ↔ IsUsedBy playback run plan last keep unit
 
 -- What is left is sent on from the byte after the last: what was kept of the plan and the plan of
 -- what is left are together the bytes of the plan.
-abbrev pub GoesOn : List ℕ → Playback → Run → List Segment → Type 0
-GoesOn sizes playback run plan =
+abbrev pub ContinuesThePlan : List ℕ → Playback → Run → List Segment → Type 0
+ContinuesThePlan sizes playback run plan =
     (last : Option ℕ) (keep : ℕ) (left : Run) (rest : List Segment)
-    → IsHalt plan last keep → IsLeft sizes playback run plan last keep left →
+    → IsHalt plan last keep → IsRemainingRun sizes playback run plan last keep left →
     IsPlanOf sizes playback left rest
     → keep + total_bytes rest ≡ total_bytes plan
 

@@ -1,7 +1,7 @@
 -- What a halt leaves of a run.
 use Rattle.std.specs.Prelude.{ℕ, ◌≡◌, ◌+◌, ◌-◌, ◌<◌, ◌≤◌, max, List, Option, Some, None}
 use Rattle.plan_cert.specs.declared.Segment.{Segment}
-use Rattle.plan_cert.specs.Slots.{sum_through, total_bytes, total_slots}
+use Rattle.plan_cert.specs.PlanSlots.{sum_through, total_bytes, total_slots}
 use Rattle.wire_curve.specs.FilmCurves.{due_slot, used_before}
 use Rattle.film_run.specs.declared.runs.Run.{Run}
 use Rattle.film_run.specs.declared.plans.Playback.{Playback}
@@ -29,7 +29,7 @@ IsStop plan (Some last) keep stop = (reached : ℕ)
 
 -- What is left of a run whose play was halted: what is kept was sent. The pictures that are used
 -- before the slot of the stop were played, and those of that slot and all after it weren't.
-pub record IsLeft (sizes : List ℕ) (playback : Playback) (run : Run) (plan : List Segment)
+pub record IsRemainingRun (sizes : List ℕ) (playback : Playback) (run : Run) (plan : List Segment)
     (last : Option ℕ) (keep : ℕ)
     (left : Run) : Type 0 where
   pub first_is : left.first_unit ≡ run.first_unit

@@ -5,9 +5,9 @@ use Rattle.std.specs.List.{range_with_len}
 use Rattle.plan_cert.specs.declared.Segment.{Segment}
 use Rattle.wire_curve.specs.declared.film.Timing.{Timing}
 use Rattle.wire_curve.specs.FilmCurves.{low_at, slot_count, up_at}
-use Rattle.wire_curve.specs.Refusal.{IsAccepted}
-use Rattle.cert_check.specs.Fault.{IsTaut}
-use Rattle.cert_check.specs.Best.{IsBestPlan}
+use Rattle.wire_curve.specs.CurveFaults.{IsAccepted}
+use Rattle.cert_check.specs.CertFaults.{IsTaut}
+use Rattle.cert_check.specs.Optimality.{IsBestPlan}
 use Rattle.film_run.specs.declared.runs.Run.{Run}
 use Rattle.film_run.specs.declared.plans.Playback.{Playback}
 use Rattle.film_run.specs.Units.{AreUnitSizes}

@@ -3,7 +3,7 @@ use Rattle.std.specs.Prelude.{ℕ, ◌≡◌, ◌+◌, ◌-◌, ◌<◌, ◌≤�
 use Rattle.mpeg_scan.specs.declared.films.Film.{Film}
 use Rattle.rtp_pack.specs.declared.reports.Identity.{Identity}
 use Rattle.film_frames.specs.Tracks.{IsBoundary}
-use Rattle.film_frames.specs.Runs.{run_of, run_pieces}
+use Rattle.film_frames.specs.FramedRuns.{run_of, run_pieces}
 use Rattle.film_run.specs.declared.runs.Run.{Run}
 use Rattle.film_run.specs.Units.{film_sizes}
 

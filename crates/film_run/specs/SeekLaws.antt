@@ -43,7 +43,7 @@ IsEndFor film (Some time) first end = IsEndedBy film time first end
 
 -- A seek to a time, in nanoseconds, and up to another, where one is named. The film isn't over at
 -- that time. What is played begins with the last group whose first picture's time has come.
-pub record IsSought (film : Film) (from : ℕ) (to : Option ℕ) (run : Run) : Type 0 where
+pub record IsSeekResult (film : Film) (from : ℕ) (to : Option ℕ) (run : Run) : Type 0 where
   pub goes_on : ¬ ArePastBy film (length film.units.items) from
   pub group : StartsGroup film.units.items run.first_unit
   pub begins : ArePastBy film run.first_unit from

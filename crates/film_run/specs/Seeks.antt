@@ -5,7 +5,7 @@ use Rattle.std.specs.Prelude.{None}
 use Rattle.mpeg_scan.specs.declared.units.Unit.{Unit as PictureUnit}
 use Rattle.mpeg_scan.specs.declared.films.Film.{Film}
 use Rattle.mpeg_scan.specs.Layout.{OfUnit}
-use Rattle.mpeg_scan.specs.Rates.{picture_time}
+use Rattle.mpeg_scan.specs.PictureRates.{picture_time}
 use Rattle.film_run.specs.declared.runs.Run.{Run}
 use Rattle.film_run.specs.Units.{film_sizes}
 use Rattle.film_run.specs.Runs.{IsNewRun}
@@ -76,7 +76,7 @@ HasNothing film from to = BeginsBy (picture_time film.rate) from (length film.un
     ⊎ IsReversed from to
 
 -- the new run that is asked for
-pub record IsAsked (film : Film) (from : ℕ) (to : Option ℕ) (run : Run) : Type 0 where
+pub record IsRequestedRange (film : Film) (from : ℕ) (to : Option ℕ) (run : Run) : Type 0 where
   pub some : ¬ HasNothing film from to
   pub begins : IsGroupBy film.units.items (picture_time film.rate) from run.first_unit
   pub ends : IsEnd film.units.items (picture_time film.rate) to run.first_unit run.end_unit

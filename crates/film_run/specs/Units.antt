@@ -1,7 +1,7 @@
 -- The sizes on the wire of what is sent unit by unit.
 use Rattle.std.specs.Prelude.{ℕ, ◌^◌, ◌≤◌, List, length, map, sum}
 use Rattle.mpeg_scan.specs.declared.units.Unit.{Unit as PictureUnit}
-use Rattle.film_frames.specs.declared.stores.Stored.{Stored}
+use Rattle.film_frames.specs.declared.stored_films.Stored.{Stored}
 use Rattle.film_frames.specs.Pieces.{wire_size}
 
 -- the sizes of a film's units, which have their slices at these places

@@ -6,17 +6,16 @@
 //! film's units are its pictures; a trace is a list of sizes, one a picture.
 #![tactic(auto)]
 
-mod laws;
+pub mod laws;
 mod pauses;
 mod plans;
 mod runs;
 mod seeks;
 mod units;
 
-pub use laws::{law_boundaries, law_halt_leaves_run, law_plan, law_seek};
 pub use pauses::run_after;
 pub use plans::{Playback, plan_of};
-pub use runs::{Run, whole_run};
+pub use runs::{Run, full_run};
 pub use seeks::run_between;
 pub use units::{Trace, Units};
 

@@ -1,12 +1,12 @@
 //! What a halt leaves of a run.
 
 ghost use Rattle.std.specs.Prelude.{◌≡◌, ◌+◌, ◌-◌, ◌<◌, ◌≤◌, ℕ, length, None, Some};
-ghost use Rattle.plan_cert.specs.Slots.{sum_through, total_bytes, total_slots};
+ghost use Rattle.plan_cert.specs.PlanSlots.{sum_through, total_bytes, total_slots};
 ghost use Rattle.plan_cert.specs.Plan.{IsPlan};
 ghost use Rattle.wire_curve.specs.FilmCurves.{due_slot};
 ghost use Rattle.film_run.specs.Runs.{Fits, IsRun};
 ghost use Rattle.film_run.specs.Plans.{IsPlanOf, IsPlayback, timing_of};
-ghost use Rattle.film_run.specs.Pauses.{IsHalt, IsLeft, IsStop, ReachesAt};
+ghost use Rattle.film_run.specs.Pauses.{IsHalt, IsRemainingRun, IsStop, ReachesAt};
 
 use crate::plans::{Playback, timing_of};
 use crate::runs::Run;
@@ -36,7 +36,8 @@ pub fn run_after<U: Units>(
     requires fits { Fits playback.now.buffer run.now }
     requires plan { IsPlanOf (U.sizes units.now) playback.now run.now plan.now }
     requires halt { IsHalt plan.now last keep }
-    ensures left { IsLeft (U.sizes units.now) playback.now run.now plan.now last keep result }
+    ensures left { IsRemainingRun (U.sizes units.now) playback.now run.now plan.now last keep result
+        }
     ensures run { IsRun (U.sizes units.now) result }
     ensures fits { Fits playback.now.buffer result }
 {

@@ -21,7 +21,7 @@ pub struct Run {
 }
 
 /// The run of all units, from the first one on. None exactly where there is no unit.
-pub fn whole_run<U: Units>(units: &U) -> Option<Run>
+pub fn full_run<U: Units>(units: &U) -> Option<Run>
     ensures { MatchOption result
         (length (U.sizes units.now) ≡ 0)
         (IsNewRun (U.sizes units.now) 0 (length (U.sizes units.now))) }

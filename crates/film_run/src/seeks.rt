@@ -4,12 +4,14 @@
 ghost use Rattle.std.specs.Prelude.{◌≡◌, ◌^◌, ◌<◌, ◌≤◌, ℕ, ◌⊎◌, length, IfSome, MatchBool};
 ghost use Rattle.std.specs.Prelude.{MatchOption};
 ghost use Rattle.film_run.specs.Runs.{IsFilmRun};
-ghost use Rattle.film_run.specs.Seeks.{BeginsBy, HasNothing, IsAfter, IsAsked, IsBefore, IsEnd};
+ghost use Rattle.film_run.specs.Seeks.{BeginsBy, HasNothing, IsAfter, IsRequestedRange, IsBefore};
+ghost use Rattle.film_run.specs.Seeks.{IsEnd};
 ghost use Rattle.film_run.specs.Seeks.{IsGroupBy};
 ghost use Rattle.film_run.specs.Seeks.{IsGroupFrom, IsPlaceAfter, IsReversed, StartsGroup};
 
 use crate::runs::{Run, new_run};
-use mpeg_scan::{Film, Unit, law_film, law_units};
+use mpeg_scan::laws::{law_film_is_well_formed, law_units_tile_the_film};
+use mpeg_scan::{Film, Unit};
 
 /// This many nanoseconds are as long as [`UNITS`] units of 1/360,000 second.
 const NANOSECONDS: u128 = 25_000;
@@ -24,11 +26,12 @@ const LONGEST: u128 = 1 << 64;
 /// that begins at or before the first time, up to the first later group that begins at or after the
 /// second. None exactly where the film has ended at the first time, or the second isn't after it.
 pub fn run_between(film: &Film, from: u128, to: Option<u128>) -> Option<Run>
-    ensures asked { MatchOption result (HasNothing film.now from to) (IsAsked film.now from to) }
+    ensures asked { MatchOption result (HasNothing film.now from to) (IsRequestedRange film.now from
+        to) }
     ensures run { IfSome result (IsFilmRun film.now) }
 {
-    law_film(film);
-    law_units(film);
+    law_film_is_well_formed(film);
+    law_units_tile_the_film(film);
     if is_reversed(from, to) {
         return None;
     }

@@ -5,7 +5,7 @@ ghost use Rattle.std.specs.Prelude.{IfOk};
 ghost use Rattle.film_run.specs.Plans.{IsPlanOf, IsPlayback};
 ghost use Rattle.film_run.specs.Runs.{Fits, IsRun};
 
-use crate::{Playback, Run, Trace, Units, plan_of, run_after, run_between, whole_run};
+use crate::{Playback, Run, Trace, Units, full_run, plan_of, run_after, run_between};
 use film_frames::Stored;
 use mpeg_scan::scan;
 use plan_cert::Plan;
@@ -104,7 +104,7 @@ const PLAYBACK: Playback = Playback {
 fn pauses_and_resumes(rt: HostRuntime) -> Result<(), Fail> {
     let alloc = rt.alloc();
     let film = film_of(alloc, 2)?;
-    let Some(run) = whole_run(&film) else {
+    let Some(run) = full_run(&film) else {
         return Err(Fail::from("no run"));
     };
     for (last, keep, from_unit, played, rest) in [
@@ -137,10 +137,10 @@ fn plays_traces(rt: HostRuntime) -> Result<(), Fail> {
         buffer: 9,
         delay: 0,
     };
-    assert!(rt; whole_run(&Trace::new(&[])).is_none());
+    assert!(rt; full_run(&Trace::new(&[])).is_none());
     let sizes = [1, 9, 1, 1];
     let trace = Trace::new(&sizes);
-    let Some(run) = whole_run(&trace) else {
+    let Some(run) = full_run(&trace) else {
         return Err(Fail::from("no run"));
     };
     let left = halted(alloc, &trace, &playback, &run, &[5, 5, 1, 1], Some(1), 10)?;
@@ -168,7 +168,7 @@ fn plays_traces(rt: HostRuntime) -> Result<(), Fail> {
 fn refuses(rt: HostRuntime) -> Result<(), Fail> {
     let alloc = rt.alloc();
     let film = film_of(alloc, 2)?;
-    let Some(run) = whole_run(&film) else {
+    let Some(run) = full_run(&film) else {
         return Err(Fail::from("no run"));
     };
     for (picture_units, slot_units, buffer, delay, want) in [

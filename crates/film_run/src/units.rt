@@ -2,8 +2,9 @@
 
 ghost use Rattle.std.specs.Prelude.{◌≡◌, ◌^◌, ◌<◌, ◌≤◌, ℕ, List, length, sum, slice_index};
 
-use film_frames::{Stored, law_wire_sizes};
-use mpeg_scan::law_film;
+use film_frames::Stored;
+use film_frames::laws::law_wire_size_of_film_is_bounded;
+use mpeg_scan::laws::law_film_is_well_formed;
 use std::marker::Model;
 
 /// Units that are sent one after another, by the bytes that each has on the wire.
@@ -30,8 +31,8 @@ impl Units for Stored {
     ghost sizes = { stored_sizes };
 
     fn count(&self) -> usize {
-        law_film(&self.film);
-        law_wire_sizes();
+        law_film_is_well_formed(&self.film);
+        law_wire_size_of_film_is_bounded();
         self.film.units.len()
     }
 

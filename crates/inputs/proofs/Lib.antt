@@ -1,16 +1,16 @@
 pub mod ReadLemmas
-mod OpeningLemmas
+mod PackSearchLemmas
 pub mod ScanLemmas
 mod StreamLemmas
 mod SizeLemmas
 pub mod VideoLemmas
-mod Tokens
-mod TokenLaws
+mod TokenLemmas
+mod TokenUniqueness
 mod LoadLemmas
-mod SmallNumbers
-mod Words
-mod TraceWords
-mod TraceLines
-mod FaultLemmas
+mod NumberDigitLemmas
+mod FirstWordLemmas
+mod TraceWordLemmas
+mod TraceLineLemmas
+mod StreamFaultLemmas
 mod LibraryLemmas
 mod RefusalLemmas

@@ -3,27 +3,27 @@ use Rattle.std.proofs.Common.{◌≡◌, ℕ, ◌-◌, ◌<◌, ◌≤◌, ◌^�
 use Rattle.std.proofs.Common.{inl, inr, refl, sym, arith, subst}
 use Rattle.std.specs.Prelude.{option_map}
 use Rattle.std.proofs.lemmas.List.{length-drop}
-use Rattle.vod_base.specs.Outside.{File, file_named}
+use Rattle.vod_base.specs.IoState.{File, file_named}
 use Rattle.mpeg_scan.specs.Films.{refusal}
-use Rattle.sys_demux.specs.Streams.{IsRefused, IsSystem}
+use Rattle.sys_demux.specs.SystemStreams.{IsBadStream, IsSystem}
 use Rattle.sys_demux.specs.declared.faults.SystemFault.{SystemFault}
-use Rattle.troubles.specs.Causes.{IsReadTrouble}
-use Rattle.troubles.specs.declared.faults.Fault.{Fault}
-use Rattle.troubles.specs.declared.faults.Trouble.{Trouble}
-use Rattle.inputs.specs.Files.{IsFront, IsNamed}
-use Rattle.inputs.specs.Films.{IsBytesTrouble, IsFilmTrouble, IsMovedFault}
-use Rattle.inputs.specs.Scans.{HoldsVideo}
+use Rattle.cli_errors.specs.ReadErrors.{IsReadError}
+use Rattle.cli_errors.specs.declared.errors.InputError.{InputError}
+use Rattle.cli_errors.specs.declared.errors.CliError.{CliError}
+use Rattle.inputs.specs.FileReads.{IsFilePrefix, IsThatName}
+use Rattle.inputs.specs.LoadErrors.{IsFileBytesError, IsFilmError, IsMovedFault}
+use Rattle.inputs.specs.ChunkScans.{HoldsVideo}
 use Rattle.inputs.specs.Videos.{IsRefusedAbove, IsStreamFault, IsStreamFaultFrom, IsVideo, IsVideoFrom}
 use Rattle.inputs.specs.Videos.{IsVideoRefused, pack_in}
 use Rattle.inputs.proofs.ReadLemmas.{first_front}
 use Rattle.inputs.proofs.RefusalLemmas.{MeansRefused, each_film_fault, refusal_map, refusal_read}
-use Rattle.inputs.proofs.Tokens.{slice_from}
+use Rattle.inputs.proofs.TokenLemmas.{slice_from}
 
 -- a file whose size was found has too many bytes
-pub size_above : {size : ℕ} (held : List File) (name : List ℕ) (most : ℕ) (over : Fault)
+pub size_above : {size : ℕ} (held : List File) (name : List ℕ) (most : ℕ) (over : InputError)
     → Some size ≡ option_map length (file_named held name) → most < size → IsRefusedAbove most over held name over
 size_above {size} held name most over found long =
-    let file : IsFront held name size [] = first_front held name size found in
+    let file : IsFilePrefix held name size [] = first_front held name size found in
     inr (file.whole, (file.found, inl (omega (arith, file.sized, long), refl)))
 
 -- the video of a file without a system stream
@@ -38,18 +38,18 @@ stream_is file video from pack system =
     (subst (λ (l : List ℕ). IsSystem l video) (slice_from file from) system)
 
 pub fault_is : {from : ℕ} {own fault : SystemFault} (file : List ℕ) → pack_in file ≡ Some from →
-    from ≤ length file → length file ≤ 2 ^ 40 → IsRefused (take (length file - from) (drop from file)) own →
+    from ≤ length file → length file ≤ 2 ^ 40 → IsBadStream (take (length file - from) (drop from file)) own →
     IsMovedFault from own fault → IsStreamFault file fault
 fault_is {from} {own} {fault} file pack within short refused moves =
-    let stream : IsRefused (drop from file) own =
-    subst (λ (l : List ℕ). IsRefused l own) (slice_from file from) refused in
+    let stream : IsBadStream (drop from file) own =
+    subst (λ (l : List ℕ). IsBadStream l own) (slice_from file from) refused in
     let its : IsStreamFaultFrom (Some from) file fault =
     (own, (stream, moves (drop from file) stream (omega (arith, length-drop from file, within, short)))) in
     subst (λ (o : Option ℕ). IsStreamFaultFrom o file fault) (sym pack) its
 
 -- the refusal of a file's video is that of the file
-pub video_trouble : (name file video : List ℕ) (t : Trouble) → IsVideo file video
-    → IsFilmTrouble name (λ fault. refusal video ≡ Some fault) t → IsBytesTrouble name file t
+pub video_trouble : (name file video : List ℕ) (t : CliError) → IsVideo file video
+    → IsFilmError name (λ fault. refusal video ≡ Some fault) t → IsFileBytesError name file t
 video_trouble name file video t is h =
     refusal_map name t
     (λ fault refused. each_film_fault (IsVideoRefused file) fault (λ own its. (video, (is, its))) refused) h
@@ -60,9 +60,9 @@ pub record WasRead (told : Option (List File)) (name file : List ℕ) (most : �
   pub short : length file ≤ most
 
 -- what they come to is what the file comes to
-pub bytes_trouble : {told : Option (List File)} {name file : List ℕ} {most : ℕ} (over : Fault) (faults faults' : ℕ)
-    (t : Trouble) → WasRead told name file most → IsBytesTrouble name file t →
-    IsReadTrouble (IsNamed name) (IsRefusedAbove most over) told faults faults' t
+pub bytes_trouble : {told : Option (List File)} {name file : List ℕ} {most : ℕ} (over : InputError) (faults faults' : ℕ)
+    (t : CliError) → WasRead told name file most → IsFileBytesError name file t →
+    IsReadError (IsThatName name) (IsRefusedAbove most over) told faults faults' t
 bytes_trouble {told} {name = name} {file} {most} over faults faults' t read h =
     let means : MeansRefused told name (IsVideoRefused file) (IsRefusedAbove most over) =
     record { refuses = λ held fault is refused. inr (file, (read.found held is, inr (read.short, refused))) } in

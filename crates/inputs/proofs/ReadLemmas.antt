@@ -4,8 +4,8 @@ use Rattle.std.proofs.Common.{refl, sym, ap, subst, ◌∙◌, arith, unwrap_or,
 use Rattle.std.specs.Prelude.{option_map, IfSome}
 use Rattle.std.proofs.Math.Seq.{take-add}
 use Rattle.std.proofs.lemmas.List.{take_all, length-take-le, take-append-drop, take-take}
-use Rattle.vod_base.specs.Outside.{File, file_named, bytes_named, IsRead}
-use Rattle.inputs.specs.Files.{IsChunk, IsFront}
+use Rattle.vod_base.specs.IoState.{File, file_named, bytes_named, IsRead}
+use Rattle.inputs.specs.FileReads.{IsChunk, IsFilePrefix}
 
 -- a size that was found is that of a file
 found_size : (o : Option (List ℕ)) (n : ℕ) → Some n ≡ option_map length o →
@@ -14,7 +14,7 @@ found_size None n e = ([], ((cc), (cc)))
 found_size (Some b) n e = (b, (refl, (cc)))
 
 pub first_front : (held : List File) (name : List ℕ) (size : ℕ)
-    → Some size ≡ option_map length (file_named held name) → IsFront held name size []
+    → Some size ≡ option_map length (file_named held name) → IsFilePrefix held name size []
 first_front held name size e =
     let file : (b : List ℕ) × ((file_named held name ≡ Some b) × (size ≡ length b)) =
     found_size (file_named held name) size e in
@@ -25,8 +25,8 @@ named held name b e = ap (λ (o : Option (List ℕ)). unwrap_or o []) e
 
 -- what a read of n bytes gives, of which k are taken
 pub more_front : {held : List File} {name : List ℕ} {size : ℕ} {bytes chunk : List ℕ} {n : ℕ} (k : ℕ) →
-    IsFront held name size bytes →
-    IsRead (bytes_named held name) (length bytes) n chunk → k ≤ n → IsFront held name size (bytes ++ take k chunk)
+    IsFilePrefix held name size bytes →
+    IsRead (bytes_named held name) (length bytes) n chunk → k ≤ n → IsFilePrefix held name size (bytes ++ take k chunk)
 more_front {held} {name} {bytes} {chunk} {n} k so_far read fits =
     let whole : bytes_named held name ≡ so_far.whole = named held name so_far.whole so_far.found in
     let there : take n chunk ≡ take n (drop (length bytes) so_far.whole) =
@@ -46,7 +46,7 @@ more_front {held} {name} {bytes} {chunk} {n} k so_far read fits =
 
 -- a front as long as the file is the file
 pub whole_front : (held : List File) (name : List ℕ) (size : ℕ) (bytes : List ℕ) →
-    IsFront held name size bytes → size ≤ length bytes →
+    IsFilePrefix held name size bytes → size ≤ length bytes →
     file_named held name ≡ Some bytes
 whole_front held name size bytes so_far long =
     so_far.found
@@ -55,7 +55,7 @@ whole_front held name size bytes so_far long =
 
 -- an empty read stands at the end
 pub read_some : {held : List File} {name : List ℕ} {size : ℕ} {bytes chunk : List ℕ} {n : ℕ} →
-    IsFront held name size bytes →
+    IsFilePrefix held name size bytes →
     IsRead (bytes_named held name) (length bytes) n chunk → 0 < length chunk → length bytes < size → 0 < n
 read_some {held} {name} {chunk} so_far read some before =
     let whole : bytes_named held name ≡ so_far.whole = named held name so_far.whole so_far.found in
@@ -72,6 +72,6 @@ one_file held name a b p q = let e : Some a ≡ Some b = sym p ∙ q in cc
 
 -- a front of a file, and the rest of it
 pub front_rest : (held : List File) (name : List ℕ) (size : ℕ) (bytes : List ℕ)
-    → (front : IsFront held name size bytes) → bytes ++ drop (length bytes) front.whole ≡ front.whole
+    → (front : IsFilePrefix held name size bytes) → bytes ++ drop (length bytes) front.whole ≡ front.whole
 front_rest held name size bytes front =
     ap (λ (l : List ℕ). l ++ drop (length bytes) front.whole) front.front ∙ take-append-drop (length bytes) front.whole

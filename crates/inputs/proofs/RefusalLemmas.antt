@@ -1,31 +1,31 @@
 -- Refusals whose causes follow from each other.
 use Rattle.std.proofs.Common.{◌≡◌, ℕ, List, Option, Some, sym, subst}
-use Rattle.vod_base.specs.Outside.{File}
+use Rattle.vod_base.specs.IoState.{File}
 use Rattle.mpeg_scan.specs.declared.faults.FilmFault.{FilmFault}
 use Rattle.sys_demux.specs.declared.faults.SystemFault.{SystemFault}
-use Rattle.troubles.specs.Causes.{IsReadTrouble}
-use Rattle.troubles.specs.declared.faults.Fault.{Fault}
-use Rattle.troubles.specs.declared.faults.Fault.TheVariants.{Film, System}
-use Rattle.troubles.specs.declared.faults.Trouble.{Trouble}
-use Rattle.troubles.specs.declared.faults.Trouble.TheVariants.{Usage, Refused, StoreFault, SinkFault}
-use Rattle.troubles.specs.declared.faults.Trouble.TheVariants.{NoMemory, GateFault, LinkFault}
-use Rattle.inputs.specs.Files.{IsNamed}
-use Rattle.inputs.specs.Films.{IsFilmFault, IsFilmTrouble, IsRefusal, IsSystemFault}
+use Rattle.cli_errors.specs.ReadErrors.{IsReadError}
+use Rattle.cli_errors.specs.declared.errors.InputError.{InputError}
+use Rattle.cli_errors.specs.declared.errors.InputError.TheVariants.{Film, System}
+use Rattle.cli_errors.specs.declared.errors.CliError.{CliError}
+use Rattle.cli_errors.specs.declared.errors.CliError.TheVariants.{Usage, Refused, StoreFault, SinkFault}
+use Rattle.cli_errors.specs.declared.errors.CliError.TheVariants.{NoMemory, GateFault, LinkFault}
+use Rattle.inputs.specs.FileReads.{IsThatName}
+use Rattle.inputs.specs.LoadErrors.{IsFilmFault, IsFilmError, IsRefusal, IsSystemFault}
 
 -- what holds of each fault of a film that is refused for it; and of each of a system stream
-pub each_film_fault : {Refuses : FilmFault → Type 0} (P : Fault → Type 0) (fault : Fault)
+pub each_film_fault : {Refuses : FilmFault → Type 0} (P : InputError → Type 0) (fault : InputError)
     → ((own : FilmFault) → Refuses own → P (Film own)) → IsFilmFault Refuses fault → P fault
 each_film_fault P (Film own) holds h = holds own h
 each_film_fault P other holds h = absurd h
 
-pub each_system_fault : {Refuses : SystemFault → Type 0} (P : Fault → Type 0) (fault : Fault)
+pub each_system_fault : {Refuses : SystemFault → Type 0} (P : InputError → Type 0) (fault : InputError)
     → ((own : SystemFault) → Refuses own → P (System own)) → IsSystemFault Refuses fault → P fault
 each_system_fault P (System own) holds h = holds own h
 each_system_fault P other holds h = absurd h
 
 -- a refusal for one reason, as one for another
-pub refusal_map : {Refuses Refuses' : Fault → Type 0} (name : List ℕ) (t : Trouble) →
-    ((fault : Fault) → Refuses fault → Refuses' fault) → IsRefusal name Refuses t → IsRefusal name Refuses' t
+pub refusal_map : {Refuses Refuses' : InputError → Type 0} (name : List ℕ) (t : CliError) →
+    ((fault : InputError) → Refuses fault → Refuses' fault) → IsRefusal name Refuses t → IsRefusal name Refuses' t
 refusal_map name Usage refuses h = absurd h
 refusal_map name (Refused other fault) refuses h = (h.0, refuses fault h.1)
 refusal_map name (StoreFault other) refuses h = absurd h
@@ -34,22 +34,22 @@ refusal_map name NoMemory refuses h = tt
 refusal_map name GateFault refuses h = absurd h
 refusal_map name LinkFault refuses h = absurd h
 
-pub film_trouble_map : {Refuses Refuses' : FilmFault → Type 0} (name : List ℕ) (t : Trouble) →
-    ((fault : FilmFault) → Refuses fault → Refuses' fault) → IsFilmTrouble name Refuses t →
-    IsFilmTrouble name Refuses' t
+pub film_trouble_map : {Refuses Refuses' : FilmFault → Type 0} (name : List ℕ) (t : CliError) →
+    ((fault : FilmFault) → Refuses fault → Refuses' fault) → IsFilmError name Refuses t →
+    IsFilmError name Refuses' t
 film_trouble_map {Refuses} {Refuses'} name t refuses h =
     refusal_map name t (λ fault is. each_film_fault (IsFilmFault Refuses') fault refuses is) h
 
 -- where the library tells what it holds, the one reason against a file of a name comes to the other
-pub record MeansRefused (told : Option (List File)) (name : List ℕ) (Reason : Fault → Type 0)
-    (Refuses : List File → List ℕ → Fault → Type 0) : Type 0 where
-  pub refuses : (held : List File) (fault : Fault) → told ≡ Some held → Reason fault → Refuses held name fault
+pub record MeansRefused (told : Option (List File)) (name : List ℕ) (Reason : InputError → Type 0)
+    (Refuses : List File → List ℕ → InputError → Type 0) : Type 0 where
+  pub refuses : (held : List File) (fault : InputError) → told ≡ Some held → Reason fault → Refuses held name fault
 
 -- a refusal of what was read, where the library tells what it holds
-pub refusal_read : {told : Option (List File)} {name : List ℕ} {Reason : Fault → Type 0}
-    {Refuses : List File → List ℕ → Fault → Type 0} (faults faults' : ℕ) (t : Trouble) →
+pub refusal_read : {told : Option (List File)} {name : List ℕ} {Reason : InputError → Type 0}
+    {Refuses : List File → List ℕ → InputError → Type 0} (faults faults' : ℕ) (t : CliError) →
     MeansRefused told name Reason Refuses → IsRefusal name Reason t →
-    IsReadTrouble (IsNamed name) Refuses told faults faults' t
+    IsReadError (IsThatName name) Refuses told faults faults' t
 refusal_read faults faults' Usage means h = absurd h
 refusal_read {Refuses = Refuses} faults faults' (Refused other fault) means h =
     (h.0, λ held is. subst (λ (n : List ℕ). Refuses held n fault) (sym h.0) (means.refuses held fault is h.1))

@@ -4,28 +4,28 @@ use Rattle.std.proofs.Common.{Option, Result, Ok, Err, inl, inr, refl, sym, ap, 
 use Rattle.std.proofs.Common.{length-append}
 use Rattle.std.specs.Prelude.{option_map, IfErr, IfOk, IsErrAnd}
 use Rattle.std.proofs.lemmas.List.{length-take-le}
-use Rattle.vod_base.specs.Outside.{File, file_named}
+use Rattle.vod_base.specs.IoState.{File, file_named}
 use Rattle.mpeg_scan.specs.declared.faults.FilmFault.{FilmFault}
 use Rattle.mpeg_scan.specs.declared.faults.FilmFault.TheVariants.{TooLong}
 use Rattle.mpeg_scan.specs.declared.scanner.Ending.{Ending}
 use Rattle.mpeg_scan.specs.declared.scanner.Scanner.{Scanner}
-use Rattle.mpeg_scan.specs.Codes.{read_after, codes_of}
+use Rattle.mpeg_scan.specs.StartCodes.{read_after, codes_of}
 use Rattle.mpeg_scan.specs.Calls.{Call, calls_of, all_calls}
-use Rattle.mpeg_scan.specs.Faults.{first_fault, refusal_of}
-use Rattle.mpeg_scan.specs.Words.{rate_of}
+use Rattle.mpeg_scan.specs.FilmFaults.{first_fault, refusal_of}
+use Rattle.mpeg_scan.specs.CodeFacts.{rate_of}
 use Rattle.mpeg_scan.specs.Films.{refusal}
-use Rattle.mpeg_scan.specs.Scans.{HasScannedBytes, bytes_fed}
-use Rattle.mpeg_scan.proofs.ReadLemmas.{read-append, fault-stays}
+use Rattle.mpeg_scan.specs.ScannerState.{HasScannedBytes, bytes_fed}
+use Rattle.mpeg_scan.proofs.ByteReadLemmas.{read-append, fault-stays}
 use Rattle.mpeg_scan.proofs.FilmLemmas.{length-read, calls-none, refusal-at_code}
-use Rattle.troubles.specs.declared.faults.Fault.{Fault}
-use Rattle.troubles.specs.declared.faults.Fault.TheVariants.{Film}
-use Rattle.troubles.specs.declared.faults.Trouble.{Trouble}
-use Rattle.troubles.specs.Causes.{IsReadTrouble, IsStoreKept}
-use Rattle.troubles.proofs.CauseLemmas.{trouble_map}
-use Rattle.inputs.specs.Films.{IsFilmFault, IsFilmTrouble}
-use Rattle.inputs.specs.Files.{IsFront, IsMissing, IsNamed, IsNever}
-use Rattle.inputs.specs.Scans.{HasEnded, HasHeard, HasRefused, HasScanned, HasScannedAll, HasTold}
-use Rattle.inputs.specs.Scans.{IsFilmRefused, IsOpened, IsScanTrouble, WasOpened}
+use Rattle.cli_errors.specs.declared.errors.InputError.{InputError}
+use Rattle.cli_errors.specs.declared.errors.InputError.TheVariants.{Film}
+use Rattle.cli_errors.specs.declared.errors.CliError.{CliError}
+use Rattle.cli_errors.specs.ReadErrors.{IsReadError, IsLibraryUnchanged}
+use Rattle.cli_errors.proofs.ReadErrorLemmas.{trouble_map}
+use Rattle.inputs.specs.LoadErrors.{IsFilmFault, IsFilmError}
+use Rattle.inputs.specs.FileReads.{IsFilePrefix, IsMissing, IsThatName, IsNever}
+use Rattle.inputs.specs.ChunkScans.{HasEnded, HasScannedFilm, HasRefused, HasScanned, HasScannedAll, HasReportedParts}
+use Rattle.inputs.specs.ChunkScans.{IsFilmRefused, IsOpened, IsScanError, WasOpened}
 use Rattle.inputs.specs.Videos.{IsVideo, IsVideoFrom, pack_in}
 use Rattle.inputs.proofs.ReadLemmas.{first_front, front_rest, one_file}
 use Rattle.inputs.proofs.RefusalLemmas.{MeansRefused, each_film_fault, refusal_read}
@@ -46,11 +46,11 @@ plain_refused {held} {name} {size} {whole} opened found short refused =
 
 -- a chunk more
 pub more_told : {Heard Heard' : List Call → Type 0} {scanner scanner' : Scanner} {video : List ℕ}
-    (more : List ℕ) → HasTold Heard scanner video →
+    (more : List ℕ) → HasReportedParts Heard scanner video →
     ((r : List ℕ) → HasScannedBytes scanner r → HasScannedBytes scanner' (read_after r more)) →
     ((r : List ℕ) (calls : List Call) → HasScannedBytes scanner r → Heard (calls ++ calls_of (codes_of r)) →
     Heard' (calls ++ calls_of (codes_of (read_after r more)))) →
-    HasTold Heard' scanner' (video ++ more)
+    HasReportedParts Heard' scanner' (video ++ more)
 more_told {Heard} {Heard'} {scanner'} {video} more so_far kept tells =
     let joined : read_after [] (video ++ more) ≡ read_after (read_after [] video) more = read-append [] video more in
     record {
@@ -62,7 +62,7 @@ more_told {Heard} {Heard'} {scanner'} {video} more so_far kept tells =
 pub more_scanned : {Heard Heard' : List Call → Type 0} {told' : Option (List File)} {name : List ℕ} {size place : ℕ}
     {scanner scanner' : Scanner} {count : ℕ} (chunk : List ℕ) →
     (so_far : HasScanned Heard told' name size place scanner) →
-    ((held : List File) → told' ≡ Some held → IsFront held name size (so_far.bytes ++ take count chunk)) →
+    ((held : List File) → told' ≡ Some held → IsFilePrefix held name size (so_far.bytes ++ take count chunk)) →
     count ≤ length chunk →
     ((r : List ℕ) → HasScannedBytes scanner r → HasScannedBytes scanner' (read_after r (take count chunk))) →
     ((r : List ℕ) (calls : List Call) → HasScannedBytes scanner r → Heard (calls ++ calls_of (codes_of r)) →
@@ -92,7 +92,7 @@ front_refused front rest fault short is =
 
 pub chunk_refused : {Heard : List Call → Type 0} {held : List File} {name : List ℕ} {size : ℕ} {scanner : Scanner}
     {bytes : List ℕ} {fault : FilmFault} (chunk : List ℕ) →
-    HasTold Heard scanner bytes → IsOpened held name size None → IsFront held name size (bytes ++ chunk) →
+    HasReportedParts Heard scanner bytes → IsOpened held name size None → IsFilePrefix held name size (bytes ++ chunk) →
     size ≤ 2 ^ 40 →
     ((r : List ℕ) → HasScannedBytes scanner r → first_fault (codes_of (read_after r chunk)) ≡ Some fault)
     → IsFilmRefused held name (Film fault)
@@ -107,7 +107,7 @@ chunk_refused {Heard} {held} {name} {size} {bytes} {fault} chunk so_far opened f
 
 -- before the first chunk
 pub none_told : (Heard : List Call → Type 0) (scanner : Scanner) → HasScannedBytes scanner [] → Heard []
-    → HasTold Heard scanner []
+    → HasReportedParts Heard scanner []
 none_told Heard scanner fed fresh = record { fed = fed; heard = subst Heard (sym calls-none) fresh }
 
 pub first_scanned : {Heard : List Call → Type 0} {told' : Option (List File)} {name : List ℕ} {size : ℕ}
@@ -129,17 +129,17 @@ first_scanned {Heard} {name} {scanner} from opened fed fresh = record {
 pub size_refused : (held : List File) (name : List ℕ) (size : ℕ)
     → Some size ≡ option_map length (file_named held name) → 2 ^ 40 < size → IsFilmRefused held name (Film TooLong)
 size_refused held name size found long =
-    let file : IsFront held name size [] = first_front held name size found in
+    let file : IsFilePrefix held name size [] = first_front held name size found in
     inr (file.whole, (file.found, inl (omega (arith, file.sized, long), refl)))
 
-pub missing_refused : (held : List File) (name : List ℕ) (fault : Fault) → IsMissing held name fault
+pub missing_refused : (held : List File) (name : List ℕ) (fault : InputError) → IsMissing held name fault
     → IsFilmRefused held name fault
 missing_refused held name fault missing = inl missing
 
 -- ---- the end of a video
 
 pub told_ended : {Heard Heard' : List Call → Type 0} {scanner : Scanner} {video : List ℕ} {size rate : ℕ} →
-    HasTold Heard scanner video →
+    HasReportedParts Heard scanner video →
     ((r : List ℕ) → HasScannedBytes scanner r → (refusal_of r ≡ None) × (rate ≡ rate_of (codes_of r))
     × (size ≡ length r)) →
     ((r : List ℕ) (calls : List Call) → HasScannedBytes scanner r → Heard (calls ++ calls_of (codes_of r)) →
@@ -178,7 +178,7 @@ all_scanned {Heard} {name} so_far within whole = record {
 pub film_heard : {Heard Heard' : List Call → Type 0} {told' : Option (List File)} {name : List ℕ} {size : ℕ}
     {scanner : Scanner} {bytes rate : ℕ} → size ≤ 2 ^ 40 → WasOpened told' name size None →
     (so_far : HasScannedAll Heard told' name size scanner) → HasEnded Heard' so_far.bytes bytes rate
-    → HasHeard Heard' told' name bytes rate
+    → HasScannedFilm Heard' told' name bytes rate
 film_heard {Heard} {name} {size} short opened so_far ended = record {
   video = so_far.bytes;
   ended = ended;
@@ -214,9 +214,9 @@ err_map P Q (Err e) f h = f e h
 
 -- the trouble with a film whose video is refused, where the library tells what it holds
 pub film_trouble : {told : Option (List File)} {Refuses : FilmFault → Type 0} (name : List ℕ) (faults faults' : ℕ)
-    (t : Trouble) →
+    (t : CliError) →
     ((held : List File) (fault : FilmFault) → told ≡ Some held → Refuses fault →
-    IsFilmRefused held name (Film fault)) → IsFilmTrouble name Refuses t → IsScanTrouble name told faults faults' t
+    IsFilmRefused held name (Film fault)) → IsFilmError name Refuses t → IsScanError name told faults faults' t
 film_trouble {told} {Refuses} name faults faults' t refuses h =
     let means : MeansRefused told name (IsFilmFault Refuses) IsFilmRefused = record {
       refuses = λ held fault is r.
@@ -225,11 +225,11 @@ film_trouble {told} {Refuses} name faults faults' t refuses h =
     refusal_read faults faults' t means h
 
 -- the trouble of a read, where each cause follows from another
-pub read_trouble_map : {Reads Reads' : List ℕ → Type 0} {Refuses Refuses' : List File → List ℕ → Fault → Type 0}
-    {told : Option (List File)} (before after : ℕ) (t : Trouble) → ((name : List ℕ) → Reads name → Reads' name) →
-    ((held : List File) (name : List ℕ) (fault : Fault) → told ≡ Some held → Reads name → Refuses held name fault →
+pub read_trouble_map : {Reads Reads' : List ℕ → Type 0} {Refuses Refuses' : List File → List ℕ → InputError → Type 0}
+    {told : Option (List File)} (before after : ℕ) (t : CliError) → ((name : List ℕ) → Reads name → Reads' name) →
+    ((held : List File) (name : List ℕ) (fault : InputError) → told ≡ Some held → Reads name → Refuses held name fault →
     Refuses' held name fault) →
-    IsReadTrouble Reads Refuses told before after t → IsReadTrouble Reads' Refuses' told before after t
+    IsReadError Reads Refuses told before after t → IsReadError Reads' Refuses' told before after t
 read_trouble_map {Reads} {Reads'} {Refuses} {Refuses'} {told} before after t reads refuses h =
     trouble_map (record {
       Reads = Reads;
@@ -257,18 +257,18 @@ read_trouble_map {Reads} {Reads'} {Refuses} {Refuses'} {told} before after t rea
 
 -- what was found out before is not less known after that
 pub trouble_on : {told told' : Option (List File)} {a b : ℕ} (name : List ℕ)
-    (Refuses : List File → List ℕ → Fault → Type 0) (c : ℕ) (t : Trouble) → IsStoreKept told told' a b →
-    IsReadTrouble (IsNamed name) Refuses told' b c t → IsReadTrouble (IsNamed name) Refuses told a c t
+    (Refuses : List File → List ℕ → InputError → Type 0) (c : ℕ) (t : CliError) → IsLibraryUnchanged told told' a b →
+    IsReadError (IsThatName name) Refuses told' b c t → IsReadError (IsThatName name) Refuses told a c t
 trouble_on {told} {told'} {a} {b} name Refuses c t on h =
     trouble_map (record {
-      Reads = IsNamed name;
+      Reads = IsThatName name;
       Refuses = Refuses;
       told = told';
       before = b;
       after = c;
     })
     (record {
-      Reads = IsNamed name;
+      Reads = IsThatName name;
       Refuses = Refuses;
       told = told;
       before = a;
@@ -286,24 +286,25 @@ trouble_on {told} {told'} {a} {b} name Refuses c t on h =
 
 -- the same of a read that is never refused
 pub never_refused : {told told' : Option (List File)} {a b : ℕ} (name : List ℕ) (Refuses : List File → List ℕ →
-    Fault → Type 0)
-    (c : ℕ) (t : Trouble) → IsStoreKept told told' a b →
-    IsReadTrouble (IsNamed name) IsNever told' b c t → IsReadTrouble (IsNamed name) Refuses told a c t
+    InputError → Type 0)
+    (c : ℕ) (t : CliError) → IsLibraryUnchanged told told' a b →
+    IsReadError (IsThatName name) IsNever told' b c t → IsReadError (IsThatName name) Refuses told a c t
 never_refused {a} name Refuses c t on h =
     read_trouble_map a c t (λ n is. is) (λ held n fault told_is named never. absurd never)
     (trouble_on name IsNever c t on h)
 
 -- and of a call's answer
 pub troubles_on : {told told' : Option (List File)} {a b : ℕ} (name : List ℕ) (c : ℕ)
-    (r : Result Ending Trouble) → IsStoreKept told told' a b →
-    IfErr r (IsReadTrouble (IsNamed name) IsFilmRefused told' b c) →
-    IfErr r (IsReadTrouble (IsNamed name) IsFilmRefused told a c)
+    (r : Result Ending CliError) → IsLibraryUnchanged told told' a b →
+    IfErr r (IsReadError (IsThatName name) IsFilmRefused told' b c) →
+    IfErr r (IsReadError (IsThatName name) IsFilmRefused told a c)
 troubles_on name c (Ok ending) on h = tt
 troubles_on name c (Err t) on h = trouble_on name IsFilmRefused c t on h
 
 -- a film that is heard where the library tells as much as before
 pub heard_on : {told told' : Option (List File)} (Heard : List Call → Type 0) (name : List ℕ)
-    (r : Result Ending Trouble) → told' ≡ told →
-    IfOk r (λ e. HasHeard Heard told' name e.bytes e.rate) → IfOk r (λ e. HasHeard Heard told name e.bytes e.rate)
+    (r : Result Ending CliError) → told' ≡ told →
+    IfOk r (λ e. HasScannedFilm Heard told' name e.bytes e.rate) → IfOk r (λ e. HasScannedFilm Heard told name e.bytes
+    e.rate)
 heard_on Heard name r kept h =
-    subst (λ (t : Option (List File)). IfOk r (λ e. HasHeard Heard t name e.bytes e.rate)) kept h
+    subst (λ (t : Option (List File)). IfOk r (λ e. HasScannedFilm Heard t name e.bytes e.rate)) kept h

@@ -6,26 +6,29 @@ use Rattle.std.proofs.lemmas.List.{append-nil, length-map}
 use Rattle.std.proofs.lemmas.Bool.{and_parts, false≢true, eqb-true}
 use Rattle.mpeg_scan.specs.declared.units.Unit.{Unit as PictureUnit}
 use Rattle.mpeg_scan.specs.Calls.{Call, head_call, slice_call, unit_call}
-use Rattle.mpeg_scan.specs.Codes.{read_after, codes_of}
-use Rattle.mpeg_scan.specs.Counts.{Count, counts_after, group_of, no_count}
+use Rattle.mpeg_scan.specs.StartCodes.{read_after, codes_of}
+use Rattle.mpeg_scan.specs.UnitNumbering.{Count, counts_after, group_of, no_count}
 use Rattle.mpeg_scan.specs.Films.{IsFilm, refusal, slices_in, film_calls, units_in}
 use Rattle.mpeg_scan.specs.Layout.{unit_starts}
-use Rattle.mpeg_scan.specs.Tiles.{Part, between, within, first_of, parts_after}
-use Rattle.mpeg_scan.specs.Words.{rate_of}
-use Rattle.mpeg_scan.proofs.BoundLemmas.{film-bytes, film-pictures, film-rate, film-units}
-use Rattle.mpeg_scan.proofs.CountLemmas.{film-numbered}
-use Rattle.mpeg_scan.proofs.LaidLemmas.{UnitFits, count-fits, film-chained, film-laid, own-slices, part-fits, unit-fits}
-use Rattle.mpeg_scan.proofs.TileLemmas.{film-tiles}
+use Rattle.mpeg_scan.specs.PartTiling.{Part, between, within, first_of, parts_after}
+use Rattle.mpeg_scan.specs.CodeFacts.{rate_of}
+use Rattle.mpeg_scan.proofs.FilmBoundLemmas.{film-bytes, film-pictures, film-rate, film-units}
+use Rattle.mpeg_scan.proofs.UnitNumberingLemmas.{film-numbered}
+use Rattle.mpeg_scan.proofs.UnitLayoutLemmas.{UnitFits, count-fits, film-chained, film-laid, own-slices, part-fits}
+use Rattle.mpeg_scan.proofs.UnitLayoutLemmas.{unit-fits}
+use Rattle.mpeg_scan.proofs.PartTilingLemmas.{film-tiles}
 use Rattle.rtp_pack.specs.Packets.{lengths_to, unit_lengths}
 use Rattle.rtp_pack.specs.Sizes.{Measure, measure_from_headers, frames_of, measure_of, with_slice}
 use Rattle.rtp_pack.proofs.SizeLemmas.{slices-append}
 use Rattle.film_frames.specs.Pieces.{wire_size}
-use Rattle.film_frames.proofs.FilmLemmas.{AreUnits, units-bound}
-use Rattle.inputs.specs.Sizes.{AreSizesWithin, IsSized, Sizing, sizing_after_call, first_sizing, sizing_after, sizes_of}
+use Rattle.film_frames.proofs.FilmPieceLemmas.{AreUnits, units-bound}
+use Rattle.inputs.specs.WireSizes.{AreSizesWithin, IsSized, SizeState, size_state_after_call, first_size_state}
+use Rattle.inputs.specs.WireSizes.{size_state_after, sizes_of}
 
-pub sized-append : (s : Sizing) (xs ys : List Call) → sizing_after s (xs ++ ys) ≡ sizing_after (sizing_after s xs) ys
+pub sized-append : (s : SizeState) (xs ys : List Call) → size_state_after s (xs ++ ys) ≡ size_state_after
+    (size_state_after s xs) ys
 sized-append s [] ys = refl
-sized-append s (x ∷ xs) ys = sized-append (sizing_after_call s x) xs ys
+sized-append s (x ∷ xs) ys = sized-append (size_state_after_call s x) xs ys
 
 lengths-more : (cur : List ℕ) (at b : ℕ) → lengths_to b (cur ++ at ∷ []) ≡ lengths_to at cur ++ (b - at) ∷ []
 lengths-more [] at b = refl
@@ -71,18 +74,18 @@ record MeasuredSoFar (part : Part) (k : Count) (past : List ℕ) (unit : Measure
   slices : k.slices ≡ length past
   measures : Measures part past unit
 
-sizes-told : (calls : List Call) (s : Sizing) {part : Part} {k : Count} {to : ℕ} {past : List ℕ} →
+sizes-told : (calls : List Call) (s : SizeState) {part : Part} {k : Count} {to : ℕ} {past : List ℕ} →
     parts_after (Some part) calls ≡ Some (between to) →
     IsSome (counts_after (Some k) calls) → MeasuredSoFar part k past s.unit →
-    (sizing_after s calls).sizes ≡ s.sizes ++ map (λ u. wire_size (past ++ slices_in calls) u) (units_in calls)
+    (size_state_after s calls).sizes ≡ s.sizes ++ map (λ u. wire_size (past ++ slices_in calls) u) (units_in calls)
 sizes-told [] s parts counts so_far = sym (append-nil s.sizes)
 sizes-told (head_call a b ∷ calls) s {part = between at} {k} {to} {past} parts counts so_far =
     let fits = part-fits (eqb a at && (ltb a b && leb (b - a) 1380)) (within a b b 0) calls to parts in
-    let next : MeasuredSoFar (within a b b 0) k past (sizing_after_call s (head_call a b)).unit = record {
+    let next : MeasuredSoFar (within a b b 0) k past (size_state_after_call s (head_call a b)).unit = record {
       slices = so_far.slices;
       measures = record { before = past; cur = []; past_is = sym (append-nil past); count = refl; unit_is = refl };
     } in
-    sizes-told calls (sizing_after_call s (head_call a b)) fits.1 counts next
+    sizes-told calls (size_state_after_call s (head_call a b)) fits.1 counts next
 sizes-told (slice_call a b ∷ calls) s {part = between at} {to} parts counts so_far =
     absurd (false≢true (part-fits false (between at) calls to parts).0)
 sizes-told (unit_call unit ∷ calls) s {part = between at} {to} parts counts so_far =
@@ -99,7 +102,7 @@ sizes-told (slice_call a b ∷ calls) s {part = within from head_end at n} {k} {
     ∙ sym (slices-append (lengths_to a its.cur) (measure_from_headers (head_end - from)) (b - a))
     ∙ ap (λ (l : List ℕ). measure_of (head_end - from) l) (sym (lengths-more its.cur a b)) in
     let next : MeasuredSoFar (within from head_end b (n + 1)) (record k { slices = k.slices + 1 })
-    (past ++ a ∷ []) (sizing_after_call s (slice_call a b)).unit = record {
+    (past ++ a ∷ []) (size_state_after_call s (slice_call a b)).unit = record {
       slices = omega (arith, so_far.slices, length-append past (a ∷ []));
       measures = record {
         before = its.before;
@@ -109,7 +112,7 @@ sizes-told (slice_call a b ∷ calls) s {part = within from head_end at n} {k} {
         unit_is = unit;
       };
     } in
-    sizes-told calls (sizing_after_call s (slice_call a b)) fits.1 counts next
+    sizes-told calls (size_state_after_call s (slice_call a b)) fits.1 counts next
     ∙ ap (λ (starts : List ℕ). s.sizes ++ map (λ u. wire_size starts u) (units_in calls))
     (append_assoc past (a ∷ []) (slices_in calls))
 sizes-told (unit_call unit ∷ calls) s {part = within from head_end at n} {k} {to} {past} parts counts so_far =
@@ -126,10 +129,10 @@ sizes-told (unit_call unit ∷ calls) s {part = within from head_end at n} {k} {
     (eqb unit.presentation (group_of k unit + unit.temporal)) counted.0).0 in
     let size : cond unit.starts_group 52 0 + frames_of s.unit ≡ wire_size (past ++ slices_in calls) unit =
     unit-size (slices_in calls) (unit-fits unit from head_end at n fits.0) (count ∙ so_far.slices) so_far.measures in
-    let later : MeasuredSoFar (between at) next past (sizing_after_call s (unit_call unit)).unit =
+    let later : MeasuredSoFar (between at) next past (size_state_after_call s (unit_call unit)).unit =
     record { slices = so_far.slices; measures = tt } in
     let rest : List ℕ = map (λ u. wire_size (past ++ slices_in calls) u) (units_in calls) in
-    sizes-told calls (sizing_after_call s (unit_call unit)) fits.1 counted.1 later
+    sizes-told calls (size_state_after_call s (unit_call unit)) fits.1 counted.1 later
     ∙ append_assoc s.sizes ((cond unit.starts_group 52 0 + frames_of s.unit) ∷ []) rest
     ∙ ap (λ n. s.sizes ++ n ∷ rest) size
 
@@ -137,29 +140,29 @@ sizes-told (unit_call unit ∷ calls) s {part = within from head_end at n} {k} {
 pub film-sizes : (film : List ℕ) (unit : Measure) (sizes : List ℕ) → refusal film ≡ None
     → IsSized unit sizes (film_calls film) → sizes ≡ sizes_of film
 film-sizes film unit sizes accepted sized =
-    let start : MeasuredSoFar (between (first_of (codes_of (read_after [] film)))) no_count [] first_sizing.unit =
+    let start : MeasuredSoFar (between (first_of (codes_of (read_after [] film)))) no_count [] first_size_state.unit =
     record { slices = refl; measures = tt } in
     sized.sizes_are
-    ∙ sizes-told (film_calls film) first_sizing (film-tiles (read_after [] film) accepted)
+    ∙ sizes-told (film_calls film) first_size_state (film-tiles (read_after [] film) accepted)
     (film-numbered (read_after [] film) accepted) start
 
 -- a part more
 pub sized-more : {calls : List Call} {unit unit' : Measure} {sizes sizes' : List ℕ} (call : Call) →
     IsSized unit sizes calls →
-    unit' ≡ (sizing_after_call (record { unit = unit; sizes = sizes }) call).unit →
-    sizes' ≡ (sizing_after_call (record { unit = unit; sizes = sizes }) call).sizes →
+    unit' ≡ (size_state_after_call (record { unit = unit; sizes = sizes }) call).unit →
+    sizes' ≡ (size_state_after_call (record { unit = unit; sizes = sizes }) call).sizes →
     IsSized unit' sizes' (calls ++ call ∷ [])
 sized-more {calls} {unit} {sizes} call so_far unit_is sizes_are =
-    let before : Sizing = record { unit = unit; sizes = sizes } in
-    let after : Sizing = sizing_after first_sizing calls in
+    let before : SizeState = record { unit = unit; sizes = sizes } in
+    let after : SizeState = size_state_after first_size_state calls in
     let same : before ≡ after =
     ap (λ (u : Measure). record { unit = u; sizes = sizes }) so_far.unit_is
     ∙ ap (λ (s : List ℕ). record { unit = after.unit; sizes = s }) so_far.sizes_are in
     record {
-      unit_is = unit_is ∙ ap (λ (s : Sizing). (sizing_after_call s call).unit) same
-          ∙ ap (λ (s : Sizing). s.unit) (sym (sized-append first_sizing calls (call ∷ [])));
-      sizes_are = sizes_are ∙ ap (λ (s : Sizing). (sizing_after_call s call).sizes) same
-          ∙ ap (λ (s : Sizing). s.sizes) (sym (sized-append first_sizing calls (call ∷ [])));
+      unit_is = unit_is ∙ ap (λ (s : SizeState). (size_state_after_call s call).unit) same
+          ∙ ap (λ (s : SizeState). s.unit) (sym (sized-append first_size_state calls (call ∷ [])));
+      sizes_are = sizes_are ∙ ap (λ (s : SizeState). (size_state_after_call s call).sizes) same
+          ∙ ap (λ (s : SizeState). s.sizes) (sym (sized-append first_size_state calls (call ∷ [])));
     }
 
 -- ---- the limits of a film's sizes

@@ -4,29 +4,29 @@ use Rattle.std.proofs.Common.{drop, replicate, Some, Option, inl, inr, refl, sym
 use Rattle.std.proofs.Common.{length-append}
 use Rattle.std.proofs.lemmas.List.{length-take-le, length-drop, length-replicate, append-nil, take-append-drop}
 use Rattle.std.proofs.Math.Seq.{drop-append_seam, take-add}
-use Rattle.vod_base.specs.Outside.{File, file_named}
+use Rattle.vod_base.specs.IoState.{File, file_named}
 use Rattle.mpeg_scan.specs.declared.faults.FilmFault.{FilmFault}
 use Rattle.mpeg_scan.specs.declared.scanner.Scanner.{Scanner}
 use Rattle.mpeg_scan.specs.Calls.{Call}
 use Rattle.mpeg_scan.specs.Films.{refusal}
-use Rattle.mpeg_scan.specs.Scans.{HasScannedBytes}
-use Rattle.sys_demux.specs.Items.{bytes_of}
-use Rattle.sys_demux.specs.States.{WasFed}
-use Rattle.sys_demux.specs.Streams.{IsFault, IsRefused, IsSystem}
+use Rattle.mpeg_scan.specs.ScannerState.{HasScannedBytes}
+use Rattle.sys_demux.specs.StreamItems.{bytes_of}
+use Rattle.sys_demux.specs.ParserStates.{WasFed}
+use Rattle.sys_demux.specs.SystemStreams.{IsFault, IsBadStream, IsSystem}
 use Rattle.sys_demux.specs.declared.faults.SystemFault.{SystemFault}
 use Rattle.sys_demux.specs.declared.faults.SystemFault.TheVariants.{NotPack, BadCode, BadPacket, Truncated}
 use Rattle.sys_demux.specs.declared.unwrapper.Unwrapper.{Unwrapper}
-use Rattle.sys_demux.proofs.Parts.{length_prefixed}
-use Rattle.troubles.specs.declared.faults.Fault.TheVariants.{Film, System}
-use Rattle.troubles.specs.declared.faults.Trouble.{Trouble}
-use Rattle.inputs.specs.Files.{IsFront}
-use Rattle.inputs.specs.Films.{IsMovedFault, IsSystemFault, IsSystemTrouble, IsToldFault}
-use Rattle.inputs.specs.Scans.{HasEnded, HasHeard, HasRefused, HasStreamed, HasStreamedAll, HasTaken}
-use Rattle.inputs.specs.Scans.{HasUnwrapped, IsFilmRefused, IsOpened, IsChunkRefused, IsScanTrouble}
-use Rattle.inputs.specs.Scans.{IsStreamFront, WasOpened}
-use Rattle.inputs.specs.declared.streams.StreamRefused.{StreamRefused}
-use Rattle.inputs.specs.declared.streams.StreamRefused.TheVariants.{Fault as StreamFault, NoMemory as NoRoom}
-use Rattle.inputs.proofs.Tokens.{slice_from}
+use Rattle.sys_demux.proofs.ItemPartLemmas.{length_prefixed}
+use Rattle.cli_errors.specs.declared.errors.InputError.TheVariants.{Film, System}
+use Rattle.cli_errors.specs.declared.errors.CliError.{CliError}
+use Rattle.inputs.specs.FileReads.{IsFilePrefix}
+use Rattle.inputs.specs.LoadErrors.{IsMovedFault, IsSystemFault, IsSystemError, IsToldFault}
+use Rattle.inputs.specs.ChunkScans.{HasEnded, HasScannedFilm, HasRefused, HasStreamed, HasStreamedAll, HasTaken}
+use Rattle.inputs.specs.ChunkScans.{HasUnwrapped, IsFilmRefused, IsOpened, IsChunkRefused, IsScanError}
+use Rattle.inputs.specs.ChunkScans.{IsStreamFront, WasOpened}
+use Rattle.inputs.specs.declared.streams.StreamError.{StreamError}
+use Rattle.inputs.specs.declared.streams.StreamError.TheVariants.{Fault as StreamFault, NoMemory as NoRoom}
+use Rattle.inputs.proofs.TokenLemmas.{slice_from}
 use Rattle.inputs.specs.Videos.{IsStreamFaultFrom, IsVideo, IsVideoFrom, fault_from, pack_in, place_of}
 use Rattle.inputs.proofs.ReadLemmas.{front_rest, one_file}
 use Rattle.inputs.proofs.RefusalLemmas.{MeansRefused, each_system_fault, refusal_read}
@@ -49,7 +49,7 @@ tail-within chosen start tail (BadPacket place) h =
     omega (arith, h.place_is, ap length h.is, length_prefixed h.zeros (h.value ∷ h.high ∷ h.low ∷ (h.front ++ h.rest)))
 tail-within chosen start tail (Truncated place) h = omega (arith, h.place_is, h.begun)
 
-pub fault_within : (bytes : List ℕ) (fault : SystemFault) → IsRefused bytes fault → place_of fault ≤ length bytes
+pub fault_within : (bytes : List ℕ) (fault : SystemFault) → IsBadStream bytes fault → place_of fault ≤ length bytes
 fault_within bytes fault h =
     omega (
       arith,
@@ -65,7 +65,7 @@ pub record NamesPlace (Variant : ℕ → SystemFault) : Type 0 where
 
 -- a fault at a place of the stream, moved by a sum that has room
 pub moved : {at sum : ℕ} {fault : SystemFault} {bytes : List ℕ} (place : ℕ) (Variant : ℕ → SystemFault) →
-    NamesPlace Variant → fault ≡ Variant at → IsRefused bytes fault → (at ≤ length bytes → sum ≡ place + at) →
+    NamesPlace Variant → fault ≡ Variant at → IsBadStream bytes fault → (at ≤ length bytes → sum ≡ place + at) →
     Variant sum ≡ fault_from place fault
 moved {at} {fault = fault} {bytes = bytes} place Variant names is refused sum_is =
     let within : place_of fault ≤ length bytes = fault_within bytes fault refused in
@@ -102,13 +102,13 @@ part_unwrapped {Heard} {seen} part more so_far few fed taken = record {
 -- a chunk of a stream more
 pub front_more : {held : List File} {name : List ℕ} {size place : ℕ} (from : ℕ) (seen more : List ℕ) →
     IsStreamFront size from seen held name → from + length seen ≡ place →
-    ((bytes : List ℕ) → IsFront held name size bytes → length bytes ≡ place
-    → IsFront held name size (bytes ++ more)) → IsStreamFront size from (seen ++ more) held name
+    ((bytes : List ℕ) → IsFilePrefix held name size bytes → length bytes ≡ place
+    → IsFilePrefix held name size (bytes ++ more)) → IsStreamFront size from (seen ++ more) held name
 front_more {held} {name} {size} {place} from seen more before long front = (
   before.0,
   (
     before.1.0,
-    subst (IsFront held name size) (append_assoc before.0 seen more)
+    subst (IsFilePrefix held name size) (append_assoc before.0 seen more)
         (front (before.0 ++ seen) before.1.1 (omega (arith, length-append before.0 seen, before.1.0, long))),
   ),
 )
@@ -116,8 +116,8 @@ front_more {held} {name} {size} {place} from seen more before long front = (
 pub more_streamed : {Heard Heard' : List Call → Type 0} {told : Option (List File)} {name : List ℕ}
     {size from place : ℕ} {unwrapper unwrapper' : Unwrapper} {scanner scanner' : Scanner} (chunk : List ℕ) (count : ℕ) →
     (so_far : HasStreamed Heard told name size from place unwrapper scanner) →
-    ((held : List File) → told ≡ Some held → (bytes : List ℕ) → IsFront held name size bytes →
-    length bytes ≡ place → IsFront held name size (bytes ++ take count chunk)) → count ≤ length chunk →
+    ((held : List File) → told ≡ Some held → (bytes : List ℕ) → IsFilePrefix held name size bytes →
+    length bytes ≡ place → IsFilePrefix held name size (bytes ++ take count chunk)) → count ≤ length chunk →
     HasUnwrapped Heard' unwrapper' scanner' (so_far.seen ++ take count chunk)
     → HasStreamed Heard' told name size from (place + count) unwrapper' scanner'
 more_streamed {Heard} {name} {from} {place} chunk count so_far front within unwrapped = record {
@@ -170,7 +170,7 @@ stream_rest before rest whole from is long =
 -- the stream of a file, and one of its faults
 stream_fault : {held : List File} {name : List ℕ} {size from : ℕ} {whole stream : List ℕ}
     {own fault : SystemFault} → IsOpened held name size (Some from) → file_named held name ≡ Some whole →
-    size ≤ 2 ^ 40 → drop from whole ≡ stream → IsRefused stream own → IsMovedFault from own fault
+    size ≤ 2 ^ 40 → drop from whole ≡ stream → IsBadStream stream own → IsMovedFault from own fault
     → IsFilmRefused held name (System fault)
 stream_fault {held} {name} {from} {whole} {stream} {own} {fault} opened found short is refused moves =
     let same : whole ≡ opened.file = one_file held name whole opened.file found opened.found in
@@ -179,7 +179,7 @@ stream_fault {held} {name} {from} {whole} {stream} {own} {fault} opened found sh
     let room : from + length stream ≤ 2 ^ 40 =
     omega (arith, sym (ap length is), length-drop from whole, ap length same, opened.sized, opened.within, short) in
     let its : IsStreamFaultFrom (Some from) whole fault =
-    (own, (subst (λ (l : List ℕ). IsRefused l own) (sym is) refused, moves stream refused room)) in
+    (own, (subst (λ (l : List ℕ). IsBadStream l own) (sym is) refused, moves stream refused room)) in
     inr (whole, (found, inr (few, subst (λ (o : Option ℕ). IsStreamFaultFrom o whole fault) (sym pack) its)))
 
 -- what was read of a stream up to the end of a chunk, in a file of at most 2^40 bytes
@@ -190,7 +190,7 @@ pub record ChunkRead (held : List File) (name : List ℕ) (size from : ℕ) (see
 
 pub chunk_fault : {held : List File} {name : List ℕ} {size from : ℕ} {seen chunk : List ℕ}
     {own fault : SystemFault} → ChunkRead held name size from seen chunk →
-    ((more : List ℕ) → IsRefused (seen ++ chunk ++ more) own) → IsMovedFault from own fault
+    ((more : List ℕ) → IsBadStream (seen ++ chunk ++ more) own) → IsMovedFault from own fault
     → IsFilmRefused held name (System fault)
 chunk_fault {held} {name} {size} {from} {seen} {chunk} read refused moves =
     let rest : List ℕ = drop (length (front.0 ++ (seen ++ chunk))) front.1.1.whole in
@@ -204,16 +204,16 @@ chunk_fault {held} {name} {size} {from} {seen} {chunk} read refused moves =
 
 -- the same of why the chunk can't be taken
 pub chunk_told : {held : List File} {name : List ℕ} {size from : ℕ} {seen chunk : List ℕ} {fault : SystemFault}
-    (refused : StreamRefused) → ChunkRead held name size from seen chunk → IsChunkRefused seen chunk refused →
+    (refused : StreamError) → ChunkRead held name size from seen chunk → IsChunkRefused seen chunk refused →
     IsToldFault from refused fault → IsFilmRefused held name (System fault)
 chunk_told (StreamFault own) read refused moves = chunk_fault read refused moves
 chunk_told NoRoom read refused moves = absurd moves
 
 -- the trouble with a film whose stream is refused, where the library tells what it holds
 pub system_trouble : {told : Option (List File)} {Refuses : SystemFault → Type 0} (name : List ℕ) (faults faults' : ℕ)
-    (t : Trouble) →
+    (t : CliError) →
     ((held : List File) (fault : SystemFault) → told ≡ Some held → Refuses fault →
-    IsFilmRefused held name (System fault)) → IsSystemTrouble name Refuses t → IsScanTrouble name told faults faults' t
+    IsFilmRefused held name (System fault)) → IsSystemError name Refuses t → IsScanError name told faults faults' t
 system_trouble {told} {Refuses} name faults faults' t refuses h =
     let means : MeansRefused told name (IsSystemFault Refuses) IsFilmRefused = record {
       refuses = λ held fault is r.
@@ -226,7 +226,8 @@ system_trouble {told} {Refuses} name faults faults' t refuses h =
 pub all_streamed : {Heard : List Call → Type 0} {told : Option (List File)} {name : List ℕ} {size from place : ℕ}
     {unwrapper : Unwrapper} {scanner : Scanner} →
     (so_far : HasStreamed Heard told name size from place unwrapper scanner) → place ≤ size →
-    ((held : List File) → told ≡ Some held → (bytes : List ℕ) → IsFront held name size bytes → length bytes ≡ place →
+    ((held : List File) → told ≡ Some held → (bytes : List ℕ) → IsFilePrefix held name size bytes → length bytes ≡ place
+    →
     file_named held name ≡ Some bytes) →
     HasStreamedAll Heard told name size from unwrapper scanner
 all_streamed {Heard} {name} {size} {from} {place} so_far within end = record {
@@ -243,7 +244,7 @@ all_streamed {Heard} {name} {size} {from} {place} so_far within end = record {
 pub end_fault : {Heard : List Call → Type 0} {told : Option (List File)} {held : List File} {name : List ℕ}
     {size from : ℕ} {unwrapper : Unwrapper} {scanner : Scanner} {own fault : SystemFault} →
     (so_far : HasStreamedAll Heard told name size from unwrapper scanner) → told ≡ Some held →
-    WasOpened told name size (Some from) → size ≤ 2 ^ 40 → IsRefused so_far.seen own →
+    WasOpened told name size (Some from) → size ≤ 2 ^ 40 → IsBadStream so_far.seen own →
     IsMovedFault from own fault → IsFilmRefused held name (System fault)
 end_fault {Heard} {held} {name} {from} so_far is opened short refused moves =
     stream_fault (opened held is) (so_far.whole held is).1.0 short (so_far.whole held is).1.1 refused moves
@@ -272,7 +273,7 @@ pub stream_heard : {Heard Heard' : List Call → Type 0} {told : Option (List Fi
     WasOpened told name size (Some from) →
     (so_far : HasStreamedAll Heard told name size from unwrapper scanner) →
     IsSystem so_far.seen so_far.unwrapped.video →
-    HasEnded Heard' so_far.unwrapped.video bytes rate → HasHeard Heard' told name bytes rate
+    HasEnded Heard' so_far.unwrapped.video bytes rate → HasScannedFilm Heard' told name bytes rate
 stream_heard {Heard} {name} {from} short opened so_far system ended = record {
   video = so_far.unwrapped.video;
   ended = ended;
@@ -324,8 +325,8 @@ rest_joined seen chunk more at =
     ∙ take-append-drop at chunk))
 
 -- a refusal in a part of a chunk
-pub part_refused : (seen chunk : List ℕ) (at : ℕ) (e : StreamRefused)
+pub part_refused : (seen chunk : List ℕ) (at : ℕ) (e : StreamError)
     → IsChunkRefused (seen ++ take at chunk) (take (length chunk - at) (drop at chunk)) e → IsChunkRefused seen chunk e
 part_refused seen chunk at (StreamFault fault) h =
-    λ more. subst (λ (l : List ℕ). IsRefused l fault) (rest_joined seen chunk more at) (h more)
+    λ more. subst (λ (l : List ℕ). IsBadStream l fault) (rest_joined seen chunk more at) (h more)
 part_refused seen chunk at NoRoom h = tt

@@ -1,13 +1,13 @@
 -- A file has one video, and none where it is refused.
 use Rattle.std.proofs.Common.{◌≡◌, ◌≤◌, ◌^◌, ℕ, List, length, Some, None, Option, inl, inr, sym, ap, ◌∙◌, arith, subst}
-use Rattle.vod_base.specs.Outside.{File, file_named}
+use Rattle.vod_base.specs.IoState.{File, file_named}
 use Rattle.mpeg_scan.specs.declared.faults.FilmFault.TheVariants.{TooLong}
 use Rattle.mpeg_scan.specs.Films.{refusal}
 use Rattle.sys_demux.specs.declared.faults.SystemFault.{SystemFault}
-use Rattle.sys_demux.proofs.OneReading.{not_both, video_once as stream_once}
-use Rattle.troubles.specs.declared.faults.Fault.{Fault}
-use Rattle.troubles.specs.declared.faults.Fault.TheVariants.{Film, System}
-use Rattle.inputs.specs.Scans.{HoldsVideo, IsFilmRefused}
+use Rattle.sys_demux.proofs.ReadingUniqueness.{not_both, video_once as stream_once}
+use Rattle.cli_errors.specs.declared.errors.InputError.{InputError}
+use Rattle.cli_errors.specs.declared.errors.InputError.TheVariants.{Film, System}
+use Rattle.inputs.specs.ChunkScans.{HoldsVideo, IsFilmRefused}
 use Rattle.inputs.specs.Videos.{IsRefusedAbove, IsStreamFaultFrom, IsVideo, IsVideoFrom, IsVideoRefused, pack_in}
 use Rattle.inputs.proofs.ReadLemmas.{one_file}
 
@@ -29,7 +29,7 @@ from_not_fault : (pack : Option ℕ) (file video : List ℕ) (fault : SystemFaul
 from_not_fault None file video fault p q = q
 from_not_fault (Some place) file video fault p q = not_both _ video q.0 p q.1.0
 
-video_not_refused : (file video : List ℕ) (fault : Fault) → IsVideo file video → refusal video ≡ None
+video_not_refused : (file video : List ℕ) (fault : InputError) → IsVideo file video → refusal video ≡ None
     → IsVideoRefused file fault → ⊥
 video_not_refused file video (Film fault) is accepted refused =
     let same : video ≡ refused.0 = video_once file video refused.0 is refused.1.0 in
@@ -47,7 +47,7 @@ pub record HoldsAccepted (held : List File) (name video : List ℕ) (most : ℕ)
   pub accepted : refusal video ≡ None
 
 -- isn't refused
-pub file_not_refused : {held : List File} {name video : List ℕ} {most : ℕ} (over fault : Fault)
+pub file_not_refused : {held : List File} {name video : List ℕ} {most : ℕ} (over fault : InputError)
     → HoldsAccepted held name video most → IsRefusedAbove most over held name fault → ⊥
 file_not_refused over fault holds (inl missing) = let both : Some holds.file ≡ None = sym holds.found ∙ missing.1 in cc
 file_not_refused {held} {name} {video} over fault holds (inr other) =
@@ -60,7 +60,7 @@ file_not_refused {held} {name} {video} over fault holds (inr other) =
     ]
 
 -- what is accepted isn't refused
-pub held_not_refused : (held : List File) (name video : List ℕ) (fault : Fault) → HoldsVideo held name video
+pub held_not_refused : (held : List File) (name video : List ℕ) (fault : InputError) → HoldsVideo held name video
     → IsFilmRefused held name fault → ⊥
 held_not_refused held name video fault holds refused =
     let its : HoldsAccepted held name video (2 ^ 40) = record {

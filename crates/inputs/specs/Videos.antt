@@ -2,18 +2,18 @@
 -- packets of this system stream carry (ISO/IEC 11172-1).
 use Rattle.std.specs.Prelude.{◌≡◌, ℕ, ◌+◌, ◌==◌, ◌≤◌, ◌<◌, ◌^◌, ◌⊎◌, if◌then◌else◌, List, [], ◌∷◌}
 use Rattle.std.specs.Prelude.{length, drop, Option, Some, None}
-use Rattle.vod_base.specs.Outside.{File, file_named}
+use Rattle.vod_base.specs.IoState.{File, file_named}
 use Rattle.mpeg_scan.specs.declared.codes.Code.{Code}
 use Rattle.mpeg_scan.specs.declared.faults.FilmFault.TheVariants.{TooLong}
-use Rattle.mpeg_scan.specs.Codes.{codes_of, read_after}
+use Rattle.mpeg_scan.specs.StartCodes.{codes_of, read_after}
 use Rattle.mpeg_scan.specs.Films.{refusal}
-use Rattle.sys_demux.specs.Streams.{IsSystem, IsRefused}
+use Rattle.sys_demux.specs.SystemStreams.{IsSystem, IsBadStream}
 use Rattle.sys_demux.specs.declared.faults.SystemFault.{SystemFault}
 use Rattle.sys_demux.specs.declared.faults.SystemFault.TheVariants.{NotPack, BadCode, BadPacket}
 use Rattle.sys_demux.specs.declared.faults.SystemFault.TheVariants.{Truncated}
-use Rattle.inputs.specs.Files.{IsMissing}
-use Rattle.troubles.specs.declared.faults.Fault.{Fault}
-use Rattle.troubles.specs.declared.faults.Fault.TheVariants.{Film, System}
+use Rattle.inputs.specs.FileReads.{IsMissing}
+use Rattle.cli_errors.specs.declared.errors.InputError.{InputError}
+use Rattle.cli_errors.specs.declared.errors.InputError.TheVariants.{Film, System}
 
 -- the place of the first of these start codes, which are given the latest first, where it is that
 -- of a pack
@@ -49,30 +49,30 @@ fault_from place (Truncated at) = Truncated (place + at)
 abbrev pub IsStreamFaultFrom : Option ℕ → List ℕ → SystemFault → Type 0
 IsStreamFaultFrom None file fault = ⊥
 IsStreamFaultFrom (Some place) file fault = (own : SystemFault)
-    × (IsRefused (drop place file) own × (fault ≡ fault_from place own))
+    × (IsBadStream (drop place file) own × (fault ≡ fault_from place own))
 
 abbrev pub IsStreamFault : List ℕ → SystemFault → Type 0
 IsStreamFault file fault = IsStreamFaultFrom (pack_in file) file fault
 
 -- why the film that a file is, is refused: its stream is, and else its video
-abbrev pub IsVideoRefused : List ℕ → Fault → Type 0
+abbrev pub IsVideoRefused : List ℕ → InputError → Type 0
 IsVideoRefused file (Film fault) = (video : List ℕ)
     × (IsVideo file video × (refusal video ≡ Some fault))
 IsVideoRefused file (System fault) = IsStreamFault file fault
 IsVideoRefused file other = ⊥
 
 -- the same of a file of any size: more bytes than the most are too many
-abbrev pub IsFileRefused : ℕ → Fault → List ℕ → Fault → Type 0
+abbrev pub IsFileRefused : ℕ → InputError → List ℕ → InputError → Type 0
 IsFileRefused most over file fault = ((most < length file) × (fault ≡ over))
     ⊎ ((length file ≤ most) × IsVideoRefused file fault)
 
 -- no such file, or its refusal
-abbrev pub IsRefusedAbove : ℕ → Fault → List File → List ℕ → Fault → Type 0
+abbrev pub IsRefusedAbove : ℕ → InputError → List File → List ℕ → InputError → Type 0
 IsRefusedAbove most over held name fault =
     IsMissing held name fault
     ⊎ ((file : List ℕ)
     × ((file_named held name ≡ Some file) × IsFileRefused most over file fault))
 
 -- a film has at most 2^40 bytes
-abbrev pub IsFilmRefused : List File → List ℕ → Fault → Type 0
+abbrev pub IsFilmRefused : List File → List ℕ → InputError → Type 0
 IsFilmRefused = IsRefusedAbove (2 ^ 40) (Film TooLong)

@@ -1,19 +1,19 @@
 //! Scans a film of the library, and keeps its units or their sizes.
 
 ghost use Rattle.std.specs.Prelude.{◌≡◌, ◌≤◌, Some, List, IfErr, IfOk};
-ghost use Rattle.vod_base.specs.Outside.{File};
+ghost use Rattle.vod_base.specs.IoState.{File};
 ghost use Rattle.mpeg_scan.specs.Films.{units_in};
 ghost use Rattle.rtp_pack.specs.Sizes.{bytes_of};
-ghost use Rattle.troubles.specs.Causes.{IsReadOnly};
-ghost use Rattle.inputs.specs.Scans.{HoldsFilm, HoldsSizes, IsScanTrouble};
-ghost use Rattle.inputs.specs.Sizes.{AreSizesWithin, IsSized};
+ghost use Rattle.cli_errors.specs.ReadErrors.{IsReadOnly};
+ghost use Rattle.inputs.specs.ChunkScans.{HoldsFilm, HoldsSizes, IsScanError};
+ghost use Rattle.inputs.specs.WireSizes.{AreSizesWithin, IsSized};
 
-use crate::scans::hear_film;
+use crate::scans::scan_film_into;
+use cli_errors::CliError;
 use mpeg_scan::{Found, Unit};
 use rtp_pack::{REPORT_BYTES, UnitSize};
 use std::alloc::Global;
 use std::mem;
-use troubles::Trouble;
 use vod_base::{Library, NoMemory};
 
 /// A film that was scanned and accepted.
@@ -45,18 +45,18 @@ pub fn scan_film<'a, L: Library>(
     alloc: Global,
     library: &mut L,
     name: &'a str,
-) -> Result<ScannedFilm, Trouble<'a>>
+) -> Result<ScannedFilm, CliError<'a>>
     ensures library { IsReadOnly L.files L.faults library.old library.new }
     ensures film { (held : List File) → L.files library.old ≡ Some held
         → IfOk result (λ film.
         HoldsFilm held name.entry.now film.bytes film.rate film.units.items) }
-    ensures trouble { IfErr result (IsScanTrouble name.entry.now (L.files library.old)
+    ensures error { IfErr result (IsScanError name.entry.now (L.files library.old)
         (L.faults library.old) (L.faults library.new)) }
 {
     let mut found = UnitList {
         units: Vec::new(alloc),
     };
-    let ending = hear_film(alloc, library, name, &mut found)?;
+    let ending = scan_film_into(alloc, library, name, &mut found)?;
     Ok(ScannedFilm {
         bytes: ending.bytes,
         rate: ending.rate,
@@ -74,19 +74,19 @@ pub fn size_film<'a, L: Library>(
     alloc: Global,
     library: &mut L,
     name: &'a str,
-) -> Result<SizedFilm, Trouble<'a>>
+) -> Result<SizedFilm, CliError<'a>>
     ensures library { IsReadOnly L.files L.faults library.old library.new }
     ensures film { (held : List File) → L.files library.old ≡ Some held
         → IfOk result (λ film. HoldsSizes held name.entry.now film.rate film.sizes.items) }
     ensures limits { IfOk result (λ film. AreSizesWithin film.rate film.sizes.items) }
-    ensures trouble { IfErr result (IsScanTrouble name.entry.now (L.files library.old)
+    ensures error { IfErr result (IsScanError name.entry.now (L.files library.old)
         (L.faults library.old) (L.faults library.new)) }
 {
     let mut found = SizeList {
         unit: UnitSize::begin(1),
         sizes: Vec::new(alloc),
     };
-    let ending = hear_film(alloc, library, name, &mut found)?;
+    let ending = scan_film_into(alloc, library, name, &mut found)?;
     Ok(SizedFilm {
         rate: ending.rate,
         sizes: found.sizes,

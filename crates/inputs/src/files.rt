@@ -2,13 +2,13 @@
 
 ghost use Rattle.std.specs.Prelude.{◌≡◌, ◌<◌, ◌≤◌, Some, ℕ, List, length};
 ghost use Rattle.std.specs.Prelude.{option_map, vec_len, IfErr, IfOk, IfSome};
-ghost use Rattle.vod_base.specs.Outside.{File, file_named};
-ghost use Rattle.troubles.specs.Causes.{IsReadOnly, IsReadTrouble};
-ghost use Rattle.inputs.specs.Files.{IsChunk, IsFront, IsMissing, IsNamed, IsNever};
-ghost use Rattle.inputs.specs.Files.{IsNextRead};
+ghost use Rattle.vod_base.specs.IoState.{File, file_named};
+ghost use Rattle.cli_errors.specs.ReadErrors.{IsReadOnly, IsReadError};
+ghost use Rattle.inputs.specs.FileReads.{IsChunk, IsFilePrefix, IsMissing, IsThatName, IsNever};
+ghost use Rattle.inputs.specs.FileReads.{IsNextRead};
 
+use cli_errors::{CliError, InputError};
 use std::alloc::{AllocError, Global};
-use troubles::{Fault, Trouble};
 use vod_base::Library;
 
 /// The most bytes that one read asks for.
@@ -18,17 +18,17 @@ pub(crate) const CHUNK: usize = 65_536;
 ///
 /// # Errors
 ///
-/// [`Trouble::Refused`] with [`Fault::NotFound`] where there is no such file,
-/// [`Trouble::StoreFault`] where the library fails, and [`Trouble::NoMemory`].
+/// [`CliError::Refused`] with [`InputError::NotFound`] where there is no such file,
+/// [`CliError::StoreFault`] where the library fails, and [`CliError::NoMemory`].
 pub fn read_input<'a, L: Library>(
     alloc: Global,
     library: &mut L,
     name: &'a str,
-) -> Result<Vec<u8>, Trouble<'a>>
+) -> Result<Vec<u8>, CliError<'a>>
     ensures library { IsReadOnly L.files L.faults library.old library.new }
     ensures found { (held : List File) → L.files library.old ≡ Some held
         → IfOk result (λ text. file_named held name.entry.now ≡ Some text.items) }
-    ensures trouble { IfErr result (IsReadTrouble (IsNamed name.entry.now) IsMissing
+    ensures error { IfErr result (IsReadError (IsThatName name.entry.now) IsMissing
         (L.files library.old) (L.faults library.old) (L.faults library.new)) }
 {
     let size = find_file(library, name)?;
@@ -43,17 +43,17 @@ pub(crate) fn zeros(alloc: Global, count: usize) -> Result<Vec<u8>, AllocError>
 }
 
 /// The size of a file that is there.
-pub(crate) fn find_file<'a, L: Library>(library: &mut L, name: &'a str) -> Result<u64, Trouble<'a>>
+pub(crate) fn find_file<'a, L: Library>(library: &mut L, name: &'a str) -> Result<u64, CliError<'a>>
     ensures library { IsReadOnly L.files L.faults library.old library.new }
     ensures found { (held : List File) → L.files library.old ≡ Some held
         → IfOk result (λ size. Some size ≡ option_map length (file_named held name.entry.now)) }
-    ensures trouble { IfErr result (IsReadTrouble (IsNamed name.entry.now) IsMissing
+    ensures error { IfErr result (IsReadError (IsThatName name.entry.now) IsMissing
         (L.files library.old) (L.faults library.old) (L.faults library.new)) }
 {
     match library.find(name) {
         Ok(Some(size)) => Ok(size),
-        Ok(None) => Err(Trouble::Refused(name, Fault::NotFound)),
-        Err(_) => Err(Trouble::StoreFault(name)),
+        Ok(None) => Err(CliError::Refused(name, InputError::NotFound)),
+        Err(_) => Err(CliError::StoreFault(name)),
     }
 }
 
@@ -74,16 +74,16 @@ impl<'a> SizedFile<'a> {
         library: &mut L,
         at: u64,
         into: &mut [u8],
-    ) -> Result<Option<usize>, Trouble<'a>>
+    ) -> Result<Option<usize>, CliError<'a>>
         requires some { 0 < length into.old }
         requires within { at ≤ self.size }
         ensures library { IsReadOnly L.files L.faults library.old library.new }
         ensures chunk { IfOk result (λ chunk.
             IfSome chunk (IsChunk self.entry.size at (length into.new))) }
         ensures told { (held : List File) (bytes : List ℕ) → L.files library.old ≡ Some held
-            → IsFront held self.entry.name.now self.entry.size bytes → length bytes ≡ at
+            → IsFilePrefix held self.entry.name.now self.entry.size bytes → length bytes ≡ at
             → IfOk result (IsNextRead held self.entry.name.now self.entry.size bytes into.new) }
-        ensures trouble { IfErr result (IsReadTrouble (IsNamed self.entry.name.now) IsNever
+        ensures error { IfErr result (IsReadError (IsThatName self.entry.name.now) IsNever
             (L.files library.old) (L.faults library.old) (L.faults library.new)) }
     {
         if at == self.size {
@@ -92,7 +92,7 @@ impl<'a> SizedFile<'a> {
         match library.read(self.name, at, into) {
             Ok(0) => Ok(None),
             Ok(count) => Ok(Some(count.min((self.size - at) as usize))),
-            Err(_) => Err(Trouble::StoreFault(self.name)),
+            Err(_) => Err(CliError::StoreFault(self.name)),
         }
     }
 
@@ -101,13 +101,13 @@ impl<'a> SizedFile<'a> {
         self,
         alloc: Global,
         library: &mut L,
-    ) -> Result<Vec<u8>, Trouble<'a>>
+    ) -> Result<Vec<u8>, CliError<'a>>
         ensures library { IsReadOnly L.files L.faults library.old library.new }
         ensures read { (held : List File) → L.files library.old ≡ Some held
             → Some self.entry.size ≡ option_map length (file_named held self.entry.name.now)
             → IfOk result (λ bytes. file_named held self.entry.name.now ≡ Some bytes.items) }
         ensures within { IfOk result (λ bytes. vec_len bytes ≤ self.entry.size) }
-        ensures trouble { IfErr result (IsReadTrouble (IsNamed self.entry.name.now) IsNever
+        ensures error { IfErr result (IsReadError (IsThatName self.entry.name.now) IsNever
             (L.files library.old) (L.faults library.old) (L.faults library.new)) }
     {
         let mut bytes = Vec::with_capacity(alloc, self.size as usize)?;

@@ -2,25 +2,26 @@
 
 ghost use Rattle.std.specs.Prelude.{◌≡◌, ◌≤◌, ◌^◌, Some, List, length, vec_len, IfErr, IfOk};
 ghost use Rattle.std.specs.Prelude.{string_bytes};
-ghost use Rattle.vod_base.specs.Outside.{File};
+ghost use Rattle.vod_base.specs.IoState.{File};
 ghost use Rattle.mpeg_scan.specs.Films.{refusal};
-ghost use Rattle.sys_demux.specs.Streams.{IsSystem};
-ghost use Rattle.troubles.specs.Causes.{IsReadOnly, IsReadTrouble};
-ghost use Rattle.inputs.specs.Files.{IsNamed};
-ghost use Rattle.inputs.specs.Films.{IsBytesTrouble, IsFilmTrouble, IsHeldRefused, IsNotRefused};
-ghost use Rattle.inputs.specs.Films.{IsStreamRefused};
-ghost use Rattle.inputs.specs.Scans.{HoldsVideo};
+ghost use Rattle.sys_demux.specs.SystemStreams.{IsSystem};
+ghost use Rattle.cli_errors.specs.ReadErrors.{IsReadOnly, IsReadError};
+ghost use Rattle.inputs.specs.FileReads.{IsThatName};
+ghost use Rattle.inputs.specs.LoadErrors.{IsFileBytesError, IsFilmError, IsServedFilmRefused};
+ghost use Rattle.inputs.specs.LoadErrors.{IsNotRefused};
+ghost use Rattle.inputs.specs.LoadErrors.{IsStreamError};
+ghost use Rattle.inputs.specs.ChunkScans.{HoldsVideo};
 ghost use Rattle.inputs.specs.Videos.{IsFilmRefused, IsRefusedAbove, IsVideo};
 
 use crate::files::{SizedFile, find_file};
-use crate::openings::pack_in;
-use crate::scans::scan_trouble;
-use crate::streams::{StreamRefused, stream_trouble};
+use crate::pack_search::pack_in;
+use crate::scans::scan_error;
+use crate::streams::{StreamError, stream_error};
+use cli_errors::{CliError, InputError};
 use film_frames::Stored;
 use mpeg_scan::{Film, FilmFault, MAX_FILM_BYTES, scan};
 use std::alloc::Global;
 use sys_demux::Unwrapper;
-use troubles::{Fault, Trouble};
 use vod_base::{Library, NoMemory};
 
 /// The most bytes of a film that a server holds.
@@ -31,25 +32,31 @@ const MAX_HELD_BYTES: u64 = 1 << 30;
 ///
 /// # Errors
 ///
-/// [`Trouble::Refused`] with [`Fault::NotFound`] where there is no such file, with
-/// [`Fault::FilmTooLarge`] where it has more bytes, and with [`Fault::System`] or [`Fault::Film`]
-/// where its stream or its video is refused; [`Trouble::StoreFault`] where the library fails; and
-/// [`Trouble::NoMemory`].
+/// [`CliError::Refused`] with [`InputError::NotFound`] where there is no such file, with
+/// [`InputError::FilmTooLarge`] where it has more bytes, and with [`InputError::System`] or
+/// [`InputError::Film`] where its stream or its video is refused; [`CliError::StoreFault`] where
+/// the library fails; and [`CliError::NoMemory`].
 pub fn load_film<'a, L: Library>(
     alloc: Global,
     library: &mut L,
     name: &'a str,
-) -> Result<Stored, Trouble<'a>>
+) -> Result<Stored, CliError<'a>>
     ensures library { IsReadOnly L.files L.faults library.old library.new }
     ensures name { IfOk result (λ stored. string_bytes stored.name ≡ name.entry.now) }
     ensures film { (held : List File) → L.files library.old ≡ Some held
         → IfOk result (λ stored. HoldsVideo held name.entry.now stored.film.bytes.items) }
     ensures small { (held : List File) → L.files library.old ≡ Some held
-        → IfOk result (λ stored. IsNotRefused IsHeldRefused held name.entry.now) }
-    ensures trouble { IfErr result (IsReadTrouble (IsNamed name.entry.now) IsHeldRefused
+        → IfOk result (λ stored. IsNotRefused IsServedFilmRefused held name.entry.now) }
+    ensures error { IfErr result (IsReadError (IsThatName name.entry.now) IsServedFilmRefused
         (L.files library.old) (L.faults library.old) (L.faults library.new)) }
 {
-    load_within(alloc, library, name, MAX_HELD_BYTES, Fault::FilmTooLarge)
+    load_within(
+        alloc,
+        library,
+        name,
+        MAX_HELD_BYTES,
+        InputError::FilmTooLarge,
+    )
 }
 
 /// Loads a film that a script plays, of at most 2^40 bytes.
@@ -61,14 +68,14 @@ pub fn load_script_film<'a, L: Library>(
     alloc: Global,
     library: &mut L,
     name: &'a str,
-) -> Result<Stored, Trouble<'a>>
+) -> Result<Stored, CliError<'a>>
     ensures library { IsReadOnly L.files L.faults library.old library.new }
     ensures name { IfOk result (λ stored. string_bytes stored.name ≡ name.entry.now) }
     ensures film { (held : List File) → L.files library.old ≡ Some held
         → IfOk result (λ stored. HoldsVideo held name.entry.now stored.film.bytes.items) }
     ensures small { (held : List File) → L.files library.old ≡ Some held
         → IfOk result (λ stored. IsNotRefused IsFilmRefused held name.entry.now) }
-    ensures trouble { IfErr result (IsReadTrouble (IsNamed name.entry.now) IsFilmRefused
+    ensures error { IfErr result (IsReadError (IsThatName name.entry.now) IsFilmRefused
         (L.files library.old) (L.faults library.old) (L.faults library.new)) }
 {
     load_within(
@@ -76,7 +83,7 @@ pub fn load_script_film<'a, L: Library>(
         library,
         name,
         MAX_FILM_BYTES,
-        Fault::Film(FilmFault::TooLong),
+        InputError::Film(FilmFault::TooLong),
     )
 }
 
@@ -90,10 +97,10 @@ fn store(alloc: Global, name: &str, film: Film) -> Result<Stored, NoMemory>
 }
 
 /// The video of a system stream.
-fn unwrap_stream(alloc: Global, stream: &[u8]) -> Result<Vec<u8>, StreamRefused>
+fn unwrap_stream(alloc: Global, stream: &[u8]) -> Result<Vec<u8>, StreamError>
     requires { length stream.now ≤ 2 ^ 40 }
     ensures video { IfOk result (λ video. IsSystem stream.now video.items) }
-    ensures refused { IfErr result (IsStreamRefused stream.now) }
+    ensures refused { IfErr result (IsStreamError stream.now) }
 {
     let mut unwrapper = Unwrapper::new();
     let mut video = Vec::new(alloc);
@@ -108,37 +115,37 @@ fn unwrap_stream(alloc: Global, stream: &[u8]) -> Result<Vec<u8>, StreamRefused>
 }
 
 /// The video of a file that was read.
-fn video_of<'a>(alloc: Global, name: &'a str, file: Vec<u8>) -> Result<Vec<u8>, Trouble<'a>>
+fn video_of<'a>(alloc: Global, name: &'a str, file: Vec<u8>) -> Result<Vec<u8>, CliError<'a>>
     requires { vec_len file ≤ 2 ^ 40 }
     ensures video { IfOk result (λ video. IsVideo file.items video.items) }
-    ensures trouble { IfErr result (IsBytesTrouble name.entry.now file.items) }
+    ensures error { IfErr result (IsFileBytesError name.entry.now file.items) }
 {
     let Some(from) = pack_in(&file) else {
         return Ok(file);
     };
     match unwrap_stream(alloc, &file[from as usize..]) {
         Ok(video) => Ok(video),
-        Err(refused) => Err(stream_trouble(name, from, refused)),
+        Err(refused) => Err(stream_error(name, from, refused)),
     }
 }
 
 /// The film that a video is.
-fn scan_video<'a>(alloc: Global, name: &'a str, video: Vec<u8>) -> Result<Film, Trouble<'a>>
+fn scan_video<'a>(alloc: Global, name: &'a str, video: Vec<u8>) -> Result<Film, CliError<'a>>
     ensures film { IfOk result (λ film. film.bytes.items ≡ video.items) }
-    ensures trouble { IfErr result (IsFilmTrouble name.entry.now (λ fault. refusal video.items ≡
+    ensures error { IfErr result (IsFilmError name.entry.now (λ fault. refusal video.items ≡
         Some fault)) }
 {
     match scan(alloc, video) {
         Ok(film) => Ok(film),
-        Err(refused) => Err(scan_trouble(name, refused)),
+        Err(refused) => Err(scan_error(name, refused)),
     }
 }
 
 /// The film that a file is.
-fn scan_file<'a>(alloc: Global, name: &'a str, file: Vec<u8>) -> Result<Film, Trouble<'a>>
+fn scan_file<'a>(alloc: Global, name: &'a str, file: Vec<u8>) -> Result<Film, CliError<'a>>
     requires { vec_len file ≤ 2 ^ 40 }
     ensures film { IfOk result (λ film. IsVideo file.items film.bytes.items) }
-    ensures trouble { IfErr result (IsBytesTrouble name.entry.now file.items) }
+    ensures error { IfErr result (IsFileBytesError name.entry.now file.items) }
 {
     let video = video_of(alloc, name, file)?;
     scan_video(alloc, name, video)
@@ -151,8 +158,8 @@ fn load_within<'a, L: Library>(
     library: &mut L,
     name: &'a str,
     most: u64,
-    over: Fault,
-) -> Result<Stored, Trouble<'a>>
+    over: InputError,
+) -> Result<Stored, CliError<'a>>
     requires { most ≤ 2 ^ 40 }
     ensures library { IsReadOnly L.files L.faults library.old library.new }
     ensures name { IfOk result (λ stored. string_bytes stored.name ≡ name.entry.now) }
@@ -160,13 +167,13 @@ fn load_within<'a, L: Library>(
         → IfOk result (λ stored. HoldsVideo held name.entry.now stored.film.bytes.items) }
     ensures small { (held : List File) → L.files library.old ≡ Some held
         → IfOk result (λ stored. IsNotRefused (IsRefusedAbove most over) held name.entry.now) }
-    ensures trouble { IfErr result
-        (IsReadTrouble (IsNamed name.entry.now) (IsRefusedAbove most over)
+    ensures error { IfErr result
+        (IsReadError (IsThatName name.entry.now) (IsRefusedAbove most over)
         (L.files library.old) (L.faults library.old) (L.faults library.new)) }
 {
     let size = find_file(library, name)?;
     if most < size {
-        return Err(Trouble::Refused(name, over));
+        return Err(CliError::Refused(name, over));
     }
     let file = SizedFile { name, size }.read_bytes(alloc, library)?;
     let film = scan_file(alloc, name, file)?;

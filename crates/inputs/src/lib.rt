@@ -5,8 +5,8 @@
 mod collectors;
 mod files;
 mod films;
-mod laws;
-mod openings;
+pub mod laws;
+mod pack_search;
 mod scans;
 mod streams;
 mod traces;
@@ -14,8 +14,7 @@ mod traces;
 pub use collectors::{ScannedFilm, SizedFilm, scan_film, size_film};
 pub use files::read_input;
 pub use films::{load_film, load_script_film};
-pub use laws::{law_stream_fault, law_tokens, law_trace_lines};
-pub use traces::{TraceRefused, read_trace};
+pub use traces::{TraceError, read_trace};
 
 #[cfg(test)]
 mod tests;

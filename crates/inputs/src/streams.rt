@@ -2,56 +2,57 @@
 
 ghost use Rattle.std.specs.Prelude.{◌≡◌, ◌<◌, ◌≤◌, ◌+◌, ◌^◌, ◌++◌, Some, ℕ, List, [], length, take};
 ghost use Rattle.std.specs.Prelude.{IfErr, IfOk, OnOk};
-ghost use Rattle.mpeg_scan.specs.Scans.{IsReady, bytes_fed};
-ghost use Rattle.troubles.specs.Causes.{IsReadOnly};
-ghost use Rattle.inputs.specs.Films.{IsMovedFault, IsSystemTrouble, IsToldFault};
-ghost use Rattle.inputs.specs.Scans.{HasHeard, HasStreamed, HasStreamedAll, HasTaken, HasUnwrapped};
-ghost use Rattle.inputs.specs.Scans.{IsChunkRefused, IsScanTrouble, WasOpened};
+ghost use Rattle.mpeg_scan.specs.ScannerState.{IsSliceReady, bytes_fed};
+ghost use Rattle.cli_errors.specs.ReadErrors.{IsReadOnly};
+ghost use Rattle.inputs.specs.LoadErrors.{IsMovedFault, IsSystemError, IsToldFault};
+ghost use Rattle.inputs.specs.ChunkScans.{HasScannedFilm, HasStreamed, HasStreamedAll, HasTaken};
+ghost use Rattle.inputs.specs.ChunkScans.{HasUnwrapped};
+ghost use Rattle.inputs.specs.ChunkScans.{IsChunkRefused, IsScanError, WasOpened};
 
 use crate::files::SizedFile;
-use crate::scans::end_film;
+use crate::scans::finish_scan;
+use cli_errors::{CliError, InputError};
 use mpeg_scan::{Ending, Found, ScanRefused, Scanner};
 use std::alloc::AllocError;
 use sys_demux::{SystemFault, Unwrapper};
-use troubles::{Fault, Trouble};
 use vod_base::{Library, NoMemory};
 
 /// Why bytes of a system stream can't be taken.
 #[derive(Clone, Copy, Debug)]
-pub(crate) enum StreamRefused {
+pub(crate) enum StreamError {
     /// They are no system stream; the place counts from the stream's first byte.
     Fault(SystemFault),
     /// Want of memory.
     NoMemory,
 }
 
-impl From<SystemFault> for StreamRefused {
-    ghost use Rattle.inputs.specs.declared.streams.StreamRefused.TheVariants.{Fault};
+impl From<SystemFault> for StreamError {
+    ghost use Rattle.inputs.specs.declared.streams.StreamError.TheVariants.{Fault};
 
     ghost from_gives = { λ fault refused. refused ≡ Fault fault };
 
-    fn from(fault: SystemFault) -> StreamRefused {
-        StreamRefused::Fault(fault)
+    fn from(fault: SystemFault) -> StreamError {
+        StreamError::Fault(fault)
     }
 }
 
-impl From<NoMemory> for StreamRefused {
-    ghost use Rattle.inputs.specs.declared.streams.StreamRefused.TheVariants.{NoMemory as NoRoom};
+impl From<NoMemory> for StreamError {
+    ghost use Rattle.inputs.specs.declared.streams.StreamError.TheVariants.{NoMemory as NoRoom};
 
     ghost from_gives = { λ _ refused. refused ≡ NoRoom };
 
-    fn from(_want: NoMemory) -> StreamRefused {
-        StreamRefused::NoMemory
+    fn from(_want: NoMemory) -> StreamError {
+        StreamError::NoMemory
     }
 }
 
-impl From<AllocError> for StreamRefused {
-    ghost use Rattle.inputs.specs.declared.streams.StreamRefused.TheVariants.{NoMemory as NoRoom};
+impl From<AllocError> for StreamError {
+    ghost use Rattle.inputs.specs.declared.streams.StreamError.TheVariants.{NoMemory as NoRoom};
 
     ghost from_gives = { λ _ refused. refused ≡ NoRoom };
 
-    fn from(_error: AllocError) -> StreamRefused {
-        StreamRefused::NoMemory
+    fn from(_error: AllocError) -> StreamError {
+        StreamError::NoMemory
     }
 }
 
@@ -67,15 +68,15 @@ pub(crate) fn move_fault(place: u64, fault: SystemFault) -> SystemFault
     }
 }
 
-/// The trouble with a file whose system stream begins at `from`, where the stream is refused.
-pub(crate) fn stream_trouble<'a>(name: &'a str, from: u64, refused: StreamRefused) -> Trouble<'a>
-    ensures { IsSystemTrouble name.entry.now (IsToldFault from refused) result }
+/// The error of a file whose system stream begins at `from`, where the stream is refused.
+pub(crate) fn stream_error<'a>(name: &'a str, from: u64, refused: StreamError) -> CliError<'a>
+    ensures { IsSystemError name.entry.now (IsToldFault from refused) result }
 {
     match refused {
-        StreamRefused::Fault(fault) => {
-            Trouble::Refused(name, Fault::System(move_fault(from, fault)))
+        StreamError::Fault(fault) => {
+            CliError::Refused(name, InputError::System(move_fault(from, fault)))
         }
-        StreamRefused::NoMemory => Trouble::NoMemory,
+        StreamError::NoMemory => CliError::NoMemory,
     }
 }
 
@@ -86,7 +87,7 @@ pub(crate) fn scan_stream<'a, L: Library, F: Found>(
     from: u64,
     chunk: &mut [u8],
     found: &mut F,
-) -> Result<Ending, Trouble<'a>>
+) -> Result<Ending, CliError<'a>>
     requires some { 0 < length chunk.old }
     requires short { file.size ≤ 2 ^ 40 }
     requires opened { WasOpened (L.files library.old) file.name.now file.size (Some from) }
@@ -94,9 +95,9 @@ pub(crate) fn scan_stream<'a, L: Library, F: Found>(
     requires fresh { F.heard found.old [] }
     ensures library { IsReadOnly L.files L.faults library.old library.new }
     ensures film { IfOk result (λ ending.
-        HasHeard (F.heard found.new) (L.files library.old) file.entry.name.now ending.bytes
+        HasScannedFilm (F.heard found.new) (L.files library.old) file.entry.name.now ending.bytes
         ending.rate) }
-    ensures trouble { IfErr result (IsScanTrouble file.entry.name.now (L.files library.old)
+    ensures error { IfErr result (IsScanError file.entry.name.now (L.files library.old)
         (L.faults library.old) (L.faults library.new)) }
 {
     let mut unwrapper = Unwrapper::new();
@@ -111,8 +112,8 @@ pub(crate) fn scan_stream<'a, L: Library, F: Found>(
         found,
     )?;
     match unwrapper.finish() {
-        Ok(()) => end_film(file.name, scanner, found),
-        Err(fault) => Err(stream_trouble(file.name, from, StreamRefused::Fault(fault))),
+        Ok(()) => finish_scan(file.name, scanner, found),
+        Err(fault) => Err(stream_error(file.name, from, StreamError::Fault(fault))),
     }
 }
 
@@ -120,11 +121,11 @@ pub(crate) fn scan_stream<'a, L: Library, F: Found>(
 /// stream has ended, and till then the stream is read on: its own faults go first.
 fn take_video<F: Found>(scanner: &mut Scanner, video: &[u8], found: &mut F) -> Result<(), NoMemory>
     requires room { bytes_fed scanner.old + length video.now ≤ 2 ^ 40 }
-    requires ready { IsReady (F.ready_at found.old) scanner.old }
+    requires ready { IsSliceReady (F.ready_at found.old) scanner.old }
     ensures taken { (seen : List ℕ) → HasTaken (F.heard found.old) scanner.old seen
         → OnOk result (HasTaken (F.heard found.new) scanner.new (seen ++ video.now)) }
     ensures few { bytes_fed scanner.new ≤ bytes_fed scanner.old + length video.now }
-    ensures ready { IsReady (F.ready_at found.new) scanner.new }
+    ensures ready { IsSliceReady (F.ready_at found.new) scanner.new }
 {
     match scanner.feed(video, found) {
         Ok(()) => Ok(()),
@@ -140,15 +141,15 @@ fn unwrap_part<F: Found>(
     chunk: &[u8],
     scanner: &mut Scanner,
     found: &mut F,
-) -> Result<usize, StreamRefused>
+) -> Result<usize, StreamError>
     requires some { 0 < length chunk.now }
     requires room { unwrapper.old.fed + length chunk.now ≤ 2 ^ 40 }
     requires few { bytes_fed scanner.old ≤ unwrapper.old.fed }
-    requires ready { IsReady (F.ready_at found.old) scanner.old }
+    requires ready { IsSliceReady (F.ready_at found.old) scanner.old }
     ensures taken { IfOk result (λ taken. (0 < taken) × (taken ≤ length chunk.now)) }
     ensures count { IfOk result (λ taken. unwrapper.new.fed ≡ unwrapper.old.fed + taken) }
     ensures few { IfOk result (λ taken. bytes_fed scanner.new ≤ unwrapper.old.fed + taken) }
-    ensures ready { IsReady (F.ready_at found.new) scanner.new }
+    ensures ready { IsSliceReady (F.ready_at found.new) scanner.new }
     ensures next { (seen : List ℕ) → HasUnwrapped (F.heard found.old) unwrapper.old scanner.old seen
         → IfOk result (λ taken. HasUnwrapped (F.heard found.new) unwrapper.new scanner.new
         (seen ++ take taken chunk.now)) }
@@ -167,13 +168,13 @@ fn unwrap_chunk<F: Found>(
     chunk: &[u8],
     scanner: &mut Scanner,
     found: &mut F,
-) -> Result<(), StreamRefused>
+) -> Result<(), StreamError>
     requires room { unwrapper.old.fed + length chunk.now ≤ 2 ^ 40 }
     requires few { bytes_fed scanner.old ≤ unwrapper.old.fed }
-    requires ready { IsReady (F.ready_at found.old) scanner.old }
+    requires ready { IsSliceReady (F.ready_at found.old) scanner.old }
     ensures count { OnOk result (unwrapper.new.fed ≡ unwrapper.old.fed + length chunk.now) }
     ensures few { OnOk result (bytes_fed scanner.new ≤ unwrapper.new.fed) }
-    ensures ready { IsReady (F.ready_at found.new) scanner.new }
+    ensures ready { IsSliceReady (F.ready_at found.new) scanner.new }
     ensures next { (seen : List ℕ) → HasUnwrapped (F.heard found.old) unwrapper.old scanner.old seen
         → OnOk result (HasUnwrapped (F.heard found.new) unwrapper.new scanner.new
         (seen ++ chunk.now)) }
@@ -198,7 +199,7 @@ fn feed_stream<'a, L: Library, F: Found>(
     unwrapper: &mut Unwrapper,
     scanner: &mut Scanner,
     found: &mut F,
-) -> Result<(), Trouble<'a>>
+) -> Result<(), CliError<'a>>
     requires some { 0 < length chunk.old }
     requires short { file.size ≤ 2 ^ 40 }
     requires opened { WasOpened (L.files library.old) file.name.now file.size (Some from) }
@@ -206,19 +207,19 @@ fn feed_stream<'a, L: Library, F: Found>(
     requires streamed { HasStreamed (F.heard found.old)
         (L.files library.old) file.name.now file.size from from unwrapper.old scanner.old }
     requires few { bytes_fed scanner.old ≤ unwrapper.old.fed }
-    requires ready { IsReady (F.ready_at found.old) scanner.old }
+    requires ready { IsSliceReady (F.ready_at found.old) scanner.old }
     ensures library { IsReadOnly L.files L.faults library.old library.new }
-    ensures ready { IsReady (F.ready_at found.new) scanner.new }
+    ensures ready { IsSliceReady (F.ready_at found.new) scanner.new }
     ensures streamed { OnOk result (HasStreamedAll (F.heard found.new)
         (L.files library.old) file.entry.name.now file.entry.size from unwrapper.new
         scanner.new) }
-    ensures trouble { IfErr result (IsScanTrouble file.entry.name.now (L.files library.old)
+    ensures error { IfErr result (IsScanError file.entry.name.now (L.files library.old)
         (L.faults library.old) (L.faults library.new)) }
 {
     let mut at = from;
     while let Some(count) = file.read_at(library, at, chunk)? {
         if let Err(refused) = unwrap_chunk(unwrapper, &chunk[..count], scanner, found) {
-            return Err(stream_trouble(file.name, from, refused));
+            return Err(stream_error(file.name, from, refused));
         }
         at += count as u64;
     }

@@ -3,9 +3,9 @@
 ghost use Rattle.std.specs.Prelude.{None};
 
 use crate::{load_film, load_script_film, read_input, read_trace, scan_film, size_film};
+use cli_errors::{CliError, InputError};
 use std::alloc::{AllocError, Global};
 use std::test::Fail;
-use troubles::{Fault, Trouble};
 use vod_base::{Library, MemoryLibrary, StoreFault};
 
 /// A sequence header, a group header, an I picture and one slice.
@@ -106,17 +106,17 @@ fn holds_a_gibibyte_at_most(rt: HostRuntime) -> Result<(), Fail> {
     let alloc = rt.alloc();
     let mut most = Sized { size: 1 << 30 };
     let fault = match load_film(alloc, &mut most, "a.mpg") {
-        Err(Trouble::Refused(_, fault)) => fault,
+        Err(CliError::Refused(_, fault)) => fault,
         _ => return Err(Fail::from(AllocError)),
     };
-    assert!(rt; fault != Fault::FilmTooLarge);
+    assert!(rt; fault != InputError::FilmTooLarge);
     let mut more = Sized {
         size: (1 << 30) + 1,
     };
     let fault = match load_film(alloc, &mut more, "a.mpg") {
-        Err(Trouble::Refused(_, fault)) => fault,
+        Err(CliError::Refused(_, fault)) => fault,
         _ => return Err(Fail::from(AllocError)),
     };
-    assert_eq!(rt; fault, Fault::FilmTooLarge);
+    assert_eq!(rt; fault, InputError::FilmTooLarge);
     Ok(())
 }

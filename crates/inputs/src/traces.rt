@@ -7,8 +7,8 @@ ghost use Rattle.std.specs.Char.{is_ascii_digit};
 ghost use Rattle.std.specs.Str.Parse.{digits_value};
 ghost use Rattle.inputs.specs.Traces.{is_white_space, begins_token, tokens_from};
 ghost use Rattle.inputs.specs.Traces.{AddsSize, IsTraceText};
-ghost use Rattle.inputs.specs.Words.{word_length, first_word, WritesSize};
-ghost use Rattle.inputs.specs.TraceRefusals.{IsTraceRefused};
+ghost use Rattle.inputs.specs.FirstWord.{word_length, first_word, WritesSize};
+ghost use Rattle.inputs.specs.TraceErrors.{IsTraceError};
 
 use std::alloc::{AllocError, AllocFailed, Global};
 use thiserror::Error;
@@ -24,7 +24,7 @@ const MAX_TOTAL: u64 = 1 << 40;
 
 /// Why a text gives no trace.
 #[derive(Clone, Copy, Debug, PartialEq, Eq, Error)]
-pub enum TraceRefused {
+pub enum TraceError {
     /// The place of the first byte of the first token that isn't a number up to 2^32, or that
     /// brings the sum above 2^40, or that is the 1,000,001st.
     #[error("the word at byte {0} makes it no trace")]
@@ -34,23 +34,23 @@ pub enum TraceRefused {
     NoMemory,
 }
 
-impl From<AllocError> for TraceRefused {
-    ghost use Rattle.inputs.specs.declared.traces.TraceRefused.TheVariants.{NoMemory};
+impl From<AllocError> for TraceError {
+    ghost use Rattle.inputs.specs.declared.traces.TraceError.TheVariants.{NoMemory};
 
     ghost from_gives = { λ _ refused. refused ≡ NoMemory };
 
-    fn from(_error: AllocError) -> TraceRefused {
-        TraceRefused::NoMemory
+    fn from(_error: AllocError) -> TraceError {
+        TraceError::NoMemory
     }
 }
 
-impl<T: Drop> From<AllocFailed<T>> for TraceRefused {
-    ghost use Rattle.inputs.specs.declared.traces.TraceRefused.TheVariants.{NoMemory};
+impl<T: Drop> From<AllocFailed<T>> for TraceError {
+    ghost use Rattle.inputs.specs.declared.traces.TraceError.TheVariants.{NoMemory};
 
     ghost from_gives = { λ _ refused. refused ≡ NoMemory };
 
-    fn from(_error: AllocFailed<T>) -> TraceRefused {
-        TraceRefused::NoMemory
+    fn from(_error: AllocFailed<T>) -> TraceError {
+        TraceError::NoMemory
     }
 }
 
@@ -59,10 +59,10 @@ impl<T: Drop> From<AllocFailed<T>> for TraceRefused {
 ///
 /// # Errors
 ///
-/// [`TraceRefused::BadTrace`] exactly where the text is no trace; [`TraceRefused::NoMemory`].
-pub fn read_trace(alloc: Global, text: &[u8]) -> Result<Vec<u64>, TraceRefused>
+/// [`TraceError::BadTrace`] exactly where the text is no trace; [`TraceError::NoMemory`].
+pub fn read_trace(alloc: Global, text: &[u8]) -> Result<Vec<u64>, TraceError>
     ensures trace { IfOk result (λ sizes. IsTraceText text.now sizes.items) }
-    ensures refused { IfErr result (IsTraceRefused text.now) }
+    ensures refused { IfErr result (IsTraceError text.now) }
 {
     let most = (text.len() / 2 + 1).min(MAX_PICTURES);
     let mut sizes = Vec::with_capacity(alloc, most)?;
@@ -70,7 +70,7 @@ pub fn read_trace(alloc: Global, text: &[u8]) -> Result<Vec<u64>, TraceRefused>
     let mut at = 0usize;
     while let Some(from) = next_place(text, at) {
         let Some(size) = next_size(&text[from..], sizes.len(), total) else {
-            return Err(TraceRefused::BadTrace(from as u64));
+            return Err(TraceError::BadTrace(from as u64));
         };
         sizes.push(size.value)?;
         total += size.value;
@@ -121,7 +121,7 @@ fn next_place(text: &[u8], at: usize) -> Option<usize>
 }
 
 /// The digits in front, as far as they write a number up to [`MAX_SIZE`] or the first above it.
-#[tactic(auto, using(crate::proofs::SmallNumbers::digit_steps))]
+#[tactic(auto, using(crate::proofs::NumberDigitLemmas::digit_steps))]
 #[inline(always)]
 fn digits_in_front(rest: &[u8]) -> Number
     ensures within { result.len ≤ length rest.now }

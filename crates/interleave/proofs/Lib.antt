@@ -1,8 +1,8 @@
-pub mod Cuts
-pub mod Found
-pub mod More
-mod Skips
-pub mod Streams
-pub mod Unique
-mod Fronts
-mod Exists
+pub mod ElementStability
+pub mod HeadSearchResults
+pub mod LaterBytes
+mod SkippedLineEnds
+pub mod StreamElements
+pub mod ElementUniqueness
+mod ConcatenatedInput
+mod ElementExistence

@@ -5,7 +5,7 @@ use Rattle.std.specs.Prelude.{take, slice_index, Result, Ok, Err}
 use Rattle.interleave.specs.Heads.{is_line_end, HasNoHead, IsHead}
 use Rattle.interleave.specs.Lengths.{IsBodyLength, IsLongBody}
 use Rattle.interleave.specs.declared.elements.Step.{Step}
-use Rattle.interleave.specs.declared.elements.Step.TheVariants.{Message, Block, Skip, More}
+use Rattle.interleave.specs.declared.elements.Step.TheVariants.{Request, Block, Skip, More}
 use Rattle.interleave.specs.declared.elements.DemuxFault.{DemuxFault}
 use Rattle.interleave.specs.declared.elements.DemuxFault.TheVariants.{HeadTooLong, BodyTooLong}
 
@@ -59,7 +59,7 @@ IsFirst bytes (Ok (Skip n)) = (0 < n) × AreLineEnds bytes n
 IsFirst bytes (Ok (Block channel n)) =
     StartsBlock bytes × (4 ≤ length bytes) × (channel ≡ slice_index bytes 1)
     × (n ≡ block_length bytes) × (n ≤ length bytes)
-IsFirst bytes (Ok (Message n)) = StartsMessage bytes × IsMessageLength bytes n × (n ≤ length bytes)
+IsFirst bytes (Ok (Request n)) = StartsMessage bytes × IsMessageLength bytes n × (n ≤ length bytes)
 IsFirst bytes (Ok More) =
     (length bytes ≡ 0)
     ⊎ ((StartsBlock bytes × (4 ≤ length bytes → length bytes < block_length bytes))
@@ -73,7 +73,7 @@ IsFirst bytes (Err BodyTooLong) = StartsMessage bytes × IsBodyTooLong bytes
 abbrev pub IsWholeElement : List ℕ → Result Step DemuxFault → Type 0
 IsWholeElement bytes (Ok (Skip n)) = n < length bytes
 IsWholeElement bytes (Ok (Block channel n)) = Unit {0}
-IsWholeElement bytes (Ok (Message n)) = Unit {0}
+IsWholeElement bytes (Ok (Request n)) = Unit {0}
 IsWholeElement bytes (Ok More) = ⊥
 IsWholeElement bytes (Err fault) = Unit {0}
 
@@ -81,6 +81,6 @@ IsWholeElement bytes (Err fault) = Unit {0}
 abbrev pub IsLongerSkip : ℕ → Result Step DemuxFault → Type 0
 IsLongerSkip n (Ok (Skip m)) = n ≤ m
 IsLongerSkip n (Ok (Block channel m)) = ⊥
-IsLongerSkip n (Ok (Message m)) = ⊥
+IsLongerSkip n (Ok (Request m)) = ⊥
 IsLongerSkip n (Ok More) = ⊥
 IsLongerSkip n (Err fault) = ⊥

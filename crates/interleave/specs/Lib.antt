@@ -1,7 +1,7 @@
 pub mod Heads
 pub mod Lengths
 pub mod Elements
-pub mod Known
+pub mod HeadSearch
 pub mod Buffer
 pub mod Streams
 pub mod Laws

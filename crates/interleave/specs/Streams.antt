@@ -5,7 +5,7 @@ use Rattle.std.specs.Prelude.{map, slice_index, Result, Ok, Err}
 use Rattle.interleave.specs.Heads.{is_line_end}
 use Rattle.interleave.specs.Elements.{StartsBlock, StartsMessage, IsMessageLength, block_length}
 use Rattle.interleave.specs.declared.elements.Step.{Step}
-use Rattle.interleave.specs.declared.elements.Step.TheVariants.{Message, Block, Skip, More}
+use Rattle.interleave.specs.declared.elements.Step.TheVariants.{Request, Block, Skip, More}
 use Rattle.interleave.specs.declared.elements.DemuxFault.{DemuxFault}
 
 -- the element in front has this length and is whole
@@ -18,14 +18,16 @@ pub data IsElementLength (bytes : List ℕ) (n : ℕ) : Type 0 where
       IsElementLength bytes n
 
 -- the bytes are these elements, one after another, and then the rest
-abbrev pub AreCut : List ℕ → List (List ℕ) → List ℕ → Type 0
-AreCut bytes [] rest = bytes ≡ rest
-AreCut bytes (element ∷ elements) rest = (n : ℕ)
-    × (IsElementLength bytes n × (element ≡ take n bytes) × AreCut (drop n bytes) elements rest)
+abbrev pub AreInputElements : List ℕ → List (List ℕ) → List ℕ → Type 0
+AreInputElements bytes [] rest = bytes ≡ rest
+AreInputElements bytes (element ∷ elements) rest = (n : ℕ)
+    × (IsElementLength bytes n × (element ≡ take n bytes) × AreInputElements (drop n bytes) elements
+    rest)
 
 -- the bytes are these elements, and no whole element is in front of the rest
 abbrev pub IsStream : List ℕ → List (List ℕ) → List ℕ → Type 0
-IsStream bytes elements rest = AreCut bytes elements rest × ((n : ℕ) → ¬ IsElementLength rest n)
+IsStream bytes elements rest = AreInputElements bytes elements rest × ((n : ℕ) → ¬ IsElementLength
+    rest n)
 
 -- there are such elements, and such a rest
 abbrev pub HasStream : List ℕ → Type 0
@@ -33,32 +35,33 @@ HasStream bytes = (elements : List (List ℕ)) × ((rest : List ℕ) × IsStream
 
 -- the rest of one cut is cut further into the elements that the other has more
 abbrev pub GoesOn : List (List ℕ) → List ℕ → List (List ℕ) → List ℕ → Type 0
-GoesOn one rest other end = (more : List (List ℕ)) × ((other ≡ one ++ more) × AreCut rest more end)
+GoesOn one rest other end = (more : List (List ℕ)) × ((other ≡ one ++ more) × AreInputElements rest
+    more end)
 
 -- of two cuts one goes on where the other ends
-abbrev pub DoAgree : List (List ℕ) → List ℕ → List (List ℕ) → List ℕ → Type 0
-DoAgree one rest other end = GoesOn one rest other end ⊎ GoesOn other end one rest
+abbrev pub SharePrefix : List (List ℕ) → List ℕ → List (List ℕ) → List ℕ → Type 0
+SharePrefix one rest other end = GoesOn one rest other end ⊎ GoesOn other end one rest
 
 -- the elements in front that an answer tells: each byte CR or LF is one
-abbrev pub told_elements : List ℕ → Result Step DemuxFault → List (List ℕ)
-told_elements bytes (Ok (Skip n)) = map (λ c. c ∷ []) (take n bytes)
-told_elements bytes (Ok (Block channel n)) = take n bytes ∷ []
-told_elements bytes (Ok (Message n)) = take n bytes ∷ []
-told_elements bytes (Ok More) = []
-told_elements bytes (Err fault) = []
+abbrev pub returned_elements : List ℕ → Result Step DemuxFault → List (List ℕ)
+returned_elements bytes (Ok (Skip n)) = map (λ c. c ∷ []) (take n bytes)
+returned_elements bytes (Ok (Block channel n)) = take n bytes ∷ []
+returned_elements bytes (Ok (Request n)) = take n bytes ∷ []
+returned_elements bytes (Ok More) = []
+returned_elements bytes (Err fault) = []
 
 -- how many bytes these are
-abbrev pub told_length : Result Step DemuxFault → ℕ
-told_length (Ok (Skip n)) = n
-told_length (Ok (Block channel n)) = n
-told_length (Ok (Message n)) = n
-told_length (Ok More) = 0
-told_length (Err fault) = 0
+abbrev pub returned_length : Result Step DemuxFault → ℕ
+returned_length (Ok (Skip n)) = n
+returned_length (Ok (Block channel n)) = n
+returned_length (Ok (Request n)) = n
+returned_length (Ok More) = 0
+returned_length (Err fault) = 0
 
 -- where an answer tells no element, none is whole
-abbrev pub TellsNone : List ℕ → Result Step DemuxFault → Type 0
-TellsNone bytes (Ok (Skip n)) = Unit {0}
-TellsNone bytes (Ok (Block channel n)) = Unit {0}
-TellsNone bytes (Ok (Message n)) = Unit {0}
-TellsNone bytes (Ok More) = (n : ℕ) → ¬ IsElementLength bytes n
-TellsNone bytes (Err fault) = (n : ℕ) → ¬ IsElementLength bytes n
+abbrev pub ReturnsNoElement : List ℕ → Result Step DemuxFault → Type 0
+ReturnsNoElement bytes (Ok (Skip n)) = Unit {0}
+ReturnsNoElement bytes (Ok (Block channel n)) = Unit {0}
+ReturnsNoElement bytes (Ok (Request n)) = Unit {0}
+ReturnsNoElement bytes (Ok More) = (n : ℕ) → ¬ IsElementLength bytes n
+ReturnsNoElement bytes (Err fault) = (n : ℕ) → ¬ IsElementLength bytes n

@@ -8,15 +8,15 @@ ghost use Rattle.interleave.specs.Elements.{block_length};
 ghost use Rattle.interleave.specs.Heads.{is_line_end};
 ghost use Rattle.interleave.specs.declared.elements.Step.{Step};
 
+use crate::content_lengths::MAX_BODY_BYTES;
 use crate::elements::{DemuxFault, Step, is_line_end};
-use crate::lengths::MAX_BODY_BYTES;
-use crate::requests::{Known, MAX_HEAD_BYTES, learn, request_step};
+use crate::message_heads::{HeadSearch, MAX_HEAD_BYTES, request_step, search_head};
 use std::alloc::Global;
 use std::marker::Model;
 use thiserror::Error;
 use vod_base::{NoMemory, move_to_front};
 
-/// More than [`ROOM`] bytes would wait.
+/// More than [`MAX_WAITING_BYTES`] bytes would wait.
 #[derive(Clone, Copy, Debug, PartialEq, Eq, Error)]
 #[error("too many bytes wait")]
 pub struct TooMuchInput;
@@ -29,11 +29,11 @@ pub struct TooMuchInput;
 pub struct Demux {
     bytes: Vec<u8>,
     start: usize,
-    known: Known,
+    known: HeadSearch,
 }
 
 /// The most bytes that wait in a [`Demux`].
-pub const ROOM: usize = 131_072;
+pub const MAX_WAITING_BYTES: usize = 131_072;
 
 impl Model for Demux {
     ghost use Rattle.std.specs.Prelude.{ℕ, List, drop};
@@ -48,32 +48,33 @@ impl Model for Demux {
 }
 
 impl Demux {
-    /// Reserves room for [`ROOM`] bytes; no other call takes memory.
+    /// Reserves room for [`MAX_WAITING_BYTES`] bytes; no other call takes memory.
     pub fn new(alloc: Global) -> Result<Demux, NoMemory>
         ensures { IfOk result (λ demux. demux ≡ []) }
     {
-        let bytes = Vec::with_capacity(alloc, ROOM)?;
+        let bytes = Vec::with_capacity(alloc, MAX_WAITING_BYTES)?;
         Ok(Demux {
             bytes,
             start: 0,
-            known: Known::Searched(0),
+            known: HeadSearch::Searched(0),
         })
     }
 
     /// The bytes that wait.
-    pub fn waiting_bytes(&self) -> &[u8]
+    pub fn waiting(&self) -> &[u8]
         ensures { result.now ≡ self.now }
     {
         &self.bytes[self.start..]
     }
 
-    /// Appends bytes, or changes nothing where more than [`ROOM`] would wait.
+    /// Appends bytes, or changes nothing where more than [`MAX_WAITING_BYTES`] would wait.
     pub fn put(&mut self, bytes: &[u8]) -> Result<(), TooMuchInput>
-        ensures fault { is_err result ≡ nat_lt ROOM (length self.old + length bytes.now) }
+        ensures fault { is_err result ≡ nat_lt MAX_WAITING_BYTES (length self.old + length
+            bytes.now) }
         ensures waiting { self.new ≡ (if is_err result then self.old else self.old ++ bytes.now) }
     {
         let waiting = self.bytes.len() - self.start;
-        if bytes.len() > ROOM - waiting {
+        if bytes.len() > MAX_WAITING_BYTES - waiting {
             return Err(TooMuchInput);
         }
         self.start = make_room(&mut self.bytes, self.start, bytes.len());
@@ -93,7 +94,7 @@ impl Demux {
         ensures first { IsFirst self.old result }
         ensures few { result ≡ Ok Step.More → length self.old < MAX_HEAD_BYTES + MAX_BODY_BYTES }
     {
-        let waiting = self.waiting_bytes();
+        let waiting = self.waiting();
         let Some(front) = waiting.first() else {
             return Ok(Step::More);
         };
@@ -103,7 +104,7 @@ impl Demux {
         if *front == b'$' {
             return Ok(block_step(waiting));
         }
-        let known = learn(waiting, self.known)?;
+        let known = search_head(waiting, self.known)?;
         let step = request_step(waiting, known);
         self.known = known;
         Ok(step)
@@ -116,7 +117,7 @@ impl Demux {
     {
         self.start += count;
         if count > 0 {
-            self.known = Known::Searched(0);
+            self.known = HeadSearch::Searched(0);
         }
     }
 }
@@ -151,14 +152,14 @@ fn block_step(bytes: &[u8]) -> Step
 /// Makes room for more bytes, and answers where those that wait begin now.
 fn make_room(bytes: &mut Vec<u8>, start: usize, more: usize) -> usize
     requires start { start ≤ length bytes.old.items }
-    requires most { length bytes.old.items ≤ ROOM }
-    requires fits { length bytes.old.items + more ≤ ROOM + start }
+    requires most { length bytes.old.items ≤ MAX_WAITING_BYTES }
+    requires fits { length bytes.old.items + more ≤ MAX_WAITING_BYTES + start }
     ensures waiting { drop result bytes.new.items ≡ drop start bytes.old.items }
     ensures start { result ≤ length bytes.new.items }
-    ensures room { length bytes.new.items + more ≤ ROOM }
+    ensures room { length bytes.new.items + more ≤ MAX_WAITING_BYTES }
     ensures capacity { vec_capacity bytes.new ≡ vec_capacity bytes.old }
 {
-    if more <= ROOM - bytes.len() {
+    if more <= MAX_WAITING_BYTES - bytes.len() {
         return start;
     }
     move_to_front(bytes, start);

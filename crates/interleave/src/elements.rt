@@ -9,7 +9,7 @@ use thiserror::Error;
 #[derive(Clone, Copy, Debug, PartialEq, Eq)]
 pub enum Step {
     /// A whole message of this many bytes, head and body: a request, or at a client a reply.
-    Message(usize),
+    Request(usize),
     /// A whole interleaved block on this channel, of this many bytes with its head of four.
     Block(u8, usize),
     /// This many bytes CR or LF, all that wait before the next element.
@@ -31,7 +31,7 @@ pub enum DemuxFault {
 
 /// The head of an interleaved block (RFC 2326 section 10.12): `$`, the channel, and the number of
 /// the bytes that follow, the high byte first.
-pub fn block_head(channel: u8, length: u16) -> [u8; 4]
+pub fn frame_head(channel: u8, length: u16) -> [u8; 4]
     ensures { result ≡ 36 ∷ channel ∷ (length / 256) ∷ (length % 256) ∷ [] }
 {
     let [high, low] = length.to_be_bytes();

@@ -3,73 +3,77 @@
 ghost use Rattle.std.specs.Prelude.{◌≡◌, ℕ, ◌+◌, ◌/◌, ◌%◌, ◌<◌, ◌++◌, ◌∷◌, All, List, length};
 ghost use Rattle.std.specs.Prelude.{drop, Ok, Result};
 ghost use Rattle.interleave.specs.Laws.{BeginsOtherwise, IsCrOrLf};
-ghost use Rattle.interleave.specs.Streams.{AreCut, DoAgree, HasStream, IsStream, TellsNone};
-ghost use Rattle.interleave.specs.Streams.{told_length, told_elements};
+ghost use Rattle.interleave.specs.Streams.{AreInputElements, SharePrefix, HasStream, IsStream};
+ghost use Rattle.interleave.specs.Streams.{ReturnsNoElement};
+ghost use Rattle.interleave.specs.Streams.{returned_length, returned_elements};
 ghost use Rattle.interleave.specs.declared.elements.DemuxFault.{DemuxFault};
 ghost use Rattle.interleave.specs.declared.elements.Step.{Step};
 ghost use Rattle.interleave.specs.Elements.{IsFirst, IsLongerSkip, IsWholeElement};
 
+use crate::content_lengths::MAX_BODY_BYTES;
 use crate::demux::Demux;
-use crate::lengths::MAX_BODY_BYTES;
-use crate::requests::MAX_HEAD_BYTES;
+use crate::message_heads::MAX_HEAD_BYTES;
 
 /// Where a whole element or a fault stands in front of the waiting bytes, it stands there whatever
 /// comes later: the elements of a stream don't depend on how its bytes were cut.
-pub fn law_later_bytes()
+pub fn law_first_element_is_stable()
     ensures { (waiting later : List ℕ) (answer : Result Step DemuxFault) →
         IsFirst waiting answer → IsWholeElement waiting answer →
         IsFirst (waiting ++ later) answer }
 {}
 
 /// One list of waiting bytes has one answer.
-pub fn law_one_answer()
+pub fn law_first_element_is_unique()
     ensures { (waiting : List ℕ) (one other : Result Step DemuxFault) →
         IsFirst waiting one → IsFirst waiting other → one ≡ other }
 {}
 
 /// Where bytes CR and LF stand in front, at least these stand there whatever comes later.
-pub fn law_skipping()
+pub fn law_skipped_bytes_only_grow()
     ensures { (waiting later : List ℕ) (count : ℕ) (answer : Result Step DemuxFault) →
         IsFirst waiting (Ok (Step.Skip count)) → IsFirst (waiting ++ later) answer →
         IsLongerSkip count answer }
 {}
 
 /// The elements of a stream stay whatever comes later, which only lengthens the rest.
-pub fn law_stream_grows()
+pub fn law_elements_are_stable()
     ensures { (heard later : List ℕ) (elements : List (List ℕ)) (rest : List ℕ)
-        → AreCut heard elements rest → AreCut (heard ++ later) elements (rest ++ later) }
+        → AreInputElements heard elements rest → AreInputElements (heard ++ later) elements (rest ++
+        later) }
 {}
 
 /// Cuts join: the elements of what was heard first, and those of its rest and what was heard then,
 /// are those of all.
-pub fn law_cuts_join()
+pub fn law_elements_of_pieces_concatenate()
     ensures { (heard later : List ℕ) (elements more : List (List ℕ)) (rest end : List ℕ)
-        → AreCut heard elements rest → AreCut (rest ++ later) more end
-        → AreCut (heard ++ later) (elements ++ more) end }
+        → AreInputElements heard elements rest → AreInputElements (rest ++ later) more end
+        → AreInputElements (heard ++ later) (elements ++ more) end }
 {}
 
-/// Two cuts of one stream agree: the elements of one are a front of the other's, which cuts the
+/// Two cuts of one stream agree: the elements of one are a prefix of the other's, which cuts the
 /// rest of the one further.
-pub fn law_cuts_agree()
+pub fn law_any_two_splits_share_a_prefix()
     ensures { (heard : List ℕ) (one other : List (List ℕ)) (rest end : List ℕ)
-        → AreCut heard one rest → AreCut heard other end → DoAgree one rest other end }
+        → AreInputElements heard one rest → AreInputElements heard other end → SharePrefix one rest
+        other end }
 {}
 
 /// An answer tells the next elements of a stream: they are those in front of the rest, and dropping
 /// them leaves what comes after them. Where it tells none, no whole element is in front of the
 /// rest.
-pub fn law_next_elements()
+pub fn law_look_returns_next_elements()
     ensures elements { (heard rest : List ℕ) (elements : List (List ℕ))
         (answer : Result Step DemuxFault)
-        → IsFirst rest answer → AreCut heard elements rest
-        → AreCut heard (elements ++ told_elements rest answer) (drop (told_length answer) rest) }
+        → IsFirst rest answer → AreInputElements heard elements rest
+        → AreInputElements heard (elements ++ returned_elements rest answer) (drop (returned_length
+        answer) rest) }
     ensures none { (rest : List ℕ) (answer : Result Step DemuxFault) → IsFirst rest answer →
-        TellsNone rest answer }
+        ReturnsNoElement rest answer }
 {}
 
 /// All bytes heard are elements and a rest, in one way alone. So the elements are the same however
 /// the bytes came.
-pub fn law_one_stream()
+pub fn law_input_splits_in_one_way()
     ensures some { (heard : List ℕ) → HasStream heard }
     ensures one { (heard : List ℕ) (one other : List (List ℕ)) (rest end : List ℕ)
         → IsStream heard one rest → IsStream heard other end → (one ≡ other) × (rest ≡ end) }
@@ -78,14 +82,14 @@ pub fn law_one_stream()
 /// Before a request or a block, bytes CR and LF are skipped, all that stand there and no others:
 /// lines end with them, and empty lines there mean nothing (RFC 2326 section 4, RFC 2068 section
 /// 4.1).
-pub fn law_line_ends()
+pub fn law_leading_line_ends_are_skipped()
     ensures { (ends next : List ℕ) → 0 < length ends → All IsCrOrLf ends → BeginsOtherwise next →
         IsFirst (ends ++ next) (Ok (Step.Skip (length ends))) }
 {}
 
 /// An interleaved block is `$`, a channel, the number of its bytes of data in two bytes, the high
 /// one first, and the data (RFC 2326 section 10.12); whatever comes later.
-pub fn law_block()
+pub fn law_interleaved_block_is_found()
     ensures { (channel : ℕ) (content later : List ℕ) → length content < 65536 →
         IsFirst (36 ∷ channel ∷ (length content / 256) ∷ (length content % 256) ∷
         (content ++ later)) (Ok (Step.Block channel (4 + length content))) }
@@ -93,11 +97,11 @@ pub fn law_block()
 
 /// Where neither a whole element nor a fault is in front, fewer bytes wait than the most of a head
 /// and of a body together.
-pub fn law_few_wait(demux: &Demux)
+pub fn law_waiting_bytes_are_bounded(demux: &Demux)
     ensures { IsFirst demux.now (Ok Step.More) →
         length demux.now < MAX_HEAD_BYTES + MAX_BODY_BYTES }
 {
     // the contracts of these two calls bound how many bytes a block's head tells
-    let waiting = demux.waiting_bytes();
+    let waiting = demux.waiting();
     let _count = waiting.len();
 }

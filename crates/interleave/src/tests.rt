@@ -1,6 +1,10 @@
 //! The requests and blocks are written by hand from RFC 2326.
 
 use super::*;
+use crate::laws::{
+    law_first_element_is_stable, law_first_element_is_unique, law_skipped_bytes_only_grow,
+    law_waiting_bytes_are_bounded,
+};
 use std::alloc::Global;
 use std::test::Fail;
 
@@ -13,9 +17,9 @@ fn first(alloc: Global, bytes: &[u8]) -> Result<Result<Step, DemuxFault>, Fail> 
 
 #[test]
 fn heads_blocks(rt: HostRuntime) {
-    assert_eq!(rt; block_head(1, 48), [0x24, 1, 0, 0x30]);
-    assert_eq!(rt; block_head(255, 65_535), [0x24, 0xff, 0xff, 0xff]);
-    assert_eq!(rt; block_head(0, 258), [0x24, 0, 1, 2]);
+    assert_eq!(rt; frame_head(1, 48), [0x24, 1, 0, 0x30]);
+    assert_eq!(rt; frame_head(255, 65_535), [0x24, 0xff, 0xff, 0xff]);
+    assert_eq!(rt; frame_head(0, 258), [0x24, 0, 1, 2]);
 }
 
 #[test]
@@ -23,13 +27,13 @@ fn skips_and_takes_a_block(rt: HostRuntime) -> Result<(), Fail> {
     let mut demux = Demux::new(rt.alloc())?;
     demux.put(b"\r\n$\x01\x00\x02ab")?;
     assert_eq!(rt; demux.look(), Ok(Step::Skip(2)));
-    assert_eq!(rt; demux.waiting_bytes().len(), 8);
+    assert_eq!(rt; demux.waiting().len(), 8);
     demux.drop_front(2);
     assert_eq!(rt; demux.look(), Ok(Step::Block(1, 6)));
-    assert_eq!(rt; demux.waiting_bytes().len(), 6);
+    assert_eq!(rt; demux.waiting().len(), 6);
     demux.drop_front(6);
     assert_eq!(rt; demux.look(), Ok(Step::More));
-    law_few_wait(&demux);
+    law_waiting_bytes_are_bounded(&demux);
     Ok(())
 }
 
@@ -42,14 +46,14 @@ fn finds_first_elements(rt: HostRuntime) -> Result<(), Fail> {
         ("$\x05\x00", Ok(Step::More)),
         ("$\x05\x00\x00", Ok(Step::Block(5, 4))),
         ("$\x05\x00\x01", Ok(Step::More)),
-        ("OPTIONS * RTSP/1.0\ncseq: 7\n\n", Ok(Step::Message(28))),
+        ("OPTIONS * RTSP/1.0\ncseq: 7\n\n", Ok(Step::Request(28))),
         (
             "OPTIONS * RTSP/1.0\r\nCSeq: 7\r\n\r\nmore",
-            Ok(Step::Message(31)),
+            Ok(Step::Request(31)),
         ),
         ("OPTIONS * RTSP/1.0\r\nCSeq: 7\r\n\r", Ok(Step::More)),
-        ("a\n\r\n", Ok(Step::Message(4))),
-        ("a\r\n\n", Ok(Step::Message(4))),
+        ("a\n\r\n", Ok(Step::Request(4))),
+        ("a\r\n\n", Ok(Step::Request(4))),
         ("a\r\r\n", Ok(Step::More)),
         ("a\n\r\r\n", Ok(Step::More)),
     ] {
@@ -62,24 +66,24 @@ fn finds_first_elements(rt: HostRuntime) -> Result<(), Fail> {
 fn finds_bodies(rt: HostRuntime) -> Result<(), Fail> {
     for (text, want) in [
         ("a\nContent-Length: 3\n\nxy", Ok(Step::More)),
-        ("a\nContent-Length: 3\n\nxyz", Ok(Step::Message(24))),
+        ("a\nContent-Length: 3\n\nxyz", Ok(Step::Request(24))),
         (
             "a\r\ncontent-LENGTH:\t 003 \t\r\n\r\nxyz",
-            Ok(Step::Message(32)),
+            Ok(Step::Request(32)),
         ),
-        ("a\nContent-Length: x\n\nxyz", Ok(Step::Message(21))),
-        ("a\nContent-Length:\n\nxyz", Ok(Step::Message(19))),
-        ("a\nContent-Length: 1 2\n\nxyz", Ok(Step::Message(23))),
-        ("a\nContent-Length : 3\n\nxyz", Ok(Step::Message(22))),
-        ("a\n Content-Length: 3\n\nxyz", Ok(Step::Message(22))),
-        ("Content-Length: 3\na\n\nxyz", Ok(Step::Message(21))),
+        ("a\nContent-Length: x\n\nxyz", Ok(Step::Request(21))),
+        ("a\nContent-Length:\n\nxyz", Ok(Step::Request(19))),
+        ("a\nContent-Length: 1 2\n\nxyz", Ok(Step::Request(23))),
+        ("a\nContent-Length : 3\n\nxyz", Ok(Step::Request(22))),
+        ("a\n Content-Length: 3\n\nxyz", Ok(Step::Request(22))),
+        ("Content-Length: 3\na\n\nxyz", Ok(Step::Request(21))),
         (
             "a\nContent-Length: 1\nContent-Length: 3\n\nxyz",
-            Ok(Step::Message(40)),
+            Ok(Step::Request(40)),
         ),
         (
             "a\nContent-Length: x\nContent-Length: 3\n\nxyz",
-            Ok(Step::Message(39)),
+            Ok(Step::Request(39)),
         ),
         ("a\nContent-Length: 65536\n\n", Ok(Step::More)),
         ("a\nContent-Length: 65537\n\n", Err(DemuxFault::BodyTooLong)),
@@ -89,7 +93,7 @@ fn finds_bodies(rt: HostRuntime) -> Result<(), Fail> {
         ),
         (
             "a\nContent-Length: 99999999999999999999999x\n\n",
-            Ok(Step::Message(44)),
+            Ok(Step::Request(44)),
         ),
     ] {
         assert_eq!(rt; first(rt.alloc(), text.as_bytes())?, want, "at {text:?}");
@@ -105,12 +109,12 @@ fn takes_a_request_byte_by_byte(rt: HostRuntime) -> Result<(), Fail> {
         assert_eq!(rt; demux.look(), Ok(Step::More));
         demux.put(&[*byte])?;
     }
-    assert_eq!(rt; demux.look(), Ok(Step::Message(text.len())));
-    assert_eq!(rt; demux.look(), Ok(Step::Message(text.len())));
-    assert_eq!(rt; demux.waiting_bytes(), text.as_slice());
+    assert_eq!(rt; demux.look(), Ok(Step::Request(text.len())));
+    assert_eq!(rt; demux.look(), Ok(Step::Request(text.len())));
+    assert_eq!(rt; demux.waiting(), text.as_slice());
     demux.put(b"$\x02\x00\x01!")?;
-    assert_eq!(rt; demux.look(), Ok(Step::Message(text.len())));
-    assert!(rt; text.len() <= demux.waiting_bytes().len());
+    assert_eq!(rt; demux.look(), Ok(Step::Request(text.len())));
+    assert!(rt; text.len() <= demux.waiting().len());
     demux.drop_front(text.len());
     assert_eq!(rt; demux.look(), Ok(Step::Block(2, 5)));
     Ok(())
@@ -126,7 +130,7 @@ fn limits_heads(rt: HostRuntime) -> Result<(), Fail> {
     demux.put(b"\n")?;
     assert_eq!(rt; demux.look(), Ok(Step::More));
     demux.put(b"\n")?;
-    assert_eq!(rt; demux.look(), Ok(Step::Message(16_384)));
+    assert_eq!(rt; demux.look(), Ok(Step::Request(16_384)));
     let mut longer = Demux::new(rt.alloc())?;
     for _ in 0..16_383 {
         longer.put(b"a")?;
@@ -145,17 +149,17 @@ fn limits_what_waits(rt: HostRuntime) -> Result<(), Fail> {
     for _ in 0..128 {
         demux.put(&element)?;
     }
-    assert_eq!(rt; demux.waiting_bytes().len(), 131_072);
+    assert_eq!(rt; demux.waiting().len(), 131_072);
     assert_eq!(rt; demux.put(b"b"), Err(TooMuchInput));
     assert_eq!(rt; demux.put(b""), Ok(()));
     assert_eq!(rt; demux.look(), Err(DemuxFault::HeadTooLong));
-    assert_eq!(rt; demux.waiting_bytes().len(), 131_072);
+    assert_eq!(rt; demux.waiting().len(), 131_072);
     demux.drop_front(131_071);
     demux.put(b"bc")?;
-    assert_eq!(rt; demux.waiting_bytes(), b"abc".as_slice());
+    assert_eq!(rt; demux.waiting(), b"abc".as_slice());
     assert_eq!(rt; demux.look(), Ok(Step::More));
     demux.put(b"\n\n")?;
-    assert_eq!(rt; demux.look(), Ok(Step::Message(5)));
+    assert_eq!(rt; demux.look(), Ok(Step::Request(5)));
     Ok(())
 }
 
@@ -163,9 +167,9 @@ fn limits_what_waits(rt: HostRuntime) -> Result<(), Fail> {
 /// skipped.
 #[test]
 fn answers_stay(rt: HostRuntime) -> Result<(), Fail> {
-    law_later_bytes();
-    law_skipping();
-    law_one_answer();
+    law_first_element_is_stable();
+    law_skipped_bytes_only_grow();
+    law_first_element_is_unique();
     for (waiting, later, early, late) in [
         (
             "$\x00\x00\x00",
@@ -173,7 +177,7 @@ fn answers_stay(rt: HostRuntime) -> Result<(), Fail> {
             Ok(Step::Block(0, 4)),
             Ok(Step::Block(0, 4)),
         ),
-        ("a\n\n", "\n$", Ok(Step::Message(3)), Ok(Step::Message(3))),
+        ("a\n\n", "\n$", Ok(Step::Request(3)), Ok(Step::Request(3))),
         ("\r", "\n", Ok(Step::Skip(1)), Ok(Step::Skip(2))),
         ("\r", "a", Ok(Step::Skip(1)), Ok(Step::Skip(1))),
         (

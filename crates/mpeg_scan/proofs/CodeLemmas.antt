@@ -5,7 +5,7 @@ use Rattle.std.proofs.lemmas.List.{take_more_set, length-take-le}
 use Rattle.std.proofs.lemmas.Bool.{false≢true, eqb-true, lt-ltb, le-ltb}
 use Rattle.mpeg_scan.specs.declared.codes.Prefix.TheVariants.{Nothing, Zero, Zeros, Whole}
 use Rattle.mpeg_scan.specs.HeaderBytes.{header_with}
-use Rattle.mpeg_scan.specs.Codes.{byte_back, latest_prefix, after_one, after_zero, next_prefix}
+use Rattle.mpeg_scan.specs.StartCodes.{byte_back, latest_prefix, after_one, after_zero, next_prefix}
 
 -- p1, p0: the byte is 1, 0; a1, a0: so is the one before it; z1, z2: the two before that are 0
 table : {p1 p0 a1 a0 : Bool} (z1 z2 : Bool) → (p1 ≡ true → p0 ≡ false) → (a1 ≡ true → a0 ≡ false)

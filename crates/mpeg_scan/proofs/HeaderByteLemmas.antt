@@ -6,10 +6,10 @@ use Rattle.std.proofs.lemmas.Bool.{cases_Bool, cases_lt, ltb-true, ltb-false}
 use Rattle.std.proofs.lemmas.List.{get_or_append_left, get_or_default}
 use Rattle.std.proofs.Math.Seq.{get_or-append_seam}
 use Rattle.mpeg_scan.specs.declared.codes.Code.{Code}
-use Rattle.mpeg_scan.specs.Codes.{latest_prefix, is_whole, note, note_latest, codes_of}
+use Rattle.mpeg_scan.specs.StartCodes.{latest_prefix, is_whole, note, note_latest, codes_of}
 use Rattle.mpeg_scan.proofs.CodeLemmas.{noted-by}
-use Rattle.mpeg_scan.proofs.StepLemmas.{codes-none, codes-plain, codes-code}
-use Rattle.mpeg_scan.proofs.PlaceLemmas.{at, at-last, at-older, whole-prefixed}
+use Rattle.mpeg_scan.proofs.ScanStepLemmas.{codes-none, codes-plain, codes-code}
+use Rattle.mpeg_scan.proofs.CodePlaceLemmas.{at, at-last, at-older, whole-prefixed}
 
 -- a code's header bytes are the first five after it, as far as a place
 pub record HeaderIs (r : List ℕ) (stop : ℕ) (c : Code) : Type 0 where

@@ -9,22 +9,22 @@ use Rattle.std.proofs.lemmas.Bool.{false≢true, true≢false}
 use Rattle.mpeg_scan.specs.declared.codes.Code.{Code}
 use Rattle.mpeg_scan.specs.declared.faults.FilmFault.{FilmFault}
 use Rattle.mpeg_scan.specs.declared.faults.FilmFault.TheVariants.{BadRate, BadType, ShortHeader}
-use Rattle.mpeg_scan.specs.Words.{first_rate, rate_code, type_of}
-use Rattle.mpeg_scan.specs.Faults.{differs, first_fault, header_fault, latest_fault, picture_fault}
-use Rattle.mpeg_scan.specs.Faults.{rate_fault}
-use Rattle.mpeg_scan.specs.Refusals.{HeaderRefusal, IsBadRate, IsBadType, IsLatest, IsOtherRate}
-use Rattle.mpeg_scan.specs.Refusals.{IsSequence, IsShortHeader, Otherwise, has_vectors}
-use Rattle.mpeg_scan.specs.Refusals.{header_bytes, picture_rate}
-use Rattle.mpeg_scan.specs.Standard.{IsHeadValue, NoneIn, picture_coding_type}
-use Rattle.mpeg_scan.proofs.BoundLemmas.{older-judged}
-use Rattle.mpeg_scan.proofs.FirstLemmas.{AreJudged, first_in, first_in-has, first_in-value}
-use Rattle.mpeg_scan.proofs.FirstLemmas.{first_in-rate, first_in-header, first-least}
-use Rattle.mpeg_scan.proofs.StepLemmas.{accepted-older}
+use Rattle.mpeg_scan.specs.CodeFacts.{first_rate, rate_code, type_of}
+use Rattle.mpeg_scan.specs.FilmFaults.{differs, first_fault, header_fault, latest_fault, picture_fault}
+use Rattle.mpeg_scan.specs.FilmFaults.{rate_fault}
+use Rattle.mpeg_scan.specs.StandardRefusals.{HeaderRefusal, IsBadRate, IsBadType, IsLatest, IsOtherRate}
+use Rattle.mpeg_scan.specs.StandardRefusals.{IsSequence, IsShortHeader, Otherwise, has_vectors}
+use Rattle.mpeg_scan.specs.StandardRefusals.{header_bytes, picture_rate}
+use Rattle.mpeg_scan.specs.StandardUnits.{IsHeadValue, NoneIn, picture_coding_type}
+use Rattle.mpeg_scan.proofs.FilmBoundLemmas.{older-judged}
+use Rattle.mpeg_scan.proofs.FirstUnitLemmas.{AreJudged, first_in, first_in-has, first_in-value}
+use Rattle.mpeg_scan.proofs.FirstUnitLemmas.{first_in-rate, first_in-header, first-least}
+use Rattle.mpeg_scan.proofs.ScanStepLemmas.{accepted-older}
 use Rattle.mpeg_scan.proofs.HeaderByteLemmas.{Same, HeaderIs, HeadersAre, header-byte}
-use Rattle.mpeg_scan.proofs.SpaceLemmas.{Spaced}
-use Rattle.mpeg_scan.proofs.DecideLemmas.{Decides, both-cond, decide, neither, none-of, only-first}
-use Rattle.mpeg_scan.proofs.DecideLemmas.{only-second}
-use Rattle.mpeg_scan.proofs.BeforeLemmas.{Knows, latest-is, latest-new, older}
+use Rattle.mpeg_scan.proofs.CodeSpacingLemmas.{Spaced}
+use Rattle.mpeg_scan.proofs.DecisionLemmas.{Decides, both-cond, decide, neither, none-of, only-first}
+use Rattle.mpeg_scan.proofs.DecisionLemmas.{only-second}
+use Rattle.mpeg_scan.proofs.CodesBeforeLemmas.{Knows, latest-is, latest-new, older}
 
 -- the header bytes of a code are those after it, as far as a place
 abbrev pub Fits : List ℕ → ℕ → Code → Type 0

@@ -1,29 +1,29 @@
 pub mod CodeLemmas
-pub mod StepLemmas
-pub mod ReadLemmas
+pub mod ScanStepLemmas
+pub mod ByteReadLemmas
 pub mod FilmLemmas
-mod SpaceLemmas
-pub mod TileLemmas
-pub mod CountLemmas
-mod PlaceLemmas
-mod GrammarLemmas
-pub mod BoundLemmas
-pub mod LaidLemmas
+mod CodeSpacingLemmas
+pub mod PartTilingLemmas
+pub mod UnitNumberingLemmas
+mod CodePlaceLemmas
+mod FilmGrammarLemmas
+pub mod FilmBoundLemmas
+pub mod UnitLayoutLemmas
 mod HeaderByteLemmas
-pub mod FirstLemmas
-mod NextLemmas
-mod RoomLemmas
-mod ValueLemmas
-mod OpenLemmas
-mod ClosedLemmas
+pub mod FirstUnitLemmas
+mod NextCodeLemmas
+mod ScanBoundLemmas
+mod CodeValueLemmas
+mod LatestUnitLemmas
+mod EndedUnitLemmas
 mod StandardLemmas
-mod OrderLemmas
+mod CodeOrderLemmas
 mod SliceLemmas
-mod OnlyLemmas
-mod DecideLemmas
-mod BeforeLemmas
-mod SinceLemmas
+mod UnitUniqueness
+mod DecisionLemmas
+mod CodesBeforeLemmas
+mod CodeCountLemmas
 mod HeaderLemmas
 mod RefusalLemmas
-mod RefusedLemmas
+mod FilmRefusalLemmas
 pub mod RateLemmas

@@ -1,6 +1,6 @@
 -- The times of pictures lie within bounds.
 use Rattle.std.proofs.Common.{ℕ, zero, suc, ◌≤◌, arith}
-use Rattle.mpeg_scan.specs.Rates.{picture_time}
+use Rattle.mpeg_scan.specs.PictureRates.{picture_time}
 
 pub time-bounds : (rate : ℕ) → 1 ≤ rate → rate ≤ 8 → (6000 ≤ picture_time rate) × (picture_time rate ≤ 15015)
 time-bounds zero low high = absurd (omega (arith, low))

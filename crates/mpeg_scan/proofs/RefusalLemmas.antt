@@ -12,29 +12,29 @@ use Rattle.mpeg_scan.specs.declared.faults.FilmFault.TheVariants.{NoSequence, Pi
 use Rattle.mpeg_scan.specs.declared.faults.FilmFault.TheVariants.{HeadTooLong, GroupTooLong}
 use Rattle.mpeg_scan.specs.declared.faults.FilmFault.TheVariants.{TooLong, HeadWithoutPicture}
 use Rattle.mpeg_scan.specs.declared.tallies.Header.{Header}
-use Rattle.mpeg_scan.specs.Words.{before_group_of, is_head, is_none_yet, is_slice, latest_picture}
-use Rattle.mpeg_scan.specs.Words.{picture_count, slice_count, tally_of, latest_unit}
-use Rattle.mpeg_scan.specs.Faults.{code_fault, count_fault, fault_at, first_fault}
-use Rattle.mpeg_scan.specs.Faults.{first_slice_fault, head_fault, value_fault, latest_fault}
-use Rattle.mpeg_scan.specs.Faults.{left_without_slices, first_refusal, second_fault}
-use Rattle.mpeg_scan.specs.Places.{HasCode}
-use Rattle.mpeg_scan.specs.Refusals.{BeginsUnit, CodeRefusal, CountRefusal, HasPictures}
-use Rattle.mpeg_scan.specs.Refusals.{HeaderRefusal, IsExtension, IsItsPicture, IsLongFilm}
-use Rattle.mpeg_scan.specs.Refusals.{IsLongGroup, IsLongHead, IsOpenHead, IsSystemCode, ValueRefusal}
-use Rattle.mpeg_scan.specs.Refusals.{LacksPicture, LacksSequence, LacksSlices, Otherwise}
-use Rattle.mpeg_scan.specs.Refusals.{SecondRefusal, SliceRefusal}
-use Rattle.mpeg_scan.specs.Standard.{IsFirstCode, IsHeadValue, IsSliceValue, StandsThere}
-use Rattle.mpeg_scan.proofs.StepLemmas.{positive}
+use Rattle.mpeg_scan.specs.CodeFacts.{before_group_of, is_head, is_none_yet, is_slice, latest_picture}
+use Rattle.mpeg_scan.specs.CodeFacts.{picture_count, slice_count, tally_of, latest_unit}
+use Rattle.mpeg_scan.specs.FilmFaults.{code_fault, count_fault, fault_at, first_fault}
+use Rattle.mpeg_scan.specs.FilmFaults.{first_slice_fault, head_fault, value_fault, latest_fault}
+use Rattle.mpeg_scan.specs.FilmFaults.{left_without_slices, first_refusal, second_fault}
+use Rattle.mpeg_scan.specs.CodePlaces.{HasCode}
+use Rattle.mpeg_scan.specs.StandardRefusals.{BeginsUnit, CodeRefusal, CountRefusal, HasPictures}
+use Rattle.mpeg_scan.specs.StandardRefusals.{HeaderRefusal, IsExtension, IsItsPicture, IsLongFilm}
+use Rattle.mpeg_scan.specs.StandardRefusals.{IsLongGroup, IsLongHead, IsOpenHead, IsSystemCode, ValueRefusal}
+use Rattle.mpeg_scan.specs.StandardRefusals.{LacksPicture, LacksSequence, LacksSlices, Otherwise}
+use Rattle.mpeg_scan.specs.StandardRefusals.{SecondRefusal, SliceRefusal}
+use Rattle.mpeg_scan.specs.StandardUnits.{IsFirstCode, IsHeadValue, IsSliceValue, StandsThere}
+use Rattle.mpeg_scan.proofs.ScanStepLemmas.{positive}
 use Rattle.mpeg_scan.proofs.HeaderByteLemmas.{Same, HeadersAre}
-use Rattle.mpeg_scan.proofs.SpaceLemmas.{Spaced}
+use Rattle.mpeg_scan.proofs.CodeSpacingLemmas.{Spaced}
 use Rattle.std.proofs.lemmas.Option.{same_Some}
-use Rattle.mpeg_scan.proofs.DecideLemmas.{Decides, both, both-cond, decide, decide-if, decide-with}
-use Rattle.mpeg_scan.proofs.DecideLemmas.{neither, no-more, none-of, only-second}
-use Rattle.mpeg_scan.proofs.BeforeLemmas.{Knows, PictureThere, head-value, no-head, no-slice}
-use Rattle.mpeg_scan.proofs.BeforeLemmas.{not-open, one-head, one-picture, open-head, picture-there}
-use Rattle.mpeg_scan.proofs.BeforeLemmas.{slice-value, slice-there, has-new, new-below}
-use Rattle.mpeg_scan.proofs.SinceLemmas.{codes-from, codes-since, group-tests, most-since}
-use Rattle.mpeg_scan.proofs.SinceLemmas.{picture-tests, since-all, since-group}
+use Rattle.mpeg_scan.proofs.DecisionLemmas.{Decides, both, both-cond, decide, decide-if, decide-with}
+use Rattle.mpeg_scan.proofs.DecisionLemmas.{neither, no-more, none-of, only-second}
+use Rattle.mpeg_scan.proofs.CodesBeforeLemmas.{Knows, PictureThere, head-value, no-head, no-slice}
+use Rattle.mpeg_scan.proofs.CodesBeforeLemmas.{not-open, one-head, one-picture, open-head, picture-there}
+use Rattle.mpeg_scan.proofs.CodesBeforeLemmas.{slice-value, slice-there, has-new, new-below}
+use Rattle.mpeg_scan.proofs.CodeCountLemmas.{codes-from, codes-since, group-tests, most-since}
+use Rattle.mpeg_scan.proofs.CodeCountLemmas.{picture-tests, since-all, since-group}
 use Rattle.mpeg_scan.proofs.HeaderLemmas.{latest-decides}
 
 -- a code of a value stands at a place, and the codes before it are these

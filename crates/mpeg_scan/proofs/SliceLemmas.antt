@@ -7,19 +7,19 @@ use Rattle.std.proofs.lemmas.Bool.{true≢false, false≢true, and_parts, and_fr
 use Rattle.std.proofs.lemmas.List.{append-nil}
 use Rattle.mpeg_scan.specs.declared.codes.Code.{Code}
 use Rattle.mpeg_scan.specs.declared.units.Unit.{Unit as PictureUnit}
-use Rattle.mpeg_scan.specs.Codes.{read_after, codes_of}
-use Rattle.mpeg_scan.specs.Words.{is_slice, latest_slice, slice_count, tally_of}
-use Rattle.mpeg_scan.specs.Faults.{end_fault, first_fault, last_fault, latest_fault}
+use Rattle.mpeg_scan.specs.StartCodes.{read_after, codes_of}
+use Rattle.mpeg_scan.specs.CodeFacts.{is_slice, latest_slice, slice_count, tally_of}
+use Rattle.mpeg_scan.specs.FilmFaults.{end_fault, first_fault, last_fault, latest_fault}
 use Rattle.mpeg_scan.specs.Calls.{calls_at, calls_of, unit_end}
 use Rattle.mpeg_scan.specs.Films.{IsFilm, slices_in}
-use Rattle.mpeg_scan.specs.Places.{HasCode, StandsAt}
-use Rattle.mpeg_scan.specs.Standard.{IsAmong, IsSliceValue, StandsThere, slice_places}
-use Rattle.mpeg_scan.proofs.StepLemmas.{otherwise-second, calls-cons}
-use Rattle.mpeg_scan.proofs.StepLemmas.{accepted-whole}
-use Rattle.mpeg_scan.proofs.TileLemmas.{CodeEnds, ended-none, raw_calls, slice-apart}
-use Rattle.mpeg_scan.proofs.TileLemmas.{calls-nil, ends_at}
+use Rattle.mpeg_scan.specs.CodePlaces.{HasCode, IsCodeAt}
+use Rattle.mpeg_scan.specs.StandardUnits.{IsAmong, IsSliceValue, StandsThere, slice_places}
+use Rattle.mpeg_scan.proofs.ScanStepLemmas.{otherwise-second, calls-cons}
+use Rattle.mpeg_scan.proofs.ScanStepLemmas.{accepted-whole}
+use Rattle.mpeg_scan.proofs.PartTilingLemmas.{CodeEnds, ended-none, raw_calls, slice-apart}
+use Rattle.mpeg_scan.proofs.PartTilingLemmas.{calls-nil, ends_at}
 use Rattle.mpeg_scan.proofs.FilmLemmas.{slices_in-append}
-use Rattle.mpeg_scan.proofs.PlaceLemmas.{codes-stand}
+use Rattle.mpeg_scan.proofs.CodePlaceLemmas.{codes-stand}
 
 -- the slice that no call has told of yet, where the latest unit has so many
 abbrev pending : ℕ → ℕ → List ℕ
@@ -163,7 +163,7 @@ there-among (c ∷ past) place value (inr old) is =
 
 pub film-slice_codes : (bytes : List ℕ) (rate : ℕ) (units : List PictureUnit) (starts : List ℕ)
     → IsFilm bytes rate units starts → (place : ℕ)
-    → IsAmong place starts ↔ StandsThere (StandsAt bytes) place IsSliceValue
+    → IsAmong place starts ↔ StandsThere (IsCodeAt bytes) place IsSliceValue
 film-slice_codes bytes rate units starts film place =
     let past = codes_of (read_after [] bytes) in
     let same = film-slices bytes rate units starts film in (

@@ -10,25 +10,25 @@ use Rattle.mpeg_scan.specs.declared.faults.FilmFault.{FilmFault}
 use Rattle.mpeg_scan.specs.declared.faults.FilmFault.TheVariants.{BadType, ShortHeader}
 use Rattle.mpeg_scan.specs.declared.units.Kind.{Kind}
 use Rattle.mpeg_scan.specs.declared.units.Unit.{Unit as PictureUnit}
-use Rattle.mpeg_scan.specs.Codes.{read_after, codes_of, latest_prefix}
-use Rattle.mpeg_scan.specs.Words.{first_rate, kind_of, tally_of, type_of, vectors_by}
-use Rattle.mpeg_scan.specs.Faults.{end_fault, first_fault, header_fault, last_fault, latest_fault}
-use Rattle.mpeg_scan.specs.Faults.{rate_fault}
+use Rattle.mpeg_scan.specs.StartCodes.{read_after, codes_of, latest_prefix}
+use Rattle.mpeg_scan.specs.CodeFacts.{first_rate, kind_of, tally_of, type_of, vectors_by}
+use Rattle.mpeg_scan.specs.FilmFaults.{end_fault, first_fault, header_fault, last_fault, latest_fault}
+use Rattle.mpeg_scan.specs.FilmFaults.{rate_fault}
 use Rattle.mpeg_scan.specs.Films.{IsFilm}
-use Rattle.mpeg_scan.specs.Places.{HasCode, StandsAt}
-use Rattle.mpeg_scan.specs.Standard.{HasFields, IsFirstCode, IsUnitOf, NoneIn, StandsIn}
-use Rattle.mpeg_scan.specs.Standard.{type_number, vector_fields}
-use Rattle.mpeg_scan.proofs.StepLemmas.{otherwise-first, otherwise-second}
-use Rattle.mpeg_scan.proofs.StepLemmas.{none-cond, some-cond-none}
-use Rattle.mpeg_scan.proofs.StepLemmas.{accepted-whole}
-use Rattle.mpeg_scan.proofs.SpaceLemmas.{placed-codes, room-after}
+use Rattle.mpeg_scan.specs.CodePlaces.{HasCode, IsCodeAt}
+use Rattle.mpeg_scan.specs.StandardUnits.{HasFields, IsFirstCode, IsUnitOf, NoneIn, StandsIn}
+use Rattle.mpeg_scan.specs.StandardUnits.{type_number, vector_fields}
+use Rattle.mpeg_scan.proofs.ScanStepLemmas.{otherwise-first, otherwise-second}
+use Rattle.mpeg_scan.proofs.ScanStepLemmas.{none-cond, some-cond-none}
+use Rattle.mpeg_scan.proofs.ScanStepLemmas.{accepted-whole}
+use Rattle.mpeg_scan.proofs.CodeSpacingLemmas.{placed-codes, room-after}
 use Rattle.mpeg_scan.proofs.FilmLemmas.{length-read}
-use Rattle.mpeg_scan.proofs.FirstLemmas.{AreJudged, older-are_judged}
-use Rattle.mpeg_scan.proofs.PlaceLemmas.{at-bytes, codes-stand}
+use Rattle.mpeg_scan.proofs.FirstUnitLemmas.{AreJudged, older-are_judged}
+use Rattle.mpeg_scan.proofs.CodePlaceLemmas.{at-bytes, codes-stand}
 use Rattle.mpeg_scan.proofs.HeaderByteLemmas.{Same, HeaderIs, HeadersAre, codes-headers, header-byte}
-use Rattle.mpeg_scan.proofs.OpenLemmas.{Member}
-use Rattle.mpeg_scan.proofs.SinceLemmas.{counts-same}
-use Rattle.mpeg_scan.proofs.ClosedLemmas.{AllClosed, Closed, CodeFields, Has, all-at, whole-closed}
+use Rattle.mpeg_scan.proofs.LatestUnitLemmas.{Member}
+use Rattle.mpeg_scan.proofs.CodeCountLemmas.{counts-same}
+use Rattle.mpeg_scan.proofs.EndedUnitLemmas.{AllClosed, Closed, CodeFields, Has, all-at, whole-closed}
 
 -- a code's header bytes, and how many they are at least
 record CodeHeader (r : List ℕ) (c : Code) : Type 0 where
@@ -175,41 +175,41 @@ fields-fit {place} bytes f header =
 
 -- a unit over these codes is one over the bytes
 none-bytes : {bytes : List ℕ} {from to : ℕ} {OfValue : ℕ → Type 0} (past : List Code)
-    → ((place value : ℕ) → HasCode place value past ↔ StandsAt bytes place value)
-    → NoneIn (Has past) from to OfValue → NoneIn (StandsAt bytes) from to OfValue
+    → ((place value : ℕ) → HasCode place value past ↔ IsCodeAt bytes place value)
+    → NoneIn (Has past) from to OfValue → NoneIn (IsCodeAt bytes) from to OfValue
 none-bytes {from} past both none place value has after before is =
     none place value ((both place value).1 has) after before is
 
 stands-bytes : {bytes : List ℕ} {from to k : ℕ} (past : List Code)
-    → ((place value : ℕ) → HasCode place value past ↔ StandsAt bytes place value) → StandsIn (Has past) from to k
-    → StandsIn (StandsAt bytes) from to k
+    → ((place value : ℕ) → HasCode place value past ↔ IsCodeAt bytes place value) → StandsIn (Has past) from to k
+    → StandsIn (IsCodeAt bytes) from to k
 stands-bytes {from} {k} past both it =
     record { place = it.place; code = (both it.place k).0 it.code; after = it.after; before = it.before }
 
 stands-codes : {bytes : List ℕ} {from to k : ℕ} (past : List Code)
-    → ((place value : ℕ) → HasCode place value past ↔ StandsAt bytes place value)
-    → StandsIn (StandsAt bytes) from to k → StandsIn (Has past) from to k
+    → ((place value : ℕ) → HasCode place value past ↔ IsCodeAt bytes place value)
+    → StandsIn (IsCodeAt bytes) from to k → StandsIn (Has past) from to k
 stands-codes {from} {k} past both it =
     record { place = it.place; code = (both it.place k).1 it.code; after = it.after; before = it.before }
 
 group-bytes : (bytes : List ℕ) (past : List Code) (from to : ℕ)
-    → ((place value : ℕ) → HasCode place value past ↔ StandsAt bytes place value)
+    → ((place value : ℕ) → HasCode place value past ↔ IsCodeAt bytes place value)
     → IsFirstCode (Has past) from ⊎ StandsIn (Has past) from to 0xb8
-    → IsFirstCode (StandsAt bytes) from ⊎ StandsIn (StandsAt bytes) from to 0xb8
+    → IsFirstCode (IsCodeAt bytes) from ⊎ StandsIn (IsCodeAt bytes) from to 0xb8
 group-bytes bytes past from to both (inl firsts) =
     inl (λ place value has. firsts place value ((both place value).1 has))
 group-bytes bytes past from to both (inr it) = inr (stands-bytes past both it)
 
 group-codes : (bytes : List ℕ) (past : List Code) (from to : ℕ)
-    → ((place value : ℕ) → HasCode place value past ↔ StandsAt bytes place value)
-    → IsFirstCode (StandsAt bytes) from ⊎ StandsIn (StandsAt bytes) from to 0xb8
+    → ((place value : ℕ) → HasCode place value past ↔ IsCodeAt bytes place value)
+    → IsFirstCode (IsCodeAt bytes) from ⊎ StandsIn (IsCodeAt bytes) from to 0xb8
     → IsFirstCode (Has past) from ⊎ StandsIn (Has past) from to 0xb8
 group-codes bytes past from to both (inl firsts) =
     inl (λ place value has. firsts place value ((both place value).0 has))
 group-codes bytes past from to both (inr it) = inr (stands-codes past both it)
 
 unit-bytes : (bytes : List ℕ) (past : List Code) (unit : PictureUnit)
-    → ((place value : ℕ) → HasCode place value past ↔ StandsAt bytes place value)
+    → ((place value : ℕ) → HasCode place value past ↔ IsCodeAt bytes place value)
     → AreHeaders (read_after [] bytes) past → Closed past unit → IsUnitOf bytes unit
 unit-bytes bytes past unit both headers closed =
     let u = closed.unit_is in

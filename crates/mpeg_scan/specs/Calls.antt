@@ -7,8 +7,8 @@ use Rattle.mpeg_scan.specs.declared.tallies.Header.{Header}
 use Rattle.mpeg_scan.specs.Tallies.{Tally}
 use Rattle.mpeg_scan.specs.declared.units.Kind.TheVariants.{D}
 use Rattle.mpeg_scan.specs.declared.units.Unit.{Unit as PictureUnit}
-use Rattle.mpeg_scan.specs.Codes.{codes_of}
-use Rattle.mpeg_scan.specs.Words.{is_head, is_slice, tally_of}
+use Rattle.mpeg_scan.specs.StartCodes.{codes_of}
+use Rattle.mpeg_scan.specs.CodeFacts.{is_head, is_slice, tally_of}
 
 pub data Call : Type 0 where
   head_call : ℕ → ℕ → Call

@@ -2,9 +2,9 @@
 use Rattle.std.specs.Prelude.{ℕ, ◌≡◌, List, [], ◌∷◌, Option, None}
 use Rattle.mpeg_scan.specs.declared.faults.FilmFault.{FilmFault}
 use Rattle.mpeg_scan.specs.declared.units.Unit.{Unit as PictureUnit}
-use Rattle.mpeg_scan.specs.Codes.{read_after, codes_of}
-use Rattle.mpeg_scan.specs.Words.{rate_of}
-use Rattle.mpeg_scan.specs.Faults.{refusal_of}
+use Rattle.mpeg_scan.specs.StartCodes.{read_after, codes_of}
+use Rattle.mpeg_scan.specs.CodeFacts.{rate_of}
+use Rattle.mpeg_scan.specs.FilmFaults.{refusal_of}
 use Rattle.mpeg_scan.specs.Calls.{Call, head_call, slice_call, unit_call, all_calls}
 
 -- the units that are told of, in order

@@ -3,8 +3,8 @@
 -- and after it no such header; a slice comes after its picture alone.
 use Rattle.std.specs.Prelude.{ℕ, ◌≡◌, ◌==◌, List, [], ◌∷◌, Option, Some, None, if◌then◌else◌}
 use Rattle.mpeg_scan.specs.declared.codes.Code.{Code}
-use Rattle.mpeg_scan.specs.Codes.{codes_of}
-use Rattle.mpeg_scan.specs.Words.{is_head, is_slice}
+use Rattle.mpeg_scan.specs.StartCodes.{codes_of}
+use Rattle.mpeg_scan.specs.CodeFacts.{is_head, is_slice}
 
 pub data Phase : Type 0 where
   nowhere : Phase

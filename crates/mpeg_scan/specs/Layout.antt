@@ -2,7 +2,7 @@
 use Rattle.std.specs.Prelude.{ℕ, ◌+◌, ◌%◌, ◌<◌, ◌≤◌, ◌≡◌, List, [], ◌∷◌, length, take, drop}
 use Rattle.std.specs.Prelude.{slice_get, slice_index, Some}
 use Rattle.mpeg_scan.specs.declared.units.Unit.{Unit as PictureUnit}
-use Rattle.mpeg_scan.specs.Places.{StandsAt}
+use Rattle.mpeg_scan.specs.CodePlaces.{IsCodeAt}
 
 -- a fact of a unit of a film, by its number
 abbrev pub OfUnit : List PictureUnit → ℕ → (PictureUnit → Type 0) → Type 0
@@ -50,6 +50,6 @@ AreInFilm bytes units = (from : ℕ) × AreChained from units (length bytes)
 -- a sequence header of 12 bytes begins at a place, and the low four bits of its eighth byte are
 -- this picture rate code (ISO/IEC 11172-2, 2.4.2.3)
 pub record BeginsSequence (bytes : List ℕ) (rate place : ℕ) : Type 0 where
-  pub code : StandsAt bytes place 0xb3
+  pub code : IsCodeAt bytes place 0xb3
   pub fits : place + 12 ≤ length bytes
   pub rate_is : slice_index bytes (place + 7) % 16 ≡ rate

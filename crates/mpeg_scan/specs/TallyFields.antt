@@ -9,7 +9,7 @@ use Rattle.mpeg_scan.specs.declared.tallies.Slices.{Slices}
 use Rattle.mpeg_scan.specs.declared.tallies.Tally.TheInside.{Inside}
 use Rattle.mpeg_scan.specs.declared.tallies.UnitTally.{UnitTally}
 use Rattle.mpeg_scan.specs.Tallies.{Tally}
-use Rattle.mpeg_scan.specs.Words.{header_of, is_head, is_slice}
+use Rattle.mpeg_scan.specs.CodeFacts.{header_of, is_head, is_slice}
 
 -- ---- what the fields say
 

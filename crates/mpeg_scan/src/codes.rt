@@ -1,7 +1,7 @@
 //! Start codes, found byte by byte.
 
 ghost use Rattle.std.specs.Prelude.{◌≡◌, ◌↔◌, IsTrue};
-ghost use Rattle.mpeg_scan.specs.Codes.{is_whole, next_prefix};
+ghost use Rattle.mpeg_scan.specs.StartCodes.{is_whole, next_prefix};
 
 use crate::header_bytes::HeaderBytes;
 

@@ -4,8 +4,8 @@ ghost use Rattle.std.specs.Prelude.{◌≡◌, [], List};
 ghost use Rattle.mpeg_scan.specs.Calls.{Call};
 ghost use Rattle.mpeg_scan.specs.Films.{slices_in, units_in};
 
-use crate::found::Found;
 use crate::units::Unit;
+use crate::visitor::Found;
 use std::alloc::Global;
 use vod_base::NoMemory;
 

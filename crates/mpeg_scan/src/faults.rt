@@ -1,11 +1,12 @@
 //! Why a film is refused, judged by its start codes one after another.
 
 ghost use Rattle.std.specs.Prelude.{◌≡◌, ◌≤◌, true};
-ghost use Rattle.mpeg_scan.specs.Faults.{header_fault, picture_fault, rate_fault, differs};
-ghost use Rattle.mpeg_scan.specs.Faults.{code_fault, value_fault, second_fault, first_slice_fault};
-ghost use Rattle.mpeg_scan.specs.Faults.{count_fault, last_fault};
-ghost use Rattle.mpeg_scan.specs.Room.{HasRoom};
-ghost use Rattle.mpeg_scan.specs.Words.{is_slice};
+ghost use Rattle.mpeg_scan.specs.FilmFaults.{header_fault, picture_fault, rate_fault, differs};
+ghost use Rattle.mpeg_scan.specs.FilmFaults.{code_fault, value_fault, second_fault};
+ghost use Rattle.mpeg_scan.specs.FilmFaults.{first_slice_fault};
+ghost use Rattle.mpeg_scan.specs.FilmFaults.{count_fault, last_fault};
+ghost use Rattle.mpeg_scan.specs.ScanBounds.{HasRoom};
+ghost use Rattle.mpeg_scan.specs.CodeFacts.{is_slice};
 
 use crate::codes::Code;
 use crate::tallies::{

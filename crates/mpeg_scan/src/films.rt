@@ -2,15 +2,15 @@
 
 ghost use Rattle.std.specs.Prelude.{◌≡◌, ◌≤◌, [], Some, Err, IfOk};
 ghost use Rattle.mpeg_scan.specs.Films.{IsFilm, refusal, film_calls};
-ghost use Rattle.mpeg_scan.specs.Codes.{read_after};
+ghost use Rattle.mpeg_scan.specs.StartCodes.{read_after};
 ghost use Rattle.mpeg_scan.specs.Grammar.{IsGrammatical};
-ghost use Rattle.mpeg_scan.specs.Counts.{AreNumbered};
-ghost use Rattle.mpeg_scan.specs.Rates.{picture_time};
-ghost use Rattle.mpeg_scan.specs.Tiles.{Tiles};
+ghost use Rattle.mpeg_scan.specs.UnitNumbering.{AreNumbered};
+ghost use Rattle.mpeg_scan.specs.PictureRates.{picture_time};
+ghost use Rattle.mpeg_scan.specs.PartTiling.{Tiles};
 
 use crate::collector::Collector;
 use crate::faults::{FilmFault, ScanRefused};
-use crate::laws::law_film;
+use crate::laws::law_film_is_well_formed;
 use crate::scanner::Scanner;
 use crate::units::{MAX_FILM_BYTES, Unit, picture_time};
 use std::alloc::Global;
@@ -37,7 +37,7 @@ impl Film {
         ensures some { 1 ≤ result }
         ensures fits { result ≤ 360000 }
     {
-        law_film(self);
+        law_film_is_well_formed(self);
         picture_time(self.rate)
     }
 }
@@ -46,8 +46,8 @@ impl Film {
 ///
 /// # Errors
 ///
-/// [`ScanRefused::Fault`] with the film's refusal, the one that `law_refusals` tells of;
-/// [`ScanRefused::NoMemory`] where there is none for its units and slices.
+/// [`ScanRefused::Fault`] with the film's refusal, the one that `law_refusals_match_the_standard`
+/// tells of; [`ScanRefused::NoMemory`] where there is none for its units and slices.
 pub fn scan(alloc: Global, bytes: Vec<u8>) -> Result<Film, ScanRefused>
     ensures film { IfOk result (λ film. film.bytes.items ≡ bytes.items) }
     ensures grammatical { IfOk result (λ film. IsGrammatical (read_after [] film.bytes.items)) }

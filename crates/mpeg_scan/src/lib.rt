@@ -6,26 +6,22 @@ mod codes;
 mod collector;
 mod faults;
 mod films;
-mod found;
 mod header_bytes;
-mod laws;
+pub mod laws;
 mod progress;
 mod scanner;
 mod tallies;
 mod units;
+mod visitor;
 
 pub use codes::Prefix;
 pub use faults::{FilmFault, ScanRefused};
 pub use films::{Film, scan};
-pub use found::Found;
-pub use laws::{
-    law_codes_in_order, law_film, law_one_list_of_units, law_picture_rates, law_refusals,
-    law_refused_early, law_slices, law_standard_units, law_start_codes, law_units,
-};
 pub use scanner::{Ending, Scanner};
 pub use units::{
     Kind, MAX_FILM_BYTES, MAX_GROUP_PICTURES, MAX_UNIT_HEAD_BYTES, Unit, picture_time,
 };
+pub use visitor::Found;
 pub use vod_base::MAX_FILM_PICTURES;
 
 #[cfg(test)]

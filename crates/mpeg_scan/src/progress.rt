@@ -5,21 +5,23 @@ ghost use Rattle.std.specs.Prelude.{length, take, slice_index, IsSome, IsTrue, t
 ghost use Rattle.std.specs.Prelude.{MatchResult, OnOk, ◌≢◌};
 ghost use Rattle.std.specs.Option.{ForSome};
 ghost use Rattle.mpeg_scan.specs.Calls.{Call, calls_at, calls_of};
-ghost use Rattle.mpeg_scan.specs.Codes.{codes_of, read_after};
-ghost use Rattle.mpeg_scan.specs.Faults.{first_fault, refusal_of};
-ghost use Rattle.mpeg_scan.specs.Room.{AwaitsSlice, AwaitsSliceAfter, HasCounts, HasRoomWith};
-ghost use Rattle.mpeg_scan.specs.Room.{IsAhead};
-ghost use Rattle.mpeg_scan.specs.Steps.{judgement, last_judgement, latest_header_fault, tally_now};
-ghost use Rattle.mpeg_scan.specs.Words.{tally_of};
-ghost use Rattle.mpeg_scan.specs.Scans.{HasRead, IsRefusedInChunk, scan_with_code, is_header_full};
-ghost use Rattle.mpeg_scan.specs.Scans.{scan_with_byte};
+ghost use Rattle.mpeg_scan.specs.StartCodes.{codes_of, read_after};
+ghost use Rattle.mpeg_scan.specs.FilmFaults.{first_fault, refusal_of};
+ghost use Rattle.mpeg_scan.specs.ScanBounds.{AwaitsSlice, AwaitsSliceAfter, HasCounts, HasRoomWith};
+ghost use Rattle.mpeg_scan.specs.ScanBounds.{IsAhead};
+ghost use Rattle.mpeg_scan.specs.CodeSteps.{judgement, last_judgement, latest_header_fault};
+ghost use Rattle.mpeg_scan.specs.CodeSteps.{tally_now};
+ghost use Rattle.mpeg_scan.specs.CodeFacts.{tally_of};
+ghost use Rattle.mpeg_scan.specs.ScannerState.{HasReadBytes, IsRefusedInChunk, scan_with_code};
+ghost use Rattle.mpeg_scan.specs.ScannerState.{is_header_full};
+ghost use Rattle.mpeg_scan.specs.ScannerState.{scan_with_byte};
 
 use crate::codes::{Code, Prefix};
 use crate::faults::{FilmFault, ScanRefused, code_fault, header_fault, last_fault};
-use crate::found::{Found, tell};
 use crate::header_bytes::HeaderBytes;
 use crate::tallies::Tally;
 use crate::units::MAX_FILM_BYTES;
+use crate::visitor::{Found, tell};
 use memchr::memchr;
 
 /// How far a film was read: what is kept of its bytes.
@@ -38,7 +40,7 @@ pub(crate) struct Progress {
 impl Progress {
     /// Before the first byte.
     pub(crate) fn new() -> Progress
-        ensures read { HasRead result [] }
+        ensures read { HasReadBytes result [] }
         ensures room { IsAhead result }
         ensures slices { (tally_now result).slices ≡ 0 }
     {
@@ -83,7 +85,7 @@ impl Progress {
     }
 
     /// Judges a code.
-    #[tactic(auto, unfolding(crate::specs::Steps::code_judgement))]
+    #[tactic(auto, unfolding(crate::specs::CodeSteps::code_judgement))]
     fn judge(&self, place: u64, value: u8) -> Result<Tally, FilmFault>
         requires room { HasRoomWith self.now.latest self.now.tally place }
         requires within { place ≤ 2 ^ 40 }
@@ -139,13 +141,13 @@ impl Progress {
         requires short { self.old.fed < 2 ^ 40 }
         requires room { IsAhead self.old }
         requires ready { AwaitsSlice (F.ready_at found.old) (tally_now self.old) }
-        ensures kept { OnOk result ((r : List ℕ) → HasRead self.old r →
-            HasRead self.new (byte ∷ r)) }
-        ensures heard { OnOk result ((r : List ℕ) (calls : List Call) → HasRead self.old r →
+        ensures kept { OnOk result ((r : List ℕ) → HasReadBytes self.old r →
+            HasReadBytes self.new (byte ∷ r)) }
+        ensures heard { OnOk result ((r : List ℕ) (calls : List Call) → HasReadBytes self.old r →
             F.heard found.old (calls ++ calls_of (codes_of r))
             → F.heard found.new (calls ++ calls_of (codes_of (byte ∷ r)))) }
         ensures fault { (f : FilmFault) → result ≡ Err (ScanRefused.Fault f) → (r : List ℕ) →
-            HasRead self.old r
+            HasReadBytes self.old r
             → first_fault (codes_of (byte ∷ r)) ≡ Some f }
         ensures unheard { (f : FilmFault) → result ≡ Err (ScanRefused.Fault f) →
             found.new ≡ found.old }
@@ -181,9 +183,9 @@ impl Progress {
     fn skip(&mut self, rest: &[u8]) -> usize
         requires { self.old.fed + length rest.now < 2 ^ 41 }
         ensures bound { result ≤ length rest.now }
-        ensures kept { (r : List ℕ) → HasRead self.old r →
-            HasRead self.new (read_after r (take result rest.now)) }
-        ensures quiet { (r : List ℕ) → HasRead self.old r →
+        ensures kept { (r : List ℕ) → HasReadBytes self.old r →
+            HasReadBytes self.new (read_after r (take result rest.now)) }
+        ensures quiet { (r : List ℕ) → HasReadBytes self.old r →
             codes_of (read_after r (take result rest.now)) ≡ codes_of r }
         ensures fed { self.new.fed ≡ self.old.fed + result }
         ensures prefix { self.new.prefix ≡ self.old.prefix }
@@ -207,17 +209,17 @@ impl Progress {
         requires short { self.old.fed + length chunk.now ≤ 2 ^ 40 }
         requires room { IsAhead self.old }
         requires ready { AwaitsSlice (F.ready_at found.old) (tally_now self.old) }
-        ensures kept { OnOk result ((r : List ℕ) → HasRead self.old r →
-            HasRead self.new (read_after r chunk.now)) }
-        ensures heard { OnOk result ((r : List ℕ) (calls : List Call) → HasRead self.old r →
+        ensures kept { OnOk result ((r : List ℕ) → HasReadBytes self.old r →
+            HasReadBytes self.new (read_after r chunk.now)) }
+        ensures heard { OnOk result ((r : List ℕ) (calls : List Call) → HasReadBytes self.old r →
             F.heard found.old (calls ++ calls_of (codes_of r))
             → F.heard found.new (calls ++ calls_of (codes_of (read_after r chunk.now)))) }
         ensures fault { (f : FilmFault) → result ≡ Err (ScanRefused.Fault f) → (r : List ℕ) →
-            HasRead self.old r
+            HasReadBytes self.old r
             → first_fault (codes_of (read_after r chunk.now)) ≡ Some f }
         ensures heard_before { (f : FilmFault) → result ≡ Err (ScanRefused.Fault f) →
             (r : List ℕ) (calls : List Call)
-            → HasRead self.old r → F.heard found.old (calls ++ calls_of (codes_of r))
+            → HasReadBytes self.old r → F.heard found.old (calls ++ calls_of (codes_of r))
             → IsRefusedInChunk (F.heard found.new) r chunk.now calls f }
         ensures fed { self.new.fed ≤ self.old.fed + length chunk.now }
         ensures room { OnOk result
@@ -237,7 +239,7 @@ impl Progress {
     }
 
     /// Judges the film's end.
-    #[tactic(auto, unfolding(crate::specs::Steps::end_judgement))]
+    #[tactic(auto, unfolding(crate::specs::CodeSteps::end_judgement))]
     fn judge_end(&self) -> Result<Tally, FilmFault>
         requires room { HasRoomWith self.now.latest self.now.tally self.now.fed }
         requires within { self.now.fed ≤ 2 ^ 40 }
@@ -262,9 +264,9 @@ impl Progress {
         ensures sliced { IfOk result (λ t. 0 < t.slices) }
         ensures rated { IfOk result (λ t. IsSome t.rate) }
         ensures short { OnOk result (self.now.fed ≤ 2 ^ 40) }
-        ensures accepted { IfOk result (λ t. (r : List ℕ) → HasRead self.now r →
+        ensures accepted { IfOk result (λ t. (r : List ℕ) → HasReadBytes self.now r →
             (refusal_of r ≡ None) × (t ≡ tally_of (codes_of r))) }
-        ensures fault { IfErr result (λ f. (r : List ℕ) → HasRead self.now r →
+        ensures fault { IfErr result (λ f. (r : List ℕ) → HasReadBytes self.now r →
             refusal_of r ≡ Some f) }
     {
         if self.fed == 0 {

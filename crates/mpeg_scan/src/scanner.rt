@@ -2,11 +2,11 @@
 
 ghost use Rattle.std.specs.Prelude.{◌≡◌, None};
 ghost use Rattle.mpeg_scan.specs.declared.faults.FilmFault.{FilmFault};
-ghost use Rattle.mpeg_scan.specs.Room.{IsAhead};
+ghost use Rattle.mpeg_scan.specs.ScanBounds.{IsAhead};
 
 use crate::faults::ScanRefused;
-use crate::found::{Found, tell_unit};
 use crate::progress::Progress;
+use crate::visitor::{Found, tell_unit};
 
 /// Reads a film once from the front, in chunks, and keeps none of it: it tells a `Found` of each
 /// part when it has ended.
@@ -21,15 +21,16 @@ impl Scanner {
     ghost use Rattle.std.specs.Prelude.{◌+◌, ◌^◌, ◌≤◌, ◌++◌, ℕ, List, [], Some, Err, IfOk, OnOk};
     ghost use Rattle.std.specs.Prelude.{length};
     ghost use Rattle.mpeg_scan.specs.Calls.{Call, all_calls, calls_of};
-    ghost use Rattle.mpeg_scan.specs.Codes.{codes_of, read_after};
-    ghost use Rattle.mpeg_scan.specs.Counts.{AreNumbered};
-    ghost use Rattle.mpeg_scan.specs.Faults.{first_fault, refusal_of};
+    ghost use Rattle.mpeg_scan.specs.StartCodes.{codes_of, read_after};
+    ghost use Rattle.mpeg_scan.specs.UnitNumbering.{AreNumbered};
+    ghost use Rattle.mpeg_scan.specs.FilmFaults.{first_fault, refusal_of};
     ghost use Rattle.mpeg_scan.specs.Grammar.{IsGrammatical};
-    ghost use Rattle.mpeg_scan.specs.Scans.{HasScannedBytes, IsReady, IsRefusedInChunk, bytes_fed};
-    ghost use Rattle.mpeg_scan.specs.Scans.{open_slices};
-    ghost use Rattle.mpeg_scan.specs.Scans.{refused_by};
-    ghost use Rattle.mpeg_scan.specs.Tiles.{Tiles};
-    ghost use Rattle.mpeg_scan.specs.Words.{rate_of};
+    ghost use Rattle.mpeg_scan.specs.ScannerState.{HasScannedBytes, IsSliceReady, IsRefusedInChunk};
+    ghost use Rattle.mpeg_scan.specs.ScannerState.{bytes_fed};
+    ghost use Rattle.mpeg_scan.specs.ScannerState.{open_slices};
+    ghost use Rattle.mpeg_scan.specs.ScannerState.{refused_by};
+    ghost use Rattle.mpeg_scan.specs.PartTiling.{Tiles};
+    ghost use Rattle.mpeg_scan.specs.CodeFacts.{rate_of};
 
     /// Before the first byte.
     pub fn new() -> Scanner
@@ -47,11 +48,11 @@ impl Scanner {
     /// # Errors
     ///
     /// [`ScanRefused::Fault`] where a code is refused, once all that ends before that code was
-    /// told; [`ScanRefused::NoMemory`] where `found` wants memory. Once it has answered either, it
-    /// answers the same again.
+    /// told; [`ScanRefused::NoMemory`] where `found` runs out of memory. Once it has answered
+    /// either, it answers the same again.
     pub fn feed<F: Found>(&mut self, chunk: &[u8], found: &mut F) -> Result<(), ScanRefused>
         requires short { bytes_fed self.old + length chunk.now ≤ 2 ^ 40 }
-        requires ready { IsReady (F.ready_at found.old) self.old }
+        requires ready { IsSliceReady (F.ready_at found.old) self.old }
         ensures kept { OnOk result ((r : List ℕ) → HasScannedBytes self.old r →
             HasScannedBytes self.new (read_after r chunk.now)) }
         ensures heard { OnOk result ((r : List ℕ) (calls : List Call) → HasScannedBytes self.old r →
@@ -67,7 +68,7 @@ impl Scanner {
         ensures refused { (e : ScanRefused) → result ≡ Err e → refused_by self.new ≡ Some e }
         ensures again { (e : ScanRefused) → refused_by self.old ≡ Some e
             → (result ≡ Err e) × (self.new ≡ self.old) × (found.new ≡ found.old) }
-        ensures ready { IsReady (F.ready_at found.new) self.new }
+        ensures ready { IsSliceReady (F.ready_at found.new) self.new }
         ensures fed { bytes_fed self.new ≤ bytes_fed self.old + length chunk.now }
     {
         if let Some(refused) = self.refused {
@@ -87,9 +88,9 @@ impl Scanner {
     /// # Errors
     ///
     /// What `feed` has answered before; else [`ScanRefused::Fault`] with the refusal of the film's
-    /// end, where nothing is told, or [`ScanRefused::NoMemory`] where `found` wants memory.
+    /// end, where nothing is told, or [`ScanRefused::NoMemory`] where `found` runs out of memory.
     pub fn finish<F: Found>(self, found: &mut F) -> Result<Ending, ScanRefused>
-        requires { IsReady (F.ready_at found.old) self }
+        requires { IsSliceReady (F.ready_at found.old) self }
         ensures ended { IfOk result (λ e. (r : List ℕ) → HasScannedBytes self r
             → (refusal_of r ≡ None) × (e.rate ≡ rate_of (codes_of r)) × (e.bytes ≡ length r)) }
         ensures tiled { OnOk result ((r : List ℕ) → HasScannedBytes self r →
@@ -120,7 +121,7 @@ impl Scanner {
     }
 }
 
-/// What a whole film has besides its units.
+/// What a whole film has in addition to its units.
 #[derive(Clone, Copy, Debug, PartialEq, Eq)]
 pub struct Ending {
     /// The rate code of its first sequence header, from 1 to 8.

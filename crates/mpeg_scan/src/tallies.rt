@@ -1,10 +1,12 @@
 //! What the start codes so far say of the latest unit: its picture header, counts and places.
 
 ghost use Rattle.std.specs.Prelude.{◌≡◌, ◌^◌, ◌≤◌, ℕ, List, []};
-ghost use Rattle.mpeg_scan.specs.Room.{HasCounts};
-ghost use Rattle.mpeg_scan.specs.Words.{header_of, is_head, is_slice, rate_code, tally_of, type_of};
-ghost use Rattle.mpeg_scan.specs.Steps.{next, next_all_slices, next_before_group, next_pictures};
-ghost use Rattle.mpeg_scan.specs.Steps.{next_rate};
+ghost use Rattle.mpeg_scan.specs.ScanBounds.{HasCounts};
+ghost use Rattle.mpeg_scan.specs.CodeFacts.{header_of, is_head, is_slice, rate_code, tally_of};
+ghost use Rattle.mpeg_scan.specs.CodeFacts.{type_of};
+ghost use Rattle.mpeg_scan.specs.CodeSteps.{next, next_all_slices, next_before_group};
+ghost use Rattle.mpeg_scan.specs.CodeSteps.{next_pictures};
+ghost use Rattle.mpeg_scan.specs.CodeSteps.{next_rate};
 ghost use Rattle.mpeg_scan.specs.TallyFields.{count_of, ends_unit, new_unit, slices_with};
 ghost use Rattle.mpeg_scan.specs.TallyFields.{unit_after, unit_or_none, unit_with};
 
@@ -242,7 +244,7 @@ impl Tally {
     }
 
     /// The same with one code more, whose header is complete.
-    #[tactic(auto, unfolding(crate::specs::Steps::next))]
+    #[tactic(auto, unfolding(crate::specs::CodeSteps::next))]
     pub(crate) fn next(&self, code: &Code) -> Tally
         requires { HasCounts self.now (2 ^ 41) }
         ensures { result ≡ next self.now code.now }

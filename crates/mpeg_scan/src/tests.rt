@@ -5,10 +5,8 @@ ghost use Rattle.std.specs.Prelude.{⊤, ◌<◌};
 
 mod refusals;
 
-use crate::{
-    FilmFault, Found, Kind, ScanRefused, Scanner, Unit, law_film, law_start_codes, picture_time,
-    scan,
-};
+use crate::laws::{law_film_is_well_formed, law_start_codes_are_those_in_the_bytes};
+use crate::{FilmFault, Found, Kind, ScanRefused, Scanner, Unit, picture_time, scan};
 use std::alloc::{AllocError, Global};
 use std::test::Fail;
 use vod_base::NoMemory;
@@ -138,14 +136,14 @@ fn picture_of(coding_type: u8) -> [u8; 8]
 #[test]
 fn units_of_films(rt: HostRuntime) -> Result<(), Fail> {
     let bytes = joined(rt.alloc(), &[&SEQUENCE, &GROUP, &PICTURE_I, &SLICE])?;
-    law_start_codes();
+    law_start_codes_are_those_in_the_bytes();
     let film = scan(rt.alloc(), bytes)?;
     assert_eq!(rt; film.rate, 3);
     assert_eq!(rt; film.picture_time(), 14400);
     assert_eq!(rt; film.bytes.len(), 34);
     assert_eq!(rt; film.units.as_slice(), [UNIT_A].as_slice());
     assert_eq!(rt; film.slice_starts.as_slice(), [28].as_slice());
-    law_film(&film);
+    law_film_is_well_formed(&film);
     let bytes = joined(
         rt.alloc(),
         &[&SEQUENCE, &GROUP, &PICTURE_I, &SLICE, &PICTURE_P, &SLICE],

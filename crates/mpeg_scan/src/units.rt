@@ -1,9 +1,9 @@
 //! The pictures of a film with their headers and slices, and how long a picture lasts.
 
 ghost use Rattle.std.specs.Prelude.{◌≡◌, ◌≤◌};
-ghost use Rattle.mpeg_scan.specs.Rates.{picture_time};
-ghost use Rattle.mpeg_scan.specs.Standard.{type_number};
-ghost use Rattle.mpeg_scan.specs.Words.{kind_of};
+ghost use Rattle.mpeg_scan.specs.PictureRates.{picture_time};
+ghost use Rattle.mpeg_scan.specs.StandardUnits.{type_number};
+ghost use Rattle.mpeg_scan.specs.CodeFacts.{kind_of};
 
 /// The most bytes of a film, 2^40.
 pub const MAX_FILM_BYTES: u64 = 1 << 40;

@@ -3,7 +3,7 @@
 ghost use Rattle.std.specs.Prelude.{◌≡◌, None, IfOk, IfSome};
 
 use crate::faults::Faults;
-use crate::links::TcpLink;
+use crate::links::{TcpLink, link_over};
 use crate::slots::SlotClock;
 use std::alloc::Global;
 use std::net::{Ipv4Addr, Net, SocketAddr, TcpListener, TcpStream};
@@ -37,12 +37,12 @@ impl<'a, R: Net<Listener = TcpListener, Stream = TcpStream> + Clock> DialGate<'a
     /// The connection, where it wasn't given yet.
     fn next_link(&mut self) -> io::Result<Option<TcpLink<'a, R>>>
         ensures faults { self.new.faults ≡ self.old.faults }
-        ensures fresh { IfOk result (λ next. IfSome next (λ link. link.faults.count ≡ 0)) }
+        ensures fresh { IfOk result (λ next. IfSome next (λ link. link.faults ≡ 0)) }
     {
         let Some(dialed) = self.call.give() else {
             return Ok(None);
         };
-        let link = TcpLink::new(self.rt, self.alloc, dialed.stream, dialed.clock)?;
+        let link = link_over(self.rt, self.alloc, dialed.stream, dialed.clock)?;
         Ok(Some(link))
     }
 }
@@ -128,6 +128,6 @@ fn dial<R: Net<Listener = TcpListener, Stream = TcpStream> + Clock>(
     let stream = TcpStream::connect(rt, SocketAddr::from((Ipv4Addr::LOCALHOST, how.port)))?;
     Ok(Dialed {
         stream,
-        clock: SlotClock::start(rt, how)?,
+        clock: SlotClock::start(rt, how.slot_units)?,
     })
 }

@@ -1,7 +1,7 @@
 //! Counts of faults.
 
 ghost use Rattle.std.specs.Prelude.{◌≡◌, ◌+◌, ◌-◌, ◌^◌, ◌≤◌, ◌<◌, min, Err, IfOk, OnOk, OnErr};
-ghost use Rattle.vod_base.specs.Outside.{HasRisen, one_more};
+ghost use Rattle.vod_base.specs.IoState.{HasRisen, one_more};
 
 use std::io;
 use std::io::ErrorKind;

@@ -1,190 +1,128 @@
 //! A gate that takes connections, as a server does.
 
-ghost use Rattle.std.specs.Prelude.{◌≡◌, None, IfOk, IfSome};
+ghost use Rattle.std.specs.Prelude.{[], false};
 
-use crate::faults::{Faults, end_of_count};
-use crate::links::TcpLink;
+use crate::faults::Faults;
+use crate::links::{TcpLink, link_over};
 use crate::slots::SlotClock;
+use listener_gate::{AcceptError, Listener, ListenerFault, ListenerGate, accept_error_of};
 use std::alloc::Global;
-use std::io;
-use std::io::ErrorKind;
 use std::net::{Ipv4Addr, Net, SocketAddr, TcpListener, TcpStream};
-use std::time::Clock;
-use vod_base::{Gate, GateFault, Opening};
+use std::time::{Clock, Duration};
+use std::{io, thread};
 
-/// A TCP port that connections come to. Slots count from its opening, and are as long as
-/// [`Opening`] says, in 1/360,000 second.
+/// A gate over a TCP port that connections come to, made by [`ListenerGate::new`] over a
+/// [`TcpPort`].
+pub type TcpGate<'a, R> = ListenerGate<TcpPort<'a, R>>;
+
+/// A listening TCP socket of the system. It tells contracts nothing: what each call does is one
+/// call
+/// of std.
 #[derive(Drop)]
-pub struct TcpGate<'a, R: Net<Listener = TcpListener, Stream = TcpStream> + Clock> {
+pub struct TcpPort<'a, R: Net<Listener = TcpListener, Stream = TcpStream> + Clock> {
     rt: &'a R,
     alloc: Global,
-    open: Option<OpenPort>,
-    /// The connections that were given.
-    given: u64,
+    bound: Option<BoundPort>,
     faults: Faults,
 }
 
-impl<'a, R: Net<Listener = TcpListener, Stream = TcpStream> + Clock> TcpGate<'a, R> {
-    /// A gate that isn't open.
-    pub fn new(rt: &'a R, alloc: Global) -> TcpGate<'a, R> {
-        TcpGate {
+/// A socket that is bound.
+#[derive(Drop)]
+struct BoundPort {
+    listener: TcpListener,
+    clock: SlotClock,
+}
+
+impl<'a, R: Net<Listener = TcpListener, Stream = TcpStream> + Clock> TcpPort<'a, R> {
+    /// A socket that isn't bound.
+    pub fn new(rt: &'a R, alloc: Global) -> TcpPort<'a, R> {
+        TcpPort {
             rt,
             alloc,
-            open: None,
-            given: 0,
+            bound: None,
             faults: Faults::new(),
         }
     }
 
-    /// The port of a gate that is open; None where it isn't, or where the system doesn't tell.
+    /// The port that it is bound to; None where it isn't, or where the system doesn't tell.
     pub fn port(&self) -> Option<u16> {
-        let open = self.open.as_ref()?;
-        Some(open.listener.local_addr().ok()?.port())
-    }
-
-    /// Another handle of the open port.
-    fn copied_port(&self) -> io::Result<OpenPort> {
-        match &self.open {
-            Some(port) => port.copy(),
-            None => Err(io::Error::from(ErrorKind::NotConnected)),
-        }
-    }
-
-    /// The next connection that can be set up, or None where all were given. One that can't be, for
-    /// want of memory or of a file descriptor, is closed: it is the loss of one, not of a worker.
-    fn next_link(&mut self) -> io::Result<Option<TcpLink<'a, R>>>
-        ensures faults { self.new.faults ≡ self.old.faults }
-        ensures fresh { IfOk result (λ next. IfSome next (λ link. link.faults.count ≡ 0)) }
-    {
-        let Some(port) = &self.open else {
-            return Err(io::Error::from(ErrorKind::NotConnected));
-        };
-        if port.most.is_some_and(|most| self.given >= most) {
-            return Ok(None);
-        }
-        for _ in 0..u64::MAX {
-            let stream = port.accept()?;
-            if let Ok(link) = TcpLink::new(self.rt, self.alloc, stream, port.clock) {
-                self.given = self.given.saturating_add(1);
-                return Ok(Some(link));
-            }
-        }
-        Err(end_of_count())
+        let bound = self.bound.as_ref()?;
+        Some(bound.listener.local_addr().ok()?.port())
     }
 }
 
-impl<'a, R: Net<Listener = TcpListener, Stream = TcpStream> + Clock> Gate for TcpGate<'a, R> {
+impl<'a, R: Net<Listener = TcpListener, Stream = TcpStream> + Clock> Listener for TcpPort<'a, R> {
     type Conn = TcpLink<'a, R>;
 
-    ghost faults = { λ g. g.faults.count };
+    ghost faults = { λ l. l.faults.count };
 
-    ghost told = { λ _. None };
+    ghost tells = { false };
 
-    fn open(&mut self, how: &Opening) -> Result<(), GateFault> {
-        self.open = None;
-        self.given = 0;
-        let port = self.faults.pass_on(open_port(self.rt, how), GateFault)?;
-        self.open = Some(port);
+    ghost did = { λ _. [] };
+
+    ghost ended = { λ _. 0 };
+
+    fn bind(&mut self, address: [u8; 4], port: u16, slot_units: u32) -> Result<(), ListenerFault> {
+        self.bound = None;
+        let bound = bind_port(self.rt, address, port, slot_units);
+        self.bound = Some(self.faults.pass_on(bound, ListenerFault)?);
         Ok(())
     }
 
-    fn split(&mut self) -> Result<Self, GateFault> {
-        let copied = self.copied_port();
-        let copied = self.faults.pass_on(copied, GateFault)?;
-        Ok(TcpGate {
+    fn copy(&mut self) -> Result<TcpPort<'a, R>, ListenerFault> {
+        let Some(bound) = &self.bound else {
+            self.faults.add();
+            return Err(ListenerFault);
+        };
+        let clock = bound.clock;
+        let listener = self
+            .faults
+            .pass_on(bound.listener.try_clone(), ListenerFault)?;
+        Ok(TcpPort {
             rt: self.rt,
             alloc: self.alloc,
-            open: Some(copied),
-            given: 0,
+            bound: Some(BoundPort { listener, clock }),
             faults: Faults::new(),
         })
     }
 
-    fn take(&mut self) -> Result<Option<TcpLink<'a, R>>, GateFault> {
-        let next = self.next_link();
-        self.faults.pass_on(next, GateFault)
+    /// A connection that can't be set up, for want of memory or of a file descriptor, is closed.
+    fn accept(&mut self) -> Result<TcpLink<'a, R>, AcceptError> {
+        let Some(bound) = &self.bound else {
+            self.faults.add();
+            return Err(AcceptError::Broken);
+        };
+        let error = match bound.listener.accept() {
+            Ok((stream, _)) => match link_over(self.rt, self.alloc, stream, bound.clock) {
+                Ok(link) => return Ok(link),
+                Err(_) => AcceptError::Shortage,
+            },
+            Err(error) => accept_error_of(error.raw_os_error()),
+        };
+        if error == AcceptError::Broken {
+            self.faults.add();
+        }
+        Err(error)
     }
 
-    fn give_back(&mut self, conn: TcpLink<'a, R>) {
+    fn wait(&mut self, ms: u64) -> Result<(), ListenerFault> {
+        thread::sleep(self.rt, Duration::from_millis(ms));
+        Ok(())
+    }
+
+    fn end(&mut self, conn: TcpLink<'a, R>) {
         conn.end();
     }
-
-    fn rejoin(&mut self, part: Self) {
-        self.faults.join(part.faults);
-    }
 }
 
-/// An open port.
-#[derive(Drop)]
-struct OpenPort {
-    listener: TcpListener,
-    clock: SlotClock,
-    /// The most connections that are given, if there is an end.
-    most: Option<u64>,
-}
-
-impl OpenPort {
-    /// Another handle of the same port.
-    fn copy(&self) -> io::Result<OpenPort> {
-        Ok(OpenPort {
-            listener: self.listener.try_clone()?,
-            clock: self.clock,
-            most: self.most,
-        })
-    }
-
-    /// Waits for the next connection.
-    fn accept(&self) -> io::Result<TcpStream> {
-        for _ in 0..u64::MAX {
-            match self.listener.accept() {
-                Ok((stream, _)) => return Ok(stream),
-                Err(error) if is_transient(&error) => {}
-                Err(error) => return Err(error),
-            }
-        }
-        Err(end_of_count())
-    }
-}
-
-/// Opens a port.
-fn open_port<R: Net<Listener = TcpListener, Stream = TcpStream> + Clock>(
+/// Binds a socket to an address and a port. Slot 0 begins now.
+fn bind_port<R: Net<Listener = TcpListener, Stream = TcpStream> + Clock>(
     rt: &R,
-    how: &Opening,
-) -> io::Result<OpenPort> {
-    let host = if how.all {
-        Ipv4Addr::UNSPECIFIED
-    } else {
-        Ipv4Addr::LOCALHOST
-    };
-    let listener = TcpListener::bind(rt, SocketAddr::from((host, how.port)))?;
-    Ok(OpenPort {
-        listener,
-        clock: SlotClock::start(rt, how)?,
-        most: match how.connections {
-            0 => None,
-            most => Some(most),
-        },
-    })
-}
-
-/// The numbers of Linux's errors that `accept` hands on from the network of the connection that it
-/// was to take, where they have no kind of their own: EPERM, ENONET, EPROTO, ENOPROTOOPT,
-/// EOPNOTSUPP and EHOSTDOWN. Linux's accept(2) says to try again after each.
-const TRANSIENT: [i32; 6] = [1, 64, 71, 92, 95, 112];
-
-/// Whether an `accept` that failed so is to be tried again: it failed for a signal, for a
-/// connection that ended before it was taken, or for the network of that connection.
-fn is_transient(error: &io::Error) -> bool {
-    let of_kind = matches!(
-        error.kind(),
-        ErrorKind::Interrupted
-            | ErrorKind::ConnectionAborted
-            | ErrorKind::NetworkDown
-            | ErrorKind::NetworkUnreachable
-            | ErrorKind::HostUnreachable
-    );
-    of_kind
-        || error
-            .raw_os_error()
-            .is_some_and(|code| TRANSIENT.contains(&code))
+    address: [u8; 4],
+    port: u16,
+    slot_units: u32,
+) -> io::Result<BoundPort> {
+    let listener = TcpListener::bind(rt, SocketAddr::from((Ipv4Addr::from(address), port)))?;
+    let clock = SlotClock::start(rt, slot_units)?;
+    Ok(BoundPort { listener, clock })
 }

@@ -9,15 +9,14 @@ mod dials;
 mod faults;
 mod files;
 mod gates;
-mod gathers;
 mod links;
 mod outputs;
 mod slots;
 
 pub use dials::DialGate;
 pub use files::FileLibrary;
-pub use gates::TcpGate;
-pub use links::TcpLink;
+pub use gates::{TcpGate, TcpPort};
+pub use links::{TcpLink, TcpSocket};
 pub use outputs::OutSink;
 
 #[cfg(test)]

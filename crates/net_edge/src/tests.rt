@@ -1,5 +1,7 @@
 //! Over the loopback interface and the test's own folder.
 
+mod sockets;
+
 ghost use Rattle.std.specs.Prelude.{IfSome};
 ghost use Rattle.vod_base.specs.Gates.{MaySplit};
 
@@ -29,11 +31,11 @@ fn open_gate<'a, R: Net<Listener = TcpListener, Stream = TcpStream> + Clock>(
     alloc: Global,
     how: &Opening,
 ) -> Result<(TcpGate<'a, R>, u16), Fail> {
-    let mut gate = TcpGate::new(rt, alloc);
+    let mut gate = TcpGate::new(TcpPort::new(rt, alloc));
     if gate.open(how).is_err() {
         return Err(Fail::from("the port isn't open"));
     }
-    match gate.port() {
+    match gate.listener().port() {
         Some(port) => Ok((gate, port)),
         None => Err(Fail::from("no port")),
     }
@@ -153,7 +155,7 @@ fn speaks_over_loopback(rt: HostRuntime) -> Result<(), Fail> {
 #[test]
 fn refuses_a_port_in_use(rt: HostRuntime) -> Result<(), Fail> {
     let (_gate, port) = open_gate(&rt, rt.alloc(), &HOW)?;
-    let mut second = TcpGate::new(&rt, rt.alloc());
+    let mut second = TcpGate::new(TcpPort::new(&rt, rt.alloc()));
     assert_eq!(rt; second.open(&Opening { port, ..HOW }), Err(GateFault));
     assert!(rt; second.split().is_err());
     Ok(())

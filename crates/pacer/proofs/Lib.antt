@@ -1,4 +1,4 @@
-pub mod SendingLemmas
-pub mod PacingLemmas
-pub mod SlotLemmas
-mod ByteLemmas
+pub mod SendLemmas
+pub mod PacerStateLemmas
+pub mod SlotStepLemmas
+mod PlanBytesLemmas

@@ -1,5 +1,5 @@
 pub mod Boundaries
-pub mod Sending
-pub mod Pacings
+pub mod PartialSends
+pub mod PacerStates
 pub mod Steps
 pub mod Laws

@@ -1,12 +1,12 @@
 -- What a step answers, and what it leaves where a send failed.
 use Rattle.std.specs.Prelude.{ℕ, ◌≡◌, ◌+◌, ◌-◌, ◌≤◌, ◌<◌, Bool, Option, List}
-use Rattle.vod_base.specs.Links.{Doing, told_more, sends}
+use Rattle.vod_base.specs.Links.{IoEvent, told_more, sends}
 use Rattle.film_frames.specs.Tracks.{IsBoundary, IsHeadEnd}
 use Rattle.pacer.specs.declared.pacers.Stepped.{Stepped}
-use Rattle.pacer.specs.Pacings.{Pacing, at_slot, plan_bytes, step_end}
+use Rattle.pacer.specs.PacerStates.{PacerState, at_slot, plan_bytes, step_end}
 
 -- the bytes that the step sent, and those that are due and weren't sent
-pub record IsStepped (old new : Pacing) (step : Stepped) : Type 0 where
+pub record IsStepped (old new : PacerState) (step : Stepped) : Type 0 where
   pub sent : step.sent ≡ new.sent - old.sent
   pub left : step.left ≡ new.due - new.sent
 
@@ -14,8 +14,8 @@ pub record IsStepped (old new : Pacing) (step : Stepped) : Type 0 where
 -- past the step's end; and the front of one more went out, which is of one report, or of the heads
 -- or the payload of one frame. So all that went out before counts as sent: whole frames and
 -- reports, and the heads of a frame of whose payload some went out.
-pub record HasFailed (stop : Bool) (slot : ℕ) (old new : Pacing)
-    (told_old told_new : Option (List Doing)) : Type 0 where
+pub record HasFailed (stop : Bool) (slot : ℕ) (old new : PacerState)
+    (told_old told_new : Option (List IoEvent)) : Type 0 where
   pub state : new ≡ record (at_slot slot old) { sent = new.sent }
   pub least : old.sent ≤ new.sent
   pub before_end : new.sent < step_end stop (at_slot slot old)

@@ -1,16 +1,16 @@
 //! What is sent in each slot, and that it is the whole track in the end.
 
-ghost use Rattle.pacer.specs.Laws.{BringsNothing, DoPartsJoin, OfSteps, SendsNext};
+ghost use Rattle.pacer.specs.Laws.{SendsNothing, DoPartsJoin, OfSteps, SendsNext};
 ghost use Rattle.pacer.specs.Laws.{SendsTheTrack, SendsThrough, StopsAtBoundary};
-ghost use Rattle.pacer.specs.Laws.{TellsBoundaries, TellsTheEnd};
-ghost use Rattle.pacer.specs.Pacings.{IsPacing, Pacing};
+ghost use Rattle.pacer.specs.Laws.{IsBoundaryExact, IsDoneExact};
+ghost use Rattle.pacer.specs.PacerStates.{IsPacerState, PacerState};
 
 /// What is due in a slot: nothing before the plan's start, and from then on exactly what the plan
 /// has through that slot, not a slot earlier or later. Where slots are stepped one after another,
 /// each brings its own bytes of the plan; missed ones are made up in the next. A step with a stop
 /// sends nothing past the first boundary at or after what was sent.
-pub fn law_slots_sent()
-    ensures before { OfSteps BringsNothing }
+pub fn law_each_slot_sends_its_plan_bytes()
+    ensures before { OfSteps SendsNothing }
     ensures through { OfSteps SendsThrough }
     ensures next { OfSteps SendsNext }
     ensures stop { OfSteps StopsAtBoundary }
@@ -20,9 +20,9 @@ pub fn law_slots_sent()
 /// into slots. What was sent stands at a boundary exactly where it ends with a whole frame or
 /// report, or nothing was sent of the track. A play is done exactly where a slot of its plan was
 /// stepped and nothing is left of what is kept.
-pub fn law_bytes_sent()
-    ensures parts { (p : Pacing) → IsPacing p → DoPartsJoin p }
-    ensures all { (p : Pacing) → IsPacing p → SendsTheTrack p }
-    ensures boundary { (p : Pacing) → IsPacing p → TellsBoundaries p }
-    ensures done { (p : Pacing) → IsPacing p → TellsTheEnd p }
+pub fn law_plan_bytes_are_track_bytes()
+    ensures parts { (p : PacerState) → IsPacerState p → DoPartsJoin p }
+    ensures all { (p : PacerState) → IsPacerState p → SendsTheTrack p }
+    ensures boundary { (p : PacerState) → IsPacerState p → IsBoundaryExact p }
+    ensures done { (p : PacerState) → IsPacerState p → IsDoneExact p }
 {}

@@ -3,11 +3,10 @@
 //! of a frame, so that a reply goes out between frames, and it can be halted there for good.
 #![tactic(auto)]
 
-mod laws;
+pub mod laws;
+mod link_writes;
 mod pacers;
-mod sending;
 
-pub use laws::{law_bytes_sent, law_slots_sent};
 pub use pacers::{Pacer, Stepped};
 
 #[cfg(test)]

@@ -2,13 +2,13 @@
 
 ghost use Rattle.std.specs.Prelude.{◌≡◌, ◌+◌, ◌-◌, ◌*◌, ◌^◌, ◌≤◌, ◌<◌, ◌↔◌, Some, None, IsTrue};
 ghost use Rattle.std.specs.Prelude.{length, take, min, max, OnOk, OnErr, IfOk, true, false};
-ghost use Rattle.vod_base.specs.Outside.{HasRisen};
+ghost use Rattle.vod_base.specs.IoState.{HasRisen};
 ghost use Rattle.vod_base.specs.Links.{told_more, sends};
 ghost use Rattle.film_frames.specs.Tracks.{framed_bytes, IsBoundary, IsBoundaryAfter};
-ghost use Rattle.plan_cert.specs.Slots.{total_bytes};
-ghost use Rattle.pacer.specs.Pacings.{slots_through};
+ghost use Rattle.plan_cert.specs.PlanSlots.{total_bytes};
+ghost use Rattle.pacer.specs.PacerStates.{slots_through};
 
-use crate::sending::{Stopped, send_between};
+use crate::link_writes::{SendError, send_between};
 use film_frames::Track;
 use plan_cert::{Plan, PlanCursor};
 use std::marker::Model;
@@ -48,9 +48,9 @@ pub struct Pacer<T: Track> {
 impl<T: Track> Model for Pacer<T> {
     ghost use Rattle.std.specs.Prelude.{◌≡◌, length};
     ghost use Rattle.film_frames.specs.Tracks.{framed_bytes};
-    ghost use Rattle.pacer.specs.Pacings.{Pacing, slots_through, IsPacing};
+    ghost use Rattle.pacer.specs.PacerStates.{PacerState, slots_through, IsPacerState};
 
-    ghost Value = { Pacing };
+    ghost Value = { PacerState };
 
     ghost view = { λ p. record {
       pieces = T.pieces p.track;
@@ -63,7 +63,7 @@ impl<T: Track> Model for Pacer<T> {
       sent = p.sent;
     } };
 
-    ghost invariant = { λ p. IsPacing (record {
+    ghost invariant = { λ p. IsPacerState (record {
       pieces = T.pieces p.track;
       before = p.before;
       plan = p.cursor;
@@ -77,9 +77,10 @@ impl<T: Track> Model for Pacer<T> {
 }
 
 impl<T: Track> Pacer<T> {
-    ghost use Rattle.pacer.specs.Pacings.{whole_pacing, IsPacing, next_boundary, at_slot};
-    ghost use Rattle.pacer.specs.Pacings.{plan_bytes, step_end, after_step, stands_at_boundary};
-    ghost use Rattle.pacer.specs.Pacings.{is_done};
+    ghost use Rattle.pacer.specs.PacerStates.{new_pacer_state, IsPacerState, next_boundary};
+    ghost use Rattle.pacer.specs.PacerStates.{at_slot};
+    ghost use Rattle.pacer.specs.PacerStates.{plan_bytes, step_end, after_step, stands_at_boundary};
+    ghost use Rattle.pacer.specs.PacerStates.{is_done};
     ghost use Rattle.pacer.specs.Steps.{IsStepped, HasFailed};
 
     /// A pacer of a plan that begins in slot `start`. The plan's first byte stands at the boundary
@@ -87,7 +88,7 @@ impl<T: Track> Pacer<T> {
     pub fn new(track: T, sent_before: u64, plan: Plan, start: u64) -> Pacer<T>
         requires boundary { IsBoundary (T.pieces track) sent_before }
         requires whole { sent_before + total_bytes plan ≡ length (framed_bytes (T.pieces track)) }
-        ensures { result ≡ whole_pacing (T.pieces track) sent_before plan start }
+        ensures { result ≡ new_pacer_state (T.pieces track) sent_before plan start }
     {
         let total = track.total();
         // Its clause is what holds of every plan.
@@ -151,7 +152,7 @@ impl<T: Track> Pacer<T> {
     ///
     /// [`LinkFault`] only where the link's count of faults rose. What is due was raised; `sent`
     /// counts the bytes of the sends that succeeded, also of a frame's heads where the send of its
-    /// payload failed. What the failed one brought out after them is a front of one send: of one
+    /// payload failed. What the failed one brought out after them is a prefix of one send: of one
     /// report, or of the heads or the payload of one frame.
     pub fn step<K: Link>(
         &mut self,
@@ -167,7 +168,7 @@ impl<T: Track> Pacer<T> {
         ensures answer { IfOk result (λ step. IsStepped self.old self.new step) }
         ensures failed { OnErr result
             (HasFailed stop slot self.old self.new (K.told link.old) (K.told link.new)) }
-        ensures pacing { IsPacing self.new }
+        ensures pacing { IsPacerState self.new }
     {
         self.raise(slot);
         let from = self.sent;
@@ -180,7 +181,7 @@ impl<T: Track> Pacer<T> {
                     left: self.due - to,
                 })
             }
-            Err(Stopped(sent)) => {
+            Err(SendError(sent)) => {
                 self.sent = from + sent;
                 Err(LinkFault)
             }
@@ -195,7 +196,7 @@ impl<T: Track> Pacer<T> {
         ensures state { self.new ≡ record self.old { keep = next_boundary self.old } }
         ensures boundary { IsBoundaryAfter self.old.pieces (self.old.before + self.old.sent)
             (self.old.before + result) }
-        ensures pacing { IsPacing self.new }
+        ensures pacing { IsPacerState self.new }
         ensures most { result ≤ self.old.keep }
     {
         self.keep = self.next_boundary();
@@ -203,17 +204,17 @@ impl<T: Track> Pacer<T> {
     }
 
     /// The bytes that were sent.
-    pub fn bytes_sent(&self) -> u64
+    pub fn sent(&self) -> u64
         ensures value { result ≡ self.now.sent }
-        ensures pacing { IsPacing self.now }
+        ensures pacing { IsPacerState self.now }
     {
         self.sent
     }
 
     /// The bytes that are due, among them those that were sent.
-    pub fn bytes_due(&self) -> u64
+    pub fn due(&self) -> u64
         ensures value { result ≡ self.now.due }
-        ensures pacing { IsPacing self.now }
+        ensures pacing { IsPacerState self.now }
     {
         self.due
     }
@@ -229,7 +230,7 @@ impl<T: Track> Pacer<T> {
 
     /// Whether a slot at or after the start was stepped, and all bytes of the plan were sent, or
     /// those up to where it was halted.
-    pub fn is_done(&self) -> bool
+    pub fn done(&self) -> bool
         ensures value { result ≡ is_done self.now }
         ensures all { IsTrue result → (self.now.sent ≡ self.now.keep)
             × (self.now.due ≡ self.now.keep) }

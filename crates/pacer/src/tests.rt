@@ -43,17 +43,12 @@ fn answer_to(
     let answer = match call {
         Call::Step(slot) => pacer.step(slot, false, link).ok().map(|step| step.sent),
         Call::Stop(slot) => pacer.step(slot, true, link).ok().map(|step| step.sent),
-        Call::Halt if pacer.bytes_due() == pacer.bytes_sent() => Some(pacer.ask_halt()),
+        Call::Halt if pacer.due() == pacer.sent() => Some(pacer.ask_halt()),
         Call::Halt => return Err(Fail::from("a halt before all was sent")),
     };
     Ok((
         answer,
-        (
-            pacer.bytes_sent(),
-            pacer.bytes_due(),
-            pacer.at_boundary(),
-            pacer.is_done(),
-        ),
+        (pacer.sent(), pacer.due(), pacer.at_boundary(), pacer.done()),
     ))
 }
 
@@ -113,8 +108,8 @@ fn sent_by(
         let got = answer_to(&mut pacer, &mut link, *call)?;
         assert_eq!(rt; got, (*answer, *after), "at {call:?}");
     }
-    assert_eq!(rt; link.sent_bytes().len() as u64, pacer.bytes_sent());
-    Ok(Vec::from_slice(alloc, link.sent_bytes())?)
+    assert_eq!(rt; link.sent().len() as u64, pacer.sent());
+    Ok(Vec::from_slice(alloc, link.sent())?)
 }
 
 /// All bytes of the film's play, slot after slot: the head of the report, the head of the first

@@ -1,7 +1,7 @@
-pub mod Floors
+pub mod FloorLemmas
 pub mod SlotSums
-pub mod SlotLaws
-pub mod Decimals
-pub mod Grammar
-pub mod OneText
-mod TextLaws
+pub mod PlanSlotLemmas
+pub mod DecimalLemmas
+pub mod GrammarLemmas
+pub mod CertUniqueness
+mod CertTextLemmas

@@ -9,9 +9,9 @@ use Rattle.std.proofs.lemmas.List.Sums.{sum_by-cons, sum_by-append, sum_by_push,
 use Rattle.std.proofs.lemmas.List.Elements.{All-head, All-tail}
 use Rattle.std.proofs.lemmas.List.FromFn.{length-map-range_with_len, take-map-range_with_len, map-range_with_len_more}
 use Rattle.plan_cert.specs.declared.Segment.{Segment}
-use Rattle.plan_cert.specs.Slots.{slot_of, slots_of, plan_slots, total_slots, total_bytes, sum_through}
-use Rattle.plan_cert.specs.Plan.{IsPlan, IsPlace}
-use Rattle.plan_cert.proofs.Floors.{floor_rises}
+use Rattle.plan_cert.specs.PlanSlots.{slot_of, slots_of, plan_slots, total_slots, total_bytes, sum_through}
+use Rattle.plan_cert.specs.Plan.{IsPlan, IsSlotPosition}
+use Rattle.plan_cert.proofs.FloorLemmas.{floor_rises}
 
 -- the first k slots of a segment send the floor of the line at their end
 pub sum-first_slots : (s : Segment) (k : ℕ) → 0 < s.slots → sum (map (slot_of s) (range_with_len 0 k))
@@ -121,7 +121,7 @@ sum-take-at {s} (x ∷ rest) (suc i) j some given few =
 
 -- the running sum through a slot that has a place
 pub sum_through-at : {segments : List Segment} {slot : ℕ} {s : Segment} {passed before : ℕ} → IsPlan segments →
-    IsPlace segments slot s passed before →
+    IsSlotPosition segments slot s passed before →
     before + (passed + 1) * s.bytes / s.slots ≡ sum_through segments slot
 sum_through-at {segments} {slot} {s} {passed} plan place =
     let h = sum-take-at segments place.index (passed + 1) plan.no_empty (record {
@@ -143,7 +143,7 @@ sum_through-past segments slot plan past =
 
 -- a slot that has a place
 pub slot-at : {segments : List Segment} {slot : ℕ} {s : Segment} {passed before : ℕ} → IsPlan segments →
-    IsPlace segments slot s passed before →
+    IsSlotPosition segments slot s passed before →
     (passed + 1) * s.bytes / s.slots - passed * s.bytes / s.slots ≡ slice_index (plan_slots segments) slot
 slot-at {segments} {slot} {s} {passed} plan place =
     let through = sum_through-at plan place in

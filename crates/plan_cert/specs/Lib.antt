@@ -1,5 +1,5 @@
-pub mod Slots
-pub mod Feasible
+pub mod PlanSlots
+pub mod Feasibility
 pub mod Plan
-pub mod Text
-pub mod Reading
+pub mod CertFormat
+pub mod CertGrammar

@@ -1,6 +1,6 @@
 -- What the segments of a plan keep.
 use Rattle.std.specs.Prelude.{ℕ, ◌≡◌, ◌+◌, ◌^◌, ◌<◌, ◌≤◌, List, All, take, length, slice_index_or}
-use Rattle.plan_cert.specs.Slots.{total_slots, total_bytes}
+use Rattle.plan_cert.specs.PlanSlots.{total_slots, total_bytes}
 use Rattle.plan_cert.specs.declared.Segment.{Segment}
 
 -- The segments of a plan: none is empty, and all together are small.
@@ -11,7 +11,8 @@ pub record IsPlan (segments : List Segment) : Type 0 where
 
 -- Slot `slot` is slot `passed` of this segment of the list, and the segments before it have
 -- `before` bytes.
-pub record IsPlace (segments : List Segment) (slot : ℕ) (segment : Segment) (passed before : ℕ)
+pub record IsSlotPosition (segments : List Segment) (slot : ℕ) (segment : Segment) (passed before :
+    ℕ)
     : Type 0 where
   pub index : ℕ
   pub inside : index < length segments
@@ -21,7 +22,7 @@ pub record IsPlace (segments : List Segment) (slot : ℕ) (segment : Segment) (p
   pub before_is : before ≡ total_bytes (take index segments)
 
 -- The first `count` segments of the list have these slots and bytes.
-pub record ArePassed (segments : List Segment) (count slots bytes : ℕ) : Type 0 where
+pub record HasPrefix (segments : List Segment) (count slots bytes : ℕ) : Type 0 where
   pub within : count ≤ length segments
   pub slots_are : slots ≡ total_slots (take count segments)
   pub bytes_are : bytes ≡ total_bytes (take count segments)

@@ -1,10 +1,10 @@
 //! Reading a plan slot by slot, each from where the last one stood.
 
 ghost use Rattle.std.specs.Prelude.{◌≡◌, slice_index};
-ghost use Rattle.plan_cert.specs.Slots.{plan_slots, sum_through};
+ghost use Rattle.plan_cert.specs.PlanSlots.{plan_slots, sum_through};
 
 use crate::Plan;
-use crate::segments::{Passed, slot_after, sum_after};
+use crate::segments::{SegmentPrefix, slot_after, sum_after};
 use std::marker::Model;
 
 /// A plan that is asked for one slot after the other.
@@ -16,19 +16,19 @@ use std::marker::Model;
 #[derive(Debug, Drop)]
 pub struct PlanCursor {
     plan: Plan,
-    passed: Passed,
+    passed: SegmentPrefix,
 }
 
 impl Model for PlanCursor {
     ghost use Rattle.std.specs.Prelude.{List};
     ghost use Rattle.plan_cert.specs.declared.Segment.{Segment};
-    ghost use Rattle.plan_cert.specs.Plan.{ArePassed};
+    ghost use Rattle.plan_cert.specs.Plan.{HasPrefix};
 
     ghost Value = { List Segment };
 
     ghost view = { λ c. c.plan };
 
-    ghost invariant = { λ c. ArePassed c.plan c.passed.segments c.passed.slots c.passed.bytes };
+    ghost invariant = { λ c. HasPrefix c.plan c.passed.segments c.passed.slots c.passed.bytes };
 }
 
 impl PlanCursor {
@@ -38,7 +38,7 @@ impl PlanCursor {
     {
         PlanCursor {
             plan,
-            passed: Passed::new(),
+            passed: SegmentPrefix::new(),
         }
     }
 

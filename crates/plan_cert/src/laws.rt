@@ -4,17 +4,18 @@ ghost use Rattle.std.specs.Prelude.{◌≡◌, ◌+◌, ◌-◌, ◌*◌, ◌/�
 ghost use Rattle.std.specs.Prelude.{All, List, codes, decimal, flat_map, length, map, min, take};
 ghost use Rattle.std.specs.Prelude.{sum, sum_by, slice_index, slice_index_or};
 ghost use Rattle.plan_cert.specs.declared.Segment.{Segment};
-ghost use Rattle.plan_cert.specs.Slots.{slot_of, slots_of, plan_slots, total_slots, total_bytes};
-ghost use Rattle.plan_cert.specs.Slots.{sum_through};
+ghost use Rattle.plan_cert.specs.PlanSlots.{slot_of, slots_of, plan_slots, total_slots};
+ghost use Rattle.plan_cert.specs.PlanSlots.{total_bytes};
+ghost use Rattle.plan_cert.specs.PlanSlots.{sum_through};
 ghost use Rattle.plan_cert.specs.Plan.{IsPlan};
-ghost use Rattle.plan_cert.specs.Text.{cert_text};
-ghost use Rattle.plan_cert.specs.Reading.{IsNamed};
-ghost use Rattle.plan_cert.specs.Feasible.{excess};
+ghost use Rattle.plan_cert.specs.CertFormat.{cert_text};
+ghost use Rattle.plan_cert.specs.CertGrammar.{FitCertLimits};
+ghost use Rattle.plan_cert.specs.Feasibility.{excess};
 
 /// A plan's slots are those of its segments and add up to its bytes. A slot of a segment sends the
 /// segment's bytes over its slots, rounded down or up; what its first slots have sent is the height
 /// of its straight line at their end, rounded down.
-pub fn law_slots()
+pub fn law_plan_slots_add_up_to_its_bytes()
     ensures count { (segments : List Segment) →
         length (plan_slots segments) ≡ total_slots segments }
     ensures sum { (segments : List Segment) → IsPlan segments →
@@ -31,7 +32,7 @@ pub fn law_slots()
 
 /// The running sum of a plan's slots grows in each slot by that slot's bytes, never falls, and is
 /// the plan's bytes from its last slot on.
-pub fn law_running_sum()
+pub fn law_running_sum_grows_by_each_slot()
     ensures first { (segments : List Segment) →
         sum_through segments 0 ≡ slice_index (plan_slots segments) 0 }
     ensures next { (segments : List Segment) (t : ℕ) →
@@ -46,7 +47,7 @@ pub fn law_running_sum()
 /// A law: a certificate is these lines, each ended by LF: the title, the slots and the bytes of all
 /// segments, and for each segment its slots and bytes, in this order. No other list of segments
 /// whose numbers a certificate can name has the same text.
-pub fn law_text()
+pub fn law_certificate_text_is_unique()
     ensures lines { (segments : List Segment) →
         cert_text segments ≡ flat_map (λ line. line ++ codes "\n")
         (codes "smooth 1"
@@ -54,13 +55,13 @@ pub fn law_text()
         ∷ (codes "bytes " ++ decimal (sum_by (λ s. s.bytes) segments))
         ∷ map (λ s. codes "segment " ++ decimal s.slots ++ codes " " ++ decimal s.bytes) segments
         ++ codes "end" ∷ []) }
-    ensures one { (segments others : List Segment) → IsNamed segments → IsNamed others →
+    ensures one { (segments others : List Segment) → FitCertLimits segments → FitCertLimits others →
         cert_text segments ≡ cert_text others → segments ≡ others }
 {}
 
 /// A law: what is sent above a rate and what is sent within it are together what is sent. Nothing
 /// is sent above a rate that no slot exceeds, and else something is.
-pub fn law_excess()
+pub fn law_excess_and_the_rest_are_all_bytes()
     ensures parts { (x : List ℕ) (p q : ℕ) →
         excess x p q + sum_by (λ b. min (q * b) p) x ≡ q * sum x }
     ensures none { (x : List ℕ) (p q : ℕ) →

@@ -2,19 +2,18 @@
 //! certificates.
 #![tactic(auto)]
 
-mod certs;
+mod cert_reader;
+mod cert_writer;
 mod cursors;
-mod laws;
+pub mod laws;
 mod plans;
-mod reading;
 mod segments;
 mod sums;
 
-pub use certs::write_cert;
+pub use cert_reader::{CertRead, CertText, read_cert};
+pub use cert_writer::write_cert;
 pub use cursors::PlanCursor;
-pub use laws::{law_excess, law_running_sum, law_slots, law_text};
 pub use plans::Plan;
-pub use reading::{CertRefused, CertText, read_cert};
 pub use sums::{has_bytes, has_slots};
 
 /// A straight part of a plan: `bytes` bytes sent evenly over `slots` slots.

@@ -1,11 +1,11 @@
 //! A plan: segments that are small, none of them empty.
 
 ghost use Rattle.std.specs.Prelude.{◌≡◌, ◌↔◌, slice_index, IsTrue, IfOk};
-ghost use Rattle.plan_cert.specs.Slots.{plan_slots, total_slots, total_bytes, sum_through};
+ghost use Rattle.plan_cert.specs.PlanSlots.{plan_slots, total_slots, total_bytes, sum_through};
 ghost use Rattle.plan_cert.specs.Plan.{IsPlan};
 
 use crate::Segment;
-use crate::segments::{Passed, slot_after, sum_after};
+use crate::segments::{SegmentPrefix, slot_after, sum_after};
 use crate::sums::{total_bytes, total_slots};
 use std::marker::Model;
 use vod_base::{MAX_BYTES, MAX_SLOTS, NoMemory};
@@ -97,7 +97,7 @@ impl Plan {
     pub fn sum_at(&self, slot: u64) -> u64
         ensures { result ≡ sum_through self.now slot }
     {
-        sum_after(self.segments.as_slice(), &mut Passed::new(), slot)
+        sum_after(self.segments.as_slice(), &mut SegmentPrefix::new(), slot)
     }
 
     /// The bytes that it sends in this slot; 0 past its end. One pass over the segments, and none
@@ -105,7 +105,7 @@ impl Plan {
     pub fn slot_bytes(&self, slot: u64) -> u64
         ensures { result ≡ slice_index (plan_slots self.now) slot }
     {
-        slot_after(self.segments.as_slice(), &mut Passed::new(), slot)
+        slot_after(self.segments.as_slice(), &mut SegmentPrefix::new(), slot)
     }
 
     /// Another plan of the same segments.

@@ -1,8 +1,8 @@
 //! What one segment sends, and where a slot stands among segments.
 
 ghost use Rattle.std.specs.Prelude.{◌≡◌, ◌+◌, ◌*◌, ◌/◌, ◌^◌, ◌<◌, ◌≤◌, slice_index, MatchOption};
-ghost use Rattle.plan_cert.specs.Slots.{plan_slots, total_slots, total_bytes, sum_through};
-ghost use Rattle.plan_cert.specs.Plan.{IsPlan, IsPlace, ArePassed};
+ghost use Rattle.plan_cert.specs.PlanSlots.{plan_slots, total_slots, total_bytes, sum_through};
+ghost use Rattle.plan_cert.specs.Plan.{IsPlan, IsSlotPosition, HasPrefix};
 
 use crate::Segment;
 
@@ -21,7 +21,7 @@ impl Segment {
 
 /// Where a slot stands in a list of segments.
 #[derive(Clone, Copy)]
-pub(crate) struct Place {
+pub(crate) struct SlotPosition {
     pub(crate) segment: Segment,
     /// The slots of that segment before it.
     pub(crate) passed: u64,
@@ -31,20 +31,20 @@ pub(crate) struct Place {
 
 /// Some segments at the beginning of a list, with their slots and bytes.
 #[derive(Clone, Copy, Debug)]
-pub(crate) struct Passed {
+pub(crate) struct SegmentPrefix {
     pub(crate) segments: usize,
     pub(crate) slots: u64,
     pub(crate) bytes: u64,
 }
 
-impl Passed {
+impl SegmentPrefix {
     /// No segments.
-    pub(crate) fn new() -> Passed
+    pub(crate) fn new() -> SegmentPrefix
         ensures segments { result.segments ≡ 0 }
         ensures slots { result.slots ≡ 0 }
         ensures bytes { result.bytes ≡ 0 }
     {
-        Passed {
+        SegmentPrefix {
             segments: 0,
             slots: 0,
             bytes: 0,
@@ -54,28 +54,32 @@ impl Passed {
 
 /// The place of a slot. It is looked for after the segments that were passed, or from the first
 /// segment on where they end after the slot. The segments before it are then passed.
-pub(crate) fn place_after(segments: &[Segment], passed: &mut Passed, slot: u64) -> Option<Place>
+pub(crate) fn place_after(
+    segments: &[Segment],
+    passed: &mut SegmentPrefix,
+    slot: u64,
+) -> Option<SlotPosition>
     requires plan { IsPlan segments.now }
-    requires passed { ArePassed segments.now passed.old.segments passed.old.slots passed.old.bytes }
-    ensures passed { ArePassed segments.now passed.new.segments passed.new.slots passed.new.bytes }
+    requires passed { HasPrefix segments.now passed.old.segments passed.old.slots passed.old.bytes }
+    ensures passed { HasPrefix segments.now passed.new.segments passed.new.slots passed.new.bytes }
     ensures place { MatchOption result
         ((total_slots segments.now ≤ slot) × (passed.new.bytes ≡ total_bytes segments.now))
-        (λ place. IsPlace segments.now slot place.segment place.passed place.before) }
+        (λ place. IsSlotPosition segments.now slot place.segment place.passed place.before) }
 {
     if slot < passed.slots {
-        *passed = Passed::new();
+        *passed = SegmentPrefix::new();
     }
     while passed.segments < segments.len() {
         let segment = segments[passed.segments];
         let within = slot - passed.slots;
         if within < segment.slots {
-            return Some(Place {
+            return Some(SlotPosition {
                 segment,
                 passed: within,
                 before: passed.bytes,
             });
         }
-        *passed = Passed {
+        *passed = SegmentPrefix {
             segments: passed.segments + 1,
             slots: passed.slots + segment.slots,
             bytes: passed.bytes + segment.bytes,
@@ -85,10 +89,10 @@ pub(crate) fn place_after(segments: &[Segment], passed: &mut Passed, slot: u64) 
 }
 
 /// The bytes through a slot, which is looked for as by [`place_after`].
-pub(crate) fn sum_after(segments: &[Segment], passed: &mut Passed, slot: u64) -> u64
+pub(crate) fn sum_after(segments: &[Segment], passed: &mut SegmentPrefix, slot: u64) -> u64
     requires plan { IsPlan segments.now }
-    requires passed { ArePassed segments.now passed.old.segments passed.old.slots passed.old.bytes }
-    ensures passed { ArePassed segments.now passed.new.segments passed.new.slots passed.new.bytes }
+    requires passed { HasPrefix segments.now passed.old.segments passed.old.slots passed.old.bytes }
+    ensures passed { HasPrefix segments.now passed.new.segments passed.new.slots passed.new.bytes }
     ensures value { result ≡ sum_through segments.now slot }
 {
     match place_after(segments, passed, slot) {
@@ -98,10 +102,10 @@ pub(crate) fn sum_after(segments: &[Segment], passed: &mut Passed, slot: u64) ->
 }
 
 /// The bytes of a slot, which is looked for as by [`place_after`].
-pub(crate) fn slot_after(segments: &[Segment], passed: &mut Passed, slot: u64) -> u64
+pub(crate) fn slot_after(segments: &[Segment], passed: &mut SegmentPrefix, slot: u64) -> u64
     requires plan { IsPlan segments.now }
-    requires passed { ArePassed segments.now passed.old.segments passed.old.slots passed.old.bytes }
-    ensures passed { ArePassed segments.now passed.new.segments passed.new.slots passed.new.bytes }
+    requires passed { HasPrefix segments.now passed.old.segments passed.old.slots passed.old.bytes }
+    ensures passed { HasPrefix segments.now passed.new.segments passed.new.slots passed.new.bytes }
     ensures value { result ≡ slice_index (plan_slots segments.now) slot }
 {
     match place_after(segments, passed, slot) {

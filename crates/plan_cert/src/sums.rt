@@ -1,7 +1,7 @@
 //! What segments sum up to.
 
 ghost use Rattle.std.specs.Prelude.{◌≡◌, ◌↔◌, IsTrue};
-ghost use Rattle.plan_cert.specs.Slots.{total_slots, total_bytes};
+ghost use Rattle.plan_cert.specs.PlanSlots.{total_slots, total_bytes};
 
 use crate::Segment;
 

@@ -182,7 +182,7 @@ fn names_the_line(rt: &impl Abort, alloc: Global, text: &str, line: u64) {
     let refusal = read_cert(alloc, text.as_bytes()).err();
     assert_eq!(rt;
         refusal,
-        Some(CertRefused::BadCert { line }),
+        Some(CertRead::BadCert { line }),
         "refusal of {text}"
     );
 }

@@ -2,12 +2,12 @@
 use Rattle.std.proofs.Common.{ℕ, zero, suc, ◌+◌, ◌<◌, ◌≤◌, ◌≡◌, Err, List, [], ◌∷◌, ◌++◌, drop, flat_map, get_or}
 use Rattle.std.proofs.Common.{length, append_assoc, append-nil, sym, ap, subst, refl, ◌∙◌, arith}
 use Rattle.std.proofs.lemmas.List.{drop_all, drop_more, get_or-drop, length-drop}
-use Rattle.vod_base.specs.declared.outside.NoMemory.{NoMemory}
+use Rattle.vod_base.specs.declared.errors.NoMemory.{NoMemory}
 use Rattle.admission.specs.declared.entries.Entry.{Entry}
 use Rattle.vod_base.specs.Appends.{IsAppended}
 use Rattle.report.specs.EntryLines.{entry_line}
-use Rattle.report.specs.JournalTexts.{IsJournalTold, journal_text}
-use Rattle.report.specs.Kinds.{AreOfKind, IsOfKind}
+use Rattle.report.specs.JournalTexts.{IsJournalText, journal_text}
+use Rattle.report.specs.AnswerKinds.{AreOfKind, IsOfKind}
 use Rattle.vod_base.proofs.AppendLemmas.{appended_as, both, cut_before, then_appended}
 
 -- the lines of entries, each by itself
@@ -34,7 +34,7 @@ text_of : (place : ℕ) (entries : List Entry)
 text_of place [] = refl
 text_of place (entry ∷ entries) = ap (λ (l : List ℕ). entry_line place entry ++ l) (text_of (place + 1) entries)
 
-pub journal_told : (place : ℕ) (entries : List Entry) → IsJournalTold place entries (journal_text place entries)
+pub journal_told : (place : ℕ) (entries : List Entry) → IsJournalText place entries (journal_text place entries)
 journal_told place entries = record {
   lines = lines_at place entries;
   count_is = count_of place entries;

@@ -1,7 +1,7 @@
 mod SlotLemmas
-mod LineLemmas
-mod KindLemmas
-mod FormLemmas
-mod StateLemmas
+mod CalendarLineLemmas
+mod AnswerKindLemmas
+mod EntryLineFormLemmas
+mod CalendarStateLemmas
 mod JournalLemmas
-mod FormedLemmas
+mod CalendarFormLemmas

@@ -2,7 +2,7 @@
 -- line ends with LF.
 use Rattle.std.specs.Prelude.{ℕ, ◌≡◌, ◌+◌, ◌^◌, ◌≤◌, nat_lt, List, ◌++◌, filter, flat_map, codes}
 use Rattle.std.specs.List.{range_with_len}
-use Rattle.plan_cert.specs.Reading.{lines_of}
+use Rattle.plan_cert.specs.CertGrammar.{lines_of}
 use Rattle.slot_calendar.specs.Totals.{ring_slots}
 use Rattle.vod_base.specs.Fields.{field}
 

@@ -11,7 +11,7 @@ journal_text place (entry ∷ entries) = entry_line place entry ++ journal_text 
 
 -- The text is made of lines in a row, one for each entry and in the order of entries, and of
 -- nothing else: line i is that of entry i, at the place `from + i`.
-pub record IsJournalTold (from : ℕ) (entries : List Entry) (text : List ℕ) : Type 0 where
+pub record IsJournalText (from : ℕ) (entries : List Entry) (text : List ℕ) : Type 0 where
   pub lines : List (List ℕ)
   pub count_is : length lines ≡ length entries
   pub each : (i : ℕ) (none : Entry) → i < length entries →

@@ -1,6 +1,6 @@
-pub mod Kinds
+pub mod AnswerKinds
 pub mod EntryLines
-pub mod EntryForms
+pub mod EntryLineForm
 pub mod JournalTexts
 pub mod CalendarTexts
-pub mod CalendarForms
+pub mod CalendarTextForm

@@ -14,7 +14,7 @@ use vod_base::{NoMemory, push, push_field};
 ///
 /// # Errors
 ///
-/// After [`NoMemory`] a front of the text was appended.
+/// After [`NoMemory`] a prefix of the text was appended.
 pub fn calendar_text(calendar: &Calendar, out: &mut Vec<u8>) -> Result<(), NoMemory>
     ensures { IsAppended out.old.items
         (calendar_text calendar.now.first (booked_at calendar.now)) out.new.items result }
@@ -43,7 +43,7 @@ fn push_slots(out: &mut Vec<u8>, calendar: &Calendar) -> Result<(), NoMemory>
 {
     let now = calendar.now();
     for slot in now..now + RING_SLOTS {
-        let booked = calendar.booked_bytes(slot);
+        let booked = calendar.booked(slot);
         if booked > 0 {
             push_slot(out, slot, booked)?;
         }

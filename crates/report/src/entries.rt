@@ -2,10 +2,10 @@
 
 ghost use Rattle.std.specs.Prelude.{◌++◌};
 ghost use Rattle.vod_base.specs.Appends.{IsAppended};
-ghost use Rattle.report.specs.Kinds.{IsOfKind};
-ghost use Rattle.report.specs.EntryLines.{answer_words, command_words, entry_line};
+ghost use Rattle.report.specs.AnswerKinds.{IsOfKind};
+ghost use Rattle.report.specs.EntryLines.{answer_text, command_text, entry_line};
 
-use crate::fields::push_three;
+use crate::number_fields::push_fields;
 use admission::{Answer, Command, Entry};
 use vod_base::{NoMemory, push, push_field, push_number};
 
@@ -16,7 +16,7 @@ use vod_base::{NoMemory, push, push_field, push_number};
 ///
 /// # Errors
 ///
-/// After [`NoMemory`] a front of the line was appended.
+/// After [`NoMemory`] a prefix of the line was appended.
 pub fn entry_line(place: u64, entry: &Entry, out: &mut Vec<u8>) -> Result<(), NoMemory>
     requires { IsOfKind entry.now.command entry.now.answer }
     ensures { IsAppended out.old.items (entry_line place entry.now) out.new.items result }
@@ -30,10 +30,10 @@ pub fn entry_line(place: u64, entry: &Entry, out: &mut Vec<u8>) -> Result<(), No
 
 /// Appends what was asked.
 fn push_command(out: &mut Vec<u8>, command: &Command) -> Result<(), NoMemory>
-    ensures { IsAppended out.old.items (command_words command.now) out.new.items result }
+    ensures { IsAppended out.old.items (command_text command.now) out.new.items result }
 {
     match command {
-        Command::Play { slot, plan } => push_three(
+        Command::Play { slot, plan } => push_fields(
             out,
             (b" play slot=", *slot),
             (b" slots=", plan.slots()),
@@ -49,7 +49,7 @@ fn push_command(out: &mut Vec<u8>, command: &Command) -> Result<(), NoMemory>
 
 /// Appends what was answered.
 fn push_answer(out: &mut Vec<u8>, answer: Answer) -> Result<(), NoMemory>
-    ensures { IsAppended out.old.items (answer_words answer) out.new.items result }
+    ensures { IsAppended out.old.items (answer_text answer) out.new.items result }
 {
     match answer {
         Answer::Admitted { start } => push_field(out, b" admitted start=", start),
@@ -57,14 +57,14 @@ fn push_answer(out: &mut Vec<u8>, answer: Answer) -> Result<(), NoMemory>
             slot,
             booked,
             asked,
-        } => push_three(
+        } => push_fields(
             out,
             (b" overflow slot=", slot),
             (b" booked=", booked),
             (b" asked=", asked),
         ),
         Answer::Halted => push(out, b" halted"),
-        Answer::Looked { now, at, booked } => push_three(
+        Answer::Looked { now, at, booked } => push_fields(
             out,
             (b" looked now=", now),
             (b" at=", at),

@@ -3,7 +3,7 @@
 ghost use Rattle.std.specs.Prelude.{◌≡◌, drop};
 ghost use Rattle.vod_base.specs.Appends.{IsAppended};
 ghost use Rattle.report.specs.JournalTexts.{journal_text};
-ghost use Rattle.report.specs.Kinds.{AreOfKind};
+ghost use Rattle.report.specs.AnswerKinds.{AreOfKind};
 
 use crate::entries::entry_line;
 use admission::Entry;
@@ -14,7 +14,7 @@ use vod_base::NoMemory;
 ///
 /// # Errors
 ///
-/// After [`NoMemory`] a front of the text was appended.
+/// After [`NoMemory`] a prefix of the text was appended.
 pub fn journal_text(from: usize, entries: &[Entry], out: &mut Vec<u8>) -> Result<(), NoMemory>
     requires { AreOfKind entries.now }
     ensures { IsAppended out.old.items (journal_text from (drop from entries.now)) out.new.items

@@ -1,9 +1,10 @@
 //! The plan of all rows has 3 slots and 7 bytes: 2, 2 and 3 bytes a slot.
 
 ghost use Rattle.std.specs.Prelude.{IsTrue};
-ghost use Rattle.report.specs.Kinds.{IsOfKind};
+ghost use Rattle.report.specs.AnswerKinds.{IsOfKind};
 
-use crate::{calendar_text, entry_line, journal_text, law_answer_kinds};
+use crate::laws::law_answers_match_commands;
+use crate::{calendar_text, entry_line, journal_text};
 use admission::{Answer, Book, Command, Entry};
 use plan_cert::{Plan, Segment};
 use slot_calendar::{Calendar, Profile};
@@ -135,11 +136,11 @@ fn lines_of_entries(rt: HostRuntime) -> Result<(), Fail> {
 #[test]
 fn texts_of_journals(rt: HostRuntime) -> Result<(), Fail> {
     let alloc = rt.alloc();
-    let mut book = Book::new(alloc, Profile::of_one_step(alloc, 5)?, 4)?;
+    let mut book = Book::new(alloc, Profile::flat(alloc, 5)?, 4)?;
     assert!(rt; book.look(2, 3).is_ok());
     assert!(rt; book.look(1, 4).is_ok());
     let entries = book.entries();
-    law_answer_kinds();
+    law_answers_match_commands();
     let mut out = Vec::new(alloc);
     assert_eq!(rt; journal_text(0, entries, &mut out), Ok(()));
     let both: &[u8] = b"0 seat=2 look slot=3 looked now=0 at=3 booked=0\n\
@@ -155,7 +156,7 @@ fn texts_of_journals(rt: HostRuntime) -> Result<(), Fail> {
 /// The plan booked whole at slot 1, and at slot 3 with its first 2 bytes; then slots 0 and 1 are
 /// forgotten.
 fn calendar_of(rt: &impl Abort, alloc: Global, plan: &Plan) -> Result<Calendar, NoMemory> {
-    let mut calendar = Calendar::new(alloc, Profile::of_one_step(alloc, 5)?)?;
+    let mut calendar = Calendar::new(alloc, Profile::flat(alloc, 5)?)?;
     assert!(rt; plan.slots() < 1000 && plan.bytes() >= 2);
     assert!(rt; calendar.first_overflow(1, plan).is_none());
     calendar.book(1, plan);

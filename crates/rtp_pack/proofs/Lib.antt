@@ -1,8 +1,10 @@
-mod PackLemmas
-mod CutLemmas
+mod PackerLemmas
+mod CutPointLemmas
 pub mod SizeLemmas
-mod FlagLemmas
-pub mod UnitLemmas
-mod LawLemmas
-pub mod MarkLemmas
-mod RuleLemmas
+mod SliceFlagLemmas
+pub mod UnitPacketLemmas
+mod PacketizationLemmas
+pub mod MarkerLemmas
+mod SequenceHeaderLemmas
+pub mod ReportCountLemmas
+mod RuleUniquenessLemmas

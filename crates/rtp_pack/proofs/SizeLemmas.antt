@@ -3,19 +3,19 @@ use Rattle.std.proofs.Common.{◌≡◌, ℕ, zero, suc, ◌+◌, ◌-◌, ◌*�
 use Rattle.std.proofs.Common.{cond, leb, ltb, List, [], ◌∷◌, ◌++◌, refl, sym, ap, ◌∙◌, arith, inl}
 use Rattle.std.proofs.Common.{inr}
 use Rattle.std.proofs.lemmas.Bool.{cases_Bool, leb-true, leb-false, ltb-true, ltb-false, true≢false}
-use Rattle.rtp_pack.specs.declared.filling.Filling.{Filling}
-use Rattle.rtp_pack.specs.declared.filling.Holds.{Holds}
-use Rattle.rtp_pack.specs.declared.filling.Holds.TheVariants.{HeadersAlone, Slices, LastFragment}
-use Rattle.rtp_pack.specs.Cutting.{Cuts, Fills, IsCutting, filling_after, full_before, full_ends}
-use Rattle.rtp_pack.specs.Cutting.{goes_in, goes_in_cut, goes_in_whole, last_start, start_of}
+use Rattle.rtp_pack.specs.declared.open_packet.OpenPacket.{OpenPacket}
+use Rattle.rtp_pack.specs.declared.open_packet.PacketContents.{PacketContents}
+use Rattle.rtp_pack.specs.declared.open_packet.PacketContents.TheVariants.{HeadersAlone, Slices, LastFragment}
+use Rattle.rtp_pack.specs.Packetization.{Cuts, Fills, AreCutPoints, filling_after, full_before, full_ends}
+use Rattle.rtp_pack.specs.Packetization.{goes_in, goes_in_cut, goes_in_whole, last_start, start_of}
 use Rattle.rtp_pack.specs.Sizes.{IsMeasure, Measure, measure_from_headers, cuts_size, frames_of, measure_of}
 use Rattle.rtp_pack.specs.Sizes.{slice_portions, with_slice, with_slices}
-use Rattle.rtp_pack.proofs.CutLemmas.{full-once, full_before-less, full_before-within, start-less}
+use Rattle.rtp_pack.proofs.CutPointLemmas.{full-once, full_before-less, full_before-within, start-less}
 
 -- ---- one slice keeps what is kept
 
 -- what is kept, over plain numbers
-pub record Kept (count from at : ℕ) (holds : Holds) : Type 0 where
+pub record Kept (count from at : ℕ) (holds : PacketContents) : Type 0 where
   pub some : from < at
   pub portions : count ≤ from
   pub whole : 20 * count ≤ at + 20
@@ -23,7 +23,7 @@ pub record Kept (count from at : ℕ) (holds : Holds) : Type 0 where
   pub last : holds ≡ LastFragment → 20 * count ≤ at
 
 -- a short slice in the portion, or in the next
-short-here : {portions from at : ℕ} {holds : Holds} (n full : ℕ) → Kept portions from at holds
+short-here : {portions from at : ℕ} {holds : PacketContents} (n full : ℕ) → Kept portions from at holds
     → at + n ≤ from + 1380 → from + 1380 * full < at + n
     → Kept (portions + (0 + full)) (from + 1380 * full) (at + n) Slices
 short-here {portions} {from} {at} n full kept fits before =
@@ -36,7 +36,7 @@ short-here {portions} {from} {at} n full kept fits before =
       last = λ e. cc;
     }
 
-short-next : {portions from at : ℕ} {holds : Holds} (n full : ℕ) → Kept portions from at holds → n ≤ 1380
+short-next : {portions from at : ℕ} {holds : PacketContents} (n full : ℕ) → Kept portions from at holds → n ≤ 1380
     → 20 * portions ≤ at + n → at + 1380 * full < at + n
     → Kept (portions + (1 + full)) (at + 1380 * full) (at + n) Slices
 short-next {portions} {from} {at} n full kept short room before =
@@ -50,7 +50,7 @@ short-next {portions} {from} {at} n full kept short room before =
     }
 
 -- a longer slice in the portion, or in the next
-long-here : {portions from at : ℕ} {holds : Holds} (n full : ℕ) → Kept portions from at holds → 1380 < n
+long-here : {portions from at : ℕ} {holds : PacketContents} (n full : ℕ) → Kept portions from at holds → 1380 < n
     → from + 1380 * full < at + n → at + n ≤ from + 1380 * full + 1380
     → Kept (portions + (0 + full)) (from + 1380 * full) (at + n) LastFragment
 long-here {portions} {from} {at} n full kept long before within =
@@ -63,7 +63,7 @@ long-here {portions} {from} {at} n full kept long before within =
       last = λ e. omega (arith, some, kept.ended);
     }
 
-long-next : {portions from at : ℕ} {holds : Holds} (n full : ℕ) → Kept portions from at holds → 1380 < n
+long-next : {portions from at : ℕ} {holds : PacketContents} (n full : ℕ) → Kept portions from at holds → 1380 < n
     → at + 1380 * full < at + n → at + n ≤ at + 1380 * full + 1380
     → Kept (portions + (1 + full)) (at + 1380 * full) (at + n) LastFragment
 long-next {portions} {from} {at} n full kept long before within =
@@ -76,13 +76,13 @@ long-next {portions} {from} {at} n full kept long before within =
       last = λ e. omega (arith, some, kept.whole);
     }
 
-pub whole-fits : (from at n : ℕ) (holds : Holds) → goes_in_whole from at holds n ≡ true → at + n ≤ from + 1380
+pub whole-fits : (from at n : ℕ) (holds : PacketContents) → goes_in_whole from at holds n ≡ true → at + n ≤ from + 1380
 whole-fits from at n HeadersAlone e = leb-true (at + n) (from + 1380) e
 whole-fits from at n Slices e = leb-true (at + n) (from + 1380) e
 whole-fits from at n LastFragment e = absurd (true≢false (sym e))
 
 -- where a short slice begins the next portion there is room for one more head
-whole-room : {portions from at : ℕ} {holds : Holds} (n : ℕ) → Kept portions from at holds → 4 ≤ n
+whole-room : {portions from at : ℕ} {holds : PacketContents} (n : ℕ) → Kept portions from at holds → 4 ≤ n
     → goes_in_whole from at holds n ≡ false → 20 * portions ≤ at + n
 whole-room {from} {at} {holds = HeadersAlone} n kept least e =
     omega (arith, leb-false (at + n) (from + 1380) e, kept.ended)
@@ -90,13 +90,14 @@ whole-room {from} {at} {holds = Slices} n kept least e = omega (arith, leb-false
 whole-room {from} {at} {holds = LastFragment} n kept least e = omega (arith, kept.last refl)
 
 -- a slice of n bytes after so many full portions: whether it is short, and goes in
-record SliceFills (from at : ℕ) (holds : Holds) (n full : ℕ) (short goes : Bool) : Type 0 where
+record SliceFills (from at : ℕ) (holds : PacketContents) (n full : ℕ) (short goes : Bool) : Type 0 where
   short_is : leb n 1380 ≡ short
   goes_is : cond short (goes_in_whole from at holds n) (goes_in_cut from at holds) ≡ goes
   before : cond goes from at + 1380 * full < at + n
   within : at + n ≤ cond goes from at + 1380 * full + 1380
 
-kept-slice : {portions from at n full : ℕ} {holds : Holds} {short goes : Bool} → Kept portions from at holds → 4 ≤ n
+kept-slice : {portions from at n full : ℕ} {holds : PacketContents} {short goes : Bool} → Kept portions from at holds →
+    4 ≤ n
     → SliceFills from at holds n full short goes
     → Kept (portions + (cond goes 0 1 + full)) (cond goes from at + 1380 * full) (at + n)
     (cond short Slices LastFragment)
@@ -182,19 +183,19 @@ ltb-moved {x'} {y'} base x y ex ey = elim (cases_Bool (ltb x y)) [
   ]
 ]
 
-cut-moved : {from' at' : ℕ} (base from at : ℕ) (holds : Holds) → from' ≡ base + from → at' ≡ base + at
+cut-moved : {from' at' : ℕ} (base from at : ℕ) (holds : PacketContents) → from' ≡ base + from → at' ≡ base + at
     → goes_in_cut from' at' holds ≡ goes_in_cut from at holds
 cut-moved base from at HeadersAlone ef ea = ltb-moved base at (from + 1380) ea (omega (arith, ef))
 cut-moved base from at Slices ef ea = refl
 cut-moved base from at LastFragment ef ea = refl
 
 -- the same portion at another place
-pub record IsMoved (base : ℕ) (f g : Filling) : Type 0 where
+pub record IsMoved (base : ℕ) (f g : OpenPacket) : Type 0 where
   pub from : g.from ≡ base + f.from
   pub at : g.at ≡ base + f.at
   pub holds : g.holds ≡ f.holds
 
-whole-moved : {base : ℕ} {f g : Filling} (n : ℕ) (holds : Holds) → IsMoved base f g
+whole-moved : {base : ℕ} {f g : OpenPacket} (n : ℕ) (holds : PacketContents) → IsMoved base f g
     → goes_in_whole g.from g.at holds n ≡ goes_in_whole f.from f.at holds n
 whole-moved {base} {f} n HeadersAlone is =
     leb-moved base (f.at + n) (f.from + 1380) (omega (arith, is.at)) (omega (arith, is.from))
@@ -202,9 +203,9 @@ whole-moved {base} {f} n Slices is =
     leb-moved base (f.at + n) (f.from + 1380) (omega (arith, is.at)) (omega (arith, is.from))
 whole-moved n LastFragment is = refl
 
-goes-moved : (base n : ℕ) (f g : Filling) → IsMoved base f g → goes_in g n ≡ goes_in f n
+goes-moved : (base n : ℕ) (f g : OpenPacket) → IsMoved base f g → goes_in g n ≡ goes_in f n
 goes-moved base n f g is =
-    ap (λ (h : Holds). cond (leb n 1380) (goes_in_whole g.from g.at h n) (goes_in_cut g.from g.at h)) is.holds
+    ap (λ (h : PacketContents). cond (leb n 1380) (goes_in_whole g.from g.at h n) (goes_in_cut g.from g.at h)) is.holds
     ∙ ap (λ b. cond (leb n 1380) b (goes_in_cut g.from g.at f.holds)) (whole-moved n f.holds is)
     ∙ ap (λ b. cond (leb n 1380) (goes_in_whole f.from f.at f.holds n) b)
     (cut-moved base f.from f.at f.holds is.from is.at)
@@ -221,20 +222,20 @@ size-full start (suc full) rest =
     omega (arith, more, rest-size)
 
 -- the rest of the frames, after those of the portions that ended
-abbrev pub Rest : Measure → Filling → List ℕ → List ℕ → Type 0
+abbrev pub Rest : Measure → OpenPacket → List ℕ → List ℕ → Type 0
 Rest m g slices cuts = cuts_size g.from cuts + 20 * m.portions + m.filling.from ≡ frames_of (with_slices m slices)
 
 -- a slice begins at `start`: what is moved, and whether it goes in
-record StartsAt (m : Measure) (g : Filling) (n base start place : ℕ) (goes : Bool) : Type 0 where
+record StartsAt (m : Measure) (g : OpenPacket) (n base start place : ℕ) (goes : Bool) : Type 0 where
   moved : IsMoved base m.filling g
   at_start : start_of goes m.filling ≡ start
   at_place : place ≡ base + start
   at_goes : goes_in m.filling n ≡ goes
 
 -- the measure and the cuts of such a slice: the frames of its full portions, then the rest
-next-size : {m : Measure} {g : Filling} {n base start place : ℕ} {goes : Bool} {cuts : List ℕ} (slices : List ℕ)
+next-size : {m : Measure} {g : OpenPacket} {n base start place : ℕ} {goes : Bool} {cuts : List ℕ} (slices : List ℕ)
     → StartsAt m g n base start place goes
-    → ((m' : Measure) (g' : Filling) (rest : List ℕ) → IsMoved base m'.filling g'
+    → ((m' : Measure) (g' : OpenPacket) (rest : List ℕ) → IsMoved base m'.filling g'
     → m'.filling.from ≤ m'.filling.at → Cuts g' slices rest → Rest m' g' slices rest)
     → Fills (λ last rest. Cuts (filling_after g n last) slices rest) place (g.at + n) cuts
     → cuts_size place cuts + 20 * (m.portions + cond goes 0 1) + start ≡ frames_of (with_slices (with_slice m n) slices)
@@ -260,7 +261,7 @@ next-size {m} {g} {n} {start} {place} {goes} {cuts} slices starts more fills =
   where
     open starts use {moved as is, at_start, at_place, at_goes}
 
-pub size-from : {base : ℕ} {g : Filling} (slices : List ℕ) (m : Measure) (cuts : List ℕ)
+pub size-from : {base : ℕ} {g : OpenPacket} (slices : List ℕ) (m : Measure) (cuts : List ℕ)
     → IsMoved base m.filling g → m.filling.from ≤ m.filling.at → Cuts g slices cuts → Rest m g slices cuts
 size-from {base} {g} [] m cuts is order e =
     let size : cuts_size g.from cuts ≡ 20 + (g.at - g.from) = ap (λ (l : List ℕ). cuts_size g.from l) e ∙ omega arith in
@@ -285,7 +286,7 @@ size-from {base} {g} (n ∷ slices) m cuts is order (inr x) =
 
 -- the frames of a unit
 pub size-unit : (headers : ℕ) (slices : List ℕ) (from : ℕ) (cuts : List ℕ)
-    → IsCutting from (from + headers) slices cuts → frames_of (measure_of headers slices) ≡ cuts_size from cuts
+    → AreCutPoints from (from + headers) slices cuts → frames_of (measure_of headers slices) ≡ cuts_size from cuts
 size-unit headers slices from cuts cutting =
     let all = size-from slices (measure_from_headers headers) cuts
     (record { from = omega arith; at = refl; holds = refl }) (omega arith) cutting in

@@ -3,7 +3,7 @@ use Rattle.std.specs.Prelude.{ℕ, ◌+◌, ◌*◌, ◌/◌, ◌%◌, ◌^◌, 
 use Rattle.std.specs.Prelude.{slice_index, take}
 use Rattle.byteorder.specs.Endian.{big_number}
 use Rattle.mpeg_scan.specs.declared.units.Unit.{Unit as PictureUnit}
-use Rattle.mpeg_scan.specs.Standard.{type_number}
+use Rattle.mpeg_scan.specs.StandardUnits.{type_number}
 use Rattle.rtp_pack.specs.declared.heads.Head.{Head}
 use Rattle.rtp_pack.specs.declared.payloads.Packet.{Packet}
 use Rattle.rtp_pack.specs.declared.reports.Report.{Report}
@@ -27,6 +27,14 @@ pub record HasVideoFields (word : ℕ) (unit : PictureUnit) (packet : Packet) : 
   pub coding : bits 3 8 word ≡ type_number unit.kind
   pub vectors : bits 8 0 word ≡ unit.vectors
 
+-- the number of packets, and of their octets, that a sender report says were sent, each read at its
+-- bytes (RFC 3550 section 6.4.1)
+abbrev pub packets_sent : List ℕ → ℕ
+packets_sent bytes = big_number 4 (drop 20 bytes)
+
+abbrev pub octets_sent : List ℕ → ℕ
+octets_sent bytes = big_number 4 (drop 24 bytes)
+
 -- the fields of a sender report without report blocks, of 28 bytes (RFC 3550 section 6.4.1), and of
 -- a source description of one source with a canonical name, of 20 bytes (section 6.5); a packet's
 -- length counts its words of 4 bytes but one
@@ -38,8 +46,8 @@ pub record HasReportFields (bytes : List ℕ) (report : Report) : Type 0 where
   pub ssrc : big_number 4 (drop 4 bytes) ≡ report.ssrc
   pub time : big_number 8 (drop 8 bytes) ≡ report.time
   pub timestamp : big_number 4 (drop 16 bytes) ≡ report.timestamp
-  pub packets : big_number 4 (drop 20 bytes) ≡ report.packets
-  pub octets : big_number 4 (drop 24 bytes) ≡ report.octets
+  pub packets : packets_sent bytes ≡ report.packets
+  pub octets : octets_sent bytes ≡ report.octets
   pub one_source : slice_index bytes 28 ≡ 2 * 64 + 1
   pub description : slice_index bytes 29 ≡ 202
   pub more_words : 4 * (big_number 2 (drop 30 bytes) + 1) ≡ 20

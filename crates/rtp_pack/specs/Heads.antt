@@ -5,7 +5,7 @@ use Rattle.std.specs.Prelude.{if◌then◌else◌, List, ◌∷◌, ◌++◌, dr
 use Rattle.std.specs.Prelude.{Err}
 use Rattle.byteorder.specs.Endian.{big_bytes, big_number}
 use Rattle.mpeg_scan.specs.declared.units.Unit.{Unit as PictureUnit}
-use Rattle.mpeg_scan.specs.Standard.{type_number}
+use Rattle.mpeg_scan.specs.StandardUnits.{type_number}
 use Rattle.rtp_pack.specs.declared.heads.Head.{Head}
 use Rattle.rtp_pack.specs.declared.heads.HeadFault.{HeadFault}
 use Rattle.rtp_pack.specs.declared.heads.HeadFault.TheVariants.{Short, NotRtp, NotVideo}

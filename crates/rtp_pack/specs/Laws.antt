@@ -1,15 +1,16 @@
 -- What follows from the rules for cutting, in a reader's words.
-use Rattle.std.specs.Prelude.{ℕ, ◌+◌, ◌<◌, ◌≤◌, ◌≡◌, ◌⊎◌, true, false, List, [], ◌∷◌}
+use Rattle.std.specs.Prelude.{ℕ, ◌+◌, ◌<◌, ◌≤◌, ◌≡◌, ◌⊎◌, Bool, true, false, List, []}
+use Rattle.std.specs.Prelude.{◌∷◌}
 use Rattle.rtp_pack.specs.declared.payloads.Packet.{Packet}
-use Rattle.rtp_pack.specs.Cutting.{IsCutting}
+use Rattle.rtp_pack.specs.Packetization.{AreCutPoints}
 use Rattle.rtp_pack.specs.Packets.{is_among}
 
 -- a fact of each cutting of a unit: where its headers of 1 to 1,380 bytes begin and end, the
 -- lengths of its slices, and its cut points
-abbrev pub OfCuttings : (ℕ → ℕ → List ℕ → List ℕ → Type 0) → Type 0
-OfCuttings Fact =
+abbrev pub ForAllCutPoints : (ℕ → ℕ → List ℕ → List ℕ → Type 0) → Type 0
+ForAllCutPoints Fact =
     (from headers_end : ℕ) (slices cuts : List ℕ) → from < headers_end → headers_end ≤ from + 1380
-    → IsCutting from headers_end slices cuts → Fact from headers_end slices cuts
+    → AreCutPoints from headers_end slices cuts → Fact from headers_end slices cuts
 
 -- portions of 1 to 1,380 bytes cover the bytes from a place to another in order, without gap or
 -- overlap
@@ -41,3 +42,15 @@ abbrev pub IsLastMarked : List Packet → Type 0
 IsLastMarked [] = Unit {0}
 IsLastMarked (p ∷ []) = p.marker ≡ true
 IsLastMarked (p ∷ (q ∷ packets)) = (p.marker ≡ false) × IsLastMarked (q ∷ packets)
+
+-- no packet of these has S
+abbrev pub HaveNoSequenceHeader : List Packet → Type 0
+HaveNoSequenceHeader [] = Unit {0}
+HaveNoSequenceHeader (p ∷ packets) =
+    (p.sequence_header ≡ false) × HaveNoSequenceHeader packets
+
+-- S is on the first of these packets if its unit has a sequence header, and on no other
+abbrev pub OnlyFirstHasSequenceHeader : Bool → List Packet → Type 0
+OnlyFirstHasSequenceHeader has_sequence [] = Unit {0}
+OnlyFirstHasSequenceHeader has_sequence (p ∷ packets) =
+    (p.sequence_header ≡ has_sequence) × HaveNoSequenceHeader packets

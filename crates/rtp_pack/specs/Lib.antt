@@ -1,8 +1,8 @@
-pub mod Cutting
+pub mod Packetization
 pub mod Packets
 pub mod Heads
 pub mod Reports
 pub mod Sizes
 pub mod Laws
-pub mod Rules
+pub mod PacketizationRules
 pub mod Fields

@@ -3,12 +3,13 @@ use Rattle.std.specs.Prelude.{ℕ, zero, suc, ◌+◌, ◌-◌, ◌==◌, ◌&&�
 use Rattle.std.specs.Prelude.{false, nat_lt, if◌then◌else◌, List, [], ◌∷◌, ◌++◌, length}
 use Rattle.mpeg_scan.specs.declared.units.Unit.{Unit as PictureUnit}
 pub use Rattle.mpeg_scan.specs.Layout.{OfUnit, next_place, unit_starts, AreInOrder, IsLaid}
-use Rattle.rtp_pack.specs.declared.filling.Filling.{Filling}
-use Rattle.rtp_pack.specs.declared.filling.Holds.{Holds}
-use Rattle.rtp_pack.specs.declared.filling.Holds.TheVariants.{HeadersAlone, Slices, LastFragment}
+use Rattle.rtp_pack.specs.declared.open_packet.OpenPacket.{OpenPacket}
+use Rattle.rtp_pack.specs.declared.open_packet.PacketContents.{PacketContents}
+use Rattle.rtp_pack.specs.declared.open_packet.PacketContents.TheVariants.{HeadersAlone, Slices}
+use Rattle.rtp_pack.specs.declared.open_packet.PacketContents.TheVariants.{LastFragment}
 use Rattle.rtp_pack.specs.declared.payloads.Packet.{Packet}
-use Rattle.rtp_pack.specs.Cutting.{IsCutting, goes_in, start_of, full_before, next_filling}
-use Rattle.rtp_pack.specs.Cutting.{first_portion}
+use Rattle.rtp_pack.specs.Packetization.{AreCutPoints, goes_in, start_of, full_before, next_filling}
+use Rattle.rtp_pack.specs.Packetization.{first_portion}
 
 -- ---- the slices of a unit
 
@@ -41,33 +42,33 @@ full_packets unit begin start zero = []
 full_packets unit begin start (suc count) =
     packet unit start (start + 1380) begin false ∷ full_packets unit false (start + 1380) count
 
-abbrev pub begins_slice : Holds → Bool
+abbrev pub begins_slice : PacketContents → Bool
 begins_slice HeadersAlone = false
 begins_slice Slices = true
 begins_slice LastFragment = false
 
-abbrev pub ends_slice : Holds → Bool
+abbrev pub ends_slice : PacketContents → Bool
 ends_slice HeadersAlone = false
 ends_slice Slices = true
 ends_slice LastFragment = true
 
 -- the packet of a portion that ends before a slice or with the unit
-abbrev pub filling_packet : PictureUnit → Filling → Packet
+abbrev pub filling_packet : PictureUnit → OpenPacket → Packet
 filling_packet unit f = packet unit f.from f.at (begins_slice f.holds) (ends_slice f.holds)
 
 -- the packet that ends where a slice begins that doesn't go in
-abbrev pub before_slice : Bool → PictureUnit → Filling → List Packet
+abbrev pub before_slice : Bool → PictureUnit → OpenPacket → List Packet
 before_slice goes unit f = if goes then [] else filling_packet unit f ∷ []
 
 -- the packets that end before or in the next slice, of `length` bytes
-abbrev pub slice_packets : PictureUnit → Filling → ℕ → List Packet
+abbrev pub slice_packets : PictureUnit → OpenPacket → ℕ → List Packet
 slice_packets unit f length =
     let start = start_of (goes_in f length) f in
     before_slice (goes_in f length) unit f
     ++ full_packets unit true start (full_before start (f.at + length))
 
 -- the packets from the portion that is being filled on, where slices of these lengths follow
-abbrev pub packets_from : PictureUnit → Filling → List ℕ → List Packet
+abbrev pub packets_from : PictureUnit → OpenPacket → List ℕ → List Packet
 packets_from unit f [] = filling_packet unit f ∷ []
 packets_from unit f (length ∷ slices) =
     slice_packets unit f length ++ packets_from unit (next_filling f length) slices
@@ -120,5 +121,5 @@ portion_packets unit starts from (cut ∷ cuts) =
 pub record ArePackets (slice_starts : List ℕ) (unit : PictureUnit) (packets : List Packet)
     : Type 0 where
   pub cuts : List ℕ
-  pub cutting : IsCutting unit.from unit.head_end (unit_lengths slice_starts unit) cuts
+  pub cutting : AreCutPoints unit.from unit.head_end (unit_lengths slice_starts unit) cuts
   pub portions : packets ≡ portion_packets unit (unit_starts slice_starts unit) unit.from cuts

@@ -2,27 +2,27 @@
 -- byte.
 use Rattle.std.specs.Prelude.{ℕ, ◌+◌, ◌-◌, ◌*◌, ◌^◌, ◌<◌, ◌≤◌, ◌≡◌, if◌then◌else◌, List, [], ◌∷◌}
 use Rattle.std.specs.Prelude.{◌++◌}
-use Rattle.rtp_pack.specs.declared.filling.Filling.{Filling}
-use Rattle.rtp_pack.specs.declared.filling.Holds.TheVariants.{LastFragment}
+use Rattle.rtp_pack.specs.declared.open_packet.OpenPacket.{OpenPacket}
+use Rattle.rtp_pack.specs.declared.open_packet.PacketContents.TheVariants.{LastFragment}
 use Rattle.mpeg_scan.specs.declared.units.Unit.{Unit as PictureUnit}
 use Rattle.rtp_pack.specs.declared.payloads.Packet.{Packet}
 use Rattle.rtp_pack.specs.Packets.{ArePackets, DoCover, frames_size, unit_lengths, unit_packets}
-use Rattle.rtp_pack.specs.Cutting.{IsCutting, goes_in, start_of, full_before, next_filling}
-use Rattle.rtp_pack.specs.Cutting.{first_portion}
+use Rattle.rtp_pack.specs.Packetization.{AreCutPoints, goes_in, start_of, full_before, next_filling}
+use Rattle.rtp_pack.specs.Packetization.{first_portion}
 
 -- the portions of a unit so far
 pub record Measure : Type 0 where
   -- how many have ended
   pub portions : ℕ
   -- the one that is being filled
-  pub filling : Filling
+  pub filling : OpenPacket
 
 -- a unit with headers of so many bytes
 abbrev pub measure_from_headers : ℕ → Measure
 measure_from_headers headers = record { portions = 0; filling = first_portion 0 headers }
 
 -- how many portions end before or in the next slice, of `length` bytes
-abbrev pub slice_portions : Filling → ℕ → ℕ
+abbrev pub slice_portions : OpenPacket → ℕ → ℕ
 slice_portions f length =
     (if goes_in f length then 0 else 1)
     + full_before (start_of (goes_in f length) f) (f.at + length)
@@ -85,7 +85,7 @@ cuts_size from (cut ∷ cuts) = 20 + (cut - from) + cuts_size cut cuts
 abbrev pub IsSize : Measure → ℕ → Type 0
 IsSize m size =
     (headers : ℕ) (slices : List ℕ) (from : ℕ) (cuts : List ℕ) → m ≡ measure_of headers slices
-    → IsCutting from (from + headers) slices cuts → size ≡ cuts_size from cuts
+    → AreCutPoints from (from + headers) slices cuts → size ≡ cuts_size from cuts
 
 -- what is kept: each portion that ended has a byte at least; and the heads of those that ended take
 -- at most 40 bytes more than these portions, at most 20 more than the unit so far, and no more than
@@ -99,5 +99,5 @@ pub record IsMeasure (m : Measure) : Type 0 where
   pub last : m.filling.holds ≡ LastFragment → 20 * m.portions ≤ m.filling.at
 
 -- a measure by its parts
-abbrev pub measure : ℕ → Filling → Measure
+abbrev pub measure : ℕ → OpenPacket → Measure
 measure portions filling = record { portions = portions; filling = filling }

@@ -3,9 +3,9 @@
 //! wire.
 #![tactic(auto)]
 
-mod filling;
 mod heads;
-mod laws;
+pub mod laws;
+mod open_packet;
 mod packer;
 mod payloads;
 mod reports;
@@ -14,14 +14,10 @@ mod sizes;
 pub use heads::{
     Head, HeadFault, media_timestamp, packet_head, read_head, video_header, write_head,
 };
-pub use laws::{
-    law_cutting, law_head_read_back, law_last_marked, law_media_times, law_one_cutting,
-    law_report_fields, law_rtp_header, law_rules, law_video_header,
-};
 pub use packer::packet;
 pub use payloads::{Packet, packets, refill_packets};
 pub use reports::{Identity, REPORT_BYTES, Report, unit_report, write_report};
-pub use sizes::{FRAME_HEADS, UnitSize};
+pub use sizes::{FRAME_HEAD_BYTES, UnitSize};
 
 #[cfg(test)]
 mod tests;

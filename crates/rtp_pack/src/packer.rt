@@ -2,12 +2,15 @@
 
 ghost use Rattle.std.specs.Prelude.{◌≡◌, ◌+◌, ◌-◌, ◌*◌, ◌<◌, ◌≤◌, ◌++◌, [], ◌∷◌, true, drop};
 ghost use Rattle.std.specs.Prelude.{length, IfOk, OnOk};
-ghost use Rattle.rtp_pack.specs.Cutting.{full_before, goes_in, last_start, next_filling, start_of};
+ghost use Rattle.rtp_pack.specs.Packetization.{full_before, goes_in, last_start, next_filling};
+ghost use Rattle.rtp_pack.specs.Packetization.{start_of};
 ghost use Rattle.rtp_pack.specs.Packets.{IsLaid, before_slice, filling_packet, full_packets};
 ghost use Rattle.rtp_pack.specs.Packets.{next_place, packet, slice_packets};
 ghost use Rattle.rtp_pack.specs.Sizes.{IsPacked};
 
-use crate::filling::{Filling, Holds, MAX_PAYLOAD_BYTES, full_before, goes_in, holds_after};
+use crate::open_packet::{
+    MAX_PAYLOAD_BYTES, OpenPacket, PacketContents, full_before, goes_in, holds_after,
+};
 use crate::payloads::Packet;
 use mpeg_scan::Unit;
 use vod_base::NoMemory;
@@ -24,10 +27,10 @@ pub(crate) fn pack(
     let first = unit.first_slice as usize;
     let starts = &slice_starts[first..first + unit.slices as usize];
     packets.clear();
-    let mut filling = Filling {
+    let mut filling = OpenPacket {
         from: unit.from,
         at: unit.head_end,
-        holds: Holds::HeadersAlone,
+        holds: PacketContents::HeadersAlone,
     };
     for index in 0..starts.len() {
         let end = slice_end(starts, index, unit.to);
@@ -61,12 +64,12 @@ fn put(packets: &mut Vec<Packet>, packet: Packet) -> Result<(), NoMemory>
 }
 
 /// Appends the packet of a portion that ends before a slice or with the unit.
-fn close(packets: &mut Vec<Packet>, unit: &Unit, filling: Filling) -> Result<(), NoMemory>
+fn close(packets: &mut Vec<Packet>, unit: &Unit, filling: OpenPacket) -> Result<(), NoMemory>
     ensures { OnOk result (packets.new.items ≡
         packets.old.items ++ filling_packet unit.now filling ∷ []) }
 {
-    let begin = matches!(filling.holds, Holds::Slices);
-    let end = !matches!(filling.holds, Holds::HeadersAlone);
+    let begin = matches!(filling.holds, PacketContents::Slices);
+    let end = !matches!(filling.holds, PacketContents::HeadersAlone);
     put(packets, packet(unit, filling.from, filling.at, begin, end))
 }
 
@@ -97,9 +100,9 @@ fn put_full(packets: &mut Vec<Packet>, unit: &Unit, start: u64, end: u64) -> Res
 fn put_slice(
     packets: &mut Vec<Packet>,
     unit: &Unit,
-    filling: Filling,
+    filling: OpenPacket,
     end: u64,
-) -> Result<Filling, NoMemory>
+) -> Result<OpenPacket, NoMemory>
     requires order { filling.from ≤ filling.at }
     requires some { filling.at < end }
     ensures filling { IfOk result (λ next. next ≡ next_filling filling (end - filling.at)) }
@@ -114,7 +117,7 @@ fn put_slice(
         start = filling.at;
     }
     let last = put_full(packets, unit, start, end)?;
-    Ok(Filling {
+    Ok(OpenPacket {
         from: last,
         at: end,
         holds: holds_after(length),

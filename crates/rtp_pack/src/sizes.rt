@@ -5,7 +5,9 @@ ghost use Rattle.rtp_pack.specs.Sizes.{HasSlice, IsSize, measure_from_headers, b
 ghost use Rattle.rtp_pack.specs.Sizes.{measure_of};
 ghost use Rattle.rtp_pack.specs.Sizes.{with_slice};
 
-use crate::filling::{Filling, Holds, MAX_PAYLOAD_BYTES, full_before, goes_in, holds_after};
+use crate::open_packet::{
+    MAX_PAYLOAD_BYTES, OpenPacket, PacketContents, full_before, goes_in, holds_after,
+};
 use std::marker::Model;
 
 /// The size of a unit's frames, counted while the lengths of its headers and slices come in. It
@@ -15,7 +17,7 @@ use std::marker::Model;
 #[derive(Drop)]
 pub struct UnitSize {
     portions: u64,
-    filling: Filling,
+    filling: OpenPacket,
 }
 
 impl Model for UnitSize {
@@ -29,7 +31,7 @@ impl Model for UnitSize {
 }
 
 /// The bytes of the heads of a frame: 4 of the interleaved block and 16 of the packet.
-pub const FRAME_HEADS: u64 = 20;
+pub const FRAME_HEAD_BYTES: u64 = 20;
 
 impl UnitSize {
     /// Begins a unit by the length of its headers.
@@ -41,10 +43,10 @@ impl UnitSize {
     {
         UnitSize {
             portions: 0,
-            filling: Filling {
+            filling: OpenPacket {
                 from: 0,
                 at: headers,
-                holds: Holds::HeadersAlone,
+                holds: PacketContents::HeadersAlone,
             },
         }
     }
@@ -65,7 +67,7 @@ impl UnitSize {
         }
         let full = full_before(start, end);
         self.portions += full;
-        self.filling = Filling {
+        self.filling = OpenPacket {
             from: start + MAX_PAYLOAD_BYTES * full,
             at: end,
             holds: holds_after(length),
@@ -79,6 +81,6 @@ impl UnitSize {
         ensures bound { result + 52 ≤ 2 * bytes_of self + 112 }
         ensures frames { IsSize self result }
     {
-        self.filling.at + FRAME_HEADS * (self.portions + 1)
+        self.filling.at + FRAME_HEAD_BYTES * (self.portions + 1)
     }
 }

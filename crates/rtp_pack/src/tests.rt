@@ -3,13 +3,16 @@
 //! and one slice.
 
 ghost use Rattle.std.specs.Prelude.{◌≡◌, ◌<◌, ◌≤◌, ◌^◌, ℕ, List, [], ◌∷◌, length, IfOk};
-ghost use Rattle.rtp_pack.specs.Cutting.{IsCutting};
+ghost use Rattle.rtp_pack.specs.Packetization.{AreCutPoints};
 ghost use Rattle.rtp_pack.specs.Laws.{ArePortions, IsLastMarked};
 
+use crate::laws::{
+    law_only_last_packet_has_marker, law_packet_head_round_trips, law_packetization_is_unique,
+    law_packets_respect_slices,
+};
 use crate::{
-    Head, HeadFault, Identity, Packet, Report, UnitSize, law_cutting, law_head_read_back,
-    law_last_marked, law_one_cutting, media_timestamp, packet_head, packets, read_head,
-    refill_packets, unit_report, video_header, write_head, write_report,
+    Head, HeadFault, Identity, Packet, Report, UnitSize, media_timestamp, packet_head, packets,
+    read_head, refill_packets, unit_report, video_header, write_head, write_report,
 };
 use mpeg_scan::{Film, Kind, Unit, scan};
 use std::alloc::Global;
@@ -83,7 +86,7 @@ fn marked_packets(alloc: Global, film: &Film) -> Result<Vec<Packet>, Fail>
     requires { 0 < length film.now.units.items }
     ensures { IfOk result (λ packets. IsLastMarked packets.items) }
 {
-    law_last_marked();
+    law_only_last_packet_has_marker();
     Ok(packets(alloc, film, 0)?)
 }
 
@@ -315,7 +318,7 @@ fn reads_heads(rt: HostRuntime) {
     };
     let bytes = b"\x80\x20\x12\x34\x56\x78\x9a\xbc\xde\xf0\x11\x22\x33\x44\x55\x66";
     assert_eq!(rt; write_head(&head), *bytes);
-    law_head_read_back();
+    law_packet_head_round_trips();
     for (bytes, want) in [
         (bytes.as_slice(), Ok(head)),
         (
@@ -366,12 +369,12 @@ fn reports_units(rt: HostRuntime) -> Result<(), Fail> {
 
 /// The rules cut headers of 28 bytes and a slice of 1,353 at these places alone.
 fn check_rules()
-    ensures cutting { IsCutting 0 28 (1353 ∷ []) (28 ∷ 1381 ∷ []) }
-    ensures one { (cuts : List ℕ) → IsCutting 0 28 (1353 ∷ []) cuts → cuts ≡ 28 ∷ 1381 ∷ [] }
+    ensures cutting { AreCutPoints 0 28 (1353 ∷ []) (28 ∷ 1381 ∷ []) }
+    ensures one { (cuts : List ℕ) → AreCutPoints 0 28 (1353 ∷ []) cuts → cuts ≡ 28 ∷ 1381 ∷ [] }
     ensures portions { ArePortions 0 (28 ∷ 1381 ∷ []) 1381 }
 {
-    law_one_cutting();
-    law_cutting();
+    law_packetization_is_unique();
+    law_packets_respect_slices();
 }
 
 /// The cut points of a unit by the rules, and those of its packets.

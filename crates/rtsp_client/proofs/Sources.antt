@@ -12,7 +12,7 @@ use Rattle.rtp_pack.specs.declared.heads.Head.{Head}
 use Rattle.rtp_pack.specs.declared.heads.HeadFault.{HeadFault}
 use Rattle.rtp_pack.specs.declared.heads.HeadFault.TheVariants.{Short}
 use Rattle.rtsp_client.specs.declared.frames.RtpSource.{RtpSource}
-use Rattle.rtsp_client.specs.declared.plays.Play.{Play}
+use Rattle.rtsp_client.specs.declared.play_reply.Play.{Play}
 use Rattle.rtsp_client.specs.States.{State, has_all, source_played, source_read, source_with}
 
 -- a head that is read is whole

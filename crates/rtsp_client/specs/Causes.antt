@@ -1,8 +1,8 @@
 -- Which fault of the outside an end blames.
 use Rattle.std.specs.Prelude.{◌≡◌, ℕ, IfErr, Result}
-use Rattle.vod_base.specs.Outside.{HasRisen}
-use Rattle.rtsp_client.specs.declared.wishes.WatchEnd.{WatchEnd}
-use Rattle.rtsp_client.specs.declared.wishes.WatchEnd.TheVariants.{LinkFault, SinkFault}
+use Rattle.vod_base.specs.IoState.{HasRisen}
+use Rattle.rtsp_client.specs.declared.watch_request.WatchEnd.{WatchEnd}
+use Rattle.rtsp_client.specs.declared.watch_request.WatchEnd.TheVariants.{LinkFault, SinkFault}
 
 -- the link is blamed only where its count of faults rose, and so is the output
 pub record HasCause (end : WatchEnd) (old_link new_link old_out new_out : ℕ) : Type 0 where

@@ -3,10 +3,10 @@ use Rattle.std.specs.Prelude.{ℕ, ◌+◌, ◌*◌, ◌%◌, ◌^◌, ◌==◌,
 use Rattle.std.specs.Prelude.{not, nat_le, nat_lt, if◌then◌else◌, List, length}
 use Rattle.std.specs.Prelude.{drop, slice_index, is_ok}
 use Rattle.std.specs.Int.{div_ceil}
-use Rattle.mpeg_scan.specs.Rates.{picture_time}
+use Rattle.mpeg_scan.specs.PictureRates.{picture_time}
 use Rattle.rtp_pack.specs.Heads.{head_at, head_of}
-use Rattle.rtsp_client.specs.Moments.{History, end_ms, first_frame, frames, is_playing}
-use Rattle.rtsp_client.specs.Moments.{latest_frame, sizes}
+use Rattle.rtsp_client.specs.ClientHistory.{History, end_ms, first_frame, frames, is_playing}
+use Rattle.rtsp_client.specs.ClientHistory.{latest_frame, sizes}
 
 -- the picture rate code of a sequence header (ISO/IEC 11172-2, 2.4.2.3)
 abbrev pub rate_code : List ℕ → ℕ

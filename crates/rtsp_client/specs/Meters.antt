@@ -1,17 +1,17 @@
 -- The meter of a client's buffer. It is read at each new slot from the play's first one on.
 use Rattle.std.specs.Prelude.{ℕ, ◌+◌, ◌-◌, ◌*◌, ◌/◌, ◌==◌, ◌&&◌, Bool, not}
 use Rattle.std.specs.Prelude.{max, nat_le, nat_lt, if◌then◌else◌, List, [], ◌∷◌, length}
-use Rattle.rtsp_client.specs.declared.wishes.Wish.{Wish}
-use Rattle.rtsp_client.specs.declared.wishes.Watched.{Watched}
-use Rattle.rtsp_client.specs.Moments.{History, Frame, Reply, Report, Slot, first_frame}
-use Rattle.rtsp_client.specs.Moments.{frames, is_playing, last_slot, payloads, bytes_received}
-use Rattle.rtsp_client.specs.Moments.{reports}
-use Rattle.rtsp_client.specs.Moments.{sizes, slot_before, start}
+use Rattle.rtsp_client.specs.declared.watch_request.Wish.{Wish}
+use Rattle.rtsp_client.specs.declared.watch_request.Watched.{Watched}
+use Rattle.rtsp_client.specs.ClientHistory.{History, Frame, Reply, Report, Slot, first_frame}
+use Rattle.rtsp_client.specs.ClientHistory.{frames, is_playing, last_slot, payloads, bytes_received}
+use Rattle.rtsp_client.specs.ClientHistory.{reports}
+use Rattle.rtsp_client.specs.ClientHistory.{sizes, slot_before, start}
 use Rattle.rtsp_client.specs.Films.{is_complete, time_in}
 
 -- in which slot of the play a unit is used, where a picture takes so many 1/360,000 seconds
 abbrev pub use_slot : Wish → ℕ → ℕ → ℕ
-use_slot wish time unit = unit * time / wish.slot_units + wish.delay
+use_slot wish time unit = unit * time / wish.slot_units + wish.startup
 
 -- the bytes of the units that are used before a slot of the play, among units of these sizes, of
 -- which the first has this number

@@ -2,11 +2,12 @@
 use Rattle.std.specs.Prelude.{◌≡◌, ℕ, ◌+◌, ◌-◌, ◌*◌, ◌^◌, ◌==◌, ◌&&◌, Bool, not}
 use Rattle.std.specs.Prelude.{if◌then◌else◌, nat_eq, nat_le, nat_lt, List, length, take, drop}
 use Rattle.std.specs.Prelude.{slice_index, Option, Some, None, option_map, option_and_then, codes}
-use Rattle.std.specs.List.{before_first, starts_with}
+use Rattle.std.specs.List.{before_first, list_all, starts_with}
 use Rattle.vod_base.specs.Blanks.{without_blanks}
 use Rattle.vod_base.specs.Numbers.{number_of}
 use Rattle.rtsp_text.specs.Lines.{first_line}
 use Rattle.rtsp_text.specs.Fields.{header_value}
+use Rattle.rtsp_text.specs.Grammar.{is_value_byte}
 use Rattle.rtsp_text.specs.StatusLines.{IsStatusLine}
 
 -- the number that the first field of a name writes
@@ -27,6 +28,14 @@ session_id value = without_blanks (before_first (λ byte. byte == 59) value)
 -- the session that a reply names
 abbrev pub session_in : List ℕ → Option (List ℕ)
 session_in message = option_map session_id (header_value message (codes "Session"))
+
+-- an id that a header field of a request may have: no control byte but the tab
+abbrev pub usable_id : List ℕ → Option (List ℕ)
+usable_id id = if list_all is_value_byte id then Some id else None
+
+-- the session that the reply to SETUP begins, whose id stands in the requests that follow
+abbrev pub setup_session : List ℕ → Option (List ℕ)
+setup_session message = option_and_then usable_id (session_in message)
 
 -- the milliseconds of seconds and a fraction of three digits
 abbrev pub milliseconds : List ℕ → List ℕ → Option ℕ

@@ -1,6 +1,6 @@
 -- The three requests of a client, as texts (RFC 2326 sections 6 and 10). Lines end with CR LF.
 use Rattle.std.specs.Prelude.{ℕ, List, ◌++◌, codes, decimal, string_bytes}
-use Rattle.rtsp_client.specs.declared.wishes.Wish.{Wish}
+use Rattle.rtsp_client.specs.declared.watch_request.Wish.{Wish}
 
 -- the film's URL
 abbrev pub film_url : Wish → List ℕ
@@ -13,7 +13,7 @@ setup_text wish =
     (((((((codes "SETUP " ++ film_url wish) ++ codes "/video RTSP/1.0\r\nCSeq: 1\r\n")
     ++ codes "Transport: RTP/AVP/TCP;unicast;interleaved=0-1\r\n") ++ codes "x-Buffer: ")
     ++ decimal wish.buffer)
-    ++ codes "\r\nx-Startup: ") ++ decimal wish.delay) ++ codes "\r\n\r\n"
+    ++ codes "\r\nx-Startup: ") ++ decimal wish.startup) ++ codes "\r\n\r\n"
 
 -- PLAY of the whole film, in a session
 abbrev pub play_text : Wish → List ℕ → List ℕ

@@ -4,14 +4,14 @@ use Rattle.std.specs.Prelude.{true, false, not, max, min, nat_le, nat_lt, if◌t
 use Rattle.std.specs.Prelude.{◌∷◌, ◌++◌, length, drop, slice_index, Option, Some, None}
 use Rattle.std.specs.Prelude.{Result, Ok, Err}
 use Rattle.std.specs.Int.{div_ceil}
-use Rattle.mpeg_scan.specs.Rates.{picture_time}
+use Rattle.mpeg_scan.specs.PictureRates.{picture_time}
 use Rattle.rtp_pack.specs.Heads.{head_of}
 use Rattle.rtp_pack.specs.declared.heads.Head.{Head}
 use Rattle.rtp_pack.specs.declared.heads.HeadFault.{HeadFault}
-use Rattle.rtsp_client.specs.declared.wishes.Wish.{Wish}
-use Rattle.rtsp_client.specs.declared.wishes.Watched.{Watched}
+use Rattle.rtsp_client.specs.declared.watch_request.Wish.{Wish}
+use Rattle.rtsp_client.specs.declared.watch_request.Watched.{Watched}
 use Rattle.rtsp_client.specs.declared.frames.RtpSource.{RtpSource}
-use Rattle.rtsp_client.specs.declared.plays.Play.{Play}
+use Rattle.rtsp_client.specs.declared.play_reply.Play.{Play}
 use Rattle.rtsp_client.specs.Films.{begins_film, rate_code, units_until}
 
 -- the greatest slot, the reply to PLAY, the frames' source, for each whole unit the sum of its size
@@ -139,14 +139,14 @@ used_bytes ends count = if count == 0 then 0 else slice_index ends (count - 1)
 abbrev pub played_of : Wish → Option RtpSource → List ℕ → ℕ → ℕ
 played_of wish None ends slot = 0
 played_of wish (Some source) ends slot =
-    used_bytes ends (min (div_ceil ((slot - wish.delay) * wish.slot_units) source.picture_time)
+    used_bytes ends (min (div_ceil ((slot - wish.startup) * wish.slot_units) source.picture_time)
     (length ends))
 
 -- a unit is used in this slot of the play, or before it, that isn't whole
 abbrev pub is_lacking : Wish → State → ℕ → Bool
 is_lacking wish s slot =
     not (has_all s) && nat_le (s.watched.units * time_of s.source / wish.slot_units
-    + wish.delay) slot
+    + wish.startup) slot
 
 -- the meter was read
 abbrev pub after_reading : Wish → State → ℕ → ℕ → State

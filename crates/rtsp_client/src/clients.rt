@@ -3,26 +3,27 @@
 ghost use Rattle.std.specs.Prelude.{◌≡◌, ◌+◌, ◌^◌, ◌<◌, ◌≤◌, ◌||◌, ◌∷◌, ℕ, false, true, Ok, List};
 ghost use Rattle.std.specs.Prelude.{[], Option, None, nat_lt, take, length as list_length, IfOk};
 ghost use Rattle.std.specs.Prelude.{IfErr, IfSome, OnOk, OnErr, MatchOption};
-ghost use Rattle.vod_base.specs.Links.{Doing, IsWithin, doing_of, sends, told_more};
+ghost use Rattle.vod_base.specs.Links.{IoEvent, IsWithin, io_event_of, sends, told_more};
 ghost use Rattle.interleave.specs.Elements.{IsFirst, IsMessageLength};
-ghost use Rattle.interleave.specs.declared.elements.Step.TheVariants.{Block, More, Message};
+ghost use Rattle.interleave.specs.declared.elements.Step.TheVariants.{Block, More, Request};
 ghost use Rattle.rtsp_client.specs.Answers.{cut_bytes};
 ghost use Rattle.rtsp_client.specs.Causes.{EndsWithCause};
-ghost use Rattle.rtsp_client.specs.Flows.{as_result};
-ghost use Rattle.rtsp_client.specs.Moments.{Frame};
+ghost use Rattle.rtsp_client.specs.ControlFlows.{as_result};
+ghost use Rattle.rtsp_client.specs.ClientHistory.{Frame};
 ghost use Rattle.rtsp_client.specs.Requests.{setup_text};
-ghost use Rattle.rtsp_client.specs.Standing.{IsAwaited, bytes_in, replies_in, session_of};
+ghost use Rattle.rtsp_client.specs.ClientState.{IsAwaited, bytes_in, replies_in, session_of};
 ghost use Rattle.rtsp_client.specs.States.{has_all, new_state};
-ghost use Rattle.rtsp_client.specs.Takings.{EndsAtBlock, EndsAtEvent, EndsAtMoment, EndsAtReply};
-ghost use Rattle.rtsp_client.specs.Takings.{IsUnsent, PassesBlock, PassesMoments, PassesReply};
-ghost use Rattle.rtsp_client.specs.Takings.{StopsAtElements, TakesElements, TakesEvent, stand};
-ghost use Rattle.rtsp_client.specs.Wishes.{IsWish};
+ghost use Rattle.rtsp_client.specs.ClientSteps.{EndsAtBlock, EndsAtEvent, EndsAtMoment};
+ghost use Rattle.rtsp_client.specs.ClientSteps.{EndsAtReply};
+ghost use Rattle.rtsp_client.specs.ClientSteps.{IsUnsent, PassesBlock, PassesMoments, PassesReply};
+ghost use Rattle.rtsp_client.specs.ClientSteps.{StopsAtElements, TakesElements, TakesEvent, stand};
+ghost use Rattle.rtsp_client.specs.WatchRequests.{IsWish};
 
 use crate::frames::HEADS;
-use crate::replies::{play_range, play_start, reply_code, session_in};
+use crate::replies::{play_range, play_start, reply_code, setup_session};
 use crate::requests::{play_request, setup_request, teardown_request};
-use crate::watching::Watching;
-use crate::wishes::{WatchEnd, WatchFault, Wish};
+use crate::watch_request::{WatchEnd, WatchFault, Wish};
+use crate::watch_state::WatchState;
 use interleave::{Demux, Step};
 use std::alloc::Global;
 use std::ops::ControlFlow;
@@ -35,7 +36,7 @@ pub(crate) struct Client {
     input: Demux,
     /// The session's id, from the first reply on.
     session: Option<Vec<u8>>,
-    watching: Watching,
+    watching: WatchState,
 }
 
 impl Client {
@@ -49,7 +50,7 @@ impl Client {
             alloc,
             input: Demux::new(alloc)?,
             session: None,
-            watching: Watching::new(alloc),
+            watching: WatchState::new(alloc),
         })
     }
 
@@ -67,7 +68,7 @@ impl Client {
         Ok(())
     }
 
-    /// Takes up an event. The bytes that came stand in front of `bytes`.
+    /// Processes an event. The bytes that came stand in front of `bytes`.
     ///
     /// Breaks with how it ended the watching, where it did.
     pub(crate) fn hear<K: Link, O: Sink>(
@@ -90,10 +91,10 @@ impl Client {
         ensures count_out { O.faults out.old ≤ O.faults out.new }
         ensures cause { EndsWithCause (as_result result) (K.faults link.old) (K.faults link.new)
             (O.faults out.old) (O.faults out.new) }
-        ensures on { TakesEvent wish.now (doing_of heard bytes.now) (as_result result)
+        ensures on { TakesEvent wish.now (io_event_of heard bytes.now) (as_result result)
             (stand self.old (K.told link.old) (O.written out.old))
             (stand self.new (K.told link.new) (O.written out.new)) }
-        ensures ended { EndsAtEvent wish.now (doing_of heard bytes.now) (as_result result)
+        ensures ended { EndsAtEvent wish.now (io_event_of heard bytes.now) (as_result result)
             (stand self.old (K.told link.old) (O.written out.old))
             (stand self.new (K.told link.new) (O.written out.new)) }
     {
@@ -103,19 +104,19 @@ impl Client {
                 ControlFlow::Break(WatchEnd::Fault(WatchFault::EndedEarly(units)))
             }
             Heard::Slot(slot) => {
-                let cut = cut_bytes(self.input.waiting_bytes());
+                let cut = cut_bytes(self.input.waiting());
                 self.watching.hear_slot(wish, slot, cut as u64);
                 ControlFlow::Continue(())
             }
             Heard::Bytes(count) => match self.input.put(&bytes[..count]) {
-                Ok(()) => self.take_up(wish, link, out),
+                Ok(()) => self.process_input(wish, link, out),
                 Err(_) => unreachable!(),
             },
         }
     }
 
-    /// Takes up the whole elements that wait.
-    fn take_up<K: Link, O: Sink>(
+    /// Processes the whole elements that wait.
+    fn process_input<K: Link, O: Sink>(
         &mut self,
         wish: &Wish,
         link: &mut K,
@@ -137,15 +138,15 @@ impl Client {
             (stand self.new (K.told link.new) (O.written out.new)) }
     {
         'elements: loop {
-            let more = self.take_next(wish, link, out)?;
+            let more = self.process_next(wish, link, out)?;
             if !more {
                 return ControlFlow::Continue(());
             }
         }
     }
 
-    /// Takes up the element in front, and answers whether one was whole.
-    fn take_next<K: Link, O: Sink>(
+    /// Processes the element in front, and answers whether one was whole.
+    fn process_next<K: Link, O: Sink>(
         &mut self,
         wish: &Wish,
         link: &mut K,
@@ -182,7 +183,7 @@ impl Client {
                 self.input.drop_front(length);
                 ControlFlow::Continue(true)
             }
-            Ok(Step::Message(length)) => {
+            Ok(Step::Request(length)) => {
                 self.take_reply(wish, length, link)?;
                 self.input.drop_front(length);
                 ControlFlow::Continue(true)
@@ -190,7 +191,7 @@ impl Client {
         }
     }
 
-    /// Takes up the block in front, which stays there.
+    /// Processes the block in front, which stays there.
     fn take_block<K: Link, O: Sink>(
         &mut self,
         wish: &Wish,
@@ -225,7 +226,7 @@ impl Client {
         }
     }
 
-    /// Takes up the frame in front: hands its payload on, and sends TEARDOWN once all pictures are
+    /// Processes the frame in front: hands its payload on, and sends TEARDOWN once all pictures are
     /// whole.
     fn take_frame<K: Link, O: Sink>(
         &mut self,
@@ -251,7 +252,7 @@ impl Client {
             (stand self.old (K.told link.old) (O.written out.old))
             (stand self.new (K.told link.new) (O.written out.new)) }
     {
-        let block = &self.input.waiting_bytes()[..length];
+        let block = &self.input.waiting()[..length];
         let Some(source) = self.watching.source_with(block) else {
             let number = self.watching.tally().frames;
             return Err(WatchEnd::Fault(WatchFault::BadFrame(number)));
@@ -307,14 +308,14 @@ impl Client {
         reply_code(message, self.replies() + 1)
     }
 
-    /// Takes up the reply in front, which stays there.
+    /// Processes the reply in front, which stays there.
     fn take_reply<K: Link>(
         &mut self,
         wish: &Wish,
         length: usize,
         link: &mut K,
     ) -> ControlFlow<WatchEnd>
-        requires message { IsFirst self.old.input (Ok (Message length)) }
+        requires message { IsFirst self.old.input (Ok (Request length)) }
         ensures input { self.new.input ≡ self.old.input }
         ensures few { self.new.watching.received ≡ self.old.watching.received }
         ensures count { K.faults link.old ≤ K.faults link.new }
@@ -325,7 +326,7 @@ impl Client {
         ensures ended { EndsAtReply wish.now length (as_result result)
             (stand self.old (K.told link.old)) (stand self.new (K.told link.new)) }
     {
-        let Some(code) = self.awaited_code(&self.input.waiting_bytes()[..length]) else {
+        let Some(code) = self.awaited_code(&self.input.waiting()[..length]) else {
             let number = self.replies() + 1;
             return ControlFlow::Break(WatchEnd::Fault(WatchFault::BadReply(number)));
         };
@@ -339,7 +340,7 @@ impl Client {
         }
     }
 
-    /// Takes up the reply to SETUP in front, and asks for PLAY.
+    /// Processes the reply to SETUP in front, and asks for PLAY.
     fn take_setup<K: Link>(
         &mut self,
         wish: &Wish,
@@ -347,7 +348,7 @@ impl Client {
         link: &mut K,
     ) -> Result<(), WatchEnd>
         requires first { replies_in self.old ≡ 0 }
-        requires message { IsFirst self.old.input (Ok (Message length)) }
+        requires message { IsFirst self.old.input (Ok (Request length)) }
         requires good { IsAwaited self.old (take length self.old.input) 200 }
         ensures input { self.new.input ≡ self.old.input }
         ensures few { self.new.watching.received ≡ self.old.watching.received }
@@ -358,8 +359,8 @@ impl Client {
         ensures ended { EndsAtReply wish.now length result
             (stand self.old (K.told link.old)) (stand self.new (K.told link.new)) }
     {
-        let message = &self.input.waiting_bytes()[..length];
-        let session = session_in(message).ok_or(WatchFault::BadReply(1))?;
+        let message = &self.input.waiting()[..length];
+        let session = setup_session(message).ok_or(WatchFault::BadReply(1))?;
         let request = play_request(self.alloc, wish, session)?;
         let kept = Vec::from_slice(self.alloc, session)?;
         link.send(request.as_slice())?;
@@ -367,20 +368,20 @@ impl Client {
         Ok(())
     }
 
-    /// Takes up the reply to PLAY in front.
+    /// Processes the reply to PLAY in front.
     fn take_play(&mut self, wish: &Wish, length: usize) -> Result<(), WatchEnd>
         requires second { replies_in self.old ≡ 1 }
-        requires message { IsFirst self.old.input (Ok (Message length)) }
+        requires message { IsFirst self.old.input (Ok (Request length)) }
         requires good { IsAwaited self.old (take length self.old.input) 200 }
         ensures input { self.new.input ≡ self.old.input }
         ensures few { self.new.watching.received ≡ self.old.watching.received }
         ensures cause { EndsWithCause result 0 0 0 0 }
-        ensures passed { (told : Option (List Doing)) → PassesReply wish.now length result
+        ensures passed { (told : Option (List IoEvent)) → PassesReply wish.now length result
             (stand self.old told) (stand self.new told) }
-        ensures ended { (told : Option (List Doing)) → EndsAtReply wish.now length result
+        ensures ended { (told : Option (List IoEvent)) → EndsAtReply wish.now length result
             (stand self.old told) (stand self.new told) }
     {
-        let message = &self.input.waiting_bytes()[..length];
+        let message = &self.input.waiting()[..length];
         let end_ms = play_range(message).ok_or(WatchFault::BadReply(2))?;
         let start = play_start(message).ok_or(WatchFault::BadReply(2))?;
         self.watching.begin(start, end_ms);

@@ -1,18 +1,18 @@
 //! What the frames of a film say of it (RFC 2326 section 10.12, RFC 3550, RFC 2250).
 
 ghost use Rattle.std.specs.Prelude.{◌≡◌, ◌^◌, ◌<◌, IfSome};
-ghost use Rattle.rtsp_client.specs.Sound.{IsSoundSource};
+ghost use Rattle.rtsp_client.specs.ClientInvariant.{IsSoundSource};
 ghost use Rattle.rtsp_client.specs.Films.{begins_film, units_until};
 ghost use Rattle.rtsp_client.specs.States.{first_source, next_source};
 
 use mpeg_scan::{MAX_FILM_PICTURES, picture_time};
-use rtp_pack::{FRAME_HEADS, Head};
+use rtp_pack::{FRAME_HEAD_BYTES, Head};
 
 /// The bytes of a block's head: `$`, the channel and the length (RFC 2326 section 10.12).
 pub(crate) const BLOCK_HEAD: usize = 4;
 
 /// The bytes before a frame's payload: the heads of the block, of RTP and of its video.
-pub(crate) const HEADS: usize = FRAME_HEADS as usize;
+pub(crate) const HEADS: usize = FRAME_HEAD_BYTES as usize;
 
 /// What the frames of one synchronization source so far say of their film (RFC 3550).
 #[derive(Clone, Copy)]
@@ -33,7 +33,7 @@ impl RtpSource {
     /// What the first frame of a film says, whose payload begins with a sequence header.
     ///
     /// None where it doesn't, or where the film has no picture or too many.
-    #[tactic(auto, using(crate::proofs::Rates::time_bounds))]
+    #[tactic(auto, using(crate::proofs::PictureTimes::time_bounds))]
     pub(crate) fn first(head: &Head, payload: &[u8], end_ms: u128) -> Option<RtpSource>
         requires { end_ms < 2 ^ 100 }
         ensures source { result ≡ first_source head.now payload.now end_ms }

@@ -1,36 +1,43 @@
 //! What the definitions of a watching come to.
 
-ghost use Rattle.std.specs.Prelude.{◌≡◌, ◌-◌, ◌^◌, ◌<◌, ◌≤◌, ◌↔◌, ◌++◌, ℕ, List, length, take};
-ghost use Rattle.std.specs.Prelude.{drop, Option};
-ghost use Rattle.vod_base.specs.Links.{Doing};
+ghost use Rattle.std.specs.Prelude.{◌≡◌, ◌+◌, ◌-◌, ◌^◌, ◌<◌, ◌≤◌, ◌↔◌, ◌++◌, ℕ, List, length, take};
+ghost use Rattle.std.specs.Prelude.{◌∷◌, [], Option, Some, codes, drop, false, is_ok, true};
+ghost use Rattle.std.specs.List.{filter};
+ghost use Rattle.vod_base.specs.Links.{IoEvent};
 ghost use Rattle.rtp_pack.specs.Packets.{OfUnit};
-ghost use Rattle.film_frames.specs.Laws.{OfRuns, run_frames};
-ghost use Rattle.film_frames.specs.Runs.{run_of};
+ghost use Rattle.rtp_pack.specs.Heads.{head_at, head_of};
+ghost use Rattle.film_frames.specs.Laws.{AreConsecutive, OfRuns, run_frames};
+ghost use Rattle.film_frames.specs.FramedRuns.{run_of};
 ghost use Rattle.rtsp_client.specs.Answers.{payloads_of};
-ghost use Rattle.rtsp_client.specs.Asked.{IsAsked, IsSessionId};
-ghost use Rattle.rtsp_client.specs.Asked.{play_parts, setup_parts, teardown_parts};
-ghost use Rattle.rtsp_client.specs.Meters.{most_waiting, count_over, count_under};
-ghost use Rattle.rtsp_client.specs.Moments.{History, Moment};
-ghost use Rattle.rtsp_client.specs.Outcomes.{IsOutcome, Outcome, events_in};
-ghost use Rattle.rtsp_client.specs.Promises.{IsBetweenAlways, IsHeardAlways, frames_of};
+ghost use Rattle.rtsp_client.specs.RequestParts.{IsRequestText, IsSessionId};
+ghost use Rattle.rtsp_client.specs.RequestParts.{play_parts, setup_parts, teardown_parts};
+ghost use Rattle.rtsp_client.specs.Meters.{most_waiting, count_over, count_under, watched_in};
+ghost use Rattle.rtsp_client.specs.MeterReadings.{is_overrun, is_underrun, readings};
+ghost use Rattle.rtsp_client.specs.Films.{is_complete, is_good_frame};
+ghost use Rattle.rtsp_client.specs.Replies.{number_in, play_start, setup_session};
+ghost use Rattle.rtsp_client.specs.ClientHistory.{History, ClientEvent, first_frame, frames};
+ghost use Rattle.rtsp_client.specs.ClientHistory.{is_playing};
+ghost use Rattle.rtsp_client.specs.Outcomes.{IsOutcome, WatchOutcome, events_in};
+ghost use Rattle.rtsp_client.specs.MeterGuarantee.{IsBetweenAlways, IsFilmHeardAlways};
+ghost use Rattle.rtsp_client.specs.MeterGuarantee.{frames_heard, frames_of};
 ghost use Rattle.rtsp_client.specs.Requests.{play_text, setup_text, teardown_text};
-ghost use Rattle.rtsp_client.specs.Wishes.{IsWish};
-ghost use Rattle.rtsp_client.specs.declared.wishes.Wish.{Wish};
+ghost use Rattle.rtsp_client.specs.WatchRequests.{IsWish};
+ghost use Rattle.rtsp_client.specs.declared.watch_request.Wish.{Wish};
 
-use film_frames::law_film_comes_back;
+use film_frames::laws::law_payloads_are_film_bytes;
 
 /// A watching has one answer. Where the client heard it, the events that were heard decide it, and
-/// what was sent and handed on too. No front of these events has another answer, so the first cause
-/// in the order of the events is the one that is answered.
-pub fn law_one_watching()
-    ensures { (wish : Wish) (told later : List Doing) (out : Option (List ℕ))
-        (one other : Outcome) → IsOutcome wish told out one → IsOutcome wish told out other →
+/// what was sent and handed on too. No prefix of these events has another answer, so the first
+/// cause in the order of the events is the one that is answered.
+pub fn law_events_decide_watch_result()
+    ensures { (wish : Wish) (told later : List IoEvent) (out : Option (List ℕ))
+        (one other : WatchOutcome) → IsOutcome wish told out one → IsOutcome wish told out other →
         events_in other.doings ≡ events_in one.doings ++ later → one ≡ other }
 {}
 
 /// Where at each reading the bytes that came lie between the two curves of a film's units, the
 /// meter stays between empty and the buffer: no picture lacks when it is used, and what waits fits.
-pub fn law_meter_within()
+pub fn law_meter_stays_within_buffer()
     ensures { (wish : Wish) (sizes : List ℕ) (picture_time : ℕ) (h : History) → IsWish wish →
         0 < picture_time → 0 < length sizes → IsBetweenAlways wish sizes picture_time h →
         (count_over wish h ≡ 0) × (count_under wish h ≡ 0)
@@ -40,37 +47,73 @@ pub fn law_meter_within()
 /// The meter tells when the bytes that came leave the space between the two curves: where a film's
 /// first units were heard and no reading was over or under, what came lay between the curves at
 /// each reading; and the most that waited is above the buffer exactly where a reading was over.
-pub fn law_meter_tells()
+pub fn law_meter_detects_curve_violations()
     ensures between { (wish : Wish) (sizes : List ℕ) (picture_time : ℕ) (h : History) →
-        IsWish wish → 0 < picture_time → IsHeardAlways wish sizes picture_time h →
+        IsWish wish → 0 < picture_time → IsFilmHeardAlways wish sizes picture_time h →
         count_over wish h ≡ 0 → count_under wish h ≡ 0 →
         IsBetweenAlways wish sizes picture_time h }
     ensures most { (wish : Wish) (h : History) →
         (most_waiting wish h ≤ wish.buffer) ↔ (count_over wish h ≡ 0) }
 {}
 
+/// The meter counts its readings: `over` is the number of those at which more waited than the
+/// buffer holds, and `under` of those at which a picture was missing that was to be used by then.
+pub fn law_meter_counts_readings()
+    ensures over { (wish : Wish) (h : History) →
+        (watched_in wish h).over ≡ length (filter (is_overrun wish) (readings wish h)) }
+    ensures under { (wish : Wish) (h : History) →
+        (watched_in wish h).under ≡ length (filter is_underrun (readings wish h)) }
+{}
+
+/// A client accepts each further frame of its source whose sequence number is the next one, as long
+/// as units are missing. Numbers count on modulo 2^16 from any first one, so they may wrap: as
+/// those of a run do (RFC 3550 section 5.1).
+pub fn law_next_sequence_number_is_accepted()
+    ensures { (h : History) (block : List ℕ) (first : ℕ) → is_playing h ≡ true →
+        is_complete h ≡ false → 0 < frames h → is_ok (head_of (drop 4 block)) ≡ true →
+        (head_at (drop 4 block)).ssrc ≡ (head_at (drop 4 (first_frame h))).ssrc →
+        AreConsecutive first (frames_heard h ++ block ∷ []) → is_good_frame h block ≡ true }
+{}
+
+/// The start that a client reads in a reply to PLAY is from 1 to 2^62 + 1, and each number in that
+/// range is read.
+pub fn law_play_start_is_in_range()
+    ensures within { (message : List ℕ) (start : ℕ) → play_start message ≡ Some start →
+        (1 ≤ start) × (start ≤ 2 ^ 62 + 1) }
+    ensures read { (message : List ℕ) (start : ℕ) →
+        number_in message (codes "x-Start") ≡ Some start → 1 ≤ start → start ≤ 2 ^ 62 + 1 →
+        play_start message ≡ Some start }
+{}
+
+/// The id of a session that a client takes from the reply to SETUP may stand in a header field of
+/// its requests, where it has at most 1,024 bytes: it has no control byte but the tab.
+pub fn law_session_id_fits_requests()
+    ensures { (message id : List ℕ) → setup_session message ≡ Some id → length id ≤ 1024 →
+        IsSessionId id }
+{}
+
 /// Where the frames that came are those of a run of a film's units, what is handed on are the
 /// film's bytes from where the run's first unit begins to where its last one ends.
-pub fn law_film_watched()
-    ensures { OfRuns (λ film first_unit end_unit identity. (moments : List Moment) →
+pub fn law_output_is_film_bytes()
+    ensures { OfRuns (λ film first_unit end_unit identity. (moments : List ClientEvent) →
         frames_of moments ≡ run_frames (run_of film first_unit end_unit identity) →
         OfUnit film.units.items first_unit (λ first.
         OfUnit film.units.items (end_unit - 1) (λ last.
         payloads_of moments ≡ take (last.to - first.from) (drop first.from film.bytes.items)))) }
 {
-    law_film_comes_back();
+    law_payloads_are_film_bytes();
 }
 
 /// The texts that a client sends are whole requests of RTSP 1.0, whatever comes after them, and are
 /// read as what it asks for: their method, URL and sequence number, and each name has the value of
 /// the client's first field of that name: Transport, `x-Buffer` and `x-Startup` in SETUP, Session
 /// and Range in PLAY, Session in TEARDOWN (RFC 2326 sections 6, 10 and 12).
-pub fn law_requests_read()
+pub fn law_requests_are_valid_rtsp()
     ensures setup { (wish : Wish) → IsWish wish → wish.port < 2 ^ 16 →
-        IsAsked (setup_text wish) (setup_parts wish) 1 }
+        IsRequestText (setup_text wish) (setup_parts wish) 1 }
     ensures play { (wish : Wish) (session : List ℕ) → IsWish wish → wish.port < 2 ^ 16 →
-        IsSessionId session → IsAsked (play_text wish session) (play_parts wish session) 2 }
+        IsSessionId session → IsRequestText (play_text wish session) (play_parts wish session) 2 }
     ensures teardown { (wish : Wish) (session : List ℕ) → IsWish wish → wish.port < 2 ^ 16 →
         IsSessionId session →
-        IsAsked (teardown_text wish session) (teardown_parts wish session) 3 }
+        IsRequestText (teardown_text wish session) (teardown_parts wish session) 3 }
 {}

@@ -5,19 +5,16 @@
 
 mod clients;
 mod frames;
-mod laws;
-mod plays;
+pub mod laws;
+mod play_reply;
 mod replies;
 mod requests;
-mod viewing;
-mod watching;
-mod wishes;
+mod watch_loop;
+mod watch_request;
+mod watch_state;
 
-pub use laws::{
-    law_film_watched, law_meter_tells, law_meter_within, law_one_watching, law_requests_read,
-};
-pub use viewing::watch;
-pub use wishes::{WatchEnd, WatchFault, Watched, Wish};
+pub use watch_loop::watch;
+pub use watch_request::{WatchEnd, WatchFault, Watched, Wish};
 
 #[cfg(test)]
 mod tests;

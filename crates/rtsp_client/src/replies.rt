@@ -2,11 +2,12 @@
 
 ghost use Rattle.std.specs.Prelude.{◌≡◌, ◌^◌, ◌<◌, ◌≤◌, ◌==◌, ℕ, length, option_map, IfSome};
 ghost use Rattle.std.specs.Prelude.{MatchOption, position};
-ghost use Rattle.std.specs.List.{position_or_len};
+ghost use Rattle.std.specs.List.{list_all, position_or_len};
 ghost use Rattle.interleave.specs.Elements.{IsMessageLength};
 ghost use Rattle.rtsp_client.specs.Replies.{IsAnswer, has_point, milliseconds, number_in};
 ghost use Rattle.rtsp_client.specs.Replies.{play_range, play_start, range_end, session_id};
-ghost use Rattle.rtsp_client.specs.Replies.{session_in, time_in};
+ghost use Rattle.rtsp_client.specs.Replies.{session_in, setup_session, time_in, usable_id};
+ghost use Rattle.rtsp_text.specs.Grammar.{is_value_byte};
 
 use rtsp_text::{header_of, read_reply};
 use vod_base::{read_number, trim};
@@ -15,7 +16,7 @@ use vod_base::{read_number, trim};
 ///
 /// None where its first line isn't `RTSP/1.0`, three digits and a phrase, or its CSeq isn't the
 /// number.
-#[tactic(auto, using(crate::proofs::Answering::answer_is))]
+#[tactic(auto, using(crate::proofs::WatchEnds::answer_is))]
 pub(crate) fn reply_code(message: &[u8], number: u64) -> Option<u16>
     requires { IsMessageLength message.now (length message.now) }
     ensures { MatchOption result ((code : ℕ) →
@@ -29,8 +30,17 @@ pub(crate) fn reply_code(message: &[u8], number: u64) -> Option<u16>
     Some(reply.code)
 }
 
+/// The session that the reply to SETUP begins.
+///
+/// None where the reply names none, or one whose id no header field of a request may have.
+pub(crate) fn setup_session(message: &[u8]) -> Option<&[u8]>
+    ensures { option_map (λ session. session.now) result ≡ setup_session message.now }
+{
+    usable_id(session_in(message)?)
+}
+
 /// The session that a reply names.
-pub(crate) fn session_in(message: &[u8]) -> Option<&[u8]>
+fn session_in(message: &[u8]) -> Option<&[u8]>
     ensures { option_map (λ session. session.now) result ≡ session_in message.now }
 {
     Some(session_id(header_of(message, b"Session")?))
@@ -81,6 +91,27 @@ fn session_id(value: &[u8]) -> &[u8]
     ensures { result.now ≡ session_id value.now }
 {
     trim(&value[..id_end(value)])
+}
+
+/// The id, if a header field of a request may have it: no control byte but the tab.
+fn usable_id(id: &[u8]) -> Option<&[u8]>
+    ensures { option_map (λ id. id.now) result ≡ usable_id id.now }
+{
+    if has_value_bytes(id) { Some(id) } else { None }
+}
+
+/// Whether a header field's value may have these bytes.
+fn has_value_bytes(text: &[u8]) -> bool
+    ensures { result ≡ list_all is_value_byte text.now }
+{
+    text.iter().all(|byte| is_value_byte(*byte))
+}
+
+/// Whether a header field's value may have this byte (RFC 2326 section 15.1).
+fn is_value_byte(byte: u8) -> bool
+    ensures { result ≡ is_value_byte byte }
+{
+    (byte >= b' ' || byte == b'\t') && byte != 0x7f
 }
 
 /// The milliseconds of seconds and a fraction of three digits.

@@ -3,7 +3,7 @@
 ghost use Rattle.std.specs.Prelude.{◌≡◌, ◌++◌, IfOk, OnOk};
 ghost use Rattle.rtsp_client.specs.Requests.{film_url, play_text, setup_text, teardown_text};
 
-use crate::wishes::Wish;
+use crate::watch_request::Wish;
 use std::alloc::Global;
 use vod_base::{NoMemory, push, push_field};
 
@@ -21,7 +21,7 @@ pub(crate) fn setup_request(alloc: Global, wish: &Wish) -> Result<Vec<u8>, NoMem
         b"Transport: RTP/AVP/TCP;unicast;interleaved=0-1\r\n",
     )?;
     push_field(&mut text, b"x-Buffer: ", wish.buffer)?;
-    push_field(&mut text, b"\r\nx-Startup: ", wish.delay)?;
+    push_field(&mut text, b"\r\nx-Startup: ", wish.startup)?;
     push(&mut text, b"\r\n\r\n")?;
     Ok(text)
 }

@@ -3,7 +3,7 @@
 use super::*;
 use std::alloc::Global;
 use std::test::Fail;
-use vod_base::{Event, MemoryLink, MemorySink, is_good_name};
+use vod_base::{Event, MemoryLink, MemorySink, good_name};
 
 /// What a link tells: a reply, bytes of the film as it is sent, other bytes, a slot, the end.
 #[derive(Clone, Copy)]
@@ -109,6 +109,17 @@ const STRANGER: Tell = Raw(&[
     0x24, 0, 0, 0x11, 0x80, 0xa0, 0, 2, 0, 0, 14, 16, 1, 2, 3, 5, 0, 1, 26, 1, 0,
 ]);
 
+/// The film's frames with the sequence numbers 65535 and 0.
+const WRAPPED: Tell = Raw(&[
+    0x24, 0x00, 0x00, 0x32, 0x80, 0xa0, 0xff, 0xff, 0x00, 0x00, 0x00, 0x00, 0x01, 0x02, 0x03, 0x04,
+    0x00, 0x00, 0x39, 0x00, 0x00, 0x00, 0x01, 0xb3, 0x16, 0x01, 0x20, 0x13, 0xff, 0xff, 0xe0, 0xa0,
+    0x00, 0x00, 0x01, 0xb8, 0x00, 0x08, 0x00, 0x40, 0x00, 0x00, 0x01, 0x00, 0x00, 0x0f, 0xff, 0xf8,
+    0x00, 0x00, 0x01, 0x01, 0x12, 0x34, // the first picture's frame
+    0x24, 0x00, 0x00, 0x1f, 0x80, 0xa0, 0x00, 0x00, 0x00, 0x00, 0x0e, 0x10, 0x01, 0x02, 0x03, 0x04,
+    0x00, 0x01, 0x1a, 0x01, 0x00, 0x00, 0x01, 0x00, 0x00, 0x57, 0xff, 0xf8, 0x80, 0x00, 0x00, 0x01,
+    0x01, 0x12, 0x34,
+]);
+
 /// What a server says, and what comes of it.
 const CASES: &[Case] = &[
     Case {
@@ -122,6 +133,36 @@ const CASES: &[Case] = &[
         buffer: 105,
         tells: BY_PLAN,
         end: WatchEnd::Done(Watched { over: 1, ..ALL }),
+        requests: 3,
+        handed_on: 49,
+    },
+    // two readings with too much in the buffer, then two without the second picture
+    Case {
+        buffer: 105,
+        tells: &[
+            SET_UP,
+            PLAYED,
+            Film(0, 106),
+            Slot(1),
+            Slot(2),
+            Slot(4),
+            Slot(5),
+            Film(106, 141),
+            TORN_DOWN,
+        ],
+        end: WatchEnd::Done(Watched {
+            over: 2,
+            under: 2,
+            ..ALL
+        }),
+        requests: 3,
+        handed_on: 49,
+    },
+    // sequence numbers wrap
+    Case {
+        buffer: BUFFER,
+        tells: &[SET_UP, PLAYED, Film(0, 52), WRAPPED, TORN_DOWN],
+        end: WatchEnd::Done(Watched { most: 0, ..ALL }),
         requests: 3,
         handed_on: 49,
     },
@@ -193,6 +234,14 @@ const CASES: &[Case] = &[
     Case {
         buffer: BUFFER,
         tells: &[Text("RTSP/1.0 200 OK\r\nCSeq: 2\r\nSession: 1\r\n\r\n")],
+        end: WatchEnd::Fault(WatchFault::BadReply(1)),
+        requests: 1,
+        handed_on: 0,
+    },
+    // an id that no header field may have
+    Case {
+        buffer: BUFFER,
+        tells: &[Text("RTSP/1.0 200 OK\r\nCSeq: 1\r\nSession: a\x01b\r\n\r\n")],
         end: WatchEnd::Fault(WatchFault::BadReply(1)),
         requests: 1,
         handed_on: 0,
@@ -334,7 +383,7 @@ fn events_of(alloc: Global, tells: &[Tell], cut: bool) -> Result<Vec<Event>, Fai
 
 /// What comes of watching, what was sent and what was handed on.
 #[derive(Debug, Drop, PartialEq)]
-struct Outcome {
+struct WatchOutcome {
     end: WatchEnd,
     sent: Vec<u8>,
     out: Vec<u8>,
@@ -343,22 +392,22 @@ struct Outcome {
 /// The numbers of the calls that fail: sends, calls of `next`, and writes.
 type Failing = (&'static [u64], &'static [u64], &'static [u64]);
 
-/// Watches the film over a link that gives these events, where these calls of the outside fail.
+/// Watches the film over a link that gives these events, where these calls of the environment fail.
 fn watch_events(
     alloc: Global,
     buffer: u64,
     events: Vec<Event>,
     failing: Failing,
-) -> Result<Outcome, Fail> {
+) -> Result<WatchOutcome, Fail> {
     let name = String::from_str(alloc, "b.mpg")?;
-    if !is_good_name(name.as_bytes()) || buffer < 1 || buffer > 1 << 42 {
+    if !good_name(name.as_bytes()) || buffer < 1 || buffer > 1 << 42 {
         return Err(Fail::from("no such wish"));
     }
     let wish = Wish {
         name,
         port: 8554,
         buffer,
-        delay: 2,
+        startup: 2,
         slot_units: 14_400,
     };
     let (sends, nexts, writes) = failing;
@@ -371,9 +420,9 @@ fn watch_events(
         return Err(Fail::from("no memory"));
     };
     let end = watch(alloc, &wish, &mut link, &mut out);
-    Ok(Outcome {
+    Ok(WatchOutcome {
         end,
-        sent: Vec::from_slice(alloc, link.sent_bytes())?,
+        sent: Vec::from_slice(alloc, link.sent())?,
         out: Vec::from_slice(alloc, out.bytes())?,
     })
 }
@@ -401,9 +450,9 @@ fn film(alloc: Global, count: usize) -> Result<Vec<u8>, Fail> {
 }
 
 /// What should come of a case.
-fn wanted_outcome(alloc: Global, case: &Case) -> Result<Outcome, Fail> {
+fn wanted_outcome(alloc: Global, case: &Case) -> Result<WatchOutcome, Fail> {
     let sent = requests(alloc, case.requests, case.buffer)?;
-    Ok(Outcome {
+    Ok(WatchOutcome {
         end: case.end,
         sent: Vec::from_slice(alloc, sent.as_bytes())?,
         out: film(alloc, case.handed_on)?,

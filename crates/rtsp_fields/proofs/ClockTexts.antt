@@ -9,9 +9,9 @@ use Rattle.std.proofs.lemmas.Fmt.{digits_decimal, digits_value-decimal, decimal_
 use Rattle.std.proofs.lemmas.List.{append_assoc, take_at, drop_at, take_all, length-append, get_or_append_left}
 use Rattle.std.proofs.lemmas.List.{get_or-append-add}
 use Rattle.std.proofs.lemmas.List.Folds.{list_all_at, list_all-append}
-use Rattle.vod_base.proofs.Digits.{decimal_numerals}
-use Rattle.rtsp_fields.specs.Parts.{IsPartEnd}
-use Rattle.rtsp_fields.specs.Times.{IsClock, IsDigits, IsTime}
+use Rattle.vod_base.proofs.DigitLemmas.{decimal_numerals}
+use Rattle.rtsp_fields.specs.SeparatedParts.{IsPartEnd}
+use Rattle.rtsp_fields.specs.NptTimes.{IsClock, IsDigits, IsTime}
 
 -- a digit is neither `:` nor `.`
 digit_is_other : (text : List ℕ) (k : ℕ) → list_all is_ascii_digit text ≡ true → k < length text → get_or text k 0 ≢ 58

@@ -4,13 +4,13 @@ use Rattle.std.proofs.Common.{inr, slice_range, codes, MatchOption, Option, Some
 use Rattle.std.proofs.lemmas.List.{length-map, length-take}
 use Rattle.std.proofs.lemmas.Option.{same_Some}
 use Rattle.vod_base.specs.Blanks.{without_blanks}
-use Rattle.rtsp_fields.specs.Parts.{IsPartEnd, IsPart, NoneBefore, NoPart, Begins, in_lower_case}
+use Rattle.rtsp_fields.specs.SeparatedParts.{IsPartEnd, IsPart, NoneBefore, NoPart, Begins, in_lower_case}
 use Rattle.vod_base.specs.Limits.{WritesNumber}
 use Rattle.rtsp_fields.specs.Transports.{IsPair, IsSingle, AreChannels, part_word, AsksOtherDelivery, NamesChannels}
 use Rattle.rtsp_fields.specs.Transports.{HasChannels, IsDelivery, CanBeTaken, IsTransport, after_name}
 use Rattle.rtsp_fields.specs.declared.transports.Channels.{Channels}
-use Rattle.rtsp_fields.specs.declared.parts.Parts.{Parts}
-use Rattle.rtsp_fields.proofs.Places.{GivesNext, HasPassed, end_once, first_once, found_part}
+use Rattle.rtsp_fields.specs.declared.separated_parts.SeparatedParts.{SeparatedParts}
+use Rattle.rtsp_fields.proofs.PartPlaces.{GivesNext, HasPassed, end_once, first_once, found_part}
 
 -- a pair, cut at its dash
 pub record IsPairAt (text : List ℕ) (dash : ℕ) (channels : Channels) : Type 0 where
@@ -71,7 +71,7 @@ named_channels {text} {from} {to} None part names first h = λ channels has. eli
 named_channels {text} {from} {to} (Some channels) part names first h =
     inl (record { from = from; to = to; part = part; names = names; first = first; are = h })
 
-pub channels_found : {text part : List ℕ} {old : Parts} (o : Option Channels) (new : Parts)
+pub channels_found : {text part : List ℕ} {old : SeparatedParts} (o : Option Channels) (new : SeparatedParts)
     → HasPassed NamesChannels 59 text old →
     GivesNext old part new → NamesChannels part →
     MatchOption o
@@ -109,7 +109,7 @@ not_taken text none = λ t. none t.0 t.1
 pub no_transport : (value : List ℕ) (channels : Channels) → NoPart 44 value CanBeTaken → IsTransport value channels → ⊥
 no_transport value channels none t = none t.from t.to t.part (channels, t.taken)
 
-pub transport_found : {value part : List ℕ} {old : Parts} {channels : Channels} (new : Parts)
+pub transport_found : {value part : List ℕ} {old : SeparatedParts} {channels : Channels} (new : SeparatedParts)
     → HasPassed CanBeTaken 44 value old →
     GivesNext old part new → IsDelivery part channels → IsTransport value channels
 transport_found {old = old} {channels = channels} new passed gives taken =

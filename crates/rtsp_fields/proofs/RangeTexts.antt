@@ -6,10 +6,10 @@ use Rattle.std.specs.List.{list_all}
 use Rattle.std.proofs.lemmas.Fmt.{digits_decimal}
 use Rattle.std.proofs.lemmas.List.{append_assoc, take_at, drop_at, take_all, length-append, get_or_append_left}
 use Rattle.std.proofs.lemmas.List.{get_or-append-add}
-use Rattle.vod_base.proofs.Digits.{decimal_numerals}
-use Rattle.rtsp_text.proofs.Inside.{all-append}
-use Rattle.rtsp_fields.specs.Descriptions.{seconds_text}
-use Rattle.rtsp_fields.specs.Parts.{HasNone}
+use Rattle.vod_base.proofs.DigitLemmas.{decimal_numerals}
+use Rattle.rtsp_text.proofs.LineBounds.{all-append}
+use Rattle.rtsp_fields.specs.Sdp.{seconds_text}
+use Rattle.rtsp_fields.specs.SeparatedParts.{HasNone, in_lower_case}
 use Rattle.rtsp_fields.specs.Ranges.{IsLimit, IsOrigin, IsSpan}
 use Rattle.rtsp_fields.specs.declared.ranges.Span.{Span}
 use Rattle.rtsp_fields.specs.declared.ranges.Origin.TheVariants.{Now, At}
@@ -102,3 +102,59 @@ between_read ms end_ms small fits =
 pub now_read : IsSpan (codes "npt=now-") (record { from = Now; to = None })
 unfolding other_than
 now_read = span_read (codes "now") [] (record { from = Now; to = None }) refl refl refl
+
+pub now_to_read : (end_ms : ℕ) → end_ms < 10 ^ 12
+    → IsSpan (codes "npt=now-" ++ seconds_text end_ms) (record { from = Now; to = Some (end_ms * 1000000) })
+unfolding other_than
+now_to_read end_ms small =
+    span_read (codes "now") (seconds_text end_ms) (record { from = Now; to = Some (end_ms * 1000000) }) refl refl
+    (seconds_read end_ms small)
+
+-- ---- `npt` in any case
+
+-- texts that differ in their first four bytes alone
+byte_later : (a b c : ℕ) (rest : List ℕ) (k : ℕ) → 4 ≤ k
+    → get_or (codes "npt=" ++ rest) k 0 ≡ get_or (a ∷ b ∷ c ∷ 61 ∷ rest) k 0
+byte_later a b c rest (suc (suc (suc (suc k)))) low = refl
+byte_later a b c rest k low = absurd (omega (arith, low))
+
+drop_later : (a b c : ℕ) (rest : List ℕ) (k : ℕ) → 4 ≤ k
+    → drop k (codes "npt=" ++ rest) ≡ drop k (a ∷ b ∷ c ∷ 61 ∷ rest)
+drop_later a b c rest (suc (suc (suc (suc k)))) low = refl
+drop_later a b c rest k low = absurd (omega (arith, low))
+
+three_case_read : (a b c : ℕ) (rest : List ℕ) (span : Span) → in_lower_case (a ∷ b ∷ c ∷ []) ≡ codes "npt"
+    → IsSpan (codes "npt=" ++ rest) span → IsSpan (a ∷ b ∷ c ∷ 61 ∷ rest) span
+three_case_read a b c rest span same s =
+    let text = a ∷ b ∷ c ∷ 61 ∷ rest in
+    let low : 4 ≤ s.dash = s.is_dash.after in
+    let back : slice_range (codes "npt=" ++ rest) (s.dash + 1) (length text) ≡ slice_range text (s.dash + 1) (length text) =
+    ap (λ (l : List ℕ). take (length text - (s.dash + 1)) l) (drop_later a b c rest (s.dash + 1) (omega (arith, low)))
+        in
+    record {
+      unit = ap (λ (l : List ℕ). l ++ 61 ∷ []) same;
+      dash = s.dash;
+      is_dash = record {
+        after = low;
+        within = s.is_dash.within;
+        none = λ k from below is. s.is_dash.none k from below (byte_later a b c rest k from ∙ is);
+        ends = λ inside. sym (byte_later a b c rest s.dash low) ∙ s.is_dash.ends inside;
+      };
+      inside = s.inside;
+      from = s.from;
+      to = subst (λ (t : List ℕ). IsLimit t span.to) back s.to;
+    }
+
+pub any_case_read : (unit rest : List ℕ) (span : Span) → in_lower_case unit ≡ codes "npt"
+    → IsSpan (codes "npt=" ++ rest) span → IsSpan (unit ++ codes "=" ++ rest) span
+any_case_read [] rest span same s = absurd (let e : 0 ≡ 3 = ap (λ (l : List ℕ). length l) same in omega (arith, e))
+any_case_read (a ∷ []) rest span same s =
+    absurd (let e : 1 ≡ 3 = ap (λ (l : List ℕ). length l) same in omega (arith, e))
+any_case_read (a ∷ (b ∷ [])) rest span same s =
+    absurd (let e : 2 ≡ 3 = ap (λ (l : List ℕ). length l) same in omega (arith, e))
+any_case_read (a ∷ (b ∷ (c ∷ []))) rest span same s = three_case_read a b c rest span same s
+any_case_read (a ∷ (b ∷ (c ∷ (d ∷ more)))) rest span same s =
+    absurd (let e : 4 + length (in_lower_case more) ≡ 3 = long ∙ ap (λ (l : List ℕ). length l) same in omega (arith, e))
+  where
+    long : 4 + length (in_lower_case more) ≡ length (in_lower_case (a ∷ (b ∷ (c ∷ (d ∷ more)))))
+    long = omega arith

@@ -13,10 +13,10 @@ use Rattle.std.proofs.lemmas.List.{append_assoc, take_at, drop_at, take_all, len
 use Rattle.std.proofs.lemmas.List.{get_or-append_right}
 use Rattle.std.proofs.lemmas.List.Folds.{list_all_at}
 use Rattle.rtsp_text.specs.Lines.{is_one_line}
-use Rattle.vod_base.proofs.Digits.{decimal_numerals}
-use Rattle.rtsp_text.proofs.OneLines.{one_line-append, one_line-decimal}
-use Rattle.rtsp_fields.specs.Descriptions.{seconds_text}
-use Rattle.rtsp_fields.specs.Times.{IsDigits, IsFraction, IsTime}
+use Rattle.vod_base.proofs.DigitLemmas.{decimal_numerals}
+use Rattle.rtsp_text.proofs.SingleLineTexts.{one_line-append, one_line-decimal}
+use Rattle.rtsp_fields.specs.Sdp.{seconds_text}
+use Rattle.rtsp_fields.specs.NptTimes.{IsDigits, IsFraction, IsTime}
 
 pub one_line-seconds : (ms : ℕ) → ms < 2 ^ 64 → is_one_line (seconds_text ms) ≡ true
 one_line-seconds ms small =

@@ -8,7 +8,7 @@ use Rattle.std.specs.Char.{is_ascii_digit}
 use Rattle.std.proofs.lemmas.Bool.{and_parts, and_from}
 use Rattle.std.proofs.lemmas.List.{take_at, take_all, length-append, get_or_append_left, get_or-append-add}
 use Rattle.std.proofs.lemmas.List.Folds.{list_all_at}
-use Rattle.rtsp_fields.specs.Parts.{HasNone, IsStart, IsPartEnd, IsPart, NoPart, NoneBefore}
+use Rattle.rtsp_fields.specs.SeparatedParts.{HasNone, IsStart, IsPartEnd, IsPart, NoPart, NoneBefore}
 
 unfoldable pub text_of : ℕ → List ℕ → List ℕ → List ℕ
 text_of c a rest = a ++ c ∷ rest

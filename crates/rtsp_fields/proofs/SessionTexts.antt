@@ -7,8 +7,8 @@ use Rattle.std.proofs.lemmas.List.{take_at, take_all}
 use Rattle.std.proofs.lemmas.List.Folds.{list_all_at}
 use Rattle.std.proofs.lemmas.Grind.{common_steps}
 use Rattle.vod_base.specs.Blanks.{is_blank, without_blanks}
-use Rattle.rtsp_fields.specs.Parts.{in_lower_case}
-use Rattle.rtsp_fields.specs.Sessions.{IsSession}
+use Rattle.rtsp_fields.specs.SeparatedParts.{in_lower_case}
+use Rattle.rtsp_fields.specs.SessionIds.{IsSession}
 use Rattle.rtsp_fields.proofs.SeparatedTexts.{text_of, part_first, part_whole, other_than, none_from}
 use Rattle.rtsp_fields.proofs.TransportTexts.{bare}
 

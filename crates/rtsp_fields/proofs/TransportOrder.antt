@@ -4,7 +4,7 @@ use Rattle.std.proofs.Common.{sym, ap, subst, ◌∙◌, arith, inl, inr}
 use Rattle.std.specs.List.{list_all}
 use Rattle.std.proofs.lemmas.List.{append_assoc, take_all}
 use Rattle.rtsp_fields.specs.Laws.{HasNoComma}
-use Rattle.rtsp_fields.specs.Parts.{HasNone}
+use Rattle.rtsp_fields.specs.SeparatedParts.{HasNone}
 use Rattle.rtsp_fields.specs.Transports.{CanBeTaken, AsksOtherDelivery, IsDelivery, IsTransport, part_word}
 use Rattle.rtsp_fields.specs.declared.transports.Channels.{Channels}
 use Rattle.rtsp_fields.proofs.SeparatedTexts.{none_before, none_from, other_than, part_first, part_later, part_whole}

@@ -10,11 +10,11 @@ use Rattle.std.proofs.lemmas.Fmt.{digits_decimal, decimal_nonempty}
 use Rattle.std.proofs.lemmas.List.{take_all, length-append, length-reverse, get_or-append-add, get_or-reverse}
 use Rattle.std.proofs.lemmas.List.{append_assoc, reverse-reverse}
 use Rattle.std.proofs.lemmas.List.Folds.{list_all-append}
-use Rattle.vod_base.specs.Blanks.{is_blank, without_front_blanks, without_blanks}
-use Rattle.vod_base.proofs.Written.{written_read}
-use Rattle.vod_base.proofs.Digits.{is_digit_at}
-use Rattle.vod_base.proofs.Digits.{decimal_numerals}
-use Rattle.rtsp_fields.specs.Parts.{HasNone, Begins, in_lower_case}
+use Rattle.vod_base.specs.Blanks.{is_blank, without_leading_blanks, without_blanks}
+use Rattle.vod_base.proofs.TextLemmas.{written_read}
+use Rattle.vod_base.proofs.DigitLemmas.{is_digit_at}
+use Rattle.vod_base.proofs.DigitLemmas.{decimal_numerals}
+use Rattle.rtsp_fields.specs.SeparatedParts.{HasNone, Begins, in_lower_case}
 use Rattle.rtsp_fields.specs.Transports.{IsPair, AreChannels, AsksOtherDelivery, NamesChannels, AreNamed, IsDelivery}
 use Rattle.rtsp_fields.specs.Transports.{IsTransport, part_word, after_name}
 use Rattle.vod_base.specs.Limits.{WritesNumber}
@@ -25,9 +25,10 @@ use Rattle.rtsp_fields.proofs.SeparatedTexts.{digits_other}
 
 -- ---- a text that neither begins nor ends with a blank
 
-bare_front : (text : List ℕ) → 0 < length text → is_blank (get_or text 0 0) ≡ false → without_front_blanks text ≡ text
+pub bare_front : (text : List ℕ) → 0 < length text → is_blank (get_or text 0 0) ≡ false → without_leading_blanks text ≡
+    text
 bare_front [] some other = refl
-bare_front (x ∷ text) some other = cond-false (is_blank x) (without_front_blanks text) (x ∷ text) other
+bare_front (x ∷ text) some other = cond-false (is_blank x) (without_leading_blanks text) (x ∷ text) other
 
 pub bare : (text : List ℕ) → 0 < length text → is_blank (get_or text 0 0) ≡ false
     → is_blank (get_or text (length text - 1) 0) ≡ false → without_blanks text ≡ text
@@ -35,7 +36,7 @@ bare text some first last =
     let back : get_or (reverse text) 0 0 ≡ get_or text (length text - 1) 0 =
     get_or-reverse text 0 0 some
     ∙ ap (λ n. get_or text n 0) (let e : length text - 1 - 0 ≡ length text - 1 = omega arith in e) in
-    ap (λ l. reverse (without_front_blanks (reverse l))) (bare_front text some first)
+    ap (λ l. reverse (without_leading_blanks (reverse l))) (bare_front text some first)
     ∙ ap reverse (bare_front (reverse text) (omega (arith, some, length-reverse text)) (ap is_blank back ∙ last))
     ∙ reverse-reverse text
 

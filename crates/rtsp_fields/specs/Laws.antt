@@ -3,9 +3,9 @@
 use Rattle.std.specs.Prelude.{◌≡◌, ◌≢◌, ◌==◌, ◌⊎◌, ℕ, true, not, List, [], ◌∷◌, ◌++◌, Some, codes}
 use Rattle.std.specs.Prelude.{flat_map, slice_index}
 use Rattle.std.specs.List.{list_all}
-use Rattle.vod_base.specs.Blanks.{without_blanks}
+use Rattle.vod_base.specs.Blanks.{is_blank, without_blanks}
 use Rattle.rtsp_text.specs.Lines.{is_one_line}
-use Rattle.rtsp_fields.specs.Parts.{in_lower_case}
+use Rattle.rtsp_fields.specs.SeparatedParts.{in_lower_case}
 use Rattle.rtsp_fields.specs.Ranges.{IsSpan}
 use Rattle.rtsp_fields.specs.Urls.{IsStream}
 use Rattle.rtsp_fields.specs.declared.ranges.Origin.TheVariants.{At}
@@ -38,6 +38,22 @@ pub record IsOtherParameter (part : List ℕ) : Type 0 where
   pub no_channels : slice_index (in_lower_case (without_blanks part)) 0 ≢ 105
   pub no_semicolon : list_all (λ byte. not (byte == 59)) part ≡ true
   pub no_comma : list_all (λ byte. not (byte == 44)) part ≡ true
+
+-- a text is this word of lower case, with its letters in any case, and blanks around it or not
+pub record IsSpelling (word text : List ℕ) : Type 0 where
+  pub front : List ℕ
+  pub letters : List ℕ
+  pub back : List ℕ
+  pub text_is : text ≡ front ++ (letters ++ back)
+  pub front_is_blank : list_all is_blank front ≡ true
+  pub back_is_blank : list_all is_blank back ≡ true
+  pub same : in_lower_case letters ≡ word
+
+-- a parameter of a transport that asks for playback (RFC 2326 section 12.39), or for nothing that
+-- this server refuses
+abbrev pub IsPlayParameter : List ℕ → Type 0
+IsPlayParameter part = IsSpelling (codes "mode=\"play\"") part
+    ⊎ (IsSpelling (codes "mode=play") part ⊎ IsOtherParameter part)
 
 -- the text has no comma, so it is one alternative
 abbrev pub HasNoComma : List ℕ → Type 0

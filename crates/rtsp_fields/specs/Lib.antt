@@ -1,8 +1,8 @@
-pub mod Parts
+pub mod SeparatedParts
 pub mod Urls
 pub mod Transports
-pub mod Times
+pub mod NptTimes
 pub mod Ranges
-pub mod Sessions
-pub mod Descriptions
+pub mod SessionIds
+pub mod Sdp
 pub mod Laws

@@ -2,8 +2,8 @@
 -- `npt=FROM-TO`.
 use Rattle.std.specs.Prelude.{◌≡◌, ℕ, ◌+◌, ◌<◌, List, [], length, codes, slice_range, Option, Some}
 use Rattle.std.specs.Prelude.{None}
-use Rattle.rtsp_fields.specs.Parts.{IsPartEnd, Begins, in_lower_case}
-use Rattle.rtsp_fields.specs.Times.{IsTime}
+use Rattle.rtsp_fields.specs.SeparatedParts.{IsPartEnd, Begins, in_lower_case}
+use Rattle.rtsp_fields.specs.NptTimes.{IsTime}
 use Rattle.rtsp_fields.specs.declared.ranges.Origin.{Origin}
 use Rattle.rtsp_fields.specs.declared.ranges.Origin.TheVariants.{Now, At}
 use Rattle.rtsp_fields.specs.declared.ranges.Span.{Span}

@@ -3,7 +3,8 @@
 -- blanks around them or not.
 use Rattle.std.specs.Prelude.{◌≡◌, ◌≢◌, ℕ, ◌+◌, ◌<◌, ◌⊎◌, List, length, take, codes, slice_range}
 use Rattle.vod_base.specs.Blanks.{without_blanks}
-use Rattle.rtsp_fields.specs.Parts.{IsPartEnd, IsPart, NoneBefore, NoPart, Begins, in_lower_case}
+use Rattle.rtsp_fields.specs.SeparatedParts.{IsPartEnd, IsPart, NoneBefore, NoPart, Begins}
+use Rattle.rtsp_fields.specs.SeparatedParts.{in_lower_case}
 use Rattle.vod_base.specs.Limits.{WritesNumber}
 use Rattle.rtsp_fields.specs.declared.transports.Channels.{Channels}
 

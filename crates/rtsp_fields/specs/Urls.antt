@@ -2,9 +2,9 @@
 use Rattle.std.specs.Prelude.{◌≡◌, ℕ, ◌⊎◌, List, [], codes, true, length, slice_index}
 use Rattle.std.specs.Prelude.{slice_range, Option, MatchOption}
 use Rattle.std.specs.List.{list_all}
-use Rattle.vod_base.specs.Names.{is_good_name}
+use Rattle.vod_base.specs.Names.{good_name}
 use Rattle.rtsp_text.specs.Grammar.{is_url_byte, IsRtspUrl}
-use Rattle.rtsp_fields.specs.Parts.{IsPartEnd}
+use Rattle.rtsp_fields.specs.SeparatedParts.{IsPartEnd}
 
 -- an RTSP URL of printable bytes other than the space, whose authority ends at `path`
 pub record IsAbsoluteUrl (url : List ℕ) (path : ℕ) : Type 0 where
@@ -26,7 +26,7 @@ pub record NamesFilm (path name : List ℕ) : Type 0 where
   pub end : ℕ
   pub is_end : IsPartEnd 47 path 1 end
   pub name_is : name ≡ slice_range path 1 end
-  pub good : is_good_name name ≡ true
+  pub good : good_name name ≡ true
   pub tail : IsTail (slice_range path end (length path))
 
 -- what a URL says: its authority, and the film that its path names, if any

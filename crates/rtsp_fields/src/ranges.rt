@@ -5,8 +5,8 @@ ghost use Rattle.rtsp_fields.specs.declared.ranges.Origin.{Origin};
 ghost use Rattle.rtsp_fields.specs.declared.ranges.Span.{Span};
 ghost use Rattle.rtsp_fields.specs.Ranges.{IsLimit, IsOrigin, IsSpan};
 
-use crate::parts::{part_end, starts_with};
-use crate::times::read_time;
+use crate::npt_times::read_time;
+use crate::separated_parts::{part_end, starts_with};
 
 /// What a range in normal play time begins with.
 const UNIT: &[u8; 4] = b"npt=";

@@ -2,7 +2,7 @@
 
 ghost use Rattle.std.specs.Prelude.{◌≡◌, ◌+◌, ◌≤◌, ◌<◌, ◌++◌, true, length, take, decimal};
 ghost use Rattle.rtsp_text.specs.Lines.{is_one_line};
-ghost use Rattle.rtsp_fields.specs.Descriptions.{seconds_text};
+ghost use Rattle.rtsp_fields.specs.Sdp.{seconds_text};
 
 use itoa::Buffer;
 

@@ -242,7 +242,7 @@ fn put_base(reply: &mut Reply, url: &[u8])
     let Some(name) = read.name else {
         return;
     };
-    reply.field_of(
+    reply.field_from_parts(
         b"Content-Base",
         &[
             b"rtsp://".as_slice(),
@@ -259,7 +259,7 @@ fn put_range(reply: &mut Reply, start_ms: u64, end_ms: u64, session: u64)
     requires { length reply.old ≤ 20000 }
 {
     let (mut start, mut end) = ([0u8; 24], [0u8; 24]);
-    reply.field_of(
+    reply.field_from_parts(
         b"Range",
         &[
             b"npt=".as_slice(),

@@ -1,13 +1,13 @@
 //! The Transport header.
 
 ghost use Rattle.std.specs.Prelude.{◌≡◌, ◌↔◌, IsTrue, ◌⊎◌, MatchOption};
-ghost use Rattle.rtsp_fields.specs.Parts.{NoPart, NoneBefore};
+ghost use Rattle.rtsp_fields.specs.SeparatedParts.{NoPart, NoneBefore};
 ghost use Rattle.rtsp_fields.specs.declared.transports.Channels.{Channels};
 ghost use Rattle.rtsp_fields.specs.Transports.{AreChannels, AsksOtherDelivery, HasChannels};
 ghost use Rattle.rtsp_fields.specs.Transports.{IsDelivery, IsPair, IsSingle, IsTransport};
 ghost use Rattle.rtsp_fields.specs.Transports.{NamesChannels};
 
-use crate::parts::{part_end, parts_of, starts_with};
+use crate::separated_parts::{part_end, parts_of, starts_with};
 use vod_base::{number_within, trim};
 
 /// What the part with the channels begins with.

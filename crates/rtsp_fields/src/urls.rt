@@ -3,13 +3,13 @@
 ghost use Rattle.std.specs.Prelude.{◌≡◌, ◌≤◌, ◌↔◌, IsTrue, true, length, ℕ, List, MatchOption};
 ghost use Rattle.std.specs.Prelude.{IfSome};
 ghost use Rattle.std.specs.Option.{option_copied};
-ghost use Rattle.vod_base.specs.Names.{is_good_name};
+ghost use Rattle.vod_base.specs.Names.{good_name};
 ghost use Rattle.rtsp_text.specs.Lines.{is_one_line};
 ghost use Rattle.rtsp_fields.specs.Urls.{IsAbsoluteUrl, IsStream, IsTail, IsRead, NamesFilm};
 
-use crate::parts::{part_end, starts_with};
-use rtsp_text::{SCHEME, has_url_bytes};
-use vod_base::is_good_name;
+use crate::separated_parts::{part_end, starts_with};
+use rtsp_text::{RTSP_SCHEME, has_url_bytes};
+use vod_base::good_name;
 
 /// What an RTSP URL says (RFC 2326 section 3.2).
 #[derive(Clone, Copy, Debug, PartialEq, Eq)]
@@ -32,19 +32,19 @@ pub fn read_url(url: &[u8]) -> Option<Url<'_>>
         (λ read. IsRead url.now read.authority.now (option_copied read.name)) }
     ensures authority { IfSome result (λ read. length read.authority.now ≤ length url.now) }
     ensures authority_line { IfSome result (λ read. is_one_line read.authority.now ≡ true) }
-    ensures name { IfSome result (λ read. IfSome read.name (λ name. is_good_name name.now ≡ true)) }
+    ensures name { IfSome result (λ read. IfSome read.name (λ name. good_name name.now ≡ true)) }
     ensures name_line { IfSome result (λ read.
         IfSome read.name (λ name. is_one_line name.now ≡ true)) }
 {
-    if !has_url_bytes(url) || !starts_with(url, SCHEME) {
+    if !has_url_bytes(url) || !starts_with(url, RTSP_SCHEME) {
         return None;
     }
-    let path = part_end(url, SCHEME.len(), b'/');
-    if path == SCHEME.len() {
+    let path = part_end(url, RTSP_SCHEME.len(), b'/');
+    if path == RTSP_SCHEME.len() {
         return None;
     }
     Some(Url {
-        authority: &url[SCHEME.len()..path],
+        authority: &url[RTSP_SCHEME.len()..path],
         name: film_name(&url[path..]),
     })
 }
@@ -76,7 +76,7 @@ fn film_name(path: &[u8]) -> Option<&[u8]>
     }
     let end = part_end(path, 1, b'/');
     let name = &path[1..end];
-    if is_good_name(name) && is_tail(&path[end..]) {
+    if good_name(name) && is_tail(&path[end..]) {
         Some(name)
     } else {
         None

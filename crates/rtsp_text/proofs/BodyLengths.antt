@@ -14,13 +14,13 @@ use Rattle.vod_base.specs.Blanks.{without_blanks}
 use Rattle.vod_base.specs.Lines.{IsLine}
 use Rattle.vod_base.specs.Splits.{IsSplitAtFirst}
 use Rattle.interleave.specs.Lengths.{IsLengthLine, IsValueAt, IsLengthGiven, IsBodyLength, written_length}
-use Rattle.interleave.proofs.Found.{name_within}
+use Rattle.interleave.proofs.HeadSearchResults.{name_within}
 use Rattle.rtsp_text.specs.Lines.{is_one_line}
 use Rattle.rtsp_text.specs.Replies.{Field, IsPlain, value_named}
-use Rattle.rtsp_text.proofs.Cuts.{is_other, other_is, cut_once}
+use Rattle.rtsp_text.proofs.CutUniqueness.{is_other, other_is, cut_once}
 use Rattle.rtsp_text.proofs.LineTexts.{IsLineText, flat, line_here}
-use Rattle.rtsp_text.proofs.ReadBack.{text_of, text_line}
-use Rattle.rtsp_text.proofs.Words.{token_without}
+use Rattle.rtsp_text.proofs.ReplyRoundTrip.{text_of, text_line}
+use Rattle.rtsp_text.proofs.LineWords.{token_without}
 
 -- the bytes of a field's line, between others
 abbrev pub line_bytes : List ℕ → List ℕ → List ℕ → List ℕ → List ℕ

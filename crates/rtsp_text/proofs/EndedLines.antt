@@ -8,8 +8,8 @@ use Rattle.std.proofs.lemmas.List.Elements.{All-head, All-tail}
 use Rattle.vod_base.specs.Lines.{IsLine}
 use Rattle.interleave.specs.Heads.{HasNoHead, IsHead}
 use Rattle.rtsp_text.specs.Lines.{is_one_line}
-use Rattle.rtsp_text.specs.EndedLines.{EndedLine, line_bytes, head_bytes, IsEnded, IsHeader, IsEmpty}
-use Rattle.rtsp_text.proofs.Heads.{no_head_first, no_head_more, head_here}
+use Rattle.rtsp_text.specs.TerminatedLines.{EndedLine, line_bytes, head_bytes, IsEnded, IsHeader, IsEmpty}
+use Rattle.rtsp_text.proofs.HeadEnds.{no_head_first, no_head_more, head_here}
 use Rattle.rtsp_text.proofs.LineTexts.{line_here, other_byte}
 
 -- the line that ends with LF alone and stands after these bytes

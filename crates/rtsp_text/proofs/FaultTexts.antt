@@ -9,14 +9,14 @@ use Rattle.rtsp_text.specs.Lines.{before_empty, first_line, header_lines}
 use Rattle.rtsp_text.specs.Grammar.{IsRequestLine, IsHeaderLine}
 use Rattle.rtsp_text.specs.Fields.{first_value, header_value, value_in, IsFirstField}
 use Rattle.rtsp_text.specs.Requests.{HasVersion, IsRequest, IsFault, IsFirstBad}
-use Rattle.rtsp_text.specs.Spelled.{IsNamedText}
-use Rattle.rtsp_text.specs.Faults.{HasLines, IsFirstUnnamed, IsLineOf, IsWrong, Writes, WritesNoDigits}
+use Rattle.rtsp_text.specs.RequestTexts.{IsNamedText}
+use Rattle.rtsp_text.specs.RequestFaults.{HasLines, IsFirstUnnamed, IsLineOf, IsWrong, Writes, WritesNoDigits}
 use Rattle.rtsp_text.specs.declared.requests.RequestFault.{RequestFault}
 use Rattle.rtsp_text.specs.declared.requests.RequestFault.TheVariants.{BadLine, BadVersion, BadHeader}
 use Rattle.rtsp_text.specs.declared.requests.RequestFault.TheVariants.{NoSequenceNumber, BadLength}
 use Rattle.rtsp_text.proofs.FirstField.{field_value, first_tells, read_of}
-use Rattle.rtsp_text.proofs.Walks.{before_empty-all}
-use Rattle.rtsp_text.proofs.WordTexts.{line_named, named_line, named_texts, word_is, word_of}
+use Rattle.rtsp_text.proofs.LineIteration.{before_empty-all}
+use Rattle.rtsp_text.proofs.GrammarBytes.{line_named, named_line, named_texts, word_is, word_of}
 
 -- the first line and the header lines
 first_is : (message first : List ℕ) (texts : List (List ℕ)) → HasLines message first texts → first_line message ≡ first

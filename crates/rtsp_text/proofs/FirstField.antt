@@ -13,9 +13,9 @@ use Rattle.vod_base.specs.Blanks.{without_blanks}
 use Rattle.vod_base.specs.Splits.{IsSplitAtFirst}
 use Rattle.rtsp_text.specs.Fields.{value_in, first_value, IsField, first_number, IsFirstField, HasNoField}
 use Rattle.rtsp_text.specs.Fields.{IsFirstNumber, HasNoNumber}
-use Rattle.rtsp_text.proofs.Cuts.{other_is}
-use Rattle.rtsp_text.proofs.Values.{value_some, value_other, value_none, first_value-nil, first_value_some}
-use Rattle.rtsp_text.proofs.Values.{first_value_more, first_number-nil, first_number_some, first_number_more}
+use Rattle.rtsp_text.proofs.CutUniqueness.{other_is}
+use Rattle.rtsp_text.proofs.HeaderValues.{value_some, value_other, value_none, first_value-nil, first_value_some}
+use Rattle.rtsp_text.proofs.HeaderValues.{first_value_more, first_number-nil, first_number_some, first_number_more}
 
 -- a line that is a field of that name gives its value
 pub field_value : (name line value : List ℕ) → IsField name line value → value_in name line ≡ Some value

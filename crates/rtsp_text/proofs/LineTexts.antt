@@ -11,9 +11,9 @@ use Rattle.std.proofs.lemmas.List.Elements.{All-cons, All-head, All-tail, All-we
 use Rattle.std.proofs.lemmas.List.Folds.{list_all_at}
 use Rattle.vod_base.specs.Lines.{IsLine}
 use Rattle.rtsp_text.specs.Lines.{is_one_line, before_empty, first_line, header_lines, IsSplit}
-use Rattle.rtsp_text.proofs.Heads.{HasWalked, walk_first, walk_more, walk_end}
-use Rattle.rtsp_text.proofs.OneLines.{one_line-append}
-use Rattle.rtsp_text.proofs.Walks.{lines-at, before_empty-all}
+use Rattle.rtsp_text.proofs.HeadEnds.{HasWalked, walk_first, walk_more, walk_end}
+use Rattle.rtsp_text.proofs.SingleLineTexts.{one_line-append}
+use Rattle.rtsp_text.proofs.LineIteration.{lines-at, before_empty-all}
 
 -- a text that is a line by itself
 pub record IsLineText (text : List ℕ) : Type 0 where

@@ -10,10 +10,10 @@ use Rattle.std.proofs.lemmas.Option.{none-some}
 use Rattle.vod_base.specs.Numbers.{is_decimal, number_of}
 use Rattle.vod_base.specs.Splits.{IsSplitAtFirst}
 use Rattle.rtsp_text.specs.StatusLines.{IsCode, IsStatusLine, IsReply}
-use Rattle.rtsp_text.proofs.Cuts.{cut_once, cut_none, all_other}
-use Rattle.rtsp_text.proofs.Numbers.{number_read}
-use Rattle.rtsp_text.proofs.Once.{split_once}
-use Rattle.vod_base.proofs.Digits.{decimal_numerals}
+use Rattle.rtsp_text.proofs.CutUniqueness.{cut_once, cut_none, all_other}
+use Rattle.rtsp_text.proofs.NumberTexts.{number_read}
+use Rattle.rtsp_text.proofs.MessageUniqueness.{split_once}
+use Rattle.vod_base.proofs.DigitLemmas.{decimal_numerals}
 
 code_small : (text : List ℕ) → length text ≡ 3 → is_decimal text ≡ true → digits_value 10 text < 10 ^ 3
 code_small text three decimal =

@@ -4,6 +4,6 @@ pub mod Fields
 pub mod Requests
 pub mod Replies
 pub mod StatusLines
-pub mod Spelled
-pub mod EndedLines
-pub mod Faults
+pub mod RequestTexts
+pub mod TerminatedLines
+pub mod RequestFaults

@@ -19,7 +19,7 @@ pub fn has_url_bytes(text: &[u8]) -> bool
 
 /// The scheme of an RTSP URL, with what parts it from the authority; in any case (RFC 2326 section
 /// 3.2).
-pub const SCHEME: &[u8; 7] = b"rtsp://";
+pub const RTSP_SCHEME: &[u8; 7] = b"rtsp://";
 
 /// The three words of a request line.
 #[derive(Clone, Copy)]
@@ -116,7 +116,7 @@ fn is_scheme(text: &[u8]) -> bool
     ensures { IsTrue result ↔
         (map to_ascii_lowercase text.now ≡ map to_ascii_lowercase (codes "rtsp://")) }
 {
-    text.eq_ignore_ascii_case(SCHEME)
+    text.eq_ignore_ascii_case(RTSP_SCHEME)
 }
 
 /// Whether the text is `rtsp://` in any case, an authority, and no path or one that begins with
@@ -124,10 +124,10 @@ fn is_scheme(text: &[u8]) -> bool
 fn is_rtsp_url(url: &[u8]) -> bool
     ensures { IsTrue result ↔ IsRtspUrl url.now }
 {
-    if url.len() <= SCHEME.len() {
+    if url.len() <= RTSP_SCHEME.len() {
         return false;
     }
-    let (scheme, rest) = url.split_at(SCHEME.len());
+    let (scheme, rest) = url.split_at(RTSP_SCHEME.len());
     is_scheme(scheme) && rest[0] != b'/'
 }
 

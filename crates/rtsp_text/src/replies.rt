@@ -12,7 +12,7 @@ use std::alloc::Global;
 use std::marker::Model;
 use vod_base::NoMemory;
 
-/// The text of a reply (RFC 2326 section 7), in a buffer of [`ROOM`] bytes.
+/// The text of a reply (RFC 2326 section 7), in a buffer of [`MAX_REPLY_BYTES`] bytes.
 ///
 /// Contracts see the text so far as a list of bytes. Only `new` takes memory.
 #[derive(Drop)]
@@ -21,39 +21,39 @@ pub struct Reply {
 }
 
 /// The most bytes of a reply's text.
-pub const ROOM: usize = 65_536;
+pub const MAX_REPLY_BYTES: usize = 65_536;
 
 /// The most bytes of a phrase, which `Method Not Valid In This State` has.
-pub const PHRASE_ROOM: usize = 30;
+pub const MAX_PHRASE_BYTES: usize = 30;
 
 /// The most bytes of a status line: `RTSP/1.0 `, the code's digits, a space, the phrase and the
 /// line's end.
-pub const STATUS_ROOM: usize = 9 + 5 + 1 + PHRASE_ROOM + 2;
+pub const MAX_STATUS_LINE_BYTES: usize = 9 + 5 + 1 + MAX_PHRASE_BYTES + 2;
 
 /// The most bytes of a field's line after its name, where the value is a number: `: `, 20 digits
 /// and the line's end.
-pub const NUMBER_ROOM: usize = 24;
+pub const MAX_NUMBER_FIELD_BYTES: usize = 24;
 
 /// The most bytes of a status line and a line `CSeq: N`.
-pub const START_ROOM: usize = STATUS_ROOM + 4 + NUMBER_ROOM;
+pub const MAX_REPLY_START_BYTES: usize = MAX_STATUS_LINE_BYTES + 4 + MAX_NUMBER_FIELD_BYTES;
 
 impl Model for Reply {
     ghost use Rattle.std.specs.Prelude.{ℕ, List, ◌≤◌, vec_capacity};
-    ghost use Rattle.rtsp_text.specs.declared.replies.TheConstants.{ROOM};
+    ghost use Rattle.rtsp_text.specs.declared.replies.TheConstants.{MAX_REPLY_BYTES};
 
     ghost Value = { List ℕ };
 
     ghost view = { λ r. r.text.items };
 
-    ghost invariant = { λ r. ROOM ≤ vec_capacity r.text };
+    ghost invariant = { λ r. MAX_REPLY_BYTES ≤ vec_capacity r.text };
 }
 
 impl Reply {
-    /// Reserves room for [`ROOM`] bytes; no other call takes memory.
+    /// Reserves room for [`MAX_REPLY_BYTES`] bytes; no other call takes memory.
     pub fn new(alloc: Global) -> Result<Reply, NoMemory>
         ensures { IfOk result (λ reply. reply ≡ []) }
     {
-        let text = Vec::with_capacity(alloc, ROOM)?;
+        let text = Vec::with_capacity(alloc, MAX_REPLY_BYTES)?;
         Ok(Reply { text })
     }
 
@@ -73,7 +73,7 @@ impl Reply {
 
     /// Appends bytes.
     fn put(&mut self, bytes: &[u8])
-        requires { length self.old + length bytes.now ≤ ROOM }
+        requires { length self.old + length bytes.now ≤ MAX_REPLY_BYTES }
         ensures text { self.new ≡ self.old ++ bytes.now }
         ensures long { length self.new ≡ length self.old + length bytes.now }
     {
@@ -86,9 +86,9 @@ impl Reply {
     /// Appends the status line.
     fn put_status(&mut self, code: u16)
         requires code { IsTrue (is_code code) }
-        requires fits { length self.old + STATUS_ROOM ≤ ROOM }
+        requires fits { length self.old + MAX_STATUS_LINE_BYTES ≤ MAX_REPLY_BYTES }
         ensures text { self.new ≡ self.old ++ status_line code }
-        ensures short { length self.new ≤ length self.old + STATUS_ROOM }
+        ensures short { length self.new ≤ length self.old + MAX_STATUS_LINE_BYTES }
     {
         self.put(b"RTSP/1.0 ");
         self.put(Buffer::new().format(code).as_bytes());
@@ -99,7 +99,7 @@ impl Reply {
 
     /// Appends a field's line.
     fn put_field(&mut self, name: &[u8], value: &[u8])
-        requires { length self.old + (length name.now + length value.now + 4) ≤ ROOM }
+        requires { length self.old + (length name.now + length value.now + 4) ≤ MAX_REPLY_BYTES }
         ensures text { self.new ≡
             self.old ++ field_line (record { name = name.now; value = value.now }) }
         ensures long { length self.new ≡
@@ -112,12 +112,12 @@ impl Reply {
     }
 
     /// Appends the status line `RTSP/1.0 CODE PHRASE` and, where there is a sequence number, the
-    /// line `CSeq: N`: at most [`START_ROOM`] bytes.
+    /// line `CSeq: N`: at most [`MAX_REPLY_START_BYTES`] bytes.
     pub fn start(&mut self, code: u16, sequence: Option<u64>)
         requires code { IsTrue (is_code code) }
-        requires fits { length self.old + START_ROOM ≤ ROOM }
+        requires fits { length self.old + MAX_REPLY_START_BYTES ≤ MAX_REPLY_BYTES }
         ensures text { self.new ≡ self.old ++ (status_line code ++ sequence_line sequence) }
-        ensures short { length self.new ≤ length self.old + START_ROOM }
+        ensures short { length self.new ≤ length self.old + MAX_REPLY_START_BYTES }
         ensures front { self.old ≡ [] → self.new ≡ reply_front code sequence [] }
     {
         self.put_status(code);
@@ -129,7 +129,8 @@ impl Reply {
     /// Appends the line `NAME: VALUE`. The value has no LF.
     pub fn field(&mut self, name: &[u8], value: &[u8])
         requires one_line { is_one_line value.now ≡ true }
-        requires fits { length self.old + (length name.now + length value.now + 4) ≤ ROOM }
+        requires fits { length self.old + (length name.now + length value.now + 4) ≤ MAX_REPLY_BYTES
+            }
         ensures text { self.new ≡
             self.old ++ field_line (record { name = name.now; value = value.now }) }
         ensures long { length self.new ≡
@@ -142,7 +143,7 @@ impl Reply {
 
     /// Appends bytes, part after part.
     fn put_parts(&mut self, parts: &[&[u8]])
-        requires { length self.old + sum_by (λ part. length part.now) parts.now ≤ ROOM }
+        requires { length self.old + sum_by (λ part. length part.now) parts.now ≤ MAX_REPLY_BYTES }
         ensures text { self.new ≡ self.old ++ flat_map (λ part. part.now) parts.now }
         ensures long { length self.new ≡
             length self.old + sum_by (λ part. length part.now) parts.now }
@@ -154,10 +155,10 @@ impl Reply {
 
     /// Appends the line `NAME: VALUE`, where the value is these parts, one after another. No part
     /// has an LF.
-    pub fn field_of(&mut self, name: &[u8], parts: &[&[u8]])
+    pub fn field_from_parts(&mut self, name: &[u8], parts: &[&[u8]])
         requires one_line { list_all (λ part. is_one_line part.now) parts.now ≡ true }
         requires fits { length self.old
-            + (length name.now + sum_by (λ part. length part.now) parts.now + 4) ≤ ROOM }
+            + (length name.now + sum_by (λ part. length part.now) parts.now + 4) ≤ MAX_REPLY_BYTES }
         ensures text { let value = flat_map (λ part. part.now) parts.now in
             self.new ≡ self.old ++ field_line (record { name = name.now; value = value }) }
         ensures long { let value_length = sum_by (λ part. length part.now) parts.now in
@@ -173,10 +174,11 @@ impl Reply {
 
     /// Appends the line `NAME: VALUE`, the value in decimal, of at most 20 digits.
     pub fn number_field(&mut self, name: &[u8], value: u64)
-        requires { length self.old + (length name.now + NUMBER_ROOM) ≤ ROOM }
+        requires { length self.old + (length name.now + MAX_NUMBER_FIELD_BYTES) ≤ MAX_REPLY_BYTES }
         ensures text { self.new ≡
             self.old ++ field_line (record { name = name.now; value = decimal value }) }
-        ensures short { length self.new ≤ length self.old + (length name.now + NUMBER_ROOM) }
+        ensures short { length self.new ≤ length self.old + (length name.now +
+            MAX_NUMBER_FIELD_BYTES) }
         ensures front { AddsField self.old self.new
             (record { name = name.now; value = decimal value }) }
     {
@@ -185,7 +187,7 @@ impl Reply {
 
     /// Appends the empty line and the body.
     pub fn finish(&mut self, body: &[u8])
-        requires { length self.old + (2 + length body.now) ≤ ROOM }
+        requires { length self.old + (2 + length body.now) ≤ MAX_REPLY_BYTES }
         ensures text { self.new ≡ self.old ++ (codes "\r\n" ++ body.now) }
         ensures long { length self.new ≡ length self.old + (2 + length body.now) }
         ensures whole { (code : ℕ) (sequence : Option ℕ) (fields : List Field) →
@@ -201,7 +203,7 @@ impl Reply {
 fn phrase(code: u16) -> &'static [u8]
     requires { IsTrue (is_code code) }
     ensures text { result.now ≡ phrase code }
-    ensures short { length result.now ≤ PHRASE_ROOM }
+    ensures short { length result.now ≤ MAX_PHRASE_BYTES }
 {
     match code {
         200 => b"OK",

@@ -7,6 +7,7 @@ mod players;
 mod replies;
 
 use super::*;
+use crate::laws::law_look_finds_whole_requests;
 use interleave::{Demux, Step};
 use std::alloc::Global;
 use std::test::Fail;
@@ -16,9 +17,9 @@ fn first_message(demux: &mut Demux) -> Option<&[u8]>
     ensures { IfSome result (λ message. IsMessageLength message.now (length message.now)) }
 {
     match demux.look() {
-        Ok(Step::Message(total)) => {
-            let waiting = demux.waiting_bytes();
-            law_whole_request(waiting, total);
+        Ok(Step::Request(total)) => {
+            let waiting = demux.waiting();
+            law_look_finds_whole_requests(waiting, total);
             Some(&waiting[..total])
         }
         _ => None,

@@ -1,36 +1,38 @@
-pub mod Grounds
-pub mod Boundaries
-mod Halts
-mod SlotBytes
-mod Namings
-mod Sums
-mod Playables
-mod Pausing
-pub mod Carries
-mod TaskLaws
-pub mod Fronts
-pub mod HearingLaws
-mod Askings
-mod Numbers
-mod Moves
-pub mod Changing
-pub mod Refusing
-pub mod Shapes
-mod OneVerdict
-mod OnePlan
-mod OneReading
-pub mod OneHearing
-mod Results
-mod Tellings
-mod RangeInPlaying
-pub mod SlotCounts
-mod PlayEnds
-mod Offers
-mod Looks
-pub mod Endings
-pub mod PlayHeard
-pub mod SetupHeard
-pub mod WholeAsked
-mod ReplyTexts
-pub mod WholeReplies
-mod Words
+pub mod InitialStateLemmas
+pub mod StopBoundaryLemmas
+mod HaltLemmas
+mod SlotBytesLemmas
+mod FilmUrlLemmas
+mod ModularSums
+mod ResumedPlayLemmas
+mod HaltedRunLemmas
+pub mod StepInvariantLemmas
+mod TaskLemmas
+pub mod FailedSlotLemmas
+pub mod RefusalEffectLemmas
+mod PlayRequestLemmas
+mod RtpNumberLemmas
+mod StateMachineLemmas
+pub mod RequestEffectLemmas
+pub mod ReplyCodeLemmas
+pub mod RequestShapes
+mod VerdictUniqueness
+mod PlanUniqueness
+mod RequestUniqueness
+pub mod AnswerUniqueness
+mod RequestCaseAnalysis
+mod ReplyContentLemmas
+mod RangeInPlayingLemmas
+pub mod SlotCountLemmas
+mod PlayNoteLemmas
+mod OfferLemmas
+mod LookRoomLemmas
+pub mod PauseTeardownLemmas
+pub mod PlayInReadyLemmas
+pub mod SetupLemmas
+pub mod WholeFilmLemmas
+mod ReplyTextLemmas
+pub mod CompleteReplyLemmas
+mod WordLemmas
+mod RefusalLawLemmas
+mod ReplyNumberLemmas

@@ -1,12 +1,12 @@
 -- The films of a session, and what is sent of them.
 use Rattle.std.specs.Prelude.{ℕ, ◌≡◌, ◌+◌, ◌*◌, ◌/◌, ◌%◌, ◌^◌, List, Some, length, slice_get}
 use Rattle.std.specs.Prelude.{string_bytes}
-use Rattle.mpeg_scan.specs.Rates.{picture_time}
+use Rattle.mpeg_scan.specs.PictureRates.{picture_time}
 use Rattle.mpeg_scan.specs.declared.films.Film.{Film}
 use Rattle.rtp_pack.specs.declared.reports.Identity.{Identity}
 use Rattle.rtsp_fields.specs.Urls.{IsRead}
-use Rattle.film_frames.specs.declared.stores.Stored.{Stored}
-use Rattle.film_frames.specs.Runs.{FramedRun, frames_before, octets_before, run_of}
+use Rattle.film_frames.specs.declared.stored_films.Stored.{Stored}
+use Rattle.film_frames.specs.FramedRuns.{FramedRun, frames_before, octets_before, run_of}
 use Rattle.session.specs.declared.states.Setup.{Setup}
 use Rattle.film_run.specs.declared.runs.Run.{Run}
 use Rattle.session.specs.declared.states.Counts.{Counts}

@@ -2,49 +2,49 @@
 use Rattle.std.specs.Prelude.{ℕ, ◌≡◌, ◌+◌, ◌%◌, ◌^◌, ◌++◌, ◌⊎◌, ⊤, true, List, [], ◌∷◌, Option}
 use Rattle.std.specs.Prelude.{Some, codes}
 use Rattle.rtp_pack.specs.declared.reports.Identity.{Identity}
-use Rattle.film_frames.specs.declared.stores.Stored.{Stored}
+use Rattle.film_frames.specs.declared.stored_films.Stored.{Stored}
 use Rattle.film_run.specs.declared.runs.Run.{Run}
 use Rattle.rtsp_text.specs.Replies.{Field, reply_text}
 use Rattle.rtsp_text.specs.declared.requests.Request.{Request}
-use Rattle.session.specs.declared.asks.Ask.{Ask}
-use Rattle.session.specs.declared.asks.Ask.TheVariants.{Reply, Play as AskPlay, Halt as AskHalt}
-use Rattle.session.specs.declared.asks.Ask.TheVariants.{Look as AskLook, Offer as AskOffer}
+use Rattle.session.specs.declared.commands.Ask.{Ask}
+use Rattle.session.specs.declared.commands.Ask.TheVariants.{Reply, Play as AskPlay, Halt as AskHalt}
+use Rattle.session.specs.declared.commands.Ask.TheVariants.{Look as AskLook, Offer as AskOffer}
 use Rattle.session.specs.declared.notes.Receipt.{Receipt}
 use Rattle.session.specs.declared.plans.Planned.{Planned}
 use Rattle.session.specs.declared.states.Awaited.TheVariants.{Nothing}
 use Rattle.session.specs.declared.states.Setup.{Setup}
-use Rattle.session.specs.declared.wanted.Wanted.TheVariants.{New}
+use Rattle.session.specs.declared.play_requests.PlayRequest.TheVariants.{New}
 use Rattle.session.specs.declared.states.State.{State}
 use Rattle.session.specs.declared.states.State.TheVariants.{Init, Ready, Playing, Stopping}
 use Rattle.rtsp_text.specs.Fields.{first_sequence}
 use Rattle.session.specs.declared.refusals.Refusal.TheVariants.{Memory}
-use Rattle.session.specs.Changes.{HasCode}
-use Rattle.session.specs.Judging.{IsReadAs}
+use Rattle.session.specs.RequestEffects.{HasCode}
+use Rattle.session.specs.RefusalOrder.{IsReadAs}
 use Rattle.session.specs.LookLaws.{AsksBooked}
 use Rattle.session.specs.Methods.{IsRefused}
 use Rattle.session.specs.OfferLaws.{IsOfferRequest}
-use Rattle.session.specs.Planning.{IsPlannedRun}
-use Rattle.session.specs.Standings.{IsReadyIn, Standing, with_reply}
+use Rattle.session.specs.RequestedPlans.{IsPlannedRun}
+use Rattle.session.specs.SessionStates.{IsReadyIn, SessionState, with_reply}
 
 -- the states of RFC 2326's server (appendix A.2); a play that was halted is over, also while its
 -- rest is sent
-pub data Stage : Type 0 where
-  InitStage : Stage
-  ReadyStage : Stage
-  PlayingStage : Stage
+pub data StateKind : Type 0 where
+  InitStage : StateKind
+  ReadyStage : StateKind
+  PlayingStage : StateKind
 
-abbrev pub stage_of : State → Stage
+abbrev pub stage_of : State → StateKind
 stage_of Init = InitStage
 stage_of (Ready setup paused) = ReadyStage
 stage_of (Playing setup play) = PlayingStage
 stage_of (Stopping setup stop) = ReadyStage
 
 -- the state stays, or goes from one to another
-pub record Goes (from to : Stage) (old new : Standing) : Type 0 where
+pub record Goes (from to : StateKind) (old new : SessionState) : Type 0 where
   pub begins : stage_of old.state ≡ from
   pub ends : stage_of new.state ≡ to
 
-abbrev pub StaysOr : Stage → Stage → Standing → Standing → Type 0
+abbrev pub StaysOr : StateKind → StateKind → SessionState → SessionState → Type 0
 StaysOr from to old new = (stage_of new.state ≡ stage_of old.state) ⊎ Goes from to old new
 
 -- a reply of 200
@@ -55,12 +55,12 @@ pub record IsOk (text : List ℕ) : Type 0 where
   pub text_is : text ≡ reply_text 200 sequence fields body
 
 -- a reply other than 200 leaves all but the reply
-abbrev pub LeavesOr : Standing → Standing → Type 0
+abbrev pub LeavesOr : SessionState → SessionState → Type 0
 LeavesOr old new = IsOk new.text ⊎ (new ≡ with_reply old new.text)
 
 -- a refusal of the station's leaves all but the reply: its receipt is noted, and no answer is
 -- awaited any more
-abbrev pub LeavesNoted : Standing → Receipt → Standing → Type 0
+abbrev pub LeavesNoted : SessionState → Receipt → SessionState → Type 0
 LeavesNoted old receipt new = new ≡ record (with_reply old new.text) {
   awaited = Nothing;
   receipts = old.receipts ++ receipt ∷ [];
@@ -75,7 +75,7 @@ AsksNoHalt (AskLook slot) = ⊤
 AsksNoHalt (AskOffer plan offers) = ⊤
 
 -- the play and the slots are as they were
-pub record PlaysOn (old new : Standing) : Type 0 where
+pub record PlaysOn (old new : SessionState) : Type 0 where
   pub state : new.state ≡ old.state
   pub heard : new.heard ≡ old.heard
 
@@ -87,7 +87,7 @@ pub record GoesOn (before after : Identity) (frames bytes : ℕ) : Type 0 where
   pub octets : after.octets ≡ (before.octets + bytes) % 2 ^ 32
 
 -- a PLAY takes a new run in place of a paused one
-pub record IsDropped (old : Standing) (stored : Stored) (setup : Setup) (paused : Run)
+pub record IsDropped (old : SessionState) (stored : Stored) (setup : Setup) (paused : Run)
     (planned : Planned) : Type 0 where
   pub run : Run
   pub range : Option (List ℕ)
@@ -95,26 +95,26 @@ pub record IsDropped (old : Standing) (stored : Stored) (setup : Setup) (paused 
   pub wanted_is : planned_is.wanted ≡ New run
 
 -- the play goes on in its run, from the byte after the last that was sent
-pub record Resumes (old : Standing) (paused : Run) (planned : Planned) : Type 0 where
+pub record Resumes (old : SessionState) (paused : Run) (planned : Planned) : Type 0 where
   pub run : planned.run ≡ paused
   pub counts : planned.counts ≡ old.counts
 
 -- memory is wanting for a message: it is answered 500 by its own number, and nothing else changes
-abbrev pub IsWanting : Standing → List ℕ → Ask → Standing → Type 0
-IsWanting old message ask new = IsRefused old (first_sequence message) Memory [] ask new
+abbrev pub IsOutOfMemory : SessionState → List ℕ → Ask → SessionState → Type 0
+IsOutOfMemory old message ask new = IsRefused old (first_sequence message) Memory [] ask new
 
 -- the same command to the station, and the same session after it, its reply with it
-pub record IsSameHearing (ask again : Ask) (one other : Standing) : Type 0 where
+pub record IsSameAnswer (ask again : Ask) (one other : SessionState) : Type 0 where
   pub ask_is : again ≡ ask
   pub session_is : other ≡ one
 
 -- what two hearings of a message come to is the same, or memory was wanting for one of them
-abbrev pub IsOneHearing : Standing → List ℕ → Ask → Standing → Ask → Standing → Type 0
-IsOneHearing old message ask one again other = IsSameHearing ask again one other
-    ⊎ (IsWanting old message ask one ⊎ IsWanting old message again other)
+abbrev pub IsOneAnswer : SessionState → List ℕ → Ask → SessionState → Ask → SessionState → Type 0
+IsOneAnswer old message ask one again other = IsSameAnswer ask again one other
+    ⊎ (IsOutOfMemory old message ask one ⊎ IsOutOfMemory old message again other)
 
 -- a message for which memory is wanting, by its reply
-abbrev pub Is500 : Ask → Standing → Type 0
+abbrev pub Is500 : Ask → SessionState → Type 0
 Is500 Reply new = HasCode 500 new.text
 Is500 (AskPlay plan) new = ⊥
 Is500 (AskHalt keep) new = ⊥
@@ -122,7 +122,7 @@ Is500 (AskLook slot) new = ⊥
 Is500 (AskOffer plan offers) new = ⊥
 
 -- once a play or a halt is asked of the station, no reply to its request is 500
-abbrev pub NeverLacks : Ask → Standing → Type 0
+abbrev pub NeverLacks : Ask → SessionState → Type 0
 NeverLacks Reply new = ⊤
 NeverLacks (AskPlay plan) new = (rest : List ℕ) → ¬ HasCode 500 (new.text ++ rest)
 NeverLacks (AskHalt keep) new = ¬ HasCode 500 new.text
@@ -136,23 +136,23 @@ pub record IsOfMethod (method message : List ℕ) : Type 0 where
   pub method_is : request.method.now ≡ method
 
 -- a PLAY in Ready, an offer in Ready, and a look once the room of the first looks is used up
-pub record IsPlayInReady (old : Standing) (message : List ℕ) : Type 0 where
+pub record IsPlayInReady (old : SessionState) (message : List ℕ) : Type 0 where
   pub setup : Setup
   pub ready : IsReadyIn old.state setup
   pub play : IsOfMethod (codes "PLAY") message
 
-pub record IsOfferInReady (old : Standing) (message : List ℕ) : Type 0 where
+pub record IsOfferInReady (old : SessionState) (message : List ℕ) : Type 0 where
   pub setup : Setup
   pub request : Request
   pub ready : IsReadyIn old.state setup
   pub offer : IsOfferRequest old message request
 
-pub record IsLookPastRoom (old : Standing) (message : List ℕ) : Type 0 where
+pub record IsLookPastRoom (old : SessionState) (message : List ℕ) : Type 0 where
   pub look : AsksBooked old message
   pub none : old.looks_left ≡ 0
 
 -- memory may be wanting for such a message, and for no other; once the link is lost, each message
 -- is answered so
-abbrev pub MayWantMemory : Standing → List ℕ → Type 0
-MayWantMemory old message = (old.lost ≡ true) ⊎ (IsPlayInReady old message
+abbrev pub MayRunOutOfMemory : SessionState → List ℕ → Type 0
+MayRunOutOfMemory old message = (old.lost ≡ true) ⊎ (IsPlayInReady old message
     ⊎ (IsOfferInReady old message ⊎ IsLookPastRoom old message))

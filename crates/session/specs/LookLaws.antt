@@ -1,37 +1,37 @@
 -- How many looks a connection may ask for without fail.
 use Rattle.std.specs.Prelude.{ℕ, ◌≡◌, ◌<◌, List, [], ◌∷◌, codes, false, sum_by}
-use Rattle.film_frames.specs.declared.stores.Stored.{Stored}
+use Rattle.film_frames.specs.declared.stored_films.Stored.{Stored}
 use Rattle.rtsp_text.specs.declared.requests.Request.{Request}
-use Rattle.session.specs.declared.asks.Ask.{Ask}
-use Rattle.session.specs.declared.asks.Ask.TheVariants.{Reply, Play as AskPlay, Halt as AskHalt}
-use Rattle.session.specs.declared.asks.Ask.TheVariants.{Look as AskLook, Offer as AskOffer}
+use Rattle.session.specs.declared.commands.Ask.{Ask}
+use Rattle.session.specs.declared.commands.Ask.TheVariants.{Reply, Play as AskPlay, Halt as AskHalt}
+use Rattle.session.specs.declared.commands.Ask.TheVariants.{Look as AskLook, Offer as AskOffer}
 use Rattle.session.specs.declared.notes.OfferNote.{OfferNote}
 use Rattle.session.specs.declared.settings.Settings.{Settings}
-use Rattle.session.specs.Hearings.{Hears, after_admission, after_full, after_halt, after_look}
-use Rattle.session.specs.Hearings.{after_offer, after_overflow, new_standing}
-use Rattle.session.specs.Judging.{IsReadAs, IsWord}
-use Rattle.session.specs.Sendings.{sent_reply, after_slot}
-use Rattle.session.specs.Standings.{Standing}
+use Rattle.session.specs.RequestSteps.{Hears, after_admission, after_full, after_halt, after_look}
+use Rattle.session.specs.RequestSteps.{after_offer, after_overflow, new_session_state}
+use Rattle.session.specs.RefusalOrder.{IsReadAs, IsWord}
+use Rattle.session.specs.SlotSteps.{sent_reply, after_slot}
+use Rattle.session.specs.SessionStates.{SessionState}
 
 -- what happens to a session: a message is heard, the station answers, a slot comes, a reply is sent
-pub data Happening : Type 0 where
-  Message : List ℕ → Ask → Happening
-  Admission : ℕ → ℕ → Happening
-  Overflow : ℕ → ℕ → ℕ → ℕ → Happening
-  Full : ℕ → ℕ → Happening
-  Halt : ℕ → Happening
-  Look : ℕ → ℕ → ℕ → ℕ → Happening
-  Offer : OfferNote → Happening
-  Slot : ℕ → Happening
-  Sending : Happening
+pub data SessionEvent : Type 0 where
+  Message : List ℕ → Ask → SessionEvent
+  Admission : ℕ → ℕ → SessionEvent
+  Overflow : ℕ → ℕ → ℕ → ℕ → SessionEvent
+  Full : ℕ → ℕ → SessionEvent
+  Halt : ℕ → SessionEvent
+  Look : ℕ → ℕ → ℕ → ℕ → SessionEvent
+  Offer : OfferNote → SessionEvent
+  Slot : ℕ → SessionEvent
+  Sending : SessionEvent
 
 -- the session after it
-abbrev pub IsAfter : Standing → Happening → Standing → Type 0
+abbrev pub IsAfter : SessionState → SessionEvent → SessionState → Type 0
 IsAfter old (Message message ask) new = Hears old message ask new
 IsAfter old (Admission place start) new = new ≡ after_admission old place start
 IsAfter old (Overflow place slot booked asked) new =
     new ≡ after_overflow old place slot booked asked
-IsAfter old (Full entries open_plays) new = new ≡ after_full old entries open_plays
+IsAfter old (Full entries live) new = new ≡ after_full old entries live
 IsAfter old (Halt place) new = new ≡ after_halt old place
 IsAfter old (Look place now at booked) new = new ≡ after_look old place now at booked
 IsAfter old (Offer note) new = new ≡ after_offer old note
@@ -39,9 +39,9 @@ IsAfter old (Slot slot) new = new ≡ after_slot old slot
 IsAfter old Sending new = new ≡ sent_reply old
 
 -- one after another
-abbrev pub AreAfter : Standing → List Happening → Standing → Type 0
+abbrev pub AreAfter : SessionState → List SessionEvent → SessionState → Type 0
 AreAfter old [] new = new ≡ old
-AreAfter old (happening ∷ rest) new = (next : Standing)
+AreAfter old (happening ∷ rest) new = (next : SessionState)
     × (IsAfter old happening next × AreAfter next rest new)
 
 -- how many looks the station was asked for
@@ -52,16 +52,16 @@ looks_in (AskHalt keep) = 0
 looks_in (AskLook slot) = 1
 looks_in (AskOffer plan offers) = 0
 
-abbrev pub looks_of : Happening → ℕ
+abbrev pub looks_of : SessionEvent → ℕ
 looks_of (Message message ask) = looks_in ask
 looks_of _ = 0
 
-abbrev pub looks_asked : List Happening → ℕ
+abbrev pub looks_asked : List SessionEvent → ℕ
 looks_asked happenings = sum_by looks_of happenings
 
 -- a message is a GET_PARAMETER for what is booked (RFC 2326 section 10.8), and no call of the link
 -- has failed
-pub record AsksBooked (old : Standing) (message : List ℕ) : Type 0 where
+pub record AsksBooked (old : SessionState) (message : List ℕ) : Type 0 where
   pub request : Request
   pub linked : old.lost ≡ false
   pub is_request : IsReadAs message request
@@ -70,7 +70,7 @@ pub record AsksBooked (old : Standing) (message : List ℕ) : Type 0 where
 
 -- a connection that asked for fewer than 1,024 looks
 pub record HasLooksLeft (films : List Stored) (settings : Settings) (words : List ℕ)
-    (now : Standing) : Type 0 where
-  pub happenings : List Happening
-  pub are : AreAfter (new_standing films settings words) happenings now
+    (now : SessionState) : Type 0 where
+  pub happenings : List SessionEvent
+  pub are : AreAfter (new_session_state films settings words) happenings now
   pub few : looks_asked happenings < 1024

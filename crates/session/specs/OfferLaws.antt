@@ -4,25 +4,25 @@ use Rattle.std.specs.Prelude.{ℕ, ◌≡◌, ◌<◌, ◌≤◌, ◌++◌, List
 use Rattle.std.specs.Prelude.{codes, decimal, flat_map, length, map}
 use Rattle.vod_base.specs.Numbers.{number_of}
 use Rattle.plan_cert.specs.declared.Segment.{Segment}
-use Rattle.wire_curve.specs.Refusal.{IsAccepted}
+use Rattle.wire_curve.specs.CurveFaults.{IsAccepted}
 use Rattle.wire_curve.specs.declared.film.Timing.{Timing}
-use Rattle.early_start.specs.Offered.{Offers}
+use Rattle.early_start.specs.StartSearch.{Offers}
 use Rattle.early_start.specs.declared.Tried.{Tried}
 use Rattle.rtsp_text.specs.Fields.{header_value}
 use Rattle.rtsp_text.specs.Replies.{Field, reply_text, value_named}
 use Rattle.rtsp_text.specs.declared.requests.Request.{Request}
-use Rattle.film_frames.specs.declared.stores.Stored.{Stored}
+use Rattle.film_frames.specs.declared.stored_films.Stored.{Stored}
 use Rattle.film_run.specs.declared.runs.Run.{Run}
 use Rattle.session.specs.declared.plans.Planned.{Planned}
 use Rattle.session.specs.declared.states.Awaited.TheVariants.{Offer}
 use Rattle.session.specs.declared.states.Setup.{Setup}
 use Rattle.session.specs.declared.states.State.TheVariants.{Ready}
-use Rattle.session.specs.Judging.{IsReadAs, IsWord}
-use Rattle.session.specs.Planning.{IsPlannedRun}
-use Rattle.session.specs.Standings.{Standing}
+use Rattle.session.specs.RefusalOrder.{IsReadAs, IsWord}
+use Rattle.session.specs.RequestedPlans.{IsPlannedRun}
+use Rattle.session.specs.SessionStates.{SessionState}
 
 -- an offer is asked for by a GET_PARAMETER in Ready (RFC 2326 section 10.8) whose body is this word
-pub record IsOfferRequest (old : Standing) (message : List ℕ) (request : Request) : Type 0 where
+pub record IsOfferRequest (old : SessionState) (message : List ℕ) (request : Request) : Type 0 where
   pub is_request : IsReadAs message request
   pub method : request.method.now ≡ codes "GET_PARAMETER"
   pub body : IsWord (codes "x-Offer") request.body.now
@@ -36,8 +36,9 @@ pub record IsWaitIn (head : List ℕ) (wait : ℕ) : Type 0 where
 
 -- the station is asked with the plan of a PLAY without a Range, and no start was tried yet; the
 -- state and what was played stay
-pub record IsOfferAsked (old : Standing) (message : List ℕ) (plan : List Segment) (offers : Offers)
-    (new : Standing) : Type 0 where
+pub record IsOfferAsked (old : SessionState) (message : List ℕ) (plan : List Segment) (offers :
+    Offers)
+    (new : SessionState) : Type 0 where
   pub request : Request
   pub setup : Setup
   pub paused : Option Run
@@ -63,7 +64,7 @@ tried_line tried = codes "x-Over: " ++ (decimal tried.start ++ (codes " "
     ++ (decimal tried.over.slot ++ (codes " " ++ (decimal tried.over.booked
     ++ (codes " " ++ decimal tried.over.asked))))))
 
-pub record IsOfferTold (sequence : ℕ) (offers : Offers) (text : List ℕ) : Type 0 where
+pub record IsOfferReply (sequence : ℕ) (offers : Offers) (text : List ℕ) : Type 0 where
   pub fields : List Field
   pub body : List ℕ
   pub text_is : text ≡ reply_text 200 (Some sequence) fields body
@@ -82,7 +83,7 @@ pub record IsLeastBuffer (sizes : List ℕ) (timing : Timing) (least : ℕ) : Ty
   pub no_less : (bytes : ℕ) → IsAccepted sizes (with_buffer timing bytes) → least ≤ bytes
 
 -- the reply that names it
-pub record IsLeastTold (sequence : Option ℕ) (least : ℕ) (text : List ℕ) : Type 0 where
+pub record IsLeastBufferReply (sequence : Option ℕ) (least : ℕ) (text : List ℕ) : Type 0 where
   pub fields : List Field
   pub text_is : text ≡ reply_text 451 sequence fields []
   pub least_is : value_named (codes "x-Least-Buffer") fields ≡ Some (decimal least)

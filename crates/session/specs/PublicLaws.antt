@@ -4,7 +4,7 @@ use Rattle.rtsp_text.specs.Replies.{Field, reply_text, value_named}
 use Rattle.session.specs.declared.methods.Method.{Method}
 use Rattle.session.specs.declared.methods.Method.TheVariants.{Options, Describe, Setup, Play, Pause}
 use Rattle.session.specs.declared.methods.Method.TheVariants.{Teardown, GetParameter}
-use Rattle.session.specs.Judging.{name_of}
+use Rattle.session.specs.RefusalOrder.{name_of}
 
 abbrev pub all_methods : List Method
 all_methods =

@@ -4,7 +4,7 @@ use Rattle.std.specs.Prelude.{flat_map}
 use Rattle.std.specs.Int.{w32, to_be_bytes}
 use Rattle.hex.specs.Hex.{encode_lower}
 use Rattle.rtsp_text.specs.Replies.{Field, reply_text}
-use Rattle.rtsp_fields.specs.Descriptions.{description_text, seconds_text}
+use Rattle.rtsp_fields.specs.Sdp.{description_text, seconds_text}
 use Rattle.early_start.specs.declared.Tried.{Tried}
 use Rattle.session.specs.declared.refusals.Refusal.{Refusal}
 use Rattle.session.specs.declared.refusals.Refusal.TheVariants.{BadRequest, Version, Method}
@@ -107,8 +107,8 @@ overflow_text sequence slot booked asked = reply_text 453 (Some sequence)
     (codes "x-Asked") (decimal asked) ∷ []) []
 
 abbrev pub full_text : ℕ → ℕ → ℕ → List ℕ
-full_text sequence entries open_plays = reply_text 503 (Some sequence)
-    (field (codes "x-Entries") (decimal entries) ∷ field (codes "x-Open") (decimal open_plays) ∷ [])
+full_text sequence entries live = reply_text 503 (Some sequence)
+    (field (codes "x-Entries") (decimal entries) ∷ field (codes "x-Open") (decimal live) ∷ [])
     []
 
 abbrev pub parameters_text : ℕ → List ℕ → List ℕ

@@ -31,7 +31,7 @@ IsBuffer settings head bytes =
 
 abbrev pub IsDelay : Settings → List ℕ → ℕ → Type 0
 IsDelay settings head slots =
-    IsChosen (header_value head (codes "x-Startup")) settings.delay 0 10000 slots
+    IsChosen (header_value head (codes "x-Startup")) settings.startup 0 10000 slots
 
 pub record AsksForSetup (settings : Settings) (head : List ℕ) (film : ℕ) (setup : Setup)
     : Type 0 where

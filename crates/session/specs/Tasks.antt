@@ -2,7 +2,7 @@
 use Rattle.std.specs.Prelude.{ℕ, ◌≡◌, ◌<◌, ◌≤◌, ⊤, false, true, Bool, length}
 use Rattle.rtsp_text.specs.Lines.{is_one_line}
 use Rattle.session.specs.declared.refusals.Asked.{Asked}
-use Rattle.session.specs.Standings.{has_session_in, is_playing_in}
+use Rattle.session.specs.SessionStates.{has_session_in, is_playing_in}
 use Rattle.session.specs.declared.refusals.Task.{Task}
 use Rattle.session.specs.declared.refusals.Task.TheVariants.{Options as ToOptions}
 use Rattle.session.specs.declared.refusals.Task.TheVariants.{Describe as ToDescribe}

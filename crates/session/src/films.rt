@@ -3,19 +3,21 @@
 ghost use Rattle.std.specs.Prelude.{◌≡◌, ◌+◌, ◌*◌, ◌%◌, ◌^◌, ◌<◌, ◌≤◌, ℕ, true, length};
 ghost use Rattle.vod_base.specs.declared.limits.TheConstants.{MAX_FILM_PICTURES};
 ghost use Rattle.std.specs.Prelude.{string_bytes};
-ghost use Rattle.vod_base.specs.Names.{is_good_name};
-ghost use Rattle.film_frames.specs.Runs.{run_pieces};
+ghost use Rattle.vod_base.specs.Names.{good_name};
+ghost use Rattle.film_frames.specs.FramedRuns.{run_pieces};
 ghost use Rattle.film_frames.specs.Tracks.{framed_bytes};
 ghost use Rattle.film_run.specs.Runs.{bytes_between};
 ghost use Rattle.film_run.specs.Units.{AreUnitSizes, stored_sizes};
 ghost use Rattle.session.specs.Films.{IsFilmAt, counts_after, identity_of, length_ms};
 ghost use Rattle.session.specs.Films.{milliseconds_at, sending_of, timestamp_at};
-ghost use Rattle.session.specs.Ranges.{AreFilms};
+ghost use Rattle.session.specs.SettingRanges.{AreFilms};
 
 use crate::states::{Counts, Setup, StreamSource};
-use film_frames::{Frames, Stored, law_piece_sizes, law_wire_sizes};
+use film_frames::laws::{law_frame_and_report_sizes_are_exact, law_wire_size_of_film_is_bounded};
+use film_frames::{Frames, Stored};
 use film_run::Run;
-use mpeg_scan::{Film, law_film};
+use mpeg_scan::Film;
+use mpeg_scan::laws::law_film_is_well_formed;
 use rtp_pack::Identity;
 
 /// The film of that number, whose name is good.
@@ -23,12 +25,12 @@ pub(crate) fn stored_at(films: &[Stored], film: usize) -> &Stored
     requires films { AreFilms films.now }
     requires within { film < length films.now }
     ensures film { IsFilmAt films.now film result.now }
-    ensures good { is_good_name (string_bytes result.now.name) ≡ true }
+    ensures good { good_name (string_bytes result.now.name) ≡ true }
     ensures sizes { AreUnitSizes (stored_sizes result.now) }
 {
     let stored = &films[film];
-    law_film(&stored.film);
-    law_wire_sizes();
+    law_film_is_well_formed(&stored.film);
+    law_wire_size_of_film_is_bounded();
     stored
 }
 
@@ -44,12 +46,12 @@ pub(crate) fn milliseconds_at(film: &Film, unit: usize) -> u64
 pub(crate) fn length_ms(film: &Film) -> u64
     ensures { result ≡ length_ms film.now }
 {
-    law_film(film);
+    law_film_is_well_formed(film);
     milliseconds_at(film, film.units.len())
 }
 
 /// The timestamp of a unit, in 1/90,000 second.
-#[tactic(auto, using(crate::proofs::Sums::sum_mod))]
+#[tactic(auto, using(crate::proofs::ModularSums::sum_mod))]
 pub(crate) fn timestamp_at(film: &Film, source: StreamSource, unit: usize) -> u32
     requires { unit ≤ MAX_FILM_PICTURES }
     ensures { result ≡ timestamp_at film.now source unit }
@@ -59,7 +61,7 @@ pub(crate) fn timestamp_at(film: &Film, source: StreamSource, unit: usize) -> u3
 }
 
 /// The identity of a run that begins after so many frames and octets (RFC 3550 section 5.1).
-#[tactic(auto, using(crate::proofs::Sums::sum_mod))]
+#[tactic(auto, using(crate::proofs::ModularSums::sum_mod))]
 pub(crate) fn identity_of(source: StreamSource, setup: &Setup, counts: Counts) -> Identity
     ensures { result ≡ identity_of source setup.now counts }
 {
@@ -91,12 +93,12 @@ pub(crate) fn frames_of<'a>(
         ≡ bytes_between (stored_sizes stored.now) run.now.first_unit run.now.end_unit }
 {
     let identity = identity_of(source, setup, counts);
-    law_piece_sizes();
+    law_frame_and_report_sizes_are_exact();
     Frames::new(stored, run.first_unit, run.end_unit, identity)
 }
 
 /// What the session has sent in all, where so many bytes of these frames were sent.
-#[tactic(auto, using(crate::proofs::Sums::sum_mod))]
+#[tactic(auto, using(crate::proofs::ModularSums::sum_mod))]
 pub(crate) fn counts_after(counts: Counts, frames: &Frames<'_>, sent: u64) -> Counts
     ensures { result ≡ counts_after counts frames.now sent }
 {

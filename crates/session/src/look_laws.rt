@@ -1,18 +1,18 @@
 //! Looks are asked for without fail.
 
 ghost use Rattle.std.specs.Prelude.{ℕ, List};
-ghost use Rattle.film_frames.specs.declared.stores.Stored.{Stored};
-ghost use Rattle.session.specs.declared.asks.Ask.{Ask};
+ghost use Rattle.film_frames.specs.declared.stored_films.Stored.{Stored};
+ghost use Rattle.session.specs.declared.commands.Ask.{Ask};
 ghost use Rattle.session.specs.declared.settings.Settings.{Settings};
-ghost use Rattle.session.specs.Hearings.{Hears};
+ghost use Rattle.session.specs.RequestSteps.{Hears};
 ghost use Rattle.session.specs.Laws.{Is500};
 ghost use Rattle.session.specs.LookLaws.{AsksBooked, HasLooksLeft};
-ghost use Rattle.session.specs.Standings.{Standing};
+ghost use Rattle.session.specs.SessionStates.{SessionState};
 
-/// The first 1,024 looks of a connection are never refused for want of memory, whatever else
+/// The first 1,024 looks of a connection are never refused because memory ran out, whatever else
 /// happens to it.
-pub fn law_looks()
-    ensures { (films : List Stored) (settings : Settings) (words : List ℕ) (old new : Standing)
+pub fn law_first_looks_never_lack_memory()
+    ensures { (films : List Stored) (settings : Settings) (words : List ℕ) (old new : SessionState)
         (message : List ℕ) (ask : Ask) → HasLooksLeft films settings words old
         → AsksBooked old message → Hears old message ask new → ¬ Is500 ask new }
 {}

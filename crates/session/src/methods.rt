@@ -2,7 +2,7 @@
 
 ghost use Rattle.std.specs.Prelude.{◌≡◌, ◌≢◌, ◌↔◌, IsTrue, MatchOption};
 ghost use Rattle.session.specs.declared.methods.Method.{Method};
-ghost use Rattle.session.specs.Judging.{IsLineEnd, IsTopic, IsWord, name_of};
+ghost use Rattle.session.specs.RefusalOrder.{IsLineEnd, IsTopic, IsWord, name_of};
 
 /// A method of RTSP that is spoken (RFC 2326 section 10).
 #[derive(Clone, Copy)]

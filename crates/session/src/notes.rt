@@ -19,7 +19,7 @@ pub enum Receipt {
         /// How many entries it had.
         entries: u64,
         /// How many plays were open.
-        open_plays: u64,
+        live: u64,
     },
 }
 

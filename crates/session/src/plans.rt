@@ -3,17 +3,18 @@
 ghost use Rattle.std.specs.Prelude.{◌≡◌, ℕ, List, Option, length, option_map, IfOk, IfSome};
 ghost use Rattle.film_run.specs.Plans.{IsPlayback};
 ghost use Rattle.session.specs.Films.{OfFilm};
-ghost use Rattle.session.specs.Planning.{IsPausedIn, IsPlanned};
-ghost use Rattle.session.specs.Playing.{IsAskedRun, IsPlayable, IsRunOf, counts_before, counts_for};
-ghost use Rattle.session.specs.Playing.{playback_of, run_of};
-ghost use Rattle.session.specs.Ranges.{AreSettings, IsSetup};
+ghost use Rattle.session.specs.RequestedPlans.{IsPausedIn, IsPlanned};
+ghost use Rattle.session.specs.RunRequests.{IsAskedRun, IsPlayable, IsRunOf, counts_before};
+ghost use Rattle.session.specs.RunRequests.{counts_for};
+ghost use Rattle.session.specs.RunRequests.{playback_of, run_of};
+ghost use Rattle.session.specs.SettingRanges.{AreSettings, IsSetup};
 
 use crate::films::{counts_after, frames_of, stored_at};
+use crate::play_requests::{PlayRequest, requested_run};
 use crate::refusals::Refusal;
 use crate::sessions::Session;
 use crate::settings::Settings;
 use crate::states::{Counts, Setup, StreamSource};
-use crate::wanted::{Wanted, wanted_run};
 use film_frames::Stored;
 use film_run::{Playback, Run, plan_of};
 use mpeg_scan::Film;
@@ -63,7 +64,7 @@ impl<'a> Session<'a> {
             planned.counts planned.run planned.plan)) }
     {
         let stored = stored_at(self.films, setup.film);
-        let Some(wanted) = wanted_run(&stored.film, paused, range) else {
+        let Some(wanted) = requested_run(&stored.film, paused, range) else {
             return Err(Refusal::Range);
         };
         let (run, counts) = run_and_counts(stored, self.source, setup, self.counts, paused, wanted);
@@ -101,7 +102,7 @@ fn run_and_counts(
     setup: &Setup,
     counts: Counts,
     paused: Option<Run>,
-    wanted: Wanted,
+    wanted: PlayRequest,
 ) -> (Run, Counts)
     requires paused { IfSome paused (IsRunOf stored.now source setup.now counts) }
     requires wanted { (range : Option (List ℕ)) × IsAskedRun stored.now.film paused range wanted }
@@ -110,7 +111,7 @@ fn run_and_counts(
     ensures goes_on { IsRunOf stored.now source setup.now result.1 result.0 }
 {
     match wanted {
-        Wanted::Resumed(run) => (run, counts),
-        Wanted::New(run) => (run, counts_before(stored, source, setup, counts, paused)),
+        PlayRequest::Resumed(run) => (run, counts),
+        PlayRequest::New(run) => (run, counts_before(stored, source, setup, counts, paused)),
     }
 }

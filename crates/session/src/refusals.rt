@@ -3,14 +3,15 @@
 ghost use Rattle.std.specs.Prelude.{◌≡◌, ◌<◌, ◌≤◌, ℕ, true, List, length};
 ghost use Rattle.std.specs.Prelude.{IfOk, IsTrue, IfSome, MatchOption, ◌↔◌};
 ghost use Rattle.std.specs.Prelude.{option_map, IfErr, Err};
-ghost use Rattle.film_frames.specs.declared.stores.Stored.{Stored};
+ghost use Rattle.film_frames.specs.declared.stored_films.Stored.{Stored};
 ghost use Rattle.session.specs.Films.{IsFilmNamed, Names};
-ghost use Rattle.session.specs.Judging.{FitsFilm, FitsSession, FitsState, HasFilm, IsJudged};
-ghost use Rattle.session.specs.Judging.{IsOnFilm, IsOwnTalk, fault_refusal, option_of, required_of};
-ghost use Rattle.session.specs.Judging.{task_for};
-ghost use Rattle.session.specs.Playing.{curve_refusal};
-ghost use Rattle.session.specs.Ranges.{AreFilms};
-ghost use Rattle.session.specs.Standings.{has_session_in};
+ghost use Rattle.session.specs.RefusalOrder.{FitsFilm, FitsSession, FitsState, HasFilm, IsJudged};
+ghost use Rattle.session.specs.RefusalOrder.{IsOnFilm, IsOwnTalk, fault_refusal, option_of};
+ghost use Rattle.session.specs.RefusalOrder.{required_of};
+ghost use Rattle.session.specs.RefusalOrder.{task_for};
+ghost use Rattle.session.specs.RunRequests.{curve_refusal};
+ghost use Rattle.session.specs.SettingRanges.{AreFilms};
+ghost use Rattle.session.specs.SessionStates.{has_session_in};
 ghost use Rattle.rtsp_text.specs.Lines.{is_one_line};
 ghost use Rattle.session.specs.Tasks.{IsAsked, IsTask, IsValid, NeedsSession};
 
@@ -59,10 +60,10 @@ pub(crate) struct Asked<'m> {
     pub(crate) authority: &'m [u8],
 }
 
-/// A request that is taken up.
+/// A request that is processed.
 #[derive(Clone, Copy)]
 pub(crate) enum Task<'m> {
-    /// The methods that are spoken are told.
+    /// Lists the methods.
     Options,
     /// This film is described.
     Describe(Asked<'m>),
@@ -74,7 +75,7 @@ pub(crate) enum Task<'m> {
     Pause,
     /// The session ends.
     Teardown,
-    /// What the body asks for is told.
+    /// Answers what the body asks for.
     GetParameter,
 }
 
@@ -119,7 +120,7 @@ pub(crate) fn option_of<'m>(request: &Request<'m>) -> &'m [u8]
 
 /// Judges a well formed request by the refusals that all methods share, in their order: the method
 /// isn't spoken, an option is required, the session, the film, the state.
-pub(crate) fn judge<'m>(
+pub(crate) fn check_request<'m>(
     films: &[Stored],
     id: &[u8; 16],
     state: &State<'_>,

@@ -2,17 +2,17 @@
 
 ghost use Rattle.session.specs.Replies.{code_of, refusal_fields, refusal_text, public_text};
 ghost use Rattle.vod_base.specs.declared.limits.TheConstants.{MAX_FILM_PICTURES};
-ghost use Rattle.session.specs.declared.texts.TheConstants.{ROOM};
+ghost use Rattle.session.specs.declared.text_buffers.TheConstants.{MAX_TEXT_BYTES};
 ghost use Rattle.session.specs.Replies.{describe_text, setup_text, session_text};
 ghost use Rattle.session.specs.Replies.{plain_text, play_fields, play_text, overflow_text};
 ghost use Rattle.session.specs.Replies.{full_text, parameters_text};
 ghost use Rattle.std.specs.Prelude.{◌≡◌, ◌≤◌, IsTrue, true, length, string_bytes, ℕ, List, Option};
 ghost use Rattle.std.specs.Prelude.{Some, [], decimal};
 ghost use Rattle.session.specs.Films.{counts_after, identity_of, milliseconds_at, timestamp_at};
-ghost use Rattle.session.specs.Hearings.{started_text};
+ghost use Rattle.session.specs.RequestSteps.{started_text};
 ghost use Rattle.std.specs.Int.{w32, to_be_bytes};
 ghost use Rattle.hex.specs.Hex.{encode_lower};
-ghost use Rattle.vod_base.specs.Names.{is_good_name};
+ghost use Rattle.vod_base.specs.Names.{good_name};
 ghost use Rattle.rtsp_text.specs.Lines.{is_one_line};
 ghost use Rattle.rtsp_text.specs.Replies.{Field, is_code, reply_front};
 
@@ -59,14 +59,14 @@ pub(crate) fn put_description(
 )
     requires authority { length authority.now ≤ 16384 }
     requires authority_line { is_one_line authority.now ≡ true }
-    requires name { is_good_name name.now ≡ true }
+    requires name { good_name name.now ≡ true }
     ensures { reply.new ≡ describe_text sequence authority.now name.now end_ms }
 {
     let mut text = [0u8; 512];
     let length = description(name, end_ms, &mut text);
     reply.clear();
     reply.start(200, Some(sequence));
-    reply.field_of(
+    reply.field_from_parts(
         b"Content-Base",
         &[
             b"rtsp://".as_slice(),
@@ -90,7 +90,7 @@ pub(crate) fn put_setup(reply: &mut Reply, sequence: u64, setup: &Setup, ssrc: u
     let (mut media, mut control) = (Buffer::new(), Buffer::new());
     reply.clear();
     reply.start(200, Some(sequence));
-    reply.field_of(
+    reply.field_from_parts(
         b"Transport",
         &[
             b"RTP/AVP/TCP;unicast;interleaved=".as_slice(),
@@ -191,7 +191,7 @@ pub(crate) fn put_play(reply: &mut Reply, sequence: u64, id: &[u8; 16], info: &I
     reply.clear();
     reply.start(200, Some(sequence));
     reply.field(b"Session", id);
-    reply.field_of(
+    reply.field_from_parts(
         b"Range",
         &[
             b"npt=".as_slice(),
@@ -200,7 +200,7 @@ pub(crate) fn put_play(reply: &mut Reply, sequence: u64, id: &[u8; 16], info: &I
             seconds_text(info.end_ms, &mut end),
         ],
     );
-    reply.field_of(
+    reply.field_from_parts(
         b"RTP-Info",
         &[
             b"url=rtsp://".as_slice(),
@@ -240,19 +240,19 @@ pub(crate) fn put_overflow(reply: &mut Reply, sequence: u64, slot: u64, booked: 
 }
 
 /// The 503 of a full journal.
-pub(crate) fn put_full(reply: &mut Reply, sequence: u64, entries: u64, open_plays: u64)
-    ensures { reply.new ≡ full_text sequence entries open_plays }
+pub(crate) fn put_full(reply: &mut Reply, sequence: u64, entries: u64, live: u64)
+    ensures { reply.new ≡ full_text sequence entries live }
 {
     reply.clear();
     reply.start(503, Some(sequence));
     reply.number_field(b"x-Entries", entries);
-    reply.number_field(b"x-Open", open_plays);
+    reply.number_field(b"x-Open", live);
     reply.finish(&[]);
 }
 
 /// The 200 of a GET_PARAMETER with this body.
 pub(crate) fn put_parameters(reply: &mut Reply, sequence: u64, body: &[u8])
-    requires { length body.now ≤ ROOM }
+    requires { length body.now ≤ MAX_TEXT_BYTES }
     ensures { reply.new ≡ parameters_text sequence body.now }
 {
     reply.clear();
@@ -282,7 +282,7 @@ fn code_of(refusal: Refusal) -> u16
     }
 }
 
-/// What a refusal says besides.
+/// What a refusal says in addition.
 fn put_refusal_field(reply: &mut Reply, refusal: Refusal, option: &[u8])
     requires fits { length reply.old ≤ 75 }
     requires short { length option.now ≤ 16384 }

@@ -4,38 +4,39 @@ ghost use Rattle.std.specs.Prelude.{◌≡◌, ◌<◌, ◌≤◌, ℕ, true, fa
 ghost use Rattle.std.specs.Prelude.{MatchOption, IfNone, OnOk, Ok, None, [], ◌+◌};
 ghost use Rattle.interleave.specs.Elements.{IsMessageLength};
 ghost use Rattle.rtsp_text.specs.Lines.{is_one_line};
-ghost use Rattle.session.specs.declared.asks.Ask.{Ask};
-ghost use Rattle.session.specs.Hearings.{Hears};
-ghost use Rattle.session.specs.Playing.{IsPlayable};
-ghost use Rattle.session.specs.Ranges.{IsSetup};
+ghost use Rattle.session.specs.declared.commands.Ask.{Ask};
+ghost use Rattle.session.specs.RequestSteps.{Hears};
+ghost use Rattle.session.specs.RunRequests.{IsPlayable};
+ghost use Rattle.session.specs.SettingRanges.{IsSetup};
 ghost use Rattle.session.specs.Films.{OfFilm};
-ghost use Rattle.session.specs.Logs.{IsSameLists};
+ghost use Rattle.session.specs.RecordLists.{IsSameLists};
 ghost use Rattle.session.specs.Methods.{AsksOfferOr, AsksPlayOr, Describes, GetsParameter, HasWait};
 ghost use Rattle.session.specs.Methods.{HearsRequest, Looks, GetsOffer, OffersReady};
 ghost use Rattle.session.specs.Methods.{Pauses, Plays, SetsUp, Takes, TearsDown, play_call};
-ghost use Rattle.session.specs.Planning.{IsPausedIn};
+ghost use Rattle.session.specs.RequestedPlans.{IsPausedIn};
 ghost use Rattle.session.specs.Tasks.{IsTask};
 ghost use Rattle.session.specs.Replies.{refusal_text};
-ghost use Rattle.session.specs.Standings.{AsksFor, CanHear, IsAtRest, IsReadyIn, IsSameBusiness};
-ghost use Rattle.session.specs.Standings.{has_session_in, is_playing_in, with_reply};
-ghost use Rattle.session.specs.Inside.{IsGoing};
-ghost use Rattle.session.specs.Halting.{KeepsToBoundary};
+ghost use Rattle.session.specs.SessionStates.{AsksFor, CanHandleRequest, AwaitsNoAnswer, IsReadyIn};
+ghost use Rattle.session.specs.SessionStates.{IsSameStationState};
+ghost use Rattle.session.specs.SessionStates.{has_session_in, is_playing_in, with_reply};
+ghost use Rattle.session.specs.SessionInvariant.{IsGoing};
+ghost use Rattle.session.specs.HaltSteps.{KeepsToBoundary};
 
-use crate::asks::Ask;
+use crate::commands::Ask;
 use crate::films::{frames_of, length_ms, stored_at};
-use crate::logs::Log;
 use crate::methods::{Topic, read_topic};
 use crate::plans::{Planned, playback_of};
-use crate::refusals::{Refusal, Task, judge, option_of};
+use crate::records::Records;
+use crate::refusals::{Refusal, Task, check_request, option_of};
 use crate::replies::{
     info_of, put_description, put_plain, put_play, put_public, put_refusal, put_session, put_setup,
 };
 use crate::sessions::Session;
 use crate::setups::read_setup;
-use crate::states::{Awaited, Next, Prepared, Setup, State};
+use crate::states::{AfterHalt, Awaited, Prepared, Setup, State};
 use early_start::Offers;
 use film_run::{Run, run_after};
-use mpeg_scan::law_film;
+use mpeg_scan::laws::law_film_is_well_formed;
 use plan_cert::Plan;
 use rtsp_fields::read_wait;
 use rtsp_text::{Request, header, read_request, sequence_of};
@@ -49,13 +50,13 @@ impl<'a> Session<'a> {
     /// All memory that the request needs is taken here, before anything is changed: want of it is
     /// answered 500.
     pub fn hear(&mut self, message: &[u8]) -> Ask
-        requires rest { IsAtRest self.old }
+        requires rest { AwaitsNoAnswer self.old }
         requires replied { self.old.waits ≡ false }
         requires torn { self.old.torn ≡ false }
         requires whole { IsMessageLength message.now (length message.now) }
         ensures hears { Hears self.old message.now result self.new }
         ensures asks { AsksFor result self.new }
-        ensures same { IsSameBusiness self.old self.new }
+        ensures same { IsSameStationState self.old self.new }
     {
         if self.lost {
             // what is due can't be sent any more, so no play can be stopped at the end of a piece
@@ -67,28 +68,28 @@ impl<'a> Session<'a> {
         }
     }
 
-    /// Hears a request that could be read: it is refused, or taken up by its method.
+    /// Hears a request that could be read: it is refused, or processed by its method.
     fn hear_request(&mut self, request: &Request<'_>) -> Ask
-        requires hear { CanHear self.old }
+        requires hear { CanHandleRequest self.old }
         requires head { length request.now.head.now ≤ 16384 }
         requires url { length request.now.url.now ≤ 16384 }
         ensures hears { HearsRequest self.old request.now result self.new }
         ensures asks { AsksFor result self.new }
-        ensures same { IsSameBusiness self.old self.new }
+        ensures same { IsSameStationState self.old self.new }
     {
-        match judge(self.films, &self.id, &self.state, request) {
-            Ok(task) => self.take_up(request, task),
+        match check_request(self.films, &self.id, &self.state, request) {
+            Ok(task) => self.process_task(request, task),
             Err(refusal) => self.refuse_option(Some(request.sequence), refusal, option_of(request)),
         }
     }
 
-    /// Takes up a request by its method.
-    fn take_up(&mut self, request: &Request<'_>, task: Task<'_>) -> Ask
-        requires hear { CanHear self.old }
+    /// Processes a request by its method.
+    fn process_task(&mut self, request: &Request<'_>, task: Task<'_>) -> Ask
+        requires hear { CanHandleRequest self.old }
         requires task { IsTask (length self.old.films) self.old.state task }
         ensures takes { Takes self.old request.now (Ok task.entry) result self.new }
         ensures asks { AsksFor result self.new }
-        ensures same { IsSameBusiness self.old self.new }
+        ensures same { IsSameStationState self.old self.new }
     {
         let sequence = request.sequence;
         match task {
@@ -107,7 +108,7 @@ impl<'a> Session<'a> {
 
     /// The reply is whole: it waits.
     fn reply_waits(&mut self) -> Ask
-        requires rest { IsAtRest self.old }
+        requires rest { AwaitsNoAnswer self.old }
         ensures asks { result ≡ Ask.Reply }
         ensures waits { self.new ≡ record self.old { waits = true } }
     {
@@ -117,24 +118,24 @@ impl<'a> Session<'a> {
 
     /// Refuses a request that requires no option.
     fn refuse(&mut self, sequence: Option<u64>, refusal: Refusal) -> Ask
-        requires rest { IsAtRest self.old }
+        requires rest { AwaitsNoAnswer self.old }
         ensures ask { result ≡ Ask.Reply }
         ensures exact { self.new ≡ with_reply self.old (refusal_text sequence refusal []) }
         ensures asks { AsksFor result self.new }
-        ensures same { IsSameBusiness self.old self.new }
+        ensures same { IsSameStationState self.old self.new }
     {
         self.refuse_option(sequence, refusal, b"")
     }
 
     /// Refuses a request. The option is the one that it requires, if any.
     fn refuse_option(&mut self, sequence: Option<u64>, refusal: Refusal, option: &[u8]) -> Ask
-        requires rest { IsAtRest self.old }
+        requires rest { AwaitsNoAnswer self.old }
         requires short { length option.now ≤ 16384 }
         requires line { is_one_line option.now ≡ true }
         ensures ask { result ≡ Ask.Reply }
         ensures exact { self.new ≡ with_reply self.old (refusal_text sequence refusal option.now) }
         ensures asks { AsksFor result self.new }
-        ensures same { IsSameBusiness self.old self.new }
+        ensures same { IsSameStationState self.old self.new }
     {
         put_refusal(&mut self.reply, sequence, refusal, option);
         self.reply_waits()
@@ -142,13 +143,13 @@ impl<'a> Session<'a> {
 
     /// DESCRIBE (RFC 2326 section 10.2).
     fn describe(&mut self, sequence: u64, film: usize, authority: &[u8]) -> Ask
-        requires hear { CanHear self.old }
+        requires hear { CanHandleRequest self.old }
         requires film { film < length self.old.films }
         requires authority { length authority.now ≤ 16384 }
         requires authority_line { is_one_line authority.now ≡ true }
         ensures exact { Describes self.old sequence film authority.now result self.new }
         ensures asks { AsksFor result self.new }
-        ensures same { IsSameBusiness self.old self.new }
+        ensures same { IsSameStationState self.old self.new }
     {
         let stored = stored_at(self.films, film);
         let end_ms = length_ms(&stored.film);
@@ -164,12 +165,12 @@ impl<'a> Session<'a> {
 
     /// SETUP (RFC 2326 section 10.4).
     fn set_up(&mut self, request: &Request<'_>, film: usize) -> Ask
-        requires hear { CanHear self.old }
+        requires hear { CanHandleRequest self.old }
         requires film { film < length self.old.films }
         requires first { has_session_in self.old.state ≡ false }
         ensures exact { SetsUp self.old request.now film result self.new }
         ensures asks { AsksFor result self.new }
-        ensures same { IsSameBusiness self.old self.new }
+        ensures same { IsSameStationState self.old self.new }
     {
         match read_setup(request, film, &self.settings) {
             Ok(setup) => {
@@ -189,13 +190,13 @@ impl<'a> Session<'a> {
 
     /// PLAY (RFC 2326 section 10.5).
     fn play(&mut self, request: &Request<'_>, authority: &[u8]) -> Ask
-        requires hear { CanHear self.old }
+        requires hear { CanHandleRequest self.old }
         requires session { has_session_in self.old.state ≡ true }
         requires authority { length authority.now ≤ 16384 }
         requires authority_line { is_one_line authority.now ≡ true }
         ensures exact { Plays self.old.state self.old request.now authority.now result self.new }
         ensures asks { AsksFor result self.new }
-        ensures same { IsSameBusiness self.old self.new }
+        ensures same { IsSameStationState self.old self.new }
     {
         let sequence = request.sequence;
         let State::Ready(setup, paused) = self.state else {
@@ -210,7 +211,7 @@ impl<'a> Session<'a> {
 
     /// Asks for a play, once there is memory for what it leaves for the report.
     fn ask_play(&mut self, sequence: u64, authority: &[u8], setup: &Setup, planned: Planned) -> Ask
-        requires hear { CanHear self.old }
+        requires hear { CanHandleRequest self.old }
         requires ready { IsReadyIn self.old.state setup.now }
         requires authority { length authority.now ≤ 16384 }
         requires authority_line { is_one_line authority.now ≡ true }
@@ -220,14 +221,14 @@ impl<'a> Session<'a> {
         ensures exact { AsksPlayOr self.old (play_call sequence authority.now setup.now)
             (Ok planned) result self.new }
         ensures asks { AsksFor result self.new }
-        ensures same { IsSameBusiness self.old self.new }
+        ensures same { IsSameStationState self.old self.new }
     {
         let Ok((own, paced)) = plans_with_room(&mut self.log, self.looks_left, &planned.plan) else {
             return self.refuse(Some(sequence), Refusal::Memory);
         };
         let films = self.films;
         let stored = stored_at(films, setup.film);
-        law_film(&stored.film);
+        law_film_is_well_formed(&stored.film);
         let Planned { run, counts, plan } = planned;
         let frames = frames_of(stored, self.source, setup, counts, &run);
         let prepared = Prepared {
@@ -246,11 +247,11 @@ impl<'a> Session<'a> {
 
     /// PAUSE (RFC 2326 section 10.6): the play is halted at the end of the piece in hand.
     fn pause(&mut self, sequence: u64) -> Ask
-        requires hear { CanHear self.old }
+        requires hear { CanHandleRequest self.old }
         requires playing { is_playing_in self.old.state ≡ true }
         ensures exact { Pauses self.old.state self.old sequence result self.new }
         ensures asks { AsksFor result self.new }
-        ensures same { IsSameBusiness self.old self.new }
+        ensures same { IsSameStationState self.old self.new }
     {
         let films = self.films;
         let State::Playing(setup, mut play) = mem::replace(&mut self.state, State::Init) else {
@@ -263,33 +264,34 @@ impl<'a> Session<'a> {
         let left = run_after(stored, &playback, &play.run, &play.plan, last, keep);
         put_session(&mut self.reply, sequence, &self.id);
         self.state.enter(State::Playing(setup, play));
-        self.awaited.set(Awaited::Halt(keep, Next::Paused(left)));
+        self.awaited
+            .set(Awaited::Halt(keep, AfterHalt::Paused(left)));
         Ask::Halt(keep)
     }
 
     /// TEARDOWN (RFC 2326 section 10.7): a play is halted as by a PAUSE.
     fn tear_down(&mut self, sequence: u64) -> Ask
-        requires hear { CanHear self.old }
+        requires hear { CanHandleRequest self.old }
         ensures exact { TearsDown self.old.state self.old sequence result self.new }
         ensures asks { AsksFor result self.new }
-        ensures same { IsSameBusiness self.old self.new }
+        ensures same { IsSameStationState self.old self.new }
     {
         put_session(&mut self.reply, sequence, &self.id);
         let Some(keep) = ask_halt(&mut self.state) else {
-            self.teardown = self.teardown.after_halt(Next::Torn);
+            self.teardown = self.teardown.after_halt(AfterHalt::Torn);
             self.waits = true;
             return Ask::Reply;
         };
-        self.awaited.set(Awaited::Halt(keep, Next::Torn));
+        self.awaited.set(Awaited::Halt(keep, AfterHalt::Torn));
         Ask::Halt(keep)
     }
 
     /// GET_PARAMETER (RFC 2326 section 10.8).
     fn get_parameter(&mut self, request: &Request<'_>) -> Ask
-        requires hear { CanHear self.old }
+        requires hear { CanHandleRequest self.old }
         ensures exact { GetsParameter self.old request.now result self.new }
         ensures asks { AsksFor result self.new }
-        ensures same { IsSameBusiness self.old self.new }
+        ensures same { IsSameStationState self.old self.new }
     {
         let sequence = request.sequence;
         match read_topic(request.body) {
@@ -305,10 +307,10 @@ impl<'a> Session<'a> {
 
     /// A look at the heard slot. There is room for the first ones from the beginning.
     fn look(&mut self, sequence: u64) -> Ask
-        requires hear { CanHear self.old }
+        requires hear { CanHandleRequest self.old }
         ensures exact { Looks self.old sequence result self.new }
         ensures asks { AsksFor result self.new }
-        ensures same { IsSameBusiness self.old self.new }
+        ensures same { IsSameStationState self.old self.new }
     {
         let looks_left = self.looks_left.saturating_sub(1);
         let open = usize::from(self.state.is_playing());
@@ -322,10 +324,10 @@ impl<'a> Session<'a> {
 
     /// An offer: from which slot on the play would fit that a PLAY without Range asks for.
     fn offer(&mut self, request: &Request<'_>) -> Ask
-        requires hear { CanHear self.old }
+        requires hear { CanHandleRequest self.old }
         ensures exact { GetsOffer self.old.state self.old request.now result self.new }
         ensures asks { AsksFor result self.new }
-        ensures same { IsSameBusiness self.old self.new }
+        ensures same { IsSameStationState self.old self.new }
     {
         let sequence = request.sequence;
         match self.state {
@@ -343,14 +345,14 @@ impl<'a> Session<'a> {
     /// Answers a GET_PARAMETER for an offer in Ready: the run from the beginning, or on from where
     /// it was paused, is planned, and an offer is asked for.
     fn offer_ready(&mut self, sequence: u64, wait: u64, setup: &Setup, paused: Option<Run>) -> Ask
-        requires hear { CanHear self.old }
+        requires hear { CanHandleRequest self.old }
         requires setup { IsSetup (length self.old.films) setup.now }
         requires paused { IsPausedIn
             self.old.films self.old.source self.old.counts setup.now paused }
         requires wait { wait ≤ 255 }
         ensures exact { OffersReady self.old sequence wait setup.now paused result self.new }
         ensures asks { AsksFor result self.new }
-        ensures same { IsSameBusiness self.old self.new }
+        ensures same { IsSameStationState self.old self.new }
     {
         match self.plan_play(setup, paused, None) {
             Ok(planned) => self.ask_offer(sequence, wait, planned),
@@ -360,11 +362,11 @@ impl<'a> Session<'a> {
 
     /// Asks for an offer, once there is memory for it and for its note.
     fn ask_offer(&mut self, sequence: u64, wait: u64, planned: Planned) -> Ask
-        requires hear { CanHear self.old }
+        requires hear { CanHandleRequest self.old }
         requires wait { wait ≤ 255 }
         ensures exact { AsksOfferOr self.old sequence wait (Ok planned) result self.new }
         ensures asks { AsksFor result self.new }
-        ensures same { IsSameBusiness self.old self.new }
+        ensures same { IsSameStationState self.old self.new }
     {
         let Ok(offers) = offers_with_room(self.alloc, &mut self.log, wait) else {
             return self.refuse(Some(sequence), Refusal::Memory);
@@ -399,7 +401,7 @@ fn wait_of(request: &Request<'_>) -> Option<u64>
 
 /// The plan of a play twice more, once there is room for what the play leaves for the report beside
 /// so many looks.
-fn plans_with_room(log: &mut Log, looks: usize, plan: &Plan) -> Result<(Plan, Plan), NoMemory>
+fn plans_with_room(log: &mut Records, looks: usize, plan: &Plan) -> Result<(Plan, Plan), NoMemory>
     requires { looks ≤ 1024 }
     ensures lists { IsSameLists log.old log.new }
     ensures room { OnOk result (looks + 2 ≤ log.new.receipt_room) }
@@ -417,7 +419,7 @@ fn plans_with_room(log: &mut Log, looks: usize, plan: &Plan) -> Result<(Plan, Pl
 }
 
 /// The offers of a wait, once there is room for their note.
-fn offers_with_room(alloc: Global, log: &mut Log, wait: u64) -> Result<Offers, NoMemory>
+fn offers_with_room(alloc: Global, log: &mut Records, wait: u64) -> Result<Offers, NoMemory>
     requires { wait ≤ 255 }
     ensures lists { IsSameLists log.old log.new }
     ensures room { OnOk result (1 ≤ log.new.offer_room) }

@@ -1,15 +1,15 @@
 //! A session as its connection sees it: how it begins, what waits, and what it leaves.
 
 ghost use Rattle.std.specs.Prelude.{◌≡◌, ◌≤◌, ◌^◌, [], false, None, IfOk, IfSome, MatchOption};
-ghost use Rattle.session.specs.Ranges.{AreFilms, AreSettings};
-ghost use Rattle.session.specs.Hearings.{new_standing};
-ghost use Rattle.session.specs.Standings.{CanKeep, IsAtRest, IsDue, open_of};
+ghost use Rattle.session.specs.SettingRanges.{AreFilms, AreSettings};
+ghost use Rattle.session.specs.RequestSteps.{new_session_state};
+ghost use Rattle.session.specs.SessionStates.{CanKeep, AwaitsNoAnswer, IsDue, open_of};
 
-use crate::logs::{LOOKS, Log};
 use crate::notes::Notes;
+use crate::records::{RESERVED_LOOKS, Records};
 use crate::settings::Settings;
 use crate::states::{Awaited, Counts, NOTHING_SENT, State, StreamSource, Teardown, source_of};
-use crate::texts::Text;
+use crate::text_buffers::Text;
 use film_frames::Stored;
 use rtsp_fields::session_id;
 use rtsp_text::Reply;
@@ -56,19 +56,19 @@ pub struct Session<'a> {
     /// How many more looks there is room for from the beginning.
     pub(crate) looks_left: usize,
     /// What is noted for the report.
-    pub(crate) log: Log,
+    pub(crate) log: Records,
 }
 
 impl<'a> Model for Session<'a> {
-    ghost use Rattle.session.specs.Standings.{Standing};
+    ghost use Rattle.session.specs.SessionStates.{SessionState};
 
-    ghost Value = { Standing };
+    ghost Value = { SessionState };
 
-    ghost use Rattle.session.specs.Inside.{standing_of, IsKept};
+    ghost use Rattle.session.specs.SessionInvariant.{session_state_of, IsSessionInvariant};
 
-    ghost view = { standing_of };
+    ghost view = { session_state_of };
 
-    ghost invariant = { IsKept };
+    ghost invariant = { IsSessionInvariant };
 }
 
 impl<'a> Session<'a> {
@@ -87,8 +87,9 @@ impl<'a> Session<'a> {
     ) -> Result<Session<'a>, NoMemory>
         requires settings { AreSettings settings }
         requires films { AreFilms films.now }
-        ensures exact { IfOk result (λ session. session ≡ new_standing films.now settings words) }
-        ensures rest { IfOk result (λ session. IsAtRest session) }
+        ensures exact { IfOk result (λ session. session ≡ new_session_state films.now settings
+            words) }
+        ensures rest { IfOk result (λ session. AwaitsNoAnswer session) }
         ensures open { IfOk result (λ session. open_of session ≡ None) }
         ensures replies { IfOk result (λ session. session.waits ≡ false) }
         ensures tearing { IfOk result (λ session. session.tearing ≡ false) }
@@ -104,7 +105,7 @@ impl<'a> Session<'a> {
         let source = source_of(&words);
         let reply = Reply::new(alloc)?;
         let body = Text::new(alloc)?;
-        let log = Log::new(alloc)?;
+        let log = Records::new(alloc)?;
         Ok(Session {
             alloc,
             films,
@@ -121,7 +122,7 @@ impl<'a> Session<'a> {
             lost: false,
             heard: 0,
             late: 0,
-            looks_left: LOOKS,
+            looks_left: RESERVED_LOOKS,
             log,
         })
     }
@@ -134,7 +135,7 @@ impl<'a> Session<'a> {
     }
 
     /// Whether the 200 of a TEARDOWN was sent.
-    pub fn is_torn(&self) -> bool
+    pub fn torn(&self) -> bool
         ensures { result ≡ self.now.torn }
     {
         matches!(self.teardown, Teardown::Sent)
@@ -146,7 +147,7 @@ impl<'a> Session<'a> {
         ensures within { IfSome result (CanKeep (open_of self.now)) }
     {
         match &self.state {
-            State::Playing(_, play) => Some(play.pacer.bytes_due()),
+            State::Playing(_, play) => Some(play.pacer.due()),
             _ => None,
         }
     }
@@ -161,7 +162,7 @@ impl<'a> Session<'a> {
 
     /// Hands out what the connection leaves for its report.
     pub fn notes(self) -> Notes
-        requires rest { IsAtRest self }
+        requires rest { AwaitsNoAnswer self }
         requires closed { open_of self ≡ None }
         ensures receipts { result.receipts.items ≡ self.entry.receipts }
         ensures plays { result.plays.items ≡ self.entry.plays }

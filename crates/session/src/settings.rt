@@ -8,5 +8,5 @@ pub struct Settings {
     /// The bytes of a client's buffer where its SETUP names none, 1 to 2^42.
     pub buffer: u64,
     /// The slots that pass before the first picture is used where a SETUP names none, 0 to 10,000.
-    pub delay: u64,
+    pub startup: u64,
 }

@@ -1,7 +1,7 @@
 //! What a SETUP asks for.
 
 ghost use Rattle.std.specs.Prelude.{◌<◌, ◌≤◌, ◌^◌, ℕ, IfOk, IfSome, MatchOption};
-ghost use Rattle.session.specs.Ranges.{AreSettings, IsSetup};
+ghost use Rattle.session.specs.SettingRanges.{AreSettings, IsSetup};
 ghost use Rattle.session.specs.Setups.{HasChannels, IsBuffer, IsDelay, IsSetupRead};
 ghost use Rattle.rtsp_fields.specs.declared.transports.Channels.{Channels};
 
@@ -64,6 +64,6 @@ fn delay_of(request: &Request<'_>, settings: &Settings) -> Option<u64>
 {
     match header(request, b"x-Startup") {
         Some(value) => read_delay(value),
-        None => Some(settings.delay),
+        None => Some(settings.startup),
     }
 }

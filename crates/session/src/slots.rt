@@ -2,42 +2,45 @@
 
 ghost use Rattle.std.specs.Prelude.{◌≡◌, ◌-◌, ◌<◌, ◌≤◌, ◌++◌, ◌&&◌, is_some, IfOk, IfSome, OnErr};
 ghost use Rattle.std.specs.Prelude.{OnOk, false, true, max, if◌then◌else◌};
-ghost use Rattle.vod_base.specs.Outside.{HasRisen};
-ghost use Rattle.vod_base.specs.Links.{IsFrontTold, sends, told_more};
-ghost use Rattle.session.specs.Sendings.{HaltsIfDone, HasSlotFailed, IsTold, can_reply, due_bytes};
-ghost use Rattle.session.specs.Sendings.{due_state, finished_in, is_between, is_done_in};
-ghost use Rattle.session.specs.Sendings.{is_sending, is_taken, sent_in, sent_reply, after_slot};
-ghost use Rattle.session.specs.Sendings.{start_in, step_bytes, stepped_in};
-ghost use Rattle.session.specs.Steps.{IsCarried, IsEven, IsHaltIn, IsLeft, IsPacingIn, IsPlayIn};
-ghost use Rattle.session.specs.Steps.{after_stop};
-ghost use Rattle.session.specs.Standings.{AreNotesKept, Brings, BringsIn, IsAtRest, IsSameBooking};
-ghost use Rattle.session.specs.Standings.{NoAnswer, awaited_answer_of, open_in, open_of, taken_up};
+ghost use Rattle.vod_base.specs.IoState.{HasRisen};
+ghost use Rattle.vod_base.specs.Links.{IsSentPrefix, sends, told_more};
+ghost use Rattle.session.specs.SlotSteps.{HaltsIfDone, HasSlotFailed, IsTold, can_reply, due_bytes};
+ghost use Rattle.session.specs.SlotSteps.{due_state, finished_in, is_between, is_done_in};
+ghost use Rattle.session.specs.SlotSteps.{is_sending, is_taken, sent_in, sent_reply, after_slot};
+ghost use Rattle.session.specs.SlotSteps.{start_in, step_bytes, stepped_in};
+ghost use Rattle.session.specs.SlotTransitions.{IsCarried, IsEven, IsHaltIn, IsLeft, IsPacingIn};
+ghost use Rattle.session.specs.SlotTransitions.{IsPlayIn};
+ghost use Rattle.session.specs.SlotTransitions.{after_stop};
+ghost use Rattle.session.specs.SessionStates.{AreNotesUnchanged, Brings, BringsIn, AwaitsNoAnswer};
+ghost use Rattle.session.specs.SessionStates.{IsSameBooking};
+ghost use Rattle.session.specs.SessionStates.{NoAnswer, awaited_answer_of, open_in, open_of};
+ghost use Rattle.session.specs.SessionStates.{last_heard_slot};
 
-use crate::asks::Slotted;
+use crate::commands::Slotted;
 use crate::sessions::Session;
-use crate::states::{Awaited, Next, State};
+use crate::states::{AfterHalt, Awaited, State};
 use admission::LATEST_SLOT;
 use rtsp_text::Reply;
 use std::mem;
 use vod_base::{Link, LinkFault};
 
 impl<'a> Session<'a> {
-    /// Takes up a slot, if it is a later one than the last and none above 2^62, and sends what is
+    /// Processes a slot, if it is a later one than the last and none above 2^62, and sends what is
     /// due in it. A waiting reply goes out at the first boundary that is reached.
     ///
     /// # Errors
     ///
     /// [`LinkFault`] only where the link's count rose.
     pub fn slot<K: Link>(&mut self, slot: u64, link: &mut K) -> Result<Slotted, LinkFault>
-        requires rest { IsAtRest self.old }
+        requires rest { AwaitsNoAnswer self.old }
         ensures exact { OnOk result (self.new ≡ after_slot self.old slot) }
         ensures told { OnOk result (IsTold (is_taken self.old slot
             && is_sending self.old.state) (K.told link.old)
             (due_bytes self.old.waits self.old.state self.old.text slot) (K.told link.new)) }
-        ensures heard { self.new.heard ≡ taken_up self.old.heard slot }
+        ensures heard { self.new.heard ≡ last_heard_slot self.old.heard slot }
         ensures brings { IfOk result (λ step. Brings step self.new) }
         ensures kept { OnOk result (self.new.lost ≡ self.old.lost) }
-        ensures lost { OnErr result (IsAtRest self.new) }
+        ensures lost { OnErr result (AwaitsNoAnswer self.new) }
         ensures open { IsSameBooking (open_of self.old) (open_of self.new) }
         ensures receipts { self.new.receipts ≡ self.old.receipts }
         ensures plays { self.new.plays ≡ self.old.plays }
@@ -74,7 +77,7 @@ impl<'a> Session<'a> {
     ///
     /// [`LinkFault`] only where the link's count rose.
     pub fn reply<K: Link>(&mut self, link: &mut K) -> Result<(), LinkFault>
-        requires rest { IsAtRest self.old }
+        requires rest { AwaitsNoAnswer self.old }
         ensures exact { OnOk result (self.new ≡
             (if can_reply self.old then sent_reply self.old else self.old)) }
         ensures told { OnOk result
@@ -82,13 +85,13 @@ impl<'a> Session<'a> {
         ensures failed { OnErr result (self.new ≡ record self.old { lost = true }) }
         ensures can { OnErr result (can_reply self.old ≡ true) }
         ensures front { OnErr result
-            (IsFrontTold (K.told link.old) (K.told link.new) self.old.text) }
-        ensures rest { IsAtRest self.new }
+            (IsSentPrefix (K.told link.old) (K.told link.new) self.old.text) }
+        ensures rest { AwaitsNoAnswer self.new }
         ensures kept { OnOk result (self.new.lost ≡ self.old.lost) }
         ensures heard { self.new.heard ≡ self.old.heard }
         ensures open { open_of self.new ≡ open_of self.old }
         ensures receipts { self.new.receipts ≡ self.old.receipts }
-        ensures notes { AreNotesKept self.old self.new }
+        ensures notes { AreNotesUnchanged self.old self.new }
         ensures count { K.faults link.old ≤ K.faults link.new }
         ensures fault { OnErr result (HasRisen (K.faults link.old) (K.faults link.new)) }
     {
@@ -128,7 +131,8 @@ fn start_of(state: &State<'_>) -> Option<u64>
 
 /// Sends what is due in a slot, with a stop up to the end of the piece in hand alone. It tells how
 /// many bytes are left.
-#[tactic(auto, using(crate::proofs::Fronts::failed_front, crate::proofs::Fronts::failed_due))]
+#[tactic(auto, using(crate::proofs::FailedSlotLemmas::failed_front,
+    crate::proofs::FailedSlotLemmas::failed_due))]
 fn step<K: Link>(
     state: &mut State<'_>,
     slot: u64,
@@ -139,7 +143,7 @@ fn step<K: Link>(
     ensures count { K.faults link.old ≤ K.faults link.new }
     ensures fault { OnErr result (HasRisen (K.faults link.old) (K.faults link.new)) }
     ensures front { OnErr result
-        (IsFrontTold (K.told link.old) (K.told link.new) (step_bytes stop slot state.old)) }
+        (IsSentPrefix (K.told link.old) (K.told link.new) (step_bytes stop slot state.old)) }
     ensures due { OnErr result (open_in state.new ≡ open_in (stepped_in stop slot state.old)) }
     ensures carried { IsCarried state.old state.new }
     ensures left { IfOk result (IsLeft state.new) }
@@ -182,7 +186,7 @@ fn send_due<K: Link>(
     ensures count { K.faults link.old ≤ K.faults link.new }
     ensures fault { OnErr result (HasRisen (K.faults link.old) (K.faults link.new)) }
     ensures front { OnErr result
-        (IsFrontTold (K.told link.old)
+        (IsSentPrefix (K.told link.old)
         (K.told link.new) (due_bytes waits state.old reply.now slot)) }
     ensures due { OnErr result (open_in state.new ≡ open_in (due_state waits state.old slot)) }
     ensures carried { IsCarried state.old state.new }
@@ -220,7 +224,7 @@ fn send_both<K: Link>(
     ensures count { K.faults link.old ≤ K.faults link.new }
     ensures fault { OnErr result (HasRisen (K.faults link.old) (K.faults link.new)) }
     ensures front { OnErr result
-        (IsFrontTold (K.told link.old) (K.told link.new)
+        (IsSentPrefix (K.told link.old) (K.told link.new)
         (reply.now ++ step_bytes false slot state.old)) }
     ensures due { OnErr result (open_in state.new ≡ open_in (stepped_in false slot state.old)) }
     ensures carried { IsCarried state.old state.new }
@@ -243,7 +247,7 @@ fn done_bytes(state: &State<'_>) -> Option<u64>
     ensures halt { IfSome result (IsHaltIn state.now) }
 {
     match state {
-        State::Playing(_, play) if play.pacer.is_done() => Some(play.pacer.bytes_sent()),
+        State::Playing(_, play) if play.pacer.done() => Some(play.pacer.sent()),
         _ => None,
     }
 }
@@ -268,7 +272,7 @@ fn finish<'a>(state: &State<'a>, awaited: &mut Awaited<'a>) -> Slotted
 {
     match done_bytes(state) {
         Some(bytes) => {
-            *awaited = Awaited::Halt(bytes, Next::Done);
+            *awaited = Awaited::Halt(bytes, AfterHalt::Done);
             Slotted::Finished(bytes)
         }
         None => Slotted::Going,

@@ -2,8 +2,8 @@
 
 ghost use Rattle.std.specs.Prelude.{◌≡◌, true, if◌then◌else◌};
 ghost use Rattle.session.specs.Teardowns.{is_tearing, is_torn_down};
-ghost use Rattle.session.specs.Hearings.{is_torn, source_of};
-ghost use Rattle.session.specs.Standings.{has_session_in, is_playing_in};
+ghost use Rattle.session.specs.RequestSteps.{is_torn, source_of};
+ghost use Rattle.session.specs.SessionStates.{has_session_in, is_playing_in};
 
 use film_frames::Frames;
 use film_run::Run;
@@ -110,7 +110,7 @@ pub(crate) struct Prepared<'a> {
 
 /// What a halt leads to.
 #[derive(Clone, Copy)]
-pub(crate) enum Next {
+pub(crate) enum AfterHalt {
     /// The play is done.
     Done,
     /// The run is paused, as it is then.
@@ -138,7 +138,7 @@ pub(crate) enum Awaited<'a> {
     /// A play.
     Play(Prepared<'a>),
     /// A halt that keeps so many bytes.
-    Halt(u64, Next),
+    Halt(u64, AfterHalt),
     /// A look, for the request of that number.
     Look(u64),
     /// An offer, for the request of that number.
@@ -170,12 +170,12 @@ impl<'a> State<'a> {
 
 impl Teardown {
     /// How far it has come once a halt was answered that leads to this.
-    pub(crate) fn after_halt(self, next: Next) -> Teardown
+    pub(crate) fn after_halt(self, next: AfterHalt) -> Teardown
         ensures tearing { is_tearing result ≡ (if is_torn next then true else is_tearing self) }
         ensures torn { is_torn_down result ≡ is_torn_down self }
     {
         match (self, next) {
-            (Teardown::Unanswered, Next::Torn) => Teardown::Answered,
+            (Teardown::Unanswered, AfterHalt::Torn) => Teardown::Answered,
             _ => self,
         }
     }
@@ -193,7 +193,7 @@ impl Teardown {
 }
 
 impl<'a> Awaited<'a> {
-    /// Awaits this from now on.
+    /// Sets what is awaited from now on.
     pub(crate) fn set(&mut self, awaited: Awaited<'a>)
         ensures { self.new ≡ awaited.entry }
     {

@@ -1,1 +1,1 @@
-pub mod Cross
+pub mod CrossProducts

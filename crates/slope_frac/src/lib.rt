@@ -4,10 +4,10 @@
 //! ever rounded: two of them are compared by their cross products, in 128 bits.
 #![tactic(auto)]
 
-ghost use Rattle.std.specs.Prelude.{◌≡◌, ◌<◌, ◌≤◌, ◌⊎◌, ◌↔◌};
+pub mod laws;
+
 ghost use Rattle.std.specs.Ordering.{MatchOrdering};
-ghost use Rattle.slope_frac.specs.declared.Slope.{Slope as Steepness};
-ghost use Rattle.slope_frac.specs.Order.{IsBelow, IsLevel};
+ghost use Rattle.slope_frac.specs.SlopeOrder.{IsLessSteep, IsEquallySteep};
 
 use std::cmp::Ordering;
 
@@ -23,54 +23,19 @@ pub struct Slope {
 
 /// The order of two slopes, by `a.bytes * b.slots` against `b.bytes * a.slots`. It never overflows.
 pub fn compare(a: Slope, b: Slope) -> Ordering
-    ensures { MatchOrdering result (IsBelow a b) (IsLevel a b) (IsBelow b a) }
+    ensures { MatchOrdering result (IsLessSteep a b) (IsEquallySteep a b) (IsLessSteep b a) }
 {
     let left = u128::from(a.bytes) * u128::from(b.slots);
     let right = u128::from(b.bytes) * u128::from(a.slots);
     left.cmp(&right)
 }
 
-/// Any two slopes are in exactly one order: one is below the other, or they are level.
-pub fn law_total(a: Slope, b: Slope)
-    ensures some { IsBelow a b ⊎ IsLevel a b ⊎ IsBelow b a }
-    ensures not_both_ways { IsBelow a b → ¬ IsBelow b a }
-    ensures not_level { IsLevel a b → (¬ IsBelow a b) × (¬ IsBelow b a) }
-{
-    let _slopes = (a, b);
-}
-
-/// The order is transitive over a slope of at least one slot, and so is being level.
-pub fn law_transitive(a: Slope, b: Slope, c: Slope)
-    requires { 1 ≤ b.slots }
-    ensures below { IsBelow a b → IsBelow b c → IsBelow a c }
-    ensures level { IsLevel a b → IsLevel b c → IsLevel a c }
-{
-    let _slopes = (a, b, c);
-}
-
-/// Level slopes stand in the same order to every third one, and being level goes both ways.
-pub fn law_level(a: Slope, b: Slope, c: Slope)
-    requires one { 1 ≤ a.slots }
-    requires other { 1 ≤ b.slots }
-    ensures turned { IsLevel a b → IsLevel b a }
-    ensures same_below { IsLevel a b → (IsBelow a c ↔ IsBelow b c) }
-    ensures same_above { IsLevel a b → (IsBelow c a ↔ IsBelow c b) }
-{
-    let _slopes = (a, b, c);
-}
-
-/// Over equally many slots the slope with fewer bytes is below, and of equally many bytes the one
-/// over more slots.
-pub fn law_steeper()
-    ensures bytes { (a b : Steepness) → 1 ≤ a.slots → a.slots ≡ b.slots →
-        (IsBelow a b ↔ (a.bytes < b.bytes)) }
-    ensures slots { (a b : Steepness) → 1 ≤ a.bytes → a.bytes ≡ b.bytes →
-        (IsBelow a b ↔ (b.slots < a.slots)) }
-{}
-
 #[cfg(test)]
 mod tests {
     use super::*;
+    use crate::laws::{
+        law_equal_slopes_compare_alike, law_slope_order_is_total, law_slope_order_is_transitive,
+    };
 
     // Whole bytes would call the first three rows level; 64 bits would not hold the products of the
     // sixth.
@@ -98,7 +63,7 @@ mod tests {
                 slots: other_slots,
             };
             assert_eq!(rt; compare(a, b), want, "{a:?} against {b:?}");
-            law_total(a, b);
+            law_slope_order_is_total(a, b);
         }
     }
 
@@ -108,8 +73,8 @@ mod tests {
         let half = Slope { bytes: 1, slots: 2 };
         let same = Slope { bytes: 2, slots: 4 };
         let whole = Slope { bytes: 1, slots: 1 };
-        law_level(half, same, whole);
-        law_transitive(half, same, whole);
+        law_equal_slopes_compare_alike(half, same, whole);
+        law_slope_order_is_transitive(half, same, whole);
         assert_eq!(rt; compare(half, same), Ordering::Equal);
         assert_eq!(rt; compare(same, half), Ordering::Equal);
         for slope in [half, same] {

@@ -1,9 +1,9 @@
-mod Turns
-mod Blocks
-pub mod Sending
+mod RingRotation
+mod BlockMaxima
+pub mod PlanSlots
 mod SlotChanges
-pub mod Shares
-pub mod Capacities
-mod Rooms
-pub mod Overflows
-pub mod Everywhere
+pub mod PlayShares
+pub mod CapacitySteps
+mod SegmentRoom
+pub mod FirstOverflow
+pub mod AllSlotOverflow

@@ -1,7 +1,7 @@
 -- What a calendar tells, and how it stands to the plays that are booked in it.
 use Rattle.std.specs.Prelude.{ℕ, ◌≡◌, ◌+◌, ◌^◌, ◌<◌, ◌≤◌, List}
 use Rattle.plan_cert.specs.declared.Segment.{Segment}
-use Rattle.slot_calendar.specs.declared.profiles.CapacityStep.{CapacityStep}
+use Rattle.slot_calendar.specs.declared.profiles.CapStep.{CapStep}
 use Rattle.slot_calendar.specs.declared.calendar.Overflow.{Overflow}
 use Rattle.slot_calendar.specs.Profiles.{IsProfile, capacity_at}
 use Rattle.slot_calendar.specs.Plays.{Play, asked_at, booked_by}
@@ -9,21 +9,21 @@ use Rattle.slot_calendar.specs.Totals.{total_at}
 
 -- a calendar: the first slot that it knows, which is `now`, the steps of its capacity, and the
 -- booked bytes of the slots from there on
-pub record Bookings : Type 0 where
+pub record CalendarState : Type 0 where
   pub first : ℕ
-  pub steps : List CapacityStep
+  pub steps : List CapStep
   pub totals : List ℕ
 
 -- the booked bytes of slot t, from now on; 0 after the calendar's end
-abbrev pub booked_at : Bookings → ℕ → ℕ
+abbrev pub booked_at : CalendarState → ℕ → ℕ
 booked_at calendar t = total_at calendar.first calendar.totals t
 
 -- It has booked what these plays book, in each slot from now on.
-pub record StandsFor (calendar : Bookings) (plays : List Play) : Type 0 where
+pub record Represents (calendar : CalendarState) (plays : List Play) : Type 0 where
   pub each : (t : ℕ) → calendar.first ≤ t → booked_at calendar t ≡ booked_by plays t
 
 -- what holds of each calendar; no slot from now on is booked above its capacity
-pub record IsCalendar (calendar : Bookings) : Type 0 where
+pub record IsCalendar (calendar : CalendarState) : Type 0 where
   pub profile : IsProfile calendar.steps
   pub small : calendar.first ≤ 2 ^ 62
   pub within : (t : ℕ) → calendar.first ≤ t → booked_at calendar t ≤ capacity_at calendar.steps t
@@ -51,12 +51,12 @@ pub record IsFirstOverflow (from : ℕ) (booked capacity : ℕ → ℕ) (start :
   pub asked_is : over.asked ≡ asked_at segments start over.slot
 
 -- it fits into each slot of a calendar
-abbrev pub IsRoomIn : Bookings → ℕ → List Segment → Type 0
-IsRoomIn calendar start segments =
+abbrev pub HasRoomIn : CalendarState → ℕ → List Segment → Type 0
+HasRoomIn calendar start segments =
     HasRoom calendar.first (booked_at calendar) (capacity_at calendar.steps) start segments
 
 -- the first slot of a calendar into which it doesn't fit
-abbrev pub IsFirstOverflowIn : Bookings → ℕ → List Segment → Overflow → Type 0
+abbrev pub IsFirstOverflowIn : CalendarState → ℕ → List Segment → Overflow → Type 0
 IsFirstOverflowIn calendar start segments over =
     IsFirstOverflow calendar.first (booked_at calendar)
     (capacity_at calendar.steps) start segments over

@@ -1,12 +1,12 @@
 -- How a calendar is kept: a profile, and a ring whose blocks all have their greatest totals.
 use Rattle.std.specs.Prelude.{◌≡◌, None}
-use Rattle.slot_calendar.specs.Calendars.{Bookings, IsCalendar}
+use Rattle.slot_calendar.specs.Calendars.{CalendarState, IsCalendar}
 use Rattle.slot_calendar.specs.declared.calendar.Calendar.TheInside.{Inside}
 
-abbrev pub entries_of : Inside → Bookings
-entries_of calendar =
+abbrev pub calendar_state : Inside → CalendarState
+calendar_state calendar =
     record { first = calendar.ring.first; steps = calendar.profile; totals = calendar.ring.totals }
 
 pub record IsCalendarInside (calendar : Inside) : Type 0 where
   pub settled : calendar.ring.stale ≡ None
-  pub calendar_is : IsCalendar (entries_of calendar)
+  pub calendar_is : IsCalendar (calendar_state calendar)

@@ -2,7 +2,7 @@
 -- `keep` bytes.
 use Rattle.std.specs.Prelude.{ℕ, ◌+◌, ◌-◌, min, List, take, sum, sum_by}
 use Rattle.plan_cert.specs.declared.Segment.{Segment}
-use Rattle.plan_cert.specs.Slots.{plan_slots, total_bytes}
+use Rattle.plan_cert.specs.PlanSlots.{plan_slots, total_bytes}
 
 -- the bytes that a plan which begins at slot `start` has sent before slot t: none up to its start,
 -- all of them from its end on
@@ -14,8 +14,8 @@ abbrev pub asked_at : List Segment → ℕ → ℕ → ℕ
 asked_at segments start t = sent_before segments start (t + 1) - sent_before segments start t
 
 -- the bytes that it sends in slot t after its first `keep` bytes
-abbrev pub cut_at : List Segment → ℕ → ℕ → ℕ → ℕ
-cut_at segments start keep t =
+abbrev pub released_at : List Segment → ℕ → ℕ → ℕ → ℕ
+released_at segments start keep t =
     (sent_before segments start (t + 1) - keep) - (sent_before segments start t - keep)
 
 pub record Play : Type 0 where
@@ -29,8 +29,8 @@ whole_play start segments =
     record { start = start; segments = segments; keep = total_bytes segments }
 
 -- a play that was cut
-abbrev pub cut_play : ℕ → List Segment → ℕ → Play
-cut_play start segments keep = record { start = start; segments = segments; keep = keep }
+abbrev pub truncated_play : ℕ → List Segment → ℕ → Play
+truncated_play start segments keep = record { start = start; segments = segments; keep = keep }
 
 -- the bytes that a play books in slot t
 abbrev pub share_at : ℕ → Play → ℕ

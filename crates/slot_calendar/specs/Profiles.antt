@@ -2,27 +2,27 @@
 use Rattle.std.specs.Prelude.{ℕ, ◌≡◌, ◌+◌, ◌^◌, ◌<◌, ◌≤◌, nat_le, List, length, slice_index_or}
 use Rattle.std.specs.Prelude.{if◌then◌else◌}
 use Rattle.std.specs.List.{fold}
-use Rattle.slot_calendar.specs.declared.profiles.CapacityStep.{CapacityStep}
+use Rattle.slot_calendar.specs.declared.profiles.CapStep.{CapStep}
 
 -- a list that has no step i
-abbrev pub no_step : CapacityStep
+abbrev pub no_step : CapStep
 no_step = record { from = 0; bytes = 0 }
 
 -- step i
-abbrev pub step_at : List CapacityStep → ℕ → CapacityStep
+abbrev pub step_at : List CapStep → ℕ → CapStep
 step_at steps i = slice_index_or steps i no_step
 
 -- each step begins after the one before it
-abbrev pub AreAscending : List CapacityStep → Type 0
+abbrev pub AreAscending : List CapStep → Type 0
 AreAscending steps = (i : ℕ) → i + 1 < length steps →
     (step_at steps i).from < (step_at steps (i + 1)).from
 
 -- no step is above 2^42 bytes a slot
-abbrev pub AreSmall : List CapacityStep → Type 0
+abbrev pub AreSmall : List CapStep → Type 0
 AreSmall steps = (i : ℕ) → i < length steps → (step_at steps i).bytes ≤ 2 ^ 42
 
 -- 1 to 64 steps, the first from slot 0, each one after the one before, none above 2^42 bytes a slot
-pub record IsProfile (steps : List CapacityStep) : Type 0 where
+pub record IsProfile (steps : List CapStep) : Type 0 where
   pub some : 1 ≤ length steps
   pub few : length steps ≤ 64
   pub first : (step_at steps 0).from ≡ 0
@@ -30,15 +30,15 @@ pub record IsProfile (steps : List CapacityStep) : Type 0 where
   pub small : AreSmall steps
 
 -- what a step leaves of the capacity of slot t that the steps before it gave
-abbrev pub capacity_after : ℕ → ℕ → CapacityStep → ℕ
+abbrev pub capacity_after : ℕ → ℕ → CapStep → ℕ
 capacity_after t bytes step = if nat_le step.from t then step.bytes else bytes
 
 -- the capacity of slot t: each step that begins at or before it replaces the ones before that step
-abbrev pub capacity_at : List CapacityStep → ℕ → ℕ
+abbrev pub capacity_at : List CapStep → ℕ → ℕ
 capacity_at steps t = fold (capacity_after t) 0 steps
 
 -- `bytes` are those of the last step that begins at or before slot t
-pub record IsCapacity (steps : List CapacityStep) (t bytes : ℕ) : Type 0 where
+pub record IsCapacity (steps : List CapStep) (t bytes : ℕ) : Type 0 where
   pub index : ℕ
   pub inside : index < length steps
   pub begun : (step_at steps index).from ≤ t
@@ -46,7 +46,7 @@ pub record IsCapacity (steps : List CapacityStep) (t bytes : ℕ) : Type 0 where
   pub bytes_are : bytes ≡ (step_at steps index).bytes
 
 -- the capacity is `bytes` from slot t up to slot `until`
-pub record IsSpan (steps : List CapacityStep) (t bytes until : ℕ) : Type 0 where
+pub record IsSpan (steps : List CapStep) (t bytes until : ℕ) : Type 0 where
   pub some : t < until
   pub here : IsCapacity steps t bytes
   pub same : (u : ℕ) → t ≤ u → u < until → capacity_at steps u ≡ bytes

@@ -1,7 +1,7 @@
 -- How the totals are kept: 1,048,576 slots at their number modulo 1,048,576, in 1,024 blocks of
 -- 1,024 places each.
-use Rattle.std.specs.Prelude.{ℕ, ◌≡◌, ◌≢◌, ◌/◌, ◌%◌, ◌<◌, ◌≤◌, ◌++◌, List, Option, Some, length}
-use Rattle.std.specs.Prelude.{take, drop, slice_index}
+use Rattle.std.specs.Prelude.{ℕ, ◌≡◌, ◌≢◌, ◌+◌, ◌/◌, ◌%◌, ◌<◌, ◌≤◌, ◌++◌, List, Option, Some}
+use Rattle.std.specs.Prelude.{length, take, drop, slice_index}
 use Rattle.slot_calendar.specs.Totals.{ring_slots, total_at}
 use Rattle.slot_calendar.specs.declared.ring.Ring.TheInside.{Inside}
 
@@ -29,7 +29,7 @@ pub record IsReached (places : List ℕ) (b top : ℕ) : Type 0 where
 
 -- each block has its greatest total, but for the stale one, which has a number that is at least as
 -- great
-pub record IsTopped (places tops : List ℕ) (stale : Option ℕ) : Type 0 where
+pub record AreBlockMaxima (places tops : List ℕ) (stale : Option ℕ) : Type 0 where
   pub places_are : length places ≡ ring_slots
   pub tops_are : length tops ≡ 1024
   pub bounded : (i : ℕ) → i < ring_slots → slice_index places i ≤ slice_index tops (i / 1024)
@@ -44,8 +44,14 @@ slots_of_ring ring =
       stale = ring.stale;
     }
 
-abbrev pub IsRing : Inside → Type 0
-IsRing ring = IsTopped ring.places.items ring.tops.items ring.stale
+-- no slot from slot t on, or from the first one on where that is later, has a total above 0
+abbrev pub IsEmptyFrom : Slots → ℕ → Type 0
+IsEmptyFrom ring t = (u : ℕ) → ring.first ≤ u → t ≤ u → total_of ring u ≡ 0
+
+-- the blocks have their greatest totals, and nothing is booked after slot `last`
+pub record IsRing (ring : Inside) : Type 0 where
+  pub maxima : AreBlockMaxima ring.places.items ring.tops.items ring.stale
+  pub empty : IsEmptyFrom (slots_of_ring ring) (ring.last + 1)
 
 -- the greatest of some numbers
 pub record IsGreatest (numbers : List ℕ) (top : ℕ) : Type 0 where

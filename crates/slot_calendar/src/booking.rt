@@ -2,10 +2,10 @@
 
 ghost use Rattle.std.specs.Prelude.{◌≡◌, ◌≢◌, ◌+◌, ◌*◌, ◌/◌, ◌^◌, ◌<◌, ◌≤◌, [], ◌∷◌, ℕ};
 ghost use Rattle.std.specs.Prelude.{MatchOption};
-ghost use Rattle.plan_cert.specs.Slots.{total_slots};
+ghost use Rattle.plan_cert.specs.PlanSlots.{total_slots};
 ghost use Rattle.plan_cert.specs.Plan.{IsPlan};
 ghost use Rattle.slot_calendar.specs.Profiles.{capacity_at};
-ghost use Rattle.slot_calendar.specs.Plays.{sent_before, asked_at, cut_at};
+ghost use Rattle.slot_calendar.specs.Plays.{sent_before, asked_at, released_at};
 ghost use Rattle.slot_calendar.specs.Rings.{total_of};
 ghost use Rattle.slot_calendar.specs.Totals.{ring_slots};
 ghost use Rattle.slot_calendar.specs.Calendars.{FitsIn, IsOverflowIn};
@@ -41,10 +41,10 @@ pub(crate) fn release_segments(ring: &mut Ring, start: u64, segments: &[Segment]
     requires plan { IsPlan segments.now }
     requires small { start ≤ 2 ^ 62 + 2 ^ 20 }
     requires booked { (t : ℕ) → ring.old.first ≤ t →
-        cut_at segments.now start keep t ≤ total_of ring.old t }
+        released_at segments.now start keep t ≤ total_of ring.old t }
     ensures now { ring.new.first ≡ ring.old.first }
     ensures totals { (t : ℕ) → ring.old.first ≤ t →
-        total_of ring.new t + cut_at segments.now start keep t ≡ total_of ring.old t }
+        total_of ring.new t + released_at segments.now start keep t ≡ total_of ring.old t }
 {
     let mut from = start;
     let mut left = keep;
@@ -124,7 +124,7 @@ fn book_segment(ring: &mut Ring, from: u64, segment: Segment)
 }
 
 /// Takes bytes from a slot, if it is one of the ring.
-fn give_back(ring: &mut Ring, slot: u64, by: u64)
+fn release_slot(ring: &mut Ring, slot: u64, by: u64)
     requires { ring.old.first ≤ slot → by ≤ total_of ring.old slot }
     ensures now { ring.new.first ≡ ring.old.first }
     ensures at { ring.old.first ≤ slot → total_of ring.new slot + by ≡ total_of ring.old slot }
@@ -142,15 +142,15 @@ fn release_segment(ring: &mut Ring, from: u64, segment: Segment, keep: u64)
     requires plan { IsPlan (segment ∷ []) }
     requires small { from ≤ 2 ^ 63 }
     requires booked { (t : ℕ) → ring.old.first ≤ t →
-        cut_at (segment ∷ []) from keep t ≤ total_of ring.old t }
+        released_at (segment ∷ []) from keep t ≤ total_of ring.old t }
     ensures now { ring.new.first ≡ ring.old.first }
     ensures totals { (t : ℕ) → ring.old.first ≤ t →
-        total_of ring.new t + cut_at (segment ∷ []) from keep t ≡ total_of ring.old t }
+        total_of ring.new t + released_at (segment ∷ []) from keep t ≡ total_of ring.old t }
 {
     let mut before = 0;
     for passed in 0..segment.slots {
         let over = sent_through(segment, passed + 1).saturating_sub(keep);
-        give_back(ring, from + passed, over - before);
+        release_slot(ring, from + passed, over - before);
         before = over;
     }
 }

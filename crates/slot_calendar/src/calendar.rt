@@ -2,9 +2,10 @@
 
 ghost use Rattle.std.specs.Prelude.{◌≡◌, ◌+◌, ◌^◌, ◌<◌, ◌≤◌, ◌++◌, [], ◌∷◌, ℕ, List, IfOk};
 ghost use Rattle.std.specs.Prelude.{MatchOption};
-ghost use Rattle.plan_cert.specs.Slots.{total_slots, total_bytes};
+ghost use Rattle.plan_cert.specs.PlanSlots.{total_slots, total_bytes};
 ghost use Rattle.slot_calendar.specs.Profiles.{capacity_at};
-ghost use Rattle.slot_calendar.specs.Plays.{Play, asked_at, cut_at, whole_play, cut_play};
+ghost use Rattle.slot_calendar.specs.Plays.{Play, asked_at, released_at, whole_play};
+ghost use Rattle.slot_calendar.specs.Plays.{truncated_play};
 ghost use Rattle.slot_calendar.specs.Totals.{ring_slots};
 
 use crate::booking::{book_segments, overflow_in, release_segments};
@@ -36,19 +37,19 @@ pub struct Calendar {
 }
 
 impl Model for Calendar {
-    ghost use Rattle.slot_calendar.specs.Calendars.{Bookings};
+    ghost use Rattle.slot_calendar.specs.Calendars.{CalendarState};
 
-    ghost Value = { Bookings };
+    ghost Value = { CalendarState };
 
-    ghost use Rattle.slot_calendar.specs.Inside.{entries_of, IsCalendarInside};
+    ghost use Rattle.slot_calendar.specs.Inside.{calendar_state, IsCalendarInside};
 
-    ghost view = { entries_of };
+    ghost view = { calendar_state };
 
     ghost invariant = { IsCalendarInside };
 }
 
 impl Calendar {
-    ghost use Rattle.slot_calendar.specs.Calendars.{IsCalendar, StandsFor, IsRoomIn};
+    ghost use Rattle.slot_calendar.specs.Calendars.{IsCalendar, Represents, HasRoomIn};
     ghost use Rattle.slot_calendar.specs.Calendars.{IsFirstOverflowIn, booked_at};
 
     /// An empty calendar of this capacity, from slot 0 on. No other call takes memory.
@@ -56,7 +57,7 @@ impl Calendar {
         ensures now { IfOk result (λ calendar. calendar.first ≡ 0) }
         ensures profile { IfOk result (λ calendar. calendar.steps ≡ profile) }
         ensures totals { IfOk result (λ calendar. (t : ℕ) → booked_at calendar t ≡ 0) }
-        ensures stands { IfOk result (λ calendar. StandsFor calendar []) }
+        ensures stands { IfOk result (λ calendar. Represents calendar []) }
     {
         let ring = Ring::new(alloc)?;
         Ok(Calendar { profile, ring })
@@ -79,13 +80,23 @@ impl Calendar {
     }
 
     /// The bytes booked in a slot, never above its capacity; 0 from `now() + 1,048,576` on.
-    pub fn booked_bytes(&self, slot: u64) -> u64
+    pub fn booked(&self, slot: u64) -> u64
         requires { self.now.first ≤ slot }
         ensures value { result ≡ booked_at self.now slot }
         ensures within { result ≤ capacity_at self.now.steps slot }
         ensures past { self.now.first + ring_slots ≤ slot → result ≡ 0 }
     {
         self.ring.total(slot)
+    }
+
+    /// A slot after which no bytes are booked, at most 1,048,576 after `now()`. It may lie before
+    /// `now()`, and slots up to it may have been released.
+    pub fn booked_through(&self) -> u64
+        ensures calendar { IsCalendar self.now }
+        ensures within { result ≤ self.now.first + ring_slots }
+        ensures after { (t : ℕ) → self.now.first ≤ t → result + 1 ≤ t → booked_at self.now t ≡ 0 }
+    {
+        self.ring.last().min(self.ring.now() + RING_SLOTS)
     }
 
     /// The first slot where the bytes booked and those that this plan asks for, if it begins at
@@ -96,7 +107,7 @@ impl Calendar {
     pub fn first_overflow(&self, start: u64, plan: &Plan) -> Option<Overflow>
         requires after { self.now.first < start }
         requires small { start ≤ 2 ^ 62 + 256 }
-        ensures { MatchOption result (IsRoomIn self.now start plan.now)
+        ensures { MatchOption result (HasRoomIn self.now start plan.now)
             (IsFirstOverflowIn self.now start plan.now) }
     {
         let segments = plan.segments();
@@ -114,13 +125,13 @@ impl Calendar {
     pub fn book(&mut self, start: u64, plan: &Plan)
         requires after { self.old.first < start }
         requires within { start + total_slots plan.now ≤ self.old.first + ring_slots }
-        requires room { IsRoomIn self.old start plan.now }
+        requires room { HasRoomIn self.old start plan.now }
         ensures now { self.new.first ≡ self.old.first }
         ensures profile { self.new.steps ≡ self.old.steps }
         ensures totals { (t : ℕ) → self.old.first ≤ t →
             booked_at self.new t ≡ booked_at self.old t + asked_at plan.now start t }
-        ensures stands { (plays : List Play) → StandsFor self.old plays →
-            StandsFor self.new (plays ++ whole_play start plan.now ∷ []) }
+        ensures stands { (plays : List Play) → Represents self.old plays →
+            Represents self.new (plays ++ whole_play start plan.now ∷ []) }
     {
         book_segments(&mut self.ring, start, plan.segments());
     }
@@ -130,14 +141,14 @@ impl Calendar {
     pub fn release(&mut self, start: u64, plan: &Plan, keep: u64)
         requires keep { keep ≤ total_bytes plan.now }
         requires booked { (t : ℕ) → self.old.first ≤ t →
-            cut_at plan.now start keep t ≤ booked_at self.old t }
+            released_at plan.now start keep t ≤ booked_at self.old t }
         ensures now { self.new.first ≡ self.old.first }
         ensures profile { self.new.steps ≡ self.old.steps }
         ensures totals { (t : ℕ) → self.old.first ≤ t →
-            booked_at self.new t + cut_at plan.now start keep t ≡ booked_at self.old t }
+            booked_at self.new t + released_at plan.now start keep t ≡ booked_at self.old t }
         ensures stands { (before after : List Play) →
-            StandsFor self.old (before ++ whole_play start plan.now ∷ after) →
-            StandsFor self.new (before ++ cut_play start plan.now keep ∷ after) }
+            Represents self.old (before ++ whole_play start plan.now ∷ after) →
+            Represents self.new (before ++ truncated_play start plan.now keep ∷ after) }
     {
         let segments = plan.segments();
         // past the ring nothing is booked; within it the plan's slots can be counted
@@ -154,7 +165,8 @@ impl Calendar {
         ensures now { self.new.first ≡ now }
         ensures profile { self.new.steps ≡ self.old.steps }
         ensures totals { (t : ℕ) → now ≤ t → booked_at self.new t ≡ booked_at self.old t }
-        ensures stands { (plays : List Play) → StandsFor self.old plays → StandsFor self.new plays }
+        ensures stands { (plays : List Play) → Represents self.old plays → Represents self.new plays
+            }
     {
         self.ring.advance(now);
     }

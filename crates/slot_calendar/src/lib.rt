@@ -4,13 +4,12 @@
 
 mod booking;
 mod calendar;
-mod laws;
+pub mod laws;
 mod profiles;
 mod ring;
 
 pub use calendar::{Calendar, Overflow};
-pub use laws::{law_capacity, law_one_overflow, law_release, law_room, law_sending, law_shares};
-pub use profiles::{CapacityStep, MAX_CAPACITY, MAX_STEPS, Profile};
+pub use profiles::{CapStep, MAX_CAPACITY, MAX_STEPS, Profile};
 pub use ring::RING_SLOTS;
 
 #[cfg(test)]

@@ -11,7 +11,7 @@ use vod_base::NoMemory;
 
 /// From slot `from` on, up to the next step, each slot has room for `bytes` bytes.
 #[derive(Clone, Copy, Debug, PartialEq, Eq)]
-pub struct CapacityStep {
+pub struct CapStep {
     /// The step's first slot.
     pub from: u64,
     /// The capacity in bytes a slot.
@@ -30,15 +30,15 @@ pub const MAX_CAPACITY: u64 = 1 << 42;
 /// Contracts see the list of the steps.
 #[derive(Drop)]
 pub struct Profile {
-    steps: Vec<CapacityStep>,
+    steps: Vec<CapStep>,
 }
 
 impl Model for Profile {
     ghost use Rattle.std.specs.Prelude.{List};
-    ghost use Rattle.slot_calendar.specs.declared.profiles.CapacityStep.{CapacityStep};
+    ghost use Rattle.slot_calendar.specs.declared.profiles.CapStep.{CapStep};
     ghost use Rattle.slot_calendar.specs.Profiles.{IsProfile};
 
-    ghost Value = { List CapacityStep };
+    ghost Value = { List CapStep };
 
     ghost view = { λ p. p.steps.items };
 
@@ -57,7 +57,7 @@ pub(crate) struct Span {
 impl Profile {
     /// Whether these steps make a profile: 1 to [`MAX_STEPS`] of them, the first from slot 0,
     /// strictly ascending, each of at most [`MAX_CAPACITY`] bytes.
-    pub fn is_allowed(steps: &[CapacityStep]) -> bool
+    pub fn is_allowed(steps: &[CapStep]) -> bool
         ensures { IsTrue result ↔ IsProfile steps.now }
     {
         !steps.is_empty()
@@ -68,7 +68,7 @@ impl Profile {
     }
 
     /// A profile of these steps, which [`Profile::is_allowed`] allows.
-    pub fn new(steps: Vec<CapacityStep>) -> Profile
+    pub fn new(steps: Vec<CapStep>) -> Profile
         requires { IsProfile steps.items }
         ensures { result ≡ steps.items }
     {
@@ -80,17 +80,17 @@ impl Profile {
     /// # Errors
     ///
     /// [`NoMemory`] where there is none for its one step.
-    pub fn of_one_step(alloc: Global, bytes: u64) -> Result<Profile, NoMemory>
+    pub fn flat(alloc: Global, bytes: u64) -> Result<Profile, NoMemory>
         requires { bytes ≤ 2 ^ 42 }
         ensures { IfOk result (λ profile. profile ≡ record { from = 0; bytes = bytes } ∷ []) }
     {
-        let step = CapacityStep { from: 0, bytes };
+        let step = CapStep { from: 0, bytes };
         let steps = Vec::from_slice(alloc, &[step])?;
         Ok(Profile { steps })
     }
 
     /// The steps.
-    pub fn steps(&self) -> &[CapacityStep]
+    pub fn steps(&self) -> &[CapStep]
         ensures value { result.now ≡ self.now }
         ensures profile { IsProfile self.now }
     {
@@ -116,14 +116,14 @@ impl Profile {
 }
 
 /// Whether each step begins after the one before it.
-fn ascend(steps: &[CapacityStep]) -> bool
+fn ascend(steps: &[CapStep]) -> bool
     ensures { IsTrue result ↔ AreAscending steps.now }
 {
     steps.windows(2).all(|pair| pair[0].from < pair[1].from)
 }
 
 /// Whether no step is above the greatest capacity.
-fn are_small(steps: &[CapacityStep]) -> bool
+fn are_small(steps: &[CapStep]) -> bool
     ensures { IsTrue result ↔ AreSmall steps.now }
 {
     steps.iter().all(|step| step.bytes <= MAX_CAPACITY)
@@ -131,7 +131,7 @@ fn are_small(steps: &[CapacityStep]) -> bool
 
 /// The capacity of a slot, and up to where it stays: the next step's first slot, or the greatest
 /// number.
-fn span_at(steps: &[CapacityStep], slot: u64) -> Span
+fn span_at(steps: &[CapStep], slot: u64) -> Span
     requires { IsProfile steps.now }
     ensures here { IsCapacity steps.now slot result.bytes }
     ensures some { slot < 2 ^ 64 - 1 → slot < result.until }

@@ -2,7 +2,8 @@
 
 ghost use Rattle.std.specs.Prelude.{◌≡◌, ◌≢◌, ◌+◌, ◌-◌, ◌*◌, ◌/◌, ◌^◌, ◌<◌, ◌≤◌, ℕ, None, Some};
 ghost use Rattle.std.specs.Prelude.{length, IfOk};
-ghost use Rattle.slot_calendar.specs.Rings.{AreZeros, IsGreatest, IsTopped, total_of};
+ghost use Rattle.slot_calendar.specs.Rings.{AreZeros, IsEmptyFrom, IsGreatest, AreBlockMaxima};
+ghost use Rattle.slot_calendar.specs.Rings.{total_of};
 ghost use Rattle.slot_calendar.specs.Totals.{ring_slots};
 
 use std::alloc::Global;
@@ -27,6 +28,8 @@ const BLOCKS: usize = 1024;
 pub(crate) struct Ring {
     /// Its now.
     first: u64,
+    /// A slot after which no total is above 0.
+    last: u64,
     /// The total of each slot in bytes.
     places: Vec<u64>,
     /// The greatest total of each block.
@@ -58,6 +61,7 @@ impl Ring {
         let tops = zeros(alloc, BLOCKS)?;
         Ok(Ring {
             first: 0,
+            last: 0,
             places,
             tops,
             stale: None,
@@ -70,6 +74,13 @@ impl Ring {
         ensures past { (t : ℕ) → self.now.first + ring_slots ≤ t → total_of self.now t ≡ 0 }
     {
         self.first
+    }
+
+    /// A slot after which no total is above 0.
+    pub(crate) fn last(&self) -> u64
+        ensures { IsEmptyFrom self.now (result + 1) }
+    {
+        self.last
     }
 
     /// The total of a slot; 0 past the ring.
@@ -111,6 +122,7 @@ impl Ring {
         let total = self.places[place] + by;
         self.places[place] = total;
         self.tops[block] = self.tops[block].max(total);
+        self.last = self.last.max(slot);
     }
 
     /// Takes from the total of a slot. The greatest total of its block is settled later.
@@ -168,31 +180,29 @@ impl Ring {
         self.first += 1;
     }
 
-    /// Empties all slots, and begins with slot `now`.
-    fn clear(&mut self, now: u64)
+    /// Begins with slot `now`, where all slots from the first one on are empty.
+    fn jump(&mut self, now: u64)
+        requires { IsEmptyFrom self.old self.old.first }
         ensures now { self.new.first ≡ now }
-        ensures settled { self.new.stale ≡ None }
-        ensures empty { (t : ℕ) → total_of self.new t ≡ 0 }
+        ensures empty { IsEmptyFrom self.new now }
     {
-        fill_with_zeros(&mut self.places);
-        fill_with_zeros(&mut self.tops);
-        self.stale = None;
         self.first = now;
     }
 
-    /// Forgets the slots before `now`.
+    /// Forgets the slots before `now`. It empties those that may hold bytes, and passes over the
+    /// others at once.
     pub(crate) fn advance(&mut self, now: u64)
         requires { self.old.first ≤ now }
         ensures now { self.new.first ≡ now }
         ensures settled { self.new.stale ≡ None }
         ensures totals { (t : ℕ) → now ≤ t → total_of self.new t ≡ total_of self.old t }
     {
-        if now - self.first >= RING_SLOTS {
-            self.clear(now);
-            return;
-        }
-        while self.first < now {
+        let last = self.last();
+        while self.first < now && self.first <= last {
             self.advance_one();
+        }
+        if self.first < now {
+            self.jump(now);
         }
         self.settle();
     }
@@ -211,8 +221,8 @@ fn greatest_of(numbers: &[u64]) -> u64
 
 /// Reads the stale block again, if there is one.
 fn settle_block(places: &[u64], tops: &mut [u64], stale: Option<usize>)
-    requires { IsTopped places.now tops.old stale }
-    ensures { IsTopped places.now tops.new None }
+    requires { AreBlockMaxima places.now tops.old stale }
+    ensures { AreBlockMaxima places.now tops.new None }
 {
     if let Some(block) = stale {
         let from = block * BLOCK as usize;
@@ -222,9 +232,9 @@ fn settle_block(places: &[u64], tops: &mut [u64], stale: Option<usize>)
 
 /// Reads the stale block again, unless it is this one, which becomes the stale one.
 fn settle_other(places: &[u64], tops: &mut [u64], stale: Option<usize>, block: usize)
-    requires topped { IsTopped places.now tops.old stale }
+    requires topped { AreBlockMaxima places.now tops.old stale }
     requires within { block < 1024 }
-    ensures { IsTopped places.now tops.new (Some block) }
+    ensures { AreBlockMaxima places.now tops.new (Some block) }
 {
     if let Some(other) = stale
         && other != block
@@ -239,11 +249,4 @@ fn zeros(alloc: Global, count: usize) -> Result<Vec<u64>, NoMemory>
 {
     let numbers = vec![in alloc; 0; count]?;
     Ok(numbers)
-}
-
-/// Makes all numbers 0.
-fn fill_with_zeros(numbers: &mut Vec<u64>)
-    ensures { AreZeros numbers.new.items (length numbers.old.items) }
-{
-    numbers.fill(0);
 }

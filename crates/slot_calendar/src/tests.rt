@@ -1,8 +1,8 @@
 //! Profiles, and calendars on which plays are booked, cut and forgotten, by rows.
 
 ghost use Rattle.std.specs.Prelude.{◌+◌, ◌<◌, ◌≤◌, ◌^◌, ℕ, IsTrue};
-ghost use Rattle.plan_cert.specs.Slots.{total_slots};
-ghost use Rattle.slot_calendar.specs.Plays.{cut_at};
+ghost use Rattle.plan_cert.specs.PlanSlots.{total_slots};
+ghost use Rattle.slot_calendar.specs.Plays.{released_at};
 ghost use Rattle.slot_calendar.specs.Calendars.{booked_at};
 
 use super::*;
@@ -23,10 +23,10 @@ fn plan_of(rt: &impl Abort, alloc: Global, pairs: &[(u64, u64)]) -> Result<Plan,
     Ok(Plan::new(segments))
 }
 
-fn steps_of(alloc: Global, pairs: &[(u64, u64)]) -> Result<Vec<CapacityStep>, AllocError> {
+fn steps_of(alloc: Global, pairs: &[(u64, u64)]) -> Result<Vec<CapStep>, AllocError> {
     let mut steps = Vec::new(alloc);
     for (from, bytes) in pairs {
-        steps.push(CapacityStep {
+        steps.push(CapStep {
             from: *from,
             bytes: *bytes,
         })?;
@@ -40,13 +40,13 @@ fn may_release(calendar: &Calendar, start: u64, plan: &Plan, keep: u64) -> bool
     requires small { start ≤ 2 ^ 63 }
     requires few { total_slots plan.now ≤ 1000000 }
     ensures { IsTrue result → (t : ℕ) → calendar.now.first ≤ t →
-        cut_at plan.now start keep t ≤ booked_at calendar.now t }
+        released_at plan.now start keep t ≤ booked_at calendar.now t }
 {
     let mut before = 0;
     for slot in 0..plan.slots() {
         let over = plan.sum_at(slot).saturating_sub(keep);
         let asked = over.saturating_sub(before);
-        if start + slot >= calendar.now() && asked > calendar.booked_bytes(start + slot) {
+        if start + slot >= calendar.now() && asked > calendar.booked(start + slot) {
             return false;
         }
         before = over;
@@ -98,7 +98,7 @@ fn advance(rt: &impl Abort, calendar: &mut Calendar, now: u64) {
 
 fn booked(rt: &impl Abort, calendar: &Calendar, slot: u64) -> u64 {
     assert!(rt; calendar.now() <= slot);
-    calendar.booked_bytes(slot)
+    calendar.booked(slot)
 }
 
 fn ask(
@@ -163,10 +163,10 @@ fn knows_profiles(rt: HostRuntime) -> Result<(), Fail> {
 fn counts_steps(rt: HostRuntime) -> Result<(), Fail> {
     let mut many = steps_of(rt.alloc(), &[])?;
     for from in 0..64 {
-        many.push(CapacityStep { from, bytes: 1 })?;
+        many.push(CapStep { from, bytes: 1 })?;
         assert!(rt; Profile::is_allowed(many.as_slice()));
     }
-    many.push(CapacityStep { from: 64, bytes: 1 })?;
+    many.push(CapStep { from: 64, bytes: 1 })?;
     assert!(rt; !Profile::is_allowed(many.as_slice()));
     Ok(())
 }
@@ -177,7 +177,7 @@ fn tells_capacities(rt: HostRuntime) -> Result<(), Fail> {
     for (slot, want) in [(0, 5), (2, 5), (3, 3), (9, 3), (10, 7), (u64::MAX, 0)] {
         assert_eq!(rt; profile.at(slot), want, "slot {slot}");
     }
-    assert_eq!(rt; Profile::of_one_step(rt.alloc(), 8)?.at(u64::MAX), 8);
+    assert_eq!(rt; Profile::flat(rt.alloc(), 8)?.at(u64::MAX), 8);
     Ok(())
 }
 
@@ -242,7 +242,7 @@ fn comes_round(rt: HostRuntime) -> Result<(), Fail> {
 #[test]
 fn passes_blocks(rt: HostRuntime) -> Result<(), Fail> {
     let alloc = rt.alloc();
-    let mut calendar = Calendar::new(alloc, Profile::of_one_step(alloc, 10)?)?;
+    let mut calendar = Calendar::new(alloc, Profile::flat(alloc, 10)?)?;
     let plan = plan_of(&rt, alloc, &[(1_000_000, 5_000_000)])?;
     assert_eq!(rt; play(&rt, &mut calendar, 1, &plan), None);
     let asked = plan_of(&rt, alloc, &[(999_999, 4_999_995), (1, 6)])?;

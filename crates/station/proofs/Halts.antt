@@ -5,21 +5,21 @@ use mathlib.Core.Logic.{dite}
 use native.Mathlib.Decide.{dec_le}
 use Rattle.std.proofs.lemmas.List.{get_or_append_left, get_or_push, length-append}
 use Rattle.std.proofs.lemmas.List.Elements.{All-push}
-use Rattle.slot_calendar.specs.declared.profiles.CapacityStep.{CapacityStep}
+use Rattle.slot_calendar.specs.declared.profiles.CapStep.{CapStep}
 use Rattle.admission.specs.declared.entries.Command.TheVariants.{Halt}
 use Rattle.admission.specs.declared.entries.Entry.{Entry}
 use Rattle.admission.specs.Histories.{Halts, IsHalt, IsLegal}
-use Rattle.admission.specs.Makers.{AreHaltsOwn, Placed, Admits, IsOpenAmong}
-use Rattle.admission.proofs.Opens.{halt-later}
+use Rattle.admission.specs.Makers.{AreHaltsOwn, PlacedEntry, Admits, IsOpenAmong}
+use Rattle.admission.proofs.OpenPlays.{halt-later}
 
 -- one more entry of a legal history, which halts a play of its own maker, or none
-pub record IsOwnNext (steps : List CapacityStep) (xs : List Entry) (e : Entry) : Type 0 where
+pub record IsOwnNext (steps : List CapStep) (xs : List Entry) (e : Entry) : Type 0 where
   pub legal : IsLegal steps (xs ++ e ∷ [])
   pub own : AreHaltsOwn xs
   pub last : (number keep : ℕ) (none : Entry) → e.command ≡ Halt number keep → e.maker ≡ (get_or xs number none).maker
 
 -- it leaves each play halted by its own maker
-pub halts_push : {steps : List CapacityStep} {xs : List Entry} {e : Entry} → IsOwnNext steps xs e
+pub halts_push : {steps : List CapStep} {xs : List Entry} {e : Entry} → IsOwnNext steps xs e
     → AreHaltsOwn (xs ++ e ∷ [])
 halts_push {steps} {xs} {e} next = record {
   each = λ i number keep none halt.
@@ -49,15 +49,15 @@ halts_push {steps} {xs} {e} next = record {
 }
 
 -- what is open stays open while its maker halts other plays alone
-pub open_push : (mine : List Placed) (m : Placed) (number keep : ℕ) → (Halts number m.entry.command → ⊥)
+pub open_push : (mine : List PlacedEntry) (m : PlacedEntry) (number keep : ℕ) → (Halts number m.entry.command → ⊥)
     → IsOpenAmong mine number keep → IsOpenAmong (mine ++ m ∷ []) number keep
 open_push mine m number keep other o = record {
   start = o.start;
   segments = o.segments;
   index = o.index;
   inside = (let h = o.inside in let long = length-append mine (m ∷ []) in omega arith);
-  admission = λ none. subst (λ (p : Placed). Admits p number o.start o.segments)
+  admission = λ none. subst (λ (p : PlacedEntry). Admits p number o.start o.segments)
       (sym (get_or_append_left mine (m ∷ []) none o.index o.inside)) (o.admission none);
-  unhalted = All-push (λ (p : Placed). Halts number p.entry.command → ⊥) mine m o.unhalted other;
+  unhalted = All-push (λ (p : PlacedEntry). Halts number p.entry.command → ⊥) mine m o.unhalted other;
   small = o.small;
 }

@@ -1,9 +1,9 @@
 mod Halts
-mod Entered
+mod EntryLemmas
 pub mod Makers
-mod Backs
-mod Plays
-mod Joins
+mod SeatTurns
+mod OpenPlays
+mod SeatJoins
 pub mod SameSeats
-pub mod Grown
+pub mod LongerJournals
 mod Offers

@@ -4,9 +4,9 @@ use Rattle.std.proofs.Common.{subst, ◌∙◌, inl, inr}
 use Rattle.std.proofs.lemmas.Bool.{cases_Bool, cond-true, cond-false, eqb-true}
 use Rattle.std.proofs.lemmas.List.Elements.{All-nil, All-cons, All-weaker}
 use Rattle.admission.specs.declared.entries.Entry.{Entry}
-use Rattle.admission.specs.Makers.{Placed, made_from, made_by, IsOpenAmong}
+use Rattle.admission.specs.Makers.{PlacedEntry, made_from, entries_by, IsOpenAmong}
 
-pub record IsAt (place maker : ℕ) (d : Entry) (xs : List Entry) (p : Placed) : Type 0 where
+pub record IsAt (place maker : ℕ) (d : Entry) (xs : List Entry) (p : PlacedEntry) : Type 0 where
   pub at : ℕ
   pub inside : at < length xs
   pub place_is : p.place ≡ place + at
@@ -17,8 +17,8 @@ pub all_at : (place maker : ℕ) (d : Entry) (xs : List Entry) → All (IsAt pla
 all_at place maker d [] = All-nil (IsAt place maker d [])
 all_at place maker d (e ∷ rest) =
     let P = IsAt place maker d (e ∷ rest) in
-    let here : Placed = record { place = place; entry = e } in
-    let more : List Placed = made_from (place + 1) maker rest in
+    let here : PlacedEntry = record { place = place; entry = e } in
+    let more : List PlacedEntry = made_from (place + 1) maker rest in
     let later : All P more =
     All-weaker (IsAt (place + 1) maker d rest) P
     (λ p h. record {
@@ -45,9 +45,9 @@ all_at place maker d (e ∷ rest) =
     ]
 
 pub maker_of : (xs : List Entry) (maker number keep : ℕ) (d : Entry)
-    → IsOpenAmong (made_by maker xs) number keep → (get_or xs number d).maker ≡ maker
+    → IsOpenAmong (entries_by maker xs) number keep → (get_or xs number d).maker ≡ maker
 maker_of xs maker number keep d o =
-    let none : Placed = record { place = 0; entry = d } in
+    let none : PlacedEntry = record { place = 0; entry = d } in
     let h = all_at 0 maker d xs o.index none o.inside in
     let at : h.at ≡ number = omega (arith, h.place_is, (o.admission none).place_is) in
     ap (λ (k : ℕ). (get_or xs k d).maker) (sym at) ∙ h.maker_is

@@ -3,7 +3,7 @@ use Rattle.std.proofs.Common.{◌≡◌, ℕ, zero, suc, ◌<◌, List, Option, 
 use Rattle.plan_cert.specs.declared.Segment.{Segment}
 use Rattle.slot_calendar.specs.Calendars.{IsFirstOverflow}
 use Rattle.early_start.specs.declared.Tried.{Tried}
-use Rattle.early_start.specs.Offered.{CanStart, IsOffer, IsStart, Offers}
+use Rattle.early_start.specs.StartSearch.{CanStart, IsOffer, IsStart, Offers}
 
 -- where another start than the first is found, or none, a start was tried
 some_tried : {from : ℕ} {booked capacity : ℕ → ℕ} {segments : List Segment} {first : ℕ} {found : Offers}

@@ -17,7 +17,7 @@ use Rattle.station.specs.Seats.{SeatState}
 -- The seat's call made this entry: it stands at `place`, the last of what the seat has seen, and is
 -- answered as the machine answers in the state after the entries before it. The journal had room
 -- for `more` entries beside those for the halts of its open plays.
-pub record HasMade (old new : SeatState) (more : ℕ) (command : Command) (place : ℕ)
+pub record HasMadeEntry (old new : SeatState) (more : ℕ) (command : Command) (place : ℕ)
     (answer : Answer) : Type 0 where
   pub before : List Entry
   pub place_is : place ≡ length before
@@ -33,15 +33,15 @@ pub record HasMade (old new : SeatState) (more : ℕ) (command : Command) (place
 
 -- The journal had no room for `more` entries beside those for the halts of its open plays; these
 -- are its two numbers.
-pub record IsFull (old new : SeatState) (more entries open_plays : ℕ) : Type 0 where
+pub record IsFull (old new : SeatState) (more entries live : ℕ) : Type 0 where
   pub mine : new.mine ≡ old.mine
   pub entries_are : entries ≡ length new.seen
-  pub open_is : open_plays ≡ open_count new.seen
-  pub full : old.limit < entries + open_plays + more
+  pub open_is : live ≡ open_count new.seen
+  pub full : old.limit < entries + live + more
 
 -- why a play is refused
 abbrev pub IsSeatRefused : SeatState → SeatState → ℕ → List Segment → PlayRefused → Type 0
-IsSeatRefused old new heard asked (JournalFull plan entries open_plays) = (plan ≡ asked)
-    × IsFull old new 2 entries open_plays
+IsSeatRefused old new heard asked (JournalFull plan entries live) = (plan ≡ asked)
+    × IsFull old new 2 entries live
 IsSeatRefused old new heard asked (PlayOverflow place slot booked bytes) =
-    HasMade old new 2 (play_of heard asked) place (Overflow slot booked bytes)
+    HasMadeEntry old new 2 (play_of heard asked) place (Overflow slot booked bytes)

@@ -17,9 +17,9 @@ seat_of pass = record {
   joined = pass.joined;
 }
 
-abbrev pub sitting_of : Inside → SeatState
-sitting_of seat = seat_of seat.pass
+abbrev pub seat_state : Inside → SeatState
+seat_state seat = seat_of seat.pass
 
-pub record IsSeatKept (seat : Inside) : Type 0 where
+pub record IsSeatInvariant (seat : Inside) : Type 0 where
   pub rests : seat.pass.has_turn ≡ false
-  pub sits : IsSeat (sitting_of seat)
+  pub sits : IsSeat (seat_state seat)

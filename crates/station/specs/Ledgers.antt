@@ -9,9 +9,9 @@ use Rattle.admission.specs.Books.{IsNoted, Journal, places_taken}
 use Rattle.admission.specs.declared.entries.Entry.{Entry}
 use Rattle.admission.specs.Histories.{booked_after, open_count, state_after}
 use Rattle.admission.specs.Machine.{start_after}
-use Rattle.slot_calendar.specs.declared.profiles.CapacityStep.{CapacityStep}
+use Rattle.slot_calendar.specs.declared.profiles.CapStep.{CapStep}
 use Rattle.slot_calendar.specs.Profiles.{capacity_at}
-use Rattle.early_start.specs.Offered.{IsOffer, Offers}
+use Rattle.early_start.specs.StartSearch.{IsOffer, Offers}
 use Rattle.station.specs.declared.answers.Offered.{Offered}
 use Rattle.station.specs.declared.answers.PlayRefused.{PlayRefused}
 use Rattle.station.specs.declared.answers.PlayRefused.TheVariants.{JournalFull}
@@ -34,22 +34,22 @@ pub record IsEntered (old new : Journal) (maker more : ℕ) (command : Command) 
 
 -- no entry was made, since the journal had no room for `more` entries beside those; these are its
 -- two numbers
-pub record IsFullFor (old new : Journal) (more entries open_plays : ℕ) : Type 0 where
+pub record IsFullFor (old new : Journal) (more entries live : ℕ) : Type 0 where
   pub left : new ≡ old
   pub entries_are : entries ≡ length old.entries
-  pub open_is : open_plays ≡ open_count old.entries
-  pub full : old.limit < entries + open_plays + more
+  pub open_is : live ≡ open_count old.entries
+  pub full : old.limit < entries + live + more
 
 -- why a play is refused
 abbrev pub IsPlayRefused : Journal → Journal → ℕ → ℕ → List Segment → PlayRefused → Type 0
-IsPlayRefused old new maker heard asked (JournalFull plan entries open_plays) = (plan ≡ asked)
-    × IsFullFor old new 2 entries open_plays
+IsPlayRefused old new maker heard asked (JournalFull plan entries live) = (plan ≡ asked)
+    × IsFullFor old new 2 entries live
 IsPlayRefused old new maker heard asked (PlayOverflow place slot booked bytes) =
     IsEntered old new maker 2 (play_of heard asked) place (Overflow slot booked bytes)
 
 -- an offer in the state after these entries: the earliest start within its wait, from the slot
 -- after the heard one and after now on
-pub record IsOffered (steps : List CapacityStep) (entries : List Entry) (heard : ℕ)
+pub record IsOffered (steps : List CapStep) (entries : List Entry) (heard : ℕ)
     (plan : List Segment) (told : Offered) (found : Offers) : Type 0 where
   pub seen_is : told.seen ≡ length entries
   pub first_is : told.first ≡ start_after (state_after entries) (min heard (2 ^ 62))

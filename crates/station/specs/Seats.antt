@@ -2,17 +2,17 @@
 use Rattle.std.specs.Prelude.{◌≡◌, ℕ, ◌+◌, ◌<◌, List, [], ◌∷◌, ◌++◌, length, slice_index_or}
 use mathlib.Core.List.{IsPrefix}
 use Rattle.atomic_table.specs.Seated.{TableId}
-use Rattle.slot_calendar.specs.declared.profiles.CapacityStep.{CapacityStep}
+use Rattle.slot_calendar.specs.declared.profiles.CapStep.{CapStep}
 use Rattle.admission.specs.declared.entries.Entry.{Entry}
 use Rattle.admission.specs.Histories.{IsLegal}
-use Rattle.admission.specs.Makers.{AreHaltsOwn, Placed, made_by}
+use Rattle.admission.specs.Makers.{AreHaltsOwn, PlacedEntry, entries_by}
 use Rattle.turnstile.specs.declared.view.Joined.{Joined}
 use Rattle.turnstile.specs.Passes.{longer_list}
 
 -- a station: which one it is, the steps of the link's capacity, and the most entries
 pub record StationState : Type 0 where
   pub id : TableId
-  pub steps : List CapacityStep
+  pub steps : List CapStep
   pub limit : ℕ
 
 -- a seat: its station with the terms, its number, the journal as far as it has seen it, its own
@@ -20,11 +20,11 @@ pub record StationState : Type 0 where
 -- it had made
 pub record SeatState : Type 0 where
   pub id : TableId
-  pub steps : List CapacityStep
+  pub steps : List CapStep
   pub limit : ℕ
   pub number : ℕ
   pub seen : List Entry
-  pub mine : List Placed
+  pub mine : List PlacedEntry
   pub splits : ℕ
   pub joined : List Joined
 
@@ -33,7 +33,7 @@ pub record SeatState : Type 0 where
 pub record IsSeat (seat : SeatState) : Type 0 where
   pub legal : IsLegal seat.steps seat.seen
   pub halts : AreHaltsOwn seat.seen
-  pub own : seat.mine ≡ made_by seat.number seat.seen
+  pub own : seat.mine ≡ entries_by seat.number seat.seen
 
 -- the first seat of a station
 abbrev pub first_seat : StationState → SeatState
@@ -88,8 +88,8 @@ pub record IsJournalOf (seat : SeatState) (entries : List Entry) : Type 0 where
   pub seen : IsPrefix seat.seen entries
   pub legal : IsLegal seat.steps entries
   pub halts : AreHaltsOwn entries
-  pub mine : seat.mine ≡ made_by seat.number entries
+  pub mine : seat.mine ≡ entries_by seat.number entries
   pub joined : (i : ℕ) (none : Joined) → i < length seat.joined →
       (slice_index_or seat.joined i none).mine ≡
-      made_by (slice_index_or seat.joined i none).number entries
-  pub others : (maker : ℕ) → seat.splits < maker → made_by maker entries ≡ []
+      entries_by (slice_index_or seat.joined i none).number entries
+  pub others : (maker : ℕ) → seat.splits < maker → entries_by maker entries ≡ []

@@ -16,14 +16,14 @@ pub struct Booking {
 #[derive(Debug, Drop, Error)]
 pub enum PlayRefused {
     /// The journal has no room for the play's entry and its halt's; no entry was made.
-    #[error("the journal is full: {entries} entries, {open_plays} open plays")]
+    #[error("the journal is full: {entries} entries, {live} open plays")]
     JournalFull {
         /// The plan that was asked for.
         plan: Plan,
         /// How many entries the journal has.
         entries: u64,
         /// How many plays are open.
-        open_plays: u64,
+        live: u64,
     },
     /// A slot has no room for the plan; the answer is an entry.
     #[error("slot {slot} has no room: {booked} bytes are booked and {asked} asked")]
@@ -44,14 +44,14 @@ impl From<PlayFull> for PlayRefused {
     ghost use Rattle.station.specs.declared.answers.PlayRefused.TheVariants.{JournalFull};
 
     ghost from_gives = { λ refused why.
-        why ≡ JournalFull refused.plan refused.full.entries refused.full.open_plays };
+        why ≡ JournalFull refused.plan refused.full.entries refused.full.live };
 
     fn from(refused: PlayFull) -> PlayRefused {
         let PlayFull { plan, full } = refused;
         PlayRefused::JournalFull {
             plan,
             entries: full.entries,
-            open_plays: full.open_plays,
+            live: full.live,
         }
     }
 }

@@ -8,47 +8,47 @@ ghost use Rattle.admission.specs.declared.entries.Command.{Command};
 ghost use Rattle.admission.specs.declared.entries.Entry.{Entry};
 ghost use Rattle.admission.specs.Histories.{Halts, state_after};
 ghost use Rattle.admission.specs.Machine.{IsAnswer, start_after};
-ghost use Rattle.admission.specs.Makers.{IsOpenAmong, Placed, made_by};
+ghost use Rattle.admission.specs.Makers.{IsOpenAmong, PlacedEntry, entries_by};
 ghost use Rattle.early_start.specs.declared.Tried.{Tried};
-ghost use Rattle.early_start.specs.Offered.{Offers};
+ghost use Rattle.early_start.specs.StartSearch.{Offers};
 ghost use Rattle.plan_cert.specs.declared.Segment.{Segment};
-ghost use Rattle.slot_calendar.specs.declared.profiles.CapacityStep.{CapacityStep};
+ghost use Rattle.slot_calendar.specs.declared.profiles.CapStep.{CapStep};
 ghost use Rattle.station.specs.declared.answers.Offered.{Offered};
-ghost use Rattle.station.specs.Answers.{HasMade};
+ghost use Rattle.station.specs.Answers.{HasMadeEntry};
 ghost use Rattle.station.specs.Ledgers.{IsOffered, play_of};
 ghost use Rattle.station.specs.Seats.{SeatState};
 
-use early_start::law_least_start;
+use early_start::laws::law_offered_start_is_earliest;
 
 /// What was seen of a journal stays: each entry at its place, the state after each prefix, and what
 /// each maker had made, in order.
-pub fn law_longer_journal()
+pub fn law_seen_entries_never_change()
     ensures entries { (seen journal : List Entry) → IsPrefix seen journal →
         (i : ℕ) (none : Entry) → i < length seen →
         slice_index_or journal i none ≡ slice_index_or seen i none }
     ensures fronts { (seen journal : List Entry) → IsPrefix seen journal →
         (n : ℕ) → n ≤ length seen → take n journal ≡ take n seen }
     ensures makers { (seen journal : List Entry) → IsPrefix seen journal →
-        (maker : ℕ) → IsPrefix (made_by maker seen) (made_by maker journal) }
+        (maker : ℕ) → IsPrefix (entries_by maker seen) (entries_by maker journal) }
     ensures trans { (old seen journal : List Entry) → IsPrefix old seen → IsPrefix seen journal →
         IsPrefix old journal }
 {}
 
 /// The entry that a seat's call made is the last of what the seat has seen, and has the answer that
 /// was given.
-pub fn law_last_entry()
+pub fn law_answer_is_last_seen_entry()
     ensures entry { (old new : SeatState) (more : ℕ) (command : Command) (place : ℕ)
-        (answer : Answer) → HasMade old new more command place answer → (none : Entry) →
+        (answer : Answer) → HasMadeEntry old new more command place answer → (none : Entry) →
         slice_index_or new.seen place none
         ≡ record { maker = old.number; command = command; answer = answer } }
     ensures last { (old new : SeatState) (more : ℕ) (command : Command) (place : ℕ)
-        (answer : Answer) → HasMade old new more command place answer →
+        (answer : Answer) → HasMadeEntry old new more command place answer →
         place + 1 ≡ length new.seen }
 {}
 
 /// A play that is open among its maker's entries stays open while the maker doesn't halt it.
-pub fn law_still_open()
-    ensures { (mine : List Placed) (made : Placed) (number keep : ℕ) →
+pub fn law_play_stays_open_until_halted()
+    ensures { (mine : List PlacedEntry) (made : PlacedEntry) (number keep : ℕ) →
         IsOpenAmong mine number keep →
         ¬ Halts number made.entry.command → IsOpenAmong (mine ++ made ∷ []) number keep }
 {}
@@ -57,18 +57,18 @@ pub fn law_still_open()
 /// would begin in the offer's first slot; from the start that was found it would be admitted, where
 /// it is asked for so that it begins there; and where another start than the first was found, or
 /// none, it would be refused for the slot that the first start tried names.
-pub fn law_offer_told()
-    ensures first { (steps : List CapacityStep) (entries : List Entry) (heard start : ℕ)
+pub fn law_offer_predicts_play_answer()
+    ensures first { (steps : List CapStep) (entries : List Entry) (heard start : ℕ)
         (plan : List Segment) (told : Offered) (found : Offers) →
         IsOffered steps entries heard plan told found →
         IsAnswer steps (state_after entries) (play_of heard plan) (Answer.Admitted start) →
         start ≡ told.first }
-    ensures kept { (steps : List CapacityStep) (entries : List Entry) (heard slot start : ℕ)
+    ensures kept { (steps : List CapStep) (entries : List Entry) (heard slot start : ℕ)
         (plan : List Segment) (told : Offered) (found : Offers) →
         IsOffered steps entries heard plan told found → found.start ≡ Some start →
         start ≡ start_after (state_after entries) (min slot (2 ^ 62)) →
         IsAnswer steps (state_after entries) (play_of slot plan) (Answer.Admitted start) }
-    ensures refused { (steps : List CapacityStep) (entries : List Entry) (heard : ℕ)
+    ensures refused { (steps : List CapStep) (entries : List Entry) (heard : ℕ)
         (plan : List Segment) (told : Offered) (found : Offers) (none : Tried) →
         IsOffered steps entries heard plan told found → ¬ (found.start ≡ Some told.first) →
         IsAnswer steps (state_after entries) (play_of heard plan)
@@ -76,5 +76,5 @@ pub fn law_offer_told()
         (slice_index_or found.tried 0 none).over.booked
         (slice_index_or found.tried 0 none).over.asked) }
 {
-    law_least_start();
+    law_offered_start_is_earliest();
 }

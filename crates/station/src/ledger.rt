@@ -4,16 +4,18 @@ ghost use Rattle.std.specs.Prelude.{◌≡◌, IfOk, IfErr, []};
 ghost use Rattle.admission.specs.declared.entries.Answer.{Answer};
 ghost use Rattle.admission.specs.declared.entries.Command.{Command};
 ghost use Rattle.admission.specs.Histories.{IsLegal, state_after};
-ghost use Rattle.admission.specs.Makers.{AreHaltsOwn, IsOpenAmong, made_by};
+ghost use Rattle.admission.specs.Makers.{AreHaltsOwn, IsOpenAmong, entries_by};
 ghost use Rattle.station.specs.Ledgers.{IsEntered, IsFullFor, IsOffered, IsPlayRefused, look_at};
 ghost use Rattle.station.specs.Ledgers.{play_of};
 
 use crate::answers::{Booking, Looked, Offered, PlayRefused};
-use admission::{Answer, Book, Full, Noted, PlayFull, law_never_overbooked, law_own_play};
-use early_start::{Offers, law_offer_of_plays};
+use admission::laws::{law_never_overbooked, law_own_open_play_can_be_halted};
+use admission::{Answer, Book, Full, Noted, PlayFull};
+use early_start::Offers;
+use early_start::laws::law_offer_covers_past_slots;
 use plan_cert::Plan;
 use std::marker::Model;
-use turnstile::KeptValue;
+use turnstile::Kept;
 use vod_base::LATEST_SLOT;
 
 /// The book that a station's seats share. Each play in it is halted by its own maker.
@@ -33,7 +35,7 @@ impl Model for Ledger {
     ghost invariant = { λ l. AreHaltsOwn l.book.entries };
 }
 
-impl KeptValue for Ledger {
+impl Kept for Ledger {
     ghost entries = { λ j. j.entries };
 
     ghost terms = { λ j. record { steps = j.steps; limit = j.limit } };
@@ -66,7 +68,7 @@ impl Ledger {
         ensures made { IfOk result (λ noted.
             IsEntered self.old self.new maker 2 (play_of heard plan) noted.place noted.answer) }
         ensures full { IfErr result (λ refused.
-            IsFullFor self.old self.new 2 refused.full.entries refused.full.open_plays) }
+            IsFullFor self.old self.new 2 refused.full.entries refused.full.live) }
         ensures plan { IfErr result (λ refused. refused.plan ≡ plan) }
     {
         self.book.play(maker, heard, plan)
@@ -106,13 +108,13 @@ impl Ledger {
 
     /// As `Book::halt`, of a play that is open among its maker's entries.
     pub(crate) fn halt(&mut self, maker: u32, number: u64, keep: u64) -> u64
-        requires { IsOpenAmong (made_by maker self.old.entries) number keep }
+        requires { IsOpenAmong (entries_by maker self.old.entries) number keep }
         ensures { IsEntered self.old self.new maker 0 (Command.Halt number keep) result
             Answer.Halted }
     {
         // the call tells that the history is legal, in which an open play is its maker's own
         let _entries = self.book.entries();
-        law_own_play();
+        law_own_open_play_can_be_halted();
         self.book.halt(maker, number, keep).place
     }
 
@@ -122,7 +124,7 @@ impl Ledger {
             IsEntered self.old self.new maker 1 (look_at slot) looked.place
             (Answer.Looked looked.now looked.at looked.booked)) }
         ensures full { IfErr result (λ full.
-            IsFullFor self.old self.new 1 full.entries full.open_plays) }
+            IsFullFor self.old self.new 1 full.entries full.live) }
     {
         let noted = self.book.look(maker, slot)?;
         let Answer::Looked { now, at, booked } = noted.answer else {
@@ -144,7 +146,7 @@ impl Ledger {
         let calendar = self.book.calendar();
         let entries = self.book.entries();
         law_never_overbooked();
-        law_offer_of_plays();
+        law_offer_covers_past_slots();
         let first = calendar.now().max(heard.min(LATEST_SLOT)) + 1;
         into.find(calendar, plan, first);
         Offered {

@@ -3,13 +3,12 @@
 #![tactic(auto)]
 
 mod answers;
-mod laws;
+pub mod laws;
 mod ledger;
 mod seat;
 mod station;
 
 pub use answers::{Booking, Looked, Offered, PlayRefused};
-pub use laws::{law_last_entry, law_longer_journal, law_offer_told, law_still_open};
 pub use seat::Seat;
 pub use station::Station;
 

@@ -21,11 +21,11 @@ impl Model for Seat {
 
     ghost Value = { SeatState };
 
-    ghost use Rattle.station.specs.Inside.{sitting_of, IsSeatKept};
+    ghost use Rattle.station.specs.Inside.{seat_state, IsSeatInvariant};
 
-    ghost view = { sitting_of };
+    ghost view = { seat_state };
 
-    ghost invariant = { IsSeatKept };
+    ghost invariant = { IsSeatInvariant };
 }
 
 impl Seat {

@@ -2,11 +2,11 @@
 
 ghost use Rattle.std.specs.Prelude.{◌≡◌, ◌≢◌, ◌+◌, ◌^◌, ◌<◌, ◌≤◌, ℕ, IfOk, IfErr};
 ghost use mathlib.Core.List.{IsPrefix};
-ghost use Rattle.plan_cert.specs.Slots.{total_bytes};
+ghost use Rattle.plan_cert.specs.PlanSlots.{total_bytes};
 ghost use Rattle.admission.specs.declared.entries.Answer.{Answer};
 ghost use Rattle.admission.specs.declared.entries.Command.{Command};
 ghost use Rattle.admission.specs.Makers.{IsOpenAmong};
-ghost use Rattle.station.specs.Answers.{IsFull, IsSeatRefused, HasMade};
+ghost use Rattle.station.specs.Answers.{IsFull, IsSeatRefused, HasMadeEntry};
 ghost use Rattle.station.specs.Ledgers.{IsOffered, look_at, play_of};
 ghost use Rattle.station.specs.Seats.{IsJournalOf, IsSameSeat, IsSeat, after_join};
 ghost use Rattle.station.specs.Seats.{after_split, first_seat, new_seat};
@@ -82,7 +82,7 @@ impl Station {
         ensures same { IsSameSeat seat.old seat.new }
         ensures kept { IsSeat seat.new }
         ensures made { IfOk result (λ booking.
-            HasMade seat.old seat.new 2 (play_of heard plan) booking.number
+            HasMadeEntry seat.old seat.new 2 (play_of heard plan) booking.number
             (Answer.Admitted booking.start)) }
         ensures open { IfOk result (λ booking. (keep : ℕ) → keep ≤ total_bytes plan →
             IsOpenAmong seat.new.mine booking.number keep) }
@@ -103,7 +103,7 @@ impl Station {
         requires open { IsOpenAmong seat.old.mine booking.number keep }
         ensures same { IsSameSeat seat.old seat.new }
         ensures kept { IsSeat seat.new }
-        ensures made { HasMade seat.old seat.new 0 (Command.Halt booking.number keep) result
+        ensures made { HasMadeEntry seat.old seat.new 0 (Command.Halt booking.number keep) result
             Answer.Halted }
     {
         let Booking { number, start: _ } = booking;
@@ -126,10 +126,10 @@ impl Station {
         ensures same { IsSameSeat seat.old seat.new }
         ensures kept { IsSeat seat.new }
         ensures made { IfOk result (λ looked.
-            HasMade seat.old seat.new 1 (look_at slot) looked.place
+            HasMadeEntry seat.old seat.new 1 (look_at slot) looked.place
             (Answer.Looked looked.now looked.at looked.booked)) }
         ensures full { IfErr result (λ full.
-            IsFull seat.old seat.new 1 full.entries full.open_plays) }
+            IsFull seat.old seat.new 1 full.entries full.live) }
     {
         let mut turn = self.turns.enter(rt, &mut seat.pass);
         let maker = seat.pass.number();

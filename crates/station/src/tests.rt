@@ -1,7 +1,7 @@
-//! Threads that ask at one station side by side, and the refusals that a seat is told.
+//! Threads that ask at one station side by side, and the refusals that a seat receives.
 
 ghost use Rattle.std.specs.Prelude.{◌≡◌, ◌≤◌, [], ◌∷◌};
-ghost use Rattle.plan_cert.specs.Slots.{total_bytes};
+ghost use Rattle.plan_cert.specs.PlanSlots.{total_bytes};
 ghost use Rattle.station.specs.Seats.{IsSameSeat, first_seat};
 
 use super::*;
@@ -198,10 +198,10 @@ fn run_four_seats<R: Threads + Wait + Abort + Sync>(
 #[test]
 fn threads_share_one_book(rt: HostRuntime) -> Result<(), Fail> {
     let alloc = rt.alloc();
-    let (station, seat) = Station::new(alloc, Profile::of_one_step(alloc, 36)?, 1024)?;
+    let (station, seat) = Station::new(alloc, Profile::flat(alloc, 36)?, 1024)?;
     assert_eq!(rt; seat.number(), 0);
     run_two_seats(&rt, alloc, station, seat);
-    let (station, seat) = Station::new(alloc, Profile::of_one_step(alloc, 36)?, 2048)?;
+    let (station, seat) = Station::new(alloc, Profile::flat(alloc, 36)?, 2048)?;
     run_four_seats(&rt, alloc, station, seat);
     Ok(())
 }
@@ -212,7 +212,7 @@ fn tells_refusals(rt: HostRuntime) -> Result<(), Fail> {
     let full = PlayRefused::JournalFull {
         plan: plan(&rt, alloc),
         entries: 3,
-        open_plays: 1,
+        live: 1,
     };
     let overflow = PlayRefused::Overflow {
         place: 2,

@@ -1,8 +1,8 @@
-mod ContentSteps
-pub mod Parts
-mod Reached
-pub mod OneReading
-mod VideoBegins
-mod PacketHeaders
-pub mod StandardStreams
-mod StandardFaults
+mod PacketHeaderSteps
+pub mod ItemPartLemmas
+mod FedBytesLemmas
+pub mod ReadingUniqueness
+mod VideoPrefixLemmas
+mod PacketHeaderLemmas
+pub mod StandardStreamLemmas
+mod StandardFaultLemmas

@@ -1,6 +1,6 @@
-pub mod Contents
-pub mod Items
-pub mod Streams
-pub mod Standard
-pub mod Sound
-pub mod States
+pub mod PacketContents
+pub mod StreamItems
+pub mod SystemStreams
+pub mod StandardFields
+pub mod ValidStates
+pub mod ParserStates

@@ -1,9 +1,9 @@
 //! The header of a packet's content: stuffing, buffer size and time stamps.
 
 ghost use Rattle.std.specs.Prelude.{◌≡◌, ℕ, ◌+◌, ◌≤◌, ◌<◌, List, ◌∷◌, length, None, MatchOption};
-ghost use Rattle.sys_demux.specs.Contents.{from_stamp, from_size, after_bytes};
-ghost use Rattle.sys_demux.specs.Sound.{least_rest};
-ghost use Rattle.sys_demux.specs.States.{video_from};
+ghost use Rattle.sys_demux.specs.PacketContents.{from_stamp, from_size, after_bytes};
+ghost use Rattle.sys_demux.specs.ValidStates.{least_rest};
+ghost use Rattle.sys_demux.specs.ParserStates.{video_from};
 
 /// Where in the header of a packet's content the next byte stands (ISO/IEC 11172-1, section
 /// 2.4.3.3).

@@ -3,18 +3,14 @@
 #![tactic(auto)]
 
 mod faults;
-mod feeding;
 mod headers;
-mod laws;
-mod places;
+pub mod laws;
+mod parser_states;
+mod stream_parser;
 mod unwrapper;
 
 pub use faults::SystemFault;
-pub use feeding::Fed;
-pub use laws::{
-    law_one_reading, law_packet_header, law_standard_refusals, law_standard_stream,
-    law_video_begins,
-};
+pub use stream_parser::Fed;
 pub use unwrapper::Unwrapper;
 
 #[cfg(test)]

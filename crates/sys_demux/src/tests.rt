@@ -1,7 +1,7 @@
 //! The streams are written by hand from the fields of ISO/IEC 11172-1.
 
 ghost use Rattle.std.specs.Prelude.{◌≤◌, ◌^◌, length, IfOk, MatchResult};
-ghost use Rattle.sys_demux.specs.Streams.{IsSystem, IsRefused};
+ghost use Rattle.sys_demux.specs.SystemStreams.{IsSystem, IsBadStream};
 
 use super::*;
 use std::alloc::Global;
@@ -26,7 +26,8 @@ fn unwrapped(
 ) -> Result<(Vec<u8>, Result<(), SystemFault>), Fail>
     requires { length bytes.now ≤ 2 ^ 40 }
     ensures { IfOk result (λ r.
-        MatchResult r.1 (λ _. IsSystem bytes.now r.0.items) (λ fault. IsRefused bytes.now fault)) }
+        MatchResult r.1 (λ _. IsSystem bytes.now r.0.items) (λ fault. IsBadStream bytes.now fault))
+            }
 {
     let mut unwrapper = Unwrapper::new();
     let mut video = Vec::new(alloc);

@@ -1,15 +1,15 @@
 //! The state of a reader of system streams.
 
 ghost use Rattle.std.specs.Prelude.{IsTrue};
-ghost use Rattle.sys_demux.specs.Sound.{is_sound};
+ghost use Rattle.sys_demux.specs.ValidStates.{is_sound};
 
-use crate::places::Place;
+use crate::parser_states::ParserState;
 
 /// Takes the video bytes out of an MPEG-1 system stream (ISO/IEC 11172-1), chunk by chunk. It takes
 /// no memory.
 #[derive(Drop)]
 pub struct Unwrapper {
-    pub(crate) place: Place,
+    pub(crate) place: ParserState,
     /// The place of the item's prefix.
     pub(crate) item: u64,
     /// The stream_id of the first packet of video.

@@ -42,21 +42,22 @@ pub record IsFirstPoint (chain : List Point) (first : Point) : Type 0 where
 
 -- the chain's last point no longer stands out: seen from the one before it, it is within the new
 -- point
-pub record IsPassed (side : Side) (o : Point) (chain : List Point) (point : Point) : Type 0 where
-  pub first : Point
-  pub second : Point
-  pub edge : IsLastEdge o chain first second
-  pub passed : IsWithin side first second point
+pub record IsLastDropped (side : Side) (o : Point) (chain : List Point) (point : Point) : Type 0
+  where
+    pub first : Point
+    pub second : Point
+    pub edge : IsLastEdge o chain first second
+    pub passed : IsWithin side first second point
 
 -- it does: the new point is inside the last edge
-pub record IsHeld (side : Side) (o : Point) (chain : List Point) (point : Point) : Type 0 where
+pub record IsLastKept (side : Side) (o : Point) (chain : List Point) (point : Point) : Type 0 where
   pub first : Point
   pub second : Point
   pub edge : IsLastEdge o chain first second
   pub held : IsInside side first point second
 
-abbrev pub IsReady : Side → Point → List Point → Point → Type 0
-IsReady side o chain point = (chain ≡ []) ⊎ IsHeld side o chain point
+abbrev pub CanAppend : Side → Point → List Point → Point → Type 0
+CanAppend side o chain point = (chain ≡ []) ⊎ IsLastKept side o chain point
 
 -- the last edge leads on, and the new point is beyond it
 abbrev pub EdgesAscend : Point → List Point → Point → Type 0

@@ -25,24 +25,24 @@ pub record IsBand (lo hi : ℕ → ℕ) (from n : ℕ) : Type 0 where
 
 -- from which apex the curves are seen, and up to which place each of them: that of the side that is
 -- spoken of, and the other one
-pub record Sight : Type 0 where
+pub record FunnelReach : Type 0 where
   pub apex : Point
   pub reach : ℕ
   pub other_reach : ℕ
 
-abbrev pub sight_of : ℕ → ℕ → Point → Sight
-sight_of t s o = record { apex = o; reach = t; other_reach = s }
+abbrev pub funnel_reach : ℕ → ℕ → Point → FunnelReach
+funnel_reach t s o = record { apex = o; reach = t; other_reach = s }
 
 -- seen from the apex, each place of the one curve after it and before that curve's reach stands
 -- within each place of the other curve after it and up to the other reach
-pub record KeepsApart (side : Side) (curve other : ℕ → ℕ) (sight : Sight) : Type 0 where
+pub record KeepsApart (side : Side) (curve other : ℕ → ℕ) (sight : FunnelReach) : Type 0 where
   pub apart : (i j : ℕ) → sight.apex.place < i → i < sight.reach
       → sight.apex.place < j → j ≤ sight.other_reach
       → IsWithin side sight.apex (on_curve curve i) (on_curve other j)
 
 -- While the point of the one curve's reach gives the other chain its corners: the one chain has
 -- that point, and the other one ends at the same place or one place before.
-pub record IsCrossing (side : Side) (curve other : ℕ → ℕ) (sight : Sight)
+pub record IsCrossing (side : Side) (curve other : ℕ → ℕ) (sight : FunnelReach)
     (own_chain other_chain : List Point) : Type 0 where
   pub newest : sight.reach ≤ sight.other_reach + 1
   pub not_past : sight.other_reach ≤ sight.reach
@@ -74,14 +74,14 @@ FirstFits o (first ∷ rest) point = AllFit o first point
 
 -- The whole funnel, seen from one side: each chain goes up to its curve's reach, and the curves
 -- stand apart, the one at its reach too.
-pub record IsFunnel (side : Side) (curve other : ℕ → ℕ) (sight : Sight)
+pub record IsFunnel (side : Side) (curve other : ℕ → ℕ) (sight : FunnelReach)
     (own_chain other_chain : List Point) : Type 0 where
   pub own : IsChain side curve sight.reach sight.apex own_chain
   pub others : IsChain (other_side side) other sight.other_reach sight.apex other_chain
   pub keeps : KeepsApart side curve other
-      (sight_of (sight.reach + 1) sight.other_reach sight.apex)
+      (funnel_reach (sight.reach + 1) sight.other_reach sight.apex)
 
 -- how far the other curve is read, where a side takes in a slot: the lower one goes first
-abbrev pub others_known : Side → ℕ → ℕ
-others_known Lower slot = slot
-others_known Upper slot = slot + 1
+abbrev pub other_curve_reach : Side → ℕ → ℕ
+other_curve_reach Lower slot = slot
+other_curve_reach Upper slot = slot + 1

@@ -2,4 +2,4 @@ pub mod Slopes
 pub mod Chain
 pub mod Funnel
 pub mod Path
-pub mod Sides
+pub mod CurveSides

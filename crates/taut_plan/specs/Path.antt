@@ -2,8 +2,8 @@
 -- there.
 use Rattle.std.specs.Prelude.{◌≡◌, ℕ, ◌+◌, ◌-◌, ◌≤◌, List, [], ◌∷◌, ◌++◌}
 use Rattle.plan_cert.specs.declared.Segment.{Segment}
-use Rattle.plan_cert.specs.Slots.{total_slots, total_bytes}
-use Rattle.cert_check.specs.Taut.{MeetsLower, MeetsUpper, RunsTaut}
+use Rattle.plan_cert.specs.PlanSlots.{total_slots, total_bytes}
+use Rattle.cert_check.specs.TautRecursion.{MeetsLower, MeetsUpper, RunsTaut}
 use Rattle.taut_plan.specs.declared.points.Point.{Point}
 
 -- the first of the segments that follow has the one slope that the curves leave there

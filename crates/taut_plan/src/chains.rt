@@ -2,11 +2,11 @@
 
 ghost use Rattle.std.specs.Prelude.{◌≡◌, ◌+◌, ◌<◌, ◌≤◌, [], length, MatchBool, MatchOption, IfOk};
 ghost use Rattle.std.specs.Prelude.{OnOk};
-ghost use Rattle.wire_curve.specs.Sound.{IsSound};
-ghost use Rattle.taut_plan.specs.Chain.{on_curve, IsChain, IsPassed, IsReady, EdgesAscend};
+ghost use Rattle.wire_curve.specs.SoundCurves.{AreSound};
+ghost use Rattle.taut_plan.specs.Chain.{on_curve, IsChain, IsLastDropped, CanAppend, EdgesAscend};
 ghost use Rattle.taut_plan.specs.Chain.{EdgesFit};
 ghost use Rattle.taut_plan.specs.Slopes.{Fits};
-ghost use Rattle.taut_plan.specs.Sides.{side_of};
+ghost use Rattle.taut_plan.specs.CurveSides.{side_of};
 
 use crate::points::{Point, Side, is_inside, point_at};
 use crate::queues::Queue;
@@ -24,7 +24,7 @@ pub(crate) fn join(
 ) -> Result<Point, AllocError>
     requires low { slot < length curves.now.low.items }
     requires up { slot < length curves.now.up.items }
-    requires sound { IsSound curves.now.from curves.now.low.items curves.now.up.items }
+    requires sound { AreSound curves.now.from curves.now.low.items curves.now.up.items }
     requires apex { Fits apex }
     requires chain { IsChain side (side_of curves.now side) slot apex chain.old }
     ensures point { IfOk result (λ point. point ≡ on_curve (side_of curves.now side) (slot + 1)) }
@@ -32,7 +32,7 @@ pub(crate) fn join(
         + 1) apex chain.new) }
 {
     let point = point_at(curves, side, slot);
-    while is_passed(side, apex, chain, point) {
+    while is_last_dropped(side, apex, chain, point) {
         chain.pop_last();
     }
     chain.join(point)?;
@@ -41,12 +41,12 @@ pub(crate) fn join(
 
 /// Whether the chain's last point no longer stands out, where `point` is to come beyond it.
 #[inline(always)]
-fn is_passed(side: Side, apex: Point, chain: &Queue, point: Point) -> bool
+fn is_last_dropped(side: Side, apex: Point, chain: &Queue, point: Point) -> bool
     requires ascend { EdgesAscend apex chain.now point }
     requires fit { EdgesFit apex chain.now point }
     ensures { MatchBool result
-        (IsPassed side apex chain.now point)
-        (IsReady side apex chain.now point) }
+        (IsLastDropped side apex chain.now point)
+        (CanAppend side apex chain.now point) }
 {
     match chain.last_edge(apex) {
         Some((first, second)) => !is_inside(side.other_side(), first, second, point),

@@ -3,13 +3,12 @@
 #![tactic(auto)]
 
 mod chains;
-mod laws;
+pub mod laws;
 mod paths;
 mod plans;
 mod points;
 mod queues;
 
-pub use laws::law_one_taut_list;
 pub use plans::plan;
 
 #[cfg(test)]

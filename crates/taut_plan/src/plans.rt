@@ -2,14 +2,14 @@
 
 ghost use Rattle.std.specs.Prelude.{◌≡◌, ℕ, ◌+◌, ◌<◌, ◌≤◌, ◌∷◌, length, MatchBool, MatchOption};
 ghost use Rattle.std.specs.Prelude.{IfOk, OnOk};
-ghost use Rattle.wire_curve.specs.Sound.{IsSound};
-ghost use Rattle.cert_check.specs.Fault.{IsTaut};
-ghost use Rattle.cert_check.specs.Best.{IsBestPlan};
+ghost use Rattle.wire_curve.specs.SoundCurves.{AreSound};
+ghost use Rattle.cert_check.specs.CertFaults.{IsTaut};
+ghost use Rattle.cert_check.specs.Optimality.{IsBestPlan};
 ghost use Rattle.taut_plan.specs.Slopes.{other_side};
 ghost use Rattle.taut_plan.specs.Funnel.{IsFunnel, IsCrossed, IsUncrossed, FirstIsBetween};
-ghost use Rattle.taut_plan.specs.Funnel.{FirstFits, others_known, sight_of};
+ghost use Rattle.taut_plan.specs.Funnel.{FirstFits, other_curve_reach, funnel_reach};
 ghost use Rattle.taut_plan.specs.Path.{IsPath, IsTautPath};
-ghost use Rattle.taut_plan.specs.Sides.{lower_of, upper_of, side_of};
+ghost use Rattle.taut_plan.specs.CurveSides.{lower_of, upper_of, side_of};
 
 use crate::chains::join;
 use crate::paths::Path;
@@ -27,7 +27,7 @@ use wire_curve::Curves;
 /// work is linear in the slots, whatever the curves; the memory is that of the two chains and the
 /// segments.
 pub fn plan(alloc: Global, curves: &Curves) -> Result<Plan, NoMemory>
-    requires { IsSound curves.now.from curves.now.low.items curves.now.up.items }
+    requires { AreSound curves.now.from curves.now.low.items curves.now.up.items }
     ensures taut { IfOk result (λ plan.
         IsTaut curves.now.from curves.now.low.items curves.now.up.items plan) }
 
@@ -68,20 +68,26 @@ fn extend(
     others: &mut Queue,
     slot: usize,
 ) -> Result<(), AllocError>
-    requires sound { IsSound curves.now.from curves.now.low.items curves.now.up.items }
+    requires sound { AreSound curves.now.from curves.now.low.items curves.now.up.items }
     requires slot { slot < length curves.now.low.items }
     requires path { IsPath (lower_of curves.now) (upper_of curves.now) curves.now.from
         path.old.apex path.old.segments.items }
     requires funnel { IsFunnel side (side_of curves.now side) (side_of curves.now (other_side side))
-        (sight_of slot (others_known side slot) path.old.apex) own.old others.old }
+        (funnel_reach slot (other_curve_reach side slot) path.old.apex) own.old others.old }
     ensures path { OnOk result (IsPath (lower_of curves.now) (upper_of curves.now) curves.now.from
         path.new.apex path.new.segments.items) }
     ensures funnel { OnOk result
         (IsFunnel side (side_of curves.now side) (side_of curves.now (other_side side))
-        (sight_of (slot + 1) (others_known side slot) path.new.apex) own.new others.new) }
+        (funnel_reach (slot + 1) (other_curve_reach side slot) path.new.apex) own.new others.new) }
     ensures beyond { OnOk result (path.new.apex.place ≤ slot) }
 {
     let point = join(curves, side, path.apex, own, slot)?;
+
+    // Where the new point isn't alone in its chain, the first point of that chain stands further
+    // out and within the other chain, so that the new point can't cross it.
+    if own.has_several() {
+        return Ok(());
+    }
     while let Some(corner) = crossing(side, path.apex, others, point) {
         others.pop_first();
         path.bend_at(corner)?;
@@ -91,7 +97,7 @@ fn extend(
 
 /// The segments of the taut line.
 fn taut_segments(alloc: Global, curves: &Curves) -> Result<Vec<Segment>, AllocError>
-    requires { IsSound curves.now.from curves.now.low.items curves.now.up.items }
+    requires { AreSound curves.now.from curves.now.low.items curves.now.up.items }
     ensures { IfOk result (λ segments.
         IsTautPath (lower_of curves.now) (upper_of curves.now) curves.now.from
         (length curves.now.low.items) segments.items) }

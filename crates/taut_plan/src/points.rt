@@ -6,7 +6,7 @@
 ghost use Rattle.std.specs.Prelude.{◌≡◌, ◌+◌, ◌-◌, ◌*◌, ◌<◌, ◌≤◌, ◌↔◌, IsTrue, MatchBool, length};
 ghost use Rattle.taut_plan.specs.Slopes.{IsWithin, IsInside, AllFit, other_side};
 ghost use Rattle.taut_plan.specs.Chain.{on_curve};
-ghost use Rattle.taut_plan.specs.Sides.{side_of};
+ghost use Rattle.taut_plan.specs.CurveSides.{side_of};
 
 use wire_curve::Curves;
 

@@ -1,7 +1,7 @@
 //! Points in a row that join at the back and leave at both ends.
 
 ghost use Rattle.std.specs.Prelude.{◌≡◌, ◌-◌, ◌<◌, [], ◌∷◌, ◌++◌, length, take, drop, MatchOption};
-ghost use Rattle.std.specs.Prelude.{OnOk};
+ghost use Rattle.std.specs.Prelude.{OnOk, IsTrue, ◌↔◌};
 ghost use Rattle.taut_plan.specs.Chain.{IsFirstPoint, IsLastEdge};
 
 use crate::points::Point;
@@ -49,6 +49,14 @@ impl Queue {
         } else {
             None
         }
+    }
+
+    /// Whether it has two points or more.
+    #[inline(always)]
+    pub(crate) fn has_several(&self) -> bool
+        ensures { IsTrue result ↔ 1 < length self.now }
+    {
+        self.points.len() - self.passed > 1
     }
 
     /// The last edge of the chain that begins at `apex`.

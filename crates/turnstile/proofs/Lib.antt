@@ -1,6 +1,6 @@
 pub mod Prefixes
-mod Sums
-mod Live
-mod Turning
-mod Parts
-mod Closing
+mod PassSums
+mod LivePasses
+mod StepRules
+mod SplitsAndJoins
+mod LastView

@@ -4,8 +4,8 @@ use Rattle.std.proofs.Common.{append_assoc, append-nil, true, false, Bool}
 use Rattle.std.proofs.Common.{if◌then◌else◌, ◌==◌, eq-eqb, ne_eqb}
 use mathlib.Core.List.{IsPrefix, append_cancel_left}
 use Rattle.admission.specs.declared.entries.Entry.{Entry}
-use Rattle.admission.specs.Makers.{Placed}
-use Rattle.admission.specs.Makers.{made_by, made_from}
+use Rattle.admission.specs.Makers.{PlacedEntry}
+use Rattle.admission.specs.Makers.{entries_by, made_from}
 
 -- each list begins with itself
 pub prefix_self : {A : Type 0} (xs : List A) → IsPrefix xs xs
@@ -28,7 +28,7 @@ prefix_shorter (x ∷ xs) (y ∷ ys) (z ∷ zs) p q le =
     let rest = prefix_shorter xs ys zs (p.0, cc (p.1)) (q.0, cc (q.1)) (omega arith) in
     (rest.0, cc (heads, rest.1))
 
-made_put : (b : Bool) (m : Placed) (xs ys : List Placed)
+made_put : (b : Bool) (m : PlacedEntry) (xs ys : List PlacedEntry)
     → (if b then (m ∷ xs) else xs) ++ ys ≡ (if b then (m ∷ (xs ++ ys)) else (xs ++ ys))
 made_put true m xs ys = refl
 made_put false m xs ys = refl
@@ -41,7 +41,7 @@ made_more maker place (x ∷ xs) ys =
     ≡ made_from (place + 1) maker xs ++ made_from (place + length (x ∷ xs)) maker ys =
     made_more maker (place + 1) xs ys ∙ ap (λ (k : ℕ). made_from (place + 1) maker xs ++ made_from k maker ys)
     (omega arith) in
-    ap (λ (zs : List Placed). if x.maker == maker then (record { place = place; entry = x } ∷ zs) else zs) rest
+    ap (λ (zs : List PlacedEntry). if x.maker == maker then (record { place = place; entry = x } ∷ zs) else zs) rest
     ∙ sym (made_put (x.maker == maker) (record { place = place; entry = x }) (made_from (place + 1) maker xs)
     (made_from (place + length (x ∷ xs)) maker ys))
 
@@ -51,30 +51,31 @@ made_tail maker place e other =
 
 -- an entry of another leaves what a maker has made
 pub made_other : (maker : ℕ) (log : List Entry) (e : Entry) → e.maker ≢ maker
-    → made_by maker (log ++ e ∷ []) ≡ made_by maker log
+    → entries_by maker (log ++ e ∷ []) ≡ entries_by maker log
 made_other maker log e other =
     made_more maker 0 log (e ∷ [])
-    ∙ (ap (λ (zs : List Placed). made_from 0 maker log ++ zs) (made_tail maker (0 + length log) e other)
-    ∙ append-nil (made_by maker log))
+    ∙ (ap (λ (zs : List PlacedEntry). made_from 0 maker log ++ zs) (made_tail maker (0 + length log) e other)
+    ∙ append-nil (entries_by maker log))
 
 -- an entry of its own is the next
 pub made_own : (maker : ℕ) (log : List Entry) (e : Entry) → e.maker ≡ maker
-    → made_by maker (log ++ e ∷ []) ≡ made_by maker log ++ record { place = length log; entry = e } ∷ []
+    → entries_by maker (log ++ e ∷ []) ≡ entries_by maker log ++ record { place = length log; entry = e } ∷ []
 made_own maker log e own =
     let last : made_from (0 + length log) maker (e ∷ []) ≡ record { place = length log; entry = e } ∷ [] =
     ap (λ (b : Bool). if b then (record { place = 0 + length log; entry = e } ∷ []) else []) (eq-eqb e.maker maker own)
-    ∙ ap (λ (k : ℕ). let m : Placed = record { place = k; entry = e } in m ∷ []) (omega arith) in
-    made_more maker 0 log (e ∷ []) ∙ ap (λ (zs : List Placed). made_from 0 maker log ++ zs) last
+    ∙ ap (λ (k : ℕ). let m : PlacedEntry = record { place = k; entry = e } in m ∷ []) (omega arith) in
+    made_more maker 0 log (e ∷ []) ∙ ap (λ (zs : List PlacedEntry). made_from 0 maker log ++ zs) last
 
 nothing_first : {A : Type 0} (xs ys : List A) → xs ++ ys ≡ [] → xs ≡ []
 nothing_first [] ys e = refl
 nothing_first (x ∷ xs) ys e = absurd cc
 
 -- who has made nothing has made nothing in a beginning
-pub made_nothing : (maker : ℕ) (xs log : List Entry) → IsPrefix xs log → made_by maker log ≡ [] → made_by maker xs ≡ []
+pub made_nothing : (maker : ℕ) (xs log : List Entry) → IsPrefix xs log → entries_by maker log ≡ [] → entries_by maker xs
+    ≡ []
 made_nothing maker xs log p none =
-    nothing_first (made_by maker xs) (made_from (0 + length xs) maker p.0)
-    (sym (made_more maker 0 xs p.0) ∙ (ap (made_by maker) p.1 ∙ none))
+    nothing_first (entries_by maker xs) (made_from (0 + length xs) maker p.0)
+    (sym (made_more maker 0 xs p.0) ∙ (ap (entries_by maker) p.1 ∙ none))
 
 no_more : {A : Type 0} (xs ys : List A) → xs ++ ys ≡ xs → ys ≡ []
 no_more xs ys e = append_cancel_left xs ys [] (e ∙ sym (append-nil xs))
@@ -85,13 +86,16 @@ nothing_last (x ∷ xs) ys e = absurd cc
 
 -- who has made as much at the end as at the beginning has made that much in between
 pub made_between : {ys log : List Entry} (maker : ℕ) (xs : List Entry) → IsPrefix xs ys → IsPrefix ys log
-    → made_by maker xs ≡ made_by maker log → made_by maker ys ≡ made_by maker log
+    → entries_by maker xs ≡ entries_by maker log → entries_by maker ys ≡ entries_by maker log
 made_between {ys} {log} maker xs p q same =
-    let a : List Placed = made_from (0 + length xs) maker p.0 in
-    let b : List Placed = made_from (0 + length ys) maker q.0 in
-    let mid : made_by maker ys ≡ made_by maker xs ++ a = ap (made_by maker) (sym p.1) ∙ made_more maker 0 xs p.0 in
-    let end : made_by maker log ≡ made_by maker ys ++ b = ap (made_by maker) (sym q.1) ∙ made_more maker 0 ys q.0 in
-    let both : made_by maker xs ++ (a ++ b) ≡ made_by maker xs =
-    sym (append_assoc (made_by maker xs) a b) ∙ (ap (λ (zs : List Placed). zs ++ b) (sym mid) ∙ (sym end ∙ sym same)) in
-    let none : b ≡ [] = nothing_last a b (no_more (made_by maker xs) (a ++ b) both) in
-    sym (end ∙ (ap (λ (zs : List Placed). made_by maker ys ++ zs) none ∙ append-nil (made_by maker ys)))
+    let a : List PlacedEntry = made_from (0 + length xs) maker p.0 in
+    let b : List PlacedEntry = made_from (0 + length ys) maker q.0 in
+    let mid : entries_by maker ys ≡ entries_by maker xs ++ a = ap (entries_by maker) (sym p.1) ∙ made_more maker 0 xs
+    p.0 in
+    let end : entries_by maker log ≡ entries_by maker ys ++ b = ap (entries_by maker) (sym q.1) ∙ made_more maker 0 ys
+    q.0 in
+    let both : entries_by maker xs ++ (a ++ b) ≡ entries_by maker xs =
+    sym (append_assoc (entries_by maker xs) a b) ∙ (ap (λ (zs : List PlacedEntry). zs ++ b) (sym mid) ∙ (sym end ∙ sym
+    same)) in
+    let none : b ≡ [] = nothing_last a b (no_more (entries_by maker xs) (a ++ b) both) in
+    sym (end ∙ (ap (λ (zs : List PlacedEntry). entries_by maker ys ++ zs) none ∙ append-nil (entries_by maker ys)))

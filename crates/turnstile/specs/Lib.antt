@@ -1,7 +1,7 @@
-pub mod Turns
+pub mod TurnRule
 pub mod Steps
 pub mod Passes
 pub mod Inside
-pub mod Taken
-pub mod Sized
-pub mod Lending
+pub mod PassSeats
+pub mod TableSeats
+pub mod TurnValues

@@ -5,9 +5,9 @@ use mathlib.Core.List.{IsPrefix}
 use Rattle.atomic_table.specs.Seated.{TableId}
 use Rattle.admission.specs.declared.entries.Entry.{Entry}
 use Rattle.turnstile.specs.declared.view.Joined.{Joined}
-use Rattle.admission.specs.Makers.{Placed}
+use Rattle.admission.specs.Makers.{PlacedEntry}
 use Rattle.turnstile.specs.declared.view.Terms.{Terms}
-use Rattle.admission.specs.Makers.{made_by}
+use Rattle.admission.specs.Makers.{entries_by}
 
 -- which turnstile it is, and what stays of the kept value
 pub record TurnstileState : Type 0 where
@@ -23,7 +23,7 @@ pub record PassState : Type 0 where
   pub number : ℕ
   pub terms : Terms
   pub seen : List Entry
-  pub mine : List Placed
+  pub mine : List PlacedEntry
   pub splits : ℕ
   pub joined : List Joined
 
@@ -85,8 +85,8 @@ pub record TurnState (B : Type 0) : Type 0 where
 -- each entry in it is of the first pass or of one that was joined, as they know it.
 pub record IsWholeList (pass : PassState) (list : List Entry) : Type 0 where
   pub seen : IsPrefix pass.seen list
-  pub mine : pass.mine ≡ made_by pass.number list
+  pub mine : pass.mine ≡ entries_by pass.number list
   pub joined : (i : ℕ) (none : Joined) → i < length pass.joined →
       (slice_index_or pass.joined i none).mine ≡
-      made_by (slice_index_or pass.joined i none).number list
-  pub others : (maker : ℕ) → pass.splits < maker → made_by maker list ≡ []
+      entries_by (slice_index_or pass.joined i none).number list
+  pub others : (maker : ℕ) → pass.splits < maker → entries_by maker list ≡ []

@@ -9,7 +9,7 @@ use Rattle.turnstile.specs.declared.view.Stage.{Stage}
 use Rattle.turnstile.specs.declared.view.Stage.TheVariants.{Idle, Waits, Holds}
 use Rattle.turnstile.specs.declared.view.Terms.{Terms}
 use Rattle.turnstile.specs.declared.view.View.{View}
-use Rattle.admission.specs.Makers.{made_by}
+use Rattle.admission.specs.Makers.{entries_by}
 use Rattle.turnstile.specs.Passes.{longer_list}
 
 abbrev pub shorter_list : List Entry → List Entry → List Entry
@@ -44,8 +44,8 @@ view_after_split v = record v { splits = v.splits + 1 }
 abbrev pub split_view : View → View
 split_view v = record (first_view v.terms) { number = v.splits + 1; seen = v.seen }
 
-abbrev pub past_of : View → Joined
-past_of w = record { number = w.number; mine = w.mine }
+abbrev pub joined_record : View → Joined
+joined_record w = record { number = w.number; mine = w.mine }
 
 -- a pass after another was joined to it
 abbrev pub view_after_join : View → View → View
@@ -53,7 +53,7 @@ view_after_join v w = record v {
   seen = longer_list v.seen w.seen;
   told = shorter_list v.seen w.seen;
   told_terms = w.terms;
-  joined = v.joined ++ past_of w ∷ w.joined;
+  joined = v.joined ++ joined_record w ∷ w.joined;
 }
 
 abbrev pub no_terms : Terms
@@ -65,7 +65,7 @@ spent_view = record (first_view no_terms) { spent = true }
 
 -- a pass that reads what it knows
 pub record Knows (v : View) : Type 0 where
-  pub own : v.mine ≡ made_by v.number v.seen
+  pub own : v.mine ≡ entries_by v.number v.seen
   pub told : IsPrefix v.told v.seen
   pub terms : v.told_terms ≡ v.terms
 
@@ -78,7 +78,7 @@ module _ {B : Type 0} (entries : B → List Entry) (terms_of : B → Terms) wher
     pub slot : next.1 ≡ (0, Some value) ∷ []
     pub terms : terms_of value ≡ me.0.terms
     pub longer : IsPrefix me.0.seen (entries value)
-    pub own : me.0.mine ≡ made_by me.0.number (entries value)
+    pub own : me.0.mine ≡ entries_by me.0.number (entries value)
 
 module _ {B : Type 0} (entries : B → List Entry) where
   abbrev pub value_list : Option B → List Entry
@@ -125,7 +125,7 @@ module _ {B : Type 0} (entries : B → List Entry) where
   after_counting me = (
     record me.0 {
       seen = slot_list entries me.1;
-      mine = made_by me.0.number (slot_list entries me.1);
+      mine = entries_by me.0.number (slot_list entries me.1);
     },
     me.1,
   )

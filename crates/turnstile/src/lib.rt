@@ -2,18 +2,18 @@
 //! drew their tickets.
 #![tactic(auto)]
 
-mod bells;
-mod kept;
+mod acquire;
+mod kept_value;
 mod pass;
-mod splits;
+mod split_rules;
 mod steps;
 mod table;
-mod taking;
 mod turn;
 mod turnstile;
 mod view;
+mod wakers;
 
-pub use kept::KeptValue;
+pub use kept_value::Kept;
 pub use pass::Pass;
 pub use turn::Turn;
 pub use turnstile::Turnstile;

@@ -1,8 +1,8 @@
 //! A pass.
 
 ghost use Rattle.std.specs.Prelude.{◌≡◌, false, true};
-ghost use Rattle.turnstile.specs.Sized.{IsFree};
-ghost use Rattle.turnstile.specs.Taken.{IsViewOf, stands_as};
+ghost use Rattle.turnstile.specs.TableSeats.{IsFree};
+ghost use Rattle.turnstile.specs.PassSeats.{IsViewOf, state_of_view};
 
 use crate::table::Place;
 use crate::view::View;
@@ -53,7 +53,7 @@ impl Pass {
     pub(crate) fn at_rest<B>(place: Place<B>, number: u32, splits: u32) -> Pass
         requires free { IsFree place.me }
         requires view { IsViewOf number splits place.me.0 }
-        ensures { result ≡ stands_as place.table_id place.me.0 }
+        ensures { result ≡ state_of_view place.table_id place.me.0 }
     {
         Pass {
             badge: place.into_badge(),
@@ -67,7 +67,7 @@ impl Pass {
         requires { self.old.has_turn ≡ false }
         ensures free { IsFree result.me }
         ensures view { IsViewOf self.old.number self.old.splits result.me.0 }
-        ensures old { self.old ≡ stands_as result.table_id result.me.0 }
+        ensures old { self.old ≡ state_of_view result.table_id result.me.0 }
         ensures away { self.new.has_turn ≡ true }
         ensures number { self.new.number ≡ self.old.number }
         ensures splits { self.new.splits ≡ self.old.splits }

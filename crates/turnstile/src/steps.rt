@@ -3,12 +3,12 @@
 ghost use Rattle.std.specs.Prelude.{◌≡◌, ◌++◌, [], ◌∷◌, Some, false, true};
 ghost use Rattle.admission.specs.declared.entries.Entry.{Entry};
 ghost use Rattle.turnstile.specs.declared.view.Stage.TheVariants.{Idle};
-ghost use Rattle.admission.specs.Makers.{made_by};
-ghost use Rattle.turnstile.specs.Sized.{IsSame, IsSeated, IsFree};
+ghost use Rattle.admission.specs.Makers.{entries_by};
+ghost use Rattle.turnstile.specs.TableSeats.{IsSame, IsSeated, IsFree};
 ghost use Rattle.turnstile.specs.Steps.{HasDrawn, HasLeft, HasLooked, HasCounted, HasRead, IsTurn};
 ghost use Rattle.turnstile.specs.Steps.{IsWaiting, Knows, after_counting, slot_list};
 
-use crate::kept::KeptValue;
+use crate::kept_value::Kept;
 use crate::table::{ENTRIES, Place, SERVING, SharedTable, TICKETS};
 use crate::view::View;
 use atomic_table::Play;
@@ -26,7 +26,7 @@ pub(crate) struct Looks<B> {
     marker: PhantomData<B>,
 }
 
-impl<B: KeptValue> Play<Option<B>, View> for Looks<B> {
+impl<B: Kept> Play<Option<B>, View> for Looks<B> {
     ghost then = { λ _. HasLooked B.entries B.terms };
 }
 
@@ -35,7 +35,7 @@ pub(crate) struct Counts<B> {
     marker: PhantomData<B>,
 }
 
-impl<B: KeptValue> Play<Option<B>, View> for Counts<B> {
+impl<B: Kept> Play<Option<B>, View> for Counts<B> {
     ghost then = { λ _. HasCounted B.entries };
 }
 
@@ -54,7 +54,7 @@ impl<B> Play<Option<B>, View> for Reads {
 }
 
 /// Draws a ticket.
-pub(crate) fn draw<B: KeptValue>(shared: &SharedTable<B>, place: &mut Place<B>) -> u64
+pub(crate) fn draw<B: Kept>(shared: &SharedTable<B>, place: &mut Place<B>) -> u64
     requires seat { IsSeated shared.now.table_id place.old }
     requires free { IsFree place.old.me }
     ensures same { IsSame place.old place.new }
@@ -65,7 +65,7 @@ pub(crate) fn draw<B: KeptValue>(shared: &SharedTable<B>, place: &mut Place<B>) 
 
 /// Looks whose turn it is: where it is that of this pass's ticket, the pass has the turn and the
 /// slot.
-pub(crate) fn look<B: KeptValue>(shared: &SharedTable<B>, place: &mut Place<B>, ticket: u64) -> u64
+pub(crate) fn look<B: Kept>(shared: &SharedTable<B>, place: &mut Place<B>, ticket: u64) -> u64
     requires seat { IsSeated shared.now.table_id place.old }
     requires waits { IsWaiting place.old.me ticket }
     ensures same { IsSame place.old place.new }
@@ -75,7 +75,7 @@ pub(crate) fn look<B: KeptValue>(shared: &SharedTable<B>, place: &mut Place<B>, 
 }
 
 /// Counts the entry that the value in the slot has more.
-pub(crate) fn count_entry<B: KeptValue>(shared: &SharedTable<B>, place: &mut Place<B>)
+pub(crate) fn count_entry<B: Kept>(shared: &SharedTable<B>, place: &mut Place<B>)
     requires seat { IsSeated shared.now.table_id place.old }
     requires turn { (value : B) × IsTurn place.old.me (Some value) }
     requires one { (e : Entry)
@@ -88,7 +88,7 @@ pub(crate) fn count_entry<B: KeptValue>(shared: &SharedTable<B>, place: &mut Pla
 }
 
 /// Gives the slot back, and the turn to the next ticket. Answers the ticket whose turn it was.
-pub(crate) fn give_back<B: KeptValue>(shared: &SharedTable<B>, place: &mut Place<B>) -> u64
+pub(crate) fn give_back<B: Kept>(shared: &SharedTable<B>, place: &mut Place<B>) -> u64
     requires seat { IsSeated shared.now.table_id place.old }
     requires turn { (value : B) × IsTurn place.old.me (Some value)
         × (B.entries value ≡ place.old.me.0.seen) × (B.terms value ≡ place.old.me.0.terms) }
@@ -100,7 +100,7 @@ pub(crate) fn give_back<B: KeptValue>(shared: &SharedTable<B>, place: &mut Place
 }
 
 /// Reads a word, which tells what the pass knows and changes nothing.
-pub(crate) fn read_view<B: KeptValue>(shared: &SharedTable<B>, place: &mut Place<B>)
+pub(crate) fn read_view<B: Kept>(shared: &SharedTable<B>, place: &mut Place<B>)
     requires seat { IsSeated shared.now.table_id place.old }
     requires left { place.old.me.0.spent ≡ false }
     ensures same { IsSame place.old place.new }
@@ -110,14 +110,10 @@ pub(crate) fn read_view<B: KeptValue>(shared: &SharedTable<B>, place: &mut Place
 }
 
 /// Counts the entry that the value in the slot has more, if it has one.
-pub(crate) fn count_if_grown<B: KeptValue>(
-    shared: &SharedTable<B>,
-    place: &mut Place<B>,
-    grown: bool,
-)
+pub(crate) fn count_if_grown<B: Kept>(shared: &SharedTable<B>, place: &mut Place<B>, grown: bool)
     requires seat { IsSeated shared.now.table_id place.old }
     requires turn { (value : B) × IsTurn place.old.me (Some value) }
-    requires own { place.old.me.0.mine ≡ made_by place.old.me.0.number place.old.me.0.seen }
+    requires own { place.old.me.0.mine ≡ entries_by place.old.me.0.number place.old.me.0.seen }
     requires one { grown ≡ true → (e : Entry)
         × (slot_list B.entries place.old.me.1 ≡ place.old.me.0.seen ++ e ∷ [])
         × (e.maker ≡ place.old.me.0.number) }

@@ -1,6 +1,6 @@
 //! The table of the turn: the words tickets, serving and entries, and one slot for the value.
 
-use crate::kept::KeptValue;
+use crate::kept_value::Kept;
 use crate::view::View;
 use atomic_table::{Join, Play, Seat, Shared, Split, Table, TableRule};
 use std::alloc::Global;
@@ -24,8 +24,8 @@ pub(crate) struct Turns<B> {
     marker: PhantomData<B>,
 }
 
-impl<B: KeptValue> TableRule<Option<B>, View, Snapshot<B>> for Turns<B> {
-    ghost use Rattle.turnstile.specs.Turns.{IsRuled};
+impl<B: Kept> TableRule<Option<B>, View, Snapshot<B>> for Turns<B> {
+    ghost use Rattle.turnstile.specs.TurnRule.{IsRuled};
     ghost use Rattle.turnstile.specs.Steps.{first_view};
 
     ghost holds = { λ key. IsRuled B.entries B.terms (B.terms key.value) };

@@ -29,7 +29,7 @@ impl Model for Log {
     ghost view = { λ l. l.entries.items };
 }
 
-impl KeptValue for Log {
+impl Kept for Log {
     ghost entries = { λ l. l };
 
     ghost terms = { λ _. record { steps = []; limit = 0 } };

@@ -2,18 +2,18 @@
 
 ghost use Rattle.std.specs.Prelude.{◌≡◌, ◌≢◌, ◌+◌, ◌^◌, ◌<◌, [], ◌∷◌, ◌++◌, IfOk, true, false};
 ghost use mathlib.Core.List.{IsPrefix};
-ghost use Rattle.admission.specs.Makers.{made_by};
+ghost use Rattle.admission.specs.Makers.{entries_by};
 ghost use Rattle.turnstile.specs.Passes.{AllJoined, IsWholeList, MayLeave, after_join, after_split};
 ghost use Rattle.turnstile.specs.Passes.{first_pass, new_pass};
 
-use crate::bells::Bells;
-use crate::kept::KeptValue;
+use crate::acquire::take;
+use crate::kept_value::Kept;
 use crate::pass::Pass;
-use crate::splits::{Joins, Splits};
+use crate::split_rules::{Joins, Splits};
 use crate::steps::read_view;
 use crate::table::{Board, VALUE};
-use crate::taking::take;
 use crate::turn::Turn;
+use crate::wakers::Wakers;
 use atomic_table::Table;
 use std::alloc::Global;
 use std::marker::Model;
@@ -26,17 +26,17 @@ use vod_base::NoMemory;
 ///
 /// Contracts see which turnstile it is, and what stays of the value.
 #[derive(Drop)]
-pub struct Turnstile<B: KeptValue> {
+pub struct Turnstile<B: Kept> {
     table: Board<B>,
-    bells: Bells,
+    wakers: Wakers,
 }
 
-impl<B: KeptValue> Model for Turnstile<B> {
+impl<B: Kept> Model for Turnstile<B> {
     ghost use Rattle.turnstile.specs.Passes.{TurnstileState};
 
     ghost Value = { TurnstileState };
 
-    ghost use Rattle.turnstile.specs.Sized.{IsSized};
+    ghost use Rattle.turnstile.specs.TableSeats.{IsSized};
 
     ghost view = { λ t. record {
       id = t.table.shared.table_id;
@@ -46,7 +46,7 @@ impl<B: KeptValue> Model for Turnstile<B> {
     ghost invariant = { λ t. IsSized t.table.shared.table_id };
 }
 
-impl<B: KeptValue> Turnstile<B> {
+impl<B: Kept> Turnstile<B> {
     /// A turnstile round a value whose list is empty, and its first pass.
     ///
     /// # Errors
@@ -67,7 +67,7 @@ impl<B: KeptValue> Turnstile<B> {
         };
         let turnstile = Turnstile {
             table,
-            bells: Bells::new(),
+            wakers: Wakers::new(),
         };
         Ok((turnstile, Pass::at_rest(seat, 0, 0)))
     }
@@ -81,11 +81,11 @@ impl<B: KeptValue> Turnstile<B> {
         ensures splits { pass.new.splits ≡ pass.old.splits }
         ensures pass { result.pass ≡ record pass.old { seen = B.entries result.value } }
         ensures longer { IsPrefix pass.old.seen (B.entries result.value) }
-        ensures own { pass.old.mine ≡ made_by pass.old.number (B.entries result.value) }
+        ensures own { pass.old.mine ≡ entries_by pass.old.number (B.entries result.value) }
         ensures terms { B.terms result.value ≡ pass.old.terms }
     {
         let place = pass.take_seat();
-        take(rt, &self.table.shared, &self.bells, place)
+        take(rt, &self.table.shared, &self.wakers, place)
     }
 
     /// Gives the value back, and the turn to the next ticket, whose pass it wakes. The list is as
@@ -99,10 +99,10 @@ impl<B: KeptValue> Turnstile<B> {
         requires terms { B.terms turn.value ≡ turn.pass.terms }
         ensures { pass.new ≡ record turn.pass {
           seen = B.entries turn.value;
-          mine = made_by turn.pass.number (B.entries turn.value);
+          mine = entries_by turn.pass.number (B.entries turn.value);
         } }
     {
-        let place = turn.end(&self.table.shared, &self.bells);
+        let place = turn.end(&self.table.shared, &self.wakers);
         *pass = Pass::at_rest(place, pass.number(), pass.splits());
     }
 
@@ -114,7 +114,7 @@ impl<B: KeptValue> Turnstile<B> {
         requires few { pass.old.splits + 1 < 2 ^ 32 }
         ensures same { pass.new ≡ after_split pass.old }
         ensures new { result ≡ new_pass pass.old }
-        ensures none { made_by result.number result.seen ≡ [] }
+        ensures none { entries_by result.number result.seen ≡ [] }
     {
         let mut place = pass.take_seat();
         let mut other = self.table.shared.split_seat::<Splits>(&mut place);
@@ -134,7 +134,7 @@ impl<B: KeptValue> Turnstile<B> {
         ensures pass { pass.new ≡ after_join pass.old other }
         ensures longer { IsPrefix pass.old.seen pass.new.seen }
         ensures told { IsPrefix other.seen pass.new.seen }
-        ensures own { pass.new.mine ≡ made_by pass.new.number pass.new.seen }
+        ensures own { pass.new.mine ≡ entries_by pass.new.number pass.new.seen }
         ensures terms { other.terms ≡ pass.old.terms }
     {
         let mut place = pass.take_seat();
@@ -153,7 +153,7 @@ impl<B: KeptValue> Turnstile<B> {
         ensures whole { IsWholeList pass (B.entries result) }
         ensures terms { B.terms result ≡ pass.terms }
     {
-        let Turnstile { table, bells: _ } = self;
+        let Turnstile { table, wakers: _ } = self;
         let mut closed = table.close_with(pass.take_seat());
         let slot = closed.take(VALUE);
         closed.free();

@@ -1,7 +1,7 @@
 //! What a pass knows.
 
 use admission::Entry;
-use slot_calendar::CapacityStep;
+use slot_calendar::CapStep;
 use std::collections::LinkedList;
 use std::marker::Model;
 
@@ -9,7 +9,7 @@ use std::marker::Model;
 /// it is made.
 pub struct Terms {
     /// The steps of the capacity.
-    pub steps: LinkedList<CapacityStep>,
+    pub steps: LinkedList<CapStep>,
     /// The most entries.
     pub limit: u64,
 }
@@ -21,9 +21,9 @@ pub struct OwnEntry {
 }
 
 impl Model for OwnEntry {
-    ghost use Rattle.admission.specs.Makers.{Placed};
+    ghost use Rattle.admission.specs.Makers.{PlacedEntry};
 
-    ghost Value = { Placed };
+    ghost Value = { PlacedEntry };
 
     ghost view = { λ m. record { place = m.place; entry = m.entry } };
 }

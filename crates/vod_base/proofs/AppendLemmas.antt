@@ -1,14 +1,16 @@
 -- Texts that are appended one after the other.
-use Rattle.std.proofs.Common.{ℕ, ◌≡◌, List, [], ◌++◌, Result, Ok, Err, OnOk, OnErr, IsErr, append_assoc, append-nil, refl, sym, ap, subst, ◌∙◌}
+use Rattle.std.proofs.Common.{ℕ, ◌≡◌, List, [], ◌++◌, Result, Ok, Err, OnOk, OnErr, IsErr, append_assoc, append-nil}
+use Rattle.std.proofs.Common.{refl, sym, ap, subst, ◌∙◌}
 use Rattle.std.proofs.lemmas.Bool.{false≢true}
-use Rattle.vod_base.specs.declared.outside.NoMemory.{NoMemory}
-use Rattle.vod_base.specs.Appends.{HasFrontOf, IsAppended}
+use Rattle.vod_base.specs.declared.errors.NoMemory.{NoMemory}
+use Rattle.vod_base.specs.Appends.{HasPrefixOf, IsAppended}
 
 abbrev Answer : Type 0
 Answer = Result (Unit {0}) NoMemory
 
 -- a front of the first text is a front of both
-front_of_first : (before text next after : List ℕ) → HasFrontOf before text after → HasFrontOf before (text ++ next) after
+front_of_first : (before text next after : List ℕ) → HasPrefixOf before text after → HasPrefixOf before (text ++ next)
+    after
 front_of_first before text next after cut = record {
   front = cut.front;
   rest = cut.rest ++ next;
@@ -18,7 +20,7 @@ front_of_first before text next after cut = record {
 
 -- after the whole first text, a front of the second one
 front_of_second : {before next mid after : List ℕ} (text : List ℕ) → mid ≡ before ++ text
-    → HasFrontOf mid next after → HasFrontOf before (text ++ next) after
+    → HasPrefixOf mid next after → HasPrefixOf before (text ++ next) after
 front_of_second {before} {next} text whole cut = record {
   front = text ++ cut.front;
   rest = cut.rest;
@@ -62,7 +64,8 @@ same_text : {before text whole after : List ℕ} {r : Answer} → text ≡ whole
 same_text {before} {text} {whole} {after} {r} same done = subst (λ (l : List ℕ). IsAppended before l after r) same done
 
 -- without memory, nothing of a text was appended
-pub none_appended : {before text after : List ℕ} (r : Answer) → IsErr r → after ≡ before → IsAppended before text after r
+pub none_appended : {before text after : List ℕ} (r : Answer) → IsErr r → after ≡ before → IsAppended before text after
+    r
 none_appended (Ok done) none kept = absurd (false≢true none)
 none_appended {before} {text} (Err e) none kept = record {
   whole = tt;

@@ -1,9 +1,11 @@
 -- Looking for a file by its name, from the front on.
-use Rattle.std.proofs.Common.{◌≡◌, ℕ, suc, ◌+◌, ◌<◌, ◌≤◌, List, length, map, drop, get_or, Some, None, if◌then◌else◌, true, false, refl, subst, sym, ap, ◌∙◌, add-one, drop-cons, String, Vec, Global, string_bytes}
+use Rattle.std.proofs.Common.{◌≡◌, ℕ, suc, ◌+◌, ◌<◌, ◌≤◌, List, length, map, drop, get_or, Some, None, if◌then◌else◌}
+use Rattle.std.proofs.Common.{true, false, refl, subst, sym, ap, ◌∙◌, add-one, drop-cons, String, Vec, Global}
+use Rattle.std.proofs.Common.{string_bytes}
 use Rattle.std.proofs.Math.ListN.{get_or-map}
 use Rattle.std.proofs.lemmas.List.{length-map, drop_all}
 use Rattle.std.specs.Str.{bytes_eq}
-use Rattle.vod_base.specs.Outside.{File, file_named}
+use Rattle.vod_base.specs.IoState.{File, file_named}
 
 -- a name and bytes as a file
 abbrev pub file_of : String Global × Vec ℕ Global → File

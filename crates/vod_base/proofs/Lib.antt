@@ -1,11 +1,11 @@
 pub mod AppendLemmas
-pub mod Digits
+pub mod DigitLemmas
 mod FileSearch
-pub mod FirstBytes
-mod Giving
-mod HandingOut
-mod LineText
-mod Noting
-pub mod Sums
-pub mod Telling
-pub mod Written
+pub mod SplitLemmas
+mod PartLinkLemmas
+mod EventDelivery
+mod LineLemmas
+mod LinkLogLemmas
+pub mod PrefixSums
+pub mod HistoryLemmas
+pub mod TextLemmas

@@ -1,9 +1,9 @@
 -- What an append leaves.
 use Rattle.std.specs.Prelude.{ℕ, ◌≡◌, List, ◌++◌, Result, OnOk, OnErr}
-use Rattle.vod_base.specs.declared.outside.NoMemory.{NoMemory}
+use Rattle.vod_base.specs.declared.errors.NoMemory.{NoMemory}
 
 -- after what stood before stands the beginning of a text, and no more
-pub record HasFrontOf (before text after : List ℕ) : Type 0 where
+pub record HasPrefixOf (before text after : List ℕ) : Type 0 where
   pub front : List ℕ
   pub rest : List ℕ
   pub text_is : text ≡ front ++ rest
@@ -13,4 +13,4 @@ pub record HasFrontOf (before text after : List ℕ) : Type 0 where
 pub record IsAppended (before text after : List ℕ) (result : Result (Unit {0}) NoMemory)
     : Type 0 where
   pub whole : OnOk result (after ≡ before ++ text)
-  pub cut : OnErr result (HasFrontOf before text after)
+  pub cut : OnErr result (HasPrefixOf before text after)

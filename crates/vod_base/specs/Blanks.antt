@@ -8,13 +8,13 @@ abbrev pub is_blank : ℕ → Bool
 is_blank c = c == 32 || c == 9
 
 -- a text without the blanks in front
-abbrev pub without_front_blanks : List ℕ → List ℕ
-without_front_blanks [] = []
-without_front_blanks (c ∷ cs) = if is_blank c then without_front_blanks cs else c ∷ cs
+abbrev pub without_leading_blanks : List ℕ → List ℕ
+without_leading_blanks [] = []
+without_leading_blanks (c ∷ cs) = if is_blank c then without_leading_blanks cs else c ∷ cs
 
 -- a text without the blanks around it
 abbrev pub without_blanks : List ℕ → List ℕ
-without_blanks text = reverse (without_front_blanks (reverse (without_front_blanks text)))
+without_blanks text = reverse (without_leading_blanks (reverse (without_leading_blanks text)))
 
 -- a text is this bare one with blanks around it, or none; the bare one neither begins nor ends with
 -- a blank

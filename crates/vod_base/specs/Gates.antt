@@ -2,14 +2,14 @@
 -- and that came back.
 use Rattle.std.specs.Prelude.{◌≡◌, ℕ, ◌+◌, ◌<◌, List, [], ◌∷◌, ◌++◌, length, slice_index_or}
 use Rattle.std.specs.Prelude.{slice_set, Option, Some, None, IsSome}
-use Rattle.vod_base.specs.Outside.{one_more}
-use Rattle.vod_base.specs.Links.{Doing}
+use Rattle.vod_base.specs.IoState.{one_more}
+use Rattle.vod_base.specs.Links.{IoEvent}
 use Rattle.vod_base.specs.declared.gates.Opening.{Opening}
 
 -- a connection that was given back: its count of faults, and what it told
-pub record Returned : Type 0 where
+pub record ReturnedConn : Type 0 where
   pub faults : ℕ
-  pub told : Option (List Doing)
+  pub told : Option (List IoEvent)
 
 -- what the last `take` answered: there was none yet, it gave a connection, there were no more, or
 -- it failed
@@ -24,7 +24,7 @@ pub data LastTake : Type 0 where
 pub record Part : Type 0 where
   pub number : ℕ
   pub given : ℕ
-  pub back : List Returned
+  pub back : List ReturnedConn
   pub last : LastTake
 
 -- a gate: how often `open` was called, whether it opened the gate or failed, where the count stays
@@ -44,12 +44,12 @@ abbrev pub MaySplit : Content → Type 0
 MaySplit c = IsOpen c × (length c.parts < 256)
 
 -- the part of that number was split since the gate was opened, and isn't back yet
-abbrev pub IsOut : ℕ → Content → Type 0
-IsOut number c = (number < length c.parts) × (slice_index_or c.parts number None ≡ None)
+abbrev pub IsPartOut : ℕ → Content → Type 0
+IsPartOut number c = (number < length c.parts) × (slice_index_or c.parts number None ≡ None)
 
 -- a connection is out: fewer were given back than `take` gave
-abbrev pub HasOut : Content → Type 0
-HasOut c = length c.own.back < c.own.given
+abbrev pub HasConnOut : Content → Type 0
+HasConnOut c = length c.own.back < c.own.given
 
 -- a part that nothing was taken from
 abbrev pub fresh_part : ℕ → Part
@@ -80,7 +80,7 @@ abbrev pub after_empty_take : LastTake → Content → Content
 after_empty_take last c = record c { own = record c.own { last = last } }
 
 -- after a connection came back
-abbrev pub after_return : Returned → Content → Content
+abbrev pub after_return : ReturnedConn → Content → Content
 after_return conn c = record c { own = record c.own { back = c.own.back ++ (conn ∷ []) } }
 
 -- after a part came back

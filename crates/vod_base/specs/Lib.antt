@@ -10,5 +10,5 @@ pub mod MemoryGates
 pub mod MemoryLinks
 pub mod Names
 pub mod Numbers
-pub mod Outside
+pub mod IoState
 pub mod Splits

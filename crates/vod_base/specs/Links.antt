@@ -1,22 +1,22 @@
 -- What a connection does, as contracts see it: events that are heard, and bytes that are sent, in
 -- one order.
 use Rattle.std.specs.Prelude.{◌≡◌, ℕ, ◌≤◌, ⊤, List, length, take, map, Option}
-pub use Rattle.vod_base.specs.Outside.{told_more}
+pub use Rattle.vod_base.specs.IoState.{told_more}
 use Rattle.vod_base.specs.declared.links.Heard.{Heard}
 use Rattle.vod_base.specs.declared.links.Heard.TheVariants.{Bytes, Slot, End}
 
 -- bytes were heard, a slot began, or the peer ended, each one event; or one byte was sent
-pub data Doing : Type 0 where
-  HeardBytes : List ℕ → Doing
-  HeardSlot : ℕ → Doing
-  HeardEnd : Doing
-  Sent : ℕ → Doing
+pub data IoEvent : Type 0 where
+  HeardBytes : List ℕ → IoEvent
+  HeardSlot : ℕ → IoEvent
+  HeardEnd : IoEvent
+  Sent : ℕ → IoEvent
 
 -- an answer of `next` as a doing, where `into` has the bytes that came in front
-abbrev pub doing_of : Heard → List ℕ → Doing
-doing_of (Bytes n) into = HeardBytes (take n into)
-doing_of (Slot t) into = HeardSlot t
-doing_of End into = HeardEnd
+abbrev pub io_event_of : Heard → List ℕ → IoEvent
+io_event_of (Bytes n) into = HeardBytes (take n into)
+io_event_of (Slot t) into = HeardSlot t
+io_event_of End into = HeardEnd
 
 -- bytes that came are at least one, and fit
 abbrev pub IsWithin : Heard → ℕ → Type 0
@@ -25,10 +25,10 @@ IsWithin (Slot t) room = ⊤
 IsWithin End room = ⊤
 
 -- the bytes as sent, one doing each
-abbrev pub sends : List ℕ → List Doing
+abbrev pub sends : List ℕ → List IoEvent
 sends bytes = map Sent bytes
 
 -- what was told, with a front of these bytes sent after it
-abbrev pub IsFrontTold : Option (List Doing) → Option (List Doing) → List ℕ → Type 0
-IsFrontTold old new bytes = (n : ℕ)
+abbrev pub IsSentPrefix : Option (List IoEvent) → Option (List IoEvent) → List ℕ → Type 0
+IsSentPrefix old new bytes = (n : ℕ)
     × ((n ≤ length bytes) × (new ≡ told_more old (sends (take n bytes))))

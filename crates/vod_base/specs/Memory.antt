@@ -2,7 +2,7 @@
 -- 1, over all calls of the object.
 use Rattle.std.specs.Prelude.{ℕ, Bool, ◌==◌, if◌then◌else◌, List}
 use Rattle.std.specs.List.{list_any}
-use Rattle.vod_base.specs.Outside.{File, one_more}
+use Rattle.vod_base.specs.IoState.{File, one_more}
 
 -- whether the call of that number is to fail
 abbrev pub fails : List ℕ → ℕ → Bool

@@ -1,31 +1,32 @@
 -- A gate in memory as contracts see it.
 use Rattle.std.specs.Prelude.{ℕ, Bool, true, List, [], ◌∷◌, map, drop, slice_index_or}
 use Rattle.std.specs.Prelude.{Option, Some, None}
-use Rattle.vod_base.specs.Outside.{one_more}
+use Rattle.vod_base.specs.IoState.{one_more}
 use Rattle.vod_base.specs.MemoryLinks.{LinkState}
-use Rattle.vod_base.specs.Gates.{LastTake, NoneYet, Gave, NoMore, Failed, Returned, Part, Content}
+use Rattle.vod_base.specs.Gates.{LastTake, NoneYet, Gave, NoMore, Failed, ReturnedConn, Part}
+use Rattle.vod_base.specs.Gates.{Content}
 use Rattle.vod_base.specs.Gates.{new_part}
 use Rattle.vod_base.specs.declared.memory_gates.MemoryPart.{MemoryPart}
-use Rattle.vod_base.specs.declared.shares.Last.{Last}
-use Rattle.vod_base.specs.declared.shares.Last.TheVariants.{Nothing, Link, NoLink, Fault}
-use Rattle.vod_base.specs.declared.shares.Share.{Share}
+use Rattle.vod_base.specs.declared.part_links.TakeResult.{TakeResult}
+use Rattle.vod_base.specs.declared.part_links.TakeResult.TheVariants.{Nothing, Link, NoLink, Fault}
+use Rattle.vod_base.specs.declared.part_links.PartLinks.{PartLinks}
 
 -- what a link in memory tells
-abbrev pub returned_of : LinkState → Returned
-returned_of link = record { faults = link.faults; told = Some link.told }
+abbrev pub returned_conn_of : LinkState → ReturnedConn
+returned_conn_of link = record { faults = link.faults; told = Some link.told }
 
-abbrev pub last_of : Last → LastTake
+abbrev pub last_of : TakeResult → LastTake
 last_of Nothing = NoneYet
 last_of Link = Gave
 last_of NoLink = NoMore
 last_of Fault = Failed
 
 -- a share as the part that it stands for
-abbrev pub part_of : Share → Part
+abbrev pub part_of : PartLinks → Part
 part_of share = record {
   number = share.number;
   given = share.given;
-  back = map returned_of (drop share.waiting share.links.items);
+  back = map returned_conn_of (drop share.waiting share.links.items);
   last = last_of share.last;
 }
 
@@ -73,10 +74,10 @@ part_split_off s = record {
 }
 
 -- those that came back of a part that is back
-abbrev pub back_of_part : Option Part → List Returned
+abbrev pub back_of_part : Option Part → List ReturnedConn
 back_of_part (Some part) = part.back
 back_of_part None = []
 
 -- those that the part of a number got back; none while it is out
-abbrev pub back_of : Content → ℕ → List Returned
+abbrev pub back_of : Content → ℕ → List ReturnedConn
 back_of content number = back_of_part (slice_index_or content.parts number None)

@@ -9,8 +9,8 @@ abbrev pub is_name_byte : ℕ → Bool
 is_name_byte b = is_ascii_alphanumeric b || (b == 46) || (b == 95) || (b == 45)
 
 -- 1 to 64 such bytes, the first not '.'
-abbrev pub is_good_name : List ℕ → Bool
-is_good_name name = nat_lt 0 (length name) && nat_le (length name) 64
+abbrev pub good_name : List ℕ → Bool
+good_name name = nat_lt 0 (length name) && nat_le (length name) 64
     && not (slice_index name 0 == 46) && list_all is_name_byte name
 
 -- a text that is safe as the name of a file in a folder: 1 to 64 printable bytes, among them no

@@ -3,14 +3,14 @@
 ghost use Rattle.vod_base.specs.Appends.{IsAppended};
 ghost use Rattle.vod_base.specs.Fields.{field};
 
+use crate::errors::NoMemory;
 use crate::numbers::push_number;
-use crate::outside::NoMemory;
 
 /// Appends a text.
 ///
 /// # Errors
 ///
-/// After [`NoMemory`] a front of the text was appended.
+/// After [`NoMemory`] a prefix of the text was appended.
 pub fn push(out: &mut Vec<u8>, text: &[u8]) -> Result<(), NoMemory>
     ensures { IsAppended out.old.items text.now out.new.items result }
 {
@@ -22,7 +22,7 @@ pub fn push(out: &mut Vec<u8>, text: &[u8]) -> Result<(), NoMemory>
 ///
 /// # Errors
 ///
-/// After [`NoMemory`] a front of the two was appended.
+/// After [`NoMemory`] a prefix of the two was appended.
 pub fn push_field(out: &mut Vec<u8>, label: &[u8], number: u64) -> Result<(), NoMemory>
     ensures { IsAppended out.old.items (field label.now number) out.new.items result }
 {

@@ -1,7 +1,7 @@
 //! Blanks around a text.
 
 ghost use Rattle.std.specs.Prelude.{◌≡◌, reverse};
-ghost use Rattle.vod_base.specs.Blanks.{is_blank, without_front_blanks, without_blanks};
+ghost use Rattle.vod_base.specs.Blanks.{is_blank, without_leading_blanks, without_blanks};
 
 /// Whether a byte is a blank: a space or a tab.
 pub fn is_blank(byte: u8) -> bool
@@ -19,7 +19,7 @@ pub fn trim(text: &[u8]) -> &[u8]
 
 /// The text without the blanks in front.
 fn trim_start(text: &[u8]) -> &[u8]
-    ensures { result.now ≡ without_front_blanks text.now }
+    ensures { result.now ≡ without_leading_blanks text.now }
 {
     let mut rest = text;
     while let [b' ' | b'\t', next @ ..] = rest {
@@ -30,7 +30,7 @@ fn trim_start(text: &[u8]) -> &[u8]
 
 /// The text without the blanks at its end.
 fn trim_end(text: &[u8]) -> &[u8]
-    ensures { result.now ≡ reverse (without_front_blanks (reverse text.now)) }
+    ensures { result.now ≡ reverse (without_leading_blanks (reverse text.now)) }
 {
     let mut rest = text;
     while let [before @ .., b' ' | b'\t'] = rest {

@@ -2,14 +2,14 @@
 
 ghost use Rattle.std.specs.Prelude.{◌≡◌, ◌≤◌, ℕ, List, Option, Some, length, option_map, IfOk};
 ghost use Rattle.std.specs.Prelude.{OnErr};
-ghost use Rattle.vod_base.specs.Outside.{File, HasRisen, file_named, bytes_named, IsRead};
+ghost use Rattle.vod_base.specs.IoState.{File, HasRisen, file_named, bytes_named, IsRead};
 
-use crate::outside::StoreFault;
+use crate::errors::StoreFault;
 
 /// Named files that can be read at places.
 ///
 /// A library counts its faults, and a call answers a fault only where the count rose in that call.
-/// What it holds may be told to contracts: in memory it is, over a real folder it isn't.
+/// What it holds may be exposed to contracts: in memory it is, over a real folder it isn't.
 pub trait Library {
     ghost faults: { Self → ℕ };
 

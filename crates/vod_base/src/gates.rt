@@ -2,15 +2,15 @@
 
 ghost use Rattle.std.specs.Prelude.{◌≡◌, ◌<◌, ◌≤◌, ℕ, Option, Some, None, [], option_map, IfSome};
 ghost use Rattle.std.specs.Prelude.{IfOk, OnOk, OnErr};
-ghost use Rattle.vod_base.specs.Outside.{HasRisen};
-ghost use Rattle.vod_base.specs.Gates.{Content, NoMore, Failed, MaySplit, IsOut, HasOut};
+ghost use Rattle.vod_base.specs.IoState.{HasRisen};
+ghost use Rattle.vod_base.specs.Gates.{Content, NoMore, Failed, MaySplit, IsPartOut, HasConnOut};
 ghost use Rattle.vod_base.specs.Gates.{after_open};
 ghost use Rattle.vod_base.specs.Gates.{split_off, new_part, after_take, after_empty_take};
 ghost use Rattle.vod_base.specs.Gates.{after_return};
 ghost use Rattle.vod_base.specs.Gates.{told_rejoined};
 
+use crate::errors::GateFault;
 use crate::links::Link;
-use crate::outside::GateFault;
 
 /// How a gate is to be opened.
 #[derive(Clone, Copy, Debug, PartialEq, Eq)]
@@ -28,7 +28,7 @@ pub struct Opening {
 /// Where connections come from. It is opened and split into parts, and each part gives connections.
 ///
 /// A gate counts its faults as a library does; a part begins with the count 0. What it did may be
-/// told to contracts.
+/// exposed to contracts.
 pub trait Gate: Sized {
     type Conn: Link;
 
@@ -84,7 +84,7 @@ pub trait Gate: Sized {
 
     /// Takes back a connection that `take` gave.
     fn give_back(&mut self, conn: Self::Conn)
-        requires out { IfSome (told self.old) HasOut }
+        requires out { IfSome (told self.old) HasConnOut }
         ensures count { faults self.old ≤ faults self.new }
         ensures back { told self.new ≡
             option_map (after_return (record {
@@ -95,7 +95,7 @@ pub trait Gate: Sized {
     /// Takes back a part that was split from this gate since it was opened last.
     fn rejoin(&mut self, part: Self)
         requires out { IfSome (told self.old) (λ c.
-            IfSome (told part) (λ p. IsOut p.own.number c)) }
+            IfSome (told part) (λ p. IsPartOut p.own.number c)) }
         ensures count { faults self.old ≤ faults self.new }
         ensures risen { 0 < faults part → HasRisen (faults self.old) (faults self.new) }
         ensures joined { told self.new ≡ told_rejoined (told part) (told self.old) };

@@ -3,21 +3,21 @@
 ghost use Rattle.std.specs.Prelude.{◌≡◌, ◌||◌, true, false, Some, None, [], if◌then◌else◌, nat_lt};
 ghost use Rattle.std.specs.Prelude.{map, drop, slice_get, option_map, IfSome, IfOk, OnOk, OnErr};
 ghost use Rattle.std.specs.Prelude.{is_err, vec_len};
-ghost use Rattle.vod_base.specs.Outside.{one_more};
-ghost use Rattle.vod_base.specs.Gates.{NoMore, Failed, MaySplit, IsOut, HasOut, after_open};
+ghost use Rattle.vod_base.specs.IoState.{one_more};
+ghost use Rattle.vod_base.specs.Gates.{NoMore, Failed, MaySplit, IsPartOut, HasConnOut, after_open};
 ghost use Rattle.vod_base.specs.Gates.{split_off, after_take, after_empty_take, after_return};
 ghost use Rattle.vod_base.specs.Gates.{after_rejoin, fresh_part};
 ghost use Rattle.vod_base.specs.Memory.{call_fails};
-ghost use Rattle.vod_base.specs.MemoryGates.{returned_of, part_of, back_of, script_of};
+ghost use Rattle.vod_base.specs.MemoryGates.{returned_conn_of, part_of, back_of, script_of};
 ghost use Rattle.vod_base.specs.MemoryGates.{first_script, part_split_off, gate_called};
 ghost use Rattle.vod_base.specs.MemoryGates.{gate_failed};
 ghost use Rattle.vod_base.specs.MemoryLinks.{link_begun};
 
-use crate::failing_calls::counted_call;
+use crate::errors::{GateFault, NoMemory};
+use crate::fault_injection::counted_call;
 use crate::gates::{Gate, Opening};
 use crate::memory_links::MemoryLink;
-use crate::outside::{GateFault, NoMemory};
-use crate::shares::{Last, Share};
+use crate::part_links::{PartLinks, TakeResult};
 use std::alloc::Global;
 use std::marker::Model;
 
@@ -45,8 +45,8 @@ pub struct MemoryGate {
     openings: u64,
     opening: Option<Opening>,
     is_part: bool,
-    parts: Vec<Option<Share>>,
-    own: Share,
+    parts: Vec<Option<PartLinks>>,
+    own: PartLinks,
     scripts: Vec<MemoryPart>,
     failing: Vec<u64>,
     calls: u64,
@@ -109,7 +109,7 @@ impl MemoryGate {
             opening: None,
             is_part: false,
             parts: room,
-            own: share_of(0, Vec::new(alloc)),
+            own: new_part_links(0, Vec::new(alloc)),
             scripts: parts,
             failing,
             calls: 0,
@@ -135,7 +135,7 @@ impl MemoryGate {
             opening: None,
             is_part: true,
             parts: Vec::new(alloc),
-            own: share_of(number, script.links),
+            own: new_part_links(number, script.links),
             scripts: Vec::new(alloc),
             failing: script.failing,
             calls: 0,
@@ -144,8 +144,8 @@ impl MemoryGate {
     }
 
     /// The links that the part of that number, from 0, got back, in order; none while it is out.
-    pub fn returned_links(&self, part: usize) -> &[MemoryLink]
-        ensures { map returned_of result.now ≡ back_of self.now.content part }
+    pub fn given_back(&self, part: usize) -> &[MemoryLink]
+        ensures { map returned_conn_of result.now ≡ back_of self.now.content part }
     {
         match self.parts.get(part) {
             Some(Some(share)) => &share.links[share.waiting..],
@@ -224,7 +224,7 @@ impl Gate for MemoryGate {
         Ok(MemoryGate::part(self.alloc, number, script))
     }
 
-    #[tactic(auto, using(crate::proofs::Giving::back_stays))]
+    #[tactic(auto, using(crate::proofs::PartLinkLemmas::back_stays))]
     fn take(&mut self) -> Result<Option<MemoryLink>, GateFault>
         ensures fails { is_err result ≡ call_fails self.old.failing self.old.calls }
         ensures gave { IfOk result (λ taken.
@@ -242,25 +242,25 @@ impl Gate for MemoryGate {
             record (gate_failed self.old) { content = after_empty_take Failed self.old.content }) }
     {
         if self.call() {
-            self.own.last = Last::Fault;
+            self.own.last = TakeResult::Fault;
             return Err(GateFault);
         }
         if self.own.waiting == 0 {
-            self.own.last = Last::NoLink;
+            self.own.last = TakeResult::NoLink;
             return Ok(None);
         }
         self.own.waiting -= 1;
         let mut link = self.own.links.remove(0);
         link.begin();
         self.own.given += 1;
-        self.own.last = Last::Link;
+        self.own.last = TakeResult::Link;
         Ok(Some(link))
     }
 
     fn give_back(&mut self, conn: MemoryLink)
-        requires out { HasOut self.old.content }
+        requires out { HasConnOut self.old.content }
         ensures { self.new ≡
-            record self.old { content = after_return (returned_of conn) self.old.content } }
+            record self.old { content = after_return (returned_conn_of conn) self.old.content } }
     {
         match self.own.links.push(conn) {
             Ok(()) => {}
@@ -269,7 +269,7 @@ impl Gate for MemoryGate {
     }
 
     fn rejoin(&mut self, part: MemoryGate)
-        requires out { IsOut part.content.own.number self.old.content }
+        requires out { IsPartOut part.content.own.number self.old.content }
         ensures { self.new ≡
             record self.old {
               faults = if nat_lt 0 part.faults
@@ -300,18 +300,18 @@ fn next_script(alloc: Global, scripts: &mut Vec<MemoryPart>) -> MemoryPart
 }
 
 /// A share of these links, of which none was given.
-fn share_of(number: usize, links: Vec<MemoryLink>) -> Share
+fn new_part_links(number: usize, links: Vec<MemoryLink>) -> PartLinks
     ensures part { part_of result ≡ fresh_part number }
     ensures links { result.links ≡ links }
     ensures waiting { result.waiting ≡ vec_len links }
     ensures given { result.given ≡ 0 }
 {
-    Share {
+    PartLinks {
         number,
         waiting: links.len(),
         links,
         given: 0,
-        last: Last::Nothing,
+        last: TakeResult::Nothing,
     }
 }
 

@@ -2,12 +2,12 @@
 
 ghost use Rattle.std.specs.Prelude.{◌≡◌, ◌-◌, ◌≤◌, ℕ, List, Option, Some, length, map, option_map};
 ghost use Rattle.std.specs.Prelude.{min, string_bytes, if◌then◌else◌, IfOk, OnOk, OnErr, is_err};
-ghost use Rattle.vod_base.specs.Outside.{File, HasRisen, file_named, bytes_named, IsRead, one_more};
+ghost use Rattle.vod_base.specs.IoState.{File, HasRisen, file_named, bytes_named, IsRead, one_more};
 ghost use Rattle.vod_base.specs.Memory.{LibraryState, library_called, call_fails};
 
-use crate::failing_calls::counted_call;
+use crate::errors::StoreFault;
+use crate::fault_injection::counted_call;
 use crate::files::Library;
-use crate::outside::StoreFault;
 use crate::reads::copy_from;
 use std::marker::Model;
 

@@ -2,16 +2,16 @@
 
 ghost use Rattle.std.specs.Prelude.{◌≡◌, ◌+◌, ◌-◌, ◌^◌, ◌<◌, ◌≤◌, ◌++◌, ◌∷◌, [], ◌||◌, length, map};
 ghost use Rattle.std.specs.Prelude.{nat_lt, vec_len, vec_capacity, IfOk, OnOk, OnErr, is_err};
-ghost use Rattle.vod_base.specs.Links.{Sent, doing_of, IsWithin, sends};
+ghost use Rattle.vod_base.specs.Links.{Sent, io_event_of, IsWithin, sends};
 ghost use Rattle.vod_base.specs.Memory.{call_fails};
-ghost use Rattle.vod_base.specs.Outside.{one_more};
-ghost use Rattle.vod_base.specs.declared.memory_links.Noted.TheVariants.{Gone};
-ghost use Rattle.vod_base.specs.MemoryLinks.{sent_of, doing_noted, next_fails, heard_whole};
+ghost use Rattle.vod_base.specs.IoState.{one_more};
+ghost use Rattle.vod_base.specs.declared.memory_links.LinkLogEntry.TheVariants.{Gone};
+ghost use Rattle.vod_base.specs.MemoryLinks.{sent_of, io_event_logged, next_fails, heard_whole};
 ghost use Rattle.vod_base.specs.MemoryLinks.{left_from, next_doing, left_after, link_begun};
 
-use crate::failing_calls::counted_call;
+use crate::errors::{LinkFault, NoMemory};
+use crate::fault_injection::counted_call;
 use crate::links::{Heard, Link};
-use crate::outside::{LinkFault, NoMemory};
 use crate::reads::copy_from;
 use std::alloc::Global;
 use std::marker::Model;
@@ -31,7 +31,7 @@ pub enum Event {
 /// What a link noted: bytes of the event at a place came, a slot began, the peer ended, or a byte
 /// was sent.
 #[derive(Clone, Copy)]
-pub(crate) enum Noted {
+pub(crate) enum LinkLogEntry {
     Came(usize, usize, usize),
     Began(u64),
     Ended,
@@ -45,8 +45,8 @@ pub(crate) enum Noted {
 #[derive(Drop)]
 pub struct MemoryLink {
     events: Vec<Event>,
-    front: Front,
-    notes: Vec<Noted>,
+    front: EventCursor,
+    notes: Vec<LinkLogEntry>,
     sent: Vec<u8>,
     handed_out: usize,
     room: usize,
@@ -59,14 +59,14 @@ pub struct MemoryLink {
 
 impl Model for MemoryLink {
     ghost use Rattle.std.specs.Prelude.{◌≡◌, ◌+◌, ◌≤◌, map, vec_len, vec_capacity};
-    ghost use Rattle.vod_base.specs.MemoryLinks.{LinkState, sent_of, doing_noted, heard_whole};
+    ghost use Rattle.vod_base.specs.MemoryLinks.{LinkState, sent_of, io_event_logged, heard_whole};
     ghost use Rattle.vod_base.specs.MemoryLinks.{left_from};
 
     ghost Value = { LinkState };
 
     ghost view = { λ l.
         record {
-          told = map (doing_noted l.events.items) l.notes.items;
+          told = map (io_event_logged l.events.items) l.notes.items;
           script = map heard_whole l.events.items;
           left = left_from l.events.items l.front;
           events = l.handed_out;
@@ -79,7 +79,7 @@ impl Model for MemoryLink {
         } };
 
     ghost invariant = { λ l.
-        (sent_of (map (doing_noted l.events.items) l.notes.items) ≡ l.sent.items)
+        (sent_of (map (io_event_logged l.events.items) l.notes.items) ≡ l.sent.items)
         × (vec_len l.sent ≤ l.room) × (l.room ≤ vec_capacity l.sent) × (l.handed_out ≤ l.room)
         × (vec_len l.notes ≡ vec_len l.sent + l.handed_out)
         × (l.room + l.room ≤ vec_capacity l.notes) };
@@ -121,7 +121,7 @@ impl MemoryLink {
         let sent = Vec::with_capacity(alloc, room)?;
         Ok(MemoryLink {
             events,
-            front: Front::FIRST,
+            front: EventCursor::FIRST,
             notes,
             sent,
             handed_out: 0,
@@ -135,7 +135,7 @@ impl MemoryLink {
     }
 
     /// The bytes that were sent.
-    pub fn sent_bytes(&self) -> &[u8]
+    pub fn sent(&self) -> &[u8]
         ensures { result.now ≡ sent_of self.now.told }
     {
         self.sent.as_slice()
@@ -145,7 +145,7 @@ impl MemoryLink {
     pub(crate) fn begin(&mut self)
         ensures { self.new ≡ link_begun self.old }
     {
-        self.front = Front::FIRST;
+        self.front = EventCursor::FIRST;
         self.notes.clear();
         self.sent.clear();
         self.handed_out = 0;
@@ -162,18 +162,18 @@ impl Link for MemoryLink {
 
     ghost told = { λ l. Some l.told };
 
-    #[tactic(auto, using(crate::proofs::Noting::heard_more))]
+    #[tactic(auto, using(crate::proofs::LinkLogLemmas::heard_more))]
     fn next(&mut self, into: &mut [u8]) -> Result<Heard, LinkFault>
         requires some { 0 < length into.now }
         ensures fails { is_err result ≡ next_fails self.old }
         ensures within { IfOk result (λ heard. IsWithin heard (length into.new)) }
         ensures front { IfOk result (λ heard.
-            doing_of heard into.new ≡ next_doing (length into.new) self.old.left) }
+            io_event_of heard into.new ≡ next_doing (length into.new) self.old.left) }
         ensures heard { IfOk result (λ heard. self.new ≡
             record self.old {
               nexts = one_more self.old.nexts;
               events = self.old.events + 1;
-              told = self.old.told ++ doing_of heard into.new ∷ [];
+              told = self.old.told ++ io_event_of heard into.new ∷ [];
               left = left_after (length into.new) self.old.left;
             }) }
         ensures lost { OnErr result (self.new ≡
@@ -188,7 +188,7 @@ impl Link for MemoryLink {
             self.faults = self.faults.saturating_add(1);
             return Err(LinkFault);
         }
-        let (noted, heard) = hand_out(&self.events, &mut self.front, into);
+        let (noted, heard) = next_event(&self.events, &mut self.front, into);
         self.handed_out += 1;
         match self.notes.push(noted) {
             Ok(()) => Ok(heard),
@@ -216,7 +216,7 @@ impl Link for MemoryLink {
             self.faults = self.faults.saturating_add(1);
             return Err(LinkFault);
         }
-        note_sent(&mut self.notes, bytes);
+        log_sent(&mut self.notes, bytes);
         match self.sent.extend_from_slice(bytes) {
             Ok(()) => Ok(()),
             Err(_) => unreachable!(),
@@ -226,14 +226,14 @@ impl Link for MemoryLink {
 
 /// The next event's place, and how many of its bytes were handed out.
 #[derive(Clone, Copy)]
-struct Front {
+struct EventCursor {
     event: usize,
     offset: usize,
 }
 
-impl Front {
+impl EventCursor {
     /// Where the first event stands.
-    const FIRST: Front = Front {
+    const FIRST: EventCursor = EventCursor {
         event: 0,
         offset: 0,
     };
@@ -250,14 +250,14 @@ impl Front {
 }
 
 /// Notes each byte as sent.
-fn note_sent(notes: &mut Vec<Noted>, bytes: &[u8])
+fn log_sent(notes: &mut Vec<LinkLogEntry>, bytes: &[u8])
     requires { vec_len notes.old + length bytes.now ≤ vec_capacity notes.old }
     ensures items { notes.new.items ≡ notes.old.items ++ map Gone bytes.now }
     ensures len { vec_len notes.new ≡ vec_len notes.old + length bytes.now }
     ensures capacity { vec_capacity notes.old ≤ vec_capacity notes.new }
 {
     for byte in bytes {
-        match notes.push(Noted::Gone(*byte)) {
+        match notes.push(LinkLogEntry::Gone(*byte)) {
             Ok(()) => {}
             Err(_) => unreachable!(),
         }
@@ -265,12 +265,12 @@ fn note_sent(notes: &mut Vec<Noted>, bytes: &[u8])
 }
 
 /// Hands out the next event, or as many of its bytes as fit.
-fn hand_out(events: &[Event], front: &mut Front, into: &mut [u8]) -> (Noted, Heard)
+fn next_event(events: &[Event], front: &mut EventCursor, into: &mut [u8]) -> (LinkLogEntry, Heard)
     requires { 0 < length into.old }
     ensures within { IsWithin result.1 (length into.new) }
-    ensures noted { doing_noted events.now result.0 ≡ doing_of result.1 into.new }
+    ensures noted { io_event_logged events.now result.0 ≡ io_event_of result.1 into.new }
     ensures front { let left = left_from events.now front.old in
-        (doing_of result.1 into.new ≡ next_doing (length into.new) left)
+        (io_event_of result.1 into.new ≡ next_doing (length into.new) left)
         × (left_from events.now front.new ≡ left_after (length into.new) left) }
 {
     while let Some(Event::Bytes(bytes)) = events.get(front.event)
@@ -284,16 +284,19 @@ fn hand_out(events: &[Event], front: &mut Front, into: &mut [u8]) -> (Noted, Hea
             let from = front.offset;
             let count = copy_from(bytes, from as u64, into);
             front.offset = from + count;
-            (Noted::Came(event, from, from + count), Heard::Bytes(count))
+            (
+                LinkLogEntry::Came(event, from, from + count),
+                Heard::Bytes(count),
+            )
         }
         Some(Event::Slot(slot)) => {
             front.pass();
-            (Noted::Began(*slot), Heard::Slot(*slot))
+            (LinkLogEntry::Began(*slot), Heard::Slot(*slot))
         }
         Some(Event::End) => {
             front.pass();
-            (Noted::Ended, Heard::End)
+            (LinkLogEntry::Ended, Heard::End)
         }
-        None => (Noted::Ended, Heard::End),
+        None => (LinkLogEntry::Ended, Heard::End),
     }
 }

@@ -3,11 +3,11 @@
 ghost use Rattle.std.specs.Prelude.{◌≡◌, ◌+◌, ◌<◌, ◌++◌, ◌||◌, [], length, nat_lt, if◌then◌else◌};
 ghost use Rattle.std.specs.Prelude.{IfOk, is_err};
 ghost use Rattle.vod_base.specs.Memory.{SinkState, call_fails};
-ghost use Rattle.vod_base.specs.Outside.{one_more};
+ghost use Rattle.vod_base.specs.IoState.{one_more};
 
-use crate::failing_calls::counted_call;
+use crate::errors::{NoMemory, SinkFault};
+use crate::fault_injection::counted_call;
 use crate::output::Sink;
-use crate::outside::{NoMemory, SinkFault};
 use std::alloc::Global;
 use std::marker::Model;
 

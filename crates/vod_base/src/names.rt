@@ -2,12 +2,12 @@
 
 ghost use Rattle.std.specs.Prelude.{◌≡◌};
 ghost use Rattle.std.specs.List.{list_all};
-ghost use Rattle.vod_base.specs.Names.{is_good_name, is_name_byte};
+ghost use Rattle.vod_base.specs.Names.{good_name, is_name_byte};
 
 /// Whether `name` can name a film, trace, certificate or script: 1 to 64 bytes of letters, digits,
 /// `.`, `_` and `-`, the first not `.`.
-pub fn is_good_name(name: &[u8]) -> bool
-    ensures { result ≡ is_good_name name.now }
+pub fn good_name(name: &[u8]) -> bool
+    ensures { result ≡ good_name name.now }
 {
     if name.is_empty() || name.len() > 64 || name[0] == b'.' {
         return false;

@@ -8,7 +8,7 @@ ghost use Rattle.std.specs.Result.{result_ok};
 ghost use Rattle.std.specs.Str.Parse.{digits_value};
 ghost use Rattle.vod_base.specs.Numbers.{is_decimal, number_of, IsNumberFault};
 
-use crate::outside::NoMemory;
+use crate::errors::NoMemory;
 use itoa::Buffer;
 use thiserror::Error;
 
@@ -83,7 +83,7 @@ fn first_other(text: &[u8]) -> Option<usize>
 }
 
 /// The value of the digits of `text`, or None where it is 2^64 or more.
-#[tactic(auto, using(crate::proofs::Digits::digit_steps))]
+#[tactic(auto, using(crate::proofs::DigitLemmas::digit_steps))]
 fn value_of(text: &[u8]) -> Option<u64>
     requires { list_all is_ascii_digit text.now ≡ true }
     ensures value { IfSome result (λ value. value ≡ digits_value 10 text.now) }

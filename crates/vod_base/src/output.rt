@@ -1,9 +1,9 @@
 //! What a sink must keep.
 
 ghost use Rattle.std.specs.Prelude.{◌≡◌, ◌≤◌, ℕ, List, Option, OnOk, OnErr};
-ghost use Rattle.vod_base.specs.Outside.{HasRisen, told_more, IsFrontMore};
+ghost use Rattle.vod_base.specs.IoState.{HasRisen, told_more, IsWrittenPrefix};
 
-use crate::outside::SinkFault;
+use crate::errors::SinkFault;
 
 /// Output that bytes are appended to. It counts its faults as a library does.
 pub trait Sink {
@@ -17,5 +17,5 @@ pub trait Sink {
         ensures fault { OnErr result (HasRisen (faults self.old) (faults self.new)) }
         ensures whole { OnOk result (written self.new ≡ told_more (written self.old) bytes.now) }
         ensures front { OnErr result
-            (IsFrontMore (written self.old) (written self.new) bytes.now) };
+            (IsWrittenPrefix (written self.old) (written self.new) bytes.now) };
 }

@@ -1,7 +1,7 @@
 //! A read of bytes that are held in memory.
 
 ghost use Rattle.std.specs.Prelude.{◌≡◌, ◌-◌, length, min};
-ghost use Rattle.vod_base.specs.Outside.{IsRead};
+ghost use Rattle.vod_base.specs.IoState.{IsRead};
 
 /// Copies what stands at `at` to the front of `into`, as much as fits, and answers how much.
 pub(crate) fn copy_from(bytes: &[u8], at: u64, into: &mut [u8]) -> usize

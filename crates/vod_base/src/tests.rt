@@ -2,6 +2,7 @@
 //! their failing calls.
 
 use super::*;
+use crate::laws::law_blanks_are_space_and_tab;
 use std::alloc::Global;
 use std::process::Abort;
 use std::test::Fail;
@@ -89,7 +90,7 @@ fn names_files(rt: HostRuntime) {
             false,
         ),
     ] {
-        assert_eq!(rt; is_good_name(name.as_bytes()), want, "at {name}");
+        assert_eq!(rt; good_name(name.as_bytes()), want, "at {name}");
     }
 }
 
@@ -147,7 +148,7 @@ fn trims_blanks(rt: HostRuntime) {
         assert_eq!(rt; trim(text), want);
     }
     assert!(rt; is_blank(b'\t'));
-    law_blanks();
+    law_blanks_are_space_and_tab();
 }
 
 fn link(alloc: Global, events: Vec<Event>, nexts: &[u64]) -> Result<MemoryLink, Fail> {
@@ -199,7 +200,7 @@ fn sends(rt: HostRuntime) -> Result<(), Fail> {
     for (bytes, want) in rows {
         assert_eq!(rt; link.send(bytes), want);
     }
-    assert_eq!(rt; link.sent_bytes(), b"abcdef".as_slice());
+    assert_eq!(rt; link.sent(), b"abcdef".as_slice());
     Ok(())
 }
 
@@ -240,10 +241,10 @@ fn gives_and_gets_back(rt: HostRuntime) -> Result<(), Fail> {
     assert_eq!(rt; link.send(b"abc"), Ok(()));
     part.give_back(link);
     gate.rejoin(part);
-    let [back] = gate.returned_links(0) else {
+    let [back] = gate.given_back(0) else {
         panic!(rt; "one link came back");
     };
-    assert_eq!(rt; back.sent_bytes(), b"abc".as_slice());
+    assert_eq!(rt; back.sent(), b"abc".as_slice());
     Ok(())
 }
 

@@ -4,19 +4,19 @@ use Rattle.std.proofs.Common.{Some, None, inl, inr, sym, ap, subst, refl, arith}
 use Rattle.std.specs.Prelude.{IfSome, All, option_map, slice_index_or}
 use Rattle.std.proofs.lemmas.Bool.{cases_lt}
 use Rattle.std.proofs.lemmas.List.Elements.{All-head, All-tail}
-use Rattle.vod_base.specs.Outside.{HasRisen}
+use Rattle.vod_base.specs.IoState.{HasRisen}
 use Rattle.vod_base.specs.Gates.{Content, Failed, Part, IsOpen, new_part, after_empty_take}
 use Rattle.vod_base.specs.Gates.{after_open, after_rejoin, split_off, told_rejoined}
 use Rattle.vod_base.specs.declared.gates.Opening.{Opening}
 use Rattle.station.specs.Seats.{StationState, SeatState}
 use Rattle.conn.specs.Parts.{IsServed, IsUntouched}
-use Rattle.vodserve.specs.Worked.{HasParts, HasTooFew, IsIdle, IsOpenAs, IsOpenedOnce}
-use Rattle.vodserve.specs.Workers.{AreBack, AreJoined, AreOut, IsFresh, IsNotOpened}
+use Rattle.vodserve.specs.WorkerResults.{HasParts, HasTooFewParts, IsIdle, IsOpenAs, IsOpenedOnce}
+use Rattle.vodserve.specs.Workers.{ArePartsBack, AreJoined, ArePartsOut, IsFresh, IsNotOpened}
 use Rattle.vodserve.specs.declared.workers.Worker.{Worker}
 use Rattle.vodserve.proofs.WorkerLemmas.{out_more}
 
 -- so many parts are in the gate
-pub counted_parts : (from count workers : ℕ) (gate : Option Content) → IfSome gate (AreOut from count)
+pub counted_parts : (from count workers : ℕ) (gate : Option Content) → IfSome gate (ArePartsOut from count)
     → count ≡ workers → HasParts workers gate
 counted_parts from count workers None out same = tt
 counted_parts from count workers (Some c) out same = out.counted ∙ same
@@ -27,11 +27,11 @@ risen_on f g h risen high = λ end. omega (arith, risen (omega (arith, high, end
 pub risen_since : (f g h : ℕ) → HasRisen g h → f ≤ g → HasRisen f h
 risen_since f g h risen low = λ end. omega (arith, risen end, low)
 
-pub told_out_more : (count : ℕ) (gate gate' : Option Content) → IfSome gate (AreOut 0 count)
-    → gate' ≡ option_map split_off gate → IfSome gate' (AreOut 0 (count + 1))
-told_out_more count None gate' are is = subst (λ (c : Option Content). IfSome c (AreOut 0 (count + 1))) (sym is) tt
+pub told_out_more : (count : ℕ) (gate gate' : Option Content) → IfSome gate (ArePartsOut 0 count)
+    → gate' ≡ option_map split_off gate → IfSome gate' (ArePartsOut 0 (count + 1))
+told_out_more count None gate' are is = subst (λ (c : Option Content). IfSome c (ArePartsOut 0 (count + 1))) (sym is) tt
 told_out_more count (Some c) gate' are is =
-    subst (λ (c' : Option Content). IfSome c' (AreOut 0 (count + 1))) (sym is) (out_more count c are)
+    subst (λ (c' : Option Content). IfSome c' (ArePartsOut 0 (count + 1))) (sym is) (out_more count c are)
 
 -- a gate that is open stays so as parts are split from it and come back
 pub split_still_open : (opening : Opening) (gate gate' : Option Content) → IsOpenAs opening gate
@@ -56,7 +56,7 @@ pub back_still_open : (opening : Opening) (part gate gate' : Option Content) →
 back_still_open opening part gate gate' is rejoins =
     subst (IsOpenAs opening) (sym rejoins) (open_back opening part gate is)
 
-pub new_number : (count : ℕ) (gate part : Option Content) → IfSome gate (AreOut 0 count)
+pub new_number : (count : ℕ) (gate part : Option Content) → IfSome gate (ArePartsOut 0 count)
     → part ≡ option_map new_part gate → IfSome part (λ content. content.own.number ≡ count)
 new_number count None part are is =
     subst (λ (c : Option Content). IfSome c (λ content. content.own.number ≡ count)) (sym is) tt
@@ -144,15 +144,15 @@ once_since before mid (Some c) once since =
 
 -- a gate that was opened just now has no parts
 pub opened_few : (count : ℕ) (how : Option Opening) (before gate : Option Content)
-    → gate ≡ option_map (after_open how) before → 1 ≤ count → IfSome gate (HasTooFew count)
-opened_few count how None gate is some = none_told (HasTooFew count) gate is
-opened_few count how (Some c) gate is some = subst (λ (g : Option Content). IfSome g (HasTooFew count)) (sym is)
+    → gate ≡ option_map (after_open how) before → 1 ≤ count → IfSome gate (HasTooFewParts count)
+opened_few count how None gate is some = none_told (HasTooFewParts count) gate is
+opened_few count how (Some c) gate is some = subst (λ (g : Option Content). IfSome g (HasTooFewParts count)) (sym is)
     (record { fewer = omega (arith, some); idle = λ k inside. absurd (omega (arith, inside)) })
 
 -- the parts of workers that served nothing are back
 record FreshBack {G : Type 0} (told : G → Option Content) (faults : G → ℕ) (from : ℕ)
     (workers : List (Worker G)) (gate : Content) : Type 0 where
-  back : AreBack told (Some gate) from workers
+  back : ArePartsBack told (Some gate) from workers
   fresh : All (IsFresh told faults) workers
 
 -- workers that did nothing gave back parts of which no connection was taken
@@ -189,7 +189,7 @@ pub record FreshJoined {G : Type 0} (told : G → Option Content) (faults : G �
 
 pub joined_few : {G : Type 0} {told : G → Option Content} {faults : G → ℕ} {hall : StationState}
     {workers : List (Worker G)} {seat : SeatState} (count : ℕ) (gate : Option Content) →
-    FreshJoined told faults hall workers seat gate → length workers < count → IfSome gate (HasTooFew count)
+    FreshJoined told faults hall workers seat gate → length workers < count → IfSome gate (HasTooFewParts count)
 joined_few count None fresh_joined fewer = tt
 joined_few {workers} count (Some c) fresh_joined fewer = record {
   fewer = omega (arith, joined.out.counted, fewer);
@@ -214,9 +214,9 @@ pub record FailedGate (gate : Option Content) : Type 0 where
   pub rejoins : gate ≡ told_rejoined failed split
 
 -- a part that failed at once gave no connection
-pub failed_few : {gate : Option Content} → FailedGate gate → IfSome gate (HasTooFew 2)
+pub failed_few : {gate : Option Content} → FailedGate gate → IfSome gate (HasTooFewParts 2)
 failed_few failed_gate =
-    subst (λ (g : Option Content). IfSome g (HasTooFew 2))
+    subst (λ (g : Option Content). IfSome g (HasTooFewParts 2))
     (ap (λ (o : Option Content). told_rejoined (option_map (after_empty_take Failed) (option_map new_part o))
     (option_map split_off o)) (sym opens)
     ∙ ap (λ (p : Option Content). told_rejoined (option_map (after_empty_take Failed) p) (option_map split_off door))
@@ -230,7 +230,7 @@ failed_few failed_gate =
     here : (how : Option Opening) (before : Option Content)
         → IfSome (told_rejoined (option_map (after_empty_take Failed)
         (option_map new_part (option_map (after_open how) before)))
-        (option_map split_off (option_map (after_open how) before))) (HasTooFew 2)
+        (option_map split_off (option_map (after_open how) before))) (HasTooFewParts 2)
     here how None = tt
     here how (Some c) = record {
       fewer = omega arith;

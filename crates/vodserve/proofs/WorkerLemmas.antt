@@ -9,25 +9,27 @@ use Rattle.std.proofs.Math.Seq.{get_or-append_seam}
 use Rattle.std.proofs.lemmas.Bool.{cases_lt}
 use Rattle.std.proofs.lemmas.List.{append-nil, append_assoc, get_or-set_other, get_or-set_same, map-append}
 use Rattle.std.proofs.lemmas.List.Elements.{All-head, All-push, All-tail}
-use Rattle.vod_base.specs.Outside.{HasRisen}
-use Rattle.vod_base.specs.Gates.{Content, IsOut, Part, after_rejoin, split_off, told_rejoined}
+use Rattle.vod_base.specs.IoState.{HasRisen}
+use Rattle.vod_base.specs.Gates.{Content, IsPartOut, Part, after_rejoin, split_off, told_rejoined}
 use Rattle.admission.specs.declared.entries.Entry.{Entry}
-use Rattle.admission.specs.Makers.{made_by}
-use Rattle.slot_calendar.specs.declared.profiles.CapacityStep.{CapacityStep}
+use Rattle.admission.specs.Makers.{entries_by}
+use Rattle.slot_calendar.specs.declared.profiles.CapStep.{CapStep}
 use Rattle.turnstile.specs.Passes.{AllJoined, IsJoined}
 use Rattle.turnstile.specs.declared.view.Joined.{Joined}
 use Rattle.turnstile.proofs.Prefixes.{prefix_trans}
 use Rattle.conn.specs.Journals.{Terms, terms_of}
 use Rattle.station.specs.Seats.{StationState, IsSameSeat, SeatState, after_join}
-use Rattle.conn.specs.Parts.{Outlet, outlet}
+use Rattle.conn.specs.Parts.{WorkerGate, worker_gate}
 use Rattle.conn.specs.declared.reports.ConnReport.{ConnReport}
 use Rattle.conn.specs.declared.reports.PartReport.{PartReport}
 use Rattle.conn.specs.declared.reports.PartEnd.{PartEnd}
-use Rattle.command_words.specs.Words.{Serving}
+use Rattle.cli_args.specs.Invocations.{ServeArgs}
 use Rattle.conn.specs.declared.reports.PartEnd.TheVariants.{AllTaken, GateFault as PartFault, NoMemory}
-use Rattle.vodserve.specs.Worked.{AllWorked, AreLeft, HasBack, HasOne, HasWorked, IsWorse, Working}
-use Rattle.vodserve.specs.Worked.{all_reports, settings_of, terms_for}
-use Rattle.vodserve.specs.Workers.{AreBack, AreJoined, AreOut, AreWorkers, HasFinished, IsWorker, joined_of, report_of}
+use Rattle.vodserve.specs.WorkerResults.{AreWorkerResults, AreLeft, IsPartBack, HasOne, IsWorkerResult, IsWorse}
+use Rattle.vodserve.specs.WorkerResults.{ServerRun}
+use Rattle.vodserve.specs.WorkerResults.{all_reports, settings_of, terms_for}
+use Rattle.vodserve.specs.Workers.{ArePartsBack, AreJoined, ArePartsOut, AreWorkers, HasFinished, IsWorker, joined_of}
+use Rattle.vodserve.specs.Workers.{report_of}
 use Rattle.vodserve.specs.declared.workers.Worker.{Worker}
 
 -- a worker more
@@ -110,7 +112,8 @@ set_other : (xs : List (Option Part)) (i k : ℕ) (v d : Option Part) → k ≢ 
 set_other xs i k v d apart = get_or-set_other xs i k v d apart
 
 -- a part more is out
-pub out_more : (count : ℕ) (content : Content) → AreOut 0 count content → AreOut 0 (count + 1) (split_off content)
+pub out_more : (count : ℕ) (content : Content) → ArePartsOut 0 count content → ArePartsOut 0 (count + 1) (split_off
+    content)
 out_more count content are = record {
   counted = length-append content.parts (None ∷ []) ∙ ap (λ (n : ℕ). n + 1) are.counted;
   out = λ k low high. elim (cases_lt k count) [
@@ -124,8 +127,8 @@ out_more count content are = record {
 }
 
 -- a part that came back
-pub out_less : (from count : ℕ) (part content : Content) → part.own.number ≡ from → AreOut from count content
-    → AreOut (from + 1) count (after_rejoin part.own content)
+pub out_less : (from count : ℕ) (part content : Content) → part.own.number ≡ from → ArePartsOut from count content
+    → ArePartsOut (from + 1) count (after_rejoin part.own content)
 out_less from count part content number are = record {
   counted = length-set content.parts part.own.number (Some part.own) ∙ are.counted;
   out = λ k low high.
@@ -134,8 +137,8 @@ out_less from count part content number are = record {
 }
 
 pub told_less : (from count : ℕ) (part gate : Option Content) →
-    IfSome part (λ content. content.own.number ≡ from) → IfSome gate (AreOut from count) →
-    IfSome (told_rejoined part gate) (AreOut (from + 1) count)
+    IfSome part (λ content. content.own.number ≡ from) → IfSome gate (ArePartsOut from count) →
+    IfSome (told_rejoined part gate) (ArePartsOut (from + 1) count)
 told_less from count None None number are = tt
 told_less from count None (Some c) number are = tt
 told_less from count (Some p) None number are = tt
@@ -145,11 +148,11 @@ told_less from count (Some p) (Some c) number are = out_less from count p c numb
 pub record PartOut (from count : ℕ) (part gate : Option Content) : Type 0 where
   pub inside : from < count
   pub number : IfSome part (λ content. content.own.number ≡ from)
-  pub out : IfSome gate (AreOut from count)
+  pub out : IfSome gate (ArePartsOut from count)
 
 -- a part that came back is in the gate, and those from before are too
-kept_one : (k : ℕ) (told part gate : Option Content) → IfSome gate (HasBack k told)
-    → IfSome part (λ p. k < p.own.number) → IfSome (told_rejoined part gate) (HasBack k told)
+kept_one : (k : ℕ) (told part gate : Option Content) → IfSome gate (IsPartBack k told)
+    → IfSome part (λ p. k < p.own.number) → IfSome (told_rejoined part gate) (IsPartBack k told)
 kept_one k told None None is apart = tt
 kept_one k told None (Some c) is apart = tt
 kept_one k told (Some p) None is apart = tt
@@ -157,7 +160,7 @@ kept_one k told (Some p) (Some c) is apart =
     (is.0, (is.1.0, set_other c.parts p.own.number k (Some p.own) None (omega (arith, apart)) ∙ is.1.1))
 
 own_back : {k count : ℕ} (part gate : Option Content) → PartOut k count part gate →
-    IfSome (told_rejoined part gate) (HasBack k part)
+    IfSome (told_rejoined part gate) (IsPartBack k part)
 own_back None None out_part = tt
 own_back None (Some c) out_part = tt
 own_back (Some p) None out_part = tt
@@ -182,8 +185,8 @@ record LaterPart (G : Type 0) (part : Option Content) (from : ℕ) (workers : Li
   before : from + length workers ≤ place
 
 kept_back : {G : Type 0} {part : Option Content} (told : G → Option Content) (from : ℕ) (workers : List (Worker G))
-    (gate : Option Content) → AreBack told gate from workers → LaterPart G part from workers →
-    AreBack told (told_rejoined part gate) from workers
+    (gate : Option Content) → ArePartsBack told gate from workers → LaterPart G part from workers →
+    ArePartsBack told (told_rejoined part gate) from workers
 kept_back told from [] gate all later_part = tt
 kept_back {part} told from (worker ∷ workers) gate all later_part = (
   kept_one from (told worker.part) part gate all.0 (later part from n number (omega (arith, before))),
@@ -198,16 +201,16 @@ record PartsTold (G : Type 0) : Type 0 where
   gate : Option Content
 
 back_push : {G : Type 0} (parts : PartsTold G) (from : ℕ) (workers : List (Worker G)) (worker : Worker G) →
-    AreBack parts.told parts.gate from workers →
-    IfSome parts.gate (HasBack (from + length workers) (parts.told worker.part)) →
-    AreBack parts.told parts.gate from (workers ++ worker ∷ [])
+    ArePartsBack parts.told parts.gate from workers →
+    IfSome parts.gate (IsPartBack (from + length workers) (parts.told worker.part)) →
+    ArePartsBack parts.told parts.gate from (workers ++ worker ∷ [])
 back_push parts from [] worker all last =
-    (subst (λ (k : ℕ). IfSome parts.gate (HasBack k (parts.told worker.part))) (add-zero from) last, tt)
+    (subst (λ (k : ℕ). IfSome parts.gate (IsPartBack k (parts.told worker.part))) (add-zero from) last, tt)
 back_push parts from (first ∷ workers) worker all last = (
   all.0,
   back_push parts (from + 1) workers worker all.1
       (let on : from + length (first ∷ workers) ≡ from + 1 + length workers = omega arith in
-      subst (λ (k : ℕ). IfSome parts.gate (HasBack k (parts.told worker.part))) on last),
+      subst (λ (k : ℕ). IfSome parts.gate (IsPartBack k (parts.told worker.part))) on last),
 )
 
 -- a worker is joined: its seat and its part of the gate go back
@@ -242,14 +245,14 @@ join_one {told} {count} {workers} {worker} {seat} {seat'} {gate} so_far is numbe
       seen = All-push (λ (w : Worker _). IsPrefix w.seat.seen seat'.seen) workers worker
           (λ i d within. prefix_trans (slice_index_or workers i d).seat.seen seat.seen seat'.seen
           (so_far.seen i d within) longer) seen;
-      out = subst (λ (c : Option Content). IfSome c (AreOut (length (workers ++ worker ∷ [])) count)) (sym rejoins)
-          (subst (λ (k : ℕ). IfSome (told_rejoined (told worker.part) gate) (AreOut k count)) one_more
+      out = subst (λ (c : Option Content). IfSome c (ArePartsOut (length (workers ++ worker ∷ [])) count)) (sym rejoins)
+          (subst (λ (k : ℕ). IfSome (told_rejoined (told worker.part) gate) (ArePartsOut k count)) one_more
           (told_less (length workers) count (told worker.part) gate own so_far.out));
-      back = subst (λ (c : Option Content). AreBack told c 0 (workers ++ worker ∷ [])) (sym rejoins)
+      back = subst (λ (c : Option Content). ArePartsBack told c 0 (workers ++ worker ∷ [])) (sym rejoins)
           (back_push (record { told = told; gate = told_rejoined (told worker.part) gate }) 0 workers worker
           (kept_back told 0 workers gate so_far.back
           (record { place = length workers; number = own; before = omega arith }))
-          (subst (λ (k : ℕ). IfSome (told_rejoined (told worker.part) gate) (HasBack k (told worker.part)))
+          (subst (λ (k : ℕ). IfSome (told_rejoined (told worker.part) gate) (IsPartBack k (told worker.part)))
           (sym (zero-add (length workers)))
           (own_back (told worker.part) gate (record { inside = inside; number = own; out = so_far.out }))));
     }
@@ -258,7 +261,7 @@ join_one {told} {count} {workers} {worker} {seat} {seat'} {gate} so_far is numbe
 
 -- the part of the worker that is joined next is out
 part_out : (place count : ℕ) (gate part : Option Content) → PartOut place count part gate →
-    IfSome gate (λ content. IfSome part (λ own. IsOut own.own.number content))
+    IfSome gate (λ content. IfSome part (λ own. IsPartOut own.own.number content))
 part_out place count None part out_part = tt
 part_out place count (Some content) None out_part = tt
 part_out place count (Some content) (Some own) out_part = (
@@ -270,9 +273,9 @@ part_out place count (Some content) (Some own) out_part = (
 
 -- the same of a worker
 pub worker_out : {G : Type 0} {told : G → Option Content} {faults : G → ℕ} {hall : StationState} {worker : Worker G}
-    (place count : ℕ) (gate : Option Content) → IfSome gate (AreOut place count) →
+    (place count : ℕ) (gate : Option Content) → IfSome gate (ArePartsOut place count) →
     (worker.number ≡ place) × IsWorker told faults hall worker → place < count →
-    IfSome gate (λ content. IfSome (told worker.part) (λ own. IsOut own.own.number content))
+    IfSome gate (λ content. IfSome (told worker.part) (λ own. IsPartOut own.own.number content))
 worker_out {told} {worker} place count gate out is inside =
     part_out place count gate (told worker.part)
     (record { inside = inside; number = number_of (told worker.part) worker.number place is.1.part is.0; out = out })
@@ -367,19 +370,20 @@ left_more {parts} {end} {end'} part left worse = record {
 }
 
 -- a station has the capacity and the limit that the words say
-pub record IsStationOf (serving : Serving) (hall : StationState) : Type 0 where
+pub record IsStationOf (serving : ServeArgs) (hall : StationState) : Type 0 where
   pub steps : hall.steps ≡ serving.capacity
   pub limit : hall.limit ≡ serving.journal
 
-abbrev terms_with : List CapacityStep → ℕ → ℕ → Terms
+abbrev terms_with : List CapStep → ℕ → ℕ → Terms
 terms_with steps limit maker = record { steps = steps; limit = limit; maker = maker }
 
 -- so has each seat of it
-seat_terms : {serving : Serving} {hall : StationState} {seat left : SeatState} (worker : ℕ) → IsStationOf serving hall →
+seat_terms : {serving : ServeArgs} {hall : StationState} {seat left : SeatState} (worker : ℕ) → IsStationOf serving hall
+    →
     IsSameSeat seat left → left.steps ≡ hall.steps →
     left.limit ≡ hall.limit → left.number ≡ worker + 1 → terms_of seat ≡ terms_for serving worker
 seat_terms {serving} {seat} {left} worker is same steps limit number =
-    ap (λ (s : List CapacityStep). terms_with s seat.limit seat.number) (sym same.steps ∙ steps ∙ is.steps)
+    ap (λ (s : List CapStep). terms_with s seat.limit seat.number) (sym same.steps ∙ steps ∙ is.steps)
     ∙ ap (λ (l : ℕ). terms_with serving.capacity l seat.number) (sym same.limit ∙ limit ∙ is.limit)
     ∙ ap (λ (n : ℕ). terms_with serving.capacity serving.journal n) (sym same.number ∙ number)
 
@@ -388,27 +392,27 @@ record WorkerJournal {G : Type 0} (worker : Worker G) (journal : List Entry) : T
   seen : List Entry
   front : IsPrefix worker.seat.seen seen
   whole : IsPrefix seen journal
-  made : worker.seat.mine ≡ made_by worker.seat.number journal
+  made : worker.seat.mine ≡ entries_by worker.seat.number journal
 
 -- a worker that served, as the closed journal and the gate tell of it
-one_worked : {G : Type 0} {told : G → Option Content} {faults : G → ℕ} {work : Working} {gate gate' : Outlet}
+one_worked : {G : Type 0} {told : G → Option Content} {faults : G → ℕ} {work : ServerRun} {gate gate' : WorkerGate}
     {hall : StationState} {worker : Worker G} →
     WorkerJournal worker work.journal → IsStationOf work.serving hall → IsWorker told faults hall worker →
     HasFinished told faults work.films (settings_of work.serving) work.seed worker →
-    IfSome gate'.told (HasBack worker.number (told worker.part)) →
+    IfSome gate'.told (IsPartBack worker.number (told worker.part)) →
     (0 < faults worker.part → HasRisen gate.faults gate'.faults) →
-    HasWorked work gate gate' worker.number worker.report
+    IsWorkerResult work gate gate' worker.number worker.report
 one_worked {told} {faults} {work} {worker} own of_words is finished back counted = record {
   seat = finished.seat;
   left = worker.seat;
   part = finished.part;
-  after = outlet (faults worker.part) (told worker.part);
+  after = worker_gate (faults worker.part) (told worker.part);
   served = finished.served;
   terms = seat_terms worker.number of_words finished.served.seat is.steps is.limit is.seat;
   mine = finished.mine;
   untouched = finished.untouched;
   seen = prefix_trans worker.seat.seen seen work.journal front whole;
-  made = made ∙ ap (λ (n : ℕ). made_by n work.journal) is.seat;
+  made = made ∙ ap (λ (n : ℕ). entries_by n work.journal) is.seat;
   back = back;
   counted = counted;
 }
@@ -420,39 +424,39 @@ pub record WorkersJournal {G : Type 0} (workers : List (Worker G)) (journal : Li
   pub seen : List Entry
   pub front : All (λ worker. IsPrefix worker.seat.seen seen) workers
   pub whole : IsPrefix seen journal
-  pub made : All (λ joined. joined.mine ≡ made_by joined.number journal) (map joined_of workers)
+  pub made : All (λ joined. joined.mine ≡ entries_by joined.number journal) (map joined_of workers)
 
 -- the parts of workers are back, and their faults counted
-pub record WorkersBack {G : Type 0} (told : G → Option Content) (faults : G → ℕ) (gate gate' : Outlet)
+pub record WorkersBack {G : Type 0} (told : G → Option Content) (faults : G → ℕ) (gate gate' : WorkerGate)
     (from : ℕ) (workers : List (Worker G)) : Type 0 where
-  pub back : AreBack told gate'.told from workers
+  pub back : ArePartsBack told gate'.told from workers
   pub counted : All (λ worker. 0 < faults worker.part → HasRisen gate.faults gate'.faults) workers
 
 -- workers of a station of the words' capacity and limit have finished
 pub record HaveFinished {G : Type 0} (told : G → Option Content) (faults : G → ℕ) (hall : StationState)
-    (work : Working) (from : ℕ) (workers : List (Worker G)) : Type 0 where
+    (work : ServerRun) (from : ℕ) (workers : List (Worker G)) : Type 0 where
   pub of_words : IsStationOf work.serving hall
   pub all : AreWorkers told faults hall from workers
   pub finished : All (HasFinished told faults work.films (settings_of work.serving) work.seed) workers
 
 pub all_worked : {G : Type 0} {told : G → Option Content} {faults : G → ℕ} {hall : StationState} {from : ℕ}
-    {gate gate' : Outlet} (work : Working) (workers : List (Worker G)) →
+    {gate gate' : WorkerGate} (work : ServerRun) (workers : List (Worker G)) →
     HaveFinished told faults hall work from workers → WorkersBack told faults gate gate' from workers →
-    WorkersJournal workers work.journal → AllWorked work gate gate' from (map report_of workers)
+    WorkersJournal workers work.journal → AreWorkerResults work gate gate' from (map report_of workers)
 all_worked work [] done backs own = tt
 all_worked {told} {faults} {hall} {from} {gate} {gate'} work (worker ∷ workers) done backs own =
     let Ends : Worker _ → Type 0 = HasFinished told faults work.films (settings_of work.serving) work.seed in
     let Saw : Worker _ → Type 0 = λ worker. IsPrefix worker.seat.seen seen in
     let Counts : Worker _ → Type 0 = λ worker. 0 < faults worker.part → HasRisen gate.faults gate'.faults in
-    let Made : Joined → Type 0 = λ joined. joined.mine ≡ made_by joined.number work.journal in
+    let MediaKind : Joined → Type 0 = λ joined. joined.mine ≡ entries_by joined.number work.journal in
     let first : WorkerJournal worker work.journal = record {
       seen = seen;
       front = All-head Saw worker workers front;
       whole = whole;
-      made = All-head Made (joined_of worker) (map joined_of workers) made;
+      made = All-head MediaKind (joined_of worker) (map joined_of workers) made;
     } in
-    let back_first = subst (λ (n : ℕ). IfSome gate'.told (HasBack n (told worker.part))) (sym all.0) back.0 in (
-      subst (λ (n : ℕ). HasWorked work gate gate' n worker.report) all.0
+    let back_first = subst (λ (n : ℕ). IfSome gate'.told (IsPartBack n (told worker.part))) (sym all.0) back.0 in (
+      subst (λ (n : ℕ). IsWorkerResult work gate gate' n worker.report) all.0
           (one_worked {work = work} first of_words all.1 (All-head Ends worker workers finished) back_first
           (All-head Counts worker workers counted)),
       all_worked {told = told} {faults = faults} {hall = hall} {from = from + 1} work workers
@@ -462,7 +466,7 @@ all_worked {told} {faults} {hall} {from} {gate} {gate'} work (worker ∷ workers
             seen = seen;
             front = All-tail Saw worker workers front;
             whole = whole;
-            made = All-tail Made (joined_of worker) (map joined_of workers) made;
+            made = All-tail MediaKind (joined_of worker) (map joined_of workers) made;
           }),
     )
   where

@@ -1,8 +1,8 @@
-pub mod Sights
+pub mod IoStates
 pub mod Run
-pub mod Watches
-pub mod Worked
+pub mod WatchSpec
+pub mod WorkerResults
 pub mod Workers
-pub mod Served
+pub mod ServerOutput
 pub mod Laws
 pub mod TextLaws

@@ -2,9 +2,9 @@
 use Rattle.std.specs.Prelude.{ℕ, ◌≡◌, ◌≢◌, List, ◌∷◌, ◌++◌, All}
 use Rattle.std.specs.Prelude.{codes, length}
 use Rattle.rtsp_client.specs.Meters.{count_over, count_under, most_waiting}
-use Rattle.rtsp_client.specs.Moments.{History, frames, payloads, reports, sizes}
-use Rattle.rtsp_client.specs.declared.wishes.Wish.{Wish}
-use Rattle.local_commands.specs.TextLaws.{GivesOnce}
+use Rattle.rtsp_client.specs.ClientHistory.{History, frames, payloads, reports, sizes}
+use Rattle.rtsp_client.specs.declared.watch_request.Wish.{Wish}
+use Rattle.offline_commands.specs.TextLaws.{GivesOnce}
 
 -- What a line tells of a client's play: the pictures that came whole, the film's bytes that were
 -- handed on, the frames and reports that came; the most bytes that waited to be played, at how many

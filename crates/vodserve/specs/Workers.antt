@@ -2,18 +2,18 @@
 use Rattle.std.specs.Prelude.{◌≡◌, ℕ, ◌+◌, ◌<◌, ◌≤◌, ⊤, List, [], ◌∷◌, All, length, map}
 use Rattle.std.specs.Prelude.{slice_index_or, Option, Some, None, IfSome}
 use mathlib.Core.List.{IsPrefix}
-use Rattle.vod_base.specs.Outside.{HasRisen}
+use Rattle.vod_base.specs.IoState.{HasRisen}
 use Rattle.vod_base.specs.Gates.{Content}
-use Rattle.film_frames.specs.declared.stores.Stored.{Stored}
+use Rattle.film_frames.specs.declared.stored_films.Stored.{Stored}
 use Rattle.session.specs.declared.settings.Settings.{Settings}
 use Rattle.turnstile.specs.declared.view.Joined.{Joined}
 use Rattle.station.specs.Seats.{StationState, SeatState, first_seat}
-use Rattle.conn.specs.Parts.{HasServedPart, IsUntouched, duty, outlet}
+use Rattle.conn.specs.Parts.{WorkerSpec, IsUntouched, worker_input, worker_gate}
 use Rattle.conn.specs.declared.reports.PartReport.{PartReport}
 use Rattle.conn.specs.declared.reports.PartEnd.TheVariants.{GateFault as PartFault}
-use Rattle.troubles.specs.declared.faults.Trouble.{Trouble}
-use Rattle.troubles.specs.declared.faults.Trouble.TheVariants.{NoMemory, GateFault}
-use Rattle.vodserve.specs.Worked.{HasBack}
+use Rattle.cli_errors.specs.declared.errors.CliError.{CliError}
+use Rattle.cli_errors.specs.declared.errors.CliError.TheVariants.{NoMemory, GateFault}
+use Rattle.vodserve.specs.WorkerResults.{IsPartBack}
 use Rattle.vodserve.specs.declared.workers.Worker.{Worker}
 
 -- a worker has the seat of the number after its own, and the part of the gate of its own number;
@@ -41,8 +41,8 @@ pub record HasFinished {G : Type 0} (told : G → Option Content) (faults : G �
     (films : List Stored) (settings : Settings) (seed : List ℕ) (worker : Worker G) : Type 0 where
   pub seat : SeatState
   pub part : Option Content
-  pub served : HasServedPart (duty films settings seed worker.number) seat worker.seat
-      (outlet 0 part) (outlet (faults worker.part) (told worker.part)) worker.report
+  pub served : WorkerSpec (worker_input films settings seed worker.number) seat worker.seat
+      (worker_gate 0 part) (worker_gate (faults worker.part) (told worker.part)) worker.report
   pub number : seat.number ≡ worker.number + 1
   pub mine : seat.mine ≡ []
   pub untouched : IfSome part IsUntouched
@@ -63,16 +63,17 @@ pub record IsNotOpened (before : Option Content) (gate : Content) : Type 0 where
   pub own : gate.own ≡ told.own
 
 -- of the gate's parts those from one on are out
-pub record AreOut (from count : ℕ) (content : Content) : Type 0 where
+pub record ArePartsOut (from count : ℕ) (content : Content) : Type 0 where
   pub counted : length content.parts ≡ count
   pub out : (k : ℕ) → from ≤ k → k < count → slice_index_or content.parts k None ≡ None
 
 -- the parts of workers, whose numbers go on from one, are back in the gate
-abbrev pub AreBack : {G : Type 0} → (G → Option Content) → Option Content → ℕ → List (Worker G) →
+abbrev pub ArePartsBack : {G : Type 0} → (G → Option Content) → Option Content → ℕ → List (Worker G)
+    →
     Type 0
-AreBack told gate from [] = ⊤
-AreBack told gate from (worker ∷ workers) = IfSome gate (HasBack from (told worker.part))
-    × AreBack told gate (from + 1) workers
+ArePartsBack told gate from [] = ⊤
+ArePartsBack told gate from (worker ∷ workers) = IfSome gate (IsPartBack from (told worker.part))
+    × ArePartsBack told gate (from + 1) workers
 
 -- the first seat, after it was split so often
 abbrev pub split_seat : StationState → ℕ → SeatState
@@ -97,11 +98,11 @@ pub record AreJoined {G : Type 0} (told : G → Option Content) (hall : StationS
   pub splits : seat.splits ≡ count
   pub joined : seat.joined ≡ map joined_of workers
   pub seen : All (λ worker. IsPrefix worker.seat.seen seat.seen) workers
-  pub out : IfSome gate (AreOut (length workers) count)
-  pub back : AreBack told gate 0 workers
+  pub out : IfSome gate (ArePartsOut (length workers) count)
+  pub back : ArePartsBack told gate 0 workers
 
 -- no seat or no part could be made
-abbrev pub IsMakeTrouble : ℕ → ℕ → Trouble → Type 0
-IsMakeTrouble faults faults' NoMemory = ⊤
-IsMakeTrouble faults faults' GateFault = HasRisen faults faults'
-IsMakeTrouble faults faults' _ = ⊥
+abbrev pub IsMakeWorkersError : ℕ → ℕ → CliError → Type 0
+IsMakeWorkersError faults faults' NoMemory = ⊤
+IsMakeWorkersError faults faults' GateFault = HasRisen faults faults'
+IsMakeWorkersError faults faults' _ = ⊥

@@ -1,18 +1,18 @@
 //! The commands `day` and `fair`.
 
 ghost use Rattle.std.specs.Prelude.{◌≡◌, ◌≤◌, None, [], List, ℕ};
-ghost use Rattle.command_words.specs.Orders.{script_run_of};
-ghost use Rattle.command_words.specs.Ranges.{IsFairRunInRange, IsScriptRunInRange};
-ghost use Rattle.troubles.specs.Causes.{IsReadOnly};
-ghost use Rattle.vodserve.specs.Run.{IsWritten, RunsDay, RunsFair};
-ghost use Rattle.vodserve.specs.Sights.{sight_of, streams};
+ghost use Rattle.cli_args.specs.InvocationViews.{script_run_of};
+ghost use Rattle.cli_args.specs.Ranges.{IsFairRunInRange, IsScriptRunInRange};
+ghost use Rattle.cli_errors.specs.ReadErrors.{IsReadOnly};
+ghost use Rattle.vodserve.specs.Run.{IsWritten, DaySpec, FairSpec};
+ghost use Rattle.vodserve.specs.IoStates.{io_state_of, streams};
 
-use crate::ends::{Ended, end_with};
-use command_words::{FairRun, ScriptRun};
+use crate::run_results::{Ended, end_with};
+use cli_args::{FairRun, ScriptRun};
+use cli_errors::CliError;
 use day_run::Day;
-use local_commands::{load_script, load_sources, run_day, run_fair};
+use offline_commands::{load_script, load_sources, run_day, run_fair};
 use std::alloc::Global;
-use troubles::Trouble;
 use vod_base::{Library, NoMemory, Sink};
 
 /// Runs a script: reads it and what it names, runs it and prints what it printed.
@@ -26,23 +26,23 @@ pub(crate) fn day<L: Library, O: Sink, E: Sink>(
     requires { IsScriptRunInRange run.now }
     ensures library { IsReadOnly L.files L.faults library.old library.new }
     ensures count { O.faults out.old ≤ O.faults out.new }
-    ensures runs { RunsDay
-        (sight_of L.faults L.files library.old) (sight_of L.faults L.files library.new)
-        (streams (sight_of O.faults O.written out.old) (sight_of O.faults O.written out.new)
-        (sight_of E.faults E.written err.old) (sight_of E.faults E.written err.new))
+    ensures runs { DaySpec
+        (io_state_of L.faults L.files library.old) (io_state_of L.faults L.files library.new)
+        (streams (io_state_of O.faults O.written out.old) (io_state_of O.faults O.written out.new)
+        (io_state_of E.faults E.written err.old) (io_state_of E.faults E.written err.new))
         (script_run_of run.now) result }
 {
     let script = match load_script(alloc, library, run.script) {
         Ok(script) => script,
-        Err(trouble) => return end_with(alloc, err, trouble),
+        Err(error) => return end_with(alloc, err, error),
     };
     let sources = match load_sources(alloc, library, &script.named) {
         Ok(sources) => sources,
-        Err(trouble) => return end_with(alloc, err, trouble),
+        Err(error) => return end_with(alloc, err, error),
     };
     match run_day(alloc, run, &script, &sources) {
         Ok(day) => end_day(alloc, out, err, day),
-        Err(NoMemory) => end_with(alloc, err, Trouble::NoMemory),
+        Err(NoMemory) => end_with(alloc, err, CliError::NoMemory),
     }
 }
 
@@ -55,14 +55,14 @@ pub(crate) fn fair<O: Sink, E: Sink>(
 ) -> Ended
     requires { IsFairRunInRange run.now }
     ensures count { O.faults out.old ≤ O.faults out.new }
-    ensures runs { RunsFair
-        (streams (sight_of O.faults O.written out.old) (sight_of O.faults O.written out.new)
-        (sight_of E.faults E.written err.old) (sight_of E.faults E.written err.new))
+    ensures runs { FairSpec
+        (streams (io_state_of O.faults O.written out.old) (io_state_of O.faults O.written out.new)
+        (io_state_of E.faults E.written err.old) (io_state_of E.faults E.written err.new))
         run.now result }
 {
     match run_fair(alloc, run) {
         Ok(day) => end_day(alloc, out, err, day),
-        Err(NoMemory) => end_with(alloc, err, Trouble::NoMemory),
+        Err(NoMemory) => end_with(alloc, err, CliError::NoMemory),
     }
 }
 
@@ -72,14 +72,14 @@ fn end_day<O: Sink, E: Sink>(alloc: Global, out: &mut O, err: &mut E, day: Day) 
     ensures reports { result.reports.items ≡ [] }
     ensures count { O.faults out.old ≤ O.faults out.new }
     ensures written { IsWritten
-        (streams (sight_of O.faults O.written out.old) (sight_of O.faults O.written out.new)
-        (sight_of E.faults E.written err.old) (sight_of E.faults E.written err.new))
+        (streams (io_state_of O.faults O.written out.old) (io_state_of O.faults O.written out.new)
+        (io_state_of E.faults E.written err.old) (io_state_of E.faults E.written err.new))
         day.text.items 0 None result }
 {
     let Day { text, journal } = day;
     let mut ended = match out.write_all(&text) {
         Ok(()) => Ended::with_status(alloc, 0),
-        Err(_) => end_with(alloc, err, Trouble::SinkFault),
+        Err(_) => end_with(alloc, err, CliError::SinkFault),
     };
     ended.journal = journal;
     ended

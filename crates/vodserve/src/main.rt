@@ -3,21 +3,22 @@
 #![tactic(auto)]
 
 mod days;
-mod ends;
 mod laws;
 mod run;
-mod served;
-mod serving;
+mod run_results;
+mod server;
+mod server_output;
 #[cfg(test)]
 mod tests;
 mod text_laws;
-mod watches;
+mod watch_command;
 mod workers;
 
-use crate::ends::end_with;
 use crate::run::run;
-use command_words::{Command, command_named};
-use net_edge::{DialGate, FileLibrary, OutSink, TcpGate};
+use crate::run_results::end_with;
+use cli_args::{Subcommand, subcommand_named};
+use cli_errors::CliError;
+use net_edge::{DialGate, FileLibrary, OutSink, TcpGate, TcpPort};
 use std::alloc::AllocError;
 use std::env;
 use std::io::ErrorKind;
@@ -26,11 +27,10 @@ use std::random::RandomSource;
 use std::rt::{Env, Files};
 use std::sync::Wait;
 use std::thread::Threads;
-use troubles::Trouble;
 use vod_base::{Gate, Sink};
 
 /// The words after the program's name. One that isn't UTF-8 leaves none, which mean nothing.
-fn program_words(rt: &(impl Env + AllocGlobal)) -> Result<Vec<String>, AllocError> {
+fn program_args(rt: &(impl Env + AllocGlobal)) -> Result<Vec<String>, AllocError> {
     match env::args(rt) {
         Ok(args) => args.skip(1).collect(rt.alloc()),
         Err(error) if error.kind() == ErrorKind::OutOfMemory => Err(AllocError),
@@ -39,12 +39,14 @@ fn program_words(rt: &(impl Env + AllocGlobal)) -> Result<Vec<String>, AllocErro
 }
 
 /// The command that the first word names.
-fn command_of(words: &[String]) -> Option<Command> {
-    words.first().and_then(|word| command_named(word.as_str()))
+fn command_of(words: &[String]) -> Option<Subcommand> {
+    words
+        .first()
+        .and_then(|word| subcommand_named(word.as_str()))
 }
 
 /// Carries out the words over the files of the current folder and a gate; answers the exit status.
-fn status_over<R, O: Sink, E: Sink, G: Gate + Send + Drop>(
+fn run_over_gate<R, O: Sink, E: Sink, G: Gate + Send + Drop>(
     rt: &R,
     words: &[String],
     out: &mut O,
@@ -60,26 +62,26 @@ where
     run(rt, rt.alloc(), words, &mut library, out, err, gate, seed).status
 }
 
-/// Carries out the words of the command line, over a gate of the kind that they ask for: a client
-/// makes a connection where a server waits for them. The gate fails where there are no random
-/// bytes, from which the identities of a server's connections are drawn.
+/// Carries out the arguments of the command line, over a gate of the kind that they ask for: a
+/// client makes a connection where a server waits for them. The gate fails where there are no
+/// random bytes, from which the identities of a server's connections are drawn.
 fn main(rt: HostRuntime) -> ExitCode {
     let mut out = OutSink::new(rt.stdout());
     let mut err = OutSink::new(rt.stderr());
-    let Ok(words) = program_words(&rt) else {
-        return ExitCode::from(end_with(rt.alloc(), &mut err, Trouble::NoMemory).status);
+    let Ok(words) = program_args(&rt) else {
+        return ExitCode::from(end_with(rt.alloc(), &mut err, CliError::NoMemory).status);
     };
     let command = command_of(&words);
     let mut seed = [0; 32];
-    if command == Some(Command::Serve) && rt.fill_bytes(&mut seed).is_err() {
-        return ExitCode::from(end_with(rt.alloc(), &mut err, Trouble::GateFault).status);
+    if command == Some(Subcommand::Serve) && rt.fill_bytes(&mut seed).is_err() {
+        return ExitCode::from(end_with(rt.alloc(), &mut err, CliError::GateFault).status);
     }
-    let status = if command == Some(Command::Watch) {
+    let status = if command == Some(Subcommand::Watch) {
         let mut gate = DialGate::new(&rt, rt.alloc());
-        status_over(&rt, &words, &mut out, &mut err, &mut gate, seed)
+        run_over_gate(&rt, &words, &mut out, &mut err, &mut gate, seed)
     } else {
-        let mut gate = TcpGate::new(&rt, rt.alloc());
-        status_over(&rt, &words, &mut out, &mut err, &mut gate, seed)
+        let mut gate = TcpGate::new(TcpPort::new(&rt, rt.alloc()));
+        run_over_gate(&rt, &words, &mut out, &mut err, &mut gate, seed)
     };
     ExitCode::from(status)
 }

@@ -1,4 +1,4 @@
-//! Traces, certificates, generated material and the words of the command line, through `run`.
+//! Traces, certificates, generated material and the arguments of the command line, through `run`.
 
 mod days;
 mod films;

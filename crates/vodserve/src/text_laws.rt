@@ -2,16 +2,16 @@
 
 ghost use Rattle.std.specs.Prelude.{◌≡◌, ◌<◌, ◌^◌, ℕ, List, length};
 ghost use Rattle.admission.specs.declared.entries.Entry.{Entry};
-ghost use Rattle.vodserve.specs.Served.{served_text};
+ghost use Rattle.vodserve.specs.ServerOutput.{served_text};
 ghost use Rattle.rtsp_client.specs.Meters.{watched_in};
-ghost use Rattle.rtsp_client.specs.Moments.{History};
-ghost use Rattle.rtsp_client.specs.declared.wishes.Wish.{Wish};
+ghost use Rattle.rtsp_client.specs.ClientHistory.{History};
+ghost use Rattle.rtsp_client.specs.declared.watch_request.Wish.{Wish};
 ghost use Rattle.vodserve.specs.TextLaws.{TellsPlay, TellsServed};
-ghost use Rattle.vodserve.specs.Watches.{IsShortWatched, watched_text};
+ghost use Rattle.vodserve.specs.WatchSpec.{IsShortWatched, watched_text};
 
 /// A law: the text of a server tells, in its last line, how many connections were served and how
 /// many entries its journal has.
-pub fn law_served_tells_counts()
+pub fn law_last_line_determines_counts()
     ensures line { (entries : List Entry) (connections : ℕ) → connections < 2 ^ 64 →
         length entries < 2 ^ 64 →
         TellsServed connections (length entries) (served_text entries connections) }
@@ -29,7 +29,7 @@ pub fn law_served_tells_counts()
 
 /// A law: the line that a client says at a film's end tells, each by its key, what came of the film
 /// and what the meter of the buffer read.
-pub fn law_line_tells_play()
+pub fn law_watch_line_determines_result()
     ensures { (wish : Wish) (history : History) → IsShortWatched (watched_in wish history) →
         TellsPlay wish history (watched_text (watched_in wish history)) }
 {}

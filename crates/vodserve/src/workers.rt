@@ -2,17 +2,18 @@
 
 ghost use Rattle.std.specs.Prelude.{◌≡◌, ◌<◌, ◌≤◌, ◌⊎◌, ◌++◌, ◌∷◌, [], List, length, map, All};
 ghost use Rattle.std.specs.Prelude.{IfSome, IfErr, OnOk};
-ghost use Rattle.vod_base.specs.Outside.{HasRisen};
+ghost use Rattle.vod_base.specs.IoState.{HasRisen};
 ghost use Rattle.vod_base.specs.declared.gates.Opening.{Opening};
-ghost use Rattle.session.specs.Standings.{AreFilms, AreSettings};
+ghost use Rattle.session.specs.SessionStates.{AreFilms, AreSettings};
 ghost use Rattle.station.specs.Seats.{first_seat};
 ghost use Rattle.conn.specs.declared.reports.PartReport.{PartReport};
-ghost use Rattle.vodserve.specs.Served.{IsNewlyOpen};
-ghost use Rattle.vodserve.specs.Worked.{AreLeft, IsOpenAs, IsWorse};
-ghost use Rattle.vodserve.specs.Workers.{AreJoined, AreOut, AreWorkers, HasFinished, IsFresh};
-ghost use Rattle.vodserve.specs.Workers.{IsMakeTrouble, IsNotOpened, IsWorker, report_of};
+ghost use Rattle.vodserve.specs.ServerOutput.{IsNewlyOpen};
+ghost use Rattle.vodserve.specs.WorkerResults.{AreLeft, IsOpenAs, IsWorse};
+ghost use Rattle.vodserve.specs.Workers.{AreJoined, ArePartsOut, AreWorkers, HasFinished, IsFresh};
+ghost use Rattle.vodserve.specs.Workers.{IsMakeWorkersError, IsNotOpened, IsWorker, report_of};
 ghost use Rattle.vodserve.specs.Workers.{split_seat};
 
+use cli_errors::CliError;
 use conn::{ConnReport, PartEnd, PartReport, serve_part};
 use film_frames::Stored;
 use session::Settings;
@@ -21,7 +22,6 @@ use std::alloc::Global;
 use std::sync::Wait;
 use std::thread;
 use std::thread::Threads;
-use troubles::Trouble;
 use vod_base::Gate;
 
 /// A worker of a server: its number from 0, its seat at the station, its part of the gate, and what
@@ -43,7 +43,7 @@ pub(crate) struct Service<'a> {
     pub(crate) seed: [u8; 32],
 }
 
-/// Makes workers, each with a part of the gate and a seat. After a trouble there are those that
+/// Makes workers, each with a part of the gate and a seat. After an error there are those that
 /// were made before it.
 pub(crate) fn make_workers<G: Gate + Drop>(
     alloc: Global,
@@ -52,7 +52,7 @@ pub(crate) fn make_workers<G: Gate + Drop>(
     gate: &mut G,
     count: u32,
     workers: &mut Vec<Worker<G>>,
-) -> Result<(), Trouble<'static>>
+) -> Result<(), CliError<'static>>
     requires seat { seat.old ≡ first_seat station.now }
     requires opened { (opening : Opening) × IsNewlyOpen opening (G.told gate.old) }
     requires few { count ≤ 256 }
@@ -63,10 +63,10 @@ pub(crate) fn make_workers<G: Gate + Drop>(
     ensures seat { seat.new ≡ split_seat station.now (length workers.new.items) }
     ensures workers { AreWorkers G.told G.faults station.now 0 workers.new.items }
     ensures fresh { All (IsFresh G.told G.faults) workers.new.items }
-    ensures parts { IfSome (G.told gate.new) (AreOut 0 (length workers.new.items)) }
+    ensures parts { IfSome (G.told gate.new) (ArePartsOut 0 (length workers.new.items)) }
     ensures made { OnOk result (length workers.new.items ≡ count) }
-    ensures trouble { IfErr result (IsMakeTrouble (G.faults gate.old) (G.faults gate.new)) }
-    ensures fewer { IfErr result (λ trouble. length workers.new.items < count) }
+    ensures error { IfErr result (IsMakeWorkersError (G.faults gate.old) (G.faults gate.new)) }
+    ensures fewer { IfErr result (λ error. length workers.new.items < count) }
     ensures since { IfSome (G.told gate.new) (IsNotOpened (G.told gate.old)) }
 {
     for number in 0..count {
@@ -122,7 +122,7 @@ where
 }
 
 /// Joins the workers' seats and parts, collects their reports in the order of the workers, and
-/// answers the worst of their ends, or want of memory where there was none for the reports.
+/// answers the worst of their ends, or out of memory where there was none for the reports.
 pub(crate) fn join_workers<G: Gate + Drop>(
     station: &Station,
     seat: &mut Seat,
@@ -132,7 +132,7 @@ pub(crate) fn join_workers<G: Gate + Drop>(
 ) -> PartEnd
     requires seat { seat.old ≡ split_seat station.now (length workers.items) }
     requires workers { AreWorkers G.told G.faults station.now 0 workers.items }
-    requires parts { IfSome (G.told gate.old) (AreOut 0 (length workers.items)) }
+    requires parts { IfSome (G.told gate.old) (ArePartsOut 0 (length workers.items)) }
     requires none { reports.old.items ≡ [] }
     ensures joined { AreJoined G.told station.now (length workers.items) workers.items
         seat.new (G.told gate.new) }
@@ -183,7 +183,7 @@ fn work<R: Wait, G: Gate>(rt: &R, alloc: Global, service: Service<'_>, worker: &
     );
 }
 
-/// The worse of two ends: want of memory before a fault of the gate.
+/// The worse of two ends: out of memory before a fault of the gate.
 fn worse_end(one: PartEnd, other: PartEnd) -> PartEnd
     ensures { IsWorse one other result }
 {
@@ -194,7 +194,7 @@ fn worse_end(one: PartEnd, other: PartEnd) -> PartEnd
     }
 }
 
-/// Appends a worker's reports, and answers the worse of its end and of another, or want of memory
+/// Appends a worker's reports, and answers the worse of its end and of another, or out of memory
 /// where there was none for the reports.
 fn add_reports(end: PartEnd, report: PartReport, reports: &mut Vec<ConnReport>) -> PartEnd
     ensures left { (parts : List PartReport) → AreLeft parts end reports.old.items →

@@ -1,5 +1,5 @@
-pub mod Sums
-pub mod UseLaws
-mod SoundLaws
-pub mod Exact
-pub mod PlayedLaws
+pub mod PictureSums
+pub mod SlotUsageLemmas
+mod SoundCurveLemmas
+pub mod FaultExclusion
+pub mod PlayedPictureLemmas

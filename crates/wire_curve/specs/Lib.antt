@@ -1,5 +1,5 @@
-pub mod Sound
+pub mod SoundCurves
 pub mod FilmCurves
-pub mod Refusal
-pub mod Uses
-pub mod Played
+pub mod CurveFaults
+pub mod SlotUsage
+pub mod PlayedPictures

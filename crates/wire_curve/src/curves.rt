@@ -1,7 +1,7 @@
 //! The type of the curves, and whether they are sound.
 
 ghost use Rattle.std.specs.Prelude.{◌≡◌, ℕ, ◌+◌, ◌<◌, ◌≤◌, ◌↔◌, IsTrue, length, slice_index};
-ghost use Rattle.wire_curve.specs.Sound.{IsSound};
+ghost use Rattle.wire_curve.specs.SoundCurves.{AreSound};
 
 use vod_base::{MAX_BYTES, MAX_SLOTS};
 
@@ -25,7 +25,7 @@ impl Curves {
     ///
     /// It takes no memory, and time linear in the slots.
     pub fn is_sound(&self) -> bool
-        ensures { IsTrue result ↔ IsSound self.now.from self.now.low.items self.now.up.items }
+        ensures { IsTrue result ↔ AreSound self.now.from self.now.low.items self.now.up.items }
     {
         let low = self.low.as_slice();
         let up = self.up.as_slice();

@@ -3,13 +3,15 @@
 ghost use Rattle.std.specs.Prelude.{◌≡◌, ℕ, ◌+◌, ◌-◌, ◌<◌, ◌≤◌, ◌^◌, length, sum, slice_index};
 ghost use Rattle.std.specs.Prelude.{vec_len, IsTrue, ◌↔◌, MatchOption, IfOk, IfErr, IfSome, IfNone};
 ghost use Rattle.std.specs.Prelude.{OnOk, All, max, min};
-ghost use Rattle.wire_curve.specs.Sound.{IsSound};
+ghost use Rattle.wire_curve.specs.SoundCurves.{AreSound};
 ghost use Rattle.wire_curve.specs.FilmCurves.{due_slot, bytes_used_in, total_of, slot_count};
 ghost use Rattle.wire_curve.specs.FilmCurves.{IsWithinLimits};
 ghost use Rattle.wire_curve.specs.FilmCurves.{AreFilmCurves};
-ghost use Rattle.wire_curve.specs.Uses.{AreUses, IsFaultOfUses, AreCurvesOfUses, IsLowerOfUses};
-ghost use Rattle.wire_curve.specs.Uses.{IsUpperOfUses};
-ghost use Rattle.wire_curve.specs.Refusal.{IsAccepted, IsOverfull, HasFault, IsRefused};
+ghost use Rattle.wire_curve.specs.SlotUsage.{AreSlotUses, IsFaultOfSlotUses, AreCurvesOfUses};
+ghost use Rattle.wire_curve.specs.SlotUsage.{IsLowerOfUses};
+ghost use Rattle.wire_curve.specs.SlotUsage.{IsUpperOfUses};
+ghost use Rattle.wire_curve.specs.CurveFaults.{IsAccepted, IsBufferTooSmall, HasCurveFault};
+ghost use Rattle.wire_curve.specs.CurveFaults.{IsRefused};
 
 use crate::curves::Curves;
 use std::alloc::{AllocError, Global};
@@ -140,7 +142,7 @@ pub fn film_curves(alloc: Global, sizes: &[u64], timing: &Timing) -> Result<Curv
     requires { IsWithinLimits sizes.now timing.now }
     ensures accepted { OnOk result (IsAccepted sizes.now timing.now) }
     ensures curves { IfOk result (λ curves. AreFilmCurves sizes.now timing.now curves) }
-    ensures sound { IfOk result (λ curves. IsSound curves.from curves.low.items curves.up.items) }
+    ensures sound { IfOk result (λ curves. AreSound curves.from curves.low.items curves.up.items) }
     ensures refused { IfErr result (λ refusal. IsRefused sizes.now timing.now refusal) }
 {
     let Some(last) = sizes.len().checked_sub(1) else {
@@ -150,7 +152,7 @@ pub fn film_curves(alloc: Global, sizes: &[u64], timing: &Timing) -> Result<Curv
     if slots > MAX_SLOTS {
         return Err(CurveRefused::Fault(CurveFault::TooManySlots { slots }));
     }
-    let uses = uses_of_slots(alloc, sizes, timing, slots as usize)?;
+    let uses = sum_slot_uses(alloc, sizes, timing, slots as usize)?;
     if let Some(fault) = buffer_fault(&uses.in_slot, timing.buffer) {
         return Err(CurveRefused::Fault(fault));
     }
@@ -167,7 +169,7 @@ struct SlotUses {
 }
 
 /// Adds up the pictures of each slot, in one pass over the sizes.
-fn uses_of_slots(
+fn sum_slot_uses(
     alloc: Global,
     sizes: &[u64],
     timing: &Timing,
@@ -176,7 +178,7 @@ fn uses_of_slots(
     requires limits { IsWithinLimits sizes.now timing.now }
     requires some_picture { 0 < length sizes.now }
     requires slots { slots ≡ slot_count sizes.now timing.now }
-    ensures in_slot { IfOk result (λ uses. AreUses sizes.now timing.now uses.in_slot.items) }
+    ensures in_slot { IfOk result (λ uses. AreSlotUses sizes.now timing.now uses.in_slot.items) }
     ensures total { IfOk result (λ uses. uses.total ≡ total_of sizes.now timing.now) }
 {
     let mut in_slot = vec![in alloc; 0u64; slots]?;
@@ -192,7 +194,7 @@ fn uses_of_slots(
 /// The fault of a buffer that doesn't hold what some slot uses.
 fn buffer_fault(in_slot: &[u64], buffer: u64) -> Option<CurveFault>
     ensures holds { IfNone result (All (λ used. used ≤ buffer) in_slot.now) }
-    ensures overfull { IfSome result (IsFaultOfUses in_slot.now buffer) }
+    ensures overfull { IfSome result (IsFaultOfSlotUses in_slot.now buffer) }
 {
     let slot = in_slot.iter().position(|used| *used > buffer)?;
     let used = in_slot[slot];

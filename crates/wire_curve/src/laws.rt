@@ -4,13 +4,13 @@ ghost use Rattle.std.specs.Prelude.{◌≡◌, ℕ, ◌+◌, ◌*◌, ◌<◌, �
 ghost use Rattle.wire_curve.specs.declared.film.Timing.{Timing};
 ghost use Rattle.wire_curve.specs.FilmCurves.{due_slot, used_before, bytes_used_in, low_at, up_at};
 ghost use Rattle.wire_curve.specs.FilmCurves.{total_of};
-ghost use Rattle.wire_curve.specs.Played.{AreUsedBy, AreUsedBefore, played_to};
+ghost use Rattle.wire_curve.specs.PlayedPictures.{AreUsedBy, AreUsedBefore, played_to};
 ghost use Rattle.wire_curve.specs.declared.film.CurveFault.TheVariants.{BufferTooSmall};
-ghost use Rattle.wire_curve.specs.Refusal.{HasFault, IsAccepted};
+ghost use Rattle.wire_curve.specs.CurveFaults.{HasCurveFault, IsAccepted};
 
 /// A law: a picture is used in the slot in whose time its own time begins, where slots are counted
 /// from the end of the delay.
-pub fn law_due_slot()
+pub fn law_picture_is_used_in_its_slot()
     ensures { (timing : Timing) (k s : ℕ) → 1 ≤ timing.slot_units →
         (due_slot timing k ≡ s + timing.delay)
         ↔ ((s * timing.slot_units ≤ k * timing.picture_units)
@@ -21,7 +21,7 @@ pub fn law_due_slot()
 /// their bytes, or what was sent before. Some are those that are used before it begins: the upper
 /// curve is their bytes and a full buffer, or all bytes. From one slot to the next what is used
 /// grows by what the slot uses.
-pub fn law_curves()
+pub fn law_curves_follow_the_played_pictures()
     ensures some_by { (sizes : List ℕ) (timing : Timing) (t : ℕ) → 1 ≤ timing.slot_units →
         (n : ℕ) × AreUsedBy sizes timing n t }
     ensures low { (sizes : List ℕ) (timing : Timing) (n t : ℕ) → AreUsedBy sizes timing n t →
@@ -37,8 +37,8 @@ pub fn law_curves()
 
 /// A law: where a buffer is too small, the pictures have curves for the same client with another
 /// buffer exactly where that holds the least one named, or more.
-pub fn law_least_buffer()
+pub fn law_least_buffer_is_exact()
     ensures { (sizes : List ℕ) (timing : Timing) (slot used least buffer : ℕ) →
-        HasFault sizes timing (BufferTooSmall slot used least) →
+        HasCurveFault sizes timing (BufferTooSmall slot used least) →
         (IsAccepted sizes (record timing { buffer = buffer }) ↔ (least ≤ buffer)) }
 {}

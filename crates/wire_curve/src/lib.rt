@@ -9,11 +9,10 @@
 
 mod curves;
 mod film;
-mod laws;
+pub mod laws;
 
 pub use curves::Curves;
 pub use film::{CurveFault, CurveRefused, Timing, film_curves};
-pub use laws::{law_curves, law_due_slot, law_least_buffer};
 
 #[cfg(test)]
 mod tests;

@@ -84,22 +84,22 @@ impl PlainBook<'_> {
     }
 
     fn full(&self) -> Full {
-        let mut open_plays = 0_u64;
+        let mut live = 0_u64;
         for played in &self.plays {
             if played.open {
-                open_plays = open_plays.saturating_add(1);
+                live = live.saturating_add(1);
             }
         }
         Full {
             entries: self.entries,
-            open_plays,
+            live,
         }
     }
 
     // The numbers, where `more` entries have no room.
     fn full_for(&self, more: u64) -> Option<Full> {
         let full = self.full();
-        let taken = full.entries.saturating_add(full.open_plays);
+        let taken = full.entries.saturating_add(full.live);
         if taken.saturating_add(more) > self.limit {
             Some(full)
         } else {

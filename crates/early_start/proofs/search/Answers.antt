@@ -1,6 +1,6 @@
 use Rattle.std.proofs.Common.{◌∙◌, sym, ap, rules, ◌+◌, length}
 use Rattle.std.proofs.lemmas.List.{length_push}
-use Rattle.early_start.proofs.Refusals.{refusals_more}
+use Rattle.early_start.proofs.RefusedStarts.{refusals_more}
 use Rattle.early_start.proofs.search.Goals as goal
 
 pub loop-later-preserved : goal.loop-later-preserved

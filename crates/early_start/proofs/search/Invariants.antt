@@ -1,5 +1,5 @@
 use Rattle.std.proofs.Common.{◌≡◌, ◌≤◌, length, vec_capacity}
-use Rattle.early_start.specs.Offered.{AreRefusalsIn}
+use Rattle.early_start.specs.StartSearch.{AreRefusalsIn}
 use Rattle.early_start.proofs.search.Given as goal
 
 abbrev pub invariant-loop-later : goal.invariant-loop-later

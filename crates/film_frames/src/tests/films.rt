@@ -2,10 +2,12 @@
 //! B is film A, a P picture and one slice; film C is film B, a group header, an I picture and one
 //! slice. Expected bytes are worked out by hand from RFC 2326 section 10.12, RFC 3550 and RFC 2250.
 
-use crate::{
-    Frames, Stored, Track, law_counts_on, law_film_comes_back, law_piece_sizes, law_pieces_ended,
-    law_reports_count, law_wire_sizes,
+use crate::laws::{
+    law_ended_pieces_are_counted, law_frame_and_report_sizes_are_exact,
+    law_payloads_are_film_bytes, law_reports_count_frames_sent_before,
+    law_sequence_numbers_are_consecutive, law_wire_size_of_film_is_bounded,
 };
+use crate::{Frames, Stored, Track};
 use mpeg_scan::scan;
 use rtp_pack::Identity;
 use std::alloc::Global;
@@ -203,11 +205,11 @@ fn run_of<'a>(
     if first_unit >= end_unit || end_unit > stored.film.units.len() {
         return Err(Fail::from("a unit is missing"));
     }
-    law_film_comes_back();
-    law_counts_on();
-    law_reports_count();
-    law_piece_sizes();
-    law_pieces_ended();
+    law_payloads_are_film_bytes();
+    law_sequence_numbers_are_consecutive();
+    law_reports_count_frames_sent_before();
+    law_frame_and_report_sizes_are_exact();
+    law_ended_pieces_are_counted();
     Ok(Frames::new(stored, first_unit, end_unit, identity))
 }
 
@@ -215,7 +217,7 @@ fn run_of<'a>(
 fn sends_whole_films(rt: HostRuntime) -> Result<(), Fail> {
     let alloc = rt.alloc();
     let film_c = stored(alloc, joined(alloc, &[HEAD_A, SLICE, UNIT_B, UNIT_C])?)?;
-    law_wire_sizes();
+    law_wire_size_of_film_is_bounded();
     let mut want = joined(
         alloc,
         &[

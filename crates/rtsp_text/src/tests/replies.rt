@@ -38,7 +38,7 @@ fn put_info(reply: &mut Reply, authority: &[u8])
     requires fits { length reply.old ≤ 1000 }
     ensures { length reply.new ≤ 20000 }
 {
-    reply.field_of(
+    reply.field_from_parts(
         b"RTP-Info",
         &[
             b"url=rtsp://".as_slice(),

@@ -3,7 +3,7 @@
 
 use crate::run::run;
 use crate::tests::materials::{FILM, library_of_film, words_of};
-use net_edge::{DialGate, TcpGate};
+use net_edge::{DialGate, TcpGate, TcpPort};
 use std::alloc::Global;
 use std::net::{Net, TcpListener, TcpStream};
 use std::sync::Wait;
@@ -59,7 +59,7 @@ fn free_port<R: Net<Listener = TcpListener, Stream = TcpStream> + Clock>(
     rt: &R,
     alloc: Global,
 ) -> u16 {
-    let mut gate = TcpGate::new(rt, alloc);
+    let mut gate = TcpGate::new(TcpPort::new(rt, alloc));
     let opening = Opening {
         port: 0,
         all: false,
@@ -67,7 +67,7 @@ fn free_port<R: Net<Listener = TcpListener, Stream = TcpStream> + Clock>(
         slot_units: 3_600,
     };
     match gate.open(&opening) {
-        Ok(()) => gate.port().unwrap_or(1),
+        Ok(()) => gate.listener().port().unwrap_or(1),
         Err(_) => 1,
     }
 }
@@ -79,7 +79,8 @@ fn serve<R: Net<Listener = TcpListener, Stream = TcpStream> + Clock + Threads + 
     port: u16,
 ) -> Result<Left, NoMemory> {
     let line = format!(in alloc; "serve film=b.mpg workers=1 connections=1 slot=3600 port={port}")?;
-    carry_out(rt, alloc, line.as_str(), &mut TcpGate::new(rt, alloc))
+    let mut gate = TcpGate::new(TcpPort::new(rt, alloc));
+    carry_out(rt, alloc, line.as_str(), &mut gate)
 }
 
 /// Watches the film, as soon as the server is there.

@@ -3,8 +3,8 @@
 
 ghost use Rattle.std.specs.Prelude.{◌≤◌, None, length};
 
-use crate::ends::Ended;
 use crate::run::run;
+use crate::run_results::Ended;
 use crate::tests::materials::{library_of_film, words_of};
 use conn::ConnEnd;
 use std::alloc::Global;

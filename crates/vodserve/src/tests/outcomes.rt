@@ -1,6 +1,6 @@
 //! What a run left, and the lines of a script that say what that is to be.
 
-use crate::ends::Ended;
+use crate::run_results::Ended;
 use crate::tests::materials::{Files, bytes_of, number_of, word_and_rest};
 use admission::{Answer, Entry};
 use conn::{ConnEnd, ConnReport};
@@ -36,7 +36,7 @@ fn contains(bytes: &[u8], text: &[u8]) -> bool {
     text.is_empty() || bytes.windows(text.len()).any(|part| part == text)
 }
 
-/// Whether a link that sent this told want of memory.
+/// Whether a link that sent this told out of memory.
 fn is_refused(sent: &[u8]) -> bool {
     contains(sent, b"RTSP/1.0 500 ")
 }
@@ -55,7 +55,7 @@ fn all_halted(journal: &[Entry]) -> bool {
     admitted == halted
 }
 
-/// Whether a connection ended for want of memory, which changes no status.
+/// Whether a connection ended because memory ran out, which changes no status.
 fn lacked_memory(reports: &[ConnReport]) -> bool {
     reports.iter().any(|report| report.end == ConnEnd::NoMemory)
 }
@@ -64,8 +64,8 @@ fn lacked_memory(reports: &[ConnReport]) -> bool {
 fn sent_of(alloc: Global, gate: &MemoryGate) -> Result<Vec<Vec<u8>>, NoMemory> {
     let mut sent = Vec::new(alloc);
     for number in 0..2 {
-        for link in gate.returned_links(number) {
-            sent.push(Vec::from_slice(alloc, link.sent_bytes())?)?;
+        for link in gate.given_back(number) {
+            sent.push(Vec::from_slice(alloc, link.sent())?)?;
         }
     }
     Ok(sent)
@@ -165,7 +165,7 @@ impl Outcome {
         Ok(film)
     }
 
-    /// Takes up a line on what the run left, over these files.
+    /// Processes a line on what the run left, over these files.
     pub(crate) fn check<R: Abort>(
         &mut self,
         rt: &R,
@@ -203,7 +203,7 @@ impl Outcome {
         Ok(())
     }
 
-    /// Takes up a line on what was sent, or on a status and its text.
+    /// Processes a line on what was sent, or on a status and its text.
     fn check_sent<R: Abort>(
         &mut self,
         rt: &R,

@@ -1,7 +1,7 @@
 //! Runs of the program over objects in memory, by scripts.
 
-use crate::ends::Ended;
 use crate::run::run;
+use crate::run_results::Ended;
 use crate::tests::materials::{Files, bytes_of, number_of, word_and_rest, words_of};
 use crate::tests::outcomes::Outcome;
 use std::alloc::Global;
@@ -154,7 +154,7 @@ impl Stage {
         Ok(())
     }
 
-    /// Takes up a line on the objects of the next run; answers whether it is one.
+    /// Processes a line on the objects of the next run; answers whether it is one.
     fn set<R: Abort>(
         &mut self,
         rt: &R,
@@ -229,17 +229,17 @@ impl Stage {
     }
 }
 
-/// Takes up the lines of a script, one after another.
+/// Processes the lines of a script, one after another.
 ///
 /// `file NAME TEXT`, `reply NAME TEXT`, `bytes NAME WORDS`, `sizes NAME FILM`, `hears TEXT`, `gets
 /// WORDS`, `slots FIRST LAST`, `again COUNT` (the first so many events of the part before), `part
-/// [CALL]` and `fails OBJECT CALL` say what the next run is over; `> WORDS` runs; and the lines
-/// after it say what it left: `STATUS TEXT` its status and its whole text, of the output or else of
-/// the error stream, `out TEXT`, `err TEXT` and `is NAME` a whole text, `has TEXT` a part of the
-/// output, `ends STATUS` its status, `counts REPORTS ENTRIES`, `says
-/// REPLY`, `sends WORDS` and `plays NAME` what its first link sent next, and `said LINKS TEXT` how
-/// many links sent a text. `keeps NAME` makes a file of the output. What no line reads is to be
-/// empty, but for the rest of the output after `has`, and of what links sent after `said`.
+/// [CALL]` and `fails OBJECT CALL` write_error what the next run is over; `> WORDS` runs; and the
+/// lines after it say what it left: `STATUS TEXT` its status and its whole text, of the output or
+/// else of the error stream, `out TEXT`, `err TEXT` and `is NAME` a whole text, `has TEXT` a part
+/// of the output, `ends STATUS` its status, `counts REPORTS ENTRIES`, `says REPLY`, `sends WORDS`
+/// and `plays NAME` what its first link sent next, and `said LINKS TEXT` how many links sent a
+/// text. `keeps NAME` makes a file of the output. What no line reads is to be empty, but for the
+/// rest of the output after `has`, and of what links sent after `said`.
 fn play_out<R: Threads + Wait + Sync + Abort>(
     rt: &R,
     alloc: Global,

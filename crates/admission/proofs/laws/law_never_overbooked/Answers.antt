@@ -1,6 +1,6 @@
 use Rattle.std.proofs.Common.{take}
-use Rattle.admission.proofs.Runs.{legal-take}
-use Rattle.admission.proofs.Within.{sound-after}
+use Rattle.admission.proofs.HistoryPrefixes.{legal-take}
+use Rattle.admission.proofs.CapacityBounds.{sound-after}
 use Rattle.admission.proofs.laws.law_never_overbooked.Goals as goal
 
 pub returns : goal.returns

@@ -2,7 +2,7 @@ use Rattle.std.proofs.Common.{◌<◌, ◌∙◌, ap, arith, length, List, refl,
 use Rattle.std.proofs.lemmas.List.{get_or_read}
 use Rattle.admission.specs.declared.entries.Entry.{Entry}
 use Rattle.admission.specs.Histories.{IsStillOpen, play_admitted}
-use Rattle.admission.proofs.Opens.{still-open}
+use Rattle.admission.proofs.OpenPlays.{still-open}
 use Rattle.admission.proofs.tests.may_halt.Goals as goal
 
 pub returns : goal.returns

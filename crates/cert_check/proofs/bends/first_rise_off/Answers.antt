@@ -1,9 +1,9 @@
 use Rattle.std.proofs.lemmas.Grind.{common_steps, rows}
 use Rattle.std.proofs.Common.{◌≡◌, ◌+◌, ◌-◌, take, slice_index, arith, ap, below_more}
 use Rattle.std.proofs.lemmas.Bool.{both_ways}
-use Rattle.plan_cert.specs.Slots.{total_slots}
-use Rattle.cert_check.specs.Line.{segment_at}
-use Rattle.cert_check.proofs.Turns.{ends_within, end_place_is, end_height_is, curve_there}
+use Rattle.plan_cert.specs.PlanSlots.{total_slots}
+use Rattle.cert_check.specs.ExactLine.{segment_at}
+use Rattle.cert_check.proofs.SegmentEnds.{ends_within, end_place_is, end_height_is, curve_there}
 use Rattle.cert_check.proofs.bends.first_rise_off.Goals as goal
 use Rattle.cert_check.proofs.bends.first_rise_off.Goals.{else-off-via-else-off, else-off-via-then-off+else-rises}
 

@@ -1,6 +1,6 @@
 use Rattle.std.proofs.Common.{ℕ, ◌≡◌, ◌+◌, ◌<◌, take}
-use Rattle.plan_cert.specs.Slots.{total_slots, total_bytes}
-use Rattle.cert_check.specs.Fault.{IsRiseOffUpper}
+use Rattle.plan_cert.specs.PlanSlots.{total_slots, total_bytes}
+use Rattle.cert_check.specs.CertFaults.{IsRiseOffUpper}
 use Rattle.cert_check.proofs.bends.first_rise_off.Given as goal
 
 abbrev pub invariant-loop-i : goal.invariant-loop-i

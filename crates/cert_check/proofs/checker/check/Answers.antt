@@ -1,5 +1,5 @@
-use Rattle.cert_check.proofs.BestProof.{best_where_ok}
-use Rattle.cert_check.proofs.TautForms.{closed_of_sound}
+use Rattle.cert_check.proofs.OptimalityProof.{best_where_ok}
+use Rattle.cert_check.proofs.TautFormLemmas.{closed_of_sound}
 use Rattle.cert_check.proofs.checker.check.Goals as goal
 
 pub returns-clause-best : goal.returns-clause-best

@@ -1,6 +1,6 @@
 use Rattle.std.proofs.lemmas.Grind.{common_steps, moves}
 use Rattle.std.proofs.Common.{arith}
-use Rattle.cert_check.proofs.Naming.{first_fall}
+use Rattle.cert_check.proofs.FirstFaultLemmas.{first_fall}
 use Rattle.cert_check.proofs.checker.check_bends.Goals as goal
 
 pub returns-in-Some-first_fall_off : goal.returns-in-Some-first_fall_off

@@ -1,9 +1,9 @@
 use Rattle.std.proofs.lemmas.Grind.{common_steps}
 use Rattle.std.proofs.Common.{◌≡◌, ◌<◌, ◌+◌, false, not, is_some, length, arith, ap, ◌∙◌, below_more}
 use Rattle.std.proofs.lemmas.Bool.{both_ways}
-use Rattle.cert_check.specs.Fault.{IsAboveUp}
-use Rattle.cert_check.proofs.Walking.{Goes, goes_on, below_there, not_below_there, above_there, not_above_there}
-use Rattle.cert_check.proofs.Walking.{first_kept, first_found}
+use Rattle.cert_check.specs.CertFaults.{IsAboveUp}
+use Rattle.cert_check.proofs.LineWalkLemmas.{Goes, goes_on, below_there, not_below_there, above_there, not_above_there}
+use Rattle.cert_check.proofs.LineWalkLemmas.{first_kept, first_found}
 use Rattle.cert_check.proofs.walk.first_outside.Goals as goal
 use Rattle.cert_check.proofs.walk.first_outside.Goals.{then-is_none+then-height-from-2, else-is_none}
 use Rattle.cert_check.proofs.walk.first_outside.Goals.{else-is_none-via-then-is_none+else-height-from-2}

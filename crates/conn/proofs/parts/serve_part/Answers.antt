@@ -1,16 +1,17 @@
 use Rattle.std.proofs.Common.{◌≡◌, ◌++◌, ◌∷◌, ◌∙◌, [], ap, length, option_map, refl, rules, subst, sym, arith}
 use Rattle.vod_base.specs.Gates.{NoMore, after_empty_take, after_take}
-use Rattle.conn.specs.Parts.{duty, outlet}
+use Rattle.conn.specs.Parts.{worker_input, worker_gate}
 use Rattle.conn.specs.Words.{words_of}
-use Rattle.conn.proofs.Agreeing.{served_fresh}
-use Rattle.conn.proofs.Progress.{HasServedSoFar, ends_early, ends_failed, ends_taken, none_served, one_served}
+use Rattle.conn.proofs.PartReports.{served_fresh}
+use Rattle.conn.proofs.WorkerProgress.{HasServedSoFar, ends_early, ends_failed, ends_taken, none_served, one_served}
 use Rattle.conn.proofs.Workers.{served_out}
 use Rattle.conn.proofs.parts.serve_part.Goals as goal
 
 pub connections-init : goal.connections-init
 connections-init g c =
-    none_served (duty c.args.films.now c.args.settings.now c.args.seed c.args.worker) c.args.seat.now
-    (outlet (g.G.Gate.faults c.args.part.now) (g.G.Gate.told c.args.part.now)) _ c.requires.untouched (search rules)
+    none_served (worker_input c.args.films.now c.args.settings.now c.args.seed c.args.worker) c.args.seat.now
+    (worker_gate (g.G.Gate.faults c.args.part.now) (g.G.Gate.told c.args.part.now)) _ c.requires.untouched (search
+    rules)
 
 pub connections-preserved : goal.connections-preserved
 connections-preserved g c =
@@ -22,12 +23,12 @@ connections-preserved g c =
     let words : report.words ≡ words_of c.args.seed c.args.worker (length reports) = search rules in
     let some = rw c.in-Ok-Some.field-0-is at c.in-Ok-Some.ensures in
     let given : g.G.Gate.told c.take.new.self ≡ option_map after_take (g.G.Gate.told c.connections.part) = some.gave in
-    one_served {duty = duty c.args.films.now c.args.settings.now c.args.seed c.args.worker}
+    one_served {worker_input = worker_input c.args.films.now c.args.settings.now c.args.seed c.args.worker}
     {old_seat = c.args.seat.now} {mid_seat = c.connections.seat}
     {new_seat = c.serve_connection-report.new.seat}
-    {old = outlet (g.G.Gate.faults c.args.part.now) (g.G.Gate.told c.args.part.now)}
-    {mid = outlet (g.G.Gate.faults c.connections.part) (g.G.Gate.told c.connections.part)}
-    {new = outlet (g.G.Gate.faults c.give_back.new.self) (g.G.Gate.told c.give_back.new.self)}
+    {old = worker_gate (g.G.Gate.faults c.args.part.now) (g.G.Gate.told c.args.part.now)}
+    {mid = worker_gate (g.G.Gate.faults c.connections.part) (g.G.Gate.told c.connections.part)}
+    {new = worker_gate (g.G.Gate.faults c.give_back.new.self) (g.G.Gate.told c.give_back.new.self)}
     {taken = g.G.Gate.told c.take.new.self} {reports = reports} {more = c.push_reserved.new.self.items}
     {report = report} {returned = _}
     c.connections.invariant
@@ -39,7 +40,7 @@ connections-preserved g c =
       one = served_fresh {films = c.args.films.now} {settings = c.args.settings.now} {words = _} {old = _}
           {new = _} {before = _} {after = _} {seat = c.connections.seat}
           {next = c.serve_connection-report.new.seat} {report = report}
-          some.fresh.0 some.fresh.1 served.words served.served served.headline served.fault;
+          some.fresh.0 some.fresh.1 served.words served.served served.guarantee served.fault;
     }) given c.give_back.ensures.back (omega (arith, c.take.ensures.count, c.give_back.ensures.count)) items
 
 pub returns-then-is_err : goal.returns-then-is_err
@@ -47,10 +48,10 @@ returns-then-is_err g c =
     let items : c.connections.reports.items ≡ c.reserve.new.self.items = sym c.reserve.ensures.items in
     record {
       part = ends_early
-          (subst (HasServedSoFar (duty c.args.films.now c.args.settings.now c.args.seed c.args.worker)
+          (subst (HasServedSoFar (worker_input c.args.films.now c.args.settings.now c.args.seed c.args.worker)
           c.args.seat.now c.connections.seat
-          (outlet (g.G.Gate.faults c.args.part.now) (g.G.Gate.told c.args.part.now))
-          (outlet (g.G.Gate.faults c.connections.part) (g.G.Gate.told c.connections.part)))
+          (worker_gate (g.G.Gate.faults c.args.part.now) (g.G.Gate.told c.args.part.now))
+          (worker_gate (g.G.Gate.faults c.connections.part) (g.G.Gate.told c.connections.part)))
           items c.connections.invariant) refl;
     }
 
@@ -61,11 +62,11 @@ returns-in-Ok-None g c =
     ≡ option_map (after_empty_take NoMore) (g.G.Gate.told c.connections.part) =
     c.in-Ok-None.ensures.none c.in-Ok-None.field-0-is in
     record {
-      part = ends_taken {mid = outlet (g.G.Gate.faults c.connections.part) (g.G.Gate.told c.connections.part)}
-          (subst (HasServedSoFar (duty c.args.films.now c.args.settings.now c.args.seed c.args.worker)
+      part = ends_taken {mid = worker_gate (g.G.Gate.faults c.connections.part) (g.G.Gate.told c.connections.part)}
+          (subst (HasServedSoFar (worker_input c.args.films.now c.args.settings.now c.args.seed c.args.worker)
           c.args.seat.now c.connections.seat
-          (outlet (g.G.Gate.faults c.args.part.now) (g.G.Gate.told c.args.part.now))
-          (outlet (g.G.Gate.faults c.connections.part) (g.G.Gate.told c.connections.part)))
+          (worker_gate (g.G.Gate.faults c.args.part.now) (g.G.Gate.told c.args.part.now))
+          (worker_gate (g.G.Gate.faults c.connections.part) (g.G.Gate.told c.connections.part)))
           items c.connections.invariant) refl none c.take.ensures.count;
     }
 
@@ -73,11 +74,11 @@ pub returns-in-Err : goal.returns-in-Err
 returns-in-Err g c =
     let items : c.connections.reports.items ≡ c.reserve.new.self.items = sym c.reserve.ensures.items in
     record {
-      part = ends_failed {mid = outlet (g.G.Gate.faults c.connections.part) (g.G.Gate.told c.connections.part)}
-          (subst (HasServedSoFar (duty c.args.films.now c.args.settings.now c.args.seed c.args.worker)
+      part = ends_failed {mid = worker_gate (g.G.Gate.faults c.connections.part) (g.G.Gate.told c.connections.part)}
+          (subst (HasServedSoFar (worker_input c.args.films.now c.args.settings.now c.args.seed c.args.worker)
           c.args.seat.now c.connections.seat
-          (outlet (g.G.Gate.faults c.args.part.now) (g.G.Gate.told c.args.part.now))
-          (outlet (g.G.Gate.faults c.connections.part) (g.G.Gate.told c.connections.part)))
+          (worker_gate (g.G.Gate.faults c.args.part.now) (g.G.Gate.told c.args.part.now))
+          (worker_gate (g.G.Gate.faults c.connections.part) (g.G.Gate.told c.connections.part)))
           items c.connections.invariant) refl c.in-Err.ensures.lost c.take.ensures.count c.in-Err.ensures.fault;
     }
 

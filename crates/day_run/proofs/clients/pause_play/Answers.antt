@@ -1,6 +1,6 @@
 use Rattle.std.proofs.Common.{◌≡◌, ◌≤◌, ◌==◌, true, false, eq-eqb, ne_eqb, sym, ap, ◌∙◌, arith}
-use Rattle.day_run.proofs.Pausing.{LeftRun, halts, left-rest, left-stopping, left-timed}
-use Rattle.day_run.proofs.Timings.{pause-of, paused-state, pausing-state}
+use Rattle.day_run.proofs.PauseLemmas.{LeftRun, halts, left-rest, left-stopping, left-timed}
+use Rattle.day_run.proofs.PacerTimingLemmas.{pause-of, paused-state, pausing-state}
 use Rattle.day_run.proofs.clients.pause_play.Goals as goal
 
 pub run_after-run-requires-clause-halt : goal.run_after-run-requires-clause-halt
@@ -41,7 +41,7 @@ returns-then-sent-keep-clause-pause c = λ heard timed.
     let left = c.run_after-run.result in
     let least : play.pacer.sent ≤ keep = omega (arith, c.ask_halt-keep.ensures.boundary.after) in
     let all : (play.pacer.sent == keep) ≡ true =
-    eq-eqb play.pacer.sent keep (sym c.bytes_sent-sent.ensures.value ∙ c.if-sent-keep.true) in
+    eq-eqb play.pacer.sent keep (sym c.sent-sent.ensures.value ∙ c.if-sent-keep.true) in
     pause-of c.requires.playing timed c.last_slot-last.ensures c.ask_halt-keep.ensures.boundary
     c.run_after-run.ensures.left (paused-state heard keep (record { playing = c.requires.playing; timed = timed })
     (record { least = least; most = c.ask_halt-keep.ensures.most }) all)
@@ -53,7 +53,7 @@ returns-clause-pause c = λ heard timed.
     let left = c.run_after-run.result in
     let least : play.pacer.sent ≤ keep = omega (arith, c.ask_halt-keep.ensures.boundary.after) in
     let not : (play.pacer.sent == keep) ≡ false =
-    ne_eqb play.pacer.sent keep (λ e. c.if-sent-keep.false (c.bytes_sent-sent.ensures.value ∙ e)) in
+    ne_eqb play.pacer.sent keep (λ e. c.if-sent-keep.false (c.sent-sent.ensures.value ∙ e)) in
     pause-of c.requires.playing timed c.last_slot-last.ensures c.ask_halt-keep.ensures.boundary
     c.run_after-run.ensures.left
     (pausing-state heard keep (record { playing = c.requires.playing; timed = timed })

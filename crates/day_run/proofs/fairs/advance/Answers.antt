@@ -1,25 +1,25 @@
 use Rattle.std.proofs.Common.{◌≡◌, ◌+◌, sym, ◌∙◌, arith}
-use Rattle.day_run.specs.Runners.{moment_of}
-use Rattle.day_run.proofs.BalancedLines.{ready-sent, slot-ready}
-use Rattle.day_run.proofs.FairTurns.{same-counts}
+use Rattle.day_run.specs.MachineState.{day_state_of}
+use Rattle.day_run.proofs.LineBalance.{ready-sent, slot-ready}
+use Rattle.day_run.proofs.FairBalance.{same-counts}
 use Rattle.day_run.proofs.fairs.advance.Goals as goal
 
 pub overflow_add-counts : goal.overflow_add-counts
 overflow_add-counts c =
     let same : c.slot-passed.result.sent ≡ c.slot-passed.result.booked =
-    c.slot-passed.ensures.sent ∙ ready-sent (moment_of c.args.runner.now) _ (omega arith) c.requires.ready
+    c.slot-passed.ensures.sent ∙ ready-sent (day_state_of c.args.machine.now) _ (omega arith) c.requires.ready
     ∙ sym c.slot-passed.ensures.booked in
     omega (arith, same, c.slot-passed.ensures.few, c.requires.fitting.sent, c.requires.early, c.requires.few)
 
 pub returns-then-later-gt0-clause-ready : goal.returns-then-later-gt0-clause-ready
 returns-then-later-gt0-clause-ready c =
-    slot-ready (moment_of c.args.runner.now) _ (c.args.runner.now.heard + c.args.later) (omega arith)
+    slot-ready (day_state_of c.args.machine.now) _ (c.args.machine.now.heard + c.args.later) (omega arith)
     c.slot-passed.ensures.moment c.requires.ready
 
 pub returns-then-later-gt0-clause-fitting : goal.returns-then-later-gt0-clause-fitting
 returns-then-later-gt0-clause-fitting c =
     let same : c.slot-passed.result.sent ≡ c.slot-passed.result.booked =
-    c.slot-passed.ensures.sent ∙ ready-sent (moment_of c.args.runner.now) _ (omega arith) c.requires.ready
+    c.slot-passed.ensures.sent ∙ ready-sent (day_state_of c.args.machine.now) _ (omega arith) c.requires.ready
     ∙ sym c.slot-passed.ensures.booked in
     record {
       last_is = sym c.slot-passed.ensures.heard;
@@ -30,4 +30,4 @@ returns-then-later-gt0-clause-fitting c =
 
 pub returns-else-later-gt0-clause-counts : goal.returns-else-later-gt0-clause-counts
 returns-else-later-gt0-clause-counts c =
-    same-counts c.args.counts.now (moment_of c.args.runner.now) c.requires.fitting.last_is
+    same-counts c.args.counts.now (day_state_of c.args.machine.now) c.requires.fitting.last_is

@@ -1,11 +1,11 @@
 use Rattle.std.proofs.Common.{◌≤◌, ◌+◌, ◌∷◌, [], List, ℕ, length, ap, sym, subst, ◌∙◌, arith}
 use Rattle.std.proofs.lemmas.List.{length-append}
 use Rattle.std.specs.Global.{Vec}
-use Rattle.day_run.specs.Fairs.{AreTraces, sizes_in}
+use Rattle.day_run.specs.FairProgress.{AreTraces, sizes_in}
 use Rattle.film_run.specs.Units.{AreUnitSizes}
 use Rattle.film_make.specs.Generator.{words_left}
 use Rattle.film_make.specs.Trace.{sizes_of}
-use Rattle.day_run.proofs.Drawn.{drawn-trace, traces-none, traces-push}
+use Rattle.day_run.proofs.DrawnTraceLemmas.{drawn-trace, traces-none, traces-push}
 use Rattle.day_run.proofs.FairDraws.{left-next, left-none, sizes-next}
 use Rattle.day_run.proofs.fairs.draw_traces.Goals as goal
 

@@ -1,7 +1,7 @@
 use Rattle.std.proofs.Common.{◌≡◌, length}
 use Rattle.film_make.specs.Generator.{words_left}
 use Rattle.day_run.specs.FairDays.{after_traces, traces_drawn}
-use Rattle.day_run.specs.Fairs.{AreTraces, sizes_in}
+use Rattle.day_run.specs.FairProgress.{AreTraces, sizes_in}
 use Rattle.day_run.proofs.fairs.draw_traces.Given as goal
 
 abbrev pub invariant-loop-trace : goal.invariant-loop-trace

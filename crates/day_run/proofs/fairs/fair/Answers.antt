@@ -1,25 +1,25 @@
 use Rattle.std.proofs.Common.{◌≡◌, ◌++◌, ℕ, List, map, ap, ◌∙◌}
 use Rattle.film_make.specs.Generator.{words_of}
 use Rattle.day_run.specs.FairDays.{after_traces, entry_counts_of, fair_link, traces_drawn}
-use Rattle.day_run.specs.Fairs.{sizes_in}
-use Rattle.day_run.specs.Prints.{fair_text}
-use Rattle.day_run.specs.Runners.{link_on}
-use Rattle.day_run.specs.ClientStates.{ReelContent, trace_content}
-use Rattle.day_run.specs.ReelContents.{reel_content}
-use Rattle.day_run.proofs.FairTurns.{fair-of}
+use Rattle.day_run.specs.FairProgress.{sizes_in}
+use Rattle.day_run.specs.LineTexts.{fair_text}
+use Rattle.day_run.specs.MachineState.{link_on}
+use Rattle.day_run.specs.ClientStates.{MediaContent, trace_content}
+use Rattle.day_run.specs.MediaContents.{media_content}
+use Rattle.day_run.proofs.FairBalance.{fair-of}
 use Rattle.day_run.proofs.fairs.fair.Goals as goal
 
 pub returns-clause-fair : goal.returns-clause-fair
 returns-clause-fair c =
-    let contents : map (reel_content 14400) c.deref-2.result.now
+    let contents : map (media_content 14400) c.deref-2.result.now
     ≡ map (trace_content 14400) (traces_drawn 16 (words_of c.args.seed)) =
-    ap (map (reel_content 14400)) c.deref-2.ensures.value ∙ c.in_ok-reels.ensures.contents
+    ap (map (media_content 14400)) c.deref-2.ensures.value ∙ c.in_ok-media.ensures.contents
     ∙ ap (map (trace_content 14400))
     (ap sizes_in c.deref.ensures.value ∙ c.in_ok-traces.ensures.sizes ∙ ap (traces_drawn 16) c.new-draws.ensures) in
-    let link : link_on c.in_ok-runner.runner ≡ fair_link c.args.profile (words_of c.args.seed) =
-    c.in_ok-runner.ensures.link
-    ∙ ap (λ (t : List ReelContent).
-    record { steps = c.args.profile; limit = 1048576; slot_units = 14400; reels = t }) contents in
+    let link : link_on c.in_ok-machine.machine ≡ fair_link c.args.profile (words_of c.args.seed) =
+    c.in_ok-machine.ensures.link
+    ∙ ap (λ (t : List MediaContent).
+    record { steps = c.args.profile; limit = 1048576; slot_units = 14400; media = t }) contents in
     fair-of
     link
     (c.in_ok-traces.ensures.left ∙ ap (after_traces 16) c.new-draws.ensures) c.in_ok-counts.ensures.come

@@ -1,9 +1,9 @@
 use Rattle.std.proofs.Common.{drop, ap, ◌∙◌}
 use Rattle.day_run.specs.FairDays.{is_full_line}
-use Rattle.day_run.specs.Runners.{told_text}
+use Rattle.day_run.specs.MachineState.{reply_text}
 use Rattle.day_run.proofs.fairs.is_full.Goals as goal
 
 pub returns-in-Entry : goal.returns-in-Entry
 returns-in-Entry c =
-    λ entries. ap (λ t. is_full_line (told_text entries t)) c.in-Entry.is
+    λ entries. ap (λ t. is_full_line (reply_text entries t)) c.in-Entry.is
     ∙ c.law_entries_other.ensures (drop c.in-Entry.place entries)

@@ -1,7 +1,7 @@
 use Rattle.std.proofs.Common.{◌+◌, ◌%◌, ap, ◌∙◌}
 use Rattle.film_make.specs.Generator.{words_left}
-use Rattle.day_run.specs.Runners.{link_on, moment_of}
-use Rattle.day_run.proofs.FairTurns.{play-drawn, ok-of, second-word, third-word, three-left}
+use Rattle.day_run.specs.MachineState.{link_on, day_state_of}
+use Rattle.day_run.proofs.FairBalance.{play-drawn, ok-of, second-word, third-word, three-left}
 use Rattle.day_run.proofs.fairs.play_drawn.Goals as goal
 
 pub returns-clause-line : goal.returns-clause-line
@@ -10,9 +10,9 @@ returns-clause-line c =
     let one = c.draw-source.ensures.left in
     let two = c.draw.ensures.left in
     play-drawn c.play.result (record {
-      link = link_on c.args.runner.now;
+      link = link_on c.args.machine.now;
       client = c.args.client;
-      old = moment_of c.args.runner.now;
+      old = day_state_of c.args.machine.now;
       new = _;
       entries = _;
     }) (record {

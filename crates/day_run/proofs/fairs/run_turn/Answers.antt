@@ -1,32 +1,32 @@
 use Rattle.std.proofs.Common.{◌<◌, refl, ◌∙◌, arith}
 use Rattle.film_make.specs.Generator.{words_left}
 use Rattle.day_run.specs.FairDays.{Turn}
-use Rattle.day_run.specs.Fairs.{said_text}
-use Rattle.day_run.specs.Runners.{link_on, moment_of}
-use Rattle.day_run.proofs.FairTurns.{done-ready, turn-of}
+use Rattle.day_run.specs.FairProgress.{said_text}
+use Rattle.day_run.specs.MachineState.{link_on, day_state_of}
+use Rattle.day_run.proofs.FairBalance.{done-ready, turn-of}
 use Rattle.day_run.proofs.fairs.run_turn.Goals as goal
 
 pub returns-clause-ready : goal.returns-clause-ready
 returns-clause-ready c =
-    let mid = c.advance.new.runner in
+    let mid = c.advance.new.machine in
     let client : c.draw-client.result < 256 = omega (arith, c.draw-client.ensures.value) in
     done-ready (record {
       link = link_on mid;
-      old = moment_of mid;
-      new = moment_of c.turn_client.new.runner;
-      text = said_text c.turn_client.new.runner.book.entries c.in_ok-told.told;
+      old = day_state_of mid;
+      new = day_state_of c.turn_client.new.machine;
+      text = said_text c.turn_client.new.machine.book.entries c.in_ok-told.told;
     }) (words_left c.draw-client.new.self)
     (record { client = client; at = refl }) c.in_ok-told.ensures.done c.advance.ensures.ready
 
 pub returns-clause-turned : goal.returns-clause-turned
 returns-clause-turned c =
-    let mid = c.advance.new.runner in
-    let new = c.turn_client.new.runner in
+    let mid = c.advance.new.machine in
+    let new = c.turn_client.new.machine in
     let turn : Turn =
     record {
-      old = moment_of c.args.runner.now;
-      mid = moment_of mid;
-      new = moment_of new;
+      old = day_state_of c.args.machine.now;
+      mid = day_state_of mid;
+      new = day_state_of new;
       text = said_text new.book.entries c.in_ok-told.told;
     } in
     turn-of turn (record {

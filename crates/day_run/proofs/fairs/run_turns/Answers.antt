@@ -1,21 +1,21 @@
 use Rattle.std.proofs.Common.{ap, sym, refl, ◌∙◌, arith}
 use Rattle.film_make.specs.Generator.{words_left}
-use Rattle.day_run.specs.Days.{Moment}
-use Rattle.day_run.specs.Runners.{link_on, moment_of}
-use Rattle.day_run.proofs.FairTurns.{come-next, come-none, ready-morning}
+use Rattle.day_run.specs.Days.{DayState}
+use Rattle.day_run.specs.MachineState.{link_on, day_state_of}
+use Rattle.day_run.proofs.FairBalance.{come-next, come-none, ready-morning}
 use Rattle.day_run.proofs.fairs.run_turns.Goals as goal
 
 pub loop-turn-init : goal.loop-turn-init
 loop-turn-init c =
-    let old = c.args.runner.now in
-    let heard = ap (λ (m : Moment). m.heard) c.requires.morning in
+    let old = c.args.machine.now in
+    let heard = ap (λ (m : DayState). m.heard) c.requires.morning in
     record {
-      runner = c.requires.runner;
-      ready = ready-morning (moment_of old) c.requires.morning;
-      kept = record { link = refl; steps = refl; reels = refl };
+      machine = c.requires.machine;
+      ready = ready-morning (day_state_of old) c.requires.morning;
+      kept = record { link = refl; steps = refl; media = refl };
       heard = omega (arith, heard);
       fitting = record { last_is = sym heard; full = omega arith; sent = omega arith; booked = omega arith };
-      come = come-none (link_on old) (words_left c.args.draws.now) _ (moment_of old) c.requires.morning refl;
+      come = come-none (link_on old) (words_left c.args.draws.now) _ (day_state_of old) c.requires.morning refl;
     }
 
 pub loop-turn-preserved : goal.loop-turn-preserved
@@ -23,12 +23,12 @@ loop-turn-preserved c =
     let inv = c.loop-turn.invariant in
     let ran = c.in_ok-run_turn.ensures in
     record {
-      runner = ran.runner;
+      machine = ran.machine;
       ready = ran.ready;
       kept = record {
         link = ran.kept.link ∙ inv.kept.link;
         steps = ran.kept.steps ∙ inv.kept.steps;
-        reels = ran.kept.reels ∙ inv.kept.reels;
+        media = ran.kept.media ∙ inv.kept.media;
       };
       heard = omega (arith, ran.heard, inv.heard);
       fitting = ran.fitting;

@@ -3,42 +3,42 @@ use Rattle.film_make.specs.Generator.{words_left}
 use Rattle.day_run.specs.declared.clients.Client.{Client}
 use Rattle.day_run.specs.Clients.{state_of}
 use Rattle.day_run.specs.FairDays.{words_for}
-use Rattle.day_run.specs.Runners.{link_on, moment_of}
-use Rattle.day_run.proofs.FairTurns.{done-as, no-words}
+use Rattle.day_run.specs.MachineState.{link_on, day_state_of}
+use Rattle.day_run.proofs.FairBalance.{done-as, no-words}
 use Rattle.day_run.proofs.fairs.turn_client.Goals as goal
 
 pub returns-in-Playing-clause-left : goal.returns-in-Playing-clause-left
 returns-in-Playing-clause-left c =
-    no-words (record { count = c.requires.runner.count; small = c.ranges.client.fits; at = c.index.ensures })
+    no-words (record { count = c.requires.machine.count; small = c.ranges.client.fits; at = c.index.ensures })
     (ap (λ (x : Client). words_for (state_of x)) c.in-Playing.is)
 
 pub returns-in-Pausing-clause-left : goal.returns-in-Pausing-clause-left
 returns-in-Pausing-clause-left c =
-    no-words (record { count = c.requires.runner.count; small = c.ranges.client.fits; at = c.index.ensures })
+    no-words (record { count = c.requires.machine.count; small = c.ranges.client.fits; at = c.index.ensures })
     (ap (λ (x : Client). words_for (state_of x)) c.in-Pausing.is)
 
 pub returns-in_ok-resume-in-Paused-clause-left : goal.returns-in_ok-resume-in-Paused-clause-left
 returns-in_ok-resume-in-Paused-clause-left c =
-    no-words (record { count = c.requires.runner.count; small = c.ranges.client.fits; at = c.index.ensures })
+    no-words (record { count = c.requires.machine.count; small = c.ranges.client.fits; at = c.index.ensures })
     (ap (λ (x : Client). words_for (state_of x)) c.in-Paused.is)
 
 pub returns-in-Playing-clause-done : goal.returns-in-Playing-clause-done
 returns-in-Playing-clause-done c =
-    done-as (record { link = link_on c.args.runner.now; old = moment_of c.args.runner.now; new = _; text = _ })
+    done-as (record { link = link_on c.args.machine.now; old = day_state_of c.args.machine.now; new = _; text = _ })
     (words_left c.args.draws.now)
-    (record { count = c.requires.runner.count; small = c.ranges.client.fits; at = c.index.ensures })
+    (record { count = c.requires.machine.count; small = c.ranges.client.fits; at = c.index.ensures })
     c.in-Playing.is c.pause.ensures.line
 
 pub returns-in-Pausing-clause-done : goal.returns-in-Pausing-clause-done
 returns-in-Pausing-clause-done c =
-    done-as (record { link = link_on c.args.runner.now; old = moment_of c.args.runner.now; new = _; text = _ })
+    done-as (record { link = link_on c.args.machine.now; old = day_state_of c.args.machine.now; new = _; text = _ })
     (words_left c.args.draws.now)
-    (record { count = c.requires.runner.count; small = c.ranges.client.fits; at = c.index.ensures })
+    (record { count = c.requires.machine.count; small = c.ranges.client.fits; at = c.index.ensures })
     c.in-Pausing.is (record { kept = refl; text_is = refl })
 
 pub returns-in_ok-resume-in-Paused-clause-done : goal.returns-in_ok-resume-in-Paused-clause-done
 returns-in_ok-resume-in-Paused-clause-done c =
-    done-as (record { link = link_on c.args.runner.now; old = moment_of c.args.runner.now; new = _; text = _ })
+    done-as (record { link = link_on c.args.machine.now; old = day_state_of c.args.machine.now; new = _; text = _ })
     (words_left c.args.draws.now)
-    (record { count = c.requires.runner.count; small = c.ranges.client.fits; at = c.index.ensures })
+    (record { count = c.requires.machine.count; small = c.ranges.client.fits; at = c.index.ensures })
     c.in-Paused.is c.in_ok-resume-in-Paused.ensures.line

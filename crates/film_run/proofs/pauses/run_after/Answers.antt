@@ -2,9 +2,9 @@ use Rattle.std.proofs.Common.{◌≡◌, ◌+◌, ◌-◌, ◌<◌, ◌≤◌, �
 use Rattle.std.proofs.lemmas.Bool.{cases_lt}
 use Rattle.wire_curve.specs.FilmCurves.{due_slot}
 use Rattle.film_run.specs.Plans.{timing_of}
-use Rattle.film_run.specs.Pauses.{IsLeft}
-use Rattle.film_run.proofs.SumLaws.{bytes-more, bytes-most}
-use Rattle.film_run.proofs.HaltLaws.{IsPlayedTo, goes-on, kept-small, left-run, played-by}
+use Rattle.film_run.specs.Pauses.{IsRemainingRun}
+use Rattle.film_run.proofs.SumLemmas.{bytes-more, bytes-most}
+use Rattle.film_run.proofs.HaltLemmas.{IsPlayedTo, goes-on, kept-small, left-run, played-by}
 use Rattle.film_run.proofs.pauses.run_after.Goals as goal
 
 pub loop-left-init : goal.loop-left-init
@@ -77,7 +77,7 @@ returns g c =
       used = c.loop-left.invariant.used;
       unused = unused;
     } in
-    let left : IsLeft sizes c.args.playback.now c.args.run.now c.args.plan.now c.args.last c.args.keep
+    let left : IsRemainingRun sizes c.args.playback.now c.args.run.now c.args.plan.now c.args.last c.args.keep
     (record c.loop-left.left { sent = c.loop-left.left.sent + c.args.keep }) = record {
       first_is = c.loop-left.invariant.first_is;
       end_is = c.loop-left.invariant.end_is;

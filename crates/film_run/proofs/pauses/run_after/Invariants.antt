@@ -2,7 +2,7 @@ use Rattle.std.proofs.Common.{◌≡◌, ◌-◌, ◌<◌, ◌≤◌, ℕ}
 use Rattle.wire_curve.specs.FilmCurves.{due_slot}
 use Rattle.film_run.specs.Plans.{timing_of}
 use Rattle.film_run.specs.Runs.{bytes_between}
-use Rattle.film_run.proofs.HaltLaws.{IsHalting}
+use Rattle.film_run.proofs.HaltLemmas.{IsHalting}
 use Rattle.film_run.proofs.pauses.run_after.Given as goal
 
 abbrev pub invariant-loop-left : goal.invariant-loop-left

@@ -1,6 +1,6 @@
 use Rattle.std.proofs.Common.{◌-◌, ◌+◌, ◌/◌, arith}
 use Rattle.plan_cert.proofs.SlotSums.{sum_through-past}
-use Rattle.plan_cert.proofs.SlotLaws.{sum_through_rises}
+use Rattle.plan_cert.proofs.PlanSlotLemmas.{sum_through_rises}
 use Rattle.film_run.proofs.pauses.slot_with.Goals as goal
 
 pub loop-low-init : goal.loop-low-init

@@ -1,5 +1,5 @@
 use Rattle.std.proofs.Common.{ℕ, ◌<◌, ◌≤◌, ◌-◌}
-use Rattle.plan_cert.specs.Slots.{sum_through, total_slots}
+use Rattle.plan_cert.specs.PlanSlots.{sum_through, total_slots}
 use Rattle.film_run.proofs.pauses.slot_with.Given as goal
 
 abbrev pub invariant-loop-low : goal.invariant-loop-low

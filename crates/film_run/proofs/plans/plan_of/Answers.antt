@@ -1,6 +1,6 @@
 use Rattle.std.proofs.Common.{◌∙◌}
 use Rattle.film_run.specs.Plans.{IsPlanOf, rest_sizes, timing_of}
-use Rattle.film_run.proofs.CurveLaws.{limits, limits-both, keeps-to, best-of, taut-for-both, total-of-rest}
+use Rattle.film_run.proofs.CurveLemmas.{limits, limits-both, keeps-to, best-of, taut-for-both, total-of-rest}
 use Rattle.film_run.proofs.plans.plan_of.Goals as goal
 
 pub film_curves-requires : goal.film_curves-requires

@@ -1,6 +1,6 @@
 use Rattle.std.proofs.Common.{◌<◌, ◌∙◌, [], ◌∷◌, ◌++◌, length, sym, ap, arith}
 use Rattle.film_run.specs.Runs.{sizes_between}
-use Rattle.film_run.proofs.SumLaws.{between-more}
+use Rattle.film_run.proofs.SumLemmas.{between-more}
 use Rattle.film_run.proofs.plans.rest_sizes.Goals as goal
 
 pub loop-unit-preserved : goal.loop-unit-preserved

@@ -1,4 +1,4 @@
-use Rattle.film_run.proofs.SeekLaws.{group-from}
+use Rattle.film_run.proofs.SeekLemmas.{group-from}
 use Rattle.film_run.proofs.seeks.group_from.Goals as goal
 
 pub returns : goal.returns

@@ -1,5 +1,5 @@
 use Rattle.std.proofs.Common.{◌*◌, length, arith}
-use Rattle.film_run.proofs.SeekLaws.{begins-small, group-by}
+use Rattle.film_run.proofs.SeekLemmas.{begins-small, group-by}
 use Rattle.film_run.proofs.seeks.last_group_by.Goals as goal
 
 pub returns-then-units-picture_units-clause-found : goal.returns-then-units-picture_units-clause-found

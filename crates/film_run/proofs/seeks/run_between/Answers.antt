@@ -1,5 +1,5 @@
 use Rattle.std.proofs.Common.{◌∙◌}
-use Rattle.film_run.proofs.NewRuns.{asks_for_run, none-at-boundary}
+use Rattle.film_run.proofs.NewRunLemmas.{asks_for_run, none-at-boundary}
 use Rattle.film_run.proofs.seeks.run_between.Goals as goal
 
 pub returns-clause-asked : goal.returns-clause-asked

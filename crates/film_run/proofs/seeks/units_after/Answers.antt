@@ -1,4 +1,4 @@
-use Rattle.film_run.proofs.TimeLaws.{is-capped, is-after}
+use Rattle.film_run.proofs.TimeUnitLemmas.{is-capped, is-after}
 use Rattle.film_run.proofs.seeks.units_after.Goals as goal
 
 pub returns-clause-whole : goal.returns-clause-whole

@@ -1,4 +1,4 @@
-use Rattle.film_run.proofs.TimeLaws.{is-capped, is-before}
+use Rattle.film_run.proofs.TimeUnitLemmas.{is-capped, is-before}
 use Rattle.film_run.proofs.seeks.units_before.Goals as goal
 
 pub returns-clause-whole : goal.returns-clause-whole

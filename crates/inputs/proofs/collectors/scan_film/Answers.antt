@@ -19,6 +19,6 @@ returns-clause-film g c = λ held told.
       };
     }
 
-pub returns-in_err-ending-clause-trouble : goal.returns-in_err-ending-clause-trouble
-returns-in_err-ending-clause-trouble g c =
-    handed_on _ c.from_residual.result c.from_residual.ensures.1 ((c.in_err-ending.ensures {u = tt}).trouble)
+pub returns-in_err-ending-clause-error : goal.returns-in_err-ending-clause-error
+returns-in_err-ending-clause-error g c =
+    handed_on _ c.from_residual.result c.from_residual.ensures.1 ((c.in_err-ending.ensures {u = tt}).error)

@@ -1,5 +1,5 @@
 use Rattle.std.proofs.Common.{◌≡◌, ℕ, List, sym, subst}
-use Rattle.inputs.specs.Sizes.{AreSizesWithin, sizes_of}
+use Rattle.inputs.specs.WireSizes.{AreSizesWithin, sizes_of}
 use Rattle.inputs.proofs.ScanLemmas.{handed_on}
 use Rattle.inputs.proofs.SizeLemmas.{film-limits, film-sizes}
 use Rattle.inputs.proofs.collectors.size_film.Goals as goal
@@ -11,19 +11,19 @@ returns-clause-film g c = λ held told.
       video = heard.video;
       holds = heard.holds held told;
       rate_is = heard.ended.rate_is;
-      sizes_are = film-sizes heard.video c.hear_film.new.found.unit c.hear_film.new.found.sizes.items
+      sizes_are = film-sizes heard.video c.scan_film_into.new.found.unit c.scan_film_into.new.found.sizes.items
           heard.ended.accepted heard.ended.heard;
     }
 
 pub returns-clause-limits : goal.returns-clause-limits
 returns-clause-limits g c =
     let heard = (c.in_ok-ending.ensures {u = tt}).film in
-    let same : c.hear_film.new.found.sizes.items ≡ sizes_of heard.video =
-    film-sizes heard.video c.hear_film.new.found.unit
-    c.hear_film.new.found.sizes.items heard.ended.accepted heard.ended.heard in
+    let same : c.scan_film_into.new.found.sizes.items ≡ sizes_of heard.video =
+    film-sizes heard.video c.scan_film_into.new.found.unit
+    c.scan_film_into.new.found.sizes.items heard.ended.accepted heard.ended.heard in
     subst (λ (l : List ℕ). AreSizesWithin c.in_ok-ending.ending.rate l) (sym same)
     (film-limits heard.video c.in_ok-ending.ending.rate heard.ended.accepted heard.ended.rate_is)
 
-pub returns-in_err-ending-clause-trouble : goal.returns-in_err-ending-clause-trouble
-returns-in_err-ending-clause-trouble g c =
-    handed_on _ c.from_residual.result c.from_residual.ensures.1 ((c.in_err-ending.ensures {u = tt}).trouble)
+pub returns-in_err-ending-clause-error : goal.returns-in_err-ending-clause-error
+returns-in_err-ending-clause-error g c =
+    handed_on _ c.from_residual.result c.from_residual.ensures.1 ((c.in_err-ending.ensures {u = tt}).error)

@@ -7,29 +7,29 @@ use Rattle.inputs.proofs.VideoLemmas.{HoldsAccepted, file_not_refused}
 use Rattle.inputs.proofs.LibraryLemmas.{then_read}
 use Rattle.inputs.proofs.films.load_within.Goals as goal
 
-pub returns-in_err-size-clause-trouble : goal.returns-in_err-size-clause-trouble
-returns-in_err-size-clause-trouble g c =
+pub returns-in_err-size-clause-error : goal.returns-in_err-size-clause-error
+returns-in_err-size-clause-error g c =
     handed_on _ c.from_residual.result c.from_residual.ensures.1
     (read_trouble_map _ _ c.in_err-size.field-0.0 (λ name is. is)
     (λ held name fault told is missing. inl missing)
-    ((c.in_err-size.ensures {u = tt}).trouble))
+    ((c.in_err-size.ensures {u = tt}).error))
 
-pub returns-in_err-file-clause-trouble : goal.returns-in_err-file-clause-trouble
-returns-in_err-file-clause-trouble g c =
+pub returns-in_err-file-clause-error : goal.returns-in_err-file-clause-error
+returns-in_err-file-clause-error g c =
     let Refuses = IsRefusedAbove c.args.most c.args.over in
     handed_on _ c.from_residual-in_err-file.result c.from_residual-in_err-file.ensures.1
     (never_refused c.args.name.now Refuses (g.L.Library.faults c.read_bytes.new.library) c.in_err-file.field-0.0
-    c.find_file.ensures.library ((c.in_err-file.ensures {u = tt}).trouble))
+    c.find_file.ensures.library ((c.in_err-file.ensures {u = tt}).error))
 
-pub returns-then-most-size-clause-trouble : goal.returns-then-most-size-clause-trouble
-returns-then-most-size-clause-trouble g c = (
+pub returns-then-most-size-clause-error : goal.returns-then-most-size-clause-error
+returns-then-most-size-clause-error g c = (
   refl,
   λ held told. size_above held c.args.name.now c.args.most c.args.over
       ((c.in_ok-size.ensures {u = tt}).found held told) (omega (arith, c.if-most-size.true)),
 )
 
-pub returns-in_err-film-clause-trouble : goal.returns-in_err-film-clause-trouble
-returns-in_err-film-clause-trouble g c =
+pub returns-in_err-film-clause-error : goal.returns-in_err-film-clause-error
+returns-in_err-film-clause-error g c =
     let read : WasRead (g.L.Library.files c.args.library.now) c.args.name.now c.in_ok-file.file.items c.args.most =
     record {
       found = λ held is. (c.in_ok-file.ensures {u = tt}).read held (c.find_file.ensures.library.kept ∙ is)
@@ -38,7 +38,7 @@ returns-in_err-film-clause-trouble g c =
     } in
     handed_on _ c.from_residual-in_err-film.result c.from_residual-in_err-film.ensures.1
     (bytes_trouble c.args.over (g.L.Library.faults c.args.library.now) (g.L.Library.faults c.read_bytes.new.library)
-    c.in_err-film.field-0.0 read ((c.in_err-film.ensures {u = tt}).trouble))
+    c.in_err-film.field-0.0 read ((c.in_err-film.ensures {u = tt}).error))
 
 pub returns-clause-film : goal.returns-clause-film
 returns-clause-film g c = λ held is.
@@ -65,8 +65,8 @@ returns-clause-small g c = λ held is fault refused.
     } in
     file_not_refused c.args.over fault holds refused
 
-pub returns-in_err-stored-clause-trouble : goal.returns-in_err-stored-clause-trouble
-returns-in_err-stored-clause-trouble g c =
+pub returns-in_err-stored-clause-error : goal.returns-in_err-stored-clause-error
+returns-in_err-stored-clause-error g c =
     handed_on _ c.from_residual-in_err-stored.result c.from_residual-in_err-stored.ensures.1 tt
 
 pub returns-in_err-file-clause-library : goal.returns-in_err-file-clause-library

@@ -1,7 +1,7 @@
 use Rattle.std.proofs.Common.{◌≡◌, Some, subst, sym}
 use Rattle.mpeg_scan.specs.Films.{refusal}
 use Rattle.mpeg_scan.specs.declared.films.Film.{Film}
-use Rattle.inputs.specs.Films.{IsBytesTrouble, IsFilmTrouble}
+use Rattle.inputs.specs.LoadErrors.{IsFileBytesError, IsFilmError}
 use Rattle.inputs.specs.Videos.{IsVideo}
 use Rattle.inputs.proofs.LoadLemmas.{video_trouble}
 use Rattle.inputs.proofs.ScanLemmas.{err_map, handed_on, ok_map}
@@ -14,13 +14,13 @@ returns-clause-film c =
     (λ film same. subst (IsVideo c.args.file.items) (sym same)
     ((c.in_ok-video.ensures {u = tt}).video)) c.scan_video.ensures.film
 
-pub returns-clause-trouble : goal.returns-clause-trouble
-returns-clause-trouble c =
-    err_map (IsFilmTrouble c.args.name.now (λ fault. refusal c.in_ok-video.video.items ≡ Some fault))
-    (IsBytesTrouble c.args.name.now c.args.file.items) c.scan_video.result
+pub returns-clause-error : goal.returns-clause-error
+returns-clause-error c =
+    err_map (IsFilmError c.args.name.now (λ fault. refusal c.in_ok-video.video.items ≡ Some fault))
+    (IsFileBytesError c.args.name.now c.args.file.items) c.scan_video.result
     (λ t h. video_trouble c.args.name.now c.args.file.items c.in_ok-video.video.items t
-    ((c.in_ok-video.ensures {u = tt}).video) h) c.scan_video.ensures.trouble
+    ((c.in_ok-video.ensures {u = tt}).video) h) c.scan_video.ensures.error
 
-pub returns-in_err-video-clause-trouble : goal.returns-in_err-video-clause-trouble
-returns-in_err-video-clause-trouble c =
-    handed_on _ c.from_residual.result c.from_residual.ensures.1 ((c.in_err-video.ensures {u = tt}).trouble)
+pub returns-in_err-video-clause-error : goal.returns-in_err-video-clause-error
+returns-in_err-video-clause-error c =
+    handed_on _ c.from_residual.result c.from_residual.ensures.1 ((c.in_err-video.ensures {u = tt}).error)

@@ -1,10 +1,10 @@
 use Rattle.std.proofs.Common.{◌≡◌, ◌∙◌, ℕ, ◌+◌, List, [], ◌++◌, length, take, ap, arith, rules, subst, sym}
 use Rattle.std.proofs.lemmas.List.{append-nil, length-drop, take_all}
-use Rattle.sys_demux.specs.States.{WasFed}
-use Rattle.sys_demux.specs.Streams.{IsRefused, IsSystem}
+use Rattle.sys_demux.specs.ParserStates.{WasFed}
+use Rattle.sys_demux.specs.SystemStreams.{IsBadStream, IsSystem}
 use Rattle.inputs.proofs.ScanLemmas.{handed_on}
 use Rattle.inputs.proofs.StreamLemmas.{parts_joined, rest_joined}
-use Rattle.inputs.proofs.Tokens.{slice_from}
+use Rattle.inputs.proofs.TokenLemmas.{slice_from}
 use Rattle.inputs.proofs.films.unwrap_stream.Goals as goal
 
 pub loop-at-init : goal.loop-at-init
@@ -46,7 +46,7 @@ returns-clause-video c =
 pub returns-in_err-fed-clause-refused : goal.returns-in_err-fed-clause-refused
 returns-in_err-fed-clause-refused c =
     handed_on _ c.from_residual.result c.from_residual.ensures.1
-    (subst (λ (l : List ℕ). IsRefused l c.in_err-fed.field-0.0)
+    (subst (λ (l : List ℕ). IsBadStream l c.in_err-fed.field-0.0)
     (rest_joined [] c.args.stream.now [] c.loop-at.at ∙ append-nil c.args.stream.now)
     ((c.in_err-fed.ensures {u = tt}).fault (take c.loop-at.at c.args.stream.now) c.loop-at.video.items
     c.loop-at.invariant.fed []))
@@ -58,7 +58,7 @@ returns-in_err-extend_from_slice-clause-refused c =
 pub returns-in_err-finish-clause-refused : goal.returns-in_err-finish-clause-refused
 returns-in_err-finish-clause-refused c =
     handed_on _ c.from_residual-in_err-finish.result c.from_residual-in_err-finish.ensures.1
-    (subst (λ (l : List ℕ). IsRefused l c.in_err-finish.field-0.0)
+    (subst (λ (l : List ℕ). IsBadStream l c.in_err-finish.field-0.0)
     (take_all c.loop-at.at c.args.stream.now (omega (arith, c.loop-at-test.false)))
     ((c.in_err-finish.ensures {u = tt}).end
     (take c.loop-at.at c.args.stream.now) c.loop-at.video.items c.loop-at.invariant.fed))

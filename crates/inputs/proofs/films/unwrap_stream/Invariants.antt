@@ -1,5 +1,5 @@
 use Rattle.std.proofs.Common.{◌≡◌, ◌-◌, ◌≤◌, length, take}
-use Rattle.sys_demux.specs.States.{WasFed}
+use Rattle.sys_demux.specs.ParserStates.{WasFed}
 use Rattle.inputs.proofs.films.unwrap_stream.Given as goal
 
 abbrev pub invariant-loop-at : goal.invariant-loop-at

@@ -1,5 +1,5 @@
 use Rattle.std.proofs.Common.{◌∙◌, ℕ, ◌-◌, List, length, take, drop, ap, sym, subst}
-use Rattle.sys_demux.specs.Streams.{IsSystem}
+use Rattle.sys_demux.specs.SystemStreams.{IsSystem}
 use Rattle.inputs.specs.Videos.{pack_in}
 use Rattle.inputs.proofs.LoadLemmas.{plain_is, stream_is}
 use Rattle.inputs.proofs.films.video_of.Goals as goal

@@ -1,6 +1,6 @@
 use Rattle.std.proofs.Common.{◌∙◌, List, ℕ, arith, length, subst, take}
 use Rattle.std.proofs.lemmas.List.{length-take-le}
-use Rattle.inputs.specs.Files.{IsChunk, IsNextRead}
+use Rattle.inputs.specs.FileReads.{IsChunk, IsNextRead}
 use Rattle.inputs.proofs.LibraryLemmas.{then_read}
 use Rattle.inputs.proofs.ReadLemmas.{some_chunk}
 use Rattle.inputs.proofs.ScanLemmas.{all_scanned, chunk_refused, film_trouble, more_scanned, scanned_fed}
@@ -19,11 +19,11 @@ feed-requires-clause-short g c =
       c.requires.short,
     )
 
-pub returns-in-Err-clause-trouble : goal.returns-in-Err-clause-trouble
-returns-in-Err-clause-trouble g c =
+pub returns-in-Err-clause-error : goal.returns-in-Err-clause-error
+returns-in-Err-clause-error g c =
     let so_far = c.loop-count.invariant.scanned in
     film_trouble c.args.file.name.now (g.L.Library.faults c.args.library.now) (g.L.Library.faults c.read_at.new.library)
-    c.scan_trouble.result
+    c.scan_error.result
     (λ held fault is refused.
     chunk_refused (take c.in-Some.count c.read_at.new.into) so_far.scanned
     (c.requires.opened held is)
@@ -32,7 +32,7 @@ returns-in-Err-clause-trouble g c =
     (c.loop-count.invariant.library.kept ∙ is)
     (so_far.front held is) so_far.long))
     c.requires.short (c.feed.ensures.fault fault (cc)))
-    c.scan_trouble.ensures
+    c.scan_error.ensures
 
 pub loop-count-preserved : goal.loop-count-preserved
 loop-count-preserved g c =

@@ -1,6 +1,6 @@
 use Rattle.std.proofs.Common.{◌∙◌, List, ℕ, arith, length, subst, take}
 use Rattle.std.proofs.lemmas.List.{length-take-le}
-use Rattle.inputs.specs.Files.{IsChunk, IsNextRead}
+use Rattle.inputs.specs.FileReads.{IsChunk, IsNextRead}
 use Rattle.inputs.proofs.LibraryLemmas.{then_read}
 use Rattle.inputs.proofs.ReadLemmas.{some_chunk}
 use Rattle.inputs.proofs.StreamLemmas.{ChunkRead, all_streamed, chunk_told, front_more, more_streamed}
@@ -20,11 +20,11 @@ unwrap_chunk-requires-clause-room g c =
       c.requires.short,
     )
 
-pub returns-in-Err-clause-trouble : goal.returns-in-Err-clause-trouble
-returns-in-Err-clause-trouble g c =
+pub returns-in-Err-clause-error : goal.returns-in-Err-clause-error
+returns-in-Err-clause-error g c =
     system_trouble c.args.file.name.now (g.L.Library.faults c.args.library.now)
     (g.L.Library.faults c.read_at.new.library)
-    c.stream_trouble.result
+    c.stream_error.result
     (λ held fault is moves.
     let seen : List ℕ = c.loop-count.invariant.streamed.seen in
     let chunk : List ℕ = take c.in-Some.count c.read_at.new.into in
@@ -39,7 +39,7 @@ returns-in-Err-clause-trouble g c =
     } in
     chunk_told c.in-Err.refused read
     ((c.in-Err.ensures {u = tt}).refused seen c.loop-count.invariant.streamed.unwrapped) moves)
-    c.stream_trouble.ensures
+    c.stream_error.ensures
 
 pub loop-count-preserved : goal.loop-count-preserved
 loop-count-preserved g c =

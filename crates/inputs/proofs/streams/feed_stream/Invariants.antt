@@ -1,7 +1,7 @@
 use Rattle.std.proofs.Common.{◌-◌, ◌≤◌}
-use Rattle.mpeg_scan.specs.Scans.{IsReady, bytes_fed}
-use Rattle.troubles.specs.Causes.{IsReadOnly}
-use Rattle.inputs.specs.Scans.{HasStreamed}
+use Rattle.mpeg_scan.specs.ScannerState.{IsSliceReady, bytes_fed}
+use Rattle.cli_errors.specs.ReadErrors.{IsReadOnly}
+use Rattle.inputs.specs.ChunkScans.{HasStreamed}
 use Rattle.inputs.proofs.streams.feed_stream.Given as goal
 
 abbrev pub invariant-loop-count : goal.invariant-loop-count
@@ -9,7 +9,7 @@ invariant-loop-count g l = record {
   library : IsReadOnly g.L.Library.files g.L.Library.faults l.fn.library l.library;
   within : l.at ≤ l.file.size;
   few : bytes_fed l.scanner ≤ l.unwrapper.fed;
-  ready : IsReady (g.F.Found.ready_at l.found) l.scanner;
+  ready : IsSliceReady (g.F.Found.ready_at l.found) l.scanner;
   streamed : HasStreamed (g.F.Found.heard l.found)
       (g.L.Library.files l.fn.library) l.file.name.now l.file.size l.from l.at
       l.unwrapper l.scanner;

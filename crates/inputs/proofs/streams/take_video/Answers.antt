@@ -1,9 +1,9 @@
 use Rattle.std.proofs.Common.{◌≡◌, ◌∙◌, ℕ, List, [], ◌++◌, Err, inl, inr, sym, ap}
 use Rattle.std.proofs.lemmas.List.{append-nil}
 use Rattle.mpeg_scan.specs.declared.faults.ScanRefused.TheVariants.{Fault as FaultAnswer}
-use Rattle.mpeg_scan.specs.Codes.{codes_of, read_after}
-use Rattle.mpeg_scan.specs.Faults.{first_fault}
-use Rattle.mpeg_scan.proofs.ReadLemmas.{read-append}
+use Rattle.mpeg_scan.specs.StartCodes.{codes_of, read_after}
+use Rattle.mpeg_scan.specs.FilmFaults.{first_fault}
+use Rattle.mpeg_scan.proofs.ByteReadLemmas.{read-append}
 use Rattle.inputs.proofs.ScanLemmas.{more_told}
 use Rattle.inputs.proofs.StreamLemmas.{refused_more}
 use Rattle.inputs.proofs.streams.take_video.Goals as goal

@@ -1,7 +1,7 @@
 use Rattle.std.proofs.Common.{ℕ, List, ◌++◌, take, length, ap, arith, sym, subst}
 use Rattle.std.proofs.lemmas.List.{append-nil, length-drop, take_all}
-use Rattle.inputs.specs.Scans.{HasUnwrapped}
-use Rattle.inputs.proofs.Tokens.{slice_from}
+use Rattle.inputs.specs.ChunkScans.{HasUnwrapped}
+use Rattle.inputs.proofs.TokenLemmas.{slice_from}
 use Rattle.inputs.proofs.ScanLemmas.{handed_on}
 use Rattle.inputs.proofs.StreamLemmas.{part_refused, parts_joined}
 use Rattle.inputs.proofs.streams.unwrap_chunk.Goals as goal

@@ -1,6 +1,6 @@
 use Rattle.std.proofs.Common.{◌≡◌, true, get_or, arith, rules}
 use Rattle.std.specs.Char.{is_ascii_digit}
-use Rattle.inputs.proofs.SmallNumbers.{one_digit_more, digits_more}
+use Rattle.inputs.proofs.NumberDigitLemmas.{one_digit_more, digits_more}
 use Rattle.inputs.proofs.traces.digits_in_front.Goals as goal
 
 pub loop-place-preserved : goal.loop-place-preserved

@@ -1,8 +1,8 @@
 use Rattle.std.proofs.Common.{◌∙◌, ◌+◌, ◌-◌, length, drop, take, ap, arith, List, ℕ}
 use Rattle.std.proofs.lemmas.List.{drop_all}
 use Rattle.inputs.specs.Traces.{tokens_from}
-use Rattle.inputs.proofs.Tokens.{blanks_step, slice_from}
-use Rattle.inputs.proofs.TraceWords.{begins_after}
+use Rattle.inputs.proofs.TokenLemmas.{blanks_step, slice_from}
+use Rattle.inputs.proofs.TraceWordLemmas.{begins_after}
 use Rattle.inputs.proofs.traces.next_place.Goals as goal
 
 pub returns-then-from-text : goal.returns-then-from-text

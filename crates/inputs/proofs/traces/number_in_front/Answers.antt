@@ -1,6 +1,6 @@
 use Rattle.std.proofs.Common.{◌≡◌, ◌<◌, length, arith, sym, ◌∙◌, true, get_or}
 use Rattle.inputs.specs.Traces.{is_white_space}
-use Rattle.inputs.proofs.Words.{DigitsInFront, no_digits, not_whole, too_large, whole_word}
+use Rattle.inputs.proofs.FirstWordLemmas.{DigitsInFront, no_digits, not_whole, too_large, whole_word}
 use Rattle.inputs.proofs.traces.number_in_front.Goals as goal
 use Rattle.inputs.proofs.traces.number_in_front.Goals.{then-number-eq0-via-then-number-eq0}
 use Rattle.inputs.proofs.traces.number_in_front.Goals.{then-number-eq0-via-else-number-eq0+then-number-gt-MAX_SIZE}

@@ -1,7 +1,7 @@
 use Rattle.std.proofs.lemmas.Grind.{common_steps}
 use Rattle.std.proofs.Common.{◌≡◌, length, arith, rules, ◌++◌, ◌∷◌, [], ◌-◌, take, drop}
-use Rattle.inputs.proofs.Tokens.{slice_from}
-use Rattle.inputs.proofs.TraceWords.{TokenBegins, next_read, next_bad}
+use Rattle.inputs.proofs.TokenLemmas.{slice_from}
+use Rattle.inputs.proofs.TraceWordLemmas.{TokenBegins, next_read, next_bad}
 use Rattle.inputs.proofs.traces.read_trace.Goals as goal
 
 pub returns-in_default-next_size-clause-refused : goal.returns-in_default-next_size-clause-refused

@@ -1,5 +1,5 @@
 use Rattle.std.proofs.Common.{◌-◌, length}
-use Rattle.inputs.proofs.Tokens.{HasRead}
+use Rattle.inputs.proofs.TokenLemmas.{HasRead}
 use Rattle.inputs.proofs.traces.read_trace.Given as goal
 
 abbrev pub invariant-loop-from : goal.invariant-loop-from

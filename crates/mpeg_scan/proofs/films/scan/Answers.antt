@@ -2,10 +2,10 @@ use Rattle.std.proofs.Common.{◌≡◌, [], ℕ, List, subst, Some, Err, sym, a
 use Rattle.std.proofs.lemmas.Result.{err_from_is_err_and}
 use Rattle.mpeg_scan.specs.declared.faults.FilmFault.TheVariants.{TooLong}
 use Rattle.mpeg_scan.specs.declared.faults.ScanRefused.TheVariants.{Fault}
-use Rattle.mpeg_scan.specs.Codes.{read_after, codes_of}
+use Rattle.mpeg_scan.specs.StartCodes.{read_after, codes_of}
 use Rattle.mpeg_scan.specs.Calls.{calls_of}
-use Rattle.mpeg_scan.specs.Faults.{first_fault}
-use Rattle.mpeg_scan.specs.Scans.{HasScannedBytes}
+use Rattle.mpeg_scan.specs.FilmFaults.{first_fault}
+use Rattle.mpeg_scan.specs.ScannerState.{HasScannedBytes}
 use Rattle.mpeg_scan.specs.Films.{units_in, slices_in}
 use Rattle.mpeg_scan.proofs.FilmLemmas.{same-error, calls-none, refusal-at_code, refusal-too_long}
 use Rattle.mpeg_scan.proofs.films.scan.Goals as goal

@@ -1,5 +1,5 @@
 use Rattle.std.proofs.Common.{◌≡◌, ◌*◌, ◌^◌, ◌≤◌, take}
-use Rattle.plan_cert.specs.Slots.{total_slots}
+use Rattle.plan_cert.specs.PlanSlots.{total_slots}
 use Rattle.plan_cert.proofs.sums.total_slots.Given as goal
 
 abbrev pub invariant-loop-segment : goal.invariant-loop-segment

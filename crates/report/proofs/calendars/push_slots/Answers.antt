@@ -22,8 +22,8 @@ returns-in_err-push_slot c =
     omega (arith, c.loop-slot-test.true, c.now-now.ensures.value, c.loop-slot.auto.slot) in
     let place : slot ≡ first + k = omega (arith, c.now-now.ensures.value, c.loop-slot.auto.slot) in
     let among : IsAmong first ring_slots k slot = record { is = place; inside = inside } in
-    let some : 0 < booked_at calendar slot = omega (arith, c.booked_bytes-booked.ensures.value, c.if-booked-gt0.true) in
-    let words = ap (λ n. before ++ ((slot_words slot n ++ codes "\n") ++ after)) c.booked_bytes-booked.ensures.value
+    let some : 0 < booked_at calendar slot = omega (arith, c.booked-booked.ensures.value, c.if-booked-gt0.true) in
+    let words = ap (λ n. before ++ ((slot_words slot n ++ codes "\n") ++ after)) c.booked-booked.ensures.value
     ∙ lines_around (booked_at calendar) among some in
     handed_on c.from_residual.result c.from_residual.ensures.0
     (appended_as words (then_appended before c.loop-slot.invariant (cut_before after c.in_err-push_slot.ensures)))
@@ -42,9 +42,9 @@ loop-slot-preserved c =
     elim c.if-booked-gt0.branch [
       | then-booked-gt0+in_ok-push_slot w ↦ (
           let some : 0 < booked_at calendar slot =
-          omega (arith, c.booked_bytes-booked.ensures.value, w.if-booked-gt0.true) in
-          let line = slot_words slot c.booked_bytes-booked.result ++ codes "\n" in
-          let same = ap (λ n. slot_words slot n ++ codes "\n") c.booked_bytes-booked.ensures.value
+          omega (arith, c.booked-booked.ensures.value, w.if-booked-gt0.true) in
+          let line = slot_words slot c.booked-booked.result ++ codes "\n" in
+          let same = ap (λ n. slot_words slot n ++ codes "\n") c.booked-booked.ensures.value
           ∙ sym (line_booked (booked_at calendar) slot some) in
           ap (λ (v : Vec ℕ Global). v.items) w.out-is
           ∙ both out before line c.loop-slot.invariant w.in_ok-push_slot.ensures.whole
@@ -52,7 +52,7 @@ loop-slot-preserved c =
           )
       | else-booked-gt0 w ↦ (
           let none : booked_at calendar slot ≤ 0 =
-          omega (arith, c.booked_bytes-booked.ensures.value, w.if-booked-gt0.false) in
+          omega (arith, c.booked-booked.ensures.value, w.if-booked-gt0.false) in
           let same = more ∙ ap (λ (l : List ℕ). before ++ l) (line_free (booked_at calendar) slot none)
           ∙ append-nil before in
           ap (λ (v : Vec ℕ Global). v.items) w.out-is ∙ c.loop-slot.invariant ∙ ap (λ (l : List ℕ). out ++ l) (sym same)

@@ -1,6 +1,6 @@
 use Rattle.std.proofs.Common.{◌++◌, ap, codes, decimal}
 use Rattle.vod_base.specs.Fields.{field}
-use Rattle.report.specs.EntryLines.{answer_words, command_words}
+use Rattle.report.specs.EntryLines.{answer_text, command_text}
 use Rattle.vod_base.proofs.AppendLemmas.{appended_as, both, cut_before, handed_on, none_appended, then_appended}
 use Rattle.report.proofs.entries.entry_line.Goals as goal
 
@@ -13,11 +13,11 @@ returns-in_err-push_field c =
     let entry = c.args.entry.now in
     let place = decimal c.args.place in
     let words = ap
-    (λ n. place ++ field (codes " seat=") n ++ command_words entry.command ++ answer_words entry.answer
+    (λ n. place ++ field (codes " seat=") n ++ command_text entry.command ++ answer_text entry.answer
     ++ codes "\n") c.from.ensures in
     handed_on c.from_residual-in_err-push_field.result c.from_residual-in_err-push_field.ensures.0
     (appended_as words (cut_before (codes "\n")
-    (cut_before (answer_words entry.answer) (cut_before (command_words entry.command)
+    (cut_before (answer_text entry.answer) (cut_before (command_text entry.command)
     (then_appended place c.in_ok-push_number.ensures.whole c.in_err-push_field.ensures)))))
 
 pub returns-in_err-push_command : goal.returns-in_err-push_command
@@ -26,22 +26,22 @@ returns-in_err-push_command c =
     let place = decimal c.args.place in
     let seat = field (codes " seat=") c.from.result in
     let words = ap
-    (λ n. place ++ field (codes " seat=") n ++ command_words entry.command ++ answer_words entry.answer
+    (λ n. place ++ field (codes " seat=") n ++ command_text entry.command ++ answer_text entry.answer
     ++ codes "\n") c.from.ensures in
     let head = both _ place seat c.in_ok-push_number.ensures.whole c.in_ok-push_field.ensures.whole in
     handed_on c.from_residual-in_err-push_command.result c.from_residual-in_err-push_command.ensures.0
     (appended_as words
     (cut_before (codes "\n")
-    (cut_before (answer_words entry.answer) (then_appended (place ++ seat) head c.in_err-push_command.ensures))))
+    (cut_before (answer_text entry.answer) (then_appended (place ++ seat) head c.in_err-push_command.ensures))))
 
 pub returns-in_err-push_answer : goal.returns-in_err-push_answer
 returns-in_err-push_answer c =
     let entry = c.args.entry.now in
     let place = decimal c.args.place in
     let seat = field (codes " seat=") c.from.result in
-    let command = command_words entry.command in
+    let command = command_text entry.command in
     let words = ap
-    (λ n. place ++ field (codes " seat=") n ++ command ++ answer_words entry.answer ++ codes "\n") c.from.ensures in
+    (λ n. place ++ field (codes " seat=") n ++ command ++ answer_text entry.answer ++ codes "\n") c.from.ensures in
     let head = both _ place seat c.in_ok-push_number.ensures.whole c.in_ok-push_field.ensures.whole in
     let asked = both _ (place ++ seat) command head c.in_ok-push_command.ensures.whole in
     handed_on c.from_residual-in_err-push_answer.result c.from_residual-in_err-push_answer.ensures.0
@@ -53,8 +53,8 @@ returns c =
     let entry = c.args.entry.now in
     let place = decimal c.args.place in
     let seat = field (codes " seat=") c.from.result in
-    let command = command_words entry.command in
-    let answer = answer_words entry.answer in
+    let command = command_text entry.command in
+    let answer = answer_text entry.answer in
     let words = ap (λ n. place ++ field (codes " seat=") n ++ command ++ answer ++ codes "\n") c.from.ensures in
     let head = both _ place seat c.in_ok-push_number.ensures.whole c.in_ok-push_field.ensures.whole in
     let asked = both _ (place ++ seat) command head c.in_ok-push_command.ensures.whole in

@@ -1,6 +1,6 @@
 use Rattle.std.proofs.Common.{ap, arith, subst, sym}
 use Rattle.report.specs.JournalTexts.{journal_text}
-use Rattle.report.specs.Kinds.{AreOfKind}
+use Rattle.report.specs.AnswerKinds.{AreOfKind}
 use Rattle.vod_base.proofs.AppendLemmas.{appended_as, handed_on}
 use Rattle.report.proofs.JournalLemmas.{all_appended, kind_at, kinds_from, line_cut, none_yet, one_more}
 use Rattle.report.proofs.journals.journal_text.Goals as goal

@@ -1,7 +1,7 @@
 use Rattle.std.proofs.Common.{◌+◌, ◌-◌, drop, take, arith}
 use Rattle.rtp_pack.specs.Packets.{unit_packets}
-use Rattle.rtp_pack.proofs.PackLemmas.{Remaining, SliceEnds, at-slice, put-last, put-slice}
-use Rattle.rtp_pack.proofs.UnitLemmas.{packed}
+use Rattle.rtp_pack.proofs.PackerLemmas.{Remaining, SliceEnds, at-slice, put-last, put-slice}
+use Rattle.rtp_pack.proofs.UnitPacketLemmas.{packed}
 use Rattle.rtp_pack.proofs.packer.pack.Goals as goal
 
 pub put_slice-requires-clause-some : goal.put_slice-requires-clause-some

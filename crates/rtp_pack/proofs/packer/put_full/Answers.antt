@@ -1,7 +1,7 @@
 use Rattle.std.proofs.Common.{◌+◌, ◌-◌, ◌++◌, ◌∷◌, [], ap, ◌∙◌, arith, false, List}
 use Rattle.rtp_pack.specs.declared.payloads.Packet.{Packet}
 use Rattle.rtp_pack.specs.Packets.{full_packets}
-use Rattle.rtp_pack.proofs.PackLemmas.{put-full_packet}
+use Rattle.rtp_pack.proofs.PackerLemmas.{put-full_packet}
 use Rattle.rtp_pack.proofs.packer.put_full.Goals as goal
 
 pub loop-portion-preserved : goal.loop-portion-preserved

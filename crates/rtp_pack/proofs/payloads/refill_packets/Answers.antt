@@ -3,7 +3,7 @@ use Rattle.std.proofs.Common.{List, ℕ, Some, ap, subst, sym, ◌∙◌, length
 use Rattle.std.proofs.lemmas.Option.{slice_get-get_or}
 use Rattle.mpeg_scan.specs.declared.units.Unit.{Unit as PictureUnit}
 use Rattle.rtp_pack.specs.Packets.{IsLaid}
-use Rattle.mpeg_scan.proofs.LaidLemmas.{film-laid, laid-at}
+use Rattle.mpeg_scan.proofs.UnitLayoutLemmas.{film-laid, laid-at}
 use Rattle.rtp_pack.proofs.payloads.refill_packets.Goals as goal
 
 pub pack-requires : goal.pack-requires

@@ -8,6 +8,7 @@ returns c =
     elim (slice_get_cases film.units.items 0).1 [
       | inl found ↦
           let packed = c.in_ok-packets.ensures found.0 found.2 in
-          c.law_last_marked.ensures found.0 film.slice_starts.items c.in_ok-packets.field-0.items packed.rules packed.cover
+          c.law_only_last_packet_has_marker.ensures found.0 film.slice_starts.items c.in_ok-packets.field-0.items
+          packed.rules packed.cover
       | inr past ↦ absurd (omega (arith, past.0, c.requires))
     ]

@@ -13,6 +13,6 @@ returns c =
     then-put (codes "Transport: RTP/AVP/TCP;unicast;interleaved=0-1\r\n") version c.in_ok-push-3.ensures.whole in
     let buffer =
     then-field (codes "x-Buffer: ") (decimal c.args.wish.now.buffer) transport c.in_ok-push_field.ensures.whole in
-    let delay =
-    then-field (codes "\r\nx-Startup: ") (decimal c.args.wish.now.delay) buffer c.in_ok-push_field-2.ensures.whole in
-    then-put (codes "\r\n\r\n") delay c.in_ok-push-4.ensures.whole
+    let startup =
+    then-field (codes "\r\nx-Startup: ") (decimal c.args.wish.now.startup) buffer c.in_ok-push_field-2.ensures.whole in
+    then-put (codes "\r\n\r\n") startup c.in_ok-push-4.ensures.whole

@@ -1,7 +1,7 @@
 use Rattle.std.proofs.Common.{◌≡◌, true, false, refl, inr, subst, sym}
 use Rattle.rtsp_fields.specs.Transports.{NamesChannels}
 use Rattle.rtsp_fields.proofs.PartLemmas.{channels_found}
-use Rattle.rtsp_fields.proofs.Places.{HasPassed, passed_every, passed_more, passed_none}
+use Rattle.rtsp_fields.proofs.PartPlaces.{HasPassed, passed_every, passed_more, passed_none}
 use Rattle.rtsp_fields.proofs.transports.channels_of.Goals as goal
 
 pub loop-part-init : goal.loop-part-init

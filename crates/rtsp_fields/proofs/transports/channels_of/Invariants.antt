@@ -1,5 +1,5 @@
 use Rattle.rtsp_fields.specs.Transports.{NamesChannels}
-use Rattle.rtsp_fields.proofs.Places.{HasPassed}
+use Rattle.rtsp_fields.proofs.PartPlaces.{HasPassed}
 use Rattle.rtsp_fields.proofs.transports.channels_of.Given as goal
 
 abbrev pub invariant-loop-part : goal.invariant-loop-part

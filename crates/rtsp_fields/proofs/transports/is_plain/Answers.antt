@@ -1,6 +1,6 @@
 use Rattle.std.proofs.Common.{◌≡◌, true, false, refl, subst, sym}
 use Rattle.rtsp_fields.specs.Transports.{AsksOtherDelivery}
-use Rattle.rtsp_fields.proofs.Places.{HasPassed, found_part, passed_every, passed_more, passed_none}
+use Rattle.rtsp_fields.proofs.PartPlaces.{HasPassed, found_part, passed_every, passed_more, passed_none}
 use Rattle.rtsp_fields.proofs.transports.is_plain.Goals as goal
 
 pub loop-part-init : goal.loop-part-init

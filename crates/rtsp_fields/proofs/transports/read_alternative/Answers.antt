@@ -1,5 +1,5 @@
 use Rattle.std.proofs.Common.{◌≡◌, ap, sym, refl, ◌∙◌, true, false}
-use Rattle.rtsp_fields.specs.Parts.{in_lower_case}
+use Rattle.rtsp_fields.specs.SeparatedParts.{in_lower_case}
 use Rattle.rtsp_fields.proofs.PartLemmas.{other_protocol, taken_channels}
 use Rattle.rtsp_fields.proofs.transports.read_alternative.Goals as goal
 

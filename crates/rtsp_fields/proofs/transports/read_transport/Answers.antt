@@ -1,7 +1,7 @@
 use Rattle.std.proofs.Common.{subst, sym}
 use Rattle.rtsp_fields.specs.Transports.{CanBeTaken}
 use Rattle.rtsp_fields.proofs.PartLemmas.{no_transport, not_taken, transport_found}
-use Rattle.rtsp_fields.proofs.Places.{HasPassed, passed_every, passed_more, passed_none}
+use Rattle.rtsp_fields.proofs.PartPlaces.{HasPassed, passed_every, passed_more, passed_none}
 use Rattle.rtsp_fields.proofs.transports.read_transport.Goals as goal
 
 pub loop-alternative-init : goal.loop-alternative-init

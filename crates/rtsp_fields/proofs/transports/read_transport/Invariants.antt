@@ -1,5 +1,5 @@
 use Rattle.rtsp_fields.specs.Transports.{CanBeTaken}
-use Rattle.rtsp_fields.proofs.Places.{HasPassed}
+use Rattle.rtsp_fields.proofs.PartPlaces.{HasPassed}
 use Rattle.rtsp_fields.proofs.transports.read_transport.Given as goal
 
 abbrev pub invariant-loop-alternative : goal.invariant-loop-alternative

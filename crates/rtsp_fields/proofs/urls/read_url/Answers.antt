@@ -1,9 +1,9 @@
 use Rattle.std.proofs.Common.{◌-◌, drop, take, refl, sym, ◌∙◌, arith}
 use Rattle.rtsp_text.specs.Grammar.{is_url_byte}
-use Rattle.rtsp_text.proofs.Inside.{all-take, all-drop}
-use Rattle.rtsp_text.proofs.OneLines.{one_line-url}
-use Rattle.rtsp_fields.proofs.Asked.{absolute_url}
-use Rattle.rtsp_fields.proofs.Names.{line_of_name, name_lent}
+use Rattle.rtsp_text.proofs.LineBounds.{all-take, all-drop}
+use Rattle.rtsp_text.proofs.SingleLineTexts.{one_line-url}
+use Rattle.rtsp_fields.proofs.RequestUrls.{absolute_url}
+use Rattle.rtsp_fields.proofs.FilmNames.{line_of_name, name_lent}
 use Rattle.rtsp_fields.proofs.urls.read_url.Goals as goal
 
 pub returns-clause-read : goal.returns-clause-read

@@ -1,7 +1,7 @@
 use Rattle.std.proofs.Common.{sym, ap, codes, ◌∙◌}
 use Rattle.std.specs.Prelude.{option_and_then}
 use Rattle.vod_base.specs.Numbers.{number_of}
-use Rattle.rtsp_text.proofs.Values.{first_number-nil, first_number_some, first_number_more}
+use Rattle.rtsp_text.proofs.HeaderValues.{first_number-nil, first_number_some, first_number_more}
 use Rattle.rtsp_text.proofs.fields.first_sequence.Goals as goal
 
 pub returns-in-Some-number_in : goal.returns-in-Some-number_in

@@ -1,5 +1,5 @@
 use Rattle.std.proofs.Common.{sym, ◌∙◌}
-use Rattle.rtsp_text.proofs.Values.{first_value-nil, first_value_some, first_value_more}
+use Rattle.rtsp_text.proofs.HeaderValues.{first_value-nil, first_value_some, first_value_more}
 use Rattle.rtsp_text.proofs.fields.header_value.Goals as goal
 
 pub returns-in-Some-value_in : goal.returns-in-Some-value_in

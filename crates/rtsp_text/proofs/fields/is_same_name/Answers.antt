@@ -1,4 +1,4 @@
-use Rattle.rtsp_text.proofs.Values.{same_name}
+use Rattle.rtsp_text.proofs.HeaderValues.{same_name}
 use Rattle.rtsp_text.proofs.fields.is_same_name.Goals as goal
 
 pub returns : goal.returns

@@ -1,5 +1,5 @@
 use Rattle.std.proofs.Common.{Some, sym, ap, ◌∙◌}
-use Rattle.rtsp_text.proofs.Values.{value_some, value_other, value_none}
+use Rattle.rtsp_text.proofs.HeaderValues.{value_some, value_other, value_none}
 use Rattle.rtsp_text.proofs.fields.value_in.Goals as goal
 use Rattle.rtsp_text.proofs.fields.value_in.Goals.{in_default-via-in-Some+else-is_same_name, in_default-via-in_default}
 

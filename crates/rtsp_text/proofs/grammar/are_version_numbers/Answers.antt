@@ -1,6 +1,6 @@
 use Rattle.std.proofs.Common.{sym, ◌∙◌}
 use Rattle.std.proofs.lemmas.Bool.{both_ways}
-use Rattle.rtsp_text.proofs.Words.{number_parts, numbers}
+use Rattle.rtsp_text.proofs.LineWords.{number_parts, numbers}
 use Rattle.rtsp_text.proofs.grammar.are_version_numbers.Goals as goal
 
 pub returns-then-is_decimal : goal.returns-then-is_decimal

@@ -1,6 +1,6 @@
 use Rattle.std.proofs.Common.{sym, ◌∙◌}
 use Rattle.std.proofs.lemmas.Bool.{both_ways}
-use Rattle.rtsp_text.proofs.Words.{header_parts, header_line}
+use Rattle.rtsp_text.proofs.LineWords.{header_parts, header_line}
 use Rattle.rtsp_text.proofs.grammar.is_header_line.Goals as goal
 
 pub returns-then-is_token : goal.returns-then-is_token

@@ -1,8 +1,8 @@
 use Rattle.std.proofs.Common.{◌≡◌, ◌≢◌, List, ℕ, ◌++◌, length, get_or, drop, sym, ap, subst, ◌∙◌, arith}
 use Rattle.std.proofs.lemmas.Bool.{both_ways}
 use Rattle.std.proofs.lemmas.List.{take-append-drop, length-drop}
-use Rattle.rtsp_text.proofs.Cuts.{is_other, other_is}
-use Rattle.rtsp_text.proofs.Words.{rtsp_url, url_parts}
+use Rattle.rtsp_text.proofs.CutUniqueness.{is_other, other_is}
+use Rattle.rtsp_text.proofs.LineWords.{rtsp_url, url_parts}
 use Rattle.rtsp_text.proofs.grammar.is_rtsp_url.Goals as goal
 
 pub returns-then-is_scheme : goal.returns-then-is_scheme

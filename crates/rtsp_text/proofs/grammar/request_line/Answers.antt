@@ -1,8 +1,8 @@
 use Rattle.std.proofs.Common.{sym, ap, subst, ◌∙◌}
 use Rattle.std.proofs.lemmas.Bool.{both_ways}
 use Rattle.rtsp_text.specs.Grammar.{is_token, IsUrl, IsVersion}
-use Rattle.rtsp_text.proofs.Cuts.{cut_none}
-use Rattle.rtsp_text.proofs.Words.{line_rest, line_parts}
+use Rattle.rtsp_text.proofs.CutUniqueness.{cut_none}
+use Rattle.rtsp_text.proofs.LineWords.{line_rest, line_parts}
 use Rattle.rtsp_text.proofs.grammar.request_line.Goals as goal
 use Rattle.rtsp_text.proofs.grammar.request_line.Goals.{else-is_token-via-then-is_token+then-is_url+else-is_version}
 use Rattle.rtsp_text.proofs.grammar.request_line.Goals.{else-is_token-via-then-is_token+else-is_url}

@@ -1,5 +1,5 @@
 use Rattle.std.proofs.Common.{sym}
-use Rattle.rtsp_text.proofs.Walks.{first_line-next, first_line-nil}
+use Rattle.rtsp_text.proofs.LineIteration.{first_line-next, first_line-nil}
 use Rattle.rtsp_text.proofs.lines.first_line.Goals as goal
 
 pub returns-in-Some : goal.returns-in-Some

@@ -1,5 +1,5 @@
 use Rattle.std.proofs.Common.{length}
-use Rattle.rtsp_text.proofs.Heads.{walk_first, walk_more, walk_end, next_ends}
+use Rattle.rtsp_text.proofs.HeadEnds.{walk_first, walk_more, walk_end, next_ends}
 use Rattle.rtsp_text.proofs.lines.head_end.Goals as goal
 
 pub loop-line-init : goal.loop-line-init

@@ -1,5 +1,5 @@
 use Rattle.std.proofs.Common.{length, ◌-◌}
-use Rattle.rtsp_text.proofs.Heads.{HasWalked}
+use Rattle.rtsp_text.proofs.HeadEnds.{HasWalked}
 use Rattle.rtsp_text.proofs.lines.head_end.Given as goal
 
 abbrev pub invariant-loop-line : goal.invariant-loop-line

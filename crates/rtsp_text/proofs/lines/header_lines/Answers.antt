@@ -1,4 +1,4 @@
-use Rattle.rtsp_text.proofs.Walks.{header_lines-next, header_lines-nil}
+use Rattle.rtsp_text.proofs.LineIteration.{header_lines-next, header_lines-nil}
 use Rattle.rtsp_text.proofs.lines.header_lines.Goals as goal
 
 pub returns-in-Some : goal.returns-in-Some

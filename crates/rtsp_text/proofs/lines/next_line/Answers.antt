@@ -1,7 +1,7 @@
 use Rattle.std.proofs.Common.{◌≢◌, [], length, arith, ap, ◌∙◌, eq-eqb}
 use Rattle.std.proofs.lemmas.Bool.{both_ways}
 use Rattle.std.proofs.lemmas.List.{take_rest, drop_all}
-use Rattle.rtsp_text.proofs.Walks.{next_here, next_open}
+use Rattle.rtsp_text.proofs.LineIteration.{next_here, next_open}
 use Rattle.rtsp_text.proofs.lines.next_line.Goals as goal
 
 pub returns-in-Some : goal.returns-in-Some

@@ -1,8 +1,8 @@
 use Rattle.std.proofs.Common.{sym, subst, ◌∙◌, arith, below_more}
 use Rattle.rtsp_text.specs.Lines.{header_lines}
 use Rattle.rtsp_text.specs.Grammar.{IsHeaderLine}
-use Rattle.rtsp_text.proofs.Walks.{header_lines-few}
-use Rattle.rtsp_text.proofs.Once.{line_at, all_good}
+use Rattle.rtsp_text.proofs.LineIteration.{header_lines-few}
+use Rattle.rtsp_text.proofs.MessageUniqueness.{line_at, all_good}
 use Rattle.rtsp_text.proofs.requests.first_bad.Goals as goal
 
 pub overflow_add-count : goal.overflow_add-count

@@ -1,6 +1,6 @@
 use Rattle.rtsp_text.specs.Lines.{header_lines}
 use Rattle.rtsp_text.proofs.FirstField.{found_first, found_none}
-use Rattle.rtsp_text.proofs.Inside.{found_short, found_one_line}
+use Rattle.rtsp_text.proofs.LineBounds.{found_short, found_one_line}
 use Rattle.rtsp_text.proofs.requests.header_of.Goals as goal
 
 pub returns-clause-first : goal.returns-clause-first

@@ -1,5 +1,5 @@
 use Rattle.std.proofs.Common.{rules}
-use Rattle.rtsp_text.proofs.Bounds.{lengths_of}
+use Rattle.rtsp_text.proofs.RequestBounds.{lengths_of}
 use Rattle.rtsp_text.proofs.requests.read_parts.Goals as goal
 
 pub returns-clause-read : goal.returns-clause-read

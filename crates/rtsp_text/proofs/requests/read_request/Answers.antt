@@ -1,6 +1,6 @@
 use Rattle.rtsp_text.specs.declared.requests.Request.{Request}
-use Rattle.rtsp_text.proofs.Once.{fault_once, no_fault, request_once, ok_and, err_is}
-use Rattle.rtsp_text.proofs.Bounds.{RequestParts, read_head, read_body, read_url}
+use Rattle.rtsp_text.proofs.MessageUniqueness.{fault_once, no_fault, request_once, ok_and, err_is}
+use Rattle.rtsp_text.proofs.RequestBounds.{RequestParts, read_head, read_body, read_url}
 use Rattle.rtsp_text.proofs.requests.read_request.Goals as goal
 
 pub returns-clause-requests : goal.returns-clause-requests

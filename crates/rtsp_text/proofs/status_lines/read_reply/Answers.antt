@@ -1,6 +1,6 @@
 use Rattle.std.proofs.Common.{ℕ, List, sym, subst}
 use Rattle.rtsp_text.specs.StatusLines.{IsStatusLine}
-use Rattle.rtsp_text.proofs.Bounds.{lengths_of}
+use Rattle.rtsp_text.proofs.RequestBounds.{lengths_of}
 use Rattle.rtsp_text.proofs.StatusTexts.{reply_once}
 use Rattle.rtsp_text.proofs.status_lines.read_reply.Goals as goal
 

@@ -1,7 +1,7 @@
 use Rattle.std.proofs.Common.{◌≡◌, ℕ, List, length, get_or, sym, ap, subst, ◌∙◌, arith}
 use Rattle.std.proofs.lemmas.Bool.{both_ways, eqb-true}
 use Rattle.rtsp_text.specs.StatusLines.{IsCode}
-use Rattle.rtsp_text.proofs.Walks.{some_bytes}
+use Rattle.rtsp_text.proofs.LineIteration.{some_bytes}
 use Rattle.rtsp_text.proofs.StatusTexts.{status_none, status_parts, whole_status}
 use Rattle.rtsp_text.proofs.status_lines.status_line.Goals as goal
 use Rattle.rtsp_text.proofs.status_lines.status_line.Goals.{then-not-is_rtsp_1_0-via-then-not-is_rtsp_1_0}

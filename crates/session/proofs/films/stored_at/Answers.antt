@@ -2,14 +2,14 @@ use Rattle.std.proofs.Common.{◌≡◌, true, refl, sym, subst, string_bytes, l
 use Rattle.std.proofs.lemmas.Option.{slice_get_read}
 use Rattle.std.proofs.lemmas.List.{length-map}
 use Rattle.std.proofs.lemmas.List.Elements.{All-get_or}
-use Rattle.vod_base.specs.Names.{is_good_name}
-use Rattle.film_frames.specs.declared.stores.Stored.{Stored}
+use Rattle.vod_base.specs.Names.{good_name}
+use Rattle.film_frames.specs.declared.stored_films.Stored.{Stored}
 use Rattle.film_frames.specs.Pieces.{wire_size}
 use Rattle.session.proofs.films.stored_at.Goals as goal
 
 pub returns-clause-good : goal.returns-clause-good
 returns-clause-good c =
-    let IsGood : Stored → Type 0 = λ film. is_good_name (string_bytes film.name) ≡ true in
+    let IsGood : Stored → Type 0 = λ film. good_name (string_bytes film.name) ≡ true in
     subst IsGood (sym c.index-films-film.is)
     (All-get_or IsGood c.args.films.now c.args.film c.index-films-film.result c.requires.within c.requires.films.good)
 
@@ -24,8 +24,8 @@ returns-clause-sizes c =
     let film = c.index-films-film.result.film in record {
       few = omega (
         arith,
-        c.law_film.ensures.units,
+        c.law_film_is_well_formed.ensures.units,
         length-map film.units.items (wire_size film.slice_starts.items),
       );
-      small = c.law_wire_sizes.ensures.all film;
+      small = c.law_wire_size_of_film_is_bounded.ensures.all film;
     }

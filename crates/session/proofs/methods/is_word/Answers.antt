@@ -1,7 +1,7 @@
 use Rattle.std.proofs.Common.{Some, None}
 use Rattle.std.proofs.lemmas.Bool.Decides.{Decides-eqb}
 use Rattle.std.proofs.lemmas.Slice.Eq.{strip_prefix_is}
-use Rattle.session.proofs.Words.{word_found, word_not_found}
+use Rattle.session.proofs.WordLemmas.{word_found, word_not_found}
 use Rattle.session.proofs.methods.is_word.Goals as goal
 
 pub returns-in-Some : goal.returns-in-Some

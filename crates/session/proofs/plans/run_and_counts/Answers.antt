@@ -1,8 +1,8 @@
 use Rattle.std.proofs.Common.{sym, subst}
-use Rattle.session.proofs.Playables.{goes_on}
-use Rattle.session.specs.Playing.{IsRunOf, counts_for, run_of}
+use Rattle.session.proofs.ResumedPlayLemmas.{goes_on}
+use Rattle.session.specs.RunRequests.{IsRunOf, counts_for, run_of}
 use Rattle.session.specs.declared.states.Counts.{Counts}
-use Rattle.session.specs.declared.wanted.Wanted.{Wanted}
+use Rattle.session.specs.declared.play_requests.PlayRequest.{PlayRequest}
 use Rattle.session.proofs.plans.run_and_counts.Goals as goal
 
 pub returns-in-New-clause-goes_on : goal.returns-in-New-clause-goes_on
@@ -10,7 +10,7 @@ returns-in-New-clause-goes_on c =
     let stored = c.args.stored.now in
     let setup = c.args.setup.now in
     subst (λ (n : Counts). IsRunOf stored c.args.source setup n c.in-New.run') (sym c.counts_before.ensures)
-    (subst (λ (w : Wanted). IsRunOf stored c.args.source setup
+    (subst (λ (w : PlayRequest). IsRunOf stored c.args.source setup
     (counts_for stored.film c.args.source setup c.args.counts c.args.paused w) (run_of w)) c.in-New.is
     (goes_on c.args.counts c.requires.paused
     c.requires.wanted.1))
@@ -19,6 +19,6 @@ pub returns-in-Resumed-clause-goes_on : goal.returns-in-Resumed-clause-goes_on
 returns-in-Resumed-clause-goes_on c =
     let stored = c.args.stored.now in
     let setup = c.args.setup.now in
-    subst (λ (w : Wanted). IsRunOf stored c.args.source setup
+    subst (λ (w : PlayRequest). IsRunOf stored c.args.source setup
     (counts_for stored.film c.args.source setup c.args.counts c.args.paused w) (run_of w)) c.in-Resumed.is
     (goes_on c.args.counts c.requires.paused c.requires.wanted.1)

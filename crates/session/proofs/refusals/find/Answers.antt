@@ -1,7 +1,7 @@
 use Rattle.std.proofs.Common.{◌<◌, length, refl, sym, ap, ◌∙◌, string_bytes, arith, below_more}
 use Rattle.std.proofs.lemmas.Option.{get_or_from_slice_get, slice_get_read, slice_get_within}
 use Rattle.std.specs.Cmp.Lexicographic.{same_text, other_text}
-use Rattle.film_frames.specs.declared.stores.Stored.{Stored}
+use Rattle.film_frames.specs.declared.stored_films.Stored.{Stored}
 use Rattle.session.specs.Films.{IsFilmNamed}
 use Rattle.session.proofs.refusals.find.Goals as goal
 

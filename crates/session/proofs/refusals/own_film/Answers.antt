@@ -1,5 +1,5 @@
 use Rattle.std.proofs.Common.{◌≡◌, ℕ, true, subst}
-use Rattle.session.specs.Judging.{FitsFilm}
+use Rattle.session.specs.RefusalOrder.{FitsFilm}
 use Rattle.session.proofs.refusals.own_film.Goals as goal
 
 pub returns-in_err-asked-clause-film : goal.returns-in_err-asked-clause-film

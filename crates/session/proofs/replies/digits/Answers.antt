@@ -1,6 +1,6 @@
 use Rattle.std.proofs.Common.{ap, ◌∙◌}
 use Rattle.rtsp_text.specs.Lines.{is_one_line}
-use Rattle.rtsp_text.proofs.OneLines.{one_line-decimal}
+use Rattle.rtsp_text.proofs.SingleLineTexts.{one_line-decimal}
 use Rattle.session.proofs.replies.digits.Goals as goal
 
 pub returns-clause-line : goal.returns-clause-line

@@ -3,13 +3,13 @@ use Rattle.std.proofs.Common.{arith}
 use Rattle.rtsp_text.specs.Replies.{reply_text}
 use Rattle.session.specs.Replies.{field, joined_parts}
 use Rattle.std.proofs.lemmas.List.{length-take-le}
-use Rattle.rtsp_fields.specs.Descriptions.{description_text}
+use Rattle.rtsp_fields.specs.Sdp.{description_text}
 use Rattle.rtsp_text.specs.Lines.{is_one_line}
-use Rattle.rtsp_text.proofs.OneLines.{one_line-name}
+use Rattle.rtsp_text.proofs.SingleLineTexts.{one_line-name}
 use Rattle.session.proofs.replies.put_description.Goals as goal
 
-pub field_of-requires-clause-one_line : goal.field_of-requires-clause-one_line
-field_of-requires-clause-one_line c =
+pub field_from_parts-requires-clause-one_line : goal.field_from_parts-requires-clause-one_line
+field_from_parts-requires-clause-one_line c =
     let first : is_one_line c.as_slice.result.now ≡ true = ap is_one_line c.as_slice.ensures in
     let second : is_one_line c.as_slice-2.result.now ≡ true = ap is_one_line c.as_slice-2.ensures in
     let third : is_one_line c.as_slice-3.result.now ≡ true = ap is_one_line c.as_slice-3.ensures in
@@ -36,7 +36,7 @@ returns c =
     c.finish.ensures.whole 200 (Some c.args.sequence) (base parts ∷ kind ∷ long c.description-length.result ∷ [])
     (c.number_field.ensures.front 200 (Some c.args.sequence) (base parts ∷ kind ∷ [])
     (c.field.ensures.front 200 (Some c.args.sequence) (base parts ∷ [])
-    (c.field_of.ensures.front 200 (Some c.args.sequence) [] (c.start.ensures.front c.clear.ensures))))
+    (c.field_from_parts.ensures.front 200 (Some c.args.sequence) [] (c.start.ensures.front c.clear.ensures))))
     ∙ ap (λ (ps : List (List ℕ)). reply_text 200 (Some c.args.sequence)
     (base ps ∷ kind ∷ long c.description-length.result ∷ [])
     (take c.description-length.result c.description-length.new.into)) same

@@ -1,7 +1,7 @@
 use Rattle.std.proofs.Common.{◌≡◌, ℕ, List, [], ◌∷◌, Some, codes, decimal, refl, ap, ◌∙◌}
 use Rattle.rtsp_text.specs.Replies.{reply_front}
 use Rattle.session.specs.Replies.{field, joined_parts}
-use Rattle.rtsp_fields.specs.Descriptions.{seconds_text}
+use Rattle.rtsp_fields.specs.Sdp.{seconds_text}
 use Rattle.session.proofs.replies.put_play.Goals as goal
 
 pub returns-clause-text : goal.returns-clause-text
@@ -23,8 +23,8 @@ returns-clause-text c =
     ∷ decimal c.args.info.now.timestamp ∷ []) =
     rw (c.as_slice-3.ensures, c.as_slice-4.ensures, c.as_slice-5.ensures, number, c.as_slice-6.ensures, time) refl in
     let session = field (codes "Session") c.args.id.now in
-    c.field_of-2.ensures.front 200 (Some c.args.sequence) (session ∷ field (codes "Range") (joined_parts range) ∷ [])
-    (c.field_of.ensures.front 200 (Some c.args.sequence) (session ∷ [])
+    c.field_from_parts-2.ensures.front 200 (Some c.args.sequence) (session ∷ field (codes "Range") (joined_parts range) ∷ [])
+    (c.field_from_parts.ensures.front 200 (Some c.args.sequence) (session ∷ [])
     (c.field.ensures.front 200 (Some c.args.sequence) [] (c.start.ensures.front c.clear.ensures)))
     ∙ ap (λ (ps : List (List ℕ)). reply_front 200 (Some c.args.sequence)
     (session ∷ field (codes "Range") (joined_parts ps) ∷ field (codes "RTP-Info") (joined_parts info) ∷ [])) same_range

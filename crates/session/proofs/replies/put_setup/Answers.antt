@@ -23,6 +23,6 @@ returns c =
     let session = field (codes "Session") c.args.id.now in
     c.finish.ensures.whole 200 (Some c.args.sequence) (field (codes "Transport") (joined_parts parts) ∷ session ∷ [])
     (c.field.ensures.front 200 (Some c.args.sequence) (field (codes "Transport") (joined_parts parts) ∷ [])
-    (c.field_of.ensures.front 200 (Some c.args.sequence) [] (c.start.ensures.front c.clear.ensures)))
+    (c.field_from_parts.ensures.front 200 (Some c.args.sequence) [] (c.start.ensures.front c.clear.ensures)))
     ∙ ap (λ (ps : List (List ℕ)). reply_text 200 (Some c.args.sequence)
     (field (codes "Transport") (joined_parts ps) ∷ session ∷ []) []) same

@@ -1,5 +1,5 @@
 use Rattle.std.proofs.Common.{false, refl, subst}
-use Rattle.session.specs.Inside.{IsGoing}
+use Rattle.session.specs.SessionInvariant.{IsGoing}
 use Rattle.session.proofs.requests.ask_halt.Goals as goal
 
 pub ask_halt-requires : goal.ask_halt-requires

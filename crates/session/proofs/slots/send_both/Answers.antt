@@ -1,8 +1,8 @@
 use Rattle.std.proofs.lemmas.Grind.{common_steps}
 use Rattle.std.proofs.Common.{◌≡◌, false, rules, arith}
 use Rattle.vod_base.specs.Links.{sends, told_more}
-use Rattle.session.specs.Sendings.{step_bytes}
-use Rattle.session.proofs.Fronts.{front_right, on_err}
+use Rattle.session.specs.SlotSteps.{step_bytes}
+use Rattle.session.proofs.FailedSlotLemmas.{front_right, on_err}
 use Rattle.session.proofs.slots.send_both.Goals as goal
 
 pub returns-in_err-step-clause-front : goal.returns-in_err-step-clause-front

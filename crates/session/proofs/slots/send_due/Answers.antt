@@ -1,8 +1,8 @@
 use Rattle.std.proofs.lemmas.Grind.{common_steps}
 use Rattle.std.proofs.Common.{◌≡◌, ◌++◌, true, false, rules, arith}
-use Rattle.vod_base.specs.Links.{IsFrontTold, sends, told_more}
-use Rattle.session.specs.Sendings.{is_between, step_bytes, stepped_in}
-use Rattle.session.proofs.Fronts.{front_both, on_err}
+use Rattle.vod_base.specs.Links.{IsSentPrefix, sends, told_more}
+use Rattle.session.specs.SlotSteps.{is_between, step_bytes, stepped_in}
+use Rattle.session.proofs.FailedSlotLemmas.{front_both, on_err}
 use Rattle.session.proofs.slots.send_due.Goals as goal
 
 pub returns-in_err-send_both-clause-front : goal.returns-in_err-send_both-clause-front
@@ -12,7 +12,7 @@ returns-in_err-send_both-clause-front g c =
     let between : is_between (stepped_in true c.args.slot c.args.state.now) ≡ true = search rules in
     let told : g.K.Link.told c.step-2.new.link
     ≡ told_more (g.K.Link.told c.args.link.now) (sends (step_bytes true c.args.slot c.args.state.now)) = search rules in
-    let front : IsFrontTold (g.K.Link.told c.step-2.new.link) (g.K.Link.told c.send_both.new.link)
+    let front : IsSentPrefix (g.K.Link.told c.step-2.new.link) (g.K.Link.told c.send_both.new.link)
     (c.args.reply.now ++ step_bytes false c.args.slot (stepped_in true c.args.slot c.args.state.now)) = search rules in
     on_err c.from_residual-in_err-send_both.result
     (front_both (g.K.Link.told c.args.link.now) (record {

@@ -1,10 +1,10 @@
 use Rattle.std.proofs.Common.{subst, sym}
-use Rattle.vod_base.specs.Links.{IsFrontTold}
-use Rattle.session.specs.Sendings.{step_bytes}
-use Rattle.session.specs.Steps.{IsPacingIn}
+use Rattle.vod_base.specs.Links.{IsSentPrefix}
+use Rattle.session.specs.SlotSteps.{step_bytes}
+use Rattle.session.specs.SlotTransitions.{IsPacingIn}
 use Rattle.session.specs.declared.states.State.{State}
-use Rattle.session.proofs.Fronts.{failed_front, on_err}
-use Rattle.session.proofs.SlotBytes.{stopped}
+use Rattle.session.proofs.FailedSlotLemmas.{failed_front, on_err}
+use Rattle.session.proofs.SlotBytesLemmas.{stopped}
 use Rattle.session.proofs.slots.step.Goals as goal
 
 pub returns-in_ok-step-in-Playing-clause-between :
@@ -26,7 +26,7 @@ returns-in_err-step-in-Playing-clause-front g c =
     let old = g.K.Link.told c.args.link.now in
     let new = g.K.Link.told c.step.new.link in
     on_err c.from_residual.result
-    (subst (λ (s : State). IsFrontTold old new (step_bytes c.args.stop c.args.slot s)) (sym c.in-Playing.is)
+    (subst (λ (s : State). IsSentPrefix old new (step_bytes c.args.stop c.args.slot s)) (sym c.in-Playing.is)
     (failed_front {stop = c.args.stop} {slot = c.args.slot} {p = c.in-Playing.play.pacer}
     {new = c.step.new.self} {told = old} {next = new} c.in_err-step-in-Playing.ensures.failed))
 
@@ -36,6 +36,6 @@ returns-in_err-step-in-Stopping-clause-front g c =
     let old = g.K.Link.told c.args.link.now in
     let new = g.K.Link.told c.step-in-Stopping.new.link in
     on_err c.from_residual-in_err-step-in-Stopping.result
-    (subst (λ (s : State). IsFrontTold old new (step_bytes c.args.stop c.args.slot s)) (sym c.in-Stopping.is)
+    (subst (λ (s : State). IsSentPrefix old new (step_bytes c.args.stop c.args.slot s)) (sym c.in-Stopping.is)
     (failed_front {stop = c.args.stop} {slot = c.args.slot} {p = c.in-Stopping.halted.pacer}
     {new = c.step-in-Stopping.new.self} {told = old} {next = new} c.in_err-step-in-Stopping.ensures.failed))

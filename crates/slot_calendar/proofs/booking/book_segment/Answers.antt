@@ -1,7 +1,7 @@
 use Rattle.std.proofs.Common.{◌≡◌, ◌+◌, ◌-◌, [], ◌∷◌, arith, sym, ◌∙◌, inl, inr}
 use Rattle.std.proofs.lemmas.Bool.{cases_lt}
 use Rattle.slot_calendar.specs.Plays.{asked_at}
-use Rattle.slot_calendar.proofs.Sending.{asked-after, asked-here, one-slots, sent-step}
+use Rattle.slot_calendar.proofs.PlanSlots.{asked-after, asked-here, one-slots, sent-step}
 use Rattle.slot_calendar.proofs.SlotChanges.{OneSlotMore, changed-next, unchanged-next}
 use Rattle.slot_calendar.proofs.booking.book_segment.Goals as goal
 

@@ -1,6 +1,6 @@
 use Rattle.std.proofs.lemmas.Grind.{common_steps}
 use Rattle.std.proofs.Common.{◌≤◌, ◌+◌, arith, ◌∙◌}
-use Rattle.slot_calendar.proofs.Sending.{asked-front, asked-next, from-next, segment-at}
+use Rattle.slot_calendar.proofs.PlanSlots.{asked-front, asked-next, from-next, segment-at}
 use Rattle.slot_calendar.proofs.booking.book_segments.Goals as goal
 
 pub book_segment-requires-clause-fits : goal.book_segment-requires-clause-fits

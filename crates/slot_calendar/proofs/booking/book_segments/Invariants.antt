@@ -1,5 +1,5 @@
 use Rattle.std.proofs.Common.{◌≡◌, ◌≤◌, ◌+◌, ℕ, take}
-use Rattle.plan_cert.specs.Slots.{total_slots}
+use Rattle.plan_cert.specs.PlanSlots.{total_slots}
 use Rattle.slot_calendar.specs.Plays.{asked_at}
 use Rattle.slot_calendar.specs.Totals.{total_at}
 use Rattle.slot_calendar.proofs.booking.book_segments.Given as goal

@@ -2,7 +2,7 @@ use Rattle.std.proofs.Common.{◌≡◌, ◌<◌, ◌+◌, ◌-◌, [], ◌∷�
 use Rattle.std.proofs.lemmas.Bool.{cases_lt}
 use Rattle.slot_calendar.specs.Plays.{asked_at}
 use Rattle.slot_calendar.specs.Totals.{total_at}
-use Rattle.slot_calendar.proofs.Sending.{asked-here, sent-step}
+use Rattle.slot_calendar.proofs.PlanSlots.{asked-here, sent-step}
 use Rattle.slot_calendar.proofs.booking.overflow_among.Goals as goal
 use Rattle.slot_calendar.proofs.booking.overflow_among.Goals.{then-booked-capacity-via-then-booked-capacity}
 use Rattle.slot_calendar.proofs.booking.overflow_among.Goals.{then-booked-capacity-via-else-booked-capacity+then-asked-capacity}

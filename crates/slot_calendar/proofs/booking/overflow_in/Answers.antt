@@ -1,7 +1,7 @@
 use Rattle.std.proofs.Common.{◌≤◌, ◌+◌, ◌*◌, arith, inl, inr}
 use Rattle.std.proofs.lemmas.Bool.{cases_lt}
-use Rattle.slot_calendar.proofs.Sending.{asked-most, ceil-most, one-some}
-use Rattle.slot_calendar.proofs.Turns.{same-block}
+use Rattle.slot_calendar.proofs.PlanSlots.{asked-most, ceil-most, one-some}
+use Rattle.slot_calendar.proofs.RingRotation.{same-block}
 use Rattle.slot_calendar.proofs.booking.overflow_in.Goals as goal
 
 pub loop-passed-preserved : goal.loop-passed-preserved

@@ -1,7 +1,7 @@
 use Rattle.std.proofs.Common.{◌≡◌, ◌≤◌, ◌+◌, ◌-◌, [], ◌∷◌, arith, refl, sym, ap, ◌∙◌, inl, inr}
 use Rattle.std.proofs.lemmas.Bool.{cases_lt}
-use Rattle.slot_calendar.specs.Plays.{cut_at}
-use Rattle.slot_calendar.proofs.Sending.{cut-after, cut-here, one-slots, sent-step}
+use Rattle.slot_calendar.specs.Plays.{released_at}
+use Rattle.slot_calendar.proofs.PlanSlots.{cut-after, cut-here, one-slots, sent-step}
 use Rattle.slot_calendar.proofs.SlotChanges.{OneSlotMore, changed-next, unchanged-next}
 use Rattle.slot_calendar.proofs.booking.release_segment.Goals as goal
 
@@ -12,12 +12,12 @@ overflow_sub-over c =
     let more = sent-step segments c.args.from i.passed refl (c.sent_through.ensures.sent c.args.from) in
     omega (arith, more, i.invariant.before_is, c.saturating_sub-over.ensures)
 
-pub give_back-requires : goal.give_back-requires
-give_back-requires c = λ from. (
+pub release_slot-requires : goal.release_slot-requires
+release_slot-requires c = λ from. (
     let i = c.loop-passed in
     let segments = c.args.segment ∷ [] in
     let place = c.args.from + i.passed in
-    let cut : cut_at segments c.args.from c.args.keep place ≡ c.saturating_sub-over.result - i.before =
+    let cut : released_at segments c.args.from c.args.keep place ≡ c.saturating_sub-over.result - i.before =
     cut-here segments c.args.from c.args.keep i.passed i.invariant.before_is
     (c.saturating_sub-over.ensures ∙ ap (λ n. n - c.args.keep) (sym (c.sent_through.ensures.sent c.args.from))) in
     let since : c.args.ring.now.first ≤ place = omega (arith, from, i.invariant.first_is) in
@@ -30,25 +30,25 @@ loop-passed-preserved c =
     let segments = c.args.segment ∷ [] in
     let place = c.args.from + i.passed in
     let by = c.saturating_sub-over.result - i.before in
-    let cut : cut_at segments c.args.from c.args.keep place ≡ by =
+    let cut : released_at segments c.args.from c.args.keep place ≡ by =
     cut-here segments c.args.from c.args.keep i.passed i.invariant.before_is
     (c.saturating_sub-over.ensures ∙ ap (λ n. n - c.args.keep) (sym (c.sent_through.ensures.sent c.args.from))) in
     let step : OneSlotMore = record {
       place = place;
       old = c.args.ring.now;
       mid = i.ring;
-      new = c.give_back.new.ring;
+      new = c.release_slot.new.ring;
       first_is = i.invariant.first_is;
-      others = c.give_back.ensures.others;
+      others = c.release_slot.ensures.others;
       rest = i.invariant.rest;
     } in
     let at : c.args.from + (i.passed + 1) ≡ place + 1 = omega arith in
     record {
       before_is = c.saturating_sub-over.ensures
           ∙ ap (λ n. n - c.args.keep) (sym (c.sent_through.ensures.sent c.args.from));
-      first_is = c.give_back.ensures.now ∙ i.invariant.first_is;
-      done = λ t since less. changed-next step (λ t was is. is + cut_at segments c.args.from c.args.keep t ≡ was)
-          (λ from. omega (arith, cut, c.give_back.ensures.at (omega (arith, from, i.invariant.first_is))))
+      first_is = c.release_slot.ensures.now ∙ i.invariant.first_is;
+      done = λ t since less. changed-next step (λ t was is. is + released_at segments c.args.from c.args.keep t ≡ was)
+          (λ from. omega (arith, cut, c.release_slot.ensures.at (omega (arith, from, i.invariant.first_is))))
           i.invariant.done since (omega (arith, less, at));
       rest = λ t since more. unchanged-next step since (omega (arith, more, at));
     }
@@ -60,7 +60,7 @@ returns-clause-totals c = λ t since. (
     elim (cases_lt t (c.args.from + i.passed)) [
       | inl less ↦ i.invariant.done t since less
       | inr past ↦ (
-          let none : cut_at (s ∷ []) c.args.from c.args.keep t ≡ 0 =
+          let none : released_at (s ∷ []) c.args.from c.args.keep t ≡ 0 =
           cut-after (s ∷ []) c.args.from c.args.keep t (omega (arith, one-slots s, past)) in
           omega (arith, i.invariant.rest t since past, none)
           )

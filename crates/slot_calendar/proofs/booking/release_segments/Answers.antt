@@ -1,5 +1,5 @@
 use Rattle.std.proofs.Common.{◌≤◌, ◌+◌, arith, ◌∙◌}
-use Rattle.slot_calendar.proofs.Sending.{bytes-next, cut-front, cut-next, from-next, segment-at}
+use Rattle.slot_calendar.proofs.PlanSlots.{bytes-next, cut-front, cut-next, from-next, segment-at}
 use Rattle.slot_calendar.proofs.booking.release_segments.Goals as goal
 
 pub release_segment-requires-clause-booked : goal.release_segment-requires-clause-booked

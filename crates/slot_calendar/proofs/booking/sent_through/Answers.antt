@@ -1,5 +1,5 @@
 use Rattle.std.proofs.Common.{◌+◌, [], ◌∷◌, arith, ◌∙◌, sym}
-use Rattle.slot_calendar.proofs.Sending.{one-some, one-bytes, sent-one, sent-most}
+use Rattle.slot_calendar.proofs.PlanSlots.{one-some, one-bytes, sent-one, sent-most}
 use Rattle.slot_calendar.proofs.booking.sent_through.Goals as goal
 
 pub returns-clause-sent : goal.returns-clause-sent

@@ -1,5 +1,5 @@
 use Rattle.std.proofs.Common.{arith}
-use Rattle.slot_calendar.proofs.Capacities.{capacity-before, capacity-last}
+use Rattle.slot_calendar.proofs.CapacitySteps.{capacity-before, capacity-last}
 use Rattle.slot_calendar.proofs.profiles.span_at.Goals as goal
 
 pub returns-then-step-slot-clause-here : goal.returns-then-step-slot-clause-here

@@ -1,6 +1,6 @@
 use Rattle.std.proofs.Common.{◌≡◌, ◌+◌, ◌-◌, ◌*◌, ℕ, take, drop, arith, subst}
 use Rattle.slot_calendar.specs.Rings.{IsGreatest}
-use Rattle.slot_calendar.proofs.Blocks.{topped-settle}
+use Rattle.slot_calendar.proofs.BlockMaxima.{topped-settle}
 use Rattle.slot_calendar.proofs.ring.settle_block.Goals as goal
 
 pub returns-in-Some : goal.returns-in-Some

@@ -1,6 +1,6 @@
 use Rattle.std.proofs.Common.{◌+◌, arith, inl, inr}
 use Rattle.std.proofs.lemmas.Bool.{cases_lt}
-use Rattle.slot_calendar.proofs.Sending.{cut-after}
+use Rattle.slot_calendar.proofs.PlanSlots.{cut-after}
 use Rattle.slot_calendar.proofs.tests.may_release.Goals as goal
 
 pub returns : goal.returns

@@ -1,8 +1,8 @@
 use Rattle.std.proofs.Common.{◌-◌, ◌≡◌, ◌≤◌, ◌⊎◌, ◌∷◌, inl, inr}
-use Rattle.sys_demux.specs.Contents.{from_stuffing, from_size}
-use Rattle.sys_demux.specs.Sound.{least_rest}
-use Rattle.sys_demux.specs.States.{video_from}
-use Rattle.sys_demux.proofs.ContentSteps.{stuffing_ends, says_same}
+use Rattle.sys_demux.specs.PacketContents.{from_stuffing, from_size}
+use Rattle.sys_demux.specs.ValidStates.{least_rest}
+use Rattle.sys_demux.specs.ParserStates.{video_from}
+use Rattle.sys_demux.proofs.PacketHeaderSteps.{stuffing_ends, says_same}
 use Rattle.sys_demux.proofs.headers.after_stuffing.Goals as goal
 use Rattle.sys_demux.proofs.headers.after_stuffing.Goals.{then-byte-ne255-via-then-byte-ne255}
 use Rattle.sys_demux.proofs.headers.after_stuffing.Goals.{then-byte-ne255-via-else-byte-ne255+then-count-ge16}

@@ -4,8 +4,8 @@ use Rattle.std.proofs.lemmas.List.{append_assoc, append-nil, take-take, take-app
 use Rattle.std.proofs.lemmas.List.{length-take, length-drop, take_rest, nil_from_length}
 use Rattle.std.specs.Prelude.{MatchResult}
 use Rattle.std.proofs.lemmas.Bool.{eqb-true}
-use Rattle.sys_demux.specs.Streams.{IsSystem, IsRefused}
-use Rattle.sys_demux.specs.States.{WasFed}
+use Rattle.sys_demux.specs.SystemStreams.{IsSystem, IsBadStream}
+use Rattle.sys_demux.specs.ParserStates.{WasFed}
 use Rattle.sys_demux.proofs.tests.unwrapped.Goals as goal
 
 joined : (seen rest : List ℕ) (k taken : ℕ) → taken ≤ k
@@ -51,7 +51,7 @@ returns c =
     let same : inv.0 ≡ c.args.bytes.now =
     sym (append-nil inv.0) ∙ ap (λ (l : List ℕ). inv.0 ++ l) (sym none) ∙ inv.1.0 in
     subst (λ (b : List ℕ). MatchResult c.finish.result (λ _. IsSystem b c.loop-rest.video.items)
-    (λ fault. IsRefused b fault)) same (c.finish.ensures.end inv.0 c.loop-rest.video.items inv.1.1)
+    (λ fault. IsBadStream b fault)) same (c.finish.ensures.end inv.0 c.loop-rest.video.items inv.1.1)
 
 pub returns-in-Err : goal.returns-in-Err
 returns-in-Err c =
@@ -61,5 +61,5 @@ returns-in-Err c =
     let whole : (inv.0 ++ take k rest) ++ drop k rest ≡ c.args.bytes.now =
     append_assoc inv.0 (take k rest) (drop k rest) ∙ ap (λ (l : List ℕ). inv.0 ++ l) (take-append-drop k rest)
     ∙ inv.1.0 in
-    subst (λ (b : List ℕ). IsRefused b c.in-Err.fault) whole
+    subst (λ (b : List ℕ). IsBadStream b c.in-Err.fault) whole
     (c.in-Err.ensures.fault inv.0 c.loop-rest.video.items inv.1.1 (drop k rest))

@@ -1,5 +1,5 @@
 use Rattle.std.proofs.Common.{◌≡◌, ◌+◌, ◌≤◌, ◌^◌, ◌++◌, ℕ, List, length}
-use Rattle.sys_demux.specs.States.{WasFed}
+use Rattle.sys_demux.specs.ParserStates.{WasFed}
 use Rattle.sys_demux.proofs.tests.unwrapped.Given as goal
 
 abbrev pub invariant-loop-rest : goal.invariant-loop-rest

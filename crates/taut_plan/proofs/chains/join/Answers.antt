@@ -1,23 +1,23 @@
 use Rattle.std.proofs.lemmas.Grind.{common_steps}
 use Rattle.std.proofs.Common.{arith, ◌+◌, sym, subst}
 use Rattle.taut_plan.specs.Chain.{IsChain}
-use Rattle.taut_plan.specs.Sides.{side_of}
-use Rattle.taut_plan.proofs.ChainLaws.{chain_opens}
-use Rattle.taut_plan.proofs.FitLaws.{edges_fit, point_fits}
-use Rattle.taut_plan.proofs.EdgeLaws.{edges_ascend, pop_step, join_step}
+use Rattle.taut_plan.specs.CurveSides.{side_of}
+use Rattle.taut_plan.proofs.ChainLemmas.{chain_opens}
+use Rattle.taut_plan.proofs.PointRangeLemmas.{edges_fit, point_fits}
+use Rattle.taut_plan.proofs.EdgeLemmas.{edges_ascend, pop_step, join_step}
 use Rattle.taut_plan.proofs.chains.join.Goals as goal
 
 pub loop-side-init : goal.loop-side-init
 loop-side-init c = chain_opens c.args.side (side_of c.args.curves.now c.args.side) c.args.slot c.args.apex _
     c.requires.chain
 
-pub is_passed-requires-clause-ascend : goal.is_passed-requires-clause-ascend
-is_passed-requires-clause-ascend c =
+pub is_last_dropped-requires-clause-ascend : goal.is_last_dropped-requires-clause-ascend
+is_last_dropped-requires-clause-ascend c =
     edges_ascend c.args.side (side_of c.args.curves.now c.args.side) c.args.slot c.point_at-point.ensures
     c.loop-side.invariant
 
-pub is_passed-requires-clause-fit : goal.is_passed-requires-clause-fit
-is_passed-requires-clause-fit c =
+pub is_last_dropped-requires-clause-fit : goal.is_last_dropped-requires-clause-fit
+is_last_dropped-requires-clause-fit c =
     let curves = c.args.curves.now in
     edges_fit c.args.side c.args.slot c.point_at-point.ensures c.loop-side.invariant c.requires.apex
     (λ j le. point_fits c.args.side c.requires.sound j (let slot = c.requires.low in omega (arith, le, slot)))

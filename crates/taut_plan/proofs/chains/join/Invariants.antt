@@ -1,6 +1,6 @@
 use Rattle.std.proofs.Common.{length}
-use Rattle.taut_plan.specs.Sides.{side_of}
-use Rattle.taut_plan.proofs.ChainLaws.{IsOpen}
+use Rattle.taut_plan.specs.CurveSides.{side_of}
+use Rattle.taut_plan.proofs.ChainLemmas.{IsOpen}
 use Rattle.taut_plan.proofs.chains.join.Given as goal
 
 abbrev pub invariant-loop-side : goal.invariant-loop-side

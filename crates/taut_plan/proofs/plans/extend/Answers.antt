@@ -1,11 +1,11 @@
 use Rattle.std.proofs.Common.{◌+◌, ◌≤◌, length, arith, sym, subst}
 use Rattle.taut_plan.specs.Slopes.{other_side}
-use Rattle.taut_plan.specs.Funnel.{IsCrossing, others_known, sight_of}
+use Rattle.taut_plan.specs.Funnel.{IsCrossing, other_curve_reach, funnel_reach}
 use Rattle.taut_plan.specs.Path.{IsPath}
-use Rattle.taut_plan.specs.Sides.{lower_of, upper_of, side_of}
-use Rattle.taut_plan.proofs.BandLaws.{band_of_sound}
-use Rattle.taut_plan.proofs.FitLaws.{corner_fits, first_fits, point_fits}
-use Rattle.taut_plan.proofs.FunnelLaws.{chain_beyond, crossing_starts, bends_at, crossing_ends}
+use Rattle.taut_plan.specs.CurveSides.{lower_of, upper_of, side_of}
+use Rattle.taut_plan.proofs.BandLemmas.{band_of_sound}
+use Rattle.taut_plan.proofs.PointRangeLemmas.{corner_fits, first_fits, point_fits}
+use Rattle.taut_plan.proofs.FunnelLemmas.{chain_beyond, crossing_starts, bends_at, crossing_ends, uncrossed_behind}
 use Rattle.taut_plan.proofs.plans.extend.Goals as goal
 
 pub loop-corner-init : goal.loop-corner-init
@@ -64,14 +64,14 @@ loop-corner-preserved c =
       left_is = c.pop_first.ensures;
     }) in
     let corner = c.in-Some.corner in
-    let known = others_known c.args.side c.args.slot in
+    let known = other_curve_reach c.args.side c.args.slot in
     record {
       path = subst (λ o. IsPath (lower_of curves) (upper_of curves) curves.from o
           c.bend_at.new.self.segments.items) (sym c.in_ok-bend_at.ensures.apex)
           (subst (λ segments. IsPath (lower_of curves) (upper_of curves) curves.from corner segments)
           (sym c.in_ok-bend_at.ensures.segments) bent.path);
       crossing = subst (λ o. IsCrossing c.args.side (side_of curves c.args.side)
-          (side_of curves (other_side c.args.side)) (sight_of (c.args.slot + 1) known o) c.join.new.chain
+          (side_of curves (other_side c.args.side)) (funnel_reach (c.args.slot + 1) known o) c.join.new.chain
           c.pop_first.new.self)
           (sym c.in_ok-bend_at.ensures.apex) bent.crossing;
     }
@@ -81,3 +81,14 @@ returns-clause-funnel c =
     let curves = c.args.curves.now in
     crossing_ends c.in_ok-point.ensures.point
     c.loop-corner.invariant.crossing c.in_default.ensures
+
+pub returns-then-has_several-clause-funnel : goal.returns-then-has_several-clause-funnel
+returns-then-has_several-clause-funnel c =
+    let starts = crossing_starts c.requires.funnel c.in_ok-point.ensures.chain in
+    crossing_ends c.in_ok-point.ensures.point starts
+    (uncrossed_behind _ _ c.in_ok-point.ensures.point (c.has_several.ensures.0 c.if-has_several.true) starts)
+
+pub returns-then-has_several-clause-beyond : goal.returns-then-has_several-clause-beyond
+returns-then-has_several-clause-beyond c =
+    chain_beyond c.args.side (side_of c.args.curves.now c.args.side) c.args.slot c.args.path.now.apex c.args.own.now
+    c.requires.funnel.own

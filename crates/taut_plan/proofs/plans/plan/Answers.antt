@@ -1,7 +1,7 @@
 use Rattle.std.proofs.Common.{subst, sym}
-use Rattle.cert_check.specs.Fault.{IsTaut}
-use Rattle.cert_check.specs.Best.{IsBestPlan}
-use Rattle.taut_plan.proofs.WholeLaws.{plan_of_whole, taut_of_whole, best_of_whole}
+use Rattle.cert_check.specs.CertFaults.{IsTaut}
+use Rattle.cert_check.specs.Optimality.{IsBestPlan}
+use Rattle.taut_plan.proofs.PlanLemmas.{plan_of_whole, taut_of_whole, best_of_whole}
 use Rattle.taut_plan.proofs.plans.plan.Goals as goal
 
 pub new-requires : goal.new-requires

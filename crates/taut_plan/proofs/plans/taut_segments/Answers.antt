@@ -1,9 +1,9 @@
 use Rattle.std.proofs.Common.{◌≡◌, ◌+◌, ◌-◌, ap, arith, sym, subst, ◌∙◌, length}
 use Rattle.taut_plan.specs.Chain.{on_curve}
 use Rattle.taut_plan.specs.Path.{IsTautPath}
-use Rattle.taut_plan.specs.Sides.{lower_of, upper_of}
-use Rattle.taut_plan.proofs.BandLaws.{band_of_sound}
-use Rattle.taut_plan.proofs.WholeLaws.{ends_at}
+use Rattle.taut_plan.specs.CurveSides.{lower_of, upper_of}
+use Rattle.taut_plan.proofs.BandLemmas.{band_of_sound}
+use Rattle.taut_plan.proofs.PlanLemmas.{ends_at}
 use Rattle.taut_plan.proofs.plans.taut_segments.Goals as goal
 
 pub bend_at-requires-clause-higher : goal.bend_at-requires-clause-higher

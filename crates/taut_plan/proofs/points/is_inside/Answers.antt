@@ -1,4 +1,4 @@
-use Rattle.taut_plan.proofs.PointLaws.{lower_test, upper_test}
+use Rattle.taut_plan.proofs.PointLemmas.{lower_test, upper_test}
 use Rattle.taut_plan.proofs.points.is_inside.Goals as goal
 
 pub returns-in-Lower : goal.returns-in-Lower

@@ -1,5 +1,5 @@
 use Rattle.std.proofs.Common.{arith}
-use Rattle.turnstile.proofs.Turning.{counts_entry}
+use Rattle.turnstile.proofs.StepRules.{counts_entry}
 use Rattle.turnstile.proofs.steps.count_entry.Goals as goal
 
 pub fetch_add-requires : goal.fetch_add-requires
@@ -7,7 +7,7 @@ fetch_add-requires g c = let seat = c.requires.seat in let words = seat.sized.wo
     c.requires.turn.1 in let one = c.requires.one in (
       seat.here,
       omega arith,
-      counts_entry g.B.KeptValue.entries g.B.KeptValue.terms (g.B.KeptValue.terms c.args.shared.now.key.value)
+      counts_entry g.B.Kept.entries g.B.Kept.terms (g.B.Kept.terms c.args.shared.now.key.value)
           c.args.place.now.id
           c.args.shared.now.table_id.slots c.args.place.now.me
           record {

@@ -1,11 +1,11 @@
 use Rattle.std.proofs.Common.{arith}
-use Rattle.turnstile.proofs.Turning.{reads}
+use Rattle.turnstile.proofs.StepRules.{reads}
 use Rattle.turnstile.proofs.steps.read_view.Goals as goal
 
 pub load-requires : goal.load-requires
 load-requires g c = let seat = c.requires.seat in let words = seat.sized.words in (
   seat.here,
   omega arith,
-  reads g.B.KeptValue.entries g.B.KeptValue.terms (g.B.KeptValue.terms c.args.shared.now.key.value) c.args.place.now.id
+  reads g.B.Kept.entries g.B.Kept.terms (g.B.Kept.terms c.args.shared.now.key.value) c.args.place.now.id
       c.args.shared.now.table_id.slots c.args.place.now.me c.requires.left,
 )

@@ -1,9 +1,9 @@
 use Rattle.std.proofs.Common.{◌≡◌, length, reverse}
-use Rattle.vod_base.specs.Blanks.{without_front_blanks}
+use Rattle.vod_base.specs.Blanks.{without_leading_blanks}
 use Rattle.vod_base.proofs.blanks.trim_end.Given as goal
 
 abbrev pub invariant-loop-rest : goal.invariant-loop-rest
-invariant-loop-rest l = without_front_blanks (reverse l.rest) ≡ without_front_blanks (reverse l.text)
+invariant-loop-rest l = without_leading_blanks (reverse l.rest) ≡ without_leading_blanks (reverse l.text)
 
 abbrev pub decreases-loop-rest : goal.decreases-loop-rest
 decreases-loop-rest l = length l.rest

@@ -1,9 +1,9 @@
 use Rattle.std.proofs.Common.{◌≡◌, length}
-use Rattle.vod_base.specs.Blanks.{without_front_blanks}
+use Rattle.vod_base.specs.Blanks.{without_leading_blanks}
 use Rattle.vod_base.proofs.blanks.trim_start.Given as goal
 
 abbrev pub invariant-loop-rest : goal.invariant-loop-rest
-invariant-loop-rest l = without_front_blanks l.rest ≡ without_front_blanks l.text
+invariant-loop-rest l = without_leading_blanks l.rest ≡ without_leading_blanks l.text
 
 abbrev pub decreases-loop-rest : goal.decreases-loop-rest
 decreases-loop-rest l = length l.rest

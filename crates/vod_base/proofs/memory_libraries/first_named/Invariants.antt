@@ -1,5 +1,5 @@
 use Rattle.std.proofs.Common.{◌≡◌, map, drop}
-use Rattle.vod_base.specs.Outside.{file_named}
+use Rattle.vod_base.specs.IoState.{file_named}
 use Rattle.vod_base.proofs.FileSearch.{file_of}
 use Rattle.vod_base.proofs.memory_libraries.first_named.Given as goal
 

@@ -1,5 +1,5 @@
 use Rattle.std.proofs.Common.{◌<◌, ◌≤◌, ◌+◌, ◌*◌, ◌^◌, arith}
-use Rattle.vod_base.proofs.Digits.{digits_value_more}
+use Rattle.vod_base.proofs.DigitLemmas.{digits_value_more}
 use Rattle.vod_base.proofs.numbers.value_of.Goals as goal
 
 pub returns-in_err-tens-clause-large : goal.returns-in_err-tens-clause-large

@@ -2,7 +2,7 @@ use Rattle.std.proofs.Common.{◌==◌, ◌+◌, not, ap, sym, ◌∙◌, arith,
 use Rattle.std.specs.List.{list_all}
 use Rattle.std.proofs.lemmas.List.{take_rest, take_all}
 use Rattle.std.proofs.lemmas.List.Folds.{list_all_more}
-use Rattle.vod_base.proofs.FirstBytes.{split_found}
+use Rattle.vod_base.proofs.SplitLemmas.{split_found}
 use Rattle.vod_base.proofs.splits.split_at_first.Goals as goal
 
 pub returns-then-text-at : goal.returns-then-text-at

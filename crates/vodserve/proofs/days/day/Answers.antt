@@ -4,25 +4,25 @@ use Rattle.day_run.specs.Scripts.{AreLines}
 use Rattle.admission.specs.Histories.{IsLegal}
 use Rattle.admission.specs.declared.entries.Entry.{Entry}
 use Rattle.std.specs.List.{Contains}
-use Rattle.vod_base.specs.Names.{is_good_name}
-use Rattle.troubles.proofs.CauseLemmas.{good_input, trouble_map}
-use Rattle.inputs.specs.Files.{IsNamed}
+use Rattle.vod_base.specs.Names.{good_name}
+use Rattle.cli_errors.proofs.ReadErrorLemmas.{good_input, trouble_map}
+use Rattle.inputs.specs.FileReads.{IsThatName}
 use Rattle.inputs.proofs.ScanLemmas.{read_trouble_map}
-use Rattle.local_commands.specs.Days.{IsDayInput, IsDayRefused, IsFirstNamedRefused, IsScriptRefused, names_in}
-use Rattle.local_commands.proofs.DayLemmas.{named_good, script_held}
+use Rattle.offline_commands.specs.Days.{IsDayInput, IsDayRefused, IsFirstNamedRefused, IsScriptRefused, names_in}
+use Rattle.offline_commands.proofs.DayLemmas.{named_good, script_held}
 use Rattle.vodserve.proofs.days.day.Goals as goal
 
 pub end_with-requires : goal.end_with-requires
 end_with-requires g c =
     good_input (record {
-      Reads = IsNamed c.args.run.now.script.now;
+      Reads = IsThatName c.args.run.now.script.now;
       Refuses = IsScriptRefused;
       told = g.L.Library.files c.args.library.now;
       before = g.L.Library.faults c.args.library.now;
       after = g.L.Library.faults c.load_script.new.library;
-    }) c.in-Err.trouble
-    (λ name is. subst (λ (n : List ℕ). is_good_name n ≡ true) (sym is) c.requires.named)
-    ((c.in-Err.ensures {u = tt}).trouble)
+    }) c.in-Err.error
+    (λ name is. subst (λ (n : List ℕ). good_name n ≡ true) (sym is) c.requires.named)
+    ((c.in-Err.ensures {u = tt}).error)
 
 pub end_with-requires-in-Err-load_sources : goal.end_with-requires-in-Err-load_sources
 end_with-requires-in-Err-load_sources g c =
@@ -32,19 +32,19 @@ end_with-requires-in-Err-load_sources g c =
       told = g.L.Library.files c.load_script.new.library;
       before = g.L.Library.faults c.load_script.new.library;
       after = g.L.Library.faults c.load_sources.new.library;
-    }) c.in-Err-load_sources.trouble
+    }) c.in-Err-load_sources.error
     (λ name inside. named_good c.in-Ok.script.named.items ((c.in-Ok.ensures {u = tt}).names)
     (rw c.deref.ensures.value at inside))
-    ((c.in-Err-load_sources.ensures {u = tt}).trouble)
+    ((c.in-Err-load_sources.ensures {u = tt}).error)
 
 pub returns-in-Err-clause-runs : goal.returns-in-Err-clause-runs
 returns-in-Err-clause-runs g c =
     inl (
-      c.in-Err.trouble,
+      c.in-Err.error,
       (
-        read_trouble_map _ _ c.in-Err.trouble (λ name is. inl is)
+        read_trouble_map _ _ c.in-Err.error (λ name is. inl is)
             (λ held name fault told is refused. inl (is, refused))
-            ((c.in-Err.ensures {u = tt}).trouble),
+            ((c.in-Err.ensures {u = tt}).error),
         refl,
         c.end_with.ensures.nothing,
         c.end_with.ensures.fails,
@@ -54,7 +54,7 @@ returns-in-Err-clause-runs g c =
 pub returns-in-Err-load_sources-clause-runs : goal.returns-in-Err-load_sources-clause-runs
 returns-in-Err-load_sources-clause-runs g c =
     inl (
-      c.in-Err-load_sources.trouble,
+      c.in-Err-load_sources.error,
       (
         trouble_map (record {
           Reads = Contains (names_in c.deref.result.now);
@@ -70,7 +70,7 @@ returns-in-Err-load_sources-clause-runs g c =
               before = g.L.Library.faults c.args.library.now;
               after = g.L.Library.faults c.load_sources.new.library;
             })
-            c.in-Err-load_sources.trouble
+            c.in-Err-load_sources.error
             (record {
               reads = λ name inside. inr (record {
                 read = c.in-Ok.script;
@@ -89,7 +89,7 @@ returns-in-Err-load_sources-clause-runs g c =
               low = omega (arith, c.load_script.ensures.library.count);
               high = omega arith;
             })
-            ((c.in-Err-load_sources.ensures {u = tt}).trouble),
+            ((c.in-Err-load_sources.ensures {u = tt}).error),
         refl,
         c.end_with-in-Err-load_sources.ensures.nothing,
         c.end_with-in-Err-load_sources.ensures.fails,

@@ -1,63 +1,64 @@
 use Rattle.std.proofs.Common.{◌≡◌, ℕ, true, List, None, inl, inr, refl, sym, subst, arith}
-use Rattle.vod_base.specs.Names.{is_good_name}
-use Rattle.command_words.specs.Orders.{viewer_of}
-use Rattle.command_words.specs.Ranges.{IsOrderInRange}
-use Rattle.command_words.specs.Words.{check_of, help, make_of, plan_of, scan_of, version}
-use Rattle.vodserve.proofs.NameLemmas.{causes_of, good_result, nameless, viewer_named}
-use Rattle.vodserve.proofs.RunLemmas.{help_done, made_done, no_memory, printed, ran_as, version_done}
+use Rattle.vod_base.specs.Names.{good_name}
+use Rattle.cli_args.specs.InvocationViews.{client_params_of}
+use Rattle.cli_args.specs.Ranges.{IsInvocationInRange}
+use Rattle.cli_args.specs.Invocations.{check_of, help, make_of, plan_of, scan_of, version}
+use Rattle.vodserve.proofs.ErrorNameLemmas.{causes_of, good_result, nameless, viewer_named}
+use Rattle.vodserve.proofs.PrintLemmas.{help_done, made_done, no_memory, printed, ran_as, version_done}
 use Rattle.vodserve.proofs.run.run.Goals as goal
 
 pub print-requires-in-Plan : goal.print-requires-in-Plan
 print-requires-in-Plan g c =
-    good_result (causes_of _ _ _ (plan_of (viewer_of c.in-Plan.viewer))) c.plan_viewer-done.result
-    (λ name is. subst (λ (n : List ℕ). is_good_name n ≡ true) (sym is)
-    (viewer_named (viewer_of c.in-Plan.viewer)
-    (subst IsOrderInRange c.in-Plan.is ((c.in-Some.ensures {u = tt}).range))))
-    c.plan_viewer-done.ensures.trouble
+    good_result (causes_of _ _ _ (plan_of (client_params_of c.in-Plan.viewer))) c.plan_source-done.result
+    (λ name is. subst (λ (n : List ℕ). good_name n ≡ true) (sym is)
+    (viewer_named (client_params_of c.in-Plan.viewer)
+    (subst IsInvocationInRange c.in-Plan.is ((c.in-Some.ensures {u = tt}).range))))
+    c.plan_source-done.ensures.error
 
 pub print-requires-in-Check : goal.print-requires-in-Check
 print-requires-in-Check g c =
-    good_result (causes_of _ _ _ (check_of (viewer_of c.in-Check.viewer) c.in-Check.cert.now))
-    c.check_viewer-done.result
+    good_result (causes_of _ _ _ (check_of (client_params_of c.in-Check.viewer) c.in-Check.cert.now))
+    c.check_plan-done.result
     (λ name is. elim is [
-      | inl source ↦ subst (λ (n : List ℕ). is_good_name n ≡ true) (sym source)
-          (viewer_named (viewer_of c.in-Check.viewer)
-          ((subst IsOrderInRange c.in-Check.is ((c.in-Some.ensures {u = tt}).range)).0))
-      | inr cert ↦ subst (λ (n : List ℕ). is_good_name n ≡ true) (sym cert)
-          ((subst IsOrderInRange c.in-Check.is ((c.in-Some.ensures {u = tt}).range)).1)
+      | inl source ↦ subst (λ (n : List ℕ). good_name n ≡ true) (sym source)
+          (viewer_named (client_params_of c.in-Check.viewer)
+          ((subst IsInvocationInRange c.in-Check.is ((c.in-Some.ensures {u = tt}).range)).0))
+      | inr cert ↦ subst (λ (n : List ℕ). good_name n ≡ true) (sym cert)
+          ((subst IsInvocationInRange c.in-Check.is ((c.in-Some.ensures {u = tt}).range)).1)
     ])
-    c.check_viewer-done.ensures.trouble
+    c.check_plan-done.ensures.error
 
 pub print-requires-in-Scan : goal.print-requires-in-Scan
 print-requires-in-Scan g c =
     good_result (causes_of _ _ _ (scan_of c.in-Scan.film.now)) c.list_units-done.result
-    (λ name is. subst (λ (n : List ℕ). is_good_name n ≡ true) (sym is)
-    (subst IsOrderInRange c.in-Scan.is ((c.in-Some.ensures {u = tt}).range)))
-    c.list_units-done.ensures.trouble
+    (λ name is. subst (λ (n : List ℕ). good_name n ≡ true) (sym is)
+    (subst IsInvocationInRange c.in-Scan.is ((c.in-Some.ensures {u = tt}).range)))
+    c.list_units-done.ensures.error
 
 pub print-requires-in-Make : goal.print-requires-in-Make
-print-requires-in-Make g c = nameless c.done_with_text-in-Make.result c.done_with_text-in-Make.ensures.trouble
+print-requires-in-Make g c = nameless c.output_with_text-in-Make.result c.output_with_text-in-Make.ensures.error
 
 pub print-requires : goal.print-requires
-print-requires g c = nameless c.done_with_text.result c.done_with_text.ensures.trouble
+print-requires g c = nameless c.output_with_text.result c.output_with_text.ensures.error
 
 pub print-requires-in-Version : goal.print-requires-in-Version
-print-requires-in-Version g c = nameless c.done_with_text-in-Version.result c.done_with_text-in-Version.ensures.trouble
+print-requires-in-Version g c = nameless c.output_with_text-in-Version.result
+    c.output_with_text-in-Version.ensures.error
 
 pub returns-in-Plan : goal.returns-in-Plan
 returns-in-Plan g c = record {
-  ran = ran_as ((c.in-Some.ensures {u = tt}).order) c.in-Plan.is c.plan_viewer-done.ensures.library
+  ran = ran_as ((c.in-Some.ensures {u = tt}).order) c.in-Plan.is c.plan_source-done.ensures.library
       c.print-in-Plan.ensures.count
-      (omega arith) (printed c.plan_viewer-done.result refl c.print-in-Plan.ensures.nothing
-      c.plan_viewer-done.ensures.done c.plan_viewer-done.ensures.trouble c.print-in-Plan.ensures.printed);
+      (omega arith) (printed c.plan_source-done.result refl c.print-in-Plan.ensures.nothing
+      c.plan_source-done.ensures.done c.plan_source-done.ensures.error c.print-in-Plan.ensures.printed);
 }
 
 pub returns-in-Check : goal.returns-in-Check
 returns-in-Check g c = record {
-  ran = ran_as ((c.in-Some.ensures {u = tt}).order) c.in-Check.is c.check_viewer-done.ensures.library
+  ran = ran_as ((c.in-Some.ensures {u = tt}).order) c.in-Check.is c.check_plan-done.ensures.library
       c.print-in-Check.ensures.count
-      (omega arith) (printed c.check_viewer-done.result refl
-      c.print-in-Check.ensures.nothing c.check_viewer-done.ensures.done c.check_viewer-done.ensures.trouble
+      (omega arith) (printed c.check_plan-done.result refl
+      c.print-in-Check.ensures.nothing c.check_plan-done.ensures.done c.check_plan-done.ensures.error
       c.print-in-Check.ensures.printed);
 }
 
@@ -66,12 +67,12 @@ returns-in-Make g c = record {
   ran = ran_as ((c.in-Some.ensures {u = tt}).order) c.in-Make.is (record { kept = refl; count = omega arith })
       c.print-in-Make.ensures.count (omega arith) (
         refl,
-        printed c.done_with_text-in-Make.result refl
+        printed c.output_with_text-in-Make.result refl
             c.print-in-Make.ensures.nothing
             (made_done None (record { kind = c.in-Make.kind; seed = c.in-Make.seed; pictures = c.in-Make.pictures })
-            c.make.result c.make.ensures c.done_with_text-in-Make.result c.done_with_text-in-Make.ensures.done)
+            c.make.result c.make.ensures c.output_with_text-in-Make.result c.output_with_text-in-Make.ensures.done)
             (no_memory _ _ _ (make_of c.in-Make.kind c.in-Make.seed c.in-Make.pictures)
-            c.done_with_text-in-Make.result c.done_with_text-in-Make.ensures.trouble)
+            c.output_with_text-in-Make.result c.output_with_text-in-Make.ensures.error)
             c.print-in-Make.ensures.printed,
       );
 }
@@ -81,7 +82,7 @@ returns-in-Scan g c = record {
   ran = ran_as ((c.in-Some.ensures {u = tt}).order) c.in-Scan.is c.list_units-done.ensures.library
       c.print-in-Scan.ensures.count
       (omega arith) (printed c.list_units-done.result refl c.print-in-Scan.ensures.nothing
-      c.list_units-done.ensures.done c.list_units-done.ensures.trouble c.print-in-Scan.ensures.printed);
+      c.list_units-done.ensures.done c.list_units-done.ensures.error c.print-in-Scan.ensures.printed);
 }
 
 pub returns-in-Help : goal.returns-in-Help
@@ -89,9 +90,9 @@ returns-in-Help g c = record {
   ran = ran_as ((c.in-Some.ensures {u = tt}).order) c.in-Help.is (record { kept = refl; count = omega arith })
       c.print.ensures.count (omega arith) (
         refl,
-        printed c.done_with_text.result refl c.print.ensures.nothing
-            (help_done None c.help.result c.help.ensures c.done_with_text.result c.done_with_text.ensures.done)
-            (no_memory _ _ _ help c.done_with_text.result c.done_with_text.ensures.trouble) c.print.ensures.printed,
+        printed c.output_with_text.result refl c.print.ensures.nothing
+            (help_done None c.help.result c.help.ensures c.output_with_text.result c.output_with_text.ensures.done)
+            (no_memory _ _ _ help c.output_with_text.result c.output_with_text.ensures.error) c.print.ensures.printed,
       );
 }
 
@@ -100,10 +101,10 @@ returns-in-Version g c = record {
   ran = ran_as ((c.in-Some.ensures {u = tt}).order) c.in-Version.is (record { kept = refl; count = omega arith })
       c.print-in-Version.ensures.count (omega arith) (
         refl,
-        printed c.done_with_text-in-Version.result refl c.print-in-Version.ensures.nothing
-            (version_done None c.version.result c.version.ensures c.done_with_text-in-Version.result
-            c.done_with_text-in-Version.ensures.done)
-            (no_memory _ _ _ version c.done_with_text-in-Version.result c.done_with_text-in-Version.ensures.trouble)
+        printed c.output_with_text-in-Version.result refl c.print-in-Version.ensures.nothing
+            (version_done None c.version.result c.version.ensures c.output_with_text-in-Version.result
+            c.output_with_text-in-Version.ensures.done)
+            (no_memory _ _ _ version c.output_with_text-in-Version.result c.output_with_text-in-Version.ensures.error)
             c.print-in-Version.ensures.printed,
       );
 }

@@ -1,33 +1,33 @@
 use Rattle.std.proofs.Common.{◌≡◌, ◌∙◌, ℕ, List, length, inl, inr, refl, sym, ap, subst, arith}
 use Rattle.admission.specs.declared.entries.Entry.{Entry}
-use Rattle.conn.specs.Parts.{Outlet}
+use Rattle.conn.specs.Parts.{WorkerGate}
 use Rattle.conn.specs.declared.reports.ConnReport.{ConnReport}
-use Rattle.command_words.specs.Words.{Serving}
-use Rattle.command_words.specs.Orders.{serving_of}
-use Rattle.film_frames.specs.declared.stores.Stored.{Stored}
-use Rattle.vodserve.specs.Served.{IsJournal, served_text}
-use Rattle.vodserve.specs.Sights.{Seen, gate_seen, sight_of, streams}
-use Rattle.vodserve.specs.Worked.{HaveWorked, Working, working}
+use Rattle.cli_args.specs.Invocations.{ServeArgs}
+use Rattle.cli_args.specs.InvocationViews.{serve_args_of}
+use Rattle.film_frames.specs.declared.stored_films.Stored.{Stored}
+use Rattle.vodserve.specs.ServerOutput.{IsJournal, served_text}
+use Rattle.vodserve.specs.IoStates.{IoState, gate_state_of, io_state_of, streams}
+use Rattle.vodserve.specs.WorkerResults.{IsWorkersResult, ServerRun, server_run}
 use Rattle.vodserve.specs.Run.{Ends}
-use Rattle.vodserve.specs.declared.ends.Ended.{Ended}
-use Rattle.vodserve.proofs.ServeLemmas.{fault_risen, have_worked_since, make_serves, only_opened}
+use Rattle.vodserve.specs.declared.run_results.Ended.{Ended}
+use Rattle.vodserve.proofs.FilmLoadLemmas.{fault_risen, have_worked_since, make_serves, only_opened}
 use Rattle.vodserve.proofs.GateLemmas.{once_since}
-use Rattle.vodserve.proofs.NameLemmas.{good_make_trouble, good_serve_trouble}
+use Rattle.vodserve.proofs.ErrorNameLemmas.{good_make_trouble, good_serve_trouble}
 use Rattle.vodserve.proofs.run.serve.Goals as goal
 
 pub end_with-requires : goal.end_with-requires
 end_with-requires g c =
     good_serve_trouble (record {
-      serving = serving_of c.args.serving.now;
-      store = sight_of g.L.Library.faults g.L.Library.files c.args.library.now;
-      store_after = sight_of g.L.Library.faults g.L.Library.files c.prepare.new.library;
-      gate = gate_seen g.G.Gate.faults g.G.Gate.told c.args.gate.now;
-      gate_after = gate_seen g.G.Gate.faults g.G.Gate.told c.prepare.new.gate;
-    }) c.in-Err.trouble c.requires.films ((c.in-Err.ensures {u = tt}).trouble)
+      serving = serve_args_of c.args.serving.now;
+      store = io_state_of g.L.Library.faults g.L.Library.files c.args.library.now;
+      store_after = io_state_of g.L.Library.faults g.L.Library.files c.prepare.new.library;
+      gate = gate_state_of g.G.Gate.faults g.G.Gate.told c.args.gate.now;
+      gate_after = gate_state_of g.G.Gate.faults g.G.Gate.told c.prepare.new.gate;
+    }) c.in-Err.error c.requires.films ((c.in-Err.ensures {u = tt}).error)
 
 pub end_with-requires-in-Err-run_server : goal.end_with-requires-in-Err-run_server
 end_with-requires-in-Err-run_server g c =
-    good_make_trouble _ _ c.in-Err-run_server.trouble ((c.in-Err-run_server.ensures {u = tt}).trouble)
+    good_make_trouble _ _ c.in-Err-run_server.error ((c.in-Err-run_server.ensures {u = tt}).error)
 
 pub returns-in-Ok-run_server-clause-serves : goal.returns-in-Ok-run_server-clause-serves
 returns-in-Ok-run_server-clause-serves g c =
@@ -35,25 +35,26 @@ returns-in-Ok-run_server-clause-serves g c =
     let reports : List ConnReport = c.in-Ok-run_server.closed.reports.items in
     let films : List Stored = c.in-Ok.prepared.films.items in
     let ended : Ended = c.end_server.result in
-    let serving : Serving = serving_of c.args.serving.now in
-    let work : List Entry → Working = working films serving c.args.seed in
-    let before : Outlet = gate_seen g.G.Gate.faults g.G.Gate.told c.args.gate.now in
-    let opened : Outlet = gate_seen g.G.Gate.faults g.G.Gate.told c.prepare.new.gate in
-    let after : Outlet = gate_seen g.G.Gate.faults g.G.Gate.told c.run_server.new.gate in
+    let serving : ServeArgs = serve_args_of c.args.serving.now in
+    let work : List Entry → ServerRun = server_run films serving c.args.seed in
+    let before : WorkerGate = gate_state_of g.G.Gate.faults g.G.Gate.told c.args.gate.now in
+    let opened : WorkerGate = gate_state_of g.G.Gate.faults g.G.Gate.told c.prepare.new.gate in
+    let after : WorkerGate = gate_state_of g.G.Gate.faults g.G.Gate.told c.run_server.new.gate in
     let same : served_text entries (length reports) ≡ served_text ended.journal.items (length ended.reports.items) =
     ap (λ (es : List Entry). served_text es (length reports)) (sym c.end_server.ensures.journal)
     ∙ ap (λ (rs : List ConnReport). served_text ended.journal.items (length rs)) (sym c.end_server.ensures.reports) in
-    let worked : HaveWorked (work ended.journal.items) before after c.in-Ok-run_server.closed.end ended.reports.items =
+    let worked : IsWorkersResult (work ended.journal.items) before after c.in-Ok-run_server.closed.end
+    ended.reports.items =
     subst (λ (rs : List ConnReport).
-    HaveWorked (work ended.journal.items) before after c.in-Ok-run_server.closed.end rs)
+    IsWorkersResult (work ended.journal.items) before after c.in-Ok-run_server.closed.end rs)
     (sym c.end_server.ensures.reports)
-    (subst (λ (es : List Entry). HaveWorked (work es) before after c.in-Ok-run_server.closed.end reports)
+    (subst (λ (es : List Entry). IsWorkersResult (work es) before after c.in-Ok-run_server.closed.end reports)
     (sym c.end_server.ensures.journal)
     (have_worked_since {gate = opened} ((c.in-Ok-run_server.ensures {u = tt}).worked) c.prepare.ensures.count)) in
-    let out : Seen (List ℕ) = sight_of g.O.Sink.faults g.O.Sink.written c.args.out.now in
-    let out' : Seen (List ℕ) = sight_of g.O.Sink.faults g.O.Sink.written c.end_server.new.out in
-    let err : Seen (List ℕ) = sight_of g.E.Sink.faults g.E.Sink.written c.args.err.now in
-    let err' : Seen (List ℕ) = sight_of g.E.Sink.faults g.E.Sink.written c.end_server.new.err in
+    let out : IoState (List ℕ) = io_state_of g.O.Sink.faults g.O.Sink.written c.args.out.now in
+    let out' : IoState (List ℕ) = io_state_of g.O.Sink.faults g.O.Sink.written c.end_server.new.out in
+    let err : IoState (List ℕ) = io_state_of g.E.Sink.faults g.E.Sink.written c.args.err.now in
+    let err' : IoState (List ℕ) = io_state_of g.E.Sink.faults g.E.Sink.written c.end_server.new.err in
     inr (record {
       films = films;
       loaded = (c.in-Ok.ensures {u = tt}).loaded;
@@ -71,20 +72,20 @@ returns-in-Ok-run_server-clause-serves g c =
 
 pub returns-in-Err-run_server-clause-serves : goal.returns-in-Err-run_server-clause-serves
 returns-in-Err-run_server-clause-serves g c =
-    let serving : Serving = serving_of c.args.serving.now in
-    let before : Outlet = gate_seen g.G.Gate.faults g.G.Gate.told c.args.gate.now in
-    let opened : Outlet = gate_seen g.G.Gate.faults g.G.Gate.told c.prepare.new.gate in
-    let after : Outlet = gate_seen g.G.Gate.faults g.G.Gate.told c.run_server.new.gate in
+    let serving : ServeArgs = serve_args_of c.args.serving.now in
+    let before : WorkerGate = gate_state_of g.G.Gate.faults g.G.Gate.told c.args.gate.now in
+    let opened : WorkerGate = gate_state_of g.G.Gate.faults g.G.Gate.told c.prepare.new.gate in
+    let after : WorkerGate = gate_state_of g.G.Gate.faults g.G.Gate.told c.run_server.new.gate in
     inl (
-      c.in-Err-run_server.trouble,
+      c.in-Err-run_server.error,
       (
         make_serves (record {
           serving = serving;
-          store = sight_of g.L.Library.faults g.L.Library.files c.args.library.now;
-          store_after = sight_of g.L.Library.faults g.L.Library.files c.prepare.new.library;
+          store = io_state_of g.L.Library.faults g.L.Library.files c.args.library.now;
+          store_after = io_state_of g.L.Library.faults g.L.Library.files c.prepare.new.library;
           gate = before;
           gate_after = after;
-        }) opened.faults c.in-Err-run_server.trouble ((c.in-Err-run_server.ensures {u = tt}).trouble)
+        }) opened.faults c.in-Err-run_server.error ((c.in-Err-run_server.ensures {u = tt}).error)
             c.prepare.ensures.count (only_opened c.in-Ok.prepared.films.items ((c.in-Ok.ensures {u = tt}).loaded)
             (once_since before.told opened.told after.told ((c.in-Ok.ensures {u = tt}).once) c.run_server.ensures.since)
             ((c.in-Err-run_server.ensures {u = tt}).few)),

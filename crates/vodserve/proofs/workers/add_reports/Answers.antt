@@ -1,7 +1,7 @@
 use Rattle.std.proofs.Common.{◌≡◌, ◌++◌, ◌∷◌, [], List, if◌then◌else◌, sym, subst}
 use Rattle.std.specs.Prelude.{is_ok}
 use Rattle.conn.specs.declared.reports.ConnReport.{ConnReport}
-use Rattle.vodserve.specs.Worked.{AreLeft}
+use Rattle.vodserve.specs.WorkerResults.{AreLeft}
 use Rattle.vodserve.proofs.WorkerLemmas.{left_more}
 use Rattle.vodserve.proofs.workers.add_reports.Goals as goal
 

@@ -4,10 +4,10 @@ use Rattle.std.proofs.lemmas.Iterator.Adapters.{YieldsList-from_vec}
 use Rattle.std.proofs.lemmas.Iterator.Consumers.{YieldsList-turn}
 use Rattle.std.proofs.lemmas.List.{map-append}
 use Rattle.std.proofs.lemmas.List.Elements.{All-nil, All-push}
-use Rattle.vod_base.specs.Outside.{HasRisen}
+use Rattle.vod_base.specs.IoState.{HasRisen}
 use Rattle.station.specs.Seats.{SeatState}
 use Rattle.conn.specs.declared.reports.PartReport.{PartReport}
-use Rattle.vodserve.specs.Worked.{AreLeft}
+use Rattle.vodserve.specs.WorkerResults.{AreLeft}
 use Rattle.vodserve.specs.Workers.{report_of}
 use Rattle.vodserve.specs.declared.workers.Worker.{Worker}
 use Rattle.vodserve.proofs.WorkerLemmas.{join_one, taken_worker, worker_out}

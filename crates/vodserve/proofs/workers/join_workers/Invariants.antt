@@ -1,8 +1,8 @@
 use Rattle.std.proofs.Common.{◌<◌, ◌≤◌, length}
 use Rattle.std.specs.Prelude.{All, IfSome, map}
-use Rattle.vod_base.specs.Outside.{HasRisen}
+use Rattle.vod_base.specs.IoState.{HasRisen}
 use Rattle.vod_base.specs.declared.gates.Opening.{Opening}
-use Rattle.vodserve.specs.Worked.{AreLeft, IsOpenAs}
+use Rattle.vodserve.specs.WorkerResults.{AreLeft, IsOpenAs}
 use Rattle.vodserve.specs.Workers.{AreJoined, IsNotOpened, report_of}
 use Rattle.vodserve.proofs.workers.join_workers.Given as goal
 

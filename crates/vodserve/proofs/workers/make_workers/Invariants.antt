@@ -2,8 +2,8 @@ use Rattle.std.proofs.Common.{◌≡◌, ◌≤◌, length}
 use Rattle.std.specs.Prelude.{All, IfSome}
 use Rattle.vod_base.specs.Gates.{IsOpen}
 use Rattle.vod_base.specs.declared.gates.Opening.{Opening}
-use Rattle.vodserve.specs.Worked.{IsOpenAs}
-use Rattle.vodserve.specs.Workers.{AreOut, AreWorkers, IsFresh, IsNotOpened, split_seat}
+use Rattle.vodserve.specs.WorkerResults.{IsOpenAs}
+use Rattle.vodserve.specs.Workers.{ArePartsOut, AreWorkers, IsFresh, IsNotOpened, split_seat}
 use Rattle.vodserve.proofs.workers.make_workers.Given as goal
 
 abbrev pub invariant-loop-number : goal.invariant-loop-number
@@ -15,6 +15,6 @@ invariant-loop-number g l = record {
   opened : IfSome (g.G.Gate.told l.gate) (λ content. IsOpen content);
   kept : (opening : Opening) → IsOpenAs opening (g.G.Gate.told l.fn.gate) → IsOpenAs opening (g.G.Gate.told l.gate);
   since : IfSome (g.G.Gate.told l.gate) (IsNotOpened (g.G.Gate.told l.fn.gate));
-  parts : IfSome (g.G.Gate.told l.gate) (AreOut 0 l.number);
+  parts : IfSome (g.G.Gate.told l.gate) (ArePartsOut 0 l.number);
   count : g.G.Gate.faults l.fn.gate ≤ g.G.Gate.faults l.gate;
 }

@@ -1,5 +1,5 @@
 use Rattle.std.proofs.Common.{◌∙◌, ℕ, subst, length}
-use Rattle.conn.specs.Parts.{HasServedPart, duty, outlet}
+use Rattle.conn.specs.Parts.{WorkerSpec, worker_input, worker_gate}
 use Rattle.vodserve.proofs.GateLemmas.{risen_some, served_number}
 use Rattle.vodserve.proofs.workers.work.Goals as goal
 
@@ -24,11 +24,11 @@ returns-clause-finished g c = record {
   seat = c.args.worker.now.seat;
   part = g.G.Gate.told c.args.worker.now.part;
   served = subst (λ (n : ℕ).
-      HasServedPart
-      (duty c.args.service.films.now c.args.service.settings.now c.args.service.seed
+      WorkerSpec
+      (worker_input c.args.service.films.now c.args.service.settings.now c.args.service.seed
       c.args.worker.now.number) c.args.worker.now.seat c.serve_part.new.seat
-      (outlet n (g.G.Gate.told c.args.worker.now.part))
-      (outlet (g.G.Gate.faults c.serve_part.new.part) (g.G.Gate.told c.serve_part.new.part)) c.serve_part.result)
+      (worker_gate n (g.G.Gate.told c.args.worker.now.part))
+      (worker_gate (g.G.Gate.faults c.serve_part.new.part) (g.G.Gate.told c.serve_part.new.part)) c.serve_part.result)
       c.requires.fresh.count c.serve_part.ensures.part;
   number = c.requires.worker.seat;
   mine = c.requires.fresh.mine;

@@ -1,7 +1,7 @@
 use Rattle.std.proofs.Common.{arith}
 use Rattle.std.proofs.lemmas.Grind.{common_steps}
-use Rattle.wire_curve.specs.Refusal.{IsAccepted}
-use Rattle.wire_curve.proofs.SoundLaws.{sum_of_uses, AreFilmCurves-of_uses, IsSound-of_film}
+use Rattle.wire_curve.specs.CurveFaults.{IsAccepted}
+use Rattle.wire_curve.proofs.SoundCurveLemmas.{sum_of_uses, AreFilmCurves-of_uses, AreSound-of_film}
 use Rattle.wire_curve.proofs.film.film_curves.Goals as goal
 
 pub curves_of_uses-requires-clause-total : goal.curves_of_uses-requires-clause-total
@@ -20,4 +20,4 @@ returns-clause-sound c =
     let are = AreFilmCurves-of_uses
     c.in_ok-uses.ensures.in_slot c.in_ok-uses.ensures.total c.in_ok-curves_of_uses.ensures in
     let ok : IsAccepted c.args.sizes.now c.args.timing.now = grind (arith, common_steps) in
-    IsSound-of_film c.args.sizes.now c.args.timing.now c.in_ok-curves_of_uses.field-0 c.requires ok are
+    AreSound-of_film c.args.sizes.now c.args.timing.now c.in_ok-curves_of_uses.field-0 c.requires ok are

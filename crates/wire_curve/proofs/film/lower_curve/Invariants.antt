@@ -1,5 +1,5 @@
 use Rattle.std.proofs.Common.{◌≡◌, ℕ, ◌+◌, ◌<◌, ◌≤◌, length, slice_index, max}
-use Rattle.wire_curve.specs.Uses.{used_by}
+use Rattle.wire_curve.specs.SlotUsage.{used_by}
 use Rattle.wire_curve.proofs.film.lower_curve.Given as goal
 
 abbrev pub invariant-loop-slot : goal.invariant-loop-slot

@@ -1,5 +1,5 @@
 use Rattle.std.proofs.Common.{◌≡◌, ℕ, ◌+◌, ◌<◌, length, slice_index, min}
-use Rattle.wire_curve.specs.Uses.{used_by}
+use Rattle.wire_curve.specs.SlotUsage.{used_by}
 use Rattle.wire_curve.proofs.film.upper_curve.Given as goal
 
 abbrev pub invariant-loop-in_slot : goal.invariant-loop-in_slot

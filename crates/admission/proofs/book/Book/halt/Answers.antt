@@ -5,7 +5,7 @@ use Rattle.admission.specs.declared.entries.Answer.TheVariants.{Halted}
 use Rattle.admission.specs.Machine.{CanHalt, next_state}
 use Rattle.admission.specs.Books.{IsNoted, Journal}
 use Rattle.admission.specs.Histories.{state_after}
-use Rattle.admission.specs.Kept.{Follows}
+use Rattle.admission.specs.BookInvariant.{MatchesState}
 use Rattle.admission.proofs.Journals.{kept-push, noted-push, open-halted}
 use Rattle.admission.proofs.book.Book.halt.Goals as goal
 
@@ -46,13 +46,13 @@ invariant_of-self c =
     let can : CanHalt state c.args.number c.args.keep = subst C (sym c.self.view_is) c.requires in
     let fewer = open-halted state (length book.entries.items) c.args.number c.args.keep can in
     let F : List Entry → Type 0 =
-    λ l. Follows c.give_back.new.calendar
+    λ l. MatchesState c.release_play.new.calendar
     (next_state (state_after l) (length book.entries.items) (Halt c.args.number c.args.keep) Halted) in
     kept-push c.self.invariant (record {
       entries_are = c.note.ensures.items;
       answered = can;
-      steps_are = c.give_back.ensures.steps;
-      follows = subst F c.as_slice.ensures.value (c.give_back.ensures.next (length book.entries.items));
+      steps_are = c.release_play.ensures.steps;
+      follows = subst F c.as_slice.ensures.value (c.release_play.ensures.next (length book.entries.items));
     }) (record {
       more_is = omega (arith, fewer, c.self.invariant.count_is);
       fits = omega (arith, fewer, c.self.invariant.count_is, c.self.invariant.within);
@@ -65,9 +65,9 @@ returns-clause-noted c =
     let can : CanHalt (state_after book.entries.items) c.args.number c.args.keep =
     subst C (sym c.self.view_is) c.requires in
     let new : Journal =
-    record { steps = c.give_back.new.calendar.steps; limit = book.limit; entries = c.note.new.entries.items } in
+    record { steps = c.release_play.new.calendar.steps; limit = book.limit; entries = c.note.new.entries.items } in
     let P : Journal → Type 0 = λ j. IsNoted j c.args.maker (Halt c.args.number c.args.keep) c.note.result new in
     subst P c.self.view_is (noted-push book.limit
     c.self.invariant.legal can
     (record { place_is = c.note.ensures.place; answer_is = c.note.ensures.answer; entries_are = c.note.ensures.items })
-    c.give_back.ensures.steps)
+    c.release_play.ensures.steps)

@@ -11,10 +11,10 @@ use Rattle.admission.proofs.book.Book.look.Goals.{After-note}
 
 answered : (c : After-note)
     → IsAnswer c.self.inside.calendar.steps (state_after c.self.inside.entries.items) (Look c.min-slot.result)
-    (Looked c.now-now.result c.max-at.result c.booked_bytes-booked.result)
+    (Looked c.now-now.result c.max-at.result c.booked-booked.result)
 answered c =
     look-answer c.self.inside.calendar.steps c.min-slot.result
-    c.self.invariant.follows c.now-now.ensures.value c.max-at.ensures c.booked_bytes-booked.ensures.value
+    c.self.invariant.follows c.now-now.ensures.value c.max-at.ensures c.booked-booked.ensures.value
 
 pub invariant_of-self : goal.invariant_of-self
 invariant_of-self c =

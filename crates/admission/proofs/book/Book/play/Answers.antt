@@ -6,10 +6,10 @@ use Rattle.admission.specs.declared.entries.Entry.{Entry}
 use Rattle.admission.specs.Machine.{CanHalt, IsAnswer}
 use Rattle.admission.specs.Books.{IsNoted, Journal}
 use Rattle.admission.specs.Histories.{state_after}
-use Rattle.admission.proofs.Runs.{Machine}
+use Rattle.admission.proofs.HistoryPrefixes.{Machine}
 use Rattle.admission.proofs.Journals.{counts-kept, kept-push, noted-push, open-asked, opens-most}
-use Rattle.admission.proofs.Opens.{opened-last}
-use Rattle.admission.proofs.Within.{sound-after}
+use Rattle.admission.proofs.OpenPlays.{opened-last}
+use Rattle.admission.proofs.CapacityBounds.{sound-after}
 use Rattle.admission.proofs.book.Book.play.Goals as goal
 use Rattle.admission.proofs.book.Book.play.Goals.{After-note}
 
@@ -37,13 +37,13 @@ invariant_of-self c =
       steps_are = c.admit-answer.ensures.steps;
       follows = c.admit-answer.ensures.next state (length book.entries.items) c.self.invariant.follows;
     }) (record {
-      more_is = omega (arith, asked, c.plays_opened.ensures, c.self.invariant.count_is);
+      more_is = omega (arith, asked, c.opened_count.ensures, c.self.invariant.count_is);
       fits = omega (
         arith,
         c.if-full-self.false,
         counts.0,
         counts.1,
-        c.plays_opened.ensures,
+        c.opened_count.ensures,
         opens-most c.admit-answer.result,
       );
     }) c.note.ensures.room

@@ -1,15 +1,15 @@
 use Rattle.std.proofs.Common.{List, ℕ, ap, length, refl, take, sym, subst}
 use Rattle.interleave.specs.Elements.{IsMessageLength}
-use Rattle.rtsp_text.proofs.Whole.{request-take}
-use Rattle.conn.specs.Keeping.{IsHeld}
-use Rattle.conn.proofs.Asking.{answered_none, asked_on}
-use Rattle.conn.proofs.Keeping.{kept_after, kept_none, kept_then}
+use Rattle.rtsp_text.proofs.WholeRequests.{request-take}
+use Rattle.conn.specs.ReservationInvariant.{IsHeld}
+use Rattle.conn.proofs.RequestAnswers.{answered_none, asked_on}
+use Rattle.conn.proofs.SeatInvariants.{kept_after, kept_none, kept_then}
 use Rattle.conn.proofs.connections.Connection.answer_request.Goals as goal
 
 pub hear-ask-requires-clause-whole : goal.hear-ask-requires-clause-whole
 hear-ask-requires-clause-whole g c =
     subst (λ (bytes : List ℕ). IsMessageLength (take c.args.length bytes) (length (take c.args.length bytes)))
-    (sym c.waiting_bytes.ensures)
+    (sym c.waiting.ensures)
     (request-take c.args.self.now.input c.args.length c.requires.within c.requires.whole)
 
 pub returns-in-Play-clause-kept : goal.returns-in-Play-clause-kept
@@ -45,7 +45,7 @@ returns-in-Reply-clause-kept g c =
 
 pub returns-in-Play-clause-heard : goal.returns-in-Play-clause-heard
 returns-in-Play-clause-heard g c =
-    asked_on c.hear-ask.ensures.hears (ap (take c.args.length) c.waiting_bytes.ensures) c.in-Play.is
+    asked_on c.hear-ask.ensures.hears (ap (take c.args.length) c.waiting.ensures) c.in-Play.is
     c.play.ensures.answered
 
 pub play-requires-clause-held : goal.play-requires-clause-held
@@ -55,7 +55,7 @@ play-requires-clause-held g c =
 
 pub returns-in-Halt-clause-heard : goal.returns-in-Halt-clause-heard
 returns-in-Halt-clause-heard g c =
-    asked_on c.hear-ask.ensures.hears (ap (take c.args.length) c.waiting_bytes.ensures) c.in-Halt.is
+    asked_on c.hear-ask.ensures.hears (ap (take c.args.length) c.waiting.ensures) c.in-Halt.is
     c.halt.ensures.answered
 
 pub halt-requires-clause-held : goal.halt-requires-clause-held
@@ -65,7 +65,7 @@ halt-requires-clause-held g c =
 
 pub returns-in-Look-clause-heard : goal.returns-in-Look-clause-heard
 returns-in-Look-clause-heard g c =
-    asked_on c.hear-ask.ensures.hears (ap (take c.args.length) c.waiting_bytes.ensures) c.in-Look.is
+    asked_on c.hear-ask.ensures.hears (ap (take c.args.length) c.waiting.ensures) c.in-Look.is
     c.look.ensures.answered
 
 pub look-requires-clause-held : goal.look-requires-clause-held
@@ -75,7 +75,7 @@ look-requires-clause-held g c =
 
 pub returns-in-Offer-clause-heard : goal.returns-in-Offer-clause-heard
 returns-in-Offer-clause-heard g c =
-    asked_on c.hear-ask.ensures.hears (ap (take c.args.length) c.waiting_bytes.ensures) c.in-Offer.is
+    asked_on c.hear-ask.ensures.hears (ap (take c.args.length) c.waiting.ensures) c.in-Offer.is
     c.offer.ensures.answered
 
 pub offer-requires-clause-held : goal.offer-requires-clause-held
@@ -85,5 +85,5 @@ offer-requires-clause-held g c =
 
 pub returns-in-Reply-clause-heard : goal.returns-in-Reply-clause-heard
 returns-in-Reply-clause-heard g c =
-    asked_on c.hear-ask.ensures.hears (ap (take c.args.length) c.waiting_bytes.ensures) c.in-Reply.is
+    asked_on c.hear-ask.ensures.hears (ap (take c.args.length) c.waiting.ensures) c.in-Reply.is
     (answered_none c.hear-ask.new.self c.args.seat.now)

@@ -1,17 +1,17 @@
 use Rattle.std.proofs.Common.{◌≡◌, ◌<◌, ◌≤◌, ◌+◌, ◌++◌, ℕ, List, length, take, rules, refl, ap}
 use Rattle.std.proofs.Common.{subst, sym, Some, arith}
-use Rattle.vod_base.specs.Links.{doing_of}
+use Rattle.vod_base.specs.Links.{io_event_of}
 use Rattle.vod_base.specs.declared.links.Heard.{Heard}
 use Rattle.conn.specs.declared.reports.ConnEnd.TheVariants.{LinkFault, TooMuchInput}
-use Rattle.conn.specs.Sights.{HasBroken, HasComeTo, HasPassed, Sight, sight}
-use Rattle.conn.specs.Turns.{stage}
+use Rattle.conn.specs.Observations.{HasFailedSend, HasHandledEvent, HasTakenSlot, Observed, observed}
+use Rattle.conn.specs.InputSteps.{stage}
 use Rattle.std.proofs.lemmas.List.{length-take-le}
 use Rattle.conn.specs.Events.{CutsOn, HasTakenEvent, with_heard}
-use Rattle.conn.proofs.Counting.{counted_on}
-use Rattle.conn.proofs.Cutting.{cuts_same}
-use Rattle.conn.proofs.Keeping.{kept_after, kept_moved, kept_none, kept_on}
-use Rattle.conn.proofs.Rooms.{waits_for_room}
-use Rattle.conn.proofs.Sighting.{bytes_up, overfull, slot_broken, slot_up}
+use Rattle.conn.proofs.FaultCounts.{counted_on}
+use Rattle.conn.proofs.ElementPrefixes.{cuts_same}
+use Rattle.conn.proofs.SeatInvariants.{kept_after, kept_moved, kept_none, kept_on}
+use Rattle.conn.proofs.InputLimit.{waits_for_room}
+use Rattle.conn.proofs.CourseSteps.{bytes_up, overfull, slot_broken, slot_up}
 use Rattle.conn.proofs.connections.Connection.hear.Goals as goal
 
 pub returns-then-is_err-clause-comes : goal.returns-then-is_err-clause-comes
@@ -22,14 +22,15 @@ returns-then-is_err-clause-comes g c =
     let within : c.in-Bytes.count ≤ length c.args.bytes.now = search rules in
     let short : length bytes ≤ 16384 =
     omega (arith, length-take-le c.in-Bytes.count c.args.bytes.now within, within, c.requires.few) in
-    let here : Sight = sight c.args.self.now (g.K.Link.told c.args.link.now) c.args.seat.now in
-    subst (λ (h : Heard). HasComeTo (Some TooMuchInput) (doing_of h c.args.bytes.now) here
-    (sight (record c.args.self.now { input = c.put.new.self })
+    let here : Observed = observed c.args.self.now (g.K.Link.told c.args.link.now) c.args.seat.now in
+    subst (λ (h : Heard). HasHandledEvent (Some TooMuchInput) (io_event_of h c.args.bytes.now) here
+    (observed (record c.args.self.now { input = c.put.new.self })
     (g.K.Link.told c.args.link.now) c.args.seat.now)) (sym c.in-Bytes.is)
     (overfull bytes here
-    (sight (record c.args.self.now { input = c.put.new.self })
+    (observed (record c.args.self.now { input = c.put.new.self })
     (g.K.Link.told c.args.link.now) c.args.seat.now) many
-    (waits_for_room c.args.self.now (length bytes) c.law_few_wait.ensures short many c.requires.waiting)
+    (waits_for_room c.args.self.now (length bytes) c.law_waiting_bytes_are_bounded.ensures short many
+    c.requires.waiting)
     (ap (λ (i : List ℕ). record {
       stage = stage c.args.self.now.session i;
       told = g.K.Link.told c.args.link.now;
@@ -38,10 +39,11 @@ returns-then-is_err-clause-comes g c =
 
 pub returns-then-is_err-2-clause-comes : goal.returns-then-is_err-2-clause-comes
 returns-then-is_err-2-clause-comes g c =
-    let here : Sight = sight c.args.self.now (g.K.Link.told c.args.link.now) c.args.seat.now in
-    let after : Sight = sight c.step.new.self (g.K.Link.told c.step.new.link) c.step.new.seat in
-    let broken : HasBroken here after c.in-Slot.slot = search rules in
-    subst (λ (h : Heard). HasComeTo (Some LinkFault) (doing_of h c.args.bytes.now) here after) (sym c.in-Slot.is)
+    let here : Observed = observed c.args.self.now (g.K.Link.told c.args.link.now) c.args.seat.now in
+    let after : Observed = observed c.step.new.self (g.K.Link.told c.step.new.link) c.step.new.seat in
+    let broken : HasFailedSend here after c.in-Slot.slot = search rules in
+    subst (λ (h : Heard). HasHandledEvent (Some LinkFault) (io_event_of h c.args.bytes.now) here after) (sym
+    c.in-Slot.is)
     (slot_broken c.in-Slot.slot here after broken)
 
 pub returns-else-is_err-clause-comes : goal.returns-else-is_err-clause-comes
@@ -49,29 +51,31 @@ returns-else-is_err-clause-comes g c =
     let bytes : List ℕ = take c.in-Bytes.count c.args.bytes.now in
     let few : length c.args.self.now.input + length bytes ≤ 131072 = search rules in
     let input : c.put.new.self ≡ c.args.self.now.input ++ bytes = search rules in
-    let here : Sight = sight c.args.self.now (g.K.Link.told c.args.link.now) c.args.seat.now in
-    let mid : Sight =
-    sight (record c.args.self.now { input = c.put.new.self })
+    let here : Observed = observed c.args.self.now (g.K.Link.told c.args.link.now) c.args.seat.now in
+    let mid : Observed =
+    observed (record c.args.self.now { input = c.put.new.self })
     (g.K.Link.told c.args.link.now) c.args.seat.now in
-    let after : Sight = sight c.take_up.new.self (g.K.Link.told c.take_up.new.link) c.take_up.new.seat in
-    subst (λ (h : Heard). HasComeTo c.take_up.result (doing_of h c.args.bytes.now) here after) (sym c.in-Bytes.is)
-    (bytes_up {b = mid} {a = here} c.take_up.result after (record {
+    let after : Observed = observed c.process_input.new.self (g.K.Link.told c.process_input.new.link)
+    c.process_input.new.seat in
+    subst (λ (h : Heard). HasHandledEvent c.process_input.result (io_event_of h c.args.bytes.now) here after) (sym
+    c.in-Bytes.is)
+    (bytes_up {b = mid} {a = here} c.process_input.result after (record {
       few = few;
       waits = ap (stage c.args.self.now.session) input;
       told = refl;
       seat = refl;
-    }) c.take_up.ensures.up)
+    }) c.process_input.ensures.up)
 
 pub returns-else-is_err-2-clause-comes : goal.returns-else-is_err-2-clause-comes
 returns-else-is_err-2-clause-comes g c =
-    let here : Sight = sight c.args.self.now (g.K.Link.told c.args.link.now) c.args.seat.now in
-    let mid : Sight = sight c.step.new.self (g.K.Link.told c.step.new.link) c.step.new.seat in
-    let after : Sight = sight c.take_up-in-Slot.new.self
-    (g.K.Link.told c.take_up-in-Slot.new.link) c.take_up-in-Slot.new.seat in
-    let passed : HasPassed here mid c.in-Slot.slot = search rules in
-    subst (λ (h : Heard). HasComeTo c.take_up-in-Slot.result (doing_of h c.args.bytes.now) here after)
+    let here : Observed = observed c.args.self.now (g.K.Link.told c.args.link.now) c.args.seat.now in
+    let mid : Observed = observed c.step.new.self (g.K.Link.told c.step.new.link) c.step.new.seat in
+    let after : Observed = observed c.process_input-in-Slot.new.self
+    (g.K.Link.told c.process_input-in-Slot.new.link) c.process_input-in-Slot.new.seat in
+    let passed : HasTakenSlot here mid c.in-Slot.slot = search rules in
+    subst (λ (h : Heard). HasHandledEvent c.process_input-in-Slot.result (io_event_of h c.args.bytes.now) here after)
     (sym c.in-Slot.is)
-    (slot_up {a = here} {b = mid} c.take_up-in-Slot.result after passed c.take_up-in-Slot.ensures.up)
+    (slot_up {a = here} {b = mid} c.process_input-in-Slot.result after passed c.process_input-in-Slot.ensures.up)
 
 pub returns-in-End-clause-kept : goal.returns-in-End-clause-kept
 returns-in-End-clause-kept g c = kept_none c.args.seat.now c.args.self.now c.requires.quiet
@@ -83,13 +87,13 @@ pub returns-else-is_err-clause-kept : goal.returns-else-is_err-clause-kept
 returns-else-is_err-clause-kept g c =
     kept_after {a = c.args.self.now}
     {mid = record c.args.self.now { input = c.put.new.self }}
-    refl refl c.take_up.ensures.kept
+    refl refl c.process_input.ensures.kept
 
 pub returns-then-is_err-2-clause-kept : goal.returns-then-is_err-2-clause-kept
 returns-then-is_err-2-clause-kept g c = c.step.ensures.kept
 
 pub returns-else-is_err-2-clause-kept : goal.returns-else-is_err-2-clause-kept
-returns-else-is_err-2-clause-kept g c = kept_on c.step.ensures.kept c.take_up-in-Slot.ensures.kept
+returns-else-is_err-2-clause-kept g c = kept_on c.step.ensures.kept c.process_input-in-Slot.ensures.kept
 
 pub returns-then-is_err-2-clause-cut : goal.returns-then-is_err-2-clause-cut
 returns-then-is_err-2-clause-cut g c =
@@ -100,9 +104,9 @@ returns-then-is_err-2-clause-cut g c =
 pub returns-else-is_err-2-clause-cut : goal.returns-else-is_err-2-clause-cut
 returns-else-is_err-2-clause-cut g c =
     subst (λ (h : Heard). CutsOn (with_heard c.args.self.now.input h c.args.bytes.now)
-    c.take_up-in-Slot.new.self.input) (sym c.in-Slot.is)
-    (subst (λ (i : List ℕ). CutsOn i c.take_up-in-Slot.new.self.input)
-    c.step.ensures.input c.take_up-in-Slot.ensures.cut)
+    c.process_input-in-Slot.new.self.input) (sym c.in-Slot.is)
+    (subst (λ (i : List ℕ). CutsOn i c.process_input-in-Slot.new.self.input)
+    c.step.ensures.input c.process_input-in-Slot.ensures.cut)
 
 pub returns-then-is_err-2-clause-taken : goal.returns-then-is_err-2-clause-taken
 returns-then-is_err-2-clause-taken g c =
@@ -111,15 +115,15 @@ returns-then-is_err-2-clause-taken g c =
 
 pub returns-else-is_err-2-clause-taken : goal.returns-else-is_err-2-clause-taken
 returns-else-is_err-2-clause-taken g c =
-    subst (λ (h : Heard). HasTakenEvent h (length c.args.self.now.input) c.take_up-in-Slot.result
-    c.take_up-in-Slot.new.self) (sym c.in-Slot.is)
-    c.take_up-in-Slot.ensures.taken
+    subst (λ (h : Heard). HasTakenEvent h (length c.args.self.now.input) c.process_input-in-Slot.result
+    c.process_input-in-Slot.new.self) (sym c.in-Slot.is)
+    c.process_input-in-Slot.ensures.taken
 
 pub returns-else-is_err-clause-counted : goal.returns-else-is_err-clause-counted
-returns-else-is_err-clause-counted g c = c.take_up.ensures.counted
+returns-else-is_err-clause-counted g c = c.process_input.ensures.counted
 
 pub returns-else-is_err-2-clause-counted : goal.returns-else-is_err-2-clause-counted
 returns-else-is_err-2-clause-counted g c =
-    counted_on c.take_up-in-Slot.result (g.K.Link.faults c.args.link.now) (g.K.Link.faults c.step.new.link)
-    (g.K.Link.faults c.take_up-in-Slot.new.link)
-    c.step.ensures.count c.take_up-in-Slot.ensures.counted
+    counted_on c.process_input-in-Slot.result (g.K.Link.faults c.args.link.now) (g.K.Link.faults c.step.new.link)
+    (g.K.Link.faults c.process_input-in-Slot.new.link)
+    c.step.ensures.count c.process_input-in-Slot.ensures.counted

@@ -1,6 +1,6 @@
 use Rattle.std.proofs.Common.{refl, rules}
 use Rattle.conn.proofs.Outcomes.{answered_entry, answered_full}
-use Rattle.conn.proofs.Going.{gone_look, gone_full, held_at_look}
+use Rattle.conn.proofs.ReservationSteps.{gone_look, gone_full, held_at_look}
 use Rattle.conn.proofs.connections.Connection.look.Goals as goal
 
 pub returns-in-Ok-clause-kept : goal.returns-in-Ok-clause-kept
@@ -8,7 +8,7 @@ returns-in-Ok-clause-kept g c = record {
   seat = search rules;
   quiet = search (rules, held_at_look);
   gone =
-      gone_look refl (record { mine = c.in-Ok.ensures.made.mine; receipts = c.hear_look.ensures.handed.receipts });
+      gone_look refl (record { mine = c.in-Ok.ensures.made.mine; receipts = c.looked.ensures.handed.receipts });
 }
 
 pub returns-in-Err-clause-kept : goal.returns-in-Err-clause-kept
@@ -17,17 +17,17 @@ returns-in-Err-clause-kept g c = record {
   quiet = search rules;
   gone =
       gone_full
-      c.in-Err.full.entries c.in-Err.full.open_plays c.in-Err.ensures.full.mine refl
-      c.hear_full.ensures.handed.receipts;
+      c.in-Err.full.entries c.in-Err.full.live c.in-Err.ensures.full.mine refl
+      c.full.ensures.handed.receipts;
 }
 
 pub returns-in-Ok-clause-answered : goal.returns-in-Ok-clause-answered
 returns-in-Ok-clause-answered g c =
     answered_entry
     c.holds.ensures.kept c.look.ensures.kept c.look.ensures.same c.in-Ok.ensures.made refl
-    (refl, c.hear_look.ensures.exact)
+    (refl, c.looked.ensures.exact)
 
 pub returns-in-Err-clause-answered : goal.returns-in-Err-clause-answered
 returns-in-Err-clause-answered g c =
     answered_full
-    c.look.ensures.same c.in-Err.ensures.full (c.hear_full.ensures.exact, refl)
+    c.look.ensures.same c.in-Err.ensures.full (c.full.ensures.exact, refl)

@@ -6,4 +6,4 @@ pub returns-clause-answered : goal.returns-clause-answered
 returns-clause-answered g c =
     answered_offer
     c.offer-offered.ensures.same c.offer-offered.ensures.mine
-    c.offer-offered.ensures.offered (refl, search rules, c.hear_offer.ensures.exact, search rules)
+    c.offer-offered.ensures.offered (refl, search rules, c.offered.ensures.exact, search rules)

@@ -1,8 +1,8 @@
 use Rattle.std.proofs.Common.{refl, rules, subst}
 use Rattle.admission.specs.declared.entries.Answer.TheVariants.{Admitted}
-use Rattle.station.specs.Answers.{IsSeatRefused, HasMade}
+use Rattle.station.specs.Answers.{IsSeatRefused, HasMadeEntry}
 use Rattle.station.specs.Ledgers.{play_of}
-use Rattle.conn.proofs.Admitting.{answered_admitted, answered_refused, kept_admitted, kept_refused}
+use Rattle.conn.proofs.AdmittedPlays.{answered_admitted, answered_refused, kept_admitted, kept_refused}
 use Rattle.conn.proofs.connections.Connection.play.Goals as goal
 
 pub returns-in-Ok-clause-kept : goal.returns-in-Ok-clause-kept
@@ -14,9 +14,9 @@ returns-in-Ok-clause-kept g c =
       held = c.requires.held;
       closed = c.requires.closed;
     }) c.in-Ok.ensures.made c.in-Ok.ensures.open (record {
-      handed = c.hear_admission.ensures.handed;
+      handed = c.admitted.ensures.handed;
       asked = c.requires.asked;
-      opens = c.hear_admission.ensures.open;
+      opens = c.admitted.ensures.open;
       booking_is = c.hold.ensures;
     })
 
@@ -43,12 +43,12 @@ returns-in-Ok-clause-answered g c =
       same = c.play.ensures.same;
       held = c.requires.held;
       closed = c.requires.closed;
-    }) (subst (λ heard. HasMade c.args.seat.now c.play.new.seat 2 (play_of heard c.args.plan)
+    }) (subst (λ heard. HasMadeEntry c.args.seat.now c.play.new.seat 2 (play_of heard c.args.plan)
     c.in-Ok.booking.number (Admitted c.in-Ok.booking.start))
     c.heard_slot.ensures.slot c.in-Ok.ensures.made) (record {
       later = search rules;
-      exact = c.hear_admission.ensures.exact;
-      play = c.hear_admission.ensures.play;
+      exact = c.admitted.ensures.exact;
+      play = c.admitted.ensures.play;
     })
 
 pub returns-in-Err-clause-answered : goal.returns-in-Err-clause-answered

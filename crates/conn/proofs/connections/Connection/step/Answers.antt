@@ -1,11 +1,11 @@
 use Rattle.std.proofs.Common.{refl, subst}
-use Rattle.session.specs.Standings.{Brings, open_of}
-use Rattle.session.proofs.Fronts.{on_err}
-use Rattle.conn.proofs.Breaking.{broken_slot}
-use Rattle.conn.proofs.Going.{held_same}
-use Rattle.conn.proofs.Keeping.{kept_after, kept_due}
-use Rattle.conn.proofs.Passing.{passed_going, passed_halted}
-use Rattle.conn.specs.Sights.{sight}
+use Rattle.session.specs.SessionStates.{Brings, open_of}
+use Rattle.session.proofs.FailedSlotLemmas.{on_err}
+use Rattle.conn.proofs.FailedSends.{broken_slot}
+use Rattle.conn.proofs.ReservationSteps.{held_same}
+use Rattle.conn.proofs.SeatInvariants.{kept_after, kept_due}
+use Rattle.conn.proofs.SlotResults.{passed_going, passed_halted}
+use Rattle.conn.specs.Observations.{observed}
 use Rattle.conn.proofs.connections.Connection.step.Goals as goal
 
 pub returns-in_err-slot-clause-broken : goal.returns-in_err-slot-clause-broken
@@ -42,15 +42,16 @@ returns-in-Finished-clause-kept g c =
 
 pub returns-in-Going-clause-passed : goal.returns-in-Going-clause-passed
 returns-in-Going-clause-passed g c =
-    passed_going {a = sight c.args.self.now (g.K.Link.told c.args.link.now) c.args.seat.now}
-    {b = sight (record c.args.self.now { session = c.slot.new.self }) (g.K.Link.told c.slot.new.link) c.args.seat.now}
+    passed_going {a = observed c.args.self.now (g.K.Link.told c.args.link.now) c.args.seat.now}
+    {b = observed (record c.args.self.now { session = c.slot.new.self }) (g.K.Link.told c.slot.new.link)
+    c.args.seat.now}
     c.in_ok-slot.ensures.exact c.in_ok-slot.ensures.told
     (subst (λ s. Brings s c.slot.new.self) c.in-Going.is c.in_ok-slot.ensures.brings) refl refl
 
 pub returns-in-Finished-clause-passed : goal.returns-in-Finished-clause-passed
 returns-in-Finished-clause-passed g c =
-    passed_halted {mid = c.slot.new.self} {a = sight c.args.self.now (g.K.Link.told c.args.link.now) c.args.seat.now}
-    {b = sight c.halt.new.self (g.K.Link.told c.slot.new.link) c.halt.new.seat}
+    passed_halted {mid = c.slot.new.self} {a = observed c.args.self.now (g.K.Link.told c.args.link.now) c.args.seat.now}
+    {b = observed c.halt.new.self (g.K.Link.told c.slot.new.link) c.halt.new.seat}
     c.in_ok-slot.ensures.exact c.in_ok-slot.ensures.told
     (subst (λ s. Brings s c.slot.new.self) c.in-Finished.is c.in_ok-slot.ensures.brings).0
     c.halt.ensures.input c.halt.ensures.answered

@@ -1,7 +1,7 @@
 use Rattle.std.proofs.Common.{arith, sym, ◌∙◌}
 use Rattle.film_frames.specs.Pieces.{wire_of}
-use Rattle.film_frames.proofs.FrameFacts.{in-film, is-run-of}
-use Rattle.film_frames.proofs.SentLemmas.{run-begin}
+use Rattle.film_frames.proofs.FramedRunFacts.{in-film, is-run-of}
+use Rattle.film_frames.proofs.RunPieceLemmas.{run-begin}
 use Rattle.film_frames.proofs.frames.Frames.begin_of.Goals as goal
 
 pub overflow_add-first : goal.overflow_add-first

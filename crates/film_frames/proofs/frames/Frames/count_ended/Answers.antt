@@ -1,8 +1,8 @@
 use Rattle.std.proofs.Common.{arith}
-use Rattle.film_frames.specs.Runs.{run_pieces}
-use Rattle.film_frames.proofs.FrameFacts.{is-run-of, total-from}
-use Rattle.film_frames.proofs.RunLemmas.{have-count_ended}
-use Rattle.film_frames.proofs.SentLemmas.{run-ends}
+use Rattle.film_frames.specs.FramedRuns.{run_pieces}
+use Rattle.film_frames.proofs.FramedRunFacts.{is-run-of, total-from}
+use Rattle.film_frames.proofs.RunBytesLemmas.{have-count_ended}
+use Rattle.film_frames.proofs.RunPieceLemmas.{run-ends}
 use Rattle.film_frames.proofs.TrackLemmas.{AreEnds, ends-rise}
 use Rattle.film_frames.proofs.frames.Frames.count_ended.Goals as goal
 use Rattle.film_frames.proofs.frames.Frames.count_ended.Goals.{After-ends}

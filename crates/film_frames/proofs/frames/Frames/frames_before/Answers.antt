@@ -1,7 +1,7 @@
 use Rattle.std.proofs.Common.{arith, sym, ◌∙◌}
-use Rattle.film_frames.specs.Runs.{pieces_in}
+use Rattle.film_frames.specs.FramedRuns.{pieces_in}
 use Rattle.film_frames.proofs.ReportLemmas.{counted-before}
-use Rattle.film_frames.proofs.RunLemmas.{blocks_from-count}
+use Rattle.film_frames.proofs.RunBytesLemmas.{blocks_from-count}
 use Rattle.film_frames.proofs.frames.Frames.frames_before.Goals as goal
 
 pub frames_before_piece-requires : goal.frames_before_piece-requires

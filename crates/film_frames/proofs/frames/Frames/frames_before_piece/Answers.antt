@@ -1,6 +1,6 @@
 use Rattle.std.proofs.Common.{arith}
 use Rattle.film_frames.specs.Pieces.{count_of}
-use Rattle.film_frames.proofs.FrameFacts.{in-film}
+use Rattle.film_frames.proofs.FramedRunFacts.{in-film}
 use Rattle.film_frames.proofs.frames.Frames.frames_before_piece.Goals as goal
 
 pub overflow_add-first : goal.overflow_add-first

@@ -1,7 +1,7 @@
 use Rattle.std.proofs.Common.{take, arith}
 use Rattle.std.proofs.lemmas.List.{length-take-le}
-use Rattle.film_frames.specs.Runs.{pieces_in}
-use Rattle.film_frames.proofs.RunLemmas.{frames-le, octets-are}
+use Rattle.film_frames.specs.FramedRuns.{pieces_in}
+use Rattle.film_frames.proofs.RunBytesLemmas.{frames-le, octets-are}
 use Rattle.film_frames.proofs.frames.Frames.octets_before_piece.Goals as goal
 
 pub overflow_sub-reports : goal.overflow_sub-reports

@@ -1,7 +1,7 @@
 use Rattle.std.proofs.Common.{◌+◌, arith, sym, ap, ◌∙◌}
-use Rattle.film_frames.proofs.FrameFacts.{is-run-of}
-use Rattle.film_frames.proofs.SentLemmas.{between, run-piece}
-use Rattle.film_frames.specs.Runs.{pieces_in}
+use Rattle.film_frames.proofs.FramedRunFacts.{is-run-of}
+use Rattle.film_frames.proofs.RunPieceLemmas.{between, run-piece}
+use Rattle.film_frames.specs.FramedRuns.{pieces_in}
 use Rattle.film_frames.proofs.PieceLemmas.{sound-at}
 use Rattle.film_frames.proofs.frames.Frames.piece.Goals as goal
 

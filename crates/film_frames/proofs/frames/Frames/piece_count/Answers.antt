@@ -1,7 +1,7 @@
 use Rattle.std.proofs.Common.{arith, sym, ◌∙◌}
-use Rattle.film_frames.specs.Runs.{pieces_in}
-use Rattle.film_frames.proofs.FrameFacts.{is-run-of}
-use Rattle.film_frames.proofs.RunLemmas.{blocks_from-count}
+use Rattle.film_frames.specs.FramedRuns.{pieces_in}
+use Rattle.film_frames.proofs.FramedRunFacts.{is-run-of}
+use Rattle.film_frames.proofs.RunBytesLemmas.{blocks_from-count}
 use Rattle.film_frames.proofs.frames.Frames.piece_count.Goals as goal
 
 pub overflow_sub-result : goal.overflow_sub-result

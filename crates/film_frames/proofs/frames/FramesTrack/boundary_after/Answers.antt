@@ -1,7 +1,7 @@
 use Rattle.std.proofs.Common.{◌-◌, arith}
-use Rattle.film_frames.specs.Runs.{run_pieces, pieces_in}
-use Rattle.film_frames.proofs.RunLemmas.{blocks_from-count}
-use Rattle.film_frames.proofs.NextLemmas.{boundary-count_ended, count_ended-within}
+use Rattle.film_frames.specs.FramedRuns.{run_pieces, pieces_in}
+use Rattle.film_frames.proofs.RunBytesLemmas.{blocks_from-count}
+use Rattle.film_frames.proofs.NextBytesLemmas.{boundary-count_ended, count_ended-within}
 use Rattle.film_frames.proofs.frames.FramesTrack.boundary_after.Goals as goal
 
 pub overflow_add-count_ended : goal.overflow_add-count_ended

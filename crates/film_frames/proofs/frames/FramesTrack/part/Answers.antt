@@ -2,12 +2,12 @@ use Rattle.std.proofs.Common.{◌≡◌, ◌+◌, ◌-◌, ◌<◌, List, [], �
 use Rattle.std.proofs.Common.{slice_get, arith, refl, sym, ap, subst, ◌∙◌}
 use Rattle.film_frames.specs.declared.pieces.Piece.TheVariants.{Report, Frame}
 use Rattle.film_frames.specs.Pieces.{octets_in}
-use Rattle.film_frames.specs.Runs.{payload, run_pieces, pieces_in}
+use Rattle.film_frames.specs.FramedRuns.{payload, run_pieces, pieces_in}
 use Rattle.film_frames.specs.Tracks.{HasHeads, begin_of}
-use Rattle.film_frames.proofs.HeadLemmas.{IsPart, frame-heads, frame-split, report-heads, report-split}
-use Rattle.film_frames.proofs.RunLemmas.{count_ended-is}
-use Rattle.film_frames.proofs.NextLemmas.{InFrame, IsIn, count-among, ends-boundary, frame-part, is-in}
-use Rattle.film_frames.proofs.NextLemmas.{report-rest, rest-next}
+use Rattle.film_frames.proofs.HeadEndLemmas.{IsPart, frame-heads, frame-split, report-heads, report-split}
+use Rattle.film_frames.proofs.RunBytesLemmas.{count_ended-is}
+use Rattle.film_frames.proofs.NextBytesLemmas.{InFrame, IsIn, count-among, ends-boundary, frame-part, is-in}
+use Rattle.film_frames.proofs.NextBytesLemmas.{report-rest, rest-next}
 use Rattle.film_frames.proofs.frames.FramesTrack.part.Goals as goal
 use Rattle.film_frames.proofs.frames.FramesTrack.part.Goals.{After-count_ended-number}
 use Rattle.film_frames.proofs.frames.FramesTrack.part.Goals.{After-payload, After-put_heads}

@@ -1,7 +1,7 @@
 use Rattle.std.proofs.lemmas.Grind.{common_steps}
 use Rattle.std.proofs.Common.{arith}
-use Rattle.film_frames.proofs.FilmLemmas.{film-few}
-use Rattle.film_frames.proofs.SentLemmas.{all-short}
+use Rattle.film_frames.proofs.FilmPieceLemmas.{film-few}
+use Rattle.film_frames.proofs.RunPieceLemmas.{all-short}
 use Rattle.film_frames.proofs.tables.FrameTable.make.Goals as goal
 
 pub new-requires-clause-pieces : goal.new-requires-clause-pieces

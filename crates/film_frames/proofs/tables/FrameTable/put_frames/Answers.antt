@@ -3,9 +3,9 @@ use Rattle.std.proofs.lemmas.Option.{slice_get_read}
 use Rattle.rtp_pack.specs.declared.payloads.Packet.{Packet}
 use Rattle.film_frames.specs.declared.pieces.Piece.{Piece}
 use Rattle.film_frames.specs.Tables.{IsTable}
-use Rattle.film_frames.proofs.FilmLemmas.{film-few}
-use Rattle.film_frames.proofs.FrontLemmas.{before_packet, packet-sound, packets-all, packets-begun}
-use Rattle.film_frames.proofs.FrontLemmas.{packets-bound, packets-more, room}
+use Rattle.film_frames.proofs.FilmPieceLemmas.{film-few}
+use Rattle.film_frames.proofs.FirstUnitLemmas.{before_packet, packet-sound, packets-all, packets-begun}
+use Rattle.film_frames.proofs.FirstUnitLemmas.{packets-bound, packets-more, room}
 use Rattle.film_frames.proofs.tables.FrameTable.put_frames.Goals as goal
 
 none : Packet

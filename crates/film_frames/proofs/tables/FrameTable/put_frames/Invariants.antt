@@ -1,6 +1,6 @@
 use Rattle.std.proofs.Common.{◌≡◌}
 use Rattle.film_frames.specs.Tables.{IsTable}
-use Rattle.film_frames.proofs.FrontLemmas.{before_packet}
+use Rattle.film_frames.proofs.FirstUnitLemmas.{before_packet}
 use Rattle.film_frames.proofs.tables.FrameTable.put_frames.Given as goal
 
 abbrev pub invariant-loop-packet : goal.invariant-loop-packet

@@ -5,8 +5,8 @@ use Rattle.mpeg_scan.specs.declared.units.Unit.{Unit as PictureUnit}
 use Rattle.film_frames.specs.declared.pieces.Piece.{Piece}
 use Rattle.film_frames.specs.Pieces.{front_pieces, unit_reports}
 use Rattle.film_frames.specs.Tables.{IsTable}
-use Rattle.film_frames.proofs.FilmLemmas.{film-few}
-use Rattle.film_frames.proofs.FrontLemmas.{front-bound, reports-none, reports-some, room}
+use Rattle.film_frames.proofs.FilmPieceLemmas.{film-few}
+use Rattle.film_frames.proofs.FirstUnitLemmas.{front-bound, reports-none, reports-some, room}
 use Rattle.film_frames.proofs.tables.FrameTable.put_report.Goals as goal
 
 pub overflow_cast-number : goal.overflow_cast-number

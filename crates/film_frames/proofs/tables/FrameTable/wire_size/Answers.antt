@@ -1,8 +1,8 @@
 use Rattle.std.proofs.Common.{◌+◌, arith}
 use Rattle.std.proofs.lemmas.Option.{slice_get_within}
-use Rattle.film_frames.proofs.FilmLemmas.{unit-laid}
+use Rattle.film_frames.proofs.FilmPieceLemmas.{unit-laid}
 use Rattle.film_frames.proofs.PieceLemmas.{unit-bound}
-use Rattle.film_frames.proofs.FrontLemmas.{front-le}
+use Rattle.film_frames.proofs.FirstUnitLemmas.{front-le}
 use Rattle.film_frames.proofs.TableLemmas.{front-count, front-place, unit-place}
 use Rattle.film_frames.proofs.tables.FrameTable.wire_size.Goals as goal
 

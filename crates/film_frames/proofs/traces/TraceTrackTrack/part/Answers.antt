@@ -1,7 +1,7 @@
 use Rattle.std.proofs.Common.{◌≡◌, ◌+◌, ◌-◌, ℕ, List, ◌∙◌, ap, arith, refl, get_or, length}
 use Rattle.std.proofs.lemmas.List.{length-replicate}
 use Rattle.film_frames.specs.Tracks.{zero_frames}
-use Rattle.film_frames.proofs.HeadLemmas.{zeros-split}
+use Rattle.film_frames.proofs.HeadEndLemmas.{zeros-split}
 use Rattle.film_frames.proofs.TrackLemmas.{boundary-found, ends-rise, found}
 use Rattle.film_frames.proofs.TraceLemmas.{ZerosTaken, trace-track, trace-total, zeros-next}
 use Rattle.film_frames.proofs.traces.TraceTrackTrack.part.Goals as goal

@@ -1,5 +1,5 @@
 use Rattle.std.proofs.Common.{◌≤◌, ℕ, length, rules, sym, subst}
-use Rattle.vod_base.specs.Outside.{IsRead, bytes_named}
+use Rattle.vod_base.specs.IoState.{IsRead, bytes_named}
 use Rattle.inputs.proofs.ReadLemmas.{more_front}
 use Rattle.inputs.proofs.files.SizedFile.read_at.Goals as goal
 

@@ -1,8 +1,8 @@
 use Rattle.std.proofs.Common.{◌≡◌, ◌-◌, ◌<◌, ◌≤◌, List, Some, length, vec_len}
 use Rattle.std.specs.Prelude.{option_map}
-use Rattle.vod_base.specs.Outside.{File, file_named}
-use Rattle.troubles.specs.Causes.{IsReadOnly}
-use Rattle.inputs.specs.Files.{IsFront}
+use Rattle.vod_base.specs.IoState.{File, file_named}
+use Rattle.cli_errors.specs.ReadErrors.{IsReadOnly}
+use Rattle.inputs.specs.FileReads.{IsFilePrefix}
 use Rattle.inputs.proofs.files.SizedFile.read_bytes.Given as goal
 
 abbrev pub invariant-loop-chunk : goal.invariant-loop-chunk
@@ -12,7 +12,7 @@ invariant-loop-chunk g l = record {
   within : vec_len l.bytes ≤ l.self.size;
   told : (held : List File) → g.L.Library.files l.fn.library ≡ Some held
       → Some l.self.size ≡ option_map length (file_named held l.self.name.now)
-      → IsFront held l.self.name.now l.self.size l.bytes.items;
+      → IsFilePrefix held l.self.name.now l.self.size l.bytes.items;
 }
 
 abbrev pub decreases-loop-chunk : goal.decreases-loop-chunk

@@ -1,7 +1,7 @@
 use Rattle.std.proofs.Common.{ℕ, List, Ok, drop, sym, subst, ◌∙◌}
-use Rattle.interleave.specs.Known.{IsKnown, IsSettled}
+use Rattle.interleave.specs.HeadSearch.{IsHeadSearch, IsSettled}
 use Rattle.interleave.specs.Elements.{IsFirst}
-use Rattle.interleave.proofs.More.{settled_known}
+use Rattle.interleave.proofs.LaterBytes.{settled_known}
 use Rattle.interleave.proofs.demux.Demux.look.Goals as goal
 
 pub invariant_of-self : goal.invariant_of-self
@@ -10,14 +10,14 @@ invariant_of-self c = record {
   most = c.self.invariant.most;
   room = c.self.invariant.room;
   known = settled_known (drop c.self.inside.start c.self.inside.bytes.items) c.in_ok-known.known
-      (subst (λ (l : List ℕ). IsSettled l c.in_ok-known.known) (c.waiting_bytes-waiting.ensures ∙ sym c.self.view_is)
+      (subst (λ (l : List ℕ). IsSettled l c.in_ok-known.known) (c.waiting-waiting.ensures ∙ sym c.self.view_is)
       c.in_ok-known.ensures);
 }
 
-pub learn-requires-clause-known : goal.learn-requires-clause-known
-learn-requires-clause-known c =
-    subst (λ (l : List ℕ). IsKnown l c.self.inside.known)
-    (c.self.view_is ∙ sym c.waiting_bytes-waiting.ensures) c.self.invariant.known
+pub search_head-requires-clause-known : goal.search_head-requires-clause-known
+search_head-requires-clause-known c =
+    subst (λ (l : List ℕ). IsHeadSearch l c.self.inside.known)
+    (c.self.view_is ∙ sym c.waiting-waiting.ensures) c.self.invariant.known
 
 pub returns-clause-waiting : goal.returns-clause-waiting
 returns-clause-waiting c = c.self.view_is
@@ -25,9 +25,9 @@ returns-clause-waiting c = c.self.view_is
 pub returns-clause-first : goal.returns-clause-first
 returns-clause-first c =
     subst (λ (l : List ℕ). IsFirst l
-    (Ok c.request_step-step.result)) c.waiting_bytes-waiting.ensures c.request_step-step.ensures.first
+    (Ok c.request_step-step.result)) c.waiting-waiting.ensures c.request_step-step.ensures.first
 
 pub returns-then-front-eq36-clause-first : goal.returns-then-front-eq36-clause-first
 returns-then-front-eq36-clause-first c =
     subst (λ (l : List ℕ). IsFirst l
-    (Ok c.block_step.result)) c.waiting_bytes-waiting.ensures c.block_step.ensures.first
+    (Ok c.block_step.result)) c.waiting-waiting.ensures c.block_step.ensures.first

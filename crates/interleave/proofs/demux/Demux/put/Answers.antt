@@ -1,5 +1,5 @@
 use Rattle.std.proofs.Common.{rules}
-use Rattle.interleave.proofs.More.{kept_known}
+use Rattle.interleave.proofs.LaterBytes.{kept_known}
 use Rattle.interleave.proofs.demux.Demux.put.Goals as goal
 
 pub invariant_of-self : goal.invariant_of-self

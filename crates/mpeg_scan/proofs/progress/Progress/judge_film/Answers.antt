@@ -1,7 +1,7 @@
 use Rattle.std.proofs.Common.{◌∙◌, arith}
 use Rattle.std.proofs.lemmas.Result.{MatchResult-weaker}
-use Rattle.mpeg_scan.proofs.RoomLemmas.{ahead-room, end-rated, end_judgement-sliced}
-use Rattle.mpeg_scan.proofs.StepLemmas.{refusal-empty, refusal-long, refusal-is, tally-ended}
+use Rattle.mpeg_scan.proofs.ScanBoundLemmas.{ahead-room, end-rated, end_judgement-sliced}
+use Rattle.mpeg_scan.proofs.ScanStepLemmas.{refusal-empty, refusal-long, refusal-is, tally-ended}
 use Rattle.mpeg_scan.proofs.progress.Progress.judge_film.Goals as goal
 
 pub judge_end-requires-clause-room : goal.judge_end-requires-clause-room

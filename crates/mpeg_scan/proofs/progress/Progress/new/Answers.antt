@@ -1,6 +1,6 @@
 use Rattle.std.proofs.Common.{refl}
-use Rattle.mpeg_scan.specs.Codes.{codes_of, latest_prefix}
-use Rattle.mpeg_scan.specs.Faults.{first_fault}
+use Rattle.mpeg_scan.specs.StartCodes.{codes_of, latest_prefix}
+use Rattle.mpeg_scan.specs.FilmFaults.{first_fault}
 use Rattle.mpeg_scan.proofs.progress.Progress.new.Goals as goal
 
 pub returns-clause-read : goal.returns-clause-read

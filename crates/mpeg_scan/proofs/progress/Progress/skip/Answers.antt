@@ -1,5 +1,5 @@
 use Rattle.std.proofs.Common.{refl}
-use Rattle.mpeg_scan.proofs.ReadLemmas.{skipped-same, skipped-kept}
+use Rattle.mpeg_scan.proofs.ByteReadLemmas.{skipped-same, skipped-kept}
 use Rattle.mpeg_scan.proofs.progress.Progress.skip.Goals as goal
 
 pub returns-clause-kept : goal.returns-clause-kept

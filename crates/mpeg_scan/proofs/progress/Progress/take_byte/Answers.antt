@@ -1,10 +1,10 @@
 use Rattle.std.proofs.Common.{List, ◌-◌, refl, subst, sym}
 use Rattle.std.proofs.lemmas.Result.{on_ok_weaker}
 use Rattle.mpeg_scan.specs.Calls.{Call}
-use Rattle.mpeg_scan.proofs.RoomLemmas.{both-ok, coded-ahead, coded-awaits, noted-ahead}
-use Rattle.mpeg_scan.proofs.RoomLemmas.{noted-awaits, room-before}
-use Rattle.mpeg_scan.proofs.StepLemmas.{code-noted, taken-plain, taken-code, taken-fault}
-use Rattle.mpeg_scan.proofs.StepLemmas.{taken-calls, taken-none}
+use Rattle.mpeg_scan.proofs.ScanBoundLemmas.{both-ok, coded-ahead, coded-awaits, noted-ahead}
+use Rattle.mpeg_scan.proofs.ScanBoundLemmas.{noted-awaits, room-before}
+use Rattle.mpeg_scan.proofs.ScanStepLemmas.{code-noted, taken-plain, taken-code, taken-fault}
+use Rattle.mpeg_scan.proofs.ScanStepLemmas.{taken-calls, taken-none}
 use Rattle.mpeg_scan.proofs.progress.Progress.take_byte.Goals as goal
 
 pub take_code-requires-clause-room : goal.take_code-requires-clause-room

@@ -1,11 +1,11 @@
 use Rattle.std.proofs.Common.{◌+◌, ◌++◌, List, ℕ, take, subst, sym, ap, ◌∙◌, arith}
 use Rattle.std.proofs.lemmas.Result.{err_from_is_err_and}
 use Rattle.mpeg_scan.specs.Calls.{Call, calls_of}
-use Rattle.mpeg_scan.specs.Codes.{codes_of, read_after}
-use Rattle.mpeg_scan.specs.Faults.{first_fault}
-use Rattle.mpeg_scan.specs.Scans.{HasRead}
-use Rattle.mpeg_scan.proofs.ReadLemmas.{read-run, read-byte, calls-run, fault-rest, length-rest}
-use Rattle.mpeg_scan.proofs.RoomLemmas.{skipped-ahead, skipped-awaits}
+use Rattle.mpeg_scan.specs.StartCodes.{codes_of, read_after}
+use Rattle.mpeg_scan.specs.FilmFaults.{first_fault}
+use Rattle.mpeg_scan.specs.ScannerState.{HasReadBytes}
+use Rattle.mpeg_scan.proofs.ByteReadLemmas.{read-run, read-byte, calls-run, fault-rest, length-rest}
+use Rattle.mpeg_scan.proofs.ScanBoundLemmas.{skipped-ahead, skipped-awaits}
 use Rattle.mpeg_scan.proofs.progress.Progress.take_bytes.Goals as goal
 
 pub loop-at-preserved : goal.loop-at-preserved
@@ -20,7 +20,7 @@ loop-at-preserved g c =
           c.skip-at.ensures.tally i.room;
       ready = skipped-awaits (g.F.Found.ready_at c.loop-at.found) c.loop-at.self c.skip-at.new.self
           c.skip-at.ensures.latest c.skip-at.ensures.tally i.ready;
-      kept = λ r kept. subst (λ (q : List ℕ). HasRead c.skip-at.new.self q) (read-run r chunk at n)
+      kept = λ r kept. subst (λ (q : List ℕ). HasReadBytes c.skip-at.new.self q) (read-run r chunk at n)
           (c.skip-at.ensures.kept (read_after r (take at chunk)) (i.kept r kept));
       heard = λ r calls kept heard. subst (λ (l : List Call). g.F.Found.heard c.loop-at.found l)
           (calls-run r chunk at n calls (c.skip-at.ensures.quiet (read_after r (take at chunk)) (i.kept r kept)))
@@ -38,16 +38,16 @@ loop-at-preserved-then-at-chunk g c =
       fed = omega (arith, i.fed, c.skip-at.ensures.fed, c.take_byte.ensures.fed);
       room = c.in_ok-take_byte.ensures.room;
       ready = c.in_ok-take_byte.ensures.ready;
-      kept = λ r kept. subst (λ (q : List ℕ). HasRead c.take_byte.new.self q)
+      kept = λ r kept. subst (λ (q : List ℕ). HasReadBytes c.take_byte.new.self q)
           (read-byte r chunk b c.if-at-chunk.true)
           (c.in_ok-take_byte.ensures.kept (read_after r (take b chunk))
-          (subst (λ (q : List ℕ). HasRead c.skip-at.new.self q) (read-run r chunk at n)
+          (subst (λ (q : List ℕ). HasReadBytes c.skip-at.new.self q) (read-run r chunk at n)
           (c.skip-at.ensures.kept (read_after r (take at chunk)) (i.kept r kept))));
       heard = λ r calls kept heard.
           subst (λ (q : List ℕ). g.F.Found.heard c.take_byte.new.found (calls ++ calls_of (codes_of q)))
           (read-byte r chunk b c.if-at-chunk.true)
           (c.in_ok-take_byte.ensures.heard (read_after r (take b chunk)) calls
-          (subst (λ (q : List ℕ). HasRead c.skip-at.new.self q) (read-run r chunk at n)
+          (subst (λ (q : List ℕ). HasReadBytes c.skip-at.new.self q) (read-run r chunk at n)
           (c.skip-at.ensures.kept (read_after r (take at chunk)) (i.kept r kept)))
           (subst (λ (l : List Call). g.F.Found.heard c.loop-at.found l)
           (calls-run r chunk at n calls (c.skip-at.ensures.quiet (read_after r (take at chunk)) (i.kept r kept)))
@@ -64,7 +64,7 @@ returns-in_err-take_byte-clause-fault g c =
     let p = err_from_is_err_and c.from_residual.result c.from_residual.ensures.1 in rw (p.1, p.2) λ f is r kept.
     fault-rest r chunk b f c.if-at-chunk.true
     (c.take_byte.ensures.fault f (c.in_err-take_byte.was ∙ is) (read_after r (take b chunk))
-    (subst (λ (q : List ℕ). HasRead c.skip-at.new.self q) (read-run r chunk at n)
+    (subst (λ (q : List ℕ). HasReadBytes c.skip-at.new.self q) (read-run r chunk at n)
     (c.skip-at.ensures.kept (read_after r (take at chunk)) (i.kept r kept))))
 
 pub take_byte-requires : goal.take_byte-requires
@@ -87,8 +87,8 @@ returns-in_err-take_byte-clause-heard_before g c =
     let b = at + n in
     let p =
     err_from_is_err_and c.from_residual.result c.from_residual.ensures.1 in rw (p.1, p.2) λ f is r calls kept heard.
-    let here : HasRead c.skip-at.new.self (read_after r (take b chunk)) =
-    subst (λ (q : List ℕ). HasRead c.skip-at.new.self q) (read-run r chunk at n)
+    let here : HasReadBytes c.skip-at.new.self (read_after r (take b chunk)) =
+    subst (λ (q : List ℕ). HasReadBytes c.skip-at.new.self q) (read-run r chunk at n)
     (c.skip-at.ensures.kept (read_after r (take at chunk)) (i.kept r kept)) in
     let before =
     subst (λ (l : List Call). g.F.Found.heard c.loop-at.found l)

@@ -1,4 +1,4 @@
-use Rattle.mpeg_scan.proofs.RoomLemmas.{head-short, head-some, slice-begun, slice-taken}
+use Rattle.mpeg_scan.proofs.ScanBoundLemmas.{head-short, head-some, slice-begun, slice-taken}
 use Rattle.mpeg_scan.proofs.progress.Progress.take_code.Goals as goal
 
 pub tell-requires-clause-begun : goal.tell-requires-clause-begun

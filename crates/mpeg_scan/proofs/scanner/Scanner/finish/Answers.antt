@@ -4,10 +4,10 @@ use Rattle.std.specs.Option.{unwrap_or}
 use Rattle.std.specs.Result.{result_ok}
 use Rattle.mpeg_scan.specs.declared.scanner.Ending.{Ending}
 use Rattle.mpeg_scan.specs.Tallies.{Tally}
-use Rattle.mpeg_scan.proofs.CountLemmas.{film-numbered}
-use Rattle.mpeg_scan.proofs.GrammarLemmas.{film-grammatical}
-use Rattle.mpeg_scan.proofs.RoomLemmas.{end-ready, end-room}
-use Rattle.mpeg_scan.proofs.TileLemmas.{film-tiles}
+use Rattle.mpeg_scan.proofs.UnitNumberingLemmas.{film-numbered}
+use Rattle.mpeg_scan.proofs.FilmGrammarLemmas.{film-grammatical}
+use Rattle.mpeg_scan.proofs.ScanBoundLemmas.{end-ready, end-room}
+use Rattle.mpeg_scan.proofs.PartTilingLemmas.{film-tiles}
 use Rattle.mpeg_scan.proofs.scanner.Scanner.finish.Goals as goal
 
 pub returns-clause-tiled : goal.returns-clause-tiled

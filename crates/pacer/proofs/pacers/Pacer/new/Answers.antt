@@ -1,8 +1,8 @@
 use Rattle.std.proofs.Common.{◌≡◌, ◌-◌, List, length, subst, sym}
 use Rattle.film_frames.specs.Tracks.{framed_bytes}
 use Rattle.plan_cert.specs.declared.Segment.{Segment}
-use Rattle.pacer.specs.Pacings.{IsPacing}
-use Rattle.pacer.proofs.PacingLemmas.{new-pacing}
+use Rattle.pacer.specs.PacerStates.{IsPacerState}
+use Rattle.pacer.proofs.PacerStateLemmas.{new-pacing}
 use Rattle.pacer.proofs.pacers.Pacer.new.Goals as goal
 
 pub invariant_of-result : goal.invariant_of-result
@@ -10,7 +10,7 @@ invariant_of-result g c =
     let pieces = g.T.Track.pieces c.args.track in
     let total = c.total-total.result in
     let P : List Segment → Type 0 = λ plan.
-    IsPacing (record {
+    IsPacerState (record {
       pieces = pieces;
       before = c.args.sent_before;
       plan = plan;

@@ -1,8 +1,8 @@
 use Rattle.std.proofs.Common.{◌≡◌, ◌+◌, ◌-◌, ℕ, List, length, ap, sym, subst, ◌∙◌, min, max, arith}
 use Rattle.film_frames.specs.Tracks.{framed_bytes}
 use Rattle.plan_cert.specs.declared.Segment.{Segment}
-use Rattle.pacer.specs.Pacings.{IsPacing, first_slots, slots_through}
-use Rattle.pacer.proofs.PacingLemmas.{due-of-both}
+use Rattle.pacer.specs.PacerStates.{IsPacerState, first_slots, slots_through}
+use Rattle.pacer.proofs.PacerStateLemmas.{due-of-both}
 use Rattle.pacer.proofs.pacers.Pacer.raise.Goals as goal
 
 pub invariant_of-self : goal.invariant_of-self
@@ -18,7 +18,7 @@ invariant_of-self g c =
     ∙ ap (λ n. max old.due n) (c.min-reached.ensures ∙ ap (λ n. min n old.keep) c.sum_at.ensures.value)
     ∙ both ∙ ap (λ n. min (first_slots old.cursor n) old.keep) (sym c.later_of-self-inside.ensures) in
     let P : List Segment → Type 0 = λ plan.
-    IsPacing (record {
+    IsPacerState (record {
       pieces = pieces;
       before = old.before;
       plan = plan;

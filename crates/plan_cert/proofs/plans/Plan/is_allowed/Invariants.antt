@@ -1,5 +1,5 @@
 use Rattle.std.proofs.Common.{◌≡◌, ◌≤◌, ◌^◌, take, All}
-use Rattle.plan_cert.specs.Slots.{total_slots, total_bytes}
+use Rattle.plan_cert.specs.PlanSlots.{total_slots, total_bytes}
 use Rattle.plan_cert.proofs.plans.Plan.is_allowed.Given as goal
 
 abbrev pub invariant-loop-segment : goal.invariant-loop-segment

@@ -1,7 +1,7 @@
 use Rattle.std.proofs.Common.{ℕ, ◌+◌, rules, subst}
 use Rattle.std.specs.Prelude.{MatchOption}
 use Rattle.rtsp_client.specs.Replies.{IsAnswer}
-use Rattle.rtsp_client.proofs.Replying.{awaited-of}
+use Rattle.rtsp_client.proofs.ReplyResults.{awaited-of}
 use Rattle.rtsp_client.proofs.clients.Client.awaited_code.Goals as goal
 
 pub returns : goal.returns

@@ -1,6 +1,6 @@
 use Rattle.std.proofs.Common.{◌≡◌, refl, ap, subst, ◌∙◌, inr}
 use Rattle.std.proofs.lemmas.Result.{err_from_is_err_and}
-use Rattle.vod_base.specs.Links.{IsFrontTold, sends, told_more}
+use Rattle.vod_base.specs.Links.{IsSentPrefix, sends, told_more}
 use Rattle.rtsp_client.specs.Requests.{setup_text}
 use Rattle.rtsp_client.proofs.clients.Client.start.Goals as goal
 
@@ -12,7 +12,7 @@ returns-in_err-send-clause-front g c =
     rw (p.1, p.2)
     (inr (
       refl,
-      subst (IsFrontTold (g.K.Link.told c.args.link.now) (g.K.Link.told c.send.new.self))
+      subst (IsSentPrefix (g.K.Link.told c.args.link.now) (g.K.Link.told c.send.new.self))
           text c.in_err-send.ensures.front,
     ))
 

@@ -1,17 +1,17 @@
 use Rattle.std.proofs.Common.{◌≡◌, Some, true, false, take, drop, rules, refl, ap, subst, ◌∙◌}
 use Rattle.std.proofs.lemmas.Result.{err_from_is_err_and}
-use Rattle.vod_base.specs.Links.{IsFrontTold, sends, told_more}
-use Rattle.vod_base.specs.Outside.{IsFrontMore}
-use Rattle.rtsp_client.specs.declared.wishes.Watched.{Watched}
-use Rattle.rtsp_client.specs.declared.wishes.WatchEnd.TheVariants.{Fault}
-use Rattle.rtsp_client.specs.declared.wishes.WatchFault.TheVariants.{BadFrame}
-use Rattle.rtsp_client.specs.Keeps.{Keeps}
-use Rattle.rtsp_client.specs.Moments.{History}
+use Rattle.vod_base.specs.Links.{IsSentPrefix, sends, told_more}
+use Rattle.vod_base.specs.IoState.{IsWrittenPrefix}
+use Rattle.rtsp_client.specs.declared.watch_request.Watched.{Watched}
+use Rattle.rtsp_client.specs.declared.watch_request.WatchEnd.TheVariants.{Fault}
+use Rattle.rtsp_client.specs.declared.watch_request.WatchFault.TheVariants.{BadFrame}
+use Rattle.rtsp_client.specs.HistoryInvariant.{HistoryInvariant}
+use Rattle.rtsp_client.specs.ClientHistory.{History}
 use Rattle.rtsp_client.specs.Requests.{teardown_text}
-use Rattle.rtsp_client.specs.Standing.{session_of}
+use Rattle.rtsp_client.specs.ClientState.{session_of}
 use Rattle.rtsp_client.specs.States.{has_all, source_with}
-use Rattle.rtsp_client.proofs.Framing.{bad-frame, frame-cut, frame-done, frame-starved, last-cut, last-done}
-use Rattle.rtsp_client.proofs.Framing.{TakenFrame, payload-here, source-here, taken-frame, teardown-starved}
+use Rattle.rtsp_client.proofs.FrameResults.{bad-frame, frame-cut, frame-done, frame-starved, last-cut, last-done}
+use Rattle.rtsp_client.proofs.FrameResults.{TakenFrame, payload-here, source-here, taken-frame, teardown-starved}
 use Rattle.rtsp_client.proofs.clients.Client.take_frame.Goals as goal
 use Rattle.rtsp_client.proofs.clients.Client.take_frame.Goals.{After-add_frame, After-is_complete}
 
@@ -19,16 +19,16 @@ use Rattle.rtsp_client.proofs.clients.Client.take_frame.Goals.{After-add_frame, 
 found : (g : _) (c : After-add_frame g)
     → source_with c.args.self.now.watching (take c.args.length c.args.self.now.input) ≡ Some c.in-Some.source
 found g c =
-    source-here c.args.self.now c.args.length c.waiting_bytes.ensures c.source_with.ensures.source c.in-Some.is
+    source-here c.args.self.now c.args.length c.waiting.ensures c.source_with.ensures.source c.in-Some.is
 
 -- it was counted, and its payload was handed on
-taken : (g : _) (c : After-is_complete g) (h : History) → Keeps c.args.wish.now h c.args.self.now
+taken : (g : _) (c : After-is_complete g) (h : History) → HistoryInvariant c.args.wish.now h c.args.self.now
     → TakenFrame c.args.wish.now h c.args.self.now (record (c.args.self.now) { watching = c.add_frame.new.self })
     (take c.args.length c.args.self.now.input) c.in-Some.source
 taken g c h k =
     taken-frame c.args.self.now c.args.length (record {
       keeps = k;
-      same = c.waiting_bytes.ensures;
+      same = c.waiting.ensures;
       within = c.requires.within;
       found_is = c.source_with.ensures.source;
       next_is = c.in-Some.is;
@@ -41,12 +41,12 @@ handed : (g : _) (c : After-is_complete g)
 handed g c =
     c.in_ok-write_all.ensures.whole
     ∙ ap (told_more (g.O.Sink.written c.args.out.now))
-    (payload-here c.args.self.now c.args.length c.waiting_bytes.ensures)
+    (payload-here c.args.self.now c.args.length c.waiting.ensures)
 
 pub returns-in_default-clause-ended : goal.returns-in_default-clause-ended
 returns-in_default-clause-ended g c = λ h k.
     bad-frame k
-    (source-here c.args.self.now c.args.length c.waiting_bytes.ensures c.source_with.ensures.source c.in_default.is)
+    (source-here c.args.self.now c.args.length c.waiting.ensures c.source_with.ensures.source c.in_default.is)
     (ap (λ (w : Watched). Fault (BadFrame w.frames)) c.tally-number.ensures)
 
 pub returns-in_err-add_frame-clause-ended : goal.returns-in_err-add_frame-clause-ended
@@ -64,8 +64,8 @@ returns-in_err-write_all-clause-ended g c =
     (λ h k.
     frame-cut (g.K.Link.told c.args.link.now) k
     (found g (goal.at.returns-in_err-write_all-clause-ended g c).After-add_frame) refl
-    (subst (IsFrontMore (g.O.Sink.written c.args.out.now) (g.O.Sink.written c.write_all.new.self))
-    (payload-here c.args.self.now c.args.length c.waiting_bytes.ensures) c.in_err-write_all.ensures.front))
+    (subst (IsWrittenPrefix (g.O.Sink.written c.args.out.now) (g.O.Sink.written c.write_all.new.self))
+    (payload-here c.args.self.now c.args.length c.waiting.ensures) c.in_err-write_all.ensures.front))
 
 pub returns-then-not-is_complete-clause-passed : goal.returns-then-not-is_complete-clause-passed
 returns-then-not-is_complete-clause-passed g c = λ h k.
@@ -98,7 +98,7 @@ returns-in_err-send-clause-ended g c =
     (taken g at h k)
     all refl
     (handed g at)
-    (subst (IsFrontTold (g.K.Link.told c.args.link.now) (g.K.Link.told c.send.new.self))
+    (subst (IsSentPrefix (g.K.Link.told c.args.link.now) (g.K.Link.told c.send.new.self))
     text c.in_err-send.ensures.front))
 
 pub returns-clause-passed : goal.returns-clause-passed

@@ -1,12 +1,12 @@
 use Rattle.std.proofs.Common.{◌≡◌, ◌&&◌, Some, None, is_some, take, refl, sym, ap, ◌∙◌}
 use Rattle.std.specs.Result.{result_ok}
 use Rattle.std.proofs.lemmas.Result.{err_from_is_err_and}
-use Rattle.rtsp_client.specs.declared.wishes.WatchEnd.TheVariants.{Fault}
-use Rattle.rtsp_client.specs.declared.wishes.WatchFault.{WatchFault}
-use Rattle.rtsp_client.specs.declared.wishes.WatchFault.TheVariants.{BadReply}
+use Rattle.rtsp_client.specs.declared.watch_request.WatchEnd.TheVariants.{Fault}
+use Rattle.rtsp_client.specs.declared.watch_request.WatchFault.{WatchFault}
+use Rattle.rtsp_client.specs.declared.watch_request.WatchFault.TheVariants.{BadReply}
 use Rattle.rtsp_client.specs.Replies.{play_range, play_start}
 use Rattle.rtsp_client.proofs.Outcomes.{ok-or-err}
-use Rattle.rtsp_client.proofs.Replying.{play-done, play-lacks}
+use Rattle.rtsp_client.proofs.ReplyResults.{play-done, play-lacks}
 use Rattle.rtsp_client.proofs.clients.Client.take_play.Goals as goal
 
 pub returns-in_err-end_ms-clause-ended : goal.returns-in_err-end_ms-clause-ended
@@ -16,7 +16,7 @@ returns-in_err-end_ms-clause-ended c =
     rw (p.1, p.2)
     (λ told out h k.
     let range : play_range (take c.args.length c.args.self.now.input) ≡ None =
-    ap (λ i. play_range (take c.args.length i)) (sym c.waiting_bytes.ensures)
+    ap (λ i. play_range (take c.args.length i)) (sym c.waiting.ensures)
     ∙ (sym c.play_range.ensures.range ∙ lacks.0) in
     play-lacks k c.requires.second
     c.requires.good (ap (λ o. is_some o && is_some (play_start (take c.args.length c.args.self.now.input))) range)
@@ -30,10 +30,10 @@ returns-in_err-start-clause-ended c =
     rw (p.1, p.2)
     (λ told out h k.
     let range : play_range (take c.args.length c.args.self.now.input) ≡ Some c.in_ok-end_ms.end_ms =
-    ap (λ i. play_range (take c.args.length i)) (sym c.waiting_bytes.ensures)
+    ap (λ i. play_range (take c.args.length i)) (sym c.waiting.ensures)
     ∙ (sym c.play_range.ensures.range ∙ (c.ok_or.ensures.ok_part ∙ ap result_ok (c.in_ok-end_ms.was {u = tt}))) in
     let start : play_start (take c.args.length c.args.self.now.input) ≡ None =
-    ap (λ i. play_start (take c.args.length i)) (sym c.waiting_bytes.ensures) ∙ (sym c.play_start.ensures ∙ lacks.0) in
+    ap (λ i. play_start (take c.args.length i)) (sym c.waiting.ensures) ∙ (sym c.play_start.ensures ∙ lacks.0) in
     play-lacks k c.requires.second
     c.requires.good
     (ap (λ o. is_some o && is_some (play_start (take c.args.length c.args.self.now.input))) range ∙ ap is_some start)
@@ -42,10 +42,10 @@ returns-in_err-start-clause-ended c =
 pub returns-clause-passed : goal.returns-clause-passed
 returns-clause-passed c = λ told out h k.
     let range : play_range (take c.args.length c.args.self.now.input) ≡ Some c.in_ok-end_ms.end_ms =
-    ap (λ i. play_range (take c.args.length i)) (sym c.waiting_bytes.ensures)
+    ap (λ i. play_range (take c.args.length i)) (sym c.waiting.ensures)
     ∙ (sym c.play_range.ensures.range ∙ (c.ok_or.ensures.ok_part ∙ ap result_ok (c.in_ok-end_ms.was {u = tt}))) in
     let start : play_start (take c.args.length c.args.self.now.input) ≡ Some c.in_ok-start.start =
-    ap (λ i. play_start (take c.args.length i)) (sym c.waiting_bytes.ensures)
+    ap (λ i. play_start (take c.args.length i)) (sym c.waiting.ensures)
     ∙ (sym c.play_start.ensures ∙ (c.ok_or-2.ensures.ok_part ∙ ap result_ok (c.in_ok-start.was {u = tt}))) in
     play-done (record {
       keeps = k;

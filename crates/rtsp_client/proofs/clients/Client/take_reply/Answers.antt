@@ -1,17 +1,17 @@
 use Rattle.std.proofs.Common.{ℕ, ◌+◌, List, take, refl, ap, subst, arith}
-use Rattle.rtsp_client.specs.declared.wishes.WatchEnd.TheVariants.{Done, Fault}
-use Rattle.rtsp_client.specs.declared.wishes.Watched.{Watched}
-use Rattle.rtsp_client.specs.declared.wishes.WatchFault.TheVariants.{BadReply}
-use Rattle.rtsp_client.specs.Standing.{IsAwaited}
-use Rattle.rtsp_client.proofs.Cutting.{whole-request}
-use Rattle.rtsp_client.proofs.Replying.{bad-reply, refused-reply, watch-done}
+use Rattle.rtsp_client.specs.declared.watch_request.WatchEnd.TheVariants.{Done, Fault}
+use Rattle.rtsp_client.specs.declared.watch_request.Watched.{Watched}
+use Rattle.rtsp_client.specs.declared.watch_request.WatchFault.TheVariants.{BadReply}
+use Rattle.rtsp_client.specs.ClientState.{IsAwaited}
+use Rattle.rtsp_client.proofs.InputPrefixes.{whole-request}
+use Rattle.rtsp_client.proofs.ReplyResults.{bad-reply, refused-reply, watch-done}
 use Rattle.rtsp_client.proofs.clients.Client.take_reply.Goals as goal
 
 pub awaited_code-requires : goal.awaited_code-requires
 awaited_code-requires g c = record {
   whole =
-      whole-request c.args.self.now.input c.waiting_bytes.result.now c.args.length c.requires.message
-      c.waiting_bytes.ensures;
+      whole-request c.args.self.now.input c.waiting.result.now c.args.length c.requires.message
+      c.waiting.ensures;
 }
 
 pub returns-in_default-clause-ended : goal.returns-in_default-clause-ended
@@ -19,14 +19,14 @@ returns-in_default-clause-ended g c = λ out h k.
     bad-reply
     k
     (subst (λ (i : List ℕ). (code : ℕ) → ¬ IsAwaited c.args.self.now (take c.args.length i) code)
-    c.waiting_bytes.ensures c.in_default.ensures) (ap (λ n. Fault (BadReply (n + 1))) c.replies-number.ensures.count)
+    c.waiting.ensures c.in_default.ensures) (ap (λ n. Fault (BadReply (n + 1))) c.replies-number.ensures.count)
 
 pub returns-then-code-ne200-clause-ended : goal.returns-then-code-ne200-clause-ended
 returns-then-code-ne200-clause-ended g c = λ out h k.
     refused-reply
     k
     (subst (λ (i : List ℕ). IsAwaited c.args.self.now (take c.args.length i) c.in-Some.code)
-    c.waiting_bytes.ensures c.in-Some.ensures)
+    c.waiting.ensures c.in-Some.ensures)
     c.if-code-ne200.true refl
 
 pub returns-in-0-clause-passed : goal.returns-in-0-clause-passed
@@ -48,7 +48,7 @@ returns-in_default-replies-clause-ended g c = λ out h k.
     let message = take c.args.length c.args.self.now.input in
     let heard : IsAwaited c.args.self.now message c.in-Some.code =
     subst (λ (i : List ℕ). IsAwaited c.args.self.now (take c.args.length i) c.in-Some.code)
-    c.waiting_bytes.ensures c.in-Some.ensures in
+    c.waiting.ensures c.in-Some.ensures in
     let good : IsAwaited c.args.self.now message 200 =
     subst (IsAwaited c.args.self.now message) c.if-code-ne200.false heard in
     watch-done k (omega (arith, c.replies.ensures.count, c.replies.ensures.most)) good

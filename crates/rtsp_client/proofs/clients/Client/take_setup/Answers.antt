@@ -1,22 +1,22 @@
 use Rattle.std.proofs.Common.{◌≡◌, None, Some, take, rules, refl, sym, ap, subst, ◌∙◌}
 use Rattle.std.specs.Prelude.{option_map}
 use Rattle.std.proofs.lemmas.Result.{err_from_is_err_and}
-use Rattle.vod_base.specs.Links.{IsFrontTold, sends, told_more}
-use Rattle.rtsp_client.specs.declared.wishes.WatchEnd.TheVariants.{Fault}
-use Rattle.rtsp_client.specs.declared.wishes.WatchFault.{WatchFault}
-use Rattle.rtsp_client.specs.declared.wishes.WatchFault.TheVariants.{BadReply}
-use Rattle.rtsp_client.specs.Keeps.{Keeps}
-use Rattle.rtsp_client.specs.Moments.{History}
-use Rattle.rtsp_client.specs.Replies.{session_in}
+use Rattle.vod_base.specs.Links.{IsSentPrefix, sends, told_more}
+use Rattle.rtsp_client.specs.declared.watch_request.WatchEnd.TheVariants.{Fault}
+use Rattle.rtsp_client.specs.declared.watch_request.WatchFault.{WatchFault}
+use Rattle.rtsp_client.specs.declared.watch_request.WatchFault.TheVariants.{BadReply}
+use Rattle.rtsp_client.specs.HistoryInvariant.{HistoryInvariant}
+use Rattle.rtsp_client.specs.ClientHistory.{History}
+use Rattle.rtsp_client.specs.Replies.{setup_session}
 use Rattle.rtsp_client.specs.Requests.{play_text}
 use Rattle.rtsp_client.proofs.Outcomes.{ok-or-err}
-use Rattle.rtsp_client.proofs.Replying.{SetupReply, first-reply, session-read, setup-cut, setup-done, setup-lacks}
-use Rattle.rtsp_client.proofs.Replying.{setup-starved}
+use Rattle.rtsp_client.proofs.ReplyResults.{SetupReply, first-reply, session-read, setup-cut, setup-done, setup-lacks}
+use Rattle.rtsp_client.proofs.ReplyResults.{setup-starved}
 use Rattle.rtsp_client.proofs.clients.Client.take_setup.Goals as goal
 use Rattle.rtsp_client.proofs.clients.Client.take_setup.Goals.{After-play_request}
 
 -- the reply is awaited, and names a session
-reply : (g : _) (c : After-play_request g) (h : History) → Keeps c.args.wish.now h c.args.self.now
+reply : (g : _) (c : After-play_request g) (h : History) → HistoryInvariant c.args.wish.now h c.args.self.now
     → SetupReply c.args.wish.now h c.args.self.now
     (take c.args.length c.args.self.now.input) c.in_ok-session.session.now
 reply g c h k = record {
@@ -24,7 +24,7 @@ reply g c h k = record {
   first = c.requires.first;
   awaited = c.requires.good;
   session_is = session-read (λ s. s.now)
-      c.args.length c.waiting_bytes.ensures c.session_in.ensures c.ok_or.ensures.ok_part (c.in_ok-session.was {u = tt});
+      c.args.length c.waiting.ensures c.setup_session.ensures c.ok_or.ensures.ok_part (c.in_ok-session.was {u = tt});
 }
 
 pub returns-in_err-session-clause-ended : goal.returns-in_err-session-clause-ended
@@ -33,11 +33,11 @@ returns-in_err-session-clause-ended g c =
     let lacks = ok-or-err (BadReply 1) c.ok_or.ensures.value c.ok_or.ensures.ok_part (c.in_err-session.was {u = tt}) in
     rw (p.1, p.2)
     (λ out h k.
-    let here : session_in (take c.args.length c.waiting_bytes.result.now) ≡ None =
-    sym c.session_in.ensures ∙ ap (option_map (λ s. s.now)) lacks.0 in
+    let here : setup_session (take c.args.length c.waiting.result.now) ≡ None =
+    sym c.setup_session.ensures ∙ ap (option_map (λ s. s.now)) lacks.0 in
     setup-lacks
     k c.requires.first c.requires.good
-    (ap (λ i. session_in (take c.args.length i)) (sym c.waiting_bytes.ensures) ∙ here)
+    (ap (λ i. setup_session (take c.args.length i)) (sym c.waiting.ensures) ∙ here)
     (ap (λ (f : WatchFault). Fault f) lacks.1))
 
 pub returns-in_err-request-clause-ended : goal.returns-in_err-request-clause-ended
@@ -61,11 +61,11 @@ returns-in_err-send-clause-ended g c =
     (λ out h k.
     let text : c.as_slice.result.now ≡ play_text c.args.wish.now c.in_ok-session.session.now =
     c.as_slice.ensures.value ∙ c.in_ok-request.ensures in
-    let front : IsFrontTold (g.K.Link.told c.args.link.now) (g.K.Link.told c.send.new.self)
+    let front : IsSentPrefix (g.K.Link.told c.args.link.now) (g.K.Link.told c.send.new.self)
     c.as_slice.result.now = c.in_err-send.ensures.front in
     setup-cut out
     (reply g (goal.at.returns-in_err-send-clause-ended g c).After-play_request h k) refl
-    (subst (IsFrontTold (g.K.Link.told c.args.link.now) (g.K.Link.told c.send.new.self)) text front))
+    (subst (IsSentPrefix (g.K.Link.told c.args.link.now) (g.K.Link.told c.send.new.self)) text front))
 
 pub returns-clause-passed : goal.returns-clause-passed
 returns-clause-passed g c = λ out h k.

@@ -1,7 +1,7 @@
 use Rattle.std.proofs.Common.{◌≡◌, ◌<◌, [], rules, length, sym, ap, ◌∙◌, arith}
 use Rattle.std.proofs.lemmas.Bool.{eqb-true}
 use Rattle.rtsp_text.specs.Lines.{lines_before_empty}
-use Rattle.rtsp_text.proofs.Walks.{next_header, next_empty, lines_before_empty-nil, some_bytes}
+use Rattle.rtsp_text.proofs.LineIteration.{next_header, next_empty, lines_before_empty-nil, some_bytes}
 use Rattle.rtsp_text.proofs.lines.HeaderLinesIterator.next.Goals as goal
 use Rattle.rtsp_text.proofs.lines.HeaderLinesIterator.next.Goals.{in_default-via-in-Some+else-not-is_empty}
 use Rattle.rtsp_text.proofs.lines.HeaderLinesIterator.next.Goals.{in_default-via-in_default}

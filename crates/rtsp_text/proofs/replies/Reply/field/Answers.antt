@@ -1,4 +1,4 @@
-use Rattle.rtsp_text.proofs.Texts.{front_field}
+use Rattle.rtsp_text.proofs.ReplyTexts.{front_field}
 use Rattle.rtsp_text.proofs.replies.Reply.field.Goals as goal
 
 pub returns-clause-front : goal.returns-clause-front

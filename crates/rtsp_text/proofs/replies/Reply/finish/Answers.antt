@@ -1,4 +1,4 @@
-use Rattle.rtsp_text.proofs.Texts.{two_put, whole_reply}
+use Rattle.rtsp_text.proofs.ReplyTexts.{two_put, whole_reply}
 use Rattle.std.proofs.Common.{codes}
 use Rattle.rtsp_text.proofs.replies.Reply.finish.Goals as goal
 

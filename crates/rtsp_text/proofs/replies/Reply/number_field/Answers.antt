@@ -1,6 +1,6 @@
 use Rattle.std.proofs.Common.{◌≡◌, ◌++◌, decimal, ap, ◌∙◌}
 use Rattle.rtsp_text.specs.Replies.{field_line}
-use Rattle.rtsp_text.proofs.Texts.{front_field}
+use Rattle.rtsp_text.proofs.ReplyTexts.{front_field}
 use Rattle.rtsp_text.proofs.replies.Reply.number_field.Goals as goal
 
 pub returns-clause-front : goal.returns-clause-front

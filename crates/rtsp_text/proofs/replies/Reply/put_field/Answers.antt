@@ -1,5 +1,5 @@
 use Rattle.std.proofs.Common.{◌++◌, codes}
-use Rattle.rtsp_text.proofs.Texts.{two_put}
+use Rattle.rtsp_text.proofs.ReplyTexts.{two_put}
 use Rattle.rtsp_text.proofs.replies.Reply.put_field.Goals as goal
 
 pub returns-clause-text : goal.returns-clause-text

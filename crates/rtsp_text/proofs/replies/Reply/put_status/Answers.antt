@@ -1,6 +1,6 @@
 use Rattle.std.proofs.Common.{◌++◌, ◌≡◌, codes, decimal, ap, ◌∙◌}
 use Rattle.rtsp_text.specs.Replies.{phrase, status_line}
-use Rattle.rtsp_text.proofs.Texts.{two_put}
+use Rattle.rtsp_text.proofs.ReplyTexts.{two_put}
 use Rattle.rtsp_text.proofs.replies.Reply.put_status.Goals as goal
 
 pub returns-clause-text : goal.returns-clause-text

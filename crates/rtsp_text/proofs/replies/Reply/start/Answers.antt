@@ -1,7 +1,7 @@
 use Rattle.std.proofs.Common.{◌++◌, ◌≡◌, [], codes, decimal, ap, sym, ◌∙◌}
 use Rattle.std.proofs.lemmas.List.{append-nil}
 use Rattle.rtsp_text.specs.Replies.{status_line, sequence_line, field_line}
-use Rattle.rtsp_text.proofs.Texts.{two_put, front_start}
+use Rattle.rtsp_text.proofs.ReplyTexts.{two_put, front_start}
 use Rattle.rtsp_text.proofs.replies.Reply.start.Goals as goal
 
 pub returns-in-Some-clause-text : goal.returns-in-Some-clause-text

@@ -1,22 +1,22 @@
 use Rattle.std.proofs.Common.{◌≡◌, ℕ, List, Ok, refl, sym, ap, subst, ◌∙◌, string_bytes, arith, inl}
 use Rattle.std.proofs.lemmas.List.{length-map}
 use Rattle.film_frames.specs.Pieces.{wire_size}
-use Rattle.film_frames.specs.Runs.{FramedRun}
+use Rattle.film_frames.specs.FramedRuns.{FramedRun}
 use Rattle.mpeg_scan.specs.declared.units.Unit.{Unit as PictureUnit}
 use Rattle.rtsp_text.specs.Lines.{is_one_line}
-use Rattle.rtsp_text.proofs.OneLines.{one_line-name}
+use Rattle.rtsp_text.proofs.SingleLineTexts.{one_line-name}
 use Rattle.session.specs.Films.{IsFilmAt, OfFilm, counts_after, identity_of, sending_of}
-use Rattle.session.specs.Inside.{open_receipts, standing_of}
+use Rattle.session.specs.SessionInvariant.{open_receipts, session_state_of}
 use Rattle.session.specs.Methods.{AsksPlayOr, first_number, play_call, play_front}
-use Rattle.session.specs.declared.asks.Ask.TheVariants.{Play as AskPlay}
-use Rattle.session.specs.Playing.{IsPlayable}
-use Rattle.session.specs.Standings.{IsReadyIn, Standing}
+use Rattle.session.specs.declared.commands.Ask.TheVariants.{Play as AskPlay}
+use Rattle.session.specs.RunRequests.{IsPlayable}
+use Rattle.session.specs.SessionStates.{IsReadyIn, SessionState}
 use Rattle.plan_cert.specs.declared.Segment.{Segment}
 use Rattle.session.specs.declared.notes.OfferNote.{OfferNote}
 use Rattle.session.specs.declared.notes.PlayNote.{PlayNote}
 use Rattle.session.specs.declared.notes.Receipt.{Receipt}
 use Rattle.session.specs.declared.states.Awaited.TheVariants.{Play}
-use Rattle.session.proofs.Askings.{PlayPrepared, prepared_in, ready_closed}
+use Rattle.session.proofs.PlayRequestLemmas.{PlayPrepared, prepared_in, ready_closed}
 use Rattle.session.proofs.sessions.Session.ask_play.Goals as goal
 
 pub put_play-requires-clause-name_line : goal.put_play-requires-clause-name_line
@@ -27,7 +27,7 @@ put_play-requires-clause-name_line c =
 pub frames_of-frames-requires-clause-order : goal.frames_of-frames-requires-clause-order
 frames_of-frames-requires-clause-order c =
     let at = subst
-    (λ (s : Standing). IsFilmAt s.films c.args.setup.now.film c.stored_at-stored.result.now) c.self.view_is
+    (λ (s : SessionState). IsFilmAt s.films c.args.setup.now.film c.stored_at-stored.result.now) c.self.view_is
     c.stored_at-stored.ensures.film in
     let run_is = (c.requires.run c.stored_at-stored.result.now at).run_of.run_is in
     omega (arith, run_is.order, run_is.rest)
@@ -35,11 +35,11 @@ frames_of-frames-requires-clause-order c =
 pub info_of-info-requires-clause-end : goal.info_of-info-requires-clause-end
 info_of-info-requires-clause-end c =
     let stored = c.stored_at-stored.result.now in
-    let at = subst (λ (s : Standing). IsFilmAt s.films c.args.setup.now.film stored) c.self.view_is
+    let at = subst (λ (s : SessionState). IsFilmAt s.films c.args.setup.now.film stored) c.self.view_is
     c.stored_at-stored.ensures.film in
     let run_is = (c.requires.run stored at).run_of.run_is in
     let wire : PictureUnit → ℕ = λ u. wire_size stored.film.slice_starts.items u in
-    omega (arith, run_is.within, length-map stored.film.units.items wire, c.law_film.ensures.units)
+    omega (arith, run_is.within, length-map stored.film.units.items wire, c.law_film_is_well_formed.ensures.units)
 
 pub invariant_of-self-2 : goal.invariant_of-self-2
 invariant_of-self-2 c =
@@ -50,9 +50,9 @@ invariant_of-self-2 c =
     let planned = c.args.planned in
     let sequence = c.args.sequence in
     let ready : IsReadyIn inside.state setup =
-    subst (λ (s : Standing). IsReadyIn s.state setup) (sym c.self.view_is) c.requires.ready in
+    subst (λ (s : SessionState). IsReadyIn s.state setup) (sym c.self.view_is) c.requires.ready in
     let playable : IsPlayable stored inside.source inside.settings setup planned.counts planned.run planned.plan =
-    subst (λ (s : Standing). OfFilm s.films setup.film
+    subst (λ (s : SessionState). OfFilm s.films setup.film
     (λ film. IsPlayable film s.source s.settings setup planned.counts planned.run
     planned.plan)) (sym c.self.view_is) c.requires.run stored c.stored_at-stored.ensures.film in
     let closed : open_receipts inside.state ≡ 0 = ready_closed inside.state setup ready in
@@ -96,7 +96,7 @@ returns-clause-exact c =
     let sequence = c.args.sequence in
     let authority = c.args.authority.now in
     let info = c.info_of-info.result in
-    let old = standing_of inside in
+    let old = session_state_of inside in
     let number : info.sequence ≡ first_number old stored setup planned =
     c.info_of-info.ensures.number
     ∙ ap (λ (s : FramedRun). (identity_of inside.source setup
@@ -113,7 +113,7 @@ returns-clause-exact c =
       c.info_of-info.ensures.time,
     ) refl in
     let new : FramedRun → List Segment → List Segment → List ℕ → List Receipt → List PlayNote → List OfferNote
-    → Standing =
+    → SessionState =
     λ frames own paced reply receipts plays offers. record old {
       awaited = Play (record {
         run = planned.run;
@@ -135,7 +135,7 @@ returns-clause-exact c =
     let paced = c.in-Ok.paced in
     let log = c.plans_with_room.new.log in
     let lists = c.plans_with_room.ensures.lists in
-    rw c.set.ensures (subst (λ (s : Standing). AsksPlayOr s (play_call sequence authority setup) (Ok planned)
+    rw c.set.ensures (subst (λ (s : SessionState). AsksPlayOr s (play_call sequence authority setup) (Ok planned)
     (AskPlay plan)
     (new c.frames_of-frames.result own paced c.put_play.new.reply log.receipts log.plays log.offers)) c.self.view_is
     (inl (record {

@@ -1,20 +1,20 @@
 use Rattle.std.proofs.Common.{◌≡◌, ℕ, List, refl, sym, ap, subst, ◌∙◌}
 use Rattle.film_run.specs.declared.plans.Playback.{Playback}
-use Rattle.film_run.specs.Pauses.{IsLeft}
+use Rattle.film_run.specs.Pauses.{IsRemainingRun}
 use Rattle.film_run.specs.Units.{stored_sizes}
-use Rattle.pacer.specs.Pacings.{Pacing, next_boundary}
-use Rattle.session.specs.Inside.{standing_of}
+use Rattle.pacer.specs.PacerStates.{PacerState, next_boundary}
+use Rattle.session.specs.SessionInvariant.{session_state_of}
 use Rattle.session.specs.Methods.{Pauses}
-use Rattle.session.specs.Playing.{IsRunOf, playback_of}
-use Rattle.session.specs.Standings.{CanHear, Standing}
+use Rattle.session.specs.RunRequests.{IsRunOf, playback_of}
+use Rattle.session.specs.SessionStates.{CanHandleRequest, SessionState}
 use Rattle.session.specs.declared.states.Awaited.TheVariants.{Halt}
-use Rattle.session.specs.declared.states.Next.TheVariants.{Paused}
+use Rattle.session.specs.declared.states.AfterHalt.TheVariants.{Paused}
 use Rattle.session.specs.declared.states.State.{State}
 use Rattle.session.specs.declared.states.State.TheVariants.{Playing}
-use Rattle.session.specs.declared.asks.Ask.TheVariants.{Halt as AskHalt}
-use Rattle.session.proofs.Askings.{HeardInPlay, halt_asked, play_going, playing_in}
-use Rattle.session.proofs.Pausing.{halts_play, left_runs}
-use Rattle.session.proofs.Playables.{of_film}
+use Rattle.session.specs.declared.commands.Ask.TheVariants.{Halt as AskHalt}
+use Rattle.session.proofs.PlayRequestLemmas.{HeardInPlay, halt_asked, play_going, playing_in}
+use Rattle.session.proofs.HaltedRunLemmas.{halts_play, left_runs}
+use Rattle.session.proofs.ResumedPlayLemmas.{of_film}
 use Rattle.session.proofs.sessions.Session.pause.Goals as goal
 
 pub run_after-left-requires-clause-halt : goal.run_after-left-requires-clause-halt
@@ -23,7 +23,8 @@ run_after-left-requires-clause-halt c =
     let setup = c.in-Playing.setup in
     let play = c.in-Playing.play in
     let state : inside.state ≡ Playing setup play = sym c.in-Playing.ensures.value in
-    let hear : CanHear (standing_of inside) = subst CanHear (sym c.self.view_is) c.requires.hear in
+    let hear : CanHandleRequest (session_state_of inside) = subst CanHandleRequest (sym c.self.view_is) c.requires.hear
+    in
     let hand : HeardInPlay inside = record {
       setup = setup;
       play = play;
@@ -46,7 +47,8 @@ invariant_of-self c =
     let stored = c.stored_at-stored.result.now in
     let left = c.run_after-left.result in
     let state : inside.state ≡ Playing setup play = sym c.in-Playing.ensures.value in
-    let hear : CanHear (standing_of inside) = subst CanHear (sym c.self.view_is) c.requires.hear in
+    let hear : CanHandleRequest (session_state_of inside) = subst CanHandleRequest (sym c.self.view_is) c.requires.hear
+    in
     let hand : HeardInPlay inside = record {
       setup = setup;
       play = play;
@@ -87,7 +89,7 @@ returns-clause-exact c =
     let left = c.run_after-left.result in
     let last = c.last_slot-last.result in
     let state : inside.state ≡ Playing setup play = sym c.in-Playing.ensures.value in
-    let new : Pacing → List ℕ → Standing = λ p text. record (standing_of inside) {
+    let new : PacerState → List ℕ → SessionState = λ p text. record (session_state_of inside) {
       state = Playing setup (record play { pacer = p });
       awaited = Halt keep (Paused left);
       text = text;
@@ -96,27 +98,27 @@ returns-clause-exact c =
     let pacer : c.ask_halt-keep.new.self ≡ record play.pacer { keep = keep } =
     c.ask_halt-keep.ensures.state ∙ ap (λ (n : ℕ). record play.pacer { keep = n }) (sym value) in
     rw (c.enter.ensures, c.set.ensures)
-    (subst (λ (old : Standing). Pauses old.state old c.args.sequence (AskHalt keep)
+    (subst (λ (old : SessionState). Pauses old.state old c.args.sequence (AskHalt keep)
     (new c.ask_halt-keep.new.self c.put_session.new.reply))
     c.self.view_is
-    (subst (λ (s : State). Pauses s (standing_of inside) c.args.sequence (AskHalt keep)
+    (subst (λ (s : State). Pauses s (session_state_of inside) c.args.sequence (AskHalt keep)
     (new c.ask_halt-keep.new.self c.put_session.new.reply)) (sym state)
     (record {
       stored = stored;
       at = c.stored_at-stored.ensures.film;
       last = last;
-      last_is = c.last_slot-last.ensures ∙ ap (λ (p : Pacing). p.passed) c.ask_halt-keep.ensures.state;
+      last_is = c.last_slot-last.ensures ∙ ap (λ (p : PacerState). p.passed) c.ask_halt-keep.ensures.state;
       left = left;
-      left_is = subst (λ (n : ℕ). IsLeft sizes (playback_of stored.film inside.settings setup) play.run
+      left_is = subst (λ (n : ℕ). IsRemainingRun sizes (playback_of stored.film inside.settings setup) play.run
           play.plan last n left) value
           (subst (λ (p : Playback).
-          IsLeft sizes p play.run play.plan last keep left) c.playback_of-playback.ensures.playback
+          IsRemainingRun sizes p play.run play.plan last keep left) c.playback_of-playback.ensures.playback
           c.run_after-left.ensures.left);
       asks = record {
         keep = keep;
         keep_is = value;
         command = refl;
-        state = ap (λ (p : Pacing). new p c.put_session.new.reply) pacer
+        state = ap (λ (p : PacerState). new p c.put_session.new.reply) pacer
             ∙ ap (λ (text : List ℕ). new (record play.pacer { keep = keep }) text) c.put_session.ensures;
       };
     })))

@@ -1,17 +1,18 @@
 use Rattle.std.proofs.Common.{◌≡◌, false, true, sym, ap, subst, ◌∙◌, rules, arith}
-use Rattle.session.specs.Inside.{Coming, IsAwaitedKept, IsGoing, IsKept, IsStateKept}
-use Rattle.session.specs.Inside.{IsStopAnswered, awaited_offers, awaited_plays, awaited_receipts}
-use Rattle.session.specs.Inside.{coming_of, ground_of, open_receipts, standing_of}
-use Rattle.session.specs.Sendings.{HaltsIfDone}
-use Rattle.session.specs.Standings.{IsAtRest}
-use Rattle.session.specs.Steps.{IsCarried, IsEven, after_stop}
+use Rattle.session.specs.SessionInvariant.{Coming, IsAwaitedInvariant, IsGoing, IsSessionInvariant, IsStateInvariant}
+use Rattle.session.specs.SessionInvariant.{IsStopAnswered, awaited_offers, awaited_plays, awaited_receipts}
+use Rattle.session.specs.SessionInvariant.{coming_of, session_context_of, open_receipts, session_state_of}
+use Rattle.session.specs.SlotSteps.{HaltsIfDone}
+use Rattle.session.specs.SessionStates.{AwaitsNoAnswer}
+use Rattle.session.specs.SlotTransitions.{IsCarried, IsEven, after_stop}
 use Rattle.session.specs.declared.sessions.Session.TheInside.{Inside}
 use Rattle.session.specs.declared.states.Awaited.{Awaited}
 use Rattle.session.specs.declared.states.Awaited.TheVariants.{Nothing}
 use Rattle.session.specs.declared.states.State.{State}
-use Rattle.session.proofs.Carries.{awaited_kept, awaited_lost, awaited_settled, finished_none}
-use Rattle.session.proofs.Carries.{nothing_of, receipts_kept, receipts_settled, settled_kept, state_kept, stop_kept}
-use Rattle.session.proofs.Carries.{stop_settled}
+use Rattle.session.proofs.StepInvariantLemmas.{awaited_kept, awaited_lost, awaited_settled, finished_none}
+use Rattle.session.proofs.StepInvariantLemmas.{nothing_of, receipts_kept, receipts_settled, settled_kept, state_kept}
+use Rattle.session.proofs.StepInvariantLemmas.{stop_kept}
+use Rattle.session.proofs.StepInvariantLemmas.{stop_settled}
 use Rattle.session.proofs.sessions.Session.slot.Goals as goal
 use Rattle.session.proofs.sessions.Session.slot.Goals.{then-replied, else-replied}
 
@@ -21,16 +22,16 @@ invariant_of-self-in_default-send_due g c =
     let films = inside.films.now in
     let new : State = c.send_due.new.state in
     let carried : IsCarried inside.state new = c.send_due.ensures.carried in
-    let rest : IsAtRest (standing_of inside) = subst IsAtRest (sym c.self.view_is) c.requires.rest in
+    let rest : AwaitsNoAnswer (session_state_of inside) = subst AwaitsNoAnswer (sym c.self.view_is) c.requires.rest in
     let none : inside.awaited ≡ Nothing = nothing_of inside.awaited rest in
     let same : open_receipts new ≡ open_receipts inside.state = receipts_kept inside.state new carried in
     record {
       films = c.self.invariant.films;
       settings = c.self.invariant.settings;
       id = c.self.invariant.id;
-      state = state_kept (ground_of inside) inside.state new c.self.invariant.state carried;
-      awaited = subst (λ (a : Awaited). IsAwaitedKept (ground_of inside) true new a) (sym none)
-          (awaited_lost (ground_of inside) new);
+      state = state_kept (session_context_of inside) inside.state new c.self.invariant.state carried;
+      awaited = subst (λ (a : Awaited). IsAwaitedInvariant (session_context_of inside) true new a) (sym none)
+          (awaited_lost (session_context_of inside) new);
       stop = stop_kept inside.waits inside.state new c.self.invariant.stop carried;
       receipt_room = omega (arith, c.self.invariant.receipt_room);
       play_room = omega (arith, c.self.invariant.play_room);
@@ -51,10 +52,10 @@ invariant_of-self-2 g c =
     let carried : IsCarried inside.state new = c.send_due.ensures.carried in
     let even : IsEven new = c.in-Ok.ensures.even in
     let finished : HaltsIfDone c.if-replied.self-inside.state awaited = c.finish.ensures.halt in
-    let rest : IsAtRest (standing_of inside) = subst IsAtRest (sym c.self.view_is) c.requires.rest in
+    let rest : AwaitsNoAnswer (session_state_of inside) = subst AwaitsNoAnswer (sym c.self.view_is) c.requires.rest in
     let none : inside.awaited ≡ Nothing = nothing_of inside.awaited rest in
     let going : IsGoing inside.lost inside.state =
-    subst (λ (a : Awaited). IsAwaitedKept (ground_of inside) inside.lost inside.state a) none
+    subst (λ (a : Awaited). IsAwaitedInvariant (session_context_of inside) inside.lost inside.state a) none
     c.self.invariant.awaited in
     let coming : coming_of awaited ≡ coming_of Nothing =
     finished_none c.if-replied.self-inside.state awaited finished in
@@ -69,16 +70,17 @@ invariant_of-self-2 g c =
           subst (λ (x : Inside). HaltsIfDone x.state awaited) w.self-inside-is finished in
           let same : open_receipts after ≡ open_receipts inside.state =
           ap open_receipts is ∙ receipts_settled new ∙ receipts_kept inside.state new carried in
-          subst (λ (x : Inside). IsKept (record x { awaited = awaited })) (sym w.self-inside-is)
+          subst (λ (x : Inside). IsSessionInvariant (record x { awaited = awaited })) (sym w.self-inside-is)
           (record {
             films = c.self.invariant.films;
             settings = c.self.invariant.settings;
             id = c.self.invariant.id;
-            state = subst (λ (s : State). IsStateKept (ground_of inside) s) (sym is)
-                (settled_kept (ground_of inside) new
-                (state_kept (ground_of inside) inside.state new c.self.invariant.state carried));
-            awaited = subst (λ (s : State). IsAwaitedKept (ground_of inside) inside.lost s awaited) (sym is)
-                (awaited_settled (ground_of inside) new awaited
+            state = subst (λ (s : State). IsStateInvariant (session_context_of inside) s) (sym is)
+                (settled_kept (session_context_of inside) new
+                (state_kept (session_context_of inside) inside.state new c.self.invariant.state carried));
+            awaited = subst (λ (s : State). IsAwaitedInvariant (session_context_of inside) inside.lost s awaited) (sym
+                is)
+                (awaited_settled (session_context_of inside) new awaited
                 (record { going = going; carried = carried; even = even })
                 (subst (λ (s : State). HaltsIfDone s awaited) is over));
             stop = subst (λ (s : State). IsStopAnswered s false) (sym is) (stop_settled false new);
@@ -96,13 +98,13 @@ invariant_of-self-2 g c =
           let over : HaltsIfDone new awaited =
           subst (λ (x : Inside). HaltsIfDone x.state awaited) w.self-inside-is finished in
           let same : open_receipts new ≡ open_receipts inside.state = receipts_kept inside.state new carried in
-          subst (λ (x : Inside). IsKept (record x { awaited = awaited })) (sym w.self-inside-is)
+          subst (λ (x : Inside). IsSessionInvariant (record x { awaited = awaited })) (sym w.self-inside-is)
           (record {
             films = c.self.invariant.films;
             settings = c.self.invariant.settings;
             id = c.self.invariant.id;
-            state = state_kept (ground_of inside) inside.state new c.self.invariant.state carried;
-            awaited = awaited_kept {old = inside.state} (ground_of inside) awaited
+            state = state_kept (session_context_of inside) inside.state new c.self.invariant.state carried;
+            awaited = awaited_kept {old = inside.state} (session_context_of inside) awaited
                 (record { going = going; carried = carried; even = even })
                 over;
             stop = stop_kept inside.waits inside.state new c.self.invariant.stop carried;

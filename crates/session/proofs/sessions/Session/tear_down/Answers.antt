@@ -1,19 +1,19 @@
 use Rattle.std.proofs.Common.{◌≡◌, ℕ, List, refl, sym, ap, subst, ◌∙◌}
-use Rattle.pacer.specs.Pacings.{Pacing}
-use Rattle.session.specs.Inside.{standing_of}
+use Rattle.pacer.specs.PacerStates.{PacerState}
+use Rattle.session.specs.SessionInvariant.{session_state_of}
 use Rattle.session.specs.Methods.{TearsDown}
-use Rattle.session.specs.Standings.{CanHear, Standing}
-use Rattle.session.specs.declared.asks.Ask.TheVariants.{Halt as AskHalt}
+use Rattle.session.specs.SessionStates.{CanHandleRequest, SessionState}
+use Rattle.session.specs.declared.commands.Ask.TheVariants.{Halt as AskHalt}
 use Rattle.session.specs.declared.states.Awaited.TheVariants.{Halt}
-use Rattle.session.specs.declared.states.Next.TheVariants.{Torn}
+use Rattle.session.specs.declared.states.AfterHalt.TheVariants.{Torn}
 use Rattle.session.specs.declared.states.State.{State}
 use Rattle.session.specs.declared.states.State.TheVariants.{Playing}
-use Rattle.session.proofs.Askings.{HeardInPlay, halt_asked}
-use Rattle.session.proofs.Halts.{going_in}
+use Rattle.session.proofs.PlayRequestLemmas.{HeardInPlay, halt_asked}
+use Rattle.session.proofs.HaltLemmas.{going_in}
 use Rattle.session.proofs.sessions.Session.tear_down.Goals as goal
 
 pub ask_halt-requires : goal.ask_halt-requires
-ask_halt-requires c = going_in c.self.invariant (subst CanHear (sym c.self.view_is) c.requires.hear)
+ask_halt-requires c = going_in c.self.invariant (subst CanHandleRequest (sym c.self.view_is) c.requires.hear)
 
 pub invariant_of-self-2 : goal.invariant_of-self-2
 invariant_of-self-2 c =
@@ -23,7 +23,7 @@ invariant_of-self-2 c =
       play = halted.play;
       kept = c.self.invariant;
       state = halted.old_is;
-      hear = subst CanHear (sym c.self.view_is) c.requires.hear;
+      hear = subst CanHandleRequest (sym c.self.view_is) c.requires.hear;
     } in
     rw (halted.new_is, c.set.ensures) (halt_asked hand (record {
       pacer = halted.pacer;
@@ -41,7 +41,7 @@ returns-clause-exact c =
     let inside = c.self.inside in
     let halted = c.in-Some.ensures.halted in
     let keep = c.in-Some.keep in
-    let new : Pacing → List ℕ → Standing = λ p text. record (standing_of inside) {
+    let new : PacerState → List ℕ → SessionState = λ p text. record (session_state_of inside) {
       state = Playing halted.setup (record halted.play { pacer = p });
       awaited = Halt keep Torn;
       text = text;
@@ -49,16 +49,16 @@ returns-clause-exact c =
     let pacer : halted.pacer ≡ record halted.play.pacer { keep = keep } =
     halted.pacer_is ∙ ap (λ (n : ℕ). record halted.play.pacer { keep = n }) (sym halted.keep_is) in
     rw (halted.new_is, c.set.ensures)
-    (subst (λ (old : Standing). TearsDown old.state old c.args.sequence (AskHalt keep)
+    (subst (λ (old : SessionState). TearsDown old.state old c.args.sequence (AskHalt keep)
     (new halted.pacer c.put_session.new.reply))
     c.self.view_is
-    (subst (λ (s : State). TearsDown s (standing_of inside) c.args.sequence (AskHalt keep)
+    (subst (λ (s : State). TearsDown s (session_state_of inside) c.args.sequence (AskHalt keep)
     (new halted.pacer c.put_session.new.reply))
     (sym halted.old_is)
     (record {
       keep = keep;
       keep_is = halted.keep_is;
       command = refl;
-      state = ap (λ (p : Pacing). new p c.put_session.new.reply) pacer
+      state = ap (λ (p : PacerState). new p c.put_session.new.reply) pacer
           ∙ ap (λ (text : List ℕ). new (record halted.play.pacer { keep = keep }) text) c.put_session.ensures;
     })))

@@ -1,14 +1,14 @@
 use Rattle.std.proofs.Common.{◌≡◌, ◌+◌, arith, ap, subst, ◌∙◌}
 use Rattle.slot_calendar.specs.Plays.{asked_at}
 use Rattle.slot_calendar.specs.Totals.{total_at}
-use Rattle.slot_calendar.specs.Calendars.{Bookings, booked_at, IsCalendar}
-use Rattle.slot_calendar.proofs.Rooms.{room-small}
-use Rattle.slot_calendar.proofs.Shares.{stands-push}
+use Rattle.slot_calendar.specs.Calendars.{CalendarState, booked_at, IsCalendar}
+use Rattle.slot_calendar.proofs.SegmentRoom.{room-small}
+use Rattle.slot_calendar.proofs.PlayShares.{stands-push}
 use Rattle.slot_calendar.proofs.calendar.Calendar.book.Goals as goal
 
 pub book_segments-requires-clause-fits : goal.book_segments-requires-clause-fits
 book_segments-requires-clause-fits c = λ t from. (
-    let old : Bookings = c.args.self.now in
+    let old : CalendarState = c.args.self.now in
     let is : IsCalendar old = subst IsCalendar c.self.view_is c.self.invariant.calendar_is in
     let first : c.self.inside.ring.first ≡ old.first = ap (λ e. e.first) c.self.view_is in
     let small = room-small t is c.requires.room (omega (arith, from, first)) in
@@ -21,8 +21,8 @@ book_segments-requires-clause-fits c = λ t from. (
 
 pub returns-clause-stands : goal.returns-clause-stands
 returns-clause-stands c = λ plays stands. (
-    let old : Bookings = c.args.self.now in
-    let new : Bookings =
+    let old : CalendarState = c.args.self.now in
+    let new : CalendarState =
     record {
       first = c.book_segments.new.ring.first;
       steps = c.self.inside.profile;

@@ -1,23 +1,23 @@
 use Rattle.std.proofs.Common.{◌≡◌, ◌+◌, List, [], ◌∷◌, get_or, take, arith, ap, subst}
 use Rattle.std.proofs.lemmas.List.{take_all}
 use Rattle.plan_cert.specs.declared.Segment.{Segment}
-use Rattle.plan_cert.specs.Slots.{total_slots}
+use Rattle.plan_cert.specs.PlanSlots.{total_slots}
 use Rattle.slot_calendar.specs.Profiles.{capacity_at}
-use Rattle.slot_calendar.specs.Calendars.{Bookings, booked_at, IsCalendar, FitsIn, HasRoom, IsOverflowIn}
+use Rattle.slot_calendar.specs.Calendars.{CalendarState, booked_at, IsCalendar, FitsIn, HasRoom, IsOverflowIn}
 use Rattle.slot_calendar.specs.Calendars.{IsFirstOverflow}
-use Rattle.slot_calendar.proofs.Sending.{from-next, no_segment, segment-at}
-use Rattle.slot_calendar.proofs.Rooms.{fits-next, first-overflow, room-all}
+use Rattle.slot_calendar.proofs.PlanSlots.{from-next, no_segment, segment-at}
+use Rattle.slot_calendar.proofs.SegmentRoom.{fits-next, first-overflow, room-all}
 use Rattle.slot_calendar.proofs.calendar.Calendar.first_overflow.Goals as goal
 
 pub returns-in-Some : goal.returns-in-Some
 returns-in-Some c =
     let i = c.loop-segment in
-    let old : Bookings = c.args.self.now in
+    let old : CalendarState = c.args.self.now in
     let segments = c.segments-segments.result.now in
     let s : Segment = get_or segments i.segment-index no_segment in
     let over = c.in-Some.over in
     let at = segment-at segments i.segment-index (omega arith) i.invariant.from_is in
-    let Q : Bookings → Type 0 =
+    let Q : CalendarState → Type 0 =
     λ e. IsOverflowIn i.from (i.from + s.slots) (booked_at e) (capacity_at e.steps) i.from (s ∷ []) over in
     let P : List Segment → Type 0 =
     λ l. IsFirstOverflow old.first (booked_at old) (capacity_at old.steps) c.args.start l over in
@@ -28,11 +28,11 @@ returns-in-Some c =
 pub loop-segment-preserved : goal.loop-segment-preserved
 loop-segment-preserved c =
     let i = c.loop-segment in
-    let old : Bookings = c.args.self.now in
+    let old : CalendarState = c.args.self.now in
     let segments = c.segments-segments.result.now in
     let s : Segment = get_or segments i.segment-index no_segment in
     let at = segment-at segments i.segment-index (omega arith) i.invariant.from_is in
-    let Q : Bookings → Type 0 =
+    let Q : CalendarState → Type 0 =
     λ e. FitsIn i.from (i.from + s.slots) (booked_at e) (capacity_at e.steps) i.from (s ∷ []) in
     record {
       from_is = from-next at;
@@ -43,7 +43,7 @@ loop-segment-preserved c =
 pub returns : goal.returns
 returns c =
     let i = c.loop-segment in
-    let old : Bookings = c.args.self.now in
+    let old : CalendarState = c.args.self.now in
     let segments = c.segments-segments.result.now in
     let is : IsCalendar old = subst IsCalendar c.self.view_is c.self.invariant.calendar_is in
     let all : total_slots (take i.segment-index segments) ≡ total_slots segments =

@@ -1,5 +1,5 @@
 use Rattle.std.proofs.Common.{◌≡◌, ◌+◌, take}
-use Rattle.plan_cert.specs.Slots.{total_slots}
+use Rattle.plan_cert.specs.PlanSlots.{total_slots}
 use Rattle.slot_calendar.specs.Profiles.{capacity_at}
 use Rattle.slot_calendar.specs.Calendars.{FitsIn, booked_at}
 use Rattle.slot_calendar.proofs.calendar.Calendar.first_overflow.Given as goal

@@ -4,10 +4,10 @@ use Rattle.std.proofs.Common.{set, arith, sym, ap, subst, ◌∙◌, inl, inr}
 use Rattle.std.proofs.lemmas.Bool.{cases_lt}
 use Rattle.std.proofs.lemmas.List.{get_or_read, take_at}
 use Rattle.std.proofs.lemmas.Nat.{mod_below}
-use Rattle.slot_calendar.specs.Rings.{IsTopped, rotation}
+use Rattle.slot_calendar.specs.Rings.{AreBlockMaxima, rotation}
 use Rattle.slot_calendar.specs.Totals.{ring_slots, total_at}
-use Rattle.slot_calendar.proofs.Turns.{HasPlaces, IsInTurn, total-in, total-past, set-here, set-there}
-use Rattle.slot_calendar.proofs.Blocks.{topped-lower}
+use Rattle.slot_calendar.proofs.RingRotation.{HasPlaces, IsInTurn, total-in, total-past, set-here, set-there}
+use Rattle.slot_calendar.proofs.BlockMaxima.{topped-lower}
 use Rattle.slot_calendar.proofs.ring.Ring.lower.Goals as goal
 
 -- the slot is one of the ring, since something is booked in it
@@ -27,17 +27,34 @@ invariant_of-self c =
     let p = c.args.slot % ring_slots in
     let inside : p < ring_slots = mod_below c.args.slot ring_slots (omega arith) in
     let value : c.index_mut.result.now ≡ get_or d.places.items p 0 =
-    get_or_read d.places.items p c.index_mut.result.now (omega (arith, inside, c.self.invariant.places_are))
+    get_or_read d.places.items p c.index_mut.result.now (omega (arith, inside, c.self.invariant.maxima.places_are))
     c.index_mut.ensures.value 0 in
-    let P : List ℕ → Type 0 = λ xs. IsTopped xs c.settle_other.new.tops (Some (p / 1024)) in
+    let P : List ℕ → Type 0 = λ xs. AreBlockMaxima xs c.settle_other.new.tops (Some (p / 1024)) in
     let settled = subst P c.as_slice.ensures.value c.settle_other.ensures in
     let less = c.index_mut.result.now - c.args.by in
     let tops = c.settle_other.new.tops in
     let whole : take d.tops.len (tops ++ drop (length tops) d.tops.items) ≡ tops =
     take_at tops (drop (length tops) d.tops.items) d.tops.len
-    (omega (arith, settled.tops_are, c.self.invariant.tops_are)) in
-    let T : List ℕ → Type 0 = λ ts. IsTopped (set d.places.items p less) ts (Some (p / 1024)) in
-    subst T (sym whole) (topped-lower p less settled inside (omega (arith, value)))
+    (omega (arith, settled.tops_are, c.self.invariant.maxima.tops_are)) in
+    let T : List ℕ → Type 0 = λ ts. AreBlockMaxima (set d.places.items p less) ts (Some (p / 1024)) in
+    let first : d.first ≡ c.args.self.now.first = ap (λ s. s.first) c.self.view_is in
+    let old = ap (λ s. total_at s.first s.totals c.args.slot) c.self.view_is in
+    let places : HasPlaces ring_slots d.places.items =
+    record { some = omega arith; length_is = c.self.invariant.maxima.places_are } in
+    let from : d.first ≤ c.args.slot = omega (arith, first, c.requires.from_now) in
+    let turn = in_ring d.first c.args.slot places from (omega (arith, old, c.requires.some, c.requires.booked)) in
+    let held : c.args.slot < d.last + 1 = elim (cases_lt c.args.slot (d.last + 1)) [
+      | inl early ↦ early
+      | inr late ↦ (
+          let none = c.self.invariant.empty c.args.slot from late in
+          absurd (omega (arith, none, old, c.requires.some, c.requires.booked))
+          )
+    ] in
+    record {
+      maxima = subst T (sym whole) (topped-lower p less settled inside (omega (arith, value)));
+      empty = λ u since late. set-there less places turn since (λ e. omega (arith, e, late, held))
+          ∙ c.self.invariant.empty u since late;
+    }
 
 pub returns-clause-at : goal.returns-clause-at
 returns-clause-at c =
@@ -46,12 +63,12 @@ returns-clause-at c =
     let first : d.first ≡ c.args.self.now.first = ap (λ s. s.first) c.self.view_is in
     let old = ap (λ s. total_at s.first s.totals c.args.slot) c.self.view_is in
     let places : HasPlaces ring_slots d.places.items =
-    record { some = omega arith; length_is = c.self.invariant.places_are } in
+    record { some = omega arith; length_is = c.self.invariant.maxima.places_are } in
     let from : d.first ≤ c.args.slot = omega (arith, first, c.requires.from_now) in
     let turn = in_ring d.first c.args.slot places from (omega (arith, old, c.requires.some, c.requires.booked)) in
     let inside : p < ring_slots = mod_below c.args.slot ring_slots (omega arith) in
     let value : c.index_mut.result.now ≡ get_or d.places.items p 0 =
-    get_or_read d.places.items p c.index_mut.result.now (omega (arith, inside, c.self.invariant.places_are))
+    get_or_read d.places.items p c.index_mut.result.now (omega (arith, inside, c.self.invariant.maxima.places_are))
     c.index_mut.ensures.value 0 in
     let now = set-here (c.index_mut.result.now - c.args.by) places turn in
     let was = total-in places turn in
@@ -63,7 +80,7 @@ returns-clause-others c = λ t since other. (
     let first : d.first ≡ c.args.self.now.first = ap (λ s. s.first) c.self.view_is in
     let old = ap (λ s. total_at s.first s.totals c.args.slot) c.self.view_is in
     let places : HasPlaces ring_slots d.places.items =
-    record { some = omega arith; length_is = c.self.invariant.places_are } in
+    record { some = omega arith; length_is = c.self.invariant.maxima.places_are } in
     let turn = in_ring d.first c.args.slot places (omega (arith, first, c.requires.from_now))
     (omega (arith, old, c.requires.some, c.requires.booked)) in
     set-there (c.index_mut.result.now - c.args.by) places turn (omega (arith, first, since)) other

@@ -1,7 +1,7 @@
 use Rattle.std.proofs.Common.{refl, min, ◌^◌}
 use Rattle.admission.specs.declared.entries.Command.TheVariants.{Look}
 use Rattle.admission.specs.Makers.{AreHaltsOwn}
-use Rattle.station.proofs.Entered.{HaltlessCall, halts_told}
+use Rattle.station.proofs.EntryLemmas.{HaltlessCall, halts_told}
 use Rattle.station.proofs.ledger.Ledger.look.Goals as goal
 use Rattle.station.proofs.ledger.Ledger.look.Goals.{After-look}
 

@@ -1,6 +1,6 @@
 use Rattle.std.proofs.Common.{refl, min, ◌^◌}
 use Rattle.admission.specs.declared.entries.Command.TheVariants.{Play}
-use Rattle.station.proofs.Entered.{HaltlessCall, halts_told}
+use Rattle.station.proofs.EntryLemmas.{HaltlessCall, halts_told}
 use Rattle.station.proofs.ledger.Ledger.note_play.Goals as goal
 
 pub invariant_of-self : goal.invariant_of-self

@@ -2,12 +2,12 @@ use Rattle.std.proofs.Common.{arith, ◌≡◌, ◌≤◌, ◌+◌, ℕ, List, l
 use Rattle.std.proofs.lemmas.List.{take_all}
 use Rattle.slot_calendar.specs.Plays.{booked_by}
 use Rattle.slot_calendar.specs.Profiles.{capacity_at}
-use Rattle.slot_calendar.specs.declared.profiles.CapacityStep.{CapacityStep}
+use Rattle.slot_calendar.specs.declared.profiles.CapStep.{CapStep}
 use Rattle.admission.specs.declared.entries.Entry.{Entry}
 use Rattle.admission.specs.Books.{Journal}
 use Rattle.admission.specs.Histories.{booked_after, state_after}
 use Rattle.admission.specs.Machine.{plays_of}
-use Rattle.early_start.specs.Offered.{IsOffer}
+use Rattle.early_start.specs.StartSearch.{IsOffer}
 use Rattle.station.specs.declared.answers.Offered.{Offered}
 use Rattle.station.specs.Ledgers.{IsOffered}
 use Rattle.station.proofs.ledger.Ledger.offer.Goals as goal
@@ -25,11 +25,11 @@ returns-clause-offered c =
     (take_all (length book.entries) book.entries (omega arith))
     (c.law_never_overbooked.ensures book.steps book.entries (length book.entries) t c.entries-entries.ensures.legal) in
     let within : (t : ℕ) → booked_by plays t ≤ capacity_at cal.steps t = λ t.
-    subst (λ (s : List CapacityStep). booked_by plays t ≤ capacity_at s t)
+    subst (λ (s : List CapStep). booked_by plays t ≤ capacity_at s t)
     (sym c.calendar-calendar.ensures.steps) (whole t) in
     let later = c.max-first.ensures in let first = c.now.ensures.value in
     let offer : IsOffer 0 (booked_by plays) (capacity_at cal.steps) c.args.plan.now told.first c.find.new.self =
-    c.law_offer_of_plays.ensures cal plays c.args.plan.now told.first c.find.new.self
+    c.law_offer_covers_past_slots.ensures cal plays c.args.plan.now told.first c.find.new.self
     c.calendar-calendar.ensures.stands within (omega arith) c.find.ensures.offer in
     subst (λ (j : Journal). IsOffered j.steps j.entries c.args.heard c.args.plan.now told c.find.new.self)
     c.self.view_is record {
@@ -38,6 +38,6 @@ returns-clause-offered c =
           (c.max-first.ensures
           ∙ (ap (λ (m : ℕ). max m c.min.result) now
           ∙ ap (λ (m : ℕ). max (state_after book.entries).now m) c.min.ensures));
-      offer = subst (λ (s : List CapacityStep). IsOffer 0 (booked_by plays) (capacity_at s) c.args.plan.now
+      offer = subst (λ (s : List CapStep). IsOffer 0 (booked_by plays) (capacity_at s) c.args.plan.now
           told.first c.find.new.self) c.calendar-calendar.ensures.steps offer;
     }

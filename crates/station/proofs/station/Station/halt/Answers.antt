@@ -1,5 +1,5 @@
 use Rattle.std.proofs.Common.{◌∙◌}
-use Rattle.station.proofs.Backs.{IsVisit, entered_longer, visit, visit_made, visit_same}
+use Rattle.station.proofs.SeatTurns.{IsVisit, entered_longer, visit, visit_made, visit_same}
 use Rattle.station.proofs.station.Station.halt.Goals as goal
 use Rattle.station.proofs.station.Station.halt.Goals.{After-leave}
 

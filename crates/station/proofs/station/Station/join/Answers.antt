@@ -1,7 +1,7 @@
 use Rattle.std.proofs.Common.{ap, ◌∙◌}
 use Rattle.turnstile.specs.Passes.{PassState}
 use Rattle.turnstile.specs.declared.view.Terms.{Terms}
-use Rattle.station.proofs.Joins.{seat_joins}
+use Rattle.station.proofs.SeatJoins.{seat_joins}
 use Rattle.station.proofs.station.Station.join.Goals as goal
 
 pub invariant_of-seat : goal.invariant_of-seat

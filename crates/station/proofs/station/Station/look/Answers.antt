@@ -1,9 +1,9 @@
 use Rattle.std.proofs.Common.{◌∙◌}
 use Rattle.std.proofs.lemmas.Result.{IfErr-weaker, IfOk-weaker}
 use Rattle.admission.specs.declared.entries.Answer.TheVariants.{Looked}
-use Rattle.station.specs.Answers.{IsFull, HasMade}
+use Rattle.station.specs.Answers.{IsFull, HasMadeEntry}
 use Rattle.station.specs.Ledgers.{IsEntered, IsFullFor, look_at}
-use Rattle.station.proofs.Backs.{IsVisit, BookCall, look_longer, visit, visit_full, visit_made, visit_same}
+use Rattle.station.proofs.SeatTurns.{IsVisit, BookCall, look_longer, visit, visit_full, visit_made, visit_same}
 use Rattle.station.specs.Inside.{seat_of}
 use Rattle.station.proofs.station.Station.look.Goals as goal
 use Rattle.station.proofs.station.Station.look.Goals.{After-leave}
@@ -34,7 +34,7 @@ returns-clause-made g c =
     IfOk-weaker c.look-told.result
     (λ l. IsEntered c.value.result.now c.look-told.new.self c.number-maker.result 1 (look_at c.args.slot)
     l.place (Looked l.now l.at l.booked))
-    (λ l. HasMade c.args.seat.now (seat_of c.leave.new.pass) 1 (look_at c.args.slot) l.place
+    (λ l. HasMadeEntry c.args.seat.now (seat_of c.leave.new.pass) 1 (look_at c.args.slot) l.place
     (Looked l.now l.at l.booked))
     (λ l e. visit_made is e)
     c.look-told.ensures.made
@@ -42,7 +42,7 @@ returns-clause-made g c =
 pub returns-clause-full : goal.returns-clause-full
 returns-clause-full g c =
     let is = visited g (goal.at.returns-clause-full g c).After-leave in
-    IfErr-weaker c.look-told.result (λ f. IsFullFor c.value.result.now c.look-told.new.self 1 f.entries f.open_plays)
-    (λ f. IsFull c.args.seat.now (seat_of c.leave.new.pass) 1 f.entries f.open_plays)
+    IfErr-weaker c.look-told.result (λ f. IsFullFor c.value.result.now c.look-told.new.self 1 f.entries f.live)
+    (λ f. IsFull c.args.seat.now (seat_of c.leave.new.pass) 1 f.entries f.live)
     (λ f e. visit_full is e)
     c.look-told.ensures.full

@@ -1,12 +1,12 @@
 use Rattle.std.proofs.Common.{◌≤◌, ℕ, ◌∙◌}
 use Rattle.std.proofs.lemmas.Result.{IfErr-weaker, IfOk-weaker}
-use Rattle.plan_cert.specs.Slots.{total_bytes}
+use Rattle.plan_cert.specs.PlanSlots.{total_bytes}
 use Rattle.admission.specs.Makers.{IsOpenAmong}
 use Rattle.admission.specs.declared.entries.Answer.TheVariants.{Admitted}
-use Rattle.station.specs.Answers.{IsSeatRefused, HasMade}
+use Rattle.station.specs.Answers.{IsSeatRefused, HasMadeEntry}
 use Rattle.station.specs.Ledgers.{IsEntered, IsPlayRefused, play_of}
-use Rattle.station.proofs.Backs.{IsVisit, BookCall, play_longer, visit, visit_made, visit_open, visit_refused}
-use Rattle.station.proofs.Backs.{visit_same}
+use Rattle.station.proofs.SeatTurns.{IsVisit, BookCall, play_longer, visit, visit_made, visit_open, visit_refused}
+use Rattle.station.proofs.SeatTurns.{visit_same}
 use Rattle.station.specs.Inside.{seat_of}
 use Rattle.station.proofs.station.Station.play.Goals as goal
 use Rattle.station.proofs.station.Station.play.Goals.{After-leave}
@@ -37,7 +37,7 @@ returns-clause-made g c =
     IfOk-weaker c.play-told.result
     (λ b. IsEntered c.value.result.now c.play-told.new.self c.number-maker.result 2
     (play_of c.args.heard c.args.plan) b.number (Admitted b.start))
-    (λ b. HasMade c.args.seat.now (seat_of c.leave.new.pass) 2 (play_of c.args.heard c.args.plan) b.number
+    (λ b. HasMadeEntry c.args.seat.now (seat_of c.leave.new.pass) 2 (play_of c.args.heard c.args.plan) b.number
     (Admitted b.start))
     (λ b e. visit_made is e)
     c.play-told.ensures.made

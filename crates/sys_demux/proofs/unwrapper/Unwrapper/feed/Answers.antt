@@ -1,11 +1,11 @@
 use Rattle.std.proofs.Common.{◌≡◌, ◌≤◌, ◌-◌, ◌++◌, ◌∷◌, ◌==◌, [], ℕ, List, cond, drop, take, length}
 use Rattle.std.proofs.Common.{get_or, sym, subst, ◌∙◌, arith, append_assoc}
 use Rattle.std.proofs.lemmas.List.{append-nil, length-append, length-take-le}
-use Rattle.sys_demux.specs.Streams.{IsRefused}
-use Rattle.sys_demux.specs.States.{IsReached, LeadsTo, begins_at}
-use Rattle.sys_demux.specs.declared.places.Place.TheVariants.{Zeros, Pass}
-use Rattle.sys_demux.proofs.Parts.{rest_leads, video_leads}
-use Rattle.sys_demux.proofs.Reached.{step, moved, failed_refused, failed_at, first_taken}
+use Rattle.sys_demux.specs.SystemStreams.{IsBadStream}
+use Rattle.sys_demux.specs.ParserStates.{IsReached, LeadsTo, begins_at}
+use Rattle.sys_demux.specs.declared.parser_states.ParserState.TheVariants.{Zeros, Pass}
+use Rattle.sys_demux.proofs.ItemPartLemmas.{rest_leads, video_leads}
+use Rattle.sys_demux.proofs.FedBytesLemmas.{step, moved, failed_refused, failed_at, first_taken}
 use Rattle.sys_demux.proofs.unwrapper.Unwrapper.feed.Goals as goal
 
 pub returns-in-Failed-clause-fault : goal.returns-in-Failed-clause-fault
@@ -14,7 +14,7 @@ returns-in-Failed-clause-fault c = λ seen video was more.
     let refused =
     failed_refused (c.args.chunk.now ++ more)
     (subst (λ s. IsReached s u.item u.chosen seen video) c.in-Failed.is was.reached) in
-    subst (λ (l : List ℕ). IsRefused l c.in-Failed.fault) (sym (append_assoc seen c.args.chunk.now more)) refused
+    subst (λ (l : List ℕ). IsBadStream l c.in-Failed.fault) (sym (append_assoc seen c.args.chunk.now more)) refused
 
 pub returns-in-Failed-place-clause-fault : goal.returns-in-Failed-place-clause-fault
 returns-in-Failed-place-clause-fault c = λ seen video was more.
@@ -24,7 +24,7 @@ returns-in-Failed-place-clause-fault c = λ seen video was more.
     let refused = failed_refused (drop 1 chunk ++ more)
     (subst (λ s. IsReached s n.item n.chosen (seen ++ get_or chunk 0 0 ∷ []) video) c.in-Failed-place.is
     next.reached) in
-    subst (λ (l : List ℕ). IsRefused l c.in-Failed-place.fault) (first_taken seen chunk more c.requires.some) refused
+    subst (λ (l : List ℕ). IsBadStream l c.in-Failed-place.fault) (first_taken seen chunk more c.requires.some) refused
 
 pub returns-in-Failed-place-clause-again : goal.returns-in-Failed-place-clause-again
 returns-in-Failed-place-clause-again c =

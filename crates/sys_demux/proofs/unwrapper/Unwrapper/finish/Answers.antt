@@ -1,5 +1,5 @@
 use Rattle.std.proofs.Common.{sym, ◌∙◌}
-use Rattle.sys_demux.proofs.Reached.{ended_refused, ended_system, end_shown}
+use Rattle.sys_demux.proofs.FedBytesLemmas.{ended_refused, ended_system, end_shown}
 use Rattle.sys_demux.proofs.unwrapper.Unwrapper.finish.Goals as goal
 
 pub returns-in-None-clause-end : goal.returns-in-None-clause-end

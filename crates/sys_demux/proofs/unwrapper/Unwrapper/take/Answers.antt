@@ -1,10 +1,10 @@
 use Rattle.std.proofs.Common.{◌≡◌, ◌+◌, ◌-◌, ◌++◌, ◌∷◌, [], true, sym, subst, ◌∙◌, arith, inl}
 use Rattle.std.proofs.lemmas.List.{length-append}
-use Rattle.sys_demux.specs.Sound.{is_sound}
-use Rattle.sys_demux.specs.States.{IsReached, IsAtHeader}
-use Rattle.sys_demux.specs.declared.places.Place.TheVariants.{InHeader}
-use Rattle.sys_demux.proofs.Parts.{high_more}
-use Rattle.sys_demux.proofs.Reached.{step_byte, moved, sound_header}
+use Rattle.sys_demux.specs.ValidStates.{is_sound}
+use Rattle.sys_demux.specs.ParserStates.{IsReached, IsAtHeader}
+use Rattle.sys_demux.specs.declared.parser_states.ParserState.TheVariants.{InHeader}
+use Rattle.sys_demux.proofs.ItemPartLemmas.{high_more}
+use Rattle.sys_demux.proofs.FedBytesLemmas.{step_byte, moved, sound_header}
 use Rattle.sys_demux.proofs.unwrapper.Unwrapper.take.Goals as goal
 use Rattle.sys_demux.proofs.unwrapper.Unwrapper.take.Goals.{in-Zeros, in-Value, in-Mark, in-High}
 use Rattle.sys_demux.proofs.unwrapper.Unwrapper.take.Goals.{in-Low, in-InHeader}

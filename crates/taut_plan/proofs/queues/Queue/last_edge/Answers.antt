@@ -1,6 +1,6 @@
 use Rattle.std.proofs.Common.{rules, arith, sym, subst}
 use Rattle.taut_plan.specs.Chain.{IsLastEdge}
-use Rattle.taut_plan.proofs.QueueLaws.{edge_of_two, edge_of_last}
+use Rattle.taut_plan.proofs.QueueLemmas.{edge_of_two, edge_of_last}
 use Rattle.taut_plan.proofs.queues.Queue.last_edge.Goals as goal
 use Rattle.taut_plan.proofs.queues.Queue.last_edge.Goals.{then-count-self-ge2, else-count-self-ge2}
 

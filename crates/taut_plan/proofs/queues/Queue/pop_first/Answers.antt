@@ -1,6 +1,6 @@
 use Rattle.std.proofs.lemmas.Grind.{common_steps}
 use Rattle.std.proofs.Common.{drop, length, ap, ◌<◌, ◌∙◌, sym, subst, arith}
-use Rattle.taut_plan.proofs.QueueLaws.{without_first}
+use Rattle.taut_plan.proofs.QueueLemmas.{without_first}
 use Rattle.taut_plan.proofs.queues.Queue.pop_first.Goals as goal
 
 pub returns-else-self-len : goal.returns-else-self-len

@@ -1,5 +1,5 @@
 use Rattle.std.proofs.Common.{arith, ap, sym, ◌∙◌}
-use Rattle.turnstile.proofs.Parts.{joins}
+use Rattle.turnstile.proofs.SplitsAndJoins.{joins}
 use Rattle.turnstile.proofs.turnstile.Turnstile.join.Goals as goal
 
 pub join_seat-requires : goal.join_seat-requires
@@ -10,7 +10,7 @@ join_seat-requires g c =
       sym (ap (λ p. p.id) c.take_seat-theirs.ensures.old) ∙ (c.requires.other ∙ sym (ap (λ x. x.id) c.self.view_is)),
       theirs.empty,
       omega arith,
-      joins g.B.KeptValue.entries g.B.KeptValue.terms (g.B.KeptValue.terms c.self.inside.table.shared.key.value)
+      joins g.B.Kept.entries g.B.Kept.terms (g.B.Kept.terms c.self.inside.table.shared.key.value)
           c.take_seat-place.result.id c.take_seat-place.result.me.0
           c.take_seat-theirs.result.id c.take_seat-theirs.result.me.0 record { left = free.left; idle = free.idle }
           record { left = theirs.left; idle = theirs.idle },

@@ -1,5 +1,5 @@
 use Rattle.std.proofs.Common.{arith, ap, sym, ◌∙◌}
-use Rattle.turnstile.proofs.Parts.{splits}
+use Rattle.turnstile.proofs.SplitsAndJoins.{splits}
 use Rattle.turnstile.proofs.turnstile.Turnstile.split.Goals as goal
 
 pub split_seat-other-requires : goal.split_seat-other-requires
@@ -9,7 +9,7 @@ split_seat-other-requires g c =
     let words = c.self.invariant.words in let count = view.splits_is in let few = c.requires.few in (
       sym (ap (λ p. p.id) old) ∙ (c.requires.own ∙ sym (ap (λ x. x.id) c.self.view_is)),
       omega arith,
-      splits g.B.KeptValue.entries g.B.KeptValue.terms (g.B.KeptValue.terms c.self.inside.table.shared.key.value)
+      splits g.B.Kept.entries g.B.Kept.terms (g.B.Kept.terms c.self.inside.table.shared.key.value)
           c.take_seat-place.result.id c.take_seat-place.result.me.0
           record { left = free.left; idle = free.idle } (view.number_is ∙ c.requires.first) (omega arith),
     )

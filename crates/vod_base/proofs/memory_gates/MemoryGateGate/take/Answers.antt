@@ -1,5 +1,5 @@
 use Rattle.std.proofs.Common.{rules, ◌<◌, length}
-use Rattle.vod_base.proofs.Giving.{rest_waits, first_waits}
+use Rattle.vod_base.proofs.PartLinkLemmas.{rest_waits, first_waits}
 use Rattle.vod_base.proofs.memory_gates.MemoryGateGate.take.Goals as goal
 
 pub returns-clause-gave : goal.returns-clause-gave

@@ -1,5 +1,0 @@
-use Rattle.admission.proofs.Makers.{can-own}
-use Rattle.admission.proofs.laws.law_own_play.Goals as goal
-
-pub returns : goal.returns
-returns c = λ steps xs maker number keep legal own open_. can-own maker number keep legal own open_

@@ -1,0 +1,94 @@
+//! What each command does to the calendar.
+
+ghost use Rattle.std.specs.Prelude.{◌≡◌, ◌+◌, ◌^◌, ◌<◌, ◌≤◌, ◌++◌, [], ◌∷◌, ℕ, length, vec_len};
+ghost use Rattle.std.specs.Prelude.{vec_capacity, if◌then◌else◌};
+ghost use Rattle.admission.specs.Machine.{State, CanHalt, IsAnswer, IsNeverOverbooked, next_state};
+ghost use Rattle.admission.specs.Histories.{IsLegal, is_admission, state_after};
+ghost use Rattle.admission.specs.BookInvariant.{MatchesState};
+
+use crate::entries::{Answer, Command, Entry, Noted};
+use plan_cert::Plan;
+use slot_calendar::Calendar;
+use slot_calendar::laws::law_booked_plan_can_be_released;
+
+/// Moves now up to a slot, and books a plan from the slot after now on, if it fits everywhere.
+pub(crate) fn admit(calendar: &mut Calendar, slot: u64, plan: &Plan) -> Answer
+    requires { slot ≤ 2 ^ 62 }
+    ensures steps { calendar.new.steps ≡ calendar.old.steps }
+    ensures answer { (state : State) → MatchesState calendar.old state →
+        IsNeverOverbooked calendar.old.steps state →
+        IsAnswer calendar.old.steps state (Command.Play slot plan.now) result }
+    ensures next { (state : State) (place : ℕ) → MatchesState calendar.old state →
+        MatchesState calendar.new (next_state state place (Command.Play slot plan.now) result) }
+{
+    let now = calendar.now().max(slot);
+    calendar.advance(now);
+    let start = now + 1;
+    // its segments tell that a plan has at most 1,000,000 slots, so it ends within the calendar's
+    // ring
+    let _plan = plan.segments();
+    match calendar.first_overflow(start, plan) {
+        Some(over) => Answer::Overflow {
+            slot: over.slot,
+            booked: over.booked,
+            asked: over.asked,
+        },
+        None => {
+            calendar.book(start, plan);
+            Answer::Admitted { start }
+        }
+    }
+}
+
+/// How many plays an answer opens: 1 where it admits one.
+pub(crate) fn opened_count(answer: Answer) -> u64
+    ensures { result ≡ (if is_admission answer then 1 else 0) }
+{
+    match answer {
+        Answer::Admitted { .. } => 1,
+        _ => 0,
+    }
+}
+
+/// Gives back what an open play has after its first `keep` bytes in the slots from now on. Its plan
+/// stands in the entry that admitted it.
+pub(crate) fn release_play(calendar: &mut Calendar, entries: &[Entry], number: u64, keep: u64)
+    requires few { length entries.now ≤ 1048576 }
+    requires legal { IsLegal calendar.old.steps entries.now }
+    requires follows { MatchesState calendar.old (state_after entries.now) }
+    requires can { CanHalt (state_after entries.now) number keep }
+    ensures steps { calendar.new.steps ≡ calendar.old.steps }
+    ensures next { (place : ℕ) →
+        MatchesState calendar.new
+        (next_state (state_after entries.now) place (Command.Halt number keep) Answer.Halted) }
+{
+    let admitted = &entries[number as usize];
+    let Command::Play { plan, .. } = &admitted.command else {
+        unreachable!()
+    };
+    let Answer::Admitted { start } = admitted.answer else {
+        unreachable!()
+    };
+    // its segments make a plan, and it stands booked whole, so it may be cut
+    let _plan = plan.segments();
+    law_booked_plan_can_be_released();
+    calendar.release(start, plan, keep);
+}
+
+/// Appends an entry, for which room is reserved.
+pub(crate) fn note(entries: &mut Vec<Entry>, maker: u32, command: Command, answer: Answer) -> Noted
+    requires { vec_len entries.old < vec_capacity entries.old }
+    ensures place { result.place ≡ length entries.old.items }
+    ensures answer { result.answer ≡ answer }
+    ensures items { entries.new.items
+        ≡ entries.old.items ++ record { maker = maker; command = command; answer = answer } ∷ [] }
+    ensures room { vec_capacity entries.new ≡ vec_capacity entries.old }
+{
+    let place = entries.len() as u64;
+    entries.push_reserved(Entry {
+        maker,
+        command,
+        answer,
+    });
+    Noted { place, answer }
+}

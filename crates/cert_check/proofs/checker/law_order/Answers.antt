@@ -1,5 +1,0 @@
-use Rattle.std.proofs.Common.{refl}
-use Rattle.cert_check.proofs.checker.law_order.Goals as goal
-
-pub returns : goal.returns
-returns c = λ i. refl

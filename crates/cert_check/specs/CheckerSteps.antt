@@ -1,0 +1,53 @@
+-- What the later steps of the checker rely on: no segment is empty, and the sums are right and
+-- small.
+use Rattle.std.specs.Prelude.{ℕ, ◌≡◌, ◌+◌, ◌-◌, ◌^◌, ◌<◌, ◌≤◌, List, length, take, slice_index}
+use Rattle.std.specs.Prelude.{nat_eq, if◌then◌else◌}
+use Rattle.plan_cert.specs.declared.Segment.{Segment}
+use Rattle.plan_cert.specs.PlanSlots.{total_slots, total_bytes}
+use Rattle.cert_check.specs.declared.walk.Walk.{Walk}
+use Rattle.cert_check.specs.declared.walk.Outside.{Outside}
+use Rattle.cert_check.specs.declared.walk.Outside.TheVariants.{Below, Above, Nowhere}
+use Rattle.cert_check.specs.First.{IsFirst}
+use Rattle.cert_check.specs.CertFaults.{IsBelowLow, IsAboveUp}
+use Rattle.cert_check.specs.ExactLine.{segment_at}
+
+pub record AddsUp (from : ℕ) (low up : List ℕ) (segments : List Segment) : Type 0 where
+  pub some : (i : ℕ) → i < length segments → 1 ≤ (segment_at segments i).slots
+  pub slots : total_slots segments ≡ length low
+  pub bytes : from + total_bytes segments ≡ slice_index up (length up - 1)
+  pub slots_up : total_slots segments ≡ length up
+  pub some_slot : 0 < length low
+  pub few_slots : length low ≤ 1000000
+  pub few_bytes : from + total_bytes segments ≤ 2 ^ 42
+
+-- a walk along the line stands at place t
+pub record IsWalkAt (from : ℕ) (segments : List Segment) (t : ℕ) (walk : Walk) : Type 0 where
+  pub inside : walk.index < length segments
+  pub within : walk.passed ≤ (segment_at segments walk.index).slots
+  pub place : total_slots (take walk.index segments) + walk.passed ≡ t
+  pub height_is : walk.height ≡ from + total_bytes (take walk.index segments)
+
+-- one slot further, in the next segment where this one is passed
+abbrev pub next_walk : List Segment → Walk → Walk
+next_walk segments walk =
+    if nat_eq walk.passed (segment_at segments walk.index).slots
+    then record {
+      index = walk.index + 1;
+      passed = 1;
+      height = walk.height + (segment_at segments walk.index).bytes;
+    }
+    else record { index = walk.index; passed = walk.passed + 1; height = walk.height }
+
+-- where the exact line first leaves the curves: below the lower one goes first
+abbrev pub IsFirstExit : ℕ → List ℕ → List ℕ → List Segment → Outside → Type 0
+IsFirstExit from low up segments (Below t) = IsFirst (IsBelowLow from low segments) t
+IsFirstExit from low up segments (Above t) = ((j : ℕ) → ¬ IsBelowLow from low segments j)
+    × IsFirst (IsAboveUp from up segments) t
+IsFirstExit from low up segments Nowhere = ((j : ℕ) → ¬ IsBelowLow from low segments j)
+    × ((j : ℕ) → ¬ IsAboveUp from up segments j)
+
+-- the checker's first five steps found nothing
+pub record StaysWithin (from : ℕ) (low up : List ℕ) (segments : List Segment) : Type 0 where
+  pub whole : AddsUp from low up segments
+  pub not_below : (j : ℕ) → ¬ IsBelowLow from low segments j
+  pub not_above : (j : ℕ) → ¬ IsAboveUp from up segments j

@@ -1,0 +1,132 @@
+-- The values that words give to a key, from the front on.
+use Rattle.std.proofs.Common.{◌≡◌, ℕ, ◌+◌, ◌<◌, ◌≤◌, List, [], ◌∷◌, ◌++◌, length, take, drop}
+use Rattle.std.proofs.Common.{get_or, sym, ap, ◌∙◌, arith, String, Global, string_bytes}
+use Rattle.std.proofs.Common.{length-append, Option, Some, None, Bool, true, false, ◌&&◌, Bor, refl}
+use Rattle.std.specs.Option.{option_to_list, option_copied, is_some}
+use Rattle.std.proofs.lemmas.List.{take_more, map-append, append-nil, take-append-drop, length-map}
+use Rattle.std.proofs.lemmas.Grind.{flat_map-append}
+use Rattle.std.proofs.lemmas.List.Folds.{list_all-append, list_all_at}
+use Rattle.std.proofs.Math.ListN.{get_or-map}
+use Rattle.std.specs.List.{list_all}
+use Rattle.cli_args.specs.Settings.{texts, setting_value, values_of}
+
+-- what words in front and the words after them give
+pub values_of-append : (key : List ℕ) (front back : List (List ℕ))
+    → values_of key (front ++ back) ≡ values_of key front ++ values_of key back
+values_of-append key front back =
+    flat_map-append (λ (word : List ℕ). option_to_list (setting_value key word)) front back
+
+-- the word at a place
+pub record IsWordAt (words : List (String Global)) (i : ℕ) (word : String Global) : Type 0 where
+  pub inside : i < length words
+  pub is : word ≡ get_or words i word
+
+-- a word more
+values_of_more : (key : List ℕ) (words : List (String Global)) (i : ℕ) (word : String Global) → IsWordAt words i word →
+    values_of key (texts (take (i + 1) words))
+    ≡ values_of key (texts (take i words)) ++ option_to_list (setting_value key (string_bytes word))
+values_of_more key words i word at =
+    ap (λ (ws : List (String Global)). values_of key (texts ws)) (take_more words i word at.inside)
+    ∙ ap (values_of key) (map-append string_bytes (take i words) (get_or words i word ∷ []))
+    ∙ values_of-append key (texts (take i words)) (string_bytes (get_or words i word) ∷ [])
+    ∙ ap (λ (vs : List (List ℕ)). values_of key (texts (take i words)) ++ vs)
+    (append-nil (option_to_list (setting_value key (string_bytes (get_or words i word)))))
+    ∙ ap (λ (w : String Global). values_of key (texts (take i words))
+    ++ option_to_list (setting_value key (string_bytes w))) (sym at.is)
+
+-- words in front give no more values than all words
+pub values_of_front : (key : List ℕ) (words : List (String Global)) (i : ℕ)
+    → length (values_of key (texts (take i words))) ≤ length (values_of key (texts words))
+values_of_front key words i =
+    let whole : values_of key (texts words)
+    ≡ values_of key (texts (take i words)) ++ values_of key (texts (drop i words)) =
+    ap (λ (ws : List (String Global)). values_of key (texts ws)) (sym (take-append-drop i words))
+    ∙ ap (values_of key) (map-append string_bytes (take i words) (drop i words))
+    ∙ values_of-append key (texts (take i words)) (texts (drop i words)) in
+    omega (
+      arith,
+      ap length whole,
+      length-append (values_of key (texts (take i words))) (values_of key (texts (drop i words))),
+    )
+
+none_found : (o : Option (Bor (List ℕ))) → is_some o ≡ false → option_copied o ≡ None
+none_found None h = refl
+none_found (Some v) h = cc
+
+some_found : (o : Option (Bor (List ℕ))) → is_some o ≡ true → length (option_to_list (option_copied o)) ≡ 1
+some_found None h = cc
+some_found (Some v) h = refl
+
+-- what the words in front of a word gave to a key, and what that word gives
+pub record IsSearch (key : List ℕ) (words : List (String Global)) (i : ℕ) (word : String Global)
+    (found answer : Option (Bor (List ℕ))) : Type 0 where
+  pub at : IsWordAt words i word
+  pub before : values_of key (texts (take i words)) ≡ option_to_list (option_copied found)
+  pub says : option_copied answer ≡ setting_value key (string_bytes word)
+
+-- the first word that gives a value
+pub values_of_first : {key : List ℕ} {words : List (String Global)} {i : ℕ} {word : String Global}
+    {found answer found' : Option (Bor (List ℕ))} →
+    IsSearch key words i word found answer → is_some found ≡ false → found' ≡ answer →
+    values_of key (texts (take (i + 1) words)) ≡ option_to_list (option_copied found')
+values_of_first {key} {words} {i} {word} {found} given none is =
+    values_of_more key words i word given.at
+    ∙ ap (λ (vs : List (List ℕ)). vs ++ option_to_list (setting_value key (string_bytes word)))
+    (given.before ∙ ap option_to_list (none_found found none))
+    ∙ ap option_to_list (sym given.says) ∙ ap (λ (o : Option (Bor (List ℕ))). option_to_list (option_copied o)) (sym is)
+
+-- a word that gives no value
+pub values_of_none : {key : List ℕ} {words : List (String Global)} {i : ℕ} {word : String Global}
+    {found answer found' : Option (Bor (List ℕ))} →
+    IsSearch key words i word found answer → answer ≡ None → found' ≡ found →
+    values_of key (texts (take (i + 1) words)) ≡ option_to_list (option_copied found')
+values_of_none {key} {words} {i} {word} given none is =
+    values_of_more key words i word given.at
+    ∙ ap (λ (o : Option (List ℕ)). values_of key (texts (take i words)) ++ option_to_list o)
+    (sym given.says ∙ ap option_copied none)
+    ∙ append-nil (values_of key (texts (take i words)))
+    ∙ given.before ∙ ap (λ (o : Option (Bor (List ℕ))). option_to_list (option_copied o)) (sym is)
+
+-- a second word that gives a value
+pub values_of_again : {key : List ℕ} {words : List (String Global)} {i : ℕ} {word : String Global}
+    {found answer : Option (Bor (List ℕ))} {value : Bor (List ℕ)} →
+    IsSearch key words i word found answer → is_some found ≡ true → answer ≡ Some value
+    → 2 ≤ length (values_of key (texts words))
+values_of_again {key} {words} {i} {word} {found} {answer} given some is =
+    let grown : length (values_of key (texts (take (i + 1) words)))
+    ≡ length (values_of key (texts (take i words)) ++ option_to_list (option_copied answer)) =
+    ap length (values_of_more key words i word given.at)
+    ∙ ap (λ (o : Option (List ℕ)). length (values_of key (texts (take i words)) ++ option_to_list o))
+    (sym given.says) in
+    let last : length (option_to_list (option_copied answer)) ≡ 1 =
+    ap (λ (o : Option (Bor (List ℕ))). length (option_to_list (option_copied o))) is in
+    let first : length (values_of key (texts (take i words))) ≡ 1 = ap length given.before ∙ some_found found some in
+    omega (
+      arith,
+      grown,
+      length-append (values_of key (texts (take i words))) (option_to_list (option_copied answer)),
+      last,
+      first,
+      values_of_front key words (i + 1),
+    )
+
+-- a word more that passes
+pub all_more : {words : List (String Global)} {i : ℕ} {word : String Global} (p : List ℕ → Bool)
+    → IsWordAt words i word →
+    list_all p (texts (take i words)) ≡ true → p (string_bytes word) ≡ true
+    → list_all p (texts (take (i + 1) words)) ≡ true
+all_more {words} {i} {word} p at before passes =
+    ap (λ (ws : List (String Global)). list_all p (texts ws)) (take_more words i word at.inside)
+    ∙ ap (list_all p) (map-append string_bytes (take i words) (get_or words i word ∷ []))
+    ∙ list_all-append p (texts (take i words)) (string_bytes (get_or words i word) ∷ [])
+    ∙ ap (λ (b : Bool). b && (p (string_bytes (get_or words i word)) && true)) before
+    ∙ ap (λ (w : String Global). p (string_bytes w) && true) (sym at.is)
+    ∙ ap (λ (b : Bool). b && true) passes
+
+-- a word that fails
+pub all_fails : {words : List (String Global)} {i : ℕ} {word : String Global} (p : List ℕ → Bool)
+    → IsWordAt words i word →
+    p (string_bytes word) ≡ false → list_all p (texts words) ≡ false
+all_fails {words} {i} {word} p at fails =
+    list_all_at p (texts words) i (string_bytes word) (rw length-map at.inside)
+    (ap p (get_or-map string_bytes words i word ∙ ap string_bytes (sym at.is)) ∙ fails)

@@ -1,0 +1,10 @@
+pub mod Settings
+pub mod Capacities
+pub mod KeyValues
+pub mod Subcommands
+pub mod Invocations
+pub mod InvocationViews
+pub mod Ranges
+pub mod Occurrences
+pub mod ArgumentText
+pub mod ArgumentSyntax

@@ -1,0 +1,55 @@
+//! The steps of a capacity.
+
+ghost use Rattle.std.specs.Prelude.{◌≡◌, ◌<◌, ◌++◌, ◌∷◌, [], length};
+
+use slot_calendar::{CapStep, MAX_STEPS};
+use std::marker::Model;
+
+/// Up to 64 steps of a capacity, each from its slot on, in bytes a slot. They are held without
+/// memory of their own.
+///
+/// Contracts see the list of the steps.
+#[derive(Debug, Drop)]
+pub struct Steps {
+    steps: [CapStep; MAX_STEPS],
+    count: usize,
+}
+
+impl Model for Steps {
+    ghost use Rattle.std.specs.Prelude.{List, take, ◌≤◌};
+    ghost use Rattle.slot_calendar.specs.declared.profiles.CapStep.{CapStep};
+
+    ghost Value = { List CapStep };
+
+    ghost view = { λ s. take s.count s.steps };
+
+    ghost invariant = { λ s. s.count ≤ 64 };
+}
+
+impl Steps {
+    /// No steps.
+    pub(crate) fn new() -> Steps
+        ensures { result ≡ [] }
+    {
+        Steps {
+            steps: [CapStep { from: 0, bytes: 0 }; MAX_STEPS],
+            count: 0,
+        }
+    }
+
+    /// The steps.
+    pub fn as_slice(&self) -> &[CapStep]
+        ensures { result.now ≡ self.now }
+    {
+        &self.steps[..self.count]
+    }
+
+    /// Puts a step after these.
+    pub(crate) fn push(&mut self, step: CapStep)
+        requires { length self.old < 64 }
+        ensures { self.new ≡ self.old ++ step ∷ [] }
+    {
+        self.steps[self.count] = step;
+        self.count += 1;
+    }
+}

@@ -1,0 +1,113 @@
+-- What a part more makes of what was said.
+use Rattle.std.proofs.Common.{◌≡◌, ℕ, ◌+◌, ◌≤◌, Bool, true, false, List, ◌++◌, length, take, Option, refl}
+use Rattle.std.proofs.Common.{sym, ap, ◌∙◌, arith, length-append, subst}
+use Rattle.std.proofs.Common.{Result, Ok, Err}
+use Rattle.std.specs.Prelude.{IsErrAnd, OnErr, OnOk, is_ok}
+use Rattle.std.proofs.lemmas.Bool.{true≢false}
+use Rattle.std.proofs.Math.Seq.{take-append-add}
+use Rattle.std.proofs.lemmas.List.{take-append-le}
+use Rattle.vod_base.specs.IoState.{HasRisen, IsWrittenPrefix, told_more}
+use Rattle.vod_base.proofs.HistoryLemmas.{told_more-append}
+use Rattle.vod_base.specs.declared.errors.SinkFault.{SinkFault}
+use Rattle.cli_errors.specs.StreamWrites.{IsTextWritten}
+
+-- nothing more is said after a fault
+pub said_no_more : {faults faults' : ℕ} {told told' : Option (List ℕ)} {text : List ℕ} (part : List ℕ) →
+    IsTextWritten faults faults' told told' text false →
+    IsTextWritten faults faults' told told' (text ++ part) false
+said_no_more {told} {told'} {text} part said =
+    let front : IsWrittenPrefix told told' text = said.front refl in
+    record {
+      count = said.count;
+      all = λ e. absurd (true≢false (sym e));
+      risen = said.risen;
+      front = λ _. (
+        front.0,
+        (
+          omega (arith, front.1.0, length-append text part),
+          front.1.1 ∙ ap (told_more told) (sym (take-append-le front.0 text part front.1.0)),
+        ),
+      );
+    }
+
+-- a part more was written
+said_more : {faults faults' faults'' : ℕ} {told told' told'' : Option (List ℕ)} {text : List ℕ}
+    (part : List ℕ) → IsTextWritten faults faults' told told' text true →
+    faults' ≤ faults'' → told'' ≡ told_more told' part → IsTextWritten faults faults'' told told'' (text ++ part) true
+said_more {told} {text} part said count wrote = record {
+  count = omega (arith, said.count, count);
+  all = λ _. wrote ∙ ap (λ (t : Option (List ℕ)). told_more t part) (said.all refl) ∙ told_more-append told text part;
+  risen = λ e. absurd (true≢false e);
+  front = λ e. absurd (true≢false e);
+}
+
+-- a part more failed
+said_part : {faults faults' faults'' : ℕ} {told told' told'' : Option (List ℕ)} {text : List ℕ}
+    (part : List ℕ) → IsTextWritten faults faults' told told' text true →
+    faults' ≤ faults'' → HasRisen faults' faults'' → IsWrittenPrefix told' told'' part
+    → IsTextWritten faults faults'' told told'' (text ++ part) false
+said_part {told} {text} part said count risen wrote = record {
+  count = omega (arith, said.count, count);
+  all = λ e. absurd (true≢false (sym e));
+  risen = λ _ end. omega (arith, said.count, risen end);
+  front = λ _. (
+    length text + wrote.0,
+    (
+      omega (arith, wrote.1.0, length-append text part),
+      wrote.1.1 ∙ ap (λ (t : Option (List ℕ)). told_more t (take wrote.0 part)) (said.all refl)
+          ∙ told_more-append told text (take wrote.0 part)
+          ∙ ap (told_more told) (sym (take-append-add text part wrote.0)),
+    ),
+  );
+}
+
+-- a part goes on in a text that is named in another grouping
+pub said_as : {faults faults' : ℕ} {told told' : Option (List ℕ)} {text text' : List ℕ} {ok : Bool} → text ≡ text' →
+    IsTextWritten faults faults' told told' text ok → IsTextWritten faults faults' told told' text' ok
+said_as {faults = faults} {faults' = faults'} {told = told} {told' = told'} {ok = ok} e said =
+    subst (λ (t : List ℕ). IsTextWritten faults faults' told told' t ok) e said
+
+-- a write said its bytes
+pub said_whole : {faults faults' : ℕ} {told told' : Option (List ℕ)} {part : List ℕ} → faults ≤ faults' →
+    told' ≡ told_more told part → IsTextWritten faults faults' told told' part true
+said_whole count whole = record {
+  count = count;
+  all = λ _. whole;
+  risen = λ e. absurd (true≢false e);
+  front = λ e. absurd (true≢false e);
+}
+
+-- or a fault left a front of them
+pub said_cut : {faults faults' : ℕ} {told told' : Option (List ℕ)} {part : List ℕ} → faults ≤ faults' →
+    HasRisen faults faults' → IsWrittenPrefix told told' part → IsTextWritten faults faults' told told' part false
+said_cut count fault front = record {
+  count = count;
+  all = λ e. absurd (true≢false (sym e));
+  risen = λ _. fault;
+  front = λ _. front;
+}
+
+-- what a write said
+pub said_by : {faults faults' : ℕ} {told told' : Option (List ℕ)} {part : List ℕ}
+    (r : Result (Unit {0}) SinkFault) → faults ≤ faults' → OnErr r (HasRisen faults faults') →
+    OnOk r (told' ≡ told_more told part) →
+    OnErr r (IsWrittenPrefix told told' part) → IsTextWritten faults faults' told told' part (is_ok r)
+said_by (Ok done) count fault whole front = said_whole count whole
+said_by (Err lost) count fault whole front = said_cut count fault front
+
+-- a part more was said, or a front of it
+pub said_then : {faults faults' faults'' : ℕ} {told told' told'' : Option (List ℕ)} {text part : List ℕ}
+    {whole : Bool} →
+    IsTextWritten faults faults' told told' text true → IsTextWritten faults' faults'' told' told'' part whole →
+    IsTextWritten faults faults'' told told'' (text ++ part) whole
+said_then {part = part} {whole = true} one other = said_more part one other.count (other.all refl)
+said_then {part = part} {whole = false} one other =
+    said_part part one other.count (other.risen refl) (other.front refl)
+
+-- a fault that is handed on cut it off
+pub said_lost : {faults faults' : ℕ} {told told' : Option (List ℕ)} {text : List ℕ} {lost : SinkFault}
+    (r : Result (Unit {0}) SinkFault) → IsErrAnd r (λ e. e ≡ lost) → IsTextWritten faults faults' told told' text false
+    →
+    IsTextWritten faults faults' told told' text (is_ok r)
+said_lost (Ok done) is said = absurd is
+said_lost (Err lost) is said = said

@@ -1,0 +1,16 @@
+//! What keeps `vodserve` from its work: the errors, the line that names each on the error
+//! stream, and its exit status.
+#![tactic(auto)]
+
+mod error_causes;
+mod error_lines;
+mod errors;
+mod exit_statuses;
+
+pub use error_lines::{write_error, write_number};
+pub use errors::{CliError, InputError};
+pub use exit_statuses::status_of;
+
+#[cfg(test)]
+pub mod laws;
+mod tests;

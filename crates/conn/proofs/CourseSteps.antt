@@ -1,0 +1,499 @@
+-- Lemmas on the course of a connection, one doing after another.
+use Rattle.std.specs.Prelude.{⊤}
+use Rattle.std.proofs.Common.{◌≡◌, ℕ, ◌+◌, ◌<◌, ◌≤◌, ◌^◌, ◌&&◌, Bool, true, false, if◌then◌else◌, List, [], ◌∷◌, ◌++◌}
+use Rattle.std.proofs.Common.{length, take, drop, Option, Some, None, Ok, Err, refl, ap, sym, ◌∙◌, subst, inl, inr}
+use Rattle.std.proofs.Common.{arith}
+use Rattle.std.proofs.lemmas.List.{append-nil, append_assoc, map-append, length-append, length-take-le}
+use Rattle.interleave.specs.Elements.{IsFirst}
+use Rattle.interleave.specs.declared.elements.Step.TheVariants.{Request}
+use Rattle.interleave.specs.declared.elements.DemuxFault.{DemuxFault}
+use Rattle.interleave.specs.declared.elements.DemuxFault.TheVariants.{HeadTooLong as LongHead}
+use Rattle.interleave.specs.declared.elements.DemuxFault.TheVariants.{BodyTooLong as LongBody}
+use Rattle.vod_base.specs.Links.{IoEvent, IsSentPrefix, Sent, HeardBytes, HeardSlot, sends, told_more}
+use Rattle.vod_base.proofs.HistoryLemmas.{told_more-append, told_more-nil}
+use Rattle.vod_base.specs.declared.links.Heard.{Heard}
+use Rattle.vod_base.specs.declared.links.Heard.TheVariants.{Bytes, Slot, End}
+use Rattle.station.specs.Seats.{SeatState}
+use Rattle.station.proofs.SameSeats.{seat_none, seat_on}
+use Rattle.conn.specs.declared.reports.ConnEnd.{ConnEnd}
+use Rattle.conn.specs.declared.reports.ConnEnd.TheVariants.{Ended, TornDown, LinkFault, TooMuchInput, HeadTooLong}
+use Rattle.conn.specs.declared.reports.ConnEnd.TheVariants.{BodyTooLong, TurnsSpent, NoMemory}
+use Rattle.session.specs.SlotSteps.{IsTold, can_reply, due_bytes, is_between, is_sending, is_taken, step_bytes}
+use Rattle.session.specs.SlotSteps.{stepped_in}
+use Rattle.session.specs.SessionStates.{SessionState}
+use Rattle.conn.specs.declared.connections.Connection.{Connection}
+use Rattle.conn.specs.Events.{HasTakenEvent, IsEndOf, IsProcessed, IsWaiting}
+use Rattle.conn.specs.Journals.{AgreeWith, terms_of}
+use Rattle.conn.proofs.Journals.{agree_then, terms_same}
+use Rattle.conn.specs.InputSteps.{Outcome, Unasked, SentPart, Film, Text, Stage, ElementStep, Passed, Answered, IsNext}
+use Rattle.conn.specs.InputSteps.{IsPassed}
+use Rattle.conn.specs.InputSteps.{Takes, TakesAll, after_reply, due_parts, entry_in, parts_bytes, reply_parts}
+use Rattle.conn.specs.InputSteps.{slot_parts}
+use Rattle.conn.specs.InputSteps.{stage}
+use Rattle.conn.specs.EventSteps.{Comes, Ends, Unheard, Overfull, AtElement, InSlot, InReply, IsIdle, IsStopped}
+use Rattle.conn.specs.EventSteps.{IsUnheard, Round, Runs, RunsAll, ending_bytes, ending_doings, ending_events}
+use Rattle.conn.specs.EventSteps.{ending_outcomes, entries_in, round_bytes, round_outcomes, rounds_doings}
+use Rattle.conn.specs.EventSteps.{rounds_outcomes, taking_bytes, taking_outcomes, takings_bytes, takings_outcomes}
+use Rattle.conn.specs.Observations.{AreNoted, HasAsked, HasFailedSend, HasHandledEvent, HasCourse, HasEnded}
+use Rattle.conn.specs.Observations.{HasLostReply, HasTakenSlot}
+use Rattle.conn.specs.Observations.{HasRound, HasRun, HasTaken, HasProcessedInput, IsSent, Observed}
+use Rattle.conn.proofs.EventPremises.{RequestInFront}
+
+-- what the link tells
+pub sent_none : (told : Option (List IoEvent)) → IsSent told [] told
+sent_none told = sym (told_more-nil told)
+
+pub sent_on : {b c : Option (List IoEvent)} (a : Option (List IoEvent)) (xs ys : List ℕ) → IsSent a xs b
+    → IsSent b ys c → IsSent a (xs ++ ys) c
+sent_on {c} a xs ys first second =
+    second ∙ ap (λ t. told_more t (sends ys)) first ∙ told_more-append a (sends xs) (sends ys)
+    ∙ ap (told_more a) (sym (map-append Sent xs ys))
+
+-- what the seat made
+pub entries_in-append : (xs ys : List Outcome) → entries_in (xs ++ ys) ≡ entries_in xs ++ entries_in ys
+entries_in-append [] ys = refl
+entries_in-append (x ∷ xs) ys =
+    ap (λ es. entry_in x ++ es) (entries_in-append xs ys)
+    ∙ sym (append_assoc (entry_in x) (entries_in xs) (entries_in ys))
+
+pub noted_none : (seat : SeatState) → AreNoted seat seat []
+noted_none seat = record { mine = sym (append-nil seat.mine); seat = seat_none seat; agree = omega arith }
+
+pub noted_unasked : (seat : SeatState) → AreNoted seat seat (Unasked ∷ [])
+noted_unasked seat = record { mine = sym (append-nil seat.mine); seat = seat_none seat; agree = omega arith }
+
+pub noted_on : {a b c : SeatState} {xs ys : List Outcome} → AreNoted a b xs → AreNoted b c ys → AreNoted a c (xs ++ ys)
+noted_on {a} {b} {c} {xs} {ys} first second = record {
+  mine = second.mine ∙ ap (λ m. m ++ entries_in ys) first.mine ∙ append_assoc a.mine (entries_in xs) (entries_in ys)
+      ∙ ap (λ es. a.mine ++ es) (sym (entries_in-append xs ys));
+  seat = seat_on a b c first.seat second.seat;
+  agree = agree_then
+      (record { terms = terms_of a; journal = b.seen; longer = c.seen; prefix = second.seat.longer })
+      (length a.seen) xs ys
+      first.agree (subst (λ terms. AgreeWith terms c.seen (length b.seen) ys) (terms_same a b first.seat) second.agree);
+}
+
+-- elements that are taken up from a stage on
+pub record TakenLater : Type 0 where
+  pub old : Stage
+  pub new : Stage
+  pub takings : List ElementStep
+  pub takes : TakesAll old takings new
+
+-- elements
+takes_on : (a : Stage) (later : TakenLater) (xs : List ElementStep) → TakesAll a xs later.old →
+    TakesAll a (xs ++ later.takings) later.new
+takes_on a later [] first = subst (λ s. TakesAll s later.takings later.new) first later.takes
+takes_on a later (x ∷ xs) first = (first.0, (first.1.0, takes_on first.0 later xs first.1.1))
+
+pub takings_bytes-append : (xs ys : List ElementStep) → takings_bytes (xs ++ ys) ≡ takings_bytes xs ++ takings_bytes ys
+takings_bytes-append [] ys = refl
+takings_bytes-append (x ∷ xs) ys =
+    ap (λ bs. taking_bytes x ++ bs) (takings_bytes-append xs ys)
+    ∙ sym (append_assoc (taking_bytes x) (takings_bytes xs) (takings_bytes ys))
+
+takings_outcomes-append : (xs ys : List ElementStep)
+    → takings_outcomes (xs ++ ys) ≡ takings_outcomes xs ++ takings_outcomes ys
+takings_outcomes-append [] ys = refl
+takings_outcomes-append (x ∷ xs) ys =
+    ap (λ os. taking_outcomes x ++ os) (takings_outcomes-append xs ys)
+    ∙ sym (append_assoc (taking_outcomes x) (takings_outcomes xs) (takings_outcomes ys))
+
+pub taken_none : (a : Observed) → HasTaken a a
+taken_none a = record { takings = []; takes = refl; sent = sent_none a.told; noted = noted_none a.seat }
+
+pub taken_one : (a b : Observed) (taking : ElementStep) → Takes a.stage taking b.stage →
+    IsSent a.told (taking_bytes taking) b.told →
+    AreNoted a.seat b.seat (taking_outcomes taking) → HasTaken a b
+taken_one a b taking takes sent noted = record {
+  takings = taking ∷ [];
+  takes = (b.stage, (takes, refl));
+  sent = subst (λ bs. IsSent a.told bs b.told) (sym (append-nil (taking_bytes taking))) sent;
+  noted = subst (λ os. AreNoted a.seat b.seat os) (sym (append-nil (taking_outcomes taking))) noted;
+}
+
+pub taken_on : (a b c : Observed) → HasTaken a b → HasTaken b c → HasTaken a c
+taken_on a b c first second = record {
+  takings = first.takings ++ second.takings;
+  takes = takes_on a.stage
+      (record { old = b.stage; new = c.stage; takings = second.takings; takes = second.takes }) first.takings
+      first.takes;
+  sent = subst (λ bs. IsSent a.told bs c.told) (sym (takings_bytes-append first.takings second.takings))
+      (sent_on a.told (takings_bytes first.takings) (takings_bytes second.takings) first.sent second.sent);
+  noted = subst (λ os. AreNoted a.seat c.seat os) (sym (takings_outcomes-append first.takings second.takings))
+      (noted_on first.noted second.noted);
+}
+
+lost_on : (a b c : Observed) → HasTaken a b → HasLostReply b c → HasLostReply a c
+lost_on a b c first lost = record {
+  mid = lost.mid;
+  taken = taken_on a b lost.mid first lost.taken;
+  message = lost.message;
+  outcome = lost.outcome;
+  front = lost.front;
+  fails = lost.fails;
+  sent = lost.sent;
+  noted = lost.noted;
+}
+
+pub up_on : (result : Option ConnEnd) (a b c : Observed) → HasTaken a b → HasProcessedInput result b c →
+    HasProcessedInput result a c
+up_on None a b c first up = (taken_on a b c first up.0, up.1)
+up_on (Some end) a b c first up =
+    elim up [
+      | inl lost ↦ inl (lost.0, lost_on a b c first lost.1)
+      | inr stopped ↦ inr (taken_on a b c first stopped.0, stopped.1)
+    ]
+
+-- an event, and what was taken up after it
+event_round : {event : IoEvent} {halt : Outcome} {a b c : Observed} (due : List SentPart) →
+    Comes a.stage event due halt b.stage → IsSent a.told (parts_bytes due) b.told →
+    AreNoted a.seat b.seat (halt ∷ []) → HasTaken b c → IsIdle c.stage → HasRound event a c
+event_round {event} {halt} {a} {b} {c} due comes sent noted taken idle = record {
+  round = record { event = event; due = due; halt = halt; takings = taken.takings };
+  event_is = refl;
+  runs = record { opened = b.stage; comes = comes; takes = taken.takes };
+  idle = idle;
+  sent = sent_on a.told (parts_bytes due) (takings_bytes taken.takings) sent taken.sent;
+  noted = noted_on noted taken.noted;
+}
+
+event_stop : {event : IoEvent} {halt : Outcome} {end : ConnEnd} {count : ℕ} {a b c : Observed} (due : List SentPart) →
+    Comes a.stage event due halt b.stage →
+    IsSent a.told (parts_bytes due) b.told → AreNoted a.seat b.seat (halt ∷ []) → HasTaken b c
+    → IsStopped end c.stage → HasEnded (event ∷ []) end count a c
+event_stop {event} {halt} {end} {a} {b} {c} due comes sent noted taken stopped = record {
+  ending = AtElement (record { event = event; due = due; halt = halt; takings = taken.takings });
+  event_is = refl;
+  ends = (record { opened = b.stage; comes = comes; takes = taken.takes }, stopped);
+  sent = sent_on a.told (parts_bytes due) (takings_bytes taken.takings) sent taken.sent;
+  noted = noted_on noted taken.noted;
+}
+
+event_lost : {event : IoEvent} {halt : Outcome} {end : ConnEnd} {count : ℕ} {a b c : Observed} (due : List SentPart) →
+    Comes a.stage event due halt b.stage →
+    IsSent a.told (parts_bytes due) b.told → AreNoted a.seat b.seat (halt ∷ []) → end ≡ LinkFault → HasLostReply b c
+    → HasEnded (event ∷ []) end count a c
+event_lost {event} {halt} {end} {a} {b} {c} due comes sent noted is lost =
+    let mid = lost.mid in
+    let round : Round = record { event = event; due = due; halt = halt; takings = lost.taken.takings } in record {
+      ending = InReply round lost.message lost.outcome lost.front;
+      event_is = refl;
+      ends = (
+        is,
+        record {
+          mid = mid.stage;
+          runs = record { opened = b.stage; comes = comes; takes = lost.taken.takes };
+          fails = lost.fails;
+        },
+      );
+      sent = sent_on a.told (round_bytes round) lost.front
+          (sent_on a.told (parts_bytes due) (takings_bytes lost.taken.takings) sent lost.taken.sent) lost.sent;
+      noted = noted_on (noted_on noted lost.taken.noted) lost.noted;
+    }
+
+-- an event came: what was sent in its slot, and what was then answered is noted
+pub record EventSeen (event : IoEvent) (a b : Observed) : Type 0 where
+  pub due : List SentPart
+  pub halt : Outcome
+  pub comes : Comes a.stage event due halt b.stage
+  pub sent : IsSent a.told (parts_bytes due) b.told
+  pub noted : AreNoted a.seat b.seat (halt ∷ [])
+
+event_up : {event : IoEvent} {a b : Observed} → EventSeen event a b → (result : Option ConnEnd) (c : Observed) →
+    HasProcessedInput result b c → HasHandledEvent result event a c
+event_up seen None c up = event_round seen.due seen.comes seen.sent seen.noted up.0 up.1
+event_up seen (Some end) c up =
+    λ count.
+    elim up [
+      | inl lost ↦ event_lost due comes sent noted lost.0 lost.1
+      | inr stopped ↦ event_stop due comes sent noted stopped.0 stopped.1
+    ]
+  where
+    open seen use {due, comes, sent, noted}
+
+-- bytes came and wait, and nothing else was done
+pub record BytesSeen (bytes : List ℕ) (a b : Observed) : Type 0 where
+  pub few : length a.stage.input + length bytes ≤ 131072
+  pub waits : b.stage ≡ stage a.stage.session (a.stage.input ++ bytes)
+  pub told : b.told ≡ a.told
+  pub seat : b.seat ≡ a.seat
+
+-- bytes came
+pub bytes_up : {b : Observed} {bytes : List ℕ} {a : Observed} (result : Option ConnEnd) (c : Observed) → BytesSeen bytes
+    a b →
+    HasProcessedInput result b c → HasHandledEvent result (HeardBytes bytes) a c
+bytes_up {b} {a} result c seen up =
+    event_up (record {
+      due = [];
+      halt = Unasked;
+      comes = (refl, refl, seen.few, seen.waits);
+      sent = seen.told ∙ sent_none a.told;
+      noted = subst (λ s. AreNoted a.seat s (Unasked ∷ [])) (sym seen.seat) (noted_unasked a.seat);
+    }) result c up
+
+-- a slot began
+pub slot_up : {slot : ℕ} {a b : Observed} (result : Option ConnEnd) (c : Observed) → HasTakenSlot a b slot
+    → HasProcessedInput result b c → HasHandledEvent result (HeardSlot slot) a c
+slot_up {slot} {a} {b} result c passed up =
+    event_up (record {
+      due = passed.parts;
+      halt = passed.halt;
+      comes = (passed.input, passed.stepped);
+      sent = passed.sent;
+      noted = passed.noted;
+    }) result c up
+
+pub slot_broken : (slot : ℕ) (a c : Observed) → HasFailedSend a c slot → HasHandledEvent (Some LinkFault) (HeardSlot
+    slot) a c
+slot_broken slot a c broken =
+    λ count. record {
+      ending = InSlot slot broken.front;
+      event_is = refl;
+      ends = (refl, broken.fails);
+      sent = broken.sent;
+      noted = subst (λ s. AreNoted a.seat s []) (sym broken.noted) (noted_none a.seat);
+    }
+
+pub overfull : (bytes : List ℕ) (a c : Observed) → 131072 < length a.stage.input + length bytes →
+    a.stage.session.waits ≡ true → c ≡ a →
+    HasHandledEvent (Some TooMuchInput) (HeardBytes bytes) a c
+overfull bytes a c many waits is =
+    subst (λ s. HasHandledEvent (Some TooMuchInput) (HeardBytes bytes) a s) (sym is)
+    (λ count. record {
+      ending = Overfull bytes;
+      event_is = refl;
+      ends = (refl, many, waits, refl);
+      sent = sent_none a.told;
+      noted = noted_none a.seat;
+    })
+
+-- the connection goes on
+abbrev GoesOn : Option ConnEnd → Type 0
+GoesOn None = ⊤
+GoesOn (Some end) = ⊥
+
+pub goes_on : (heard : Heard) (waiting : ℕ) (c : Connection) → HasTakenEvent heard waiting None c →
+    (c.session.torn ≡ false) × (c.session.lost ≡ false) × IsWaiting c
+goes_on End waiting c has = absurd (subst GoesOn has tt)
+goes_on (Slot slot) waiting c has = (has.0, has.1, has.2)
+goes_on (Bytes n) waiting c has =
+    elim has [
+      | inl full ↦ absurd (subst GoesOn full.1 tt)
+      | inr up ↦ (up.1.0, up.1.1, up.1.2)
+    ]
+
+-- events, one after another
+runs_on : {b c : Stage} {round : Round} (a : Stage) (rounds : List Round) → RunsAll a rounds b → Runs b round c
+    → IsIdle c → RunsAll a (rounds ++ round ∷ []) c
+runs_on {c} {round} a [] runs next idle = (c, (subst (λ s. Runs s round c) runs next, idle, refl))
+runs_on {b} {c} {round} a (first ∷ rounds) runs next idle =
+    (runs.0, (runs.1.0, runs.1.1, runs_on {b = b} {c = c} {round = round} runs.0 rounds runs.1.2 next idle))
+
+rounds_doings-append : (xs ys : List Round) → rounds_doings (xs ++ ys) ≡ rounds_doings xs ++ rounds_doings ys
+rounds_doings-append [] ys = refl
+rounds_doings-append (x ∷ xs) ys =
+    let first : List IoEvent = x.event ∷ sends (round_bytes x) in
+    ap (λ ds. first ++ ds) (rounds_doings-append xs ys) ∙ sym (append_assoc first (rounds_doings xs) (rounds_doings ys))
+
+rounds_outcomes-append : (xs ys : List Round) → rounds_outcomes (xs ++ ys) ≡ rounds_outcomes xs ++ rounds_outcomes ys
+rounds_outcomes-append [] ys = refl
+rounds_outcomes-append (x ∷ xs) ys =
+    ap (λ os. round_outcomes x ++ os) (rounds_outcomes-append xs ys)
+    ∙ sym (append_assoc (round_outcomes x) (rounds_outcomes xs) (rounds_outcomes ys))
+
+pub run_none : (a : Observed) → HasRun 0 a a
+run_none a = record {
+  rounds = [];
+  count_is = refl;
+  runs = refl;
+  told = sym (told_more-nil a.told);
+  noted = noted_none a.seat;
+}
+
+-- an event was heard
+heard_sent : {b c : Option (List IoEvent)} (a : Option (List IoEvent)) (event : IoEvent) (bytes : List ℕ) →
+    b ≡ told_more a (event ∷ []) → IsSent b bytes c →
+    c ≡ told_more a (event ∷ sends bytes)
+heard_sent {c} a event bytes heard sent =
+    sent ∙ ap (λ t. told_more t (sends bytes)) heard ∙ told_more-append a (event ∷ []) (sends bytes)
+
+pub run_on : {count : ℕ} {event : IoEvent} {a b heard c : Observed} → HasRun count a b → heard.stage ≡ b.stage →
+    heard.seat ≡ b.seat →
+    heard.told ≡ told_more b.told (event ∷ []) → HasRound event heard c → HasRun (count + 1) a c
+run_on {a} {b} {heard} {c} run stage_is seat_is told_is next =
+    let round = next.round in
+    let doings : List IoEvent = round.event ∷ sends (round_bytes round) in
+    let last : rounds_doings (round ∷ []) ≡ doings = append-nil doings in
+    let told : heard.told ≡ told_more b.told (round.event ∷ []) =
+    told_is ∙ ap (λ e. told_more b.told (e ∷ [])) (sym next.event_is) in
+    let outcomes : rounds_outcomes (round ∷ []) ≡ round_outcomes round = append-nil (round_outcomes round) in record {
+      rounds = run.rounds ++ round ∷ [];
+      count_is = length-append run.rounds (round ∷ []) ∙ ap (λ n. n + 1) run.count_is;
+      runs = runs_on a.stage run.rounds run.runs (subst (λ s. Runs s round c.stage) stage_is next.runs) next.idle;
+      told = heard_sent b.told round.event (round_bytes round) told next.sent
+          ∙ ap (λ t. told_more t doings) run.told ∙ told_more-append a.told (rounds_doings run.rounds) doings
+          ∙ ap (λ ds. told_more a.told (rounds_doings run.rounds ++ ds)) (sym last)
+          ∙ ap (told_more a.told) (sym (rounds_doings-append run.rounds (round ∷ [])));
+      noted = subst (λ os. AreNoted a.seat c.seat os)
+          (sym (rounds_outcomes-append run.rounds (round ∷ []) ∙ ap (λ os. rounds_outcomes run.rounds ++ os) outcomes))
+          (noted_on run.noted (subst (λ s. AreNoted s c.seat (round_outcomes round)) seat_is next.noted));
+    }
+
+-- and it was the last
+pub run_end : {count : ℕ} {event : IoEvent} {end : ConnEnd} {a b heard c : Observed} → HasRun count a b →
+    heard.stage ≡ b.stage → heard.seat ≡ b.seat →
+    heard.told ≡ told_more b.told (event ∷ []) → count < 2 ^ 40 → HasEnded (event ∷ []) end count heard c →
+    HasCourse end a c
+run_end {count} {event} {end} {a} {b} {c} run stage_is seat_is told_is more last =
+    let ending = last.ending in
+    let one : length (ending_events ending) ≡ 1 = ap (λ (es : List IoEvent). length es) last.event_is in record {
+      rounds = run.rounds;
+      mid = b.stage;
+      runs = run.runs;
+      ending = ending;
+      few = omega (arith, run.count_is, one, more);
+      ends = subst (λ n. Ends b.stage n ending end c.stage) (sym run.count_is)
+          (subst (λ s. Ends s count ending end c.stage) stage_is last.ends);
+      told = heard_sent b.told event (ending_bytes ending) told_is last.sent
+          ∙ ap (λ es. told_more b.told (es ++ sends (ending_bytes ending))) (sym last.event_is)
+          ∙ ap (λ t. told_more t (ending_doings ending)) run.told
+          ∙ told_more-append a.told (rounds_doings run.rounds) (ending_doings ending);
+      noted = noted_on run.noted (subst (λ s. AreNoted s c.seat (ending_outcomes ending)) seat_is last.noted);
+    }
+
+-- or no event was heard any more
+-- no more than 2^40 events were heard
+few_heard : (end : ConnEnd) (count : ℕ) → IsUnheard end count → count ≤ 2 ^ 40
+few_heard LinkFault count is = omega (arith, is)
+few_heard TurnsSpent count is = omega (arith, is)
+few_heard Ended count is = absurd is
+few_heard TornDown count is = absurd is
+few_heard TooMuchInput count is = absurd is
+few_heard HeadTooLong count is = absurd is
+few_heard BodyTooLong count is = absurd is
+few_heard NoMemory count is = absurd is
+
+pub run_over : {count : ℕ} {end : ConnEnd} {a b c : Observed} → HasRun count a b → IsUnheard end count → c ≡ b
+    → HasCourse end a c
+run_over {count} {end} {a} {b} {c} run unheard is =
+    subst (λ s. HasCourse end a s) (sym is) (record {
+      rounds = run.rounds;
+      mid = b.stage;
+      runs = run.runs;
+      ending = Unheard;
+      few = omega (arith, run.count_is, few_heard end count unheard);
+      ends = (subst (IsUnheard end) (sym run.count_is) unheard, refl);
+      told = run.told ∙ ap (told_more a.told) (sym (append-nil (rounds_doings run.rounds)));
+      noted = subst (λ os. AreNoted a.seat b.seat os) (sym (append-nil (rounds_outcomes run.rounds))) run.noted;
+    })
+
+-- an element in front that is too long: what was taken up before it stands, and the connection ends
+pub taken_fault : {a b : Observed} (fault : DemuxFault) (end : ConnEnd) → b ≡ a → a.stage.session.torn ≡ false
+    → IsFirst a.stage.input (Err fault)
+    → IsEndOf fault end → HasTaken a b × IsStopped end b.stage
+taken_fault {a} LongHead end same torn first is =
+    subst (λ (s : Observed). HasTaken a s × IsStopped end s.stage) (sym same)
+    (taken_none a, subst (λ e. IsStopped e a.stage) (sym is) (torn, first))
+taken_fault {a} LongBody end same torn first is =
+    subst (λ (s : Observed). HasTaken a s × IsStopped end s.stage) (sym same)
+    (taken_none a, subst (λ e. IsStopped e a.stage) (sym is) (torn, first))
+
+-- what a slot brings is what is sent in it
+due_is : (waits between : Bool) (one plain after text : List ℕ) →
+    parts_bytes (if waits then Film one ∷ (if between then Text text ∷ Film after ∷ [] else []) else Film plain ∷ [])
+    ≡ (if waits then one ++ (if between then text ++ after else []) else plain)
+due_is false between one plain after text = append-nil plain
+due_is true false one plain after text = refl
+due_is true true one plain after text = ap (λ bs. one ++ (text ++ bs)) (append-nil after)
+
+told_if : {bytes : List ℕ} {new : Option (List IoEvent)} (sends_it : Bool) (parts : List SentPart)
+    (old : Option (List IoEvent)) → parts_bytes parts ≡ bytes → IsTold sends_it old bytes new →
+    IsSent old (parts_bytes (if sends_it then parts else [])) new
+told_if {new} true parts old is told = told ∙ ap (λ bs. told_more old (sends bs)) (sym is)
+told_if {new} false parts old is told = told ∙ sym (told_more-nil old)
+
+pub slot_sent : (session : SessionState) (slot : ℕ) (old new : Option (List IoEvent)) →
+    IsTold (is_taken session slot && is_sending session.state) old
+    (due_bytes session.waits session.state session.text slot) new →
+    IsSent old (parts_bytes (slot_parts session slot)) new
+slot_sent session slot old new told =
+    told_if (is_taken session slot && is_sending session.state) (due_parts session slot) old
+    (due_is session.waits (is_between (stepped_in true slot session.state)) (step_bytes true slot session.state)
+    (step_bytes false slot session.state)
+    (step_bytes false slot (stepped_in true slot session.state)) session.text) told
+
+pub reply_sent : (session : SessionState) (old new : Option (List IoEvent)) →
+    IsTold (can_reply session) old session.text new →
+    IsSent old (parts_bytes (reply_parts session)) new
+reply_sent session old new told = told_if (can_reply session) (Text session.text ∷ []) old
+    (append-nil session.text) told
+
+-- the element in front was passed over
+pub taken_passed : (a b : Observed) (n : ℕ) → IsPassed a.stage.input n → a.stage.session.torn ≡ false →
+    b ≡ record a { stage = stage a.stage.session (drop n a.stage.input) } → HasTaken a b
+taken_passed a b n passed torn is = subst (HasTaken a) (sym is)
+    (taken_one a (record a { stage = stage a.stage.session (drop n a.stage.input) }) (Passed n)
+    (passed, torn, refl) (sent_none a.told) (noted_none a.seat))
+
+-- the request in front, of so many bytes
+next_is : (a : Stage) (n : ℕ) → IsFirst a.input (Ok (Request n)) → a.session.waits ≡ false
+    → a.session.torn ≡ false → IsNext a (take n a.input)
+next_is a n first replied torn =
+    let is : length (take n a.input) ≡ n = length-take-le n a.input first.2 in record {
+      first = subst (λ k. IsFirst a.input (Ok (Request k))) (sym is) first;
+      message_is = ap (λ k. take k a.input) (sym is);
+      replied = replied;
+      torn = torn;
+    }
+
+pub taken_reply : {a b : Observed} {asked : SessionState} {n : ℕ} → IsFirst a.stage.input (Ok (Request n)) →
+    a.stage.session.waits ≡ false → a.stage.session.torn ≡ false →
+    HasAsked a.stage.session (take n a.stage.input) asked a.seat b.seat →
+    b.stage ≡ stage (after_reply asked) (drop n a.stage.input) →
+    IsTold (can_reply asked) a.told asked.text b.told → HasTaken a b
+taken_reply {a} {b} {asked} {n} first replied torn heard is told =
+    let message : List ℕ = take n a.stage.input in
+    let long : length message ≡ n = length-take-le n a.stage.input first.2 in
+    taken_one a b (Answered message heard.outcome (reply_parts asked)) (record {
+      next = next_is a.stage n first replied torn;
+      answered = asked;
+      heard = heard.heard;
+      parts_are = refl;
+      new_is = is ∙ ap (λ k. stage (after_reply asked) (drop k a.stage.input)) (sym long);
+    }) (reply_sent asked a.told b.told told) heard.noted
+
+pub lost_reply : {a b : Observed} {asked : SessionState} {n : ℕ} → RequestInFront a.stage n →
+    HasAsked a.stage.session (take n a.stage.input) asked a.seat b.seat → can_reply asked ≡ true →
+    b.stage ≡ stage (record asked { lost = true }) (drop n a.stage.input) → IsSentPrefix a.told b.told asked.text →
+    HasLostReply a b
+lost_reply {a} {asked} {n} in_front heard can is told =
+    let message : List ℕ = take n a.stage.input in
+    let long : length message ≡ n = length-take-le n a.stage.input in_front.first.2 in record {
+      mid = a;
+      taken = taken_none a;
+      message = message;
+      outcome = heard.outcome;
+      front = take told.0 asked.text;
+      fails = record {
+        next = next_is a.stage n in_front.first in_front.replied in_front.torn;
+        answered = asked;
+        heard = heard.heard;
+        can = can;
+        front_is = (told.0, (told.1.0, refl));
+        new_is = is ∙ ap (λ k. stage (record asked { lost = true }) (drop k a.stage.input)) (sym long);
+      };
+      sent = told.1.1;
+      noted = heard.noted;
+    }
+
+-- where a connection stands, by its session and what waits
+pub stage_is : {session is : SessionState} {input waits : List ℕ} → session ≡ is → input ≡ waits
+    → stage session input ≡ stage is waits
+stage_is {is} {input} session_is input_is = ap (λ s. stage s input) session_is ∙ ap (stage is) input_is
+
+-- an element that is too long ends a connection
+pub fault_ends : (fault : DemuxFault) (end : ConnEnd) (c : Connection) → IsEndOf fault end
+    → IsFirst c.input (Err fault) → IsProcessed (Some end) c
+fault_ends LongHead end c is first = subst (λ e. IsProcessed (Some e) c) (sym is) first
+fault_ends LongBody end c is first = subst (λ e. IsProcessed (Some e) c) (sym is) first

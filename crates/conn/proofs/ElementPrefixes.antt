@@ -1,0 +1,34 @@
+-- Lemmas on elements and on what was sent, one step after another.
+use Rattle.std.proofs.Common.{◌≡◌, ℕ, List, ◌++◌, drop, Ok, ap, sym, ◌∙◌, subst}
+use Rattle.interleave.specs.Streams.{AreInputElements, returned_length, returned_elements}
+use Rattle.interleave.specs.Elements.{IsFirst}
+use Rattle.interleave.specs.declared.elements.Step.{Step}
+use Rattle.interleave.proofs.StreamElements.{next_elements}
+use Rattle.conn.specs.Events.{CutsOn}
+
+pub cuts_none : (input : List ℕ) → CutsOn input input
+cuts_none input = record { each = λ bytes elements cut. (elements, cut) }
+
+pub cuts_on : (a b c : List ℕ) → CutsOn a b → CutsOn b c → CutsOn a c
+cuts_on a b c first second =
+    record { each = λ bytes elements cut. let next = first.each bytes elements cut in second.each bytes next.0 next.1 }
+
+-- the element in front is dropped
+pub cuts_drop : {input rest : List ℕ} {n : ℕ} (step : Step) → IsFirst input (Ok step)
+    → returned_length (Ok step) ≡ n → rest ≡ drop n input → CutsOn input rest
+cuts_drop {input} {rest} step first length_is dropped = record {
+  each = λ bytes elements cut.
+      let is : drop (returned_length (Ok step)) input ≡ rest = ap (λ k. drop k input) length_is ∙ sym dropped in (
+        elements ++ returned_elements input (Ok step),
+        subst (λ x. AreInputElements bytes (elements ++ returned_elements input (Ok step)) x) is
+            (next_elements input (Ok step) first bytes elements cut),
+      );
+}
+
+-- bytes came after those that wait
+pub cuts_same : (old new : List ℕ) → new ≡ old → CutsOn old new
+cuts_same old new same = subst (CutsOn old) (sym same) (cuts_none old)
+
+-- an element of the bytes that wait is dropped
+pub drop_is : {old mid new : List ℕ} (n : ℕ) → new ≡ drop n mid → mid ≡ old → new ≡ drop n old
+drop_is n dropped same = dropped ∙ ap (drop n) same

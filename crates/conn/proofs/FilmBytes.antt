@@ -1,0 +1,167 @@
+-- Lemmas on what is sent of a film, one slot after another.
+use Rattle.std.proofs.Common.{◌≡◌, ℕ, ◌+◌, ◌-◌, ◌<◌, ◌≤◌, ◌++◌, Bool, true, false, if◌then◌else◌}
+use Rattle.std.proofs.Common.{min, max, List, [], length, take, drop, refl, ap, sym, ◌∙◌, subst}
+use Rattle.std.proofs.Common.{arith, inl, inr}
+use Rattle.std.proofs.lemmas.Bool.{cases_lt, true≢false}
+use Rattle.std.proofs.lemmas.List.{append-nil}
+use Rattle.film_frames.specs.Tracks.{framed_bytes}
+use Rattle.pacer.proofs.SlotStepLemmas.{most-slots}
+use Rattle.session.specs.declared.states.Play.{Play as Played}
+use Rattle.conn.specs.Films.{HasSent, planned_bytes}
+use Rattle.pacer.specs.Boundaries.{bytes_between}
+use Rattle.pacer.specs.PacerStates.{IsPacerState, PacerState, due_by, first_slots, plan_bytes}
+use Rattle.pacer.specs.PacerStates.{at_slot, slots_by, stands_at_boundary, step_end, after_step}
+use Rattle.pacer.proofs.PacerStateLemmas.{boundary-from, due-of-both}
+use Rattle.pacer.proofs.SendLemmas.{between-join}
+use Rattle.session.proofs.StopBoundaryLemmas.{stop_between}
+
+-- a pacing through a slot, once all that is due was sent
+abbrev pub sent_through : ℕ → PacerState → PacerState
+sent_through slot p = record (at_slot slot p) { sent = due_by p slot }
+
+-- the pacing after a slot, in which a reply waits or none, and the bytes of the film that were sent in it
+abbrev pub slot_pacing : Bool → ℕ → PacerState → PacerState
+slot_pacing waits slot p =
+    if waits then (if stands_at_boundary (after_step true slot p) then after_step false slot
+    (after_step true slot p) else after_step true slot p)
+    else after_step false slot p
+
+abbrev pub slot_film : Bool → ℕ → PacerState → List ℕ
+slot_film waits slot p =
+    if waits then plan_bytes p p.sent (step_end true (at_slot slot p))
+    ++ (if stands_at_boundary (after_step true slot p)
+    then plan_bytes (after_step true slot p) (after_step true slot p).sent
+    (step_end false (at_slot slot (after_step true slot p))) else [])
+    else plan_bytes p p.sent (step_end false (at_slot slot p))
+
+pacing_same : {passed due sent passed' due' sent' : ℕ} (p : PacerState) → passed ≡ passed' → due ≡ due' → sent ≡ sent' →
+    record p { passed = passed; due = due; sent = sent } ≡ record p { passed = passed'; due = due'; sent = sent' }
+pacing_same {passed} {due} {sent} {passed'} {due'} p one two three =
+    ap (λ n. record p { passed = n; due = due; sent = sent }) one
+    ∙ ap (λ n. record p { passed = passed'; due = n; sent = sent }) two
+    ∙ ap (λ n. record p { passed = passed'; due = due'; sent = n }) three
+
+-- a step with a stop, and then one without
+both_steps : (slot : ℕ) (p : PacerState) → after_step false slot (after_step true slot p) ≡ sent_through slot p
+both_steps slot p =
+    let due : ℕ = due_by p slot in
+    let part : ℕ = min (first_slots p.plan (slots_by p slot)) p.keep in
+    let again : max due part ≡ due = omega arith in
+    pacing_same p
+    (omega arith) again again
+
+-- a step with a stop that ends within a frame has sent all that is due
+stop_inside : (slot : ℕ) (p : PacerState) → IsPacerState p → stands_at_boundary (after_step true slot p) ≡ false
+    → step_end true (at_slot slot p) ≡ due_by p slot
+stop_inside slot p is inside =
+    elim (cases_lt (step_end true (at_slot slot p)) (due_by p slot)) [
+      | inl less ↦
+          let more : 0 < (after_step true slot p).due - (after_step true slot p).sent = omega (arith, less) in
+          absurd (true≢false (sym (stop_between slot p (after_step true slot p) is refl more) ∙ inside))
+      | inr more ↦
+          let most : step_end true (at_slot slot p) ≤ due_by p slot = omega arith in
+          omega (arith, more, most)
+    ]
+
+-- after a slot all that is due was sent, with a reply or none
+pub slot_is : (waits between : Bool) (slot : ℕ) (p : PacerState) → IsPacerState p →
+    stands_at_boundary (after_step true slot p) ≡ between →
+    (if waits then (if between then after_step false slot (after_step true slot p) else after_step true slot p)
+    else after_step false slot p) ≡ sent_through slot p
+slot_is false between slot p is between_is = refl
+slot_is true true slot p is between_is = both_steps slot p
+slot_is true false slot p is between_is =
+    let due : ℕ = due_by p slot in
+    pacing_same p refl refl
+    (stop_inside slot p is between_is)
+
+-- and these are its bytes
+pub slot_bytes : (waits between : Bool) (slot : ℕ) (p : PacerState) → IsPacerState p →
+    stands_at_boundary (after_step true slot p) ≡ between →
+    (if waits then plan_bytes p p.sent (step_end true (at_slot slot p))
+    ++ (if between then plan_bytes (after_step true slot p) (after_step true slot p).sent
+    (step_end false (at_slot slot (after_step true slot p))) else [])
+    else plan_bytes p p.sent (step_end false (at_slot slot p))) ≡ plan_bytes p p.sent (due_by p slot)
+slot_bytes false between slot p is between_is = refl
+slot_bytes true false slot p is between_is =
+    append-nil (plan_bytes p p.sent (step_end true (at_slot slot p)))
+    ∙ ap (plan_bytes p p.sent) (stop_inside slot p is between_is)
+slot_bytes true true slot p is between_is =
+    let due : ℕ = due_by p slot in
+    let mid : ℕ = step_end true (at_slot slot p) in
+    let end : step_end false (at_slot slot (after_step true slot p)) ≡ due =
+    ap (λ (q : PacerState). q.sent) (both_steps slot p) in
+    let inside : p.before + p.sent ≤ length (framed_bytes p.pieces) =
+    omega (arith, is.whole, is.most, is.due, is.sent) in
+    let next = boundary-from p.pieces (p.before + p.sent) inside in
+    let least : p.sent ≤ mid = omega (arith, next.after, is.sent) in
+    let most : mid ≤ due = omega arith in
+    ap (λ n. plan_bytes p p.sent mid ++ plan_bytes p mid n) end
+    ∙ between-join p.pieces (p.before + p.sent) (p.before + mid) (p.before + due) (omega (arith, least))
+    (omega (arith, most))
+
+-- it is a pacing again, and so it is where less of what is due was sent
+sent_upto : (slot sent : ℕ) (p : PacerState) → IsPacerState p → sent ≤ due_by p slot
+    → IsPacerState (record (at_slot slot p) { sent = sent })
+sent_upto slot sent p is most = record {
+  plan = is.plan;
+  whole = is.whole;
+  short = is.short;
+  begins = is.begins;
+  ends = is.ends;
+  most = is.most;
+  due = due-of-both p.plan p.passed (slots_by p slot) p.keep p.due is.due;
+  sent = most;
+}
+
+pub through_is : (slot : ℕ) (p : PacerState) → IsPacerState p → IsPacerState (sent_through slot p)
+through_is slot p is = sent_upto slot (due_by p slot) p is (omega arith)
+
+pub stopped_is : (slot : ℕ) (p : PacerState) → IsPacerState p → IsPacerState (after_step true slot p)
+stopped_is slot p is = sent_upto slot (step_end true (at_slot slot p)) p is (omega arith)
+
+-- a play goes on by a slot
+pub sent_slot : {play : Played} {heard slot : ℕ} {film : List ℕ} (waits : Bool) → HasSent play heard film →
+    heard < slot →
+    HasSent (record play { pacer = slot_pacing waits slot play.pacer }) slot (film ++ slot_film waits slot play.pacer)
+sent_slot {play} {heard} {slot} {film} waits has later =
+    let p = play.pacer in
+    let between : Bool = stands_at_boundary (after_step true slot p) in
+    let q : slot_pacing waits slot p ≡ sent_through slot p = slot_is waits between slot p has.pacing refl in
+    let bytes : slot_film waits slot p ≡ plan_bytes p p.sent (due_by p slot) =
+    slot_bytes waits between slot p has.pacing refl in
+    let passed : max p.passed (slots_by p slot) ≡ slot + 1 - play.start = omega (arith, has.passed, has.start, later) in
+    let due : due_by p slot ≡ first_slots p.plan (max p.passed (slots_by p slot)) =
+    omega (
+      arith,
+      due-of-both p.plan p.passed (slots_by p slot) p.keep p.due has.pacing.due,
+      most-slots p.plan (max p.passed (slots_by p slot)) has.pacing.plan,
+      has.kept,
+    ) in
+    let before : p.sent ≤ due_by p slot = omega (arith, has.pacing.sent) in
+    let old : ℕ = heard + 1 - p.start in
+    let new : ℕ = slot + 1 - p.start in
+    let old_sent : p.sent ≡ first_slots p.plan old =
+    has.sent ∙ ap (first_slots p.plan) (omega (arith, has.passed, has.start)) in
+    let new_sent : due_by p slot ≡ first_slots p.plan new =
+    due ∙ ap (first_slots p.plan) (omega (arith, passed, has.start)) in
+    let first : film ≡ bytes_between p.pieces p.before (p.before + p.sent) =
+    has.film_is ∙ ap (λ n. take n (drop p.before (framed_bytes p.pieces))) (omega (arith, old_sent)) in
+    let joined : film ++ slot_film waits slot p ≡ bytes_between p.pieces p.before (p.before + due_by p slot) =
+    ap (λ bs. bs ++ slot_film waits slot p) first
+    ∙ ap (λ bs. bytes_between p.pieces p.before (p.before + p.sent) ++ bs) bytes
+    ∙ between-join p.pieces p.before (p.before + p.sent) (p.before + due_by p slot) (omega arith)
+    (omega (arith, before)) in
+    let all : film ++ slot_film waits slot p ≡ planned_bytes p slot =
+    joined ∙ ap (λ n. take n (drop p.before (framed_bytes p.pieces))) (omega (arith, new_sent)) in
+    subst (λ (r : PacerState). HasSent (record play { pacer = r }) slot (film ++ slot_film waits slot p)) (sym q)
+    (record {
+      pacing = through_is slot p has.pacing;
+      plan = has.plan;
+      before = has.before;
+      kept = has.kept;
+      start = has.start;
+      passed = passed;
+      sent = due;
+      film_is = all;
+    })

@@ -1,0 +1,29 @@
+-- What holds of each film, one film after another.
+use Rattle.std.proofs.Common.{◌≡◌, ℕ, ◌+◌, ◌<◌, ◌≤◌, List, Some, length, subst, arith, inl, inr}
+use Rattle.std.specs.Prelude.{slice_get}
+use Rattle.std.proofs.lemmas.Option.{slice_get_cases}
+use borrow.Author.Count.{below_more}
+use Rattle.film_frames.specs.declared.stored_films.Stored.{Stored}
+use Rattle.session.specs.Films.{IsFilmAt, OfFilm}
+use Rattle.conn.specs.Plays.{IsShown}
+
+-- the films in front are shown
+abbrev pub AreFrontShown : List Stored → ℕ → Type 0
+AreFrontShown films film = (number : ℕ) (stored : Stored) → number < film → IsFilmAt films number stored
+    → IsShown stored
+
+-- one more film is
+pub shown_more : {film : ℕ} {shown : Stored} (films : List Stored) → AreFrontShown films film
+    → slice_get films film ≡ Some shown → IsShown shown → AreFrontShown films (film + 1)
+shown_more {film} {shown} films front at one = λ number stored less there.
+    below_more (λ (k : ℕ). (s : Stored) → IsFilmAt films k s → IsShown s) film (λ k below s is. front k s below is)
+    (λ s is. let same : shown ≡ s = cc in subst IsShown same one) number less stored there
+
+-- all are
+pub shown_all : {film : ℕ} (films : List Stored) → AreFrontShown films film → length films ≤ film
+    → (number : ℕ) → OfFilm films number IsShown
+shown_all {film} films front past = λ number stored there.
+    elim (slice_get_cases films number).1 [
+      | inl found ↦ front number stored (omega (arith, found.1, past)) there
+      | inr none ↦ absurd (let no : ⊥ = cc (none.1, there) in no)
+    ]

@@ -1,0 +1,77 @@
+-- Lemmas on a play that begins.
+use Rattle.std.proofs.Common.{◌≡◌, ℕ, ◌+◌, ◌-◌, ◌<◌, [], take, drop, refl, ap, sym, ◌∙◌, subst}
+use Rattle.std.proofs.Common.{arith}
+use Rattle.film_frames.specs.FramedRuns.{run_pieces}
+use Rattle.film_frames.specs.Tracks.{framed_bytes}
+use Rattle.pacer.specs.PacerStates.{first_slots, new_pacer_state}
+use Rattle.admission.specs.declared.entries.Answer.TheVariants.{Admitted}
+use Rattle.admission.specs.Makers.{PlacedEntry}
+use Rattle.session.specs.declared.states.Awaited.TheVariants.{Play}
+use Rattle.session.specs.declared.states.Play.{Play as Played}
+use Rattle.session.specs.declared.states.Prepared.{Prepared}
+use Rattle.session.specs.declared.states.Setup.{Setup}
+use Rattle.session.specs.declared.states.State.{State}
+use Rattle.session.specs.declared.states.State.TheVariants.{Init, Playing, Ready, Stopping}
+use Rattle.session.specs.ResumedPlays.{IsPacedPlay}
+use Rattle.session.specs.SlotTransitions.{IsPlayIn}
+use Rattle.session.specs.SlotSteps.{admitted_in}
+use Rattle.session.specs.SessionStates.{SessionState}
+use Rattle.conn.specs.InputSteps.{IsPlayAnswered}
+use Rattle.conn.specs.Films.{HasBegun, HasSent, IsReady}
+
+-- a play of which nothing is sent
+abbrev new_play : Prepared → ℕ → ℕ → Played
+new_play prepared place start = record {
+  run = prepared.run;
+  place = place;
+  start = start;
+  plan = prepared.plan;
+  pacer = new_pacer_state (run_pieces prepared.frames) prepared.run.sent prepared.paced start;
+}
+
+nothing_sent : (prepared : Prepared) (place start heard : ℕ) → heard < start
+    → IsPacedPlay (new_play prepared place start) → HasSent (new_play prepared place start) heard []
+nothing_sent prepared place start heard later is =
+    let none : heard + 1 - start ≡ 0 = omega (arith, later) in record {
+      pacing = is.pacing;
+      plan = is.plan;
+      before = is.before;
+      kept = refl;
+      start = refl;
+      passed = sym none;
+      sent = refl;
+      film_is = ap
+          (λ n. take (first_slots prepared.paced n)
+          (drop prepared.run.sent (framed_bytes (run_pieces prepared.frames)))) (sym none);
+    }
+
+admitted_is : (state : State) (setup : Setup) (prepared : Prepared) (place start : ℕ) → IsReady setup state →
+    admitted_in state (Play prepared) place start ≡ Playing setup (new_play prepared place start)
+admitted_is Init setup prepared place start ready = absurd ready
+admitted_is (Ready own paused) setup prepared place start ready =
+    ap (λ s. Playing s (new_play prepared place start)) ready
+admitted_is (Playing own play) setup prepared place start ready = absurd ready
+admitted_is (Stopping own stop) setup prepared place start ready = absurd ready
+
+pub play_begins : {new : SessionState} {start : ℕ} {setup : Setup} {prepared : Prepared} (old : SessionState)
+    (placed : PlacedEntry) →
+    IsPlayAnswered old placed (Admitted start) new → IsReady setup old.state → old.awaited ≡ Play prepared →
+    HasBegun setup prepared placed.place start new
+play_begins {new} {start} {setup} {prepared} old placed answered ready awaits =
+    let play : Played = new_play prepared placed.place start in
+    let state : new.state ≡ Playing setup play =
+    ap (λ (s : SessionState). s.state) answered.1 ∙ ap (λ a. admitted_in old.state a placed.place start) awaits
+    ∙ admitted_is old.state setup prepared placed.place start ready in
+    let heard : new.heard ≡ old.heard = ap (λ (s : SessionState). s.heard) answered.1 in
+    let is : IsPacedPlay play = subst IsPlayIn state answered.2 in record {
+      play = play;
+      state = state;
+      run = refl;
+      place_is = refl;
+      start_is = refl;
+      plan = refl;
+      paced = is.plan;
+      pieces = refl;
+      before = refl;
+      sent = nothing_sent prepared placed.place start new.heard (subst (λ h. h < start) (sym heard) answered.0) is;
+    }

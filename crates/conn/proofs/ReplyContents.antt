@@ -1,0 +1,441 @@
+-- What the replies of a connection tell of the station's answers.
+use Rattle.std.proofs.Common.{◌≡◌, ℕ, ◌-◌, ◌++◌, ◌&&◌, Bool, true, false, if◌then◌else◌, Contains}
+use Rattle.std.proofs.Common.{List, [], ◌∷◌, codes, decimal, get_or, refl, sym}
+use Rattle.std.proofs.Common.{ap, subst, ◌∙◌, arith}
+use Rattle.std.proofs.lemmas.List.{append-nil, append_assoc}
+use Rattle.std.proofs.lemmas.List.Elements.{Contains-append_left}
+use Rattle.std.proofs.lemmas.List.Elements.{Contains-push}
+use Rattle.vod_base.specs.Links.{IoEvent, HeardBytes, HeardEnd, HeardSlot, Sent}
+use Rattle.std.specs.Fmt.{digits}
+use Rattle.rtsp_text.specs.Replies.{field_line, reply_front, reply_text, status_line}
+use Rattle.admission.specs.declared.entries.Answer.{Answer}
+use Rattle.admission.specs.declared.entries.Answer.TheVariants.{Admitted, Halted, Looked, Overflow}
+use Rattle.admission.specs.Makers.{PlacedEntry}
+use Rattle.session.specs.declared.commands.Ask.{Ask}
+use Rattle.session.specs.declared.commands.Ask.TheVariants.{Reply as AskReply, Play as AskPlay}
+use Rattle.session.specs.declared.commands.Ask.TheVariants.{Halt as AskHalt, Look as AskLook}
+use Rattle.session.specs.declared.commands.Ask.TheVariants.{Offer as AskOffer}
+use Rattle.session.specs.RequestEffects.{HasCode, IsNoRefusal, RefusesNone}
+use Rattle.session.specs.RequestSteps.{after_full, started_text}
+use Rattle.session.specs.Replies.{field, full_text, overflow_text}
+use Rattle.session.specs.SlotSteps.{can_reply, after_play, is_between, is_sending, is_taken, sent_due}
+use Rattle.session.specs.SlotSteps.{sent_reply, sent_slot, after_slot, stepped_in}
+use Rattle.session.specs.SessionStates.{AwaitedAnswer, NoAnswer, PlayAnswer, HaltAnswer, LookAnswer}
+use Rattle.session.specs.SessionStates.{OfferAnswer, SessionState, awaited_answer}
+use Rattle.conn.specs.InputSteps.{Outcome, Unasked, Entered, WasFull, Offered, SentPart, Film, Text, Stage}
+use Rattle.conn.specs.InputSteps.{ElementStep, Passed, Answered, HasHeard, IsAskAnswered, IsFinished, IsHalted}
+use Rattle.conn.specs.InputSteps.{IsLookAnswered, IsPlayAnswered, Takes as TakesElement, TakesAll}
+use Rattle.conn.specs.InputSteps.{slot_parts}
+use Rattle.conn.specs.EventSteps.{Comes, Ending, Ends, Unheard, PeerEnded, Overfull, AtElement, InSlot}
+use Rattle.conn.specs.EventSteps.{InReply, Round, Runs, RunsAll, ending_outcomes}
+use Rattle.conn.specs.EventSteps.{round_outcomes, rounds_outcomes, takings_outcomes}
+use Rattle.conn.specs.Films.{round_parts, rounds_parts, takings_parts}
+use Rattle.conn.specs.Plays.{ending_rounds}
+use Rattle.conn.specs.declared.reports.ConnEnd.{ConnEnd}
+use Rattle.session.proofs.ReplyCodeLemmas.{hears_text, ok_plain}
+use Rattle.conn.specs.Guarantees.{ReportsFullOf}
+use Rattle.conn.proofs.EventPremises.{SlotStandings, SlotBytes}
+
+-- three digits differ where the first does
+other : {a b c x y z : ℕ} → (a ≡ x → ⊥) → (a ∷ b ∷ c ∷ []) ≡ (x ∷ y ∷ z ∷ []) → ⊥
+other {a} {c} differ same = differ (ap (λ l. get_or l 0 0) same)
+
+-- a text of 453 is none of 503, nor the other way round
+overflow_not_full : (sequence slot booked asked : ℕ) → HasCode 503 (overflow_text sequence slot booked asked) → ⊥
+unfolding reply_text reply_front status_line digits
+overflow_not_full sequence slot booked asked is = other (λ p. absurd (omega (arith, p))) is
+
+full_not_overflow : (sequence entries live : ℕ) → HasCode 453 (full_text sequence entries live) → ⊥
+unfolding reply_text reply_front status_line digits
+full_not_overflow sequence entries live is = other (λ p. absurd (omega (arith, p))) is
+
+-- what a reply tells of the station's answers
+pub record TellsOver (made : List Outcome) (text : List ℕ) : Type 0 where
+  pub placed : PlacedEntry
+  pub among : Contains made (Entered placed)
+  pub slot : ℕ
+  pub booked : ℕ
+  pub asked : ℕ
+  pub answer : placed.entry.answer ≡ Overflow slot booked asked
+  pub sequence : ℕ
+  pub text_is : text ≡ overflow_text sequence slot booked asked
+
+-- by what the station has answered up to now
+pub record IsTold (made : List Outcome) (text : List ℕ) : Type 0 where
+  pub overflow : HasCode 453 text → TellsOver made text
+  pub full : HasCode 503 text → ReportsFullOf made text
+
+abbrev pub AreReported : List Outcome → List SentPart → Type 0
+AreReported made [] = Unit {0}
+AreReported made (Film bytes ∷ parts) = AreReported made parts
+AreReported made (Text text ∷ parts) = IsTold made text × AreReported made parts
+
+told_plain : (made : List Outcome) (text : List ℕ) → IsNoRefusal text → IsTold made text
+told_plain made text plain = record {
+  overflow = λ is. absurd (plain.no_overflow is);
+  full = λ is. absurd (plain.not_full is);
+}
+
+-- with more answers
+told_with_more : (made more : List Outcome) (text : List ℕ) → IsTold made text → IsTold (made ++ more) text
+told_with_more made more text told = record {
+  overflow = λ is.
+      let its = told.overflow is in
+      record {
+        placed = its.placed;
+        among = Contains-append_left made more (Entered its.placed) its.among;
+        slot = its.slot;
+        booked = its.booked;
+        asked = its.asked;
+        answer = its.answer;
+        sequence = its.sequence;
+        text_is = its.text_is;
+      };
+  full = λ is.
+      let its = told.full is in
+      record {
+        more = its.more;
+        entries = its.entries;
+        live = its.live;
+        full = Contains-append_left made more (WasFull its.more its.entries its.live) its.full;
+        sequence = its.sequence;
+        text_is = its.text_is;
+      };
+}
+
+are_more : (made more : List Outcome) (parts : List SentPart) → AreReported made parts → AreReported (made ++ more)
+    parts
+are_more made more [] told = tt
+are_more made more (Film bytes ∷ parts) told = are_more made more parts told
+are_more made more (Text text ∷ parts) told = (told_with_more made more text told.0, are_more made more parts told.1)
+
+are_both : (made : List Outcome) (xs ys : List SentPart) → AreReported made xs → AreReported made ys → AreReported made
+    (xs ++ ys)
+are_both made [] ys first second = second
+are_both made (Film bytes ∷ xs) ys first second = are_both made xs ys first second
+are_both made (Text text ∷ xs) ys first second = (first.0, are_both made xs ys first.1 second)
+
+-- what the station answers is told
+told_overflow : {slot booked asked : ℕ} (made : List Outcome) (placed : PlacedEntry) (sequence : ℕ) →
+    placed.entry.answer ≡ Overflow slot booked asked →
+    IsTold (made ++ Entered placed ∷ []) (overflow_text sequence slot booked asked)
+told_overflow {slot} {booked} {asked} made placed sequence answer = record {
+  overflow = λ is. record {
+    placed = placed;
+    among = Contains-push made (Entered placed);
+    slot = slot;
+    booked = booked;
+    asked = asked;
+    answer = answer;
+    sequence = sequence;
+    text_is = refl;
+  };
+  full = λ is. absurd (overflow_not_full sequence slot booked asked is);
+}
+
+told_full : (made : List Outcome) (more entries live sequence : ℕ)
+    → IsTold (made ++ WasFull more entries live ∷ []) (full_text sequence entries live)
+told_full made more entries live sequence = record {
+  overflow = λ is. absurd (full_not_overflow sequence entries live is);
+  full = λ is. record {
+    more = more;
+    entries = entries;
+    live = live;
+    full = Contains-push made (WasFull more entries live);
+    sequence = sequence;
+    text_is = refl;
+  };
+}
+
+-- the station's answer to a play is the one that the entry has
+pub record EntryAnswer (old : SessionState) (placed : PlacedEntry) (answer : Answer) (new : SessionState) : Type 0 where
+  pub answer_is : placed.entry.answer ≡ answer
+  pub answered : IsPlayAnswered old placed answer new
+
+play_told : {answer : Answer} {old : SessionState} {placed : PlacedEntry} {new : SessionState} (made : List Outcome) →
+    ((rest : List ℕ) → IsNoRefusal (old.text ++ rest)) → EntryAnswer old placed answer new →
+    IsTold (made ++ Entered placed ∷ []) new.text
+play_told {answer = Admitted start} {old} {placed} made plain given =
+    subst (IsTold (made ++ Entered placed ∷ [])) (sym (ap (λ (s : SessionState). s.text) given.answered.1))
+    (told_plain (made ++ Entered placed ∷ []) (started_text old.text (start - old.heard))
+    (subst IsNoRefusal
+    (sym (append_assoc old.text (field_line (field (codes "x-Start") (decimal (start - old.heard)))) (codes "\r\n")))
+    (plain (field_line (field (codes "x-Start") (decimal (start - old.heard))) ++ codes "\r\n"))))
+play_told {answer = Overflow slot booked asked} {placed} made plain given =
+    subst (IsTold (made ++ Entered placed ∷ [])) (sym (ap (λ (s : SessionState). s.text) given.answered))
+    (told_overflow made placed _ given.answer_is)
+play_told {answer = Halted} made plain given = absurd given.answered
+play_told {answer = Looked now at booked} made plain given = absurd given.answered
+
+look_told : (made : List Outcome) (old : SessionState) (placed : PlacedEntry) (answer : Answer) (new : SessionState) →
+    IsLookAnswered old placed answer new →
+    IsTold (made ++ Entered placed ∷ []) new.text
+look_told made old placed (Admitted start) new answered = absurd answered
+look_told made old placed (Overflow slot booked asked) new answered = absurd answered
+look_told made old placed Halted new answered = absurd answered
+look_told made old placed (Looked now at booked) new answered =
+    subst (IsTold (made ++ Entered placed ∷ [])) (sym (ap (λ (s : SessionState). s.text) answered))
+    (told_plain (made ++ Entered placed ∷ []) _ (ok_plain _ _ _))
+
+full_told : {new : SessionState} (made : List Outcome) (old : SessionState) (more entries live : ℕ) →
+    new ≡ after_full old entries live →
+    IsTold (made ++ WasFull more entries live ∷ []) new.text
+full_told {new} made old more entries live is =
+    subst (IsTold (made ++ WasFull more entries live ∷ [])) (sym (ap (λ (s : SessionState). s.text) is))
+    (told_full made more entries live _)
+
+-- a halt leaves the reply
+pub halted_text : (old : SessionState) (keep : ℕ) (outcome : Outcome) (new : SessionState) → IsHalted old keep outcome
+    new
+    → new.text ≡ old.text
+halted_text old keep Unasked new halted = absurd halted
+halted_text old keep (Entered placed) new halted = ap (λ (s : SessionState). s.text) halted.halts
+halted_text old keep (WasFull more entries live) new halted = absurd halted
+halted_text old keep (Offered at_slot note) new halted = absurd halted
+
+-- the station's answer to a session whose text tells of no refusal
+pub record PlainAnswer (old : SessionState) (ask : Ask) (outcome : Outcome) (new : SessionState) : Type 0 where
+  pub plain : RefusesNone ask old
+  pub answered : IsAskAnswered old ask outcome new
+
+answered_told : {old new : SessionState} (made : List Outcome) (ask : Ask) (outcome : Outcome) →
+    PlainAnswer old ask outcome new → IsTold (made ++ outcome ∷ []) new.text
+answered_told {old} made AskReply Unasked given =
+    subst (IsTold (made ++ Unasked ∷ [])) (sym (ap (λ (s : SessionState). s.text) given.answered))
+    (told_plain (made ++ Unasked ∷ []) old.text given.plain)
+answered_told made AskReply (Entered placed) given = absurd given.answered
+answered_told made AskReply (WasFull more entries live) given = absurd given.answered
+answered_told made AskReply (Offered at_slot note) given = absurd given.answered
+answered_told made (AskPlay plan) Unasked given = absurd given.answered
+answered_told {old} made (AskPlay plan) (Entered placed) given =
+    play_told {old = old} made given.plain (record { answer_is = refl; answered = given.answered.1 })
+answered_told {old} made (AskPlay plan) (WasFull more entries live) given =
+    full_told made old more entries live given.answered.0
+answered_told made (AskPlay plan) (Offered at_slot note) given = absurd given.answered
+answered_told {old} {new} made (AskHalt keep) outcome given =
+    subst (IsTold (made ++ outcome ∷ [])) (sym (halted_text old keep outcome new given.answered))
+    (told_plain (made ++ outcome ∷ []) old.text given.plain)
+answered_told made (AskLook slot) Unasked given = absurd given.answered
+answered_told {old} {new} made (AskLook slot) (Entered placed) given =
+    look_told made old placed placed.entry.answer new given.answered.1
+answered_told {old} made (AskLook slot) (WasFull more entries live) given =
+    full_told made old more entries live given.answered.0
+answered_told made (AskLook slot) (Offered at_slot note) given = absurd given.answered
+answered_told made (AskOffer plan offers) Unasked given = absurd given.answered
+answered_told made (AskOffer plan offers) (Entered placed) given = absurd given.answered
+answered_told made (AskOffer plan offers) (WasFull more entries live) given = absurd given.answered
+answered_told made (AskOffer plan offers) (Offered at_slot note) given =
+    subst (IsTold (made ++ Offered at_slot note ∷ [])) (sym (ap (λ (s : SessionState). s.text) given.answered.2))
+    (told_plain (made ++ Offered at_slot note ∷ []) _ (ok_plain _ _ _))
+
+heard_told : (made : List Outcome) (old : SessionState) (message : List ℕ) (outcome : Outcome) (new : SessionState) →
+    HasHeard old message outcome new →
+    IsTold (made ++ outcome ∷ []) new.text
+heard_told made old message outcome new heard =
+    answered_told made heard.ask outcome
+    (record { plain = hears_text old heard.asking message heard.ask heard.hears; answered = heard.answered })
+
+-- a reply that goes out
+reply_told : (made : List Outcome) (goes : Bool) (text : List ℕ) → IsTold made text
+    → AreReported made (if goes then Text text ∷ [] else [])
+reply_told made false text told = tt
+reply_told made true text told = (told, tt)
+
+reply_text_is : (goes : Bool) (s : SessionState) → (if goes then sent_reply s else s).text ≡ s.text
+reply_text_is true s = refl
+reply_text_is false s = refl
+
+-- elements: what was sent tells, and so does the reply that waits
+record Tells (made : List Outcome) (s : SessionState) (parts : List SentPart) : Type 0 where
+  waiting : IsTold made s.text
+  sent : AreReported made parts
+
+taking_tells : {old new : Stage} {message : List ℕ} {outcome : Outcome} {parts : List SentPart} (made : List Outcome) →
+    TakesElement old (Answered message outcome parts) new → Tells (made ++ outcome ∷ []) new.session parts
+taking_tells {old} {new} {message} {outcome} made takes =
+    let goes : Bool = can_reply takes.answered in
+    let told : IsTold (made ++ outcome ∷ []) takes.answered.text =
+    heard_told made old.session message outcome takes.answered takes.heard in
+    let text : new.session.text ≡ takes.answered.text =
+    ap (λ (s : Stage). s.session.text) takes.new_is ∙ reply_text_is goes takes.answered in
+    record {
+      waiting = subst (IsTold (made ++ outcome ∷ [])) (sym text) told;
+      sent = subst (AreReported (made ++ outcome ∷ [])) (sym takes.parts_are)
+          (reply_told (made ++ outcome ∷ []) goes takes.answered.text told);
+    }
+
+tells_same : (made made' : List Outcome) (s : SessionState) (parts : List SentPart) → made ≡ made' → Tells made s parts
+    → Tells made' s parts
+tells_same made made' s parts same tells = subst (λ m. Tells m s parts) same tells
+
+takings_tell : (made : List Outcome) (old new : Stage) (takings : List ElementStep) → IsTold made old.session.text →
+    TakesAll old takings new →
+    Tells (made ++ takings_outcomes takings) new.session (takings_parts takings)
+takings_tell made old new [] told takes =
+    tells_same made (made ++ []) new.session [] (sym (append-nil made))
+    (record { waiting = subst (λ (s : Stage). IsTold made s.session.text) (sym takes) told; sent = tt })
+takings_tell made old new (Passed n ∷ takings) told takes =
+    takings_tell made takes.0 new takings
+    (subst (λ (s : Stage). IsTold made s.session.text) (sym takes.1.0.2) told) takes.1.1
+takings_tell made old new (Answered message outcome parts ∷ takings) told takes =
+    let first = taking_tells made takes.1.0 in
+    let rest = takings_tell (made ++ outcome ∷ []) takes.0 new takings first.waiting takes.1.1 in
+    let all : (made ++ outcome ∷ []) ++ takings_outcomes takings ≡ made ++ outcome ∷ takings_outcomes takings =
+    append_assoc made (outcome ∷ []) (takings_outcomes takings) in
+    tells_same ((made ++ outcome ∷ []) ++ takings_outcomes takings) (made ++ outcome ∷ takings_outcomes takings)
+    new.session (parts ++ takings_parts takings) all
+    (record {
+      waiting = rest.waiting;
+      sent = are_both ((made ++ outcome ∷ []) ++ takings_outcomes takings) parts (takings_parts takings)
+          (are_more (made ++ outcome ∷ []) (takings_outcomes takings) parts first.sent) rest.sent;
+    })
+
+-- a slot leaves the reply, and sends it or not
+slot_text_cases : (taken sending : Bool) (standings : SlotStandings) →
+    standings.sending.text ≡ standings.before.text → standings.still.text ≡ standings.before.text →
+    (if taken then (if sending then standings.sending else standings.still) else standings.before).text
+    ≡ standings.before.text
+slot_text_cases false sending standings one other = refl
+slot_text_cases true false standings one other = other
+slot_text_cases true true standings one other = one
+
+slot_text : (old : SessionState) (slot : ℕ) → (after_slot old slot).text ≡ old.text
+slot_text old slot =
+    slot_text_cases (is_taken old slot) (is_sending old.state)
+    (record { sending = after_play (sent_slot old slot); still = record old { heard = slot }; before = old })
+    (reply_text_is (old.waits && is_between (stepped_in true slot old.state)) (sent_due old slot)) refl
+
+due_told : {made : List Outcome} {text : List ℕ} (sends waits between : Bool) (bytes : SlotBytes) → IsTold made text →
+    AreReported made (if sends then (if waits then Film bytes.before ∷
+    (if between then Text text ∷ Film bytes.rest ∷ [] else []) else
+    Film bytes.plain ∷ []) else [])
+due_told {made} {text} false waits between bytes told = tt
+due_told {made} {text} true false between bytes told = tt
+due_told {made} {text} true true false bytes told = tt
+due_told {made} {text} true true true bytes told = (told, tt)
+
+slot_tells : (made : List Outcome) (old : SessionState) (slot : ℕ) → IsTold made old.text
+    → AreReported made (slot_parts old slot)
+slot_tells made old slot told =
+    due_told (is_taken old slot && is_sending old.state) old.waits (is_between (stepped_in true slot old.state))
+    (record { before = _; rest = _; plain = _ }) told
+
+finished_text : (asks : AwaitedAnswer) (old : SessionState) (halt : Outcome) (new : SessionState)
+    → IsFinished asks old halt new → new.text ≡ old.text
+finished_text NoAnswer old Unasked new is = ap (λ (s : SessionState). s.text) is
+finished_text NoAnswer old (Entered placed) new is = absurd is
+finished_text NoAnswer old (WasFull more entries live) new is = absurd is
+finished_text NoAnswer old (Offered at_slot note) new is = absurd is
+finished_text (PlayAnswer plan) old halt new is = absurd is
+finished_text (HaltAnswer keep) old halt new is = halted_text old keep halt new is
+finished_text LookAnswer old halt new is = absurd is
+finished_text OfferAnswer old halt new is = absurd is
+
+comes_tells : {made : List Outcome} {due : List SentPart} (old new : Stage) (event : IoEvent) (halt : Outcome) →
+    IsTold made old.session.text →
+    Comes old event due halt new → Tells made new.session due
+comes_tells {made} old new (HeardBytes bytes) halt told comes = record {
+  waiting = subst (λ (s : Stage). IsTold made s.session.text) (sym comes.3) told;
+  sent = subst (AreReported made) (sym comes.0) tt;
+}
+comes_tells {made} old new (HeardSlot slot) halt told comes =
+    let s = after_slot old.session slot in
+    let text : new.session.text ≡ old.session.text =
+    finished_text (awaited_answer s) s halt new.session comes.1.finished ∙ slot_text old.session slot in
+    record {
+      waiting = subst (IsTold made) (sym text) told;
+      sent = subst (AreReported made) (sym comes.1.parts_are) (slot_tells made old.session slot told);
+    }
+comes_tells {made} old new HeardEnd halt told comes = absurd comes
+comes_tells {made} old new (Sent byte) halt told comes = absurd comes
+
+-- a round, and rounds
+round_tells : (made : List Outcome) (old new : Stage) (round : Round) → IsTold made old.session.text →
+    Runs old round new →
+    Tells (made ++ round_outcomes round) new.session (round_parts round)
+round_tells made old new round told runs =
+    let first = comes_tells old runs.opened round.event round.halt told runs.comes in
+    let opened : IsTold (made ++ round.halt ∷ []) runs.opened.session.text =
+    told_with_more made (round.halt ∷ []) runs.opened.session.text first.waiting in
+    let rest = takings_tell (made ++ round.halt ∷ []) runs.opened new round.takings opened runs.takes in
+    let all : (made ++ round.halt ∷ []) ++ takings_outcomes round.takings ≡ made ++ round_outcomes round =
+    append_assoc made (round.halt ∷ []) (takings_outcomes round.takings) in
+    record {
+      waiting = subst (λ m. IsTold m new.session.text) all rest.waiting;
+      sent = are_both (made ++ round_outcomes round) round.due (takings_parts round.takings)
+          (are_more made (round_outcomes round) round.due first.sent)
+          (subst (λ m. AreReported m (takings_parts round.takings)) all rest.sent);
+    }
+
+rounds_tell : (made : List Outcome) (old new : Stage) (rounds : List Round) → IsTold made old.session.text →
+    RunsAll old rounds new →
+    Tells (made ++ rounds_outcomes rounds) new.session (rounds_parts rounds)
+rounds_tell made old new [] told runs =
+    tells_same made (made ++ []) new.session [] (sym (append-nil made))
+    (record { waiting = subst (λ (s : Stage). IsTold made s.session.text) (sym runs) told; sent = tt })
+rounds_tell made old new (round ∷ rounds) told runs =
+    let first = round_tells made old runs.0 round told runs.1.0 in
+    let rest = rounds_tell (made ++ round_outcomes round) runs.0 new rounds first.waiting runs.1.2 in
+    let all : (made ++ round_outcomes round) ++ rounds_outcomes rounds
+    ≡ made ++ (round_outcomes round ++ rounds_outcomes rounds) =
+    append_assoc made (round_outcomes round) (rounds_outcomes rounds) in
+    tells_same ((made ++ round_outcomes round) ++ rounds_outcomes rounds)
+    (made ++ (round_outcomes round ++ rounds_outcomes rounds)) new.session
+    (round_parts round ++ rounds_parts rounds) all
+    (record {
+      waiting = rest.waiting;
+      sent = are_both ((made ++ round_outcomes round) ++ rounds_outcomes rounds) (round_parts round)
+          (rounds_parts rounds)
+          (are_more (made ++ round_outcomes round) (rounds_outcomes rounds) (round_parts round) first.sent) rest.sent;
+    })
+
+-- how a connection ended, from a stage on and after so many events
+pub record CourseEnd (old : Stage) (ending : Ending) : Type 0 where
+  pub count : ℕ
+  pub end : ConnEnd
+  pub new : Stage
+  pub ends : Ends old count ending end new
+
+-- the last round
+ending_tells : {made : List Outcome} {old : Stage} (ending : Ending) → IsTold made old.session.text →
+    CourseEnd old ending → AreReported (made ++ ending_outcomes ending) (rounds_parts (ending_rounds ending))
+ending_tells {made} Unheard told ended = tt
+ending_tells {made} PeerEnded told ended = tt
+ending_tells {made} (Overfull bytes) told ended = tt
+ending_tells {made} {old} (AtElement round) told ended =
+    are_both (made ++ round_outcomes round) (round_parts round) []
+    (round_tells made old ended.new round told ended.ends.0).sent tt
+ending_tells {made} (InSlot slot front) told ended = tt
+ending_tells {made} {old} (InReply round message outcome front) told ended =
+    let first = round_tells made old ended.ends.1.mid round told ended.ends.1.runs in
+    let all : (made ++ round_outcomes round) ++ outcome ∷ [] ≡ made ++ (round_outcomes round ++ outcome ∷ []) =
+    append_assoc made (round_outcomes round) (outcome ∷ []) in
+    subst (λ m. AreReported m (rounds_parts (round ∷ []))) all
+    (are_more (made ++ round_outcomes round) (outcome ∷ []) (round_parts round ++ [])
+    (are_both (made ++ round_outcomes round) (round_parts round) [] first.sent tt))
+
+pub parts-more : (rounds more : List Round) → rounds_parts (rounds ++ more) ≡ rounds_parts rounds ++ rounds_parts more
+parts-more [] more = refl
+parts-more (round ∷ rounds) more =
+    ap (λ ps. round_parts round ++ ps) (parts-more rounds more)
+    ∙ sym (append_assoc (round_parts round) (rounds_parts rounds) (rounds_parts more))
+
+no_digits : (a b c : ℕ) → [] ≡ a ∷ b ∷ c ∷ [] → ⊥
+no_digits a b c same = cc
+
+nothing_told : IsTold [] []
+unfolding digits
+nothing_told = record { overflow = λ is. absurd (no_digits 52 53 51 is); full = λ is. absurd (no_digits 53 48 51 is) }
+
+-- over a whole course
+pub course_tells : {ending : Ending} (old mid : Stage) (rounds : List Round) → old.session.text ≡ [] →
+    RunsAll old rounds mid →
+    CourseEnd mid ending
+    → AreReported (rounds_outcomes rounds ++ ending_outcomes ending) (rounds_parts (rounds ++ ending_rounds ending))
+course_tells {ending} old mid rounds none runs ended =
+    let made : List Outcome = rounds_outcomes rounds ++ ending_outcomes ending in
+    let first = rounds_tell [] old mid rounds (subst (IsTold []) (sym none) nothing_told) runs in
+    let last = ending_tells ending first.waiting ended in
+    subst (AreReported made) (sym (parts-more rounds (ending_rounds ending)))
+    (are_both made (rounds_parts rounds) (rounds_parts (ending_rounds ending))
+    (are_more (rounds_outcomes rounds) (ending_outcomes ending) (rounds_parts rounds) first.sent) last)

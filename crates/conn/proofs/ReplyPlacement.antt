@@ -1,0 +1,260 @@
+-- Lemmas on where replies stand among a film's frames and reports.
+use Rattle.std.proofs.Common.{◌≡◌, ℕ, ◌+◌, ◌-◌, ◌≤◌, ◌++◌, ◌&&◌, Bool, true, false, if◌then◌else◌}
+use Rattle.std.proofs.Common.{List, [], ◌∷◌, length, take, drop, refl, ap, sym, ◌∙◌, subst, arith}
+use Rattle.std.proofs.lemmas.Bool.{and_parts, eqb-true}
+use Rattle.std.proofs.lemmas.List.{append-nil, append_assoc, length-append}
+use Rattle.film_frames.specs.Tracks.{IsBoundary, framed_bytes}
+use Rattle.pacer.specs.PacerStates.{IsPacerState, PacerState, first_slots, next_boundary, plan_bytes, at_slot}
+use Rattle.pacer.specs.PacerStates.{stands_at_boundary, step_end, after_step}
+use Rattle.pacer.proofs.PacerStateLemmas.{boundary-from}
+use Rattle.pacer.proofs.SendLemmas.{between-length}
+use Rattle.vod_base.specs.Links.{IoEvent, HeardBytes, HeardEnd, HeardSlot, Sent}
+use Rattle.session.specs.declared.states.Play.{Play as Played}
+use Rattle.session.specs.declared.states.Setup.{Setup}
+use Rattle.session.specs.declared.states.State.{State}
+use Rattle.session.specs.declared.states.State.TheVariants.{Playing}
+use Rattle.session.specs.SlotSteps.{can_reply, is_between, is_sending, is_taken, step_bytes}
+use Rattle.session.specs.SlotSteps.{stepped_in}
+use Rattle.session.specs.SessionStates.{SessionState}
+use Rattle.conn.specs.InputSteps.{SentPart, Film, Text, Stage, ElementStep, Passed, Answered, TakesAll}
+use Rattle.conn.specs.InputSteps.{due_parts, film_bytes, reply_parts}
+use Rattle.conn.specs.EventSteps.{Round, Runs, RunsAll, round_outcomes, rounds_outcomes}
+use Rattle.conn.specs.EventSteps.{takings_outcomes}
+use Rattle.conn.specs.Films.{HaveNoHalt, GoesOn, HasSent, StandBetween, PlaySpan, round_parts}
+use Rattle.conn.specs.Films.{rounds_parts, takings_parts}
+use Rattle.pacer.proofs.SlotStepLemmas.{most-slots}
+use Rattle.conn.proofs.FilmBytes.{stopped_is}
+use Rattle.conn.proofs.PlayProgress.{comes_on, heard_left, round_on, taking_left, takes_left}
+use Rattle.conn.proofs.PlayProgress.{unhalted_front, unhalted_rest}
+use Rattle.conn.proofs.EventPremises.{SlotBytes, EventCome, PlayGoing}
+
+-- as many bytes were sent as the plan has up to the heard slot
+pub film_count : (play : Played) (heard : ℕ) (film : List ℕ) → HasSent play heard film
+    → length film ≡ first_slots play.pacer.plan (heard + 1 - play.start)
+film_count play heard film has =
+    let p = play.pacer in
+    let n : ℕ = first_slots p.plan (heard + 1 - p.start) in
+    let few : n ≤ p.keep = omega (arith, most-slots p.plan (heard + 1 - p.start) has.pacing.plan, has.kept) in
+    let whole : p.before + n ≤ length (framed_bytes p.pieces) = omega (arith, few, has.pacing.whole, has.pacing.most) in
+    let exact : (p.before + n) - p.before ≡ n = omega arith in
+    ap length has.film_is ∙ ap (λ k. length (take k (drop p.before (framed_bytes p.pieces)))) (sym exact)
+    ∙ between-length p.pieces p.before (p.before + n) (omega arith) whole ∙ exact
+    ∙ ap (λ s. first_slots p.plan (heard + 1 - s)) has.start
+
+-- what was sent of a play ends where its film does
+sent_place : (play : Played) (heard : ℕ) (film : List ℕ) → HasSent play heard film
+    → play.pacer.before + length film ≡ play.pacer.before + play.pacer.sent
+sent_place play heard film has =
+    let sent : play.pacer.sent ≡ first_slots play.pacer.plan (heard + 1 - play.start) =
+    has.sent ∙ ap (first_slots play.pacer.plan) has.passed in
+    omega (arith, film_count play heard film has, sent)
+
+-- a pacing that stands at a boundary
+pub boundary_here : (p : PacerState) → IsPacerState p → stands_at_boundary p ≡ true → IsBoundary p.pieces (p.before +
+    p.sent)
+boundary_here p is stands =
+    let inside : p.before + p.sent ≤ length (framed_bytes p.pieces) =
+    omega (arith, is.whole, is.most, is.due, is.sent) in
+    let next = boundary-from p.pieces (p.before + p.sent) inside in
+    let same : next_boundary p ≡ p.sent = eqb-true (next_boundary p) p.sent stands in
+    subst (IsBoundary p.pieces) (omega (arith, same, next.after)) next.boundary
+
+-- as far as a step with a stop goes
+stopped_place : (slot : ℕ) (p : PacerState) → IsPacerState p
+    → (p.before + p.sent) + length (plan_bytes p p.sent (step_end true (at_slot slot p)))
+    ≡ p.before + (after_step true slot p).sent
+stopped_place slot p is =
+    let mid : ℕ = step_end true (at_slot slot p) in
+    let inside : p.before + p.sent ≤ length (framed_bytes p.pieces) =
+    omega (arith, is.whole, is.most, is.due, is.sent) in
+    let next = boundary-from p.pieces (p.before + p.sent) inside in
+    let least : p.sent ≤ mid = omega (arith, next.after, is.sent) in
+    let now = stopped_is slot p is in
+    let most : p.before + mid ≤ length (framed_bytes p.pieces) =
+    omega (arith, now.whole, now.most, now.due, now.sent) in
+    omega (arith, least, between-length p.pieces (p.before + p.sent) (p.before + mid) (omega (arith, least)) most)
+
+stand-append : (pieces : List (List ℕ)) (place : ℕ) (xs ys : List SentPart) → StandBetween pieces place xs →
+    StandBetween pieces (place + length (film_bytes xs)) ys → StandBetween pieces place (xs ++ ys)
+stand-append pieces place [] ys first second = subst (λ n. StandBetween pieces n ys) (omega arith) second
+stand-append pieces place (Film bytes ∷ xs) ys first second =
+    stand-append pieces (place + length bytes) xs ys first
+    (subst (λ n. StandBetween pieces n ys) (omega (arith, length-append bytes (film_bytes xs))) second)
+stand-append pieces place (Text text ∷ xs) ys first second = (first.0, stand-append pieces place xs ys first.1 second)
+
+-- a slot's parts
+slot_stands : {between : Bool} {pieces : List (List ℕ)} (waits : Bool) (place : ℕ) (bytes : SlotBytes)
+    (text : List ℕ) → (between ≡ true → IsBoundary pieces (place + length bytes.before)) →
+    StandBetween pieces place
+    (if waits then Film bytes.before ∷ (if between then Text text ∷ Film bytes.rest ∷ [] else []) else Film
+    bytes.plain ∷ [])
+slot_stands {between} false place bytes text stands = tt
+slot_stands {between = false} true place bytes text stands = tt
+slot_stands {between = true} true place bytes text stands = (stands refl, tt)
+
+due_stand : {setup : Setup} {play : Played} {film : List ℕ} (session : SessionState) (slot : ℕ) →
+    session.state ≡ Playing setup play →
+    HasSent play session.heard film → StandBetween play.pacer.pieces (play.pacer.before + length film)
+    (due_parts session slot)
+due_stand {setup} {play} {film} session slot is has =
+    let p = play.pacer in
+    let State' : State → Type 0 =
+    λ st. (is_between (stepped_in true slot st) ≡ true
+    → IsBoundary p.pieces ((p.before + length film) + length (step_bytes true slot st))) in
+    let stands : State' (Playing setup play) =
+    λ between. subst (IsBoundary p.pieces)
+    (omega (arith, sent_place play session.heard film has, stopped_place slot p has.pacing))
+    (boundary_here (after_step true slot p) (stopped_is slot p has.pacing) between) in
+    slot_stands session.waits (p.before + length film) (record {
+      before = step_bytes true slot session.state;
+      rest = step_bytes false slot (stepped_in true slot session.state);
+      plain = step_bytes false slot session.state;
+    }) session.text
+    (subst State' (sym is) stands)
+
+none_stand : (goes : Bool) (pieces : List (List ℕ)) (place : ℕ) (parts : List SentPart) →
+    (goes ≡ true → StandBetween pieces place parts) →
+    StandBetween pieces place (if goes then parts else [])
+none_stand true pieces place parts stands = stands refl
+none_stand false pieces place parts stands = tt
+
+comes_stand : {setup : Setup} {play : Played} {film : List ℕ} {old new : Stage} {event : IoEvent}
+    (come : EventCome old event new) → PlayGoing setup play film old.session →
+    StandBetween play.pacer.pieces (play.pacer.before + length film) come.due
+comes_stand {play} {film} {event = HeardBytes bytes} come going =
+    subst (StandBetween play.pacer.pieces (play.pacer.before + length film)) (sym come.comes.0) tt
+comes_stand {play} {film} {old} {event = HeardSlot slot} come going =
+    subst (StandBetween play.pacer.pieces (play.pacer.before + length film)) (sym come.comes.1.parts_are)
+    (none_stand (is_taken old.session slot && is_sending old.session.state) play.pacer.pieces
+    (play.pacer.before + length film) (due_parts old.session slot)
+    (λ goes. due_stand old.session slot going.state going.sent))
+comes_stand {event = HeardEnd} come going = absurd come.comes
+comes_stand {event = Sent byte} come going = absurd come.comes
+
+-- a reply's part
+reply_stands : (session : SessionState) (setup : Setup) (play : Played) (film : List ℕ) →
+    session.state ≡ Playing setup play →
+    HasSent play session.heard film → StandBetween play.pacer.pieces (play.pacer.before + length film)
+    (reply_parts session)
+reply_stands session setup play film is has =
+    none_stand (can_reply session) play.pacer.pieces (play.pacer.before + length film) (Text session.text ∷ [])
+    (λ can. (
+      subst (IsBoundary play.pacer.pieces) (sym (sent_place play session.heard film has))
+          (boundary_here play.pacer has.pacing
+          (subst (λ st. is_between st ≡ true) is (and_parts session.waits (is_between session.state) can).1)),
+      tt,
+    ))
+
+pub no_film : (goes : Bool) (text : List ℕ) → film_bytes (if goes then Text text ∷ [] else []) ≡ []
+no_film true text = refl
+no_film false text = refl
+
+pub film_bytes-append : (xs ys : List SentPart) → film_bytes (xs ++ ys) ≡ film_bytes xs ++ film_bytes ys
+film_bytes-append [] ys = refl
+film_bytes-append (Film bytes ∷ xs) ys =
+    ap (λ bs. bytes ++ bs) (film_bytes-append xs ys) ∙ sym (append_assoc bytes (film_bytes xs) (film_bytes ys))
+film_bytes-append (Text text ∷ xs) ys = film_bytes-append xs ys
+
+pub takings_film : (old new : Stage) (takings : List ElementStep) → TakesAll old takings new
+    → film_bytes (takings_parts takings) ≡ []
+takings_film old new [] takes = refl
+takings_film old new (Passed n ∷ takings) takes = takings_film takes.0 new takings takes.1.1
+takings_film old new (Answered message outcome parts ∷ takings) takes =
+    film_bytes-append parts (takings_parts takings)
+    ∙ ap (λ bs. bs ++ film_bytes (takings_parts takings))
+    (ap film_bytes takes.1.0.parts_are ∙ no_film (can_reply takes.1.0.answered) takes.1.0.answered.text)
+    ∙ takings_film takes.0 new takings takes.1.1
+
+takes_stand : {setup : Setup} {play : Played} {film : List ℕ} (old new : Stage) (takings : List ElementStep) →
+    TakesAll old takings new → HaveNoHalt (takings_outcomes takings) → PlayGoing setup play film old.session →
+    StandBetween play.pacer.pieces (play.pacer.before + length film) (takings_parts takings)
+takes_stand old new [] takes free going = tt
+takes_stand {play} {film} old new (Passed n ∷ takings) takes free going =
+    let left = taking_left old takes.0 (Passed n) takes.1.0 tt going.state in
+    takes_stand takes.0 new takings takes.1.1 free (record {
+      state = left.0 ∙ going.state;
+      sent = subst (λ h. HasSent play h film) (sym left.1) going.sent;
+    })
+takes_stand {setup} {play} {film} old new (Answered message outcome parts ∷ takings) takes free going =
+    let first : HaveNoHalt (outcome ∷ []) = (free.0, tt) in
+    let left = taking_left old takes.0 (Answered message outcome parts) takes.1.0 first is in
+    let heard = heard_left takes.1.0.heard free.0 is in
+    let place : ℕ = play.pacer.before + length film in
+    let none : film_bytes parts ≡ [] =
+    ap film_bytes takes.1.0.parts_are ∙ no_film (can_reply takes.1.0.answered) takes.1.0.answered.text in
+    let reply : StandBetween play.pacer.pieces place parts =
+    subst (StandBetween play.pacer.pieces place) (sym takes.1.0.parts_are)
+    (reply_stands takes.1.0.answered setup play film (heard.0 ∙ is)
+    (subst (λ h. HasSent play h film) (sym heard.1) has)) in
+    let rest : StandBetween play.pacer.pieces place (takings_parts takings) =
+    takes_stand takes.0 new takings takes.1.1 free.1
+    (record { state = left.0 ∙ is; sent = subst (λ h. HasSent play h film) (sym left.1) has }) in
+    stand-append play.pacer.pieces place parts (takings_parts takings) reply
+    (subst (λ n. StandBetween play.pacer.pieces n (takings_parts takings)) (omega (arith, ap length none)) rest)
+  where
+    open going use {state as is, sent as has}
+
+round_stands : {old new : Stage} {round : Round} {setup : Setup} {play : Played} {film : List ℕ} →
+    Runs old round new → HaveNoHalt (round_outcomes round) →
+    old.session.state ≡ Playing setup play → HasSent play old.session.heard film →
+    StandBetween play.pacer.pieces (play.pacer.before + length film) (round_parts round)
+round_stands {old} {new} {round} {play} {film} runs free is has =
+    let opened = runs.opened in
+    let on = comes_on (record { due = round.due; halt = round.halt; comes = runs.comes }) free.0
+    (record { state = is; sent = has }) in
+    let rest : StandBetween on.now.pacer.pieces (on.now.pacer.before + length (film ++ film_bytes round.due))
+    (takings_parts round.takings) =
+    takes_stand opened new round.takings runs.takes free.1 (record { state = on.state; sent = on.sent }) in
+    let same : StandBetween play.pacer.pieces (on.now.pacer.before + length (film ++ film_bytes round.due))
+    (takings_parts round.takings) =
+    subst (λ ps. StandBetween ps (on.now.pacer.before + length (film ++ film_bytes round.due))
+    (takings_parts round.takings)) on.pieces rest in
+    stand-append play.pacer.pieces (play.pacer.before + length film) round.due (takings_parts round.takings)
+    (comes_stand (record { due = round.due; halt = round.halt; comes = runs.comes })
+    (record { state = is; sent = has }))
+    (subst (λ n. StandBetween play.pacer.pieces n (takings_parts round.takings))
+    (omega (arith, on.before, length-append film (film_bytes round.due))) same)
+
+-- while a play goes on, each reply stands between frames and reports
+pub rounds_stand : {setup : Setup} {play : Played} {film : List ℕ} (old new : Stage) (rounds : List Round) →
+    RunsAll old rounds new → HaveNoHalt (rounds_outcomes rounds) → PlayGoing setup play film old.session →
+    StandBetween play.pacer.pieces (play.pacer.before + length film) (rounds_parts rounds)
+rounds_stand old new [] runs free going = tt
+rounds_stand {setup} {play} {film} old new (round ∷ rounds) runs free going =
+    let first_free = unhalted_front (round_outcomes round) (rounds_outcomes rounds) free in
+    let on = round_on runs.1.0 first_free going.state going.sent in
+    let more : List ℕ = film ++ film_bytes round.due in
+    let rest : StandBetween on.now.pacer.pieces (on.now.pacer.before + length more) (rounds_parts rounds) =
+    rounds_stand {setup = setup} {play = on.now} {film = more} runs.0 new rounds runs.1.2
+    (unhalted_rest (round_outcomes round) (rounds_outcomes rounds) free)
+    (record { state = on.state; sent = on.sent }) in
+    let same : StandBetween play.pacer.pieces (on.now.pacer.before + length more) (rounds_parts rounds) =
+    subst (λ ps. StandBetween ps (on.now.pacer.before + length more) (rounds_parts rounds)) on.pieces rest in
+    let film_is : length (film_bytes (round_parts round)) ≡ length (film_bytes round.due) =
+    ap length (film_bytes-append round.due (takings_parts round.takings)
+    ∙ ap (λ bs. film_bytes round.due ++ bs) (takings_film runs.1.0.opened runs.0 round.takings runs.1.0.takes)
+    ∙ append-nil (film_bytes round.due)) in
+    stand-append play.pacer.pieces (play.pacer.before + length film) (round_parts round) (rounds_parts rounds)
+    (round_stands runs.1.0 first_free going.state going.sent)
+    (subst (λ n. StandBetween play.pacer.pieces n (rounds_parts rounds))
+    (omega (arith, on.before, film_is, length-append film (film_bytes round.due))) same)
+
+-- from a play's beginning on
+pub replies_stand : (s : PlaySpan) → GoesOn s →
+    StandBetween s.play.pacer.pieces (s.play.pacer.before + length s.film)
+    (takings_parts s.takings ++ rounds_parts s.rounds)
+replies_stand s on =
+    let first = unhalted_front (takings_outcomes s.takings) (rounds_outcomes s.rounds) on.unhalted in
+    let after = unhalted_rest (takings_outcomes s.takings) (rounds_outcomes s.rounds) on.unhalted in
+    let left = takes_left s.old on.mid s.takings on.takes first on.state in
+    let pieces = s.play.pacer.pieces in
+    let place : ℕ = s.play.pacer.before + length s.film in
+    let rest : StandBetween pieces place (rounds_parts s.rounds) =
+    rounds_stand on.mid s.new s.rounds on.runs after (record {
+      state = left.0 ∙ on.state;
+      sent = subst (λ h. HasSent s.play h s.film) (sym left.1) on.sent;
+    }) in
+    stand-append pieces place (takings_parts s.takings) (rounds_parts s.rounds)
+    (takes_stand s.old on.mid s.takings on.takes first (record { state = on.state; sent = on.sent }))
+    (subst (λ n. StandBetween pieces n (rounds_parts s.rounds))
+    (omega (arith, ap length (takings_film s.old on.mid s.takings on.takes))) rest)

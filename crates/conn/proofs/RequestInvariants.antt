@@ -1,0 +1,272 @@
+-- Through each request a session keeps its films, its settings and what SETUP settled, and a play
+-- that it asks for is a sending.
+use Rattle.std.proofs.Common.{◌≡◌, ℕ, ◌++◌, ◌∷◌, List, [], length, Option, refl, sym, ap, subst, ◌∙◌, inl, inr}
+use Rattle.film_frames.specs.declared.stored_films.Stored.{Stored}
+use Rattle.film_frames.specs.FramedRuns.{run_pieces}
+use Rattle.film_run.specs.declared.runs.Run.{Run}
+use Rattle.film_run.specs.Laws.{IsSending}
+use Rattle.film_run.specs.Units.{stored_sizes}
+use Rattle.pacer.specs.PacerStates.{PacerState}
+use Rattle.session.specs.declared.commands.Ask.{Ask}
+use Rattle.session.specs.declared.commands.Ask.TheVariants.{Reply as AskReply, Play as AskPlay}
+use Rattle.session.specs.declared.commands.Ask.TheVariants.{Halt as AskHalt, Look as AskLook}
+use Rattle.session.specs.declared.commands.Ask.TheVariants.{Offer as AskOffer}
+use Rattle.session.specs.declared.notes.PlayNote.{PlayNote}
+use Rattle.session.specs.declared.settings.Settings.{Settings}
+use Rattle.session.specs.declared.states.Awaited.{Awaited}
+use Rattle.session.specs.declared.states.Awaited.TheVariants.{Play}
+use Rattle.session.specs.declared.states.Counts.{Counts}
+use Rattle.session.specs.declared.states.AfterHalt.{AfterHalt}
+use Rattle.session.specs.declared.states.AfterHalt.TheVariants.{Done, Paused, Torn}
+use Rattle.session.specs.declared.states.Play.{Play as Played}
+use Rattle.session.specs.declared.states.Prepared.{Prepared}
+use Rattle.session.specs.declared.states.Setup.{Setup}
+use Rattle.session.specs.declared.states.StreamSource.{StreamSource}
+use Rattle.session.specs.declared.states.State.{State}
+use Rattle.session.specs.declared.states.State.TheVariants.{Init, Ready, Playing, Stopping}
+use Rattle.session.specs.declared.states.Stop.{Stop}
+use Rattle.session.specs.RequestEffects.{AwaitsNoStop, ChangesState, IsHaltAsked, IsPlayAsked, IsSameContext}
+use Rattle.session.specs.RequestEffects.{IsSetUpBy}
+use Rattle.session.specs.Films.{IsFilmAt, OfFilm, sending_of}
+use Rattle.session.specs.RequestSteps.{Hears}
+use Rattle.session.specs.Laws.{AsksNoHalt}
+use Rattle.session.specs.Methods.{prepared_of}
+use Rattle.session.specs.RunRequests.{playback_of}
+use Rattle.session.specs.SettingRanges.{AreSettings, IsSetup}
+use Rattle.session.specs.SlotSteps.{kept_of, next_of, note_of}
+use Rattle.session.specs.SessionStates.{SessionState}
+use Rattle.session.proofs.RequestEffectLemmas.{hears_ground, hears_state, hears_unstopped}
+use Rattle.conn.specs.Films.{HasSent}
+use Rattle.conn.specs.Plays.{IsShown}
+use Rattle.conn.proofs.RunPlans.{sending_of_run}
+use Rattle.conn.proofs.HaltedPlays.{IsHaltedPacing, halted_here}
+
+abbrev pub AreShown : List Stored → Type 0
+AreShown films = (number : ℕ) → OfFilm films number IsShown
+
+-- what a session's state is told by: its films, source, settings and counts, the notes of plays, the
+-- heard slot, and the bytes that were sent of its film
+pub record Ground : Type 0 where
+  pub films : List Stored
+  pub source : StreamSource
+  pub settings : Settings
+  pub counts : Counts
+  pub plays : List PlayNote
+  pub heard : ℕ
+  pub film : List ℕ
+
+abbrev pub ground_of : SessionState → List ℕ → Ground
+ground_of s film = record {
+  films = s.films;
+  source = s.source;
+  settings = s.settings;
+  counts = s.counts;
+  plays = s.plays;
+  heard = s.heard;
+  film = film;
+}
+
+-- a play of a film's run, of which these bytes were sent
+pub record HasPlay (ground : Ground) (setup : Setup) (play : Played) : Type 0 where
+  pub stored : Stored
+  pub at : IsFilmAt ground.films setup.film stored
+  pub sending : IsSending (stored_sizes stored) (playback_of stored.film ground.settings setup) play.run play.plan
+  pub pieces : play.pacer.pieces
+      ≡ run_pieces (sending_of stored.film ground.source setup ground.counts play.run)
+  pub sent : HasSent play ground.heard ground.film
+
+-- a play that is halted by a PAUSE or a TEARDOWN, and what sends its rest
+pub record IsHaltedPlay (ground : Ground) (setup : Setup) (play : Played) (pacer : PacerState) : Type 0 where
+  pub stored : Stored
+  pub at : IsFilmAt ground.films setup.film stored
+  pub sending : IsSending (stored_sizes stored) (playback_of stored.film ground.settings setup) play.run play.plan
+  pub pieces : pacer.pieces ≡ run_pieces (sending_of stored.film ground.source setup ground.counts play.run)
+  pub plan : pacer.plan ≡ play.plan
+  pub before : pacer.before ≡ play.run.sent
+  pub start : pacer.start ≡ play.start
+  pub halted : IsHaltedPacing pacer ground.heard ground.film
+
+-- it is the last that was noted
+pub record HasStopped (ground : Ground) (setup : Setup) (stop : Stop) : Type 0 where
+  pub play : Played
+  pub earlier : List PlayNote
+  pub noted : ground.plays ≡ earlier ++ note_of setup play stop.pacer.keep ∷ []
+  pub rest : IsHaltedPlay ground setup play stop.pacer
+
+abbrev pub IsStateOf : Ground → State → Type 0
+IsStateOf ground Init = Unit {0}
+IsStateOf ground (Ready setup paused) = IsSetup (length ground.films) setup
+IsStateOf ground (Playing setup play) = IsSetup (length ground.films) setup × HasPlay ground setup play
+IsStateOf ground (Stopping setup stop) = IsSetup (length ground.films) setup × HasStopped ground setup stop
+
+-- a session in a course, with what was sent of its play
+pub record IsWell (s : SessionState) (film : List ℕ) : Type 0 where
+  pub films : AreShown s.films
+  pub settings : AreSettings s.settings
+  pub unstopped : AwaitsNoStop s
+  pub state : IsStateOf (ground_of s film) s.state
+
+-- a play is asked for in Ready
+pub record HasPrepared (films : List Stored) (source : StreamSource) (settings : Settings) (state : State)
+    (awaited : Awaited) : Type 0 where
+  pub setup : Setup
+  pub paused : Option Run
+  pub prepared : Prepared
+  pub stored : Stored
+  pub state_is : state ≡ Ready setup paused
+  pub awaited_is : awaited ≡ Play prepared
+  pub values : IsSetup (length films) setup
+  pub at : IsFilmAt films setup.film stored
+  pub sending : IsSending (stored_sizes stored) (playback_of stored.film settings setup) prepared.run prepared.plan
+  pub frames : prepared.frames ≡ sending_of stored.film source setup prepared.counts prepared.run
+
+-- a PAUSE or a TEARDOWN asks for a halt of a play
+pub record IsHaltAwaited (ground : Ground) (awaited : Awaited) (setup : Setup) (play : Played) : Type 0 where
+  pub keep_is : kept_of awaited play.pacer.due ≡ play.pacer.keep
+  pub rest : IsHaltedPlay ground setup play play.pacer
+
+-- by what the halt leads to: a play that is done leaves nothing
+abbrev pub IsHaltedTo : AfterHalt → Type 0 → Type 0
+IsHaltedTo Done halted = Unit {0}
+IsHaltedTo (Paused run) halted = halted
+IsHaltedTo Torn halted = halted
+
+abbrev pub IsHaltingIn : Ground → Awaited → State → Type 0
+IsHaltingIn ground awaited Init = Unit {0}
+IsHaltingIn ground awaited (Ready setup paused) = IsSetup (length ground.films) setup
+IsHaltingIn ground awaited (Playing setup play) = IsSetup (length ground.films) setup
+    × IsHaltedTo (next_of awaited) (IsHaltAwaited ground awaited setup play)
+IsHaltingIn ground awaited (Stopping setup stop) = IsSetup (length ground.films) setup × HasStopped ground setup stop
+
+-- a session of which a halt is asked
+pub record IsHalting (s : SessionState) (film : List ℕ) : Type 0 where
+  pub films : AreShown s.films
+  pub settings : AreSettings s.settings
+  pub state : IsHaltingIn (ground_of s film) s.awaited s.state
+
+-- a session that asked for this
+abbrev pub IsAskedWell : Ask → SessionState → List ℕ → Type 0
+IsAskedWell AskReply s film = IsWell s film
+IsAskedWell (AskPlay plan) s film = IsWell s film × HasPrepared s.films s.source s.settings s.state s.awaited
+IsAskedWell (AskHalt keep) s film = IsHalting s film
+IsAskedWell (AskLook slot) s film = IsWell s film
+IsAskedWell (AskOffer plan offers) s film = IsWell s film
+
+pub ground_same : (old new : SessionState) (film : List ℕ) → IsSameContext old new → ground_of old film ≡ ground_of new
+    film
+ground_same old new film same =
+    ap (λ (f : List Stored). record (ground_of old film) { films = f }) (sym same.films)
+    ∙ ap (λ (o : StreamSource). record (ground_of old film) { films = new.films; source = o }) (sym same.source)
+    ∙ ap (λ (g : Settings). record (ground_of new film) {
+      settings = g;
+      counts = old.counts;
+      plays = old.plays;
+      heard = old.heard;
+    }) (sym same.settings)
+    ∙ ap (λ (c : Counts). record (ground_of new film) { counts = c; plays = old.plays; heard = old.heard })
+    (sym same.counts)
+    ∙ ap (λ (p : List PlayNote). record (ground_of new film) { plays = p; heard = old.heard }) (sym same.plays)
+    ∙ ap (λ (h : ℕ). record (ground_of new film) { heard = h }) (sym same.heard)
+
+-- the same state, in a session with the same films and settings
+carried : {old new : SessionState} {film : List ℕ} → IsWell old film → IsSameContext old new → AwaitsNoStop new →
+    new.state ≡ old.state → IsWell new film
+carried {old} {new} {film} well same unstopped state = record {
+  films = subst AreShown (sym same.films) well.films;
+  settings = subst AreSettings (sym same.settings) well.settings;
+  unstopped = unstopped;
+  state = subst (λ g. IsStateOf g new.state) (ground_same old new film same)
+      (subst (IsStateOf (ground_of old film)) (sym state) well.state);
+}
+
+-- a SETUP
+set_up_well : {old new : SessionState} {film : List ℕ} → IsWell old film → IsSameContext old new → AwaitsNoStop new →
+    IsSetUpBy old new → IsWell new film
+set_up_well {new} {film} well same unstopped is = record {
+  films = subst AreShown (sym same.films) well.films;
+  settings = subst AreSettings (sym same.settings) well.settings;
+  unstopped = unstopped;
+  state = subst (IsStateOf (ground_of new film)) (sym is.state)
+      (subst (λ (f : List Stored). IsSetup (length f) is.setup) (sym same.films) (is.ranges well.settings));
+}
+
+-- a PLAY in Ready
+prepared_well : {old new : SessionState} {film : List ℕ} → IsWell old film → IsSameContext old new →
+    new.state ≡ old.state → IsPlayAsked old new →
+    HasPrepared new.films new.source new.settings new.state new.awaited
+prepared_well {old} {new} {film} well same state is =
+    let values : IsSetup (length old.films) is.setup =
+    subst (IsStateOf (ground_of old film)) is.ready well.state in
+    let planned = is.planned_is in
+    let made : HasPrepared old.films old.source old.settings new.state new.awaited = record {
+      setup = is.setup;
+      paused = is.paused;
+      prepared = prepared_of old is.stored is.setup is.planned is.sequence;
+      stored = is.stored;
+      state_is = state ∙ is.ready;
+      awaited_is = is.awaited;
+      values = values;
+      at = planned.at;
+      sending = sending_of_run
+          (well.films is.setup.film is.stored planned.at) well.settings values planned.goes_on planned.plan_is;
+      frames = refl;
+    } in
+    subst (λ g. HasPrepared new.films new.source g new.state new.awaited) (sym same.settings)
+    (subst (λ o. HasPrepared new.films o old.settings new.state new.awaited) (sym same.source)
+    (subst (λ f. HasPrepared f old.source old.settings new.state new.awaited) (sym same.films) made))
+
+-- a PAUSE or a TEARDOWN in Playing
+halted_to : {halted : Type 0} (next : AfterHalt) → halted → IsHaltedTo next halted
+halted_to Done is = tt
+halted_to (Paused run) is = is
+halted_to Torn is = is
+
+halting_well : {old new : SessionState} {film : List ℕ} → IsWell old film → IsSameContext old new → IsHaltAsked old new
+    → IsHalting new film
+halting_well {old} {new} {film} well same is =
+    let was = subst (IsStateOf (ground_of old film)) is.was well.state in
+    let its = was.1 in
+    let play : Played = record is.play { pacer = record is.play.pacer { keep = is.keep } } in
+    let rest : IsHaltedPlay (ground_of old film) is.setup play play.pacer = record {
+      stored = its.stored;
+      at = its.at;
+      sending = its.sending;
+      pieces = its.pieces;
+      plan = its.sent.plan;
+      before = its.sent.before;
+      start = its.sent.start;
+      halted = halted_here its.sent is.keep_is;
+    } in
+    let halt : IsHaltAwaited (ground_of old film) new.awaited is.setup play =
+    record { keep_is = ap (λ a. kept_of a play.pacer.due) is.awaited; rest = rest } in
+    record {
+      films = subst AreShown (sym same.films) well.films;
+      settings = subst AreSettings (sym same.settings) well.settings;
+      state = subst (IsHaltingIn (ground_of new film) new.awaited) (sym is.now)
+          (subst (λ g. IsHaltingIn g new.awaited (Playing is.setup play)) (ground_same old new film same)
+          (was.0, halted_to (next_of new.awaited) halt));
+    }
+
+-- what a request leaves of a session, and what it then awaits
+record IsKeptOn (old : SessionState) (ask : Ask) (new : SessionState) : Type 0 where
+  same : IsSameContext old new
+  unstopped : AsksNoHalt ask → AwaitsNoStop new
+
+asked_well : {old new : SessionState} {film : List ℕ} (ask : Ask) → IsWell old film → IsKeptOn old ask new
+    → ChangesState ask old new → IsAskedWell ask new film
+asked_well AskReply well on (inl state) = carried well on.same (on.unstopped tt) state
+asked_well AskReply well on (inr setup) = set_up_well well on.same (on.unstopped tt) setup
+asked_well (AskPlay plan) well on changes =
+    (carried well on.same (on.unstopped tt) changes.0, prepared_well well on.same changes.0 changes.1.play)
+asked_well (AskHalt keep) well on changes = halting_well well on.same changes
+asked_well (AskLook slot) well on changes = carried well on.same (on.unstopped tt) changes
+asked_well (AskOffer plan offers) well on changes = carried well on.same (on.unstopped tt) changes
+
+pub hears_well : {old : SessionState} {film : List ℕ} (new : SessionState) (message : List ℕ) (ask : Ask) →
+    IsWell old film → Hears old message ask new →
+    IsAskedWell ask new film
+hears_well {old} new message ask well hears =
+    asked_well ask well (record {
+      same = hears_ground old new message ask hears;
+      unstopped = λ free. hears_unstopped old new message ask hears free well.unstopped;
+    }) (hears_state old new message ask hears)

@@ -1,0 +1,182 @@
+-- The rest of a play that was halted, from slot to slot.
+use Rattle.std.proofs.Common.{◌≡◌, ◌⊎◌, ℕ, ◌+◌, ◌-◌, ◌<◌, ◌++◌, ◌&&◌, Bool, true, false, if◌then◌else◌}
+use Rattle.std.proofs.Common.{List, [], ◌∷◌, length, take, drop, refl, ap, sym, ◌∙◌, subst, inl, inr, arith}
+use Rattle.film_frames.specs.declared.stored_films.Stored.{Stored}
+use Rattle.film_frames.specs.Tracks.{IsBoundaryAfter, framed_bytes}
+use Rattle.film_run.proofs.PlanLemmas.{sending-best}
+use Rattle.film_run.specs.Units.{stored_sizes}
+use Rattle.pacer.specs.PacerStates.{PacerState, after_step, at_slot, first_slots, plan_bytes, stands_at_boundary}
+use Rattle.pacer.specs.PacerStates.{step_end}
+use Rattle.session.specs.declared.states.Setup.{Setup}
+use Rattle.session.specs.declared.states.State.{State}
+use Rattle.session.specs.declared.states.State.TheVariants.{Ready, Stopping}
+use Rattle.session.specs.declared.states.Stop.{Stop}
+use Rattle.session.specs.SettingRanges.{IsSetup}
+use Rattle.session.specs.SlotSteps.{after_play, after_slot, is_between, is_sending, note_of, sent_due, sent_slot}
+use Rattle.session.specs.SlotSteps.{stepped_in}
+use Rattle.session.specs.SessionStates.{SessionState}
+use Rattle.session.specs.SlotTransitions.{after_stop}
+use Rattle.conn.specs.Plays.{IsCutBy, client_of, play_pieces}
+use Rattle.conn.specs.InputSteps.{due_parts, film_bytes, slot_parts}
+use Rattle.conn.proofs.FilmBytes.{sent_through, slot_film, slot_is, slot_pacing}
+use Rattle.conn.proofs.HaltedPlays.{halted_count, halted_on}
+use Rattle.conn.proofs.RequestInvariants.{Ground, HasStopped, IsStateOf, ground_of}
+use Rattle.conn.proofs.PlayProgress.{film_cases, later_slot, parts_of, reply_heard, reply_state, slot_cases}
+use Rattle.conn.proofs.PlayProgress.{state_after_slot}
+
+abbrev pub with_rest : Stop → PacerState → Stop
+with_rest stop pacer = record stop { pacer = pacer }
+
+-- the ground once these bytes were sent by a slot
+abbrev pub ground_by : Ground → ℕ → List ℕ → Ground
+ground_by ground heard film = record ground { heard = heard; film = film }
+
+-- the rest is still sent, or all of it was, with its reply
+abbrev pub IsStopping : Setup → Stop → PacerState → State → Type 0
+IsStopping setup stop now state = (state ≡ Stopping setup (with_rest stop now))
+    ⊎ (state ≡ Ready setup stop.paused)
+
+-- a halted play in a session, of which these bytes were sent
+pub record StopsOn (ground : Ground) (setup : Setup) (stop : Stop) (s : SessionState) (film : List ℕ) : Type 0 where
+  pub now : PacerState
+  pub keep : now.keep ≡ stop.pacer.keep
+  pub stopped : HasStopped (ground_by ground s.heard film) setup (with_rest stop now)
+  pub state : IsStopping setup stop now s.state
+
+stop_states : {setup : Setup} (stop : Stop) (waits between : Bool) (both front plain : PacerState) →
+    IsStopping setup stop (if waits then (if between then both else front) else plain)
+    (if waits && between
+    then after_stop (if waits then (if between then Stopping setup (with_rest stop both)
+    else Stopping setup (with_rest stop front)) else Stopping setup (with_rest stop plain))
+    else (if waits then (if between then Stopping setup (with_rest stop both)
+    else Stopping setup (with_rest stop front)) else Stopping setup (with_rest stop plain)))
+stop_states stop false between both front plain = inl refl
+stop_states stop true false both front plain = inl refl
+stop_states stop true true both front plain = inr refl
+
+stop_state : (stop : Stop) (waits : Bool) (setup : Setup) (slot : ℕ) →
+    IsStopping setup stop (slot_pacing waits slot stop.pacer) (state_after_slot waits (Stopping setup stop) slot)
+stop_state stop waits setup slot =
+    let p = stop.pacer in
+    stop_states stop waits (stands_at_boundary (after_step true slot p))
+    (after_step false slot (after_step true slot p))
+    (after_step true slot p) (after_step false slot p)
+
+stop_film : (stop : Stop) (waits : Bool) (setup : Setup) (text : List ℕ) (slot : ℕ) →
+    film_bytes (parts_of waits (Stopping setup stop) text slot) ≡ slot_film waits slot stop.pacer
+stop_film stop waits setup text slot =
+    let p = stop.pacer in
+    let p' = after_step true slot p in
+    film_cases waits (stands_at_boundary p') (plan_bytes p p.sent (step_end true (at_slot slot p)))
+    (plan_bytes p' p'.sent (step_end false (at_slot slot p')))
+    (plan_bytes p p.sent (step_end false (at_slot slot p))) text
+
+-- by a slot that is taken up
+stop_through : {ground : Ground} {setup : Setup} {stop : Stop} {slot : ℕ} (waits : Bool) →
+    HasStopped ground setup stop → ground.heard < slot →
+    HasStopped (ground_by ground slot (ground.film ++ slot_film waits slot stop.pacer)) setup
+    (with_rest stop (slot_pacing waits slot stop.pacer))
+stop_through {ground} {setup} {stop} {slot} waits has later =
+    let p = stop.pacer in
+    let rest = has.rest in
+    let after : Ground = ground_by ground slot (ground.film ++ slot_film waits slot p) in
+    let through : slot_pacing waits slot p ≡ sent_through slot p =
+    slot_is waits (stands_at_boundary (after_step true slot p)) slot p rest.halted.pacing refl in
+    subst (λ (q : PacerState). HasStopped after setup (with_rest stop q)) (sym through) (record {
+      play = has.play;
+      earlier = has.earlier;
+      noted = has.noted;
+      rest = record {
+        stored = rest.stored;
+        at = rest.at;
+        sending = rest.sending;
+        pieces = rest.pieces;
+        plan = rest.plan;
+        before = rest.before;
+        start = rest.start;
+        halted = halted_on waits rest.halted later;
+      };
+    })
+
+stop_taken : {setup : Setup} {stop : Stop} {film : List ℕ} (old : SessionState) (slot : ℕ) →
+    old.state ≡ Stopping setup stop → HasStopped (ground_of old film) setup stop → old.heard < slot →
+    StopsOn (ground_of old film) setup stop (after_play (sent_slot old slot)) (film ++ film_bytes (due_parts old slot))
+stop_taken {setup} {stop} {film} old slot is has later =
+    let goes : Bool = old.waits && is_between (stepped_in true slot old.state) in
+    let s : SessionState = sent_slot old slot in
+    let p = stop.pacer in
+    let now : PacerState = slot_pacing old.waits slot p in
+    let through : now ≡ sent_through slot p =
+    slot_is old.waits (stands_at_boundary (after_step true slot p)) slot p has.rest.halted.pacing refl in
+    let state : s.state ≡ state_after_slot old.waits (Stopping setup stop) slot =
+    reply_state goes (sent_due old slot) ∙ ap (λ st. state_after_slot old.waits st slot) is in
+    let bytes : film_bytes (due_parts old slot) ≡ slot_film old.waits slot p =
+    ap (λ st. film_bytes (parts_of old.waits st old.text slot)) is ∙ stop_film stop old.waits setup old.text slot in
+    let ground : Ground = ground_of old film in
+    record {
+      now = now;
+      keep = ap (λ (q : PacerState). q.keep) through;
+      stopped = subst (λ n. HasStopped (ground_by ground n (film ++ film_bytes (due_parts old slot))) setup
+          (with_rest stop now)) (sym (reply_heard goes (sent_due old slot)))
+          (subst (λ bs. HasStopped (ground_by ground slot (film ++ bs)) setup (with_rest stop now)) (sym bytes)
+          (stop_through old.waits has later));
+      state = subst (IsStopping setup stop now) (sym state) (stop_state stop old.waits setup slot);
+    }
+
+-- nothing was sent
+pub stop_still : {setup : Setup} {stop : Stop} {film : List ℕ} (old : SessionState) → old.state ≡ Stopping setup stop →
+    HasStopped (ground_of old film) setup stop → StopsOn (ground_of old film) setup stop old film
+stop_still {stop} old is has = record { now = stop.pacer; keep = refl; stopped = has; state = inl is }
+
+-- by a slot
+pub stop_slot : {setup : Setup} {stop : Stop} {film : List ℕ} (old : SessionState) (slot : ℕ) →
+    old.state ≡ Stopping setup stop → HasStopped (ground_of old film) setup stop →
+    StopsOn (ground_of old film) setup stop (after_slot old slot) (film ++ film_bytes (slot_parts old slot))
+stop_slot {setup} {stop} {film} old slot is has =
+    slot_cases (StopsOn (ground_of old film) setup stop) (record old { heard = slot }) (due_parts old slot)
+    (ap is_sending is) (stop_still old is has)
+    (λ taken. stop_taken old slot is has (later_slot old slot taken))
+
+-- it is in the state that the slot leaves
+pub stop_left : {ground : Ground} {setup : Setup} {now : PacerState} {state : State} (stop : Stop) →
+    IsSetup (length ground.films) setup → HasStopped ground setup (with_rest stop now) →
+    IsStopping setup stop now state → IsStateOf ground state
+stop_left {ground} stop values has (inl is) = subst (IsStateOf ground) (sym is) (values, has)
+stop_left {ground} stop values has (inr is) = subst (IsStateOf ground) (sym is) values
+
+-- what was sent of it
+pub stop_cut : {old s : SessionState} {setup : Setup} {stop : Stop} {film more : List ℕ} →
+    StopsOn (ground_of old film) setup stop s more → (stored : Stored) × IsCutBy old stored setup stop s.heard more
+stop_cut {old} {s} {setup} {stop} {more} on =
+    let has = on.stopped in
+    let rest = has.rest in
+    let play = has.play in
+    let stored = rest.stored in
+    let p = on.now in
+    let its = rest.halted in
+    let pieces : p.pieces ≡ play_pieces old stored setup play = rest.pieces in
+    let count : length more ≡ p.sent = halted_count its in
+    let slots : first_slots p.plan p.passed ≡ first_slots play.plan (s.heard + 1 - play.start) =
+    ap (first_slots p.plan) its.passed ∙ ap (λ n. first_slots p.plan (s.heard + 1 - n)) rest.start
+    ∙ ap (λ plan. first_slots plan (s.heard + 1 - play.start)) rest.plan in
+    let keep : p.keep ≡ stop.pacer.keep = on.keep in
+    let size : p.before + p.sent - p.before ≡ length more = omega (arith, count) in
+    let ends : IsBoundaryAfter p.pieces (p.before + length more) (p.before + stop.pacer.keep) =
+    subst (λ n. IsBoundaryAfter p.pieces (p.before + length more) (p.before + n)) keep
+    (subst (λ n. IsBoundaryAfter p.pieces (p.before + n) (p.before + p.keep)) (sym count) its.ends) in (
+      stored,
+      record {
+        at = rest.at;
+        play = play;
+        earlier = has.earlier;
+        noted = has.noted ∙ ap (λ n. has.earlier ++ note_of setup play n ∷ []) keep;
+        sending = rest.sending;
+        best = sending-best (stored_sizes stored) (client_of old stored setup) play.run play.plan rest.sending;
+        count = omega (arith, count, its.sent, slots, keep);
+        front = its.film_is ∙ ap (λ n. take n (drop p.before (framed_bytes p.pieces))) size
+            ∙ ap (λ n. take (length more) (drop n (framed_bytes p.pieces))) rest.before
+            ∙ ap (λ ps. take (length more) (drop play.run.sent (framed_bytes ps))) pieces;
+        ends = subst (λ ps. IsBoundaryAfter ps (play.run.sent + length more) (play.run.sent + stop.pacer.keep)) pieces
+            (subst (λ n. IsBoundaryAfter p.pieces (n + length more) (n + stop.pacer.keep)) rest.before ends);
+      },
+    )

@@ -1,0 +1,83 @@
+use Rattle.std.proofs.Common.{inl, inr, refl, rules, ◌∙◌}
+use Rattle.interleave.specs.declared.elements.Step.TheVariants.{Request}
+use Rattle.conn.specs.Observations.{observed}
+use Rattle.conn.proofs.FaultCounts.{counted_fault, counted_none}
+use Rattle.rtsp_text.proofs.WholeRequests.{fewer, some_request}
+use Rattle.conn.proofs.ElementPrefixes.{cuts_drop, cuts_none}
+use Rattle.conn.proofs.SeatInvariants.{kept_none, kept_then}
+use Rattle.conn.proofs.CourseSteps.{lost_reply, stage_is, taken_reply}
+use Rattle.conn.proofs.connections.Connection.process_request.Goals as goal
+
+pub returns-in-Ok-clause-cut : goal.returns-in-Ok-clause-cut
+returns-in-Ok-clause-cut g c =
+    cuts_drop (Request c.args.length) c.requires.first refl c.answer_request.ensures.input
+
+pub returns-in-Err-clause-cut : goal.returns-in-Err-clause-cut
+returns-in-Err-clause-cut g c =
+    cuts_drop (Request c.args.length) c.requires.first refl c.answer_request.ensures.input
+
+pub returns-then-waits-clause-taken : goal.returns-then-waits-clause-taken
+returns-then-waits-clause-taken g c =
+    (c.requires.torn, c.requires.lost, inr (c.args.length, (c.requires.first, search rules)))
+
+pub returns-then-waits-clause-takes : goal.returns-then-waits-clause-takes
+returns-then-waits-clause-takes g c =
+    (refl, record { torn = c.requires.torn; waits = inr (c.args.length, (c.requires.first, search rules)) })
+
+pub returns-in-Ok-clause-taken : goal.returns-in-Ok-clause-taken
+returns-in-Ok-clause-taken g c = (
+  c.in-Ok.ensures.kept ∙ c.answer_request.ensures.lost ∙ c.requires.lost,
+  fewer c.args.self.now.input c.answer_request.new.self.input c.args.length
+      (some_request c.args.self.now.input c.args.length c.requires.first.1) c.requires.first.2
+      c.answer_request.ensures.input,
+)
+
+pub returns-in-Ok-clause-takes : goal.returns-in-Ok-clause-takes
+returns-in-Ok-clause-takes g c =
+    taken_reply {a = observed c.args.self.now (g.K.Link.told c.args.link.now) c.args.seat.now}
+    {b = observed (record c.answer_request.new.self { session = c.reply.new.self })
+    (g.K.Link.told c.reply.new.link) c.answer_request.new.seat}
+    {asked = c.answer_request.new.self.session} {n = c.args.length}
+    c.requires.first (search rules) c.requires.torn c.answer_request.ensures.heard
+    (stage_is c.in-Ok.ensures.exact c.answer_request.ensures.input) c.in-Ok.ensures.told
+
+pub returns-in-Err-clause-takes : goal.returns-in-Err-clause-takes
+returns-in-Err-clause-takes g c =
+    inl (
+      refl,
+      lost_reply {a = observed c.args.self.now (g.K.Link.told c.args.link.now) c.args.seat.now}
+          {b = observed (record c.answer_request.new.self { session = c.reply.new.self })
+          (g.K.Link.told c.reply.new.link) c.answer_request.new.seat} {asked = c.answer_request.new.self.session}
+          {n = c.args.length} (record {
+            first = c.requires.first;
+            replied = search rules;
+            torn = c.requires.torn;
+          }) c.answer_request.ensures.heard c.in-Err.ensures.can
+          (stage_is c.in-Err.ensures.failed c.answer_request.ensures.input) c.in-Err.ensures.front,
+    )
+
+pub returns-then-waits-clause-kept : goal.returns-then-waits-clause-kept
+returns-then-waits-clause-kept g c = kept_none c.args.seat.now c.args.self.now c.requires.quiet
+
+pub returns-in-Ok-clause-kept : goal.returns-in-Ok-clause-kept
+returns-in-Ok-clause-kept g c =
+    kept_then {a = c.args.self.now} {mid = c.answer_request.new.self}
+    {b = record c.answer_request.new.self { session = c.reply.new.self }}
+    c.answer_request.ensures.kept c.reply.ensures.rest refl c.reply.ensures.open c.reply.ensures.receipts
+
+pub returns-in-Err-clause-kept : goal.returns-in-Err-clause-kept
+returns-in-Err-clause-kept g c =
+    kept_then {a = c.args.self.now} {mid = c.answer_request.new.self}
+    {b = record c.answer_request.new.self { session = c.reply.new.self }}
+    c.answer_request.ensures.kept c.reply.ensures.rest refl c.reply.ensures.open c.reply.ensures.receipts
+
+pub returns-then-waits-clause-cut : goal.returns-then-waits-clause-cut
+returns-then-waits-clause-cut g c = cuts_none c.args.self.now.input
+
+pub returns-then-waits-clause-counted : goal.returns-then-waits-clause-counted
+returns-then-waits-clause-counted g c = counted_none (g.K.Link.faults c.args.link.now)
+
+pub returns-in-Err-clause-counted : goal.returns-in-Err-clause-counted
+returns-in-Err-clause-counted g c =
+    counted_fault (g.K.Link.faults c.args.link.now) (g.K.Link.faults c.reply.new.link) c.reply.ensures.count
+    c.in-Err.ensures.fault

@@ -1,6 +1,0 @@
-use Rattle.conn.proofs.Promising.{new_well, plays_kept}
-use Rattle.conn.proofs.laws.law_between_curves.Goals as goal
-
-pub returns : goal.returns
-returns c = λ rounds. plays_kept _ rounds
-    (new_well c.args.films.now c.args.settings.now c.args.words c.law_all_shown.ensures c.requires.settings)

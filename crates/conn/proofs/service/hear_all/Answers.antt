@@ -1,0 +1,94 @@
+use Rattle.std.proofs.Common.{◌≡◌, ◌∷◌, [], List, length, Option, rules, refl, ap, arith, Some}
+use Rattle.vod_base.specs.Links.{IoEvent, io_event_of, told_more}
+use Rattle.conn.specs.declared.reports.ConnEnd.TheVariants.{LinkFault, TurnsSpent}
+use Rattle.conn.specs.Observations.{Observed, observed}
+use Rattle.conn.specs.InputSteps.{stage}
+use Rattle.conn.proofs.FaultCounts.{counted_fault, counted_on, counted_same}
+use Rattle.conn.proofs.SeatInvariants.{kept_none, kept_on}
+use Rattle.conn.proofs.CourseSteps.{goes_on, run_end, run_none, run_on, run_over}
+use Rattle.conn.proofs.service.hear_all.Goals as goal
+
+pub returns-in_default-clause-course : goal.returns-in_default-clause-course
+returns-in_default-clause-course g c =
+    let first : Observed = observed c.args.connection.now (g.K.Link.told c.args.link.now) c.args.seat.now in
+    let before : Observed = observed c.events.connection (g.K.Link.told c.events.link) c.events.seat in
+    let after : Observed = observed c.events.connection (g.K.Link.told c.next.new.self) c.events.seat in
+    let told : g.K.Link.told c.next.new.self ≡ g.K.Link.told c.events.link = c.in_default.ensures.lost in
+    run_over c.events.invariant.3 c.events-test.true
+    (ap (λ (t : Option (List IoEvent)). record {
+      stage = stage c.events.connection.session c.events.connection.input;
+      told = t;
+      seat = c.events.seat;
+    }) told)
+
+pub returns-in-Some-clause-course : goal.returns-in-Some-clause-course
+returns-in-Some-clause-course g c =
+    let first : Observed = observed c.args.connection.now (g.K.Link.told c.args.link.now) c.args.seat.now in
+    let before : Observed = observed c.events.connection (g.K.Link.told c.events.link) c.events.seat in
+    let heard : Observed = observed c.events.connection (g.K.Link.told c.next.new.self) c.events.seat in
+    let after : Observed = observed c.hear.new.self (g.K.Link.told c.hear.new.link) c.hear.new.seat in
+    let told : g.K.Link.told c.next.new.self
+    ≡ told_more (g.K.Link.told c.events.link) (io_event_of c.in-Ok.heard c.next.new.into ∷ []) = c.in-Ok.ensures.heard
+    in
+    run_end c.events.invariant.3 refl refl told
+    (omega (arith, c.events-test.true)) (c.in-Some.ensures.comes c.events._event)
+
+pub events-init : goal.events-init
+events-init g c = (
+  kept_none c.args.seat.now c.args.connection.now c.requires.quiet,
+  c.requires.torn,
+  c.requires.lost,
+  run_none (observed c.args.connection.now (g.K.Link.told c.args.link.now) c.args.seat.now),
+  omega arith,
+  c.requires.waiting,
+)
+
+pub events-preserved : goal.events-preserved
+events-preserved g c =
+    let inv = c.events.invariant in
+    let first : Observed = observed c.args.connection.now (g.K.Link.told c.args.link.now) c.args.seat.now in
+    let before : Observed = observed c.events.connection (g.K.Link.told c.events.link) c.events.seat in
+    let heard : Observed = observed c.events.connection (g.K.Link.told c.next.new.self) c.events.seat in
+    let after : Observed = observed c.hear.new.self (g.K.Link.told c.hear.new.link) c.hear.new.seat in
+    let told : g.K.Link.told c.next.new.self
+    ≡ told_more (g.K.Link.told c.events.link) (io_event_of c.in-Ok.heard c.next.new.into ∷ []) = c.in-Ok.ensures.heard
+    in
+    let on =
+    goes_on c.in-Ok.heard (length c.events.connection.input) c.hear.new.self c.in_default-hear.ensures.taken in (
+      kept_on inv.0 c.hear.ensures.kept,
+      on.0,
+      on.1,
+      run_on inv.3 refl refl told c.in_default-hear.ensures.comes,
+      omega (arith, inv.4, c.next.ensures.count, c.hear.ensures.counted.count),
+      on.2,
+    )
+
+pub returns-clause-course : goal.returns-clause-course
+returns-clause-course g c =
+    let first : Observed = observed c.args.connection.now (g.K.Link.told c.args.link.now) c.args.seat.now in
+    let before : Observed = observed c.events.connection (g.K.Link.told c.events.link) c.events.seat in
+    let spent : c.events._event ≡ 1099511627776 = search rules in
+    run_over c.events.invariant.3 spent refl
+
+pub returns-in_default-clause-counted : goal.returns-in_default-clause-counted
+returns-in_default-clause-counted g c =
+    counted_on (Some LinkFault) (g.K.Link.faults c.args.link.now) (g.K.Link.faults c.events.link)
+    (g.K.Link.faults c.next.new.self)
+    c.events.invariant.4
+    (counted_fault (g.K.Link.faults c.events.link) (g.K.Link.faults c.next.new.self) c.next.ensures.count
+    c.in_default.ensures.fault)
+
+pub returns-in-Some-clause-counted : goal.returns-in-Some-clause-counted
+returns-in-Some-clause-counted g c =
+    counted_on (Some c.in-Some.end) (g.K.Link.faults c.args.link.now) (g.K.Link.faults c.next.new.self)
+    (g.K.Link.faults c.hear.new.link)
+    (omega (arith, c.events.invariant.4, c.next.ensures.count)) c.in-Some.ensures.counted
+
+pub returns-clause-counted : goal.returns-clause-counted
+returns-clause-counted g c =
+    counted_same (Some TurnsSpent) (g.K.Link.faults c.args.link.now)
+    (g.K.Link.faults c.events.link) c.events.invariant.4 refl
+
+pub returns-in-Some-clause-kept : goal.returns-in-Some-clause-kept
+returns-in-Some-clause-kept g c =
+    kept_on c.events.invariant.0 c.hear.ensures.kept

@@ -1,9 +1,0 @@
--- How many events a connection heard, by what its course tells.
-use Rattle.std.specs.Prelude.{ℕ, ◌+◌, length}
-use Rattle.conn.specs.declared.reports.ConnEnd.{ConnEnd}
-use Rattle.conn.specs.Rounds.{ending_events}
-use Rattle.conn.specs.Sights.{HasCourse, Sight}
-
--- the events that were heard in a course, the one that ended it among them
-abbrev pub events_heard : (end : ConnEnd) (old new : Sight) → HasCourse end old new → ℕ
-events_heard end old new course = length course.rounds + length (ending_events course.ending)

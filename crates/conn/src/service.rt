@@ -1,0 +1,136 @@
+//! One connection from its first event to its report.
+
+ghost use Rattle.std.specs.Prelude.{◌≡◌, ◌≤◌, [], Some, false};
+ghost use Rattle.vod_base.specs.IoState.{HasRisen};
+ghost use Rattle.session.specs.RequestSteps.{new_session_state};
+ghost use Rattle.session.specs.SessionStates.{AreFilms, AreSettings};
+ghost use Rattle.station.specs.Seats.{IsSameSeat};
+ghost use Rattle.conn.specs.declared.reports.ConnEnd.TheVariants.{LinkFault};
+ghost use Rattle.conn.specs.Events.{HasCounted, IsWaiting};
+ghost use Rattle.conn.specs.ReservationInvariant.{HasAdvanced, IsQuiet, KeepsReservations, at_rest};
+ghost use Rattle.conn.specs.Guarantees.{MeetsGuarantee};
+ghost use Rattle.conn.specs.ConnectionService.{ConnectionSpec};
+ghost use Rattle.conn.specs.Observations.{HasCourse, observed};
+
+use crate::connections::Connection;
+use crate::film_laws::law_all_films_are_traces;
+use crate::reports::{ConnEnd, ConnReport};
+use film_frames::Stored;
+use session::{Notes, Settings};
+use station::{Seat, Station};
+use std::alloc::Global;
+use std::sync::Wait;
+use vod_base::{Link, MAX_EVENTS, MAX_READ_BYTES};
+
+/// Serves a connection from its first event to its end.
+///
+/// Bytes that come are cut into requests, which a session answers; plays are booked with the
+/// station, and what is due is sent as slots begin. An open booking is halted at the end, whatever
+/// ends the connection.
+///
+/// What the link tells is the connection's course, event by event: what was sent in its slot, the
+/// halt of a play that is then done, and each request that was processed with the station's answer
+/// and the reply. The report tells what was noted on the way.
+#[allow(clippy::too_many_arguments)]
+pub fn serve_connection<R: Wait, K: Link>(
+    rt: &R,
+    alloc: Global,
+    station: &Station,
+    seat: &mut Seat,
+    films: &[Stored],
+    settings: &Settings,
+    words: [u32; 5],
+    worker: u32,
+    link: &mut K,
+) -> ConnReport
+    requires seat { seat.old.id ≡ station.now.id }
+    requires settings { AreSettings settings.now }
+    requires films { AreFilms films.now }
+    ensures seat { IsSameSeat seat.old seat.new }
+    ensures worker { result.worker ≡ worker }
+    ensures words { result.words ≡ words }
+    ensures served { ConnectionSpec (new_session_state films.now settings.now words)
+        (K.told link.old) (K.told link.new) seat.old seat.new result }
+    ensures guarantee { MeetsGuarantee (new_session_state films.now settings.now words)
+        (K.told link.old) (K.told link.new) seat.old seat.new result }
+    ensures count { K.faults link.old ≤ K.faults link.new }
+    ensures fault { result.end ≡ LinkFault → HasRisen (K.faults link.old) (K.faults link.new) }
+    ensures entries { HasAdvanced (at_rest seat.old.mine [])
+        (at_rest seat.new.mine result.receipts.items) }
+{
+    law_all_films_are_traces(films);
+    let Ok(mut connection) = Connection::new(alloc, films, settings, words) else {
+        let none = Notes {
+            receipts: Vec::new(alloc),
+            plays: Vec::new(alloc),
+            late: 0,
+            offers: Vec::new(alloc),
+        };
+        return report_of(worker, words, ConnEnd::NoMemory, none);
+    };
+    let end = hear_all(rt, station, seat, link, &mut connection);
+    connection.close(rt, station, seat);
+    seat.holds();
+    report_of(worker, words, end, connection.notes())
+}
+
+/// Hears events until one of them ends the connection.
+#[tactic(auto, using(crate::proofs::SharedLemmas::event_steps))]
+fn hear_all<R: Wait, K: Link>(
+    rt: &R,
+    station: &Station,
+    seat: &mut Seat,
+    link: &mut K,
+    connection: &mut Connection<'_>,
+) -> ConnEnd
+    requires seat { seat.old.id ≡ station.now.id }
+    requires quiet { IsQuiet seat.old.mine connection.old }
+    requires torn { connection.old.session.torn ≡ false }
+    requires waiting { IsWaiting connection.old }
+    requires lost { connection.old.session.lost ≡ false }
+    ensures kept { KeepsReservations seat.old seat.new connection.old connection.new }
+    ensures counted { HasCounted (Some result) (K.faults link.old) (K.faults link.new) }
+    ensures course { HasCourse result (observed connection.old (K.told link.old) seat.old)
+        (observed connection.new (K.told link.new) seat.new) }
+{
+    let mut into = [0; MAX_READ_BYTES];
+    'events: for _event in 0..MAX_EVENTS {
+        let Ok(heard) = link.next(&mut into) else {
+            return ConnEnd::LinkFault;
+        };
+        if let Some(end) = connection.hear(rt, station, seat, link, heard, &into) {
+            return end;
+        }
+    }
+    ConnEnd::TurnsSpent
+}
+
+/// The report of a connection, whose lists keep no more memory than they need.
+fn report_of(worker: u32, words: [u32; 5], end: ConnEnd, notes: Notes) -> ConnReport
+    ensures worker { result.worker ≡ worker }
+    ensures words { result.words ≡ words }
+    ensures end { result.end ≡ end }
+    ensures receipts { result.receipts.items ≡ notes.receipts.items }
+    ensures plays { result.plays.items ≡ notes.plays.items }
+    ensures late { result.late ≡ notes.late }
+    ensures offers { result.offers.items ≡ notes.offers.items }
+{
+    let Notes {
+        mut receipts,
+        mut plays,
+        late,
+        mut offers,
+    } = notes;
+    receipts.shrink_to_fit();
+    plays.shrink_to_fit();
+    offers.shrink_to_fit();
+    ConnReport {
+        worker,
+        words,
+        end,
+        receipts,
+        plays,
+        late,
+        offers,
+    }
+}

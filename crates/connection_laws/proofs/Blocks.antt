@@ -1,0 +1,208 @@
+-- The blocks of a run, unit by unit: a report before a unit that starts a group, and its frames.
+use Rattle.std.proofs.Common.{◌≡◌, ℕ, ◌+◌, ◌*◌, ◌<◌, Bool, true, false, nat_le, cond, List, [], ◌∷◌, ◌++◌, map, refl}
+use Rattle.std.proofs.Common.{ap, ◌∙◌, arith, inl, inr}
+use Rattle.mpeg_scan.specs.declared.units.Unit.{Unit as PictureUnit}
+use Rattle.mpeg_scan.specs.PictureRates.{picture_time}
+use Rattle.rtp_pack.specs.declared.payloads.Packet.{Packet}
+use Rattle.rtp_pack.specs.Heads.{bit, head_bytes, packet_head}
+use Rattle.rtp_pack.specs.Packets.{unit_packets}
+use Rattle.rtp_pack.specs.Reports.{report_bytes, unit_report}
+use Rattle.film_frames.specs.Laws.{frames_among}
+use Rattle.film_frames.specs.Pieces.{count_of, octets_of, unit_of, unit_pieces}
+use Rattle.film_frames.specs.FramedRuns.{FramedRun, blocks_from, interleaved_block, payload, piece_bytes}
+use Rattle.rtsp_client.specs.Answers.{block_events, element_events}
+use Rattle.rtsp_client.specs.ClientHistory.{Frame, Report, is_last}
+use Rattle.connection_laws.proofs.HistorySums.{AreOneBlocks, blocks_one_append}
+
+-- the pieces of a run: what their units are taken of
+abbrev pub Domain : {A : Type 0} {B : Type 0} → (A → B) → Type 0
+Domain {A} f = A
+
+abbrev pub Part : Type 0
+Part = Domain unit_of
+
+-- the numbers of frames and octets after pieces
+abbrev pub frames_after : ℕ → List Part → ℕ
+frames_after f [] = f
+frames_after f (x ∷ xs) = frames_after (f + count_of x) xs
+
+abbrev pub octets_after : ℕ → List Part → ℕ
+octets_after o [] = o
+octets_after o (x ∷ xs) = octets_after (o + octets_of x) xs
+
+pub blocks_append : (run : FramedRun) (f o : ℕ) (xs ys : List Part)
+    → blocks_from run f o (xs ++ ys) ≡ blocks_from run f o xs ++ blocks_from run (frames_after f xs)
+    (octets_after o xs) ys
+blocks_append run f o [] ys = refl
+blocks_append run f o (x ∷ xs) ys =
+    ap (λ bs. piece_bytes run f o x ∷ bs) (blocks_append run (f + count_of x) (o + octets_of x) xs ys)
+
+-- ---- a unit
+
+abbrev pub frame_block : FramedRun → PictureUnit → Packet → ℕ → List ℕ
+frame_block run unit p f =
+    interleaved_block run.identity.channel
+    (head_bytes (packet_head run.identity (picture_time run.rate) unit p f) ++ payload run.film p)
+
+abbrev pub report_block : FramedRun → PictureUnit → ℕ → ℕ → List ℕ
+report_block run unit f o =
+    interleaved_block run.identity.control (report_bytes (unit_report run.identity (picture_time run.rate) unit f o))
+
+abbrev pub frame_blocks : FramedRun → PictureUnit → ℕ → List Packet → List (List ℕ)
+frame_blocks run unit f [] = []
+frame_blocks run unit f (p ∷ packets) = frame_block run unit p f ∷ frame_blocks run unit (f + 1) packets
+
+abbrev pub report_if : Bool → FramedRun → PictureUnit → ℕ → ℕ → List (List ℕ)
+report_if starts run unit f o = cond starts (report_block run unit f o ∷ []) []
+
+abbrev pub unit_blocks : FramedRun → List ℕ → PictureUnit → ℕ → ℕ → List (List ℕ)
+unit_blocks run starts unit f o = report_if unit.starts_group run unit f o ++ frame_blocks run unit f
+    (unit_packets starts unit)
+
+-- frames are made of packets
+pub record IsMaker (run : FramedRun) (unit : PictureUnit) (make : Packet → Part) : Type 0 where
+  pub bytes : (p : Packet) (f o : ℕ) → piece_bytes run f o (make p) ≡ frame_block run unit p f
+  pub count : (p : Packet) → count_of (make p) ≡ 1
+  pub among : (p : Packet) (ps : List Part) (b : List ℕ) (bs : List (List ℕ))
+      → frames_among (make p ∷ ps) (b ∷ bs) ≡ b ∷ frames_among ps bs
+
+frames_made : {run : FramedRun} {unit : PictureUnit} {make : Packet → Part} (f o : ℕ) (packets : List Packet)
+    → IsMaker run unit make
+    → blocks_from run f o (map make packets) ≡ frame_blocks run unit f packets
+frames_made f o [] is = refl
+frames_made {run} {unit} {make} f o (p ∷ packets) is =
+    ap (λ b. b ∷ blocks_from run (f + count_of (make p)) (o + octets_of (make p)) (map make packets)) (is.bytes p f o)
+    ∙ (ap (λ n. frame_block run unit p f ∷ blocks_from run (f + n) (o + octets_of (make p))
+    (map make packets)) (is.count p)
+    ∙ ap (λ bs. frame_block run unit p f ∷ bs) (frames_made (f + 1) (o + octets_of (make p)) packets is))
+
+plain : (f : ℕ) → f + 0 ≡ f
+plain f = omega arith
+
+-- a part of a film's pieces that is the report before a unit's frames, and no packet
+record ReportPart (run : FramedRun) (unit : PictureUnit) (f o : ℕ) : Type 0 where
+  report : Part
+  bytes : piece_bytes run f o report ≡ report_block run unit f o
+  count : count_of report ≡ 0
+
+with_report : {run : FramedRun} {unit : PictureUnit} {make : Packet → Part} {f o : ℕ} (starts : Bool)
+    (part : ReportPart run unit f o) (packets : List Packet) → IsMaker run unit make →
+    blocks_from run f o (cond starts (part.report ∷ []) [] ++ map make packets)
+    ≡ report_if starts run unit f o ++ frame_blocks run unit f packets
+with_report {f} {o} false part packets is = frames_made f o packets is
+with_report {run} {unit} {make} {f} {o} true part packets is =
+    ap (λ b. b ∷ blocks_from run (f + count_of report) (o + octets_of report) (map make packets)) bytes
+    ∙ (ap (λ n. report_block run unit f o ∷ blocks_from run n (o + octets_of report) (map make packets))
+    (ap (λ n. f + n) count ∙ plain f)
+    ∙ ap (λ bs. report_block run unit f o ∷ bs) (frames_made f (o + octets_of report) packets is))
+  where
+    open part use {report, bytes, count}
+
+pub unit_made : (run : FramedRun) (f o : ℕ) (starts : List ℕ) (unit : PictureUnit)
+    → blocks_from run f o (unit_pieces starts unit) ≡ unit_blocks run starts unit f o
+unit_made run f o starts unit =
+    with_report {run = run} {unit = unit} {make = _} unit.starts_group
+    (record { report = _; bytes = refl; count = refl })
+    (unit_packets starts unit) (record { bytes = λ p g n. refl; count = λ p. refl; among = λ p ps b bs. refl })
+
+-- ---- the frames among them
+
+frames_among_made : {run : FramedRun} {unit : PictureUnit} {make : Packet → Part} (f : ℕ) (packets : List Packet)
+    (ps : List Part) (bs : List (List ℕ))
+    → IsMaker run unit make
+    → frames_among (map make packets ++ ps) (frame_blocks run unit f packets ++ bs)
+    ≡ frame_blocks run unit f packets ++ frames_among ps bs
+frames_among_made f [] ps bs is = refl
+frames_among_made {run} {unit} {make} f (p ∷ packets) ps bs is =
+    is.among p (map make packets ++ ps) (frame_block run unit p f) (frame_blocks run unit (f + 1) packets ++ bs)
+    ∙ ap (λ l. frame_block run unit p f ∷ l) (frames_among_made (f + 1) packets ps bs is)
+
+-- a part that is a report: it is no frame among the pieces
+record UncountedReport : Type 0 where
+  report : Part
+  none : ((qs : List Part) (b : List ℕ) (cs : List (List ℕ)) → frames_among (report ∷ qs) (b ∷ cs) ≡ frames_among qs cs)
+
+-- packets, with the frames and octets that a run sent before them
+record PacketsFrom : Type 0 where
+  frames : ℕ
+  octets : ℕ
+  packets : List Packet
+
+-- the parts and blocks after those of a unit
+pub record AfterUnit : Type 0 where
+  pub parts : List Part
+  pub blocks : List (List ℕ)
+
+among_report : {run : FramedRun} {unit : PictureUnit} {make : Packet → Part} (starts : Bool)
+    (uncounted : UncountedReport)
+    (from : PacketsFrom) (rest : AfterUnit) → IsMaker run unit make →
+    frames_among ((cond starts (uncounted.report ∷ []) [] ++ map make from.packets) ++ rest.parts)
+    ((report_if starts run unit from.frames from.octets ++ frame_blocks run unit from.frames from.packets)
+    ++ rest.blocks)
+    ≡ frame_blocks run unit from.frames from.packets ++ frames_among rest.parts rest.blocks
+among_report false uncounted from rest is = frames_among_made from.frames from.packets rest.parts rest.blocks is
+among_report {run} {unit} {make} true uncounted from rest is =
+    uncounted.none (map make packets ++ rest.parts) (report_block run unit f o)
+    (frame_blocks run unit f packets ++ rest.blocks) ∙
+    frames_among_made f packets rest.parts rest.blocks is
+  where
+    open from use {frames as f, octets as o, packets}
+
+pub unit_among : (run : FramedRun) (f o : ℕ) (starts : List ℕ) (unit : PictureUnit) (rest : AfterUnit) →
+    frames_among (unit_pieces starts unit ++ rest.parts) (unit_blocks run starts unit f o ++ rest.blocks)
+    ≡ frame_blocks run unit f
+    (unit_packets starts unit) ++ frames_among rest.parts rest.blocks
+unit_among run f o starts unit rest =
+    among_report {run = run} {unit = unit} {make = _} unit.starts_group (record { report = _; none = λ qs b cs. refl })
+    (record { frames = f; octets = o; packets = unit_packets starts unit }) rest
+    (record { bytes = λ p g n. refl; count = λ p. refl; among = λ p qs b cs. refl })
+
+-- ---- what a client reads of them
+
+bit_read : (m : Bool) → nat_le 128 (bit m * 128 + 32) ≡ m
+bit_read true = refl
+bit_read false = refl
+
+pub last_is : (run : FramedRun) (f : ℕ) (unit : PictureUnit) (p : Packet)
+    → is_last (frame_block run unit p f) ≡ p.marker
+last_is run f unit p = bit_read p.marker
+
+pub frame_moment : (run : FramedRun) (f : ℕ) (unit : PictureUnit) (p : Packet) → run.identity.channel ≡ 0
+    → element_events (frame_block run unit p f) ≡ Frame (frame_block run unit p f) ∷ []
+frame_moment run f unit p media = ap (λ c. block_events c (frame_block run unit p f)) media
+
+pub report_moment : (run : FramedRun) (f o : ℕ) (unit : PictureUnit) → run.identity.control ≡ 1
+    → element_events (report_block run unit f o) ≡ Report (report_block run unit f o) ∷ []
+report_moment run f o unit control = ap (λ c. block_events c (report_block run unit f o)) control
+
+pub frames_one : (run : FramedRun) (f : ℕ) (unit : PictureUnit) (packets : List Packet) → run.identity.channel ≡ 0
+    → AreOneBlocks (frame_blocks run unit f packets)
+frames_one run f unit [] media = tt
+frames_one run f unit (p ∷ packets) media =
+    let c : run.identity.channel < 2 = omega (arith, media) in (
+      record { moment = inl (frame_moment run f unit p media); starts = refl; channel = c },
+      frames_one run (f + 1) unit packets media,
+    )
+
+reports_one : (starts : Bool) (run : FramedRun) (f o : ℕ) (unit : PictureUnit) → run.identity.control ≡ 1
+    → AreOneBlocks (report_if starts run unit f o)
+reports_one true run f o unit control =
+    let c : run.identity.control < 2 = omega (arith, control) in
+    (record { moment = inr (report_moment run f o unit control); starts = refl; channel = c }, tt)
+reports_one false run f o unit control = tt
+
+-- a run on channels 0 and 1, with the frames and octets that it sent before
+pub record RunFrom : Type 0 where
+  pub run : FramedRun
+  pub frames : ℕ
+  pub octets : ℕ
+  pub media : run.identity.channel ≡ 0
+  pub control : run.identity.control ≡ 1
+
+pub unit_one : (from : RunFrom) (starts : List ℕ) (unit : PictureUnit) →
+    AreOneBlocks (unit_blocks from.run starts unit from.frames from.octets)
+unit_one from starts unit =
+    blocks_one_append (report_if unit.starts_group run unit f o) (frame_blocks run unit f (unit_packets starts unit))
+    (reports_one unit.starts_group run f o unit control) (frames_one run f unit (unit_packets starts unit) media)
+  where
+    open from use {run, frames as f, octets as o, media, control}

@@ -1,0 +1,171 @@
+-- What a client has heard, event by event: the elements in front of the bytes that came.
+use Rattle.std.proofs.Common.{◌≡◌, ℕ, ◌+◌, ◌<◌, ◌≤◌, ◌==◌, ◌||◌, Bool, true, false, nat_lt, List}
+use Rattle.std.proofs.Common.{[], ◌∷◌, ◌++◌, take, refl, sym, ap, ap₂, subst, ◌∙◌, append_assoc}
+use Rattle.std.proofs.Common.{arith, inl, inr}
+use Rattle.std.proofs.lemmas.Bool.{cond-false, ne_eqb}
+use Rattle.std.proofs.lemmas.List.{append-nil}
+use Rattle.vod_base.specs.Links.{IoEvent, HeardBytes, HeardEnd, HeardSlot, Sent}
+use Rattle.interleave.specs.Streams.{AreInputElements, IsElementLength}
+use Rattle.interleave.proofs.StreamElements.{CutsInTurn, cuts_join}
+use Rattle.rtsp_client.specs.declared.watch_request.Wish.{Wish}
+use Rattle.rtsp_client.specs.declared.watch_request.Watched.{Watched}
+use Rattle.rtsp_client.specs.declared.watch_request.WatchEnd.TheVariants.{Done}
+use Rattle.rtsp_client.specs.Answers.{GoOn, Gives, history_after, cut_bytes, events_of_elements, element_events}
+use Rattle.rtsp_client.specs.Answers.{payloads_of}
+use Rattle.rtsp_client.specs.WatchCourses.{Brings, IsNext, Round, Runs, RunsAll, Stage, stage}
+use Rattle.rtsp_client.specs.Films.{is_complete}
+use Rattle.rtsp_client.specs.Meters.{first_slot, watched_in}
+use Rattle.rtsp_client.specs.ClientHistory.{History, ClientEvent, Frame, Reply, Report, Slot, replies, slot_before}
+use Rattle.rtsp_client.specs.ClientHistory.{start}
+use Rattle.connection_laws.specs.Requests.{bytes_in}
+use Rattle.connection_laws.proofs.FirstFrames.{HasGoneOn, gone_on}
+use Rattle.connection_laws.proofs.HistorySums.{Sum, replies_grow, steps, steps_on, sum_after, sum_of}
+use Rattle.connection_laws.proofs.UnitSizes.{moments_parts}
+
+-- the bytes that were heard
+abbrev pub rounds_heard : List Round → List ℕ
+rounds_heard [] = []
+rounds_heard (round ∷ rounds) = bytes_in round.event ++ rounds_heard rounds
+
+abbrev pub no_sum : Sum
+no_sum = sum_of []
+
+-- where a client stands that heard these bytes
+pub record Heard (bytes : List ℕ) (at : Stage) : Type 0 where
+  pub elements : List (List ℕ)
+  pub cut : AreInputElements bytes elements at.rest
+  pub sum : sum_of at.history ≡ steps no_sum (events_of_elements elements)
+  pub gone : HasGoneOn at.history
+
+pub heard_none : Heard [] (stage [] [])
+heard_none = record { elements = []; cut = refl; sum = refl; gone = tt }
+
+-- with further elements
+pub heard_more : {bytes : List ℕ} {old : Stage} {rest : List ℕ} (more : List ℕ) (elements : List (List ℕ))
+    (heard : Heard bytes old) → AreInputElements (old.rest ++ more) elements rest
+    → GoOn old.history (events_of_elements elements)
+    → Heard (bytes ++ more) (stage (history_after old.history (events_of_elements elements)) rest)
+heard_more {bytes} {old} {rest} more elements heard cut good = record {
+  elements = heard.elements ++ elements;
+  cut = let cuts : CutsInTurn bytes more heard.elements elements old.rest rest =
+      record { first = heard.cut; next = cut } in cuts_join cuts;
+  sum = sum_after old.history (events_of_elements elements)
+      ∙ (ap (λ s. steps s (events_of_elements elements)) heard.sum
+      ∙ (sym (steps_on no_sum (events_of_elements heard.elements) (events_of_elements elements))
+      ∙ ap (steps no_sum) (sym (moments_parts heard.elements elements))));
+  gone = gone_on old.history (events_of_elements elements) heard.gone good;
+}
+
+same_stage : (new : Stage) (h : History) (rest : List ℕ) → new.history ≡ h → new.rest ≡ rest → stage h rest ≡ new
+same_stage new h rest history same = ap (λ x. stage x rest) (sym history) ∙ ap (λ x. stage new.history x) (sym same)
+
+heard_event : {bytes : List ℕ} {old new : Stage} (event : IoEvent) (moments : List ClientEvent) → Heard bytes old
+    → Brings event old.rest moments new.rest
+    → GoOn old.history moments → new.history ≡ history_after old.history moments → Heard (bytes ++ bytes_in event) new
+heard_event {bytes} {old} {new} (HeardBytes more) moments heard brings good history =
+    let G : List ClientEvent → Type 0 = λ ms. GoOn old.history ms in
+    let is : stage (history_after old.history (events_of_elements brings.0)) new.rest ≡ new =
+    same_stage new (history_after old.history (events_of_elements brings.0)) new.rest
+    (history ∙ ap (history_after old.history) brings.1.1) refl in
+    subst (Heard (bytes ++ more)) is (heard_more more brings.0 heard brings.1.0 (subst G brings.1.1 good))
+heard_event {bytes} {old} {new} (HeardSlot slot) moments heard brings good history =
+    let cut = cut_bytes old.rest in
+    let G : List ClientEvent → Type 0 = λ ms. GoOn old.history ms in
+    let good2 : GoOn old.history (Slot slot cut ∷ []) = subst G brings.0 good in
+    let is : stage (Slot slot cut ∷ old.history) old.rest ≡ new =
+    same_stage new (Slot slot cut ∷ old.history) old.rest
+    (history ∙ ap (history_after old.history) brings.0) brings.1 in
+    let mid : Heard bytes (stage (Slot slot cut ∷ old.history) old.rest) =
+    record { elements = heard.elements; cut = heard.cut; sum = heard.sum; gone = (tt, heard.gone) } in
+    let B : List ℕ → Type 0 = λ b. Heard b new in
+    subst B (sym (append-nil bytes)) (subst (Heard bytes) is mid)
+heard_event {new} HeardEnd moments heard brings good history = absurd brings
+heard_event {new} (Sent byte) moments heard brings good history = absurd brings
+
+pub heard_round : (bytes : List ℕ) (old new : Stage) (round : Round) → Heard bytes old → Runs old round new
+    → Heard (bytes ++ bytes_in round.event) new
+heard_round bytes old new round heard runs = heard_event round.event round.moments heard runs.brings runs.good
+    runs.history_is
+
+pub heard_all : (bytes : List ℕ) (old new : Stage) (rounds : List Round) → Heard bytes old
+    → RunsAll old rounds new → Heard (bytes ++ rounds_heard rounds) new
+heard_all bytes old new [] heard all =
+    let P : List ℕ → Type 0 = λ b. Heard b new in subst P (sym (append-nil bytes)) (subst (Heard bytes) (sym all) heard)
+heard_all bytes old new (round ∷ rounds) heard all =
+    let P : List ℕ → Type 0 = λ b. Heard b new in
+    subst P (append_assoc bytes (bytes_in round.event) (rounds_heard rounds))
+    (heard_all (bytes ++ bytes_in round.event) all.0 new rounds
+    (heard_round bytes old all.0 round heard all.1.0) all.1.2)
+
+-- ---- what later moments leave
+
+pub replies_later : (h : History) (ms : List ClientEvent) → replies h ≤ replies (history_after h ms)
+replies_later h ms = omega (arith, replies_grow (sum_of h) ms, ap (λ (s : Sum). s.replies) (sum_after h ms))
+
+-- the play's first slot stays, once its reply was heard
+slot_once : (h : History) (m : ClientEvent) → 1 < replies h → (first_slot (m ∷ h) ≡ first_slot h) × (1 < replies (m ∷
+    h))
+slot_once h (Reply m) playing =
+    let other : (replies h == 1) ≡ false = ne_eqb (replies h) 1 (λ one. omega (arith, one, playing)) in (
+      ap₂ (λ a b. a + b) (cond-false (replies h == 1) _ (start h) other)
+          (cond-false (replies h == 1) _ (slot_before h) other),
+      omega (arith, playing),
+    )
+slot_once h (Frame b) playing = (refl, playing)
+slot_once h (Report b) playing = (refl, playing)
+slot_once h (Slot t cut) playing = (refl, playing)
+
+pub slot_stays : (h : History) (ms : List ClientEvent) → 1 < replies h → first_slot (history_after h ms) ≡ first_slot h
+slot_stays h [] playing = refl
+slot_stays h (m ∷ ms) playing = let one = slot_once h m playing in slot_stays (m ∷ h) ms one.1 ∙ one.0
+
+-- ---- how a watching is done
+
+-- the next element is the last reply
+pub record IsDrained (wish : Wish) (watched : Watched) (bytes out : List ℕ) : Type 0 where
+  pub at : Stage
+  pub heard : Heard bytes at
+  pub message : List ℕ
+  pub length_ : ℕ
+  pub whole : IsElementLength at.rest length_
+  pub moment : element_events (take length_ at.rest) ≡ Reply message ∷ []
+  pub replies_are : replies at.history ≡ 2
+  pub complete : is_complete at.history ≡ true
+  pub watched_is : watched ≡ watched_in wish at.history
+  pub moments : List ClientEvent
+  pub out_is : out ≡ payloads_of moments
+  pub history_is : at.history ≡ history_after [] moments
+
+complete_then : (n : ℕ) (complete : Bool) → n ≡ 2 → (nat_lt n 2 || complete) ≡ true → complete ≡ true
+complete_then n complete two awaited =
+    let P : ℕ → Type 0 = λ k. (nat_lt k 2 || complete) ≡ true in subst P two awaited
+
+-- the done stage, with its moments
+pub at_done : {wish : Wish} {watched : Watched} {bytes out : List ℕ} {at : Stage} {moment : ClientEvent}
+    (moments : List ClientEvent)
+    → Heard bytes at → IsNext at.rest moment → Gives wish at.history moment (Done watched)
+    → at.history ≡ history_after [] moments → out ≡ payloads_of moments
+    → ((done : IsDrained wish watched bytes out) × (done.at ≡ at))
+at_done {out} {at} {moment = Reply message} moments heard next (inl bad) history is = absurd (let no : ⊥ = cc in no)
+at_done {out} {at} {moment = Reply message} moments heard next (inr (inl refused)) history is =
+    absurd (let no : ⊥ = cc in no)
+at_done {wish} {watched} {out} {at} {moment = Reply message} moments heard next (inr (inr good)) history is = (
+  record {
+    at = at;
+    heard = heard;
+    message = message;
+    length_ = next.0;
+    whole = next.1.0;
+    moment = next.1.1;
+    replies_are = good.1;
+    complete = complete_then (replies at.history) (is_complete at.history) good.1 good.0.0.awaited;
+    watched_is = let same : watched ≡ watched_in wish at.history = cc in same;
+    moments = moments;
+    out_is = is;
+    history_is = history;
+  },
+  refl,
+)
+at_done {out} {at} {moment = Frame block} moments heard next gives history is = absurd (let no : ⊥ = cc in no)
+at_done {out} {at} {moment = Report block} moments heard next gives history is = absurd gives
+at_done {out} {at} {moment = Slot slot cut} moments heard next gives history is = absurd gives

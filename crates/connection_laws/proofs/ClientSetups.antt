@@ -1,0 +1,215 @@
+-- What the requests of a client that wishes for a film settle: its channels, its buffer, its delay and its film, and
+-- the whole run.
+use Rattle.std.proofs.Common.{◌≡◌, ◌≢◌, ℕ, ◌+◌, ◌-◌, ◌<◌, ◌^◌, ◌==◌, not, true, false, List, [], ◌∷◌, ◌++◌}
+use Rattle.std.proofs.Common.{Option, Some, length, take, drop, get_or, codes, decimal, string_bytes, nat_lt}
+use Rattle.std.proofs.Common.{slice_range}
+use Rattle.std.proofs.Common.{refl, sym, ap, subst, ◌∙◌, arith, inl, inr, append_assoc, lt-ltb}
+use Rattle.std.specs.Char.{is_ascii_digit}
+use Rattle.std.specs.List.{list_all}
+use Rattle.std.proofs.lemmas.Bool.{and_from, cases_lt}
+use Rattle.std.proofs.lemmas.Fmt.{decimal_digit, decimal_nonempty, digits_decimal}
+use Rattle.std.proofs.lemmas.List.{drop_at, get_or_append_left, get_or-append_right, length-append, take_all}
+use Rattle.std.proofs.lemmas.List.Folds.{list_all_at}
+use Rattle.std.proofs.lemmas.Option.{same_Some}
+use Rattle.vod_base.specs.Numbers.{is_decimal}
+use Rattle.vod_base.proofs.DigitLemmas.{decimal_numerals}
+use Rattle.vod_base.proofs.TextLemmas.{decimal_read}
+use Rattle.film_frames.specs.declared.stored_films.Stored.{Stored}
+use Rattle.rtsp_client.specs.RequestParts.{IsSessionId, play_parts, setup_parts}
+use Rattle.rtsp_client.specs.Requests.{film_url, setup_text}
+use Rattle.rtsp_client.specs.WatchRequests.{IsWish}
+use Rattle.rtsp_client.specs.declared.watch_request.Wish.{Wish}
+use Rattle.rtsp_client.proofs.RequestGrammar.{play-asked, setup-asked}
+use Rattle.rtsp_fields.specs.declared.transports.Channels.{Channels}
+use Rattle.rtsp_fields.specs.SeparatedParts.{IsPartEnd}
+use Rattle.rtsp_fields.specs.Transports.{IsTransport}
+use Rattle.rtsp_fields.specs.Urls.{IsRead, IsTail, NamesFilm}
+use Rattle.rtsp_fields.proofs.FieldUniqueness.{name_once, no_other_byte, transport_once}
+use Rattle.rtsp_fields.proofs.FilmPaths.{film_path}
+use Rattle.rtsp_fields.proofs.PartPlaces.{end_once}
+use Rattle.rtsp_fields.proofs.TransportTexts.{transport_read}
+use Rattle.rtsp_text.specs.Fields.{header_value}
+use Rattle.rtsp_text.specs.Replies.{value_named}
+use Rattle.rtsp_text.specs.RequestTexts.{request_head}
+use Rattle.session.specs.declared.settings.Settings.{Settings}
+use Rattle.session.specs.declared.states.Setup.{Setup}
+use Rattle.session.specs.Films.{IsFilmAt, Names}
+use Rattle.vod_base.specs.Limits.{WritesNumber}
+use Rattle.session.specs.Setups.{AreChannelsOf, AsksForSetup, IsChosen}
+use Rattle.session.proofs.SetupLemmas.{IsSetupRequest}
+
+-- ---- the film that a URL names
+
+literal_byte : (k : ℕ) → k < 10 → get_or (codes "127.0.0.1:") k 0 ≢ 47
+literal_byte k inside = λ slash.
+    let P : ℕ → Type 0 = λ n. not (n == 47) ≡ false in
+    let other : not (get_or (codes "127.0.0.1:") k 0 == 47) ≡ false = subst P (sym slash) refl in
+    let wrong : true ≡ false = list_all_at (λ byte. not (byte == 47)) (codes "127.0.0.1:") k 0 inside other in
+    let no : ⊥ = cc in no
+
+abbrev authority_of : ℕ → List ℕ
+authority_of port = codes "127.0.0.1:" ++ decimal port
+
+are_digits : (n : ℕ) → n < 2 ^ 64 → is_decimal (decimal n) ≡ true
+are_digits n small =
+    and_from (nat_lt 0 (length (decimal n))) (list_all is_ascii_digit (decimal n))
+    (lt-ltb 0 (length (decimal n)) (decimal_nonempty n small)) (digits_decimal decimal_numerals n small)
+
+authority_byte : (port k : ℕ) → port < 2 ^ 64 → k < length (authority_of port) → get_or (authority_of port) k 0 ≢ 47
+authority_byte port k small inside =
+    elim (cases_lt k 10) [
+      | inl less ↦ λ slash.
+          literal_byte k less (sym (get_or_append_left (codes "127.0.0.1:") (decimal port) 0 k less) ∙ slash)
+      | inr more ↦ λ slash.
+          no_other_byte (decimal port) 47 (k - 10) (are_digits port small) (λ r. omega (arith, r))
+          (omega (arith, inside, more, length-append (codes "127.0.0.1:") (decimal port)))
+          (sym (get_or-append_right (codes "127.0.0.1:") (decimal port) 10 k 0 refl more) ∙ slash)
+    ]
+
+authority_end : (port : ℕ) (rest : List ℕ) → port < 2 ^ 64
+    → IsPartEnd 47 (codes "rtsp://" ++ (authority_of port ++ (47 ∷ rest))) 7 (7 + length (authority_of port))
+authority_end port rest small =
+    let url = codes "rtsp://" ++ (authority_of port ++ (47 ∷ rest)) in
+    let n = length (authority_of port) in
+    record {
+      after = omega arith;
+      within = omega (
+        arith,
+        length-append (codes "rtsp://") (authority_of port ++ (47 ∷ rest)),
+        length-append (authority_of port) (47 ∷ rest),
+      );
+      none = λ k from below slash.
+          authority_byte port (k - 7) small (omega (arith, from, below))
+          (sym (get_or-append_right (codes "rtsp://") (authority_of port ++ (47 ∷ rest)) 7 k 0 refl from
+          ∙ get_or_append_left (authority_of port) (47 ∷ rest) 0 (k - 7) (omega (arith, from, below))) ∙ slash);
+      ends = λ inside.
+          let same : 7 + n - 7 ≡ n = omega arith in
+          let none : n - n ≡ 0 = omega arith in
+          get_or-append_right (codes "rtsp://") (authority_of port ++ (47 ∷ rest)) 7 (7 + n) 0 refl (omega arith)
+          ∙ ap (λ k. get_or (authority_of port ++ (47 ∷ rest)) k 0) same
+          ∙ get_or-append_right (authority_of port) (47 ∷ rest) n n 0 refl (omega arith)
+          ∙ ap (λ k. get_or (47 ∷ rest) k 0) none;
+    }
+
+url_parts : (wish : Wish) (tail : List ℕ)
+    → film_url wish ++ tail ≡ codes "rtsp://" ++ (authority_of wish.port ++ (47 ∷ (string_bytes wish.name ++ tail)))
+url_parts wish tail =
+    append_assoc (codes "rtsp://127.0.0.1:") (decimal wish.port ++ (codes "/" ++ string_bytes wish.name)) tail
+    ∙ ap (λ l. codes "rtsp://127.0.0.1:" ++ l)
+    (append_assoc (decimal wish.port) (codes "/" ++ string_bytes wish.name) tail)
+    ∙ ap (λ l. codes "rtsp://" ++ l)
+    (sym (append_assoc (codes "127.0.0.1:") (decimal wish.port) (47 ∷ (string_bytes wish.name ++ tail))))
+
+pub url_name : {authority name : List ℕ} (wish : Wish) (tail : List ℕ) → IsWish wish → wish.port < 2 ^ 16 → IsTail tail
+    → IsRead (film_url wish ++ tail) authority (Some name) → name ≡ string_bytes wish.name
+url_name {authority} {name} wish tail is port is_tail url_read =
+    let small : wish.port < 2 ^ 64 = omega (arith, port) in
+    let rest = string_bytes wish.name ++ tail in
+    let front = codes "rtsp://" ++ authority_of wish.port in
+    let url = codes "rtsp://" ++ (authority_of wish.port ++ (47 ∷ rest)) in
+    let R : List ℕ → Type 0 = λ u. IsRead u authority (Some name) in
+    let its = subst R (url_parts wish tail) url_read in
+    let n = 7 + length (authority_of wish.port) in
+    let at : its.path ≡ n = end_once its.is_url.end (authority_end wish.port rest small) in
+    let size : length url ≡ n + length (47 ∷ rest) =
+    omega (
+      arith,
+      length-append (codes "rtsp://") (authority_of wish.port ++ (47 ∷ rest)),
+      length-append (authority_of wish.port) (47 ∷ rest),
+    ) in
+    let after : drop n url ≡ 47 ∷ rest =
+    ap (λ l. drop n l) (sym (append_assoc (codes "rtsp://") (authority_of wish.port) (47 ∷ rest)))
+    ∙ drop_at front (47 ∷ rest) n (omega (arith, length-append (codes "rtsp://") (authority_of wish.port))) in
+    let path : slice_range url n (length url) ≡ 47 ∷ rest =
+    ap (λ l. take (length url - n) l) after ∙ take_all (length url - n) (47 ∷ rest) (omega (arith, size)) in
+    let N : ℕ → Type 0 = λ k. NamesFilm (slice_range url k (length url)) name in
+    let M : List ℕ → Type 0 = λ p. NamesFilm p name in
+    name_once (47 ∷ rest) name (string_bytes wish.name) (subst M path (subst N at its.name_is))
+    (film_path (string_bytes wish.name) tail is.name is_tail)
+
+-- ---- SETUP
+
+pub record IsSettled (wish : Wish) (films : List Stored) (setup : Setup) : Type 0 where
+  pub media : setup.media ≡ 0
+  pub control : setup.control ≡ 1
+  pub buffer : setup.buffer ≡ wish.buffer
+  pub delay : setup.delay ≡ wish.startup
+  pub film : (film : Stored) → IsFilmAt films setup.film film → string_bytes film.name ≡ string_bytes wish.name
+
+setup_transport : (wish : Wish) → value_named (codes "Transport") (setup_parts wish).fields
+    ≡ Some (codes "RTP/AVP/TCP;unicast;interleaved=0-1")
+unfolding value_named
+setup_transport wish = refl
+
+setup_buffer : (wish : Wish) → value_named (codes "x-Buffer") (setup_parts wish).fields ≡ Some (decimal wish.buffer)
+unfolding value_named
+setup_buffer wish = refl
+
+setup_delay : (wish : Wish) → value_named (codes "x-Startup") (setup_parts wish).fields ≡ Some (decimal wish.startup)
+unfolding value_named
+setup_delay wish = refl
+
+two_channels : (channels : Channels) → IsTransport (codes "RTP/AVP/TCP;unicast;interleaved=0-1") channels
+    → channels ≡ record { media = 0; control = 1 }
+two_channels channels is =
+    let C : Channels = record { media = 0; control = 1 } in
+    let P : List ℕ → List ℕ
+    → Type 0 = λ a b. IsTransport (codes "RTP/AVP/TCP;unicast;interleaved=" ++ (a ++ 45 ∷ b)) C in
+    let zero_is : decimal 0 ≡ codes "0" = decimal_digit 0 (omega arith) in
+    let one_is : decimal 1 ≡ codes "1" = decimal_digit 1 (omega arith) in
+    let read : P (decimal 0) (decimal 1) = transport_read 0 1 (omega arith) (omega arith)
+    (λ same. omega (arith, same)) in
+    transport_once (codes "RTP/AVP/TCP;unicast;interleaved=0-1") channels C is
+    (subst (P (codes "0")) one_is (subst (λ a. P a (decimal 1)) zero_is read))
+
+-- a number in its range that is written is read
+chosen_is : {least most number : ℕ} (written : ℕ) → WritesNumber least most (decimal written) number
+    → written < 2 ^ 64 → number ≡ written
+chosen_is {number = number} written is small =
+    same_Some number written (sym is.is_number ∙ decimal_read written small)
+
+pub setup_is : (wish : Wish) → IsWish wish → wish.port < 2 ^ 16
+    → IsSetupRequest (setup_text wish) (film_url wish ++ codes "/video") (request_head (setup_parts wish))
+setup_is wish is port =
+    let asked = setup-asked wish is port in
+    record { sequence = 1; body = []; read = asked.read }
+
+name_at : {films : List Stored} {authority : List ℕ} {number : ℕ} (wish : Wish) → IsWish wish → wish.port < 2 ^ 16
+    → Names films (film_url wish ++ codes "/video") authority number
+    → (film : Stored) → IsFilmAt films number film → string_bytes film.name ≡ string_bytes wish.name
+name_at {films} {authority} {number} wish is port names film at =
+    let same : names.film.stored ≡ film = same_Some names.film.stored film (sym names.film.at ∙ at) in
+    ap (λ (s : Stored). string_bytes s.name) (sym same)
+    ∙ (names.film.name_is ∙ url_name wish (codes "/video") is port (inr (inr (inl refl))) names.read)
+
+pub settled_by : {films : List Stored} {settings : Settings} {setup : Setup} {authority : List ℕ} (wish : Wish)
+    → IsWish wish → wish.port < 2 ^ 16
+    → AsksForSetup settings (request_head (setup_parts wish)) setup.film setup
+    → Names films (film_url wish ++ codes "/video") authority setup.film → IsSettled wish films setup
+settled_by {films} {settings} {setup} wish is port asks names =
+    let values = (setup-asked wish is port).values in
+    let C : Option (List ℕ) → Type 0 = λ v. AreChannelsOf v (record { media = setup.media; control = setup.control }) in
+    let B : Option (List ℕ) → Type 0 = λ v. IsChosen v settings.buffer 1 (2 ^ 42) setup.buffer in
+    let D : Option (List ℕ) → Type 0 = λ v. IsChosen v settings.startup 0 10000 setup.delay in
+    let channels = two_channels (record { media = setup.media; control = setup.control })
+    (subst C (values (codes "Transport") ∙ setup_transport wish) asks.channels) in
+    record {
+      media = ap (λ (c : Channels). c.media) channels;
+      control = ap (λ (c : Channels). c.control) channels;
+      buffer = chosen_is wish.buffer
+          (subst B (values (codes "x-Buffer") ∙ setup_buffer wish) asks.buffer) (omega (arith, is.most_buffer));
+      delay = chosen_is wish.startup
+          (subst D (values (codes "x-Startup") ∙ setup_delay wish) asks.delay) (omega (arith, is.startup));
+      film = name_at wish is port names;
+    }
+
+-- ---- PLAY
+
+play_range : (wish : Wish) (session : List ℕ)
+    → value_named (codes "Range") (play_parts wish session).fields ≡ Some (codes "npt=0-")
+unfolding value_named
+play_range wish session = refl
+
+pub range_is : (wish : Wish) (session : List ℕ) → IsWish wish → wish.port < 2 ^ 16 → IsSessionId session
+    → header_value (request_head (play_parts wish session)) (codes "Range") ≡ Some (codes "npt=0-")
+range_is wish session is port id = (play-asked wish session is port id).values (codes "Range") ∙ play_range wish session

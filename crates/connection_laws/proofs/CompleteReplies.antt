@@ -1,0 +1,290 @@
+-- Each reply to a client's SETUP, PLAY and TEARDOWN is a whole message.
+use Rattle.std.specs.Prelude.{⊤}
+use Rattle.std.proofs.Common.{◌≡◌, ℕ, ◌<◌, ◌≤◌, ◌^◌, ◌⊎◌, Bool, true, false, nat_lt, nat_le, List, [], ◌∷◌, ◌++◌}
+use Rattle.std.proofs.Common.{◌&&◌, ◌==◌, not, map, get_or, codes, decimal, string_bytes, length, sym, ap, subst}
+use Rattle.std.proofs.Common.{◌∙◌, arith, inl, inr}
+use Rattle.std.specs.List.{list_all}
+use Rattle.std.proofs.lemmas.Bool.{and_parts}
+use Rattle.std.proofs.lemmas.Bool.Decides.{nat_tests}
+use Rattle.std.proofs.lemmas.Fmt.{length-decimal-le}
+use Rattle.std.proofs.lemmas.List.{length-append}
+use Rattle.film_frames.specs.declared.stored_films.Stored.{Stored}
+use Rattle.admission.specs.declared.entries.Answer.{Answer}
+use Rattle.admission.specs.declared.entries.Answer.TheVariants.{Admitted}
+use Rattle.admission.specs.Makers.{PlacedEntry}
+use Rattle.rtsp_client.specs.RequestParts.{teardown_parts}
+use Rattle.rtsp_client.specs.Requests.{film_url, play_text, setup_text, teardown_text}
+use Rattle.rtsp_client.proofs.RequestGrammar.{teardown-asked}
+use Rattle.rtsp_client.proofs.RequestTexts.{play_rest, setup_rest, teardown_rest}
+use Rattle.rtsp_client.proofs.Texts.{put-long}
+use Rattle.rtsp_text.specs.Requests.{IsRequest}
+use Rattle.rtsp_text.specs.RequestTexts.{request_head}
+use Rattle.rtsp_text.proofs.MessageUniqueness.{request_once}
+use Rattle.vod_base.specs.Names.{good_name, is_name_byte}
+use Rattle.vod_base.specs.Links.{IoEvent, HeardBytes, HeardEnd, HeardSlot, Sent}
+use Rattle.session.specs.declared.commands.Ask.{Ask}
+use Rattle.session.specs.declared.commands.Ask.TheVariants.{Reply as AskReply, Play as AskPlay, Halt as AskHalt}
+use Rattle.session.specs.declared.commands.Ask.TheVariants.{Look as AskLook, Offer as AskOffer}
+use Rattle.session.specs.EndLaws.{HaltsPlay, IsTeardown}
+use Rattle.session.specs.RequestSteps.{Hears, HearsOn}
+use Rattle.session.specs.Laws.{InitStage, PlayingStage, ReadyStage, StateKind as SessionStage, stage_of}
+use Rattle.session.specs.SettingRanges.{AreFilms}
+use Rattle.session.specs.SessionStates.{SessionState}
+use Rattle.session.specs.CompleteReplies.{IsMessage, HasValidIds, LeavesRoom, RepliesAreComplete}
+use Rattle.session.proofs.PauseTeardownLemmas.{teardown_ends}
+use Rattle.session.proofs.CompleteReplyLemmas.{keeps_named, replies_whole}
+use Rattle.conn.specs.EventSteps.{Round, Runs}
+use Rattle.conn.specs.InputSteps.{Answered, Entered, HasHeard, IsAskAnswered, IsLookAnswered, IsPlayAnswered, IsReplied}
+use Rattle.conn.specs.InputSteps.{Offered}
+use Rattle.conn.specs.InputSteps.{Outcome, SentPart, Passed, Stage, ElementStep, TakesAll, Unasked, WasFull}
+use Rattle.conn.proofs.EventPremises.{EventCome}
+use Rattle.conn.proofs.ReplyContents.{halted_text}
+use Rattle.connection_laws.specs.Courses.{IsCourseBetween}
+use Rattle.connection_laws.specs.Replies.{PlacedText, replies_of, takings_replies, text_of}
+use Rattle.connection_laws.proofs.UniqueResults.{answered_names, names_in, replied_names, stepped_names}
+use Rattle.connection_laws.proofs.Requests.{rounds_requests, takings_requests}
+use Rattle.connection_laws.proofs.SetupOnly.{Beginning}
+
+-- ---- the films and the id stay
+
+named_as : {old new : SessionState} → names_in new ≡ names_in old → HasValidIds old → HasValidIds new
+named_as {old} {new} same named = record {
+  films = subst AreFilms (sym (ap (λ (n : List Stored × List ℕ). n.0) same)) named.films;
+  number = named.number;
+  id_is = ap (λ (n : List Stored × List ℕ). n.1) same ∙ named.id_is;
+}
+
+pub answered_named : {old new : Stage} {message : List ℕ} {outcome : Outcome} {parts : List SentPart}
+    → IsReplied old message outcome parts new → HasValidIds old.session → HasValidIds new.session
+answered_named {old} {new} {message} {outcome} replied named =
+    let heard = replied.heard in
+    let asking = keeps_named old.session heard.asking message heard.ask heard.hears named in
+    let answered : HasValidIds replied.answered =
+    named_as (answered_names heard.asking heard.ask outcome replied.answered heard.answered) asking in
+    subst (λ (s : Stage). HasValidIds s.session) (sym replied.new_is)
+    (named_as (replied_names replied.answered) answered)
+
+comes_named : (old opened : Stage) (event : IoEvent) → EventCome old event opened → HasValidIds old.session
+    → HasValidIds opened.session
+comes_named old opened (HeardBytes bytes) come named =
+    subst (λ (s : Stage). HasValidIds s.session) (sym come.comes.3) named
+comes_named old opened (HeardSlot slot) come named =
+    named_as (stepped_names old.session slot come.due come.halt opened.session come.comes.1) named
+comes_named old opened HeardEnd come named = absurd come.comes
+comes_named old opened (Sent byte) come named = absurd come.comes
+
+pub opened_named : {old new : Stage} {round : Round} (runs : Runs old round new) → HasValidIds old.session
+    → HasValidIds runs.opened.session
+opened_named {old} {new} {round} runs named =
+    comes_named old runs.opened round.event (record { due = round.due; halt = round.halt; comes = runs.comes }) named
+
+-- ---- one reply
+
+-- the reply is the session's own, at once or once a play was halted
+abbrev IsOwnReply : Ask → Type 0
+IsOwnReply AskReply = ⊤
+IsOwnReply (AskPlay plan) = ⊥
+IsOwnReply (AskHalt keep) = ⊤
+IsOwnReply (AskLook slot) = ⊥
+IsOwnReply (AskOffer plan offers) = ⊥
+
+-- what is asked was answered, and each reply that it can have is whole
+pub record HasWholeReply (asking : SessionState) (ask : Ask) (outcome : Outcome) (new : SessionState) : Type 0 where
+  pub whole : RepliesAreComplete ask asking
+  pub answered : IsAskAnswered asking ask outcome new
+
+own_whole : {asking new : SessionState} (ask : Ask) (outcome : Outcome) → IsOwnReply ask
+    → HasWholeReply asking ask outcome new → IsMessage new.text
+own_whole AskReply Unasked own has =
+    subst IsMessage (sym (ap (λ (s : SessionState). s.text) has.answered)) has.whole
+own_whole AskReply (Entered placed) own has = absurd has.answered
+own_whole AskReply (WasFull more entries live) own has = absurd has.answered
+own_whole AskReply (Offered at_slot note) own has = absurd has.answered
+own_whole (AskPlay plan) outcome own has = absurd own
+own_whole {asking} {new} (AskHalt keep) outcome own has =
+    subst IsMessage (sym (halted_text asking keep outcome new has.answered)) has.whole
+own_whole (AskLook slot) outcome own has = absurd own
+own_whole (AskOffer plan offers) outcome own has = absurd own
+
+-- the reply to a play that was admitted
+pub admitted_whole : {start : ℕ} {placed : PlacedEntry} {asking new : SessionState} (ask : Ask)
+    → placed.entry.answer ≡ Admitted start → start < 2 ^ 64
+    → HasWholeReply asking ask (Entered placed) new → IsMessage new.text
+admitted_whole AskReply is small has = absurd has.answered
+admitted_whole {start} {placed} {asking} {new} (AskPlay plan) is small has =
+    let P : Answer → Type 0 = λ a. IsPlayAnswered asking placed a new in
+    let admitted = subst P is has.answered.1 in
+    subst IsMessage (sym (ap (λ (s : SessionState). s.text) admitted.1)) (has.whole.admission placed.place start small)
+admitted_whole (AskHalt keep) is small has =
+    subst IsMessage (sym (ap (λ (s : SessionState). s.text) has.answered.halts)) has.whole
+admitted_whole {start} {placed} {asking} {new} (AskLook slot) is small has =
+    let L : Answer → Type 0 = λ a. IsLookAnswered asking placed a new in absurd (subst L is has.answered.1)
+admitted_whole (AskOffer plan offers) is small has = absurd has.answered
+
+pub reply_whole : {old new : SessionState} {message : List ℕ} {outcome : Outcome} (heard : HasHeard old message outcome
+    new)
+    → heard.ask ≡ AskReply → RepliesAreComplete heard.ask heard.asking → IsMessage new.text
+reply_whole {outcome = outcome} heard is whole =
+    own_whole heard.ask outcome (subst IsOwnReply (sym is) tt) (record { whole = whole; answered = heard.answered })
+
+-- ---- TEARDOWN
+
+own_halt : (stage : SessionStage) (ask : Ask) → HaltsPlay stage ask → IsOwnReply ask
+own_halt InitStage ask is = subst IsOwnReply (sym is) tt
+own_halt ReadyStage ask is = subst IsOwnReply (sym is) tt
+own_halt PlayingStage ask is = subst IsOwnReply (sym is.1) tt
+
+teardown_read : (b : Beginning) (lost : Bool) (old new : SessionState) {message : List ℕ} {ask : Ask}
+    → message ≡ teardown_text b.wish b.session → HearsOn lost old message ask new
+    → (ask ≡ AskReply) ⊎ IsTeardown message
+teardown_read b true old new is hears = inl hears.0
+teardown_read b false old new is (inl fault) = inl fault.refused.0
+teardown_read b false old new {message = message} is (inr whole) =
+    let asked = teardown-asked b.wish b.session b.wished b.port b.session_is in
+    let R : List ℕ → Type 0 = λ m.
+    IsRequest m (codes "TEARDOWN") (film_url b.wish) 3 (request_head (teardown_parts b.wish b.session)) [] in
+    let same = request_once whole.is_request (subst R (sym is) asked.read) in
+    inr (record { request = whole.request; is_request = whole.is_request; method_is = same.method_is })
+
+teardown_own : {message : List ℕ} (b : Beginning) (old new : SessionState) (ask : Ask)
+    → message ≡ teardown_text b.wish b.session → Hears old message ask new → IsOwnReply ask
+teardown_own {message} b old new ask is hears = elim (teardown_read b old.lost old new is hears) [
+  | inl reply ↦ subst IsOwnReply (sym reply) tt
+  | inr teardown ↦ elim (teardown_ends old new message ask teardown hears) [
+    | inl declined ↦ subst IsOwnReply (sym declined.command) tt
+    | inr torn ↦ own_halt (stage_of old.state) ask torn.halts
+  ]
+]
+
+-- ---- the requests leave room for what replies repeat of them
+
+name_short : (name : List ℕ) → good_name name ≡ true → length name ≤ 64
+name_short name good =
+    let all = and_parts (nat_lt 0 (length name) && nat_le (length name) 64 && not (get_or name 0 0 == 46))
+    (list_all is_name_byte name) good in
+    let fits : nat_le (length name) 64 ≡ true =
+    (and_parts (nat_lt 0 (length name)) (nat_le (length name) 64)
+    (and_parts (nat_lt 0 (length name) && nat_le (length name) 64) (not (get_or name 0 0 == 46)) all.0).0).1 in
+    grind (arith, nat_tests)
+
+number_short : (n : ℕ) → n < 2 ^ 64 → length (decimal n) ≤ 20
+number_short n small = length-decimal-le 20 n (omega arith) (omega (arith, small)) small
+
+url_short : (b : Beginning) → length (film_url b.wish) ≤ 102
+url_short b =
+    let name = string_bytes b.wish.name in
+    omega (
+      arith,
+      length-append (codes "rtsp://127.0.0.1:") (decimal b.wish.port ++ (codes "/" ++ name)),
+      length-append (decimal b.wish.port) (codes "/" ++ name),
+      name_short name b.wished.name,
+      number_short b.wish.port (omega (arith, b.port)),
+    )
+
+room_for : {message : List ℕ} (text : List ℕ) → message ≡ text → length text ≤ 15872 → LeavesRoom message
+room_for text is short = λ head at. omega (arith, short, ap length is, at.within)
+
+pub setup_room : (b : Beginning) {message : List ℕ} → message ≡ setup_text b.wish → LeavesRoom message
+setup_room b is = room_for (setup_text b.wish) is (omega (
+  arith,
+  put-long (codes "SETUP ") (setup_rest b.wish),
+  url_short b,
+  number_short b.wish.buffer (omega (arith, b.wished.most_buffer)),
+  number_short b.wish.startup (omega (arith, b.wished.startup)),
+))
+
+pub play_room : (b : Beginning) {message : List ℕ} → message ≡ play_text b.wish b.session → LeavesRoom message
+play_room b is = room_for (play_text b.wish b.session) is (omega (
+  arith,
+  put-long (codes "PLAY ") (play_rest b.wish b.session),
+  url_short b,
+  b.session_is.short,
+))
+
+teardown_room : (b : Beginning) {message : List ℕ} → message ≡ teardown_text b.wish b.session → LeavesRoom message
+teardown_room b is = room_for (teardown_text b.wish b.session) is (omega (
+  arith,
+  put-long (codes "TEARDOWN ") (teardown_rest b.wish b.session),
+  url_short b,
+  b.session_is.short,
+))
+
+-- ---- all replies to TEARDOWN
+
+-- the requests are TEARDOWN
+abbrev pub AreTeardowns : Beginning → List (List ℕ) → Type 0
+AreTeardowns b [] = ⊤
+AreTeardowns b (message ∷ messages) = (message ≡ teardown_text b.wish b.session) × AreTeardowns b messages
+
+pub teardowns_cut : (b : Beginning) (front rest : List (List ℕ)) → AreTeardowns b (front ++ rest)
+    → AreTeardowns b front × AreTeardowns b rest
+teardowns_cut b [] rest are = (tt, are)
+teardowns_cut b (message ∷ front) rest are =
+    let its = teardowns_cut b front rest are.1 in ((are.0, its.0), its.1)
+
+-- the replies are whole messages
+abbrev pub AreWhole : List (List ℕ) → Type 0
+AreWhole [] = ⊤
+AreWhole (message ∷ messages) = IsMessage message × AreWhole messages
+
+whole_join : (front rest : List (List ℕ)) → AreWhole front → AreWhole rest → AreWhole (front ++ rest)
+whole_join [] rest are more = more
+whole_join (message ∷ front) rest are more = (are.0, whole_join front rest are.1 more)
+
+abbrev pub AreMessages : List PlacedText → Type 0
+AreMessages [] = ⊤
+AreMessages (text ∷ texts) = IsMessage text.text × AreMessages texts
+
+-- texts in front of others
+pub texts_whole : (texts : List PlacedText) (more : List (List ℕ)) → AreWhole (map text_of texts ++ more)
+    → AreMessages texts
+texts_whole [] more are = tt
+texts_whole (text ∷ texts) more are = (are.0, texts_whole texts more are.1)
+
+-- a session whose names are good is asked only to tear down
+pub record AsksTeardowns (b : Beginning) (session : SessionState) (requests : List (List ℕ)) : Type 0 where
+  pub named : HasValidIds session
+  pub teardowns : AreTeardowns b requests
+
+-- what is taken up is answered whole, and the session keeps its names
+pub record IsAnsweredWhole (new : SessionState) (replies : List (List ℕ)) : Type 0 where
+  pub named : HasValidIds new
+  pub whole : AreWhole replies
+
+pub takings_torn : {b : Beginning} (old new : Stage) (takings : List ElementStep) (takes : TakesAll old takings new)
+    → AsksTeardowns b old.session (takings_requests takings)
+    → IsAnsweredWhole new.session (takings_replies old takings new takes)
+takings_torn old new [] takes tears =
+    record { named = subst (λ (s : Stage). HasValidIds s.session) (sym takes) tears.named; whole = tt }
+takings_torn {b} old new (Passed n ∷ takings) takes tears =
+    let same : takes.0.session ≡ old.session = ap (λ (s : Stage). s.session) takes.1.0.2 in
+    takings_torn {b = b} takes.0 new takings takes.1.1
+    (record { named = subst HasValidIds (sym same) tears.named; teardowns = tears.teardowns })
+takings_torn {b} old new (Answered message outcome parts ∷ takings) takes tears =
+    let replied = takes.1.0 in
+    let heard = replied.heard in
+    let is : message ≡ teardown_text b.wish b.session = tears.teardowns.0 in
+    let own = teardown_own {message = message} b old.session heard.asking heard.ask is heard.hears in
+    let whole = replies_whole old.session message heard.ask heard.asking tears.named (teardown_room b is) heard.hears in
+    let rest = takings_torn {b = b} takes.0 new takings takes.1.1
+    (record { named = answered_named replied tears.named; teardowns = tears.teardowns.1 }) in
+    record {
+      named = rest.named;
+      whole = (own_whole heard.ask outcome own (record { whole = whole; answered = heard.answered }), rest.whole);
+    }
+
+-- what is taken up and what comes later
+pub whole_later : {session : SessionState} {replies : List (List ℕ)} (later : List (List ℕ))
+    → IsAnsweredWhole session replies → (HasValidIds session → AreWhole later) → AreWhole (replies ++ later)
+whole_later {replies = replies} later first rest = whole_join replies later first.whole (rest first.named)
+
+pub rounds_torn : {b : Beginning} (old new : Stage) (rounds : List Round) (follows : IsCourseBetween old rounds new)
+    → AsksTeardowns b old.session (rounds_requests rounds) → AreWhole (replies_of old rounds new follows)
+rounds_torn old new [] follows tears = tt
+rounds_torn {b} old new (round ∷ rounds) follows tears =
+    let runs = follows.1.0 in
+    let cut = teardowns_cut b (takings_requests round.takings) (rounds_requests rounds) tears.teardowns in
+    let first = takings_torn {b = b} runs.opened follows.0 round.takings runs.takes
+    (record { named = opened_named runs tears.named; teardowns = cut.0 }) in
+    whole_later (replies_of follows.0 rounds new follows.1.1) first
+    (λ named. rounds_torn {b = b} follows.0 new rounds follows.1.1 (record { named = named; teardowns = cut.1 }))

@@ -1,0 +1,177 @@
+-- The replies of a connection's course, one after another, each at its place.
+use Rattle.std.proofs.Common.{◌≡◌, ℕ, ◌+◌, ◌-◌, ◌^◌, ◌<◌, ◌≤◌, ◌++◌, Bool, nat_lt, nat_le, min, max}
+use Rattle.std.proofs.Common.{List, [], ◌∷◌, Option, Some, None, refl, ap, sym, ◌∙◌, subst, inl}
+use Rattle.std.proofs.Common.{inr, arith}
+use Rattle.std.proofs.lemmas.Bool.{ltb-true, and_parts}
+use Rattle.std.proofs.lemmas.List.{append-nil}
+use Rattle.vod_base.specs.Links.{IoEvent, HeardBytes, HeardEnd, HeardSlot, Sent}
+use Rattle.film_frames.specs.declared.stored_films.Stored.{Stored}
+use Rattle.plan_cert.specs.PlanSlots.{total_bytes}
+use Rattle.pacer.specs.PacerStates.{PacerState, first_slots}
+use Rattle.session.specs.declared.settings.Settings.{Settings}
+use Rattle.session.specs.declared.states.Awaited.TheVariants.{Nothing}
+use Rattle.session.specs.SlotSteps.{after_slot}
+use Rattle.conn.specs.Films.{rounds_parts, takings_parts}
+use Rattle.conn.specs.EventSteps.{Comes, Round, Runs}
+use Rattle.conn.specs.InputSteps.{Outcome, SentPart, Stage}
+use Rattle.connection_laws.specs.Courses.{IsCourseBetween, asked_by, askings_of, first_stage, greatest_slot}
+use Rattle.connection_laws.specs.Courses.{round_askings, slot_in}
+use Rattle.connection_laws.specs.ReplyPlaces.{AreSentAt, IsBoundaryIn, slots_from, takings_slots}
+use Rattle.connection_laws.specs.Plays.{StationRequest, Asks, due_by as all_due, due_of, plays_of}
+use Rattle.connection_laws.specs.Replies.{placed_texts}
+use Rattle.connection_laws.proofs.FilmBytes.{Stands, course_step, opened_rest, opened_stands, round_step, stands_by}
+use Rattle.connection_laws.proofs.JoinedFilms.{IsOnTime, IsSound, play_with}
+use Rattle.connection_laws.proofs.GreatestSlots.{comes_heard, course_heard, takes_left}
+use Rattle.connection_laws.proofs.TextPlaces.{due_then}
+use Rattle.connection_laws.proofs.RequestEffects.{Going, Idle, Ending, Sends, sends_in, unasked_still}
+use Rattle.connection_laws.proofs.WaitingReplies.{Fits, IsHeld, IsHeldUp, Stand, due_going, due_here, point}
+use Rattle.connection_laws.proofs.SessionMoves.{HeldIn, Move, move_none, move_then, takes_move}
+use Rattle.connection_laws.proofs.SlotMoves.{slot_move, slotted_sound, still_move}
+
+comes_move : {due : List SentPart} {halt : Outcome} {pending : Option ℕ} (old opened : Stage) (event : IoEvent)
+    → Comes old event due halt opened
+    → Stands old.session → HeldIn pending old.session
+    → Move old.session opened.session pending (Asks (asked_by old.session event) halt ∷ []) [] due
+comes_move {halt} {pending} old opened (HeardBytes bytes) comes stands held =
+    subst (λ ps. Move old.session opened.session pending (Asks Nothing halt ∷ []) [] ps) (sym comes.0)
+    (subst (λ h. Move old.session opened.session pending (Asks Nothing h ∷ []) [] []) (sym comes.1)
+    (still_move (ap (λ (s : Stage). s.session) comes.3) (unasked_still Nothing) held))
+comes_move {halt} {pending} old opened (HeardSlot slot) comes stands held =
+    subst (λ ps. Move old.session opened.session pending (Asks (after_slot old.session slot).awaited halt ∷ [])
+    [] ps) (sym comes.1.parts_are)
+    (slot_move slot (record { stands = stands; held = held })
+    (λ taken. ltb-true old.session.heard slot
+    (and_parts (nat_lt old.session.heard slot) (nat_le slot (2 ^ 62)) taken).0) refl
+    (slotted_sound old.session slot stands) comes.1.finished)
+comes_move {halt} old opened HeardEnd comes stands held = absurd comes
+comes_move {halt} old opened (Sent byte) comes stands held = absurd comes
+
+round_move : {old new : Stage} {round : Round} {pending : Option ℕ} (runs : Runs old round new)
+    → Stands old.session → HeldIn pending old.session
+    → Move old.session new.session pending (round_askings old round new runs)
+    (takings_slots (max old.session.heard (slot_in round.event)) round.takings)
+    (round.due ++ takings_parts round.takings)
+round_move {old} {new} {round} {pending} runs stands held =
+    let opened : Stage = runs.opened in
+    let made : List StationRequest = Asks (asked_by old.session round.event) round.halt ∷ [] in
+    let one = comes_move old opened round.event runs.comes stands held in
+    let two = takes_move opened new round.takings runs.takes (opened_stands old new round runs stands) one.held in
+    let all : Move old.session new.session pending (round_askings old round new runs)
+    (takings_slots opened.session.heard round.takings) (round.due ++ takings_parts round.takings) =
+    move_then
+    one two in
+    subst (λ h. Move old.session new.session pending (round_askings old round new runs)
+    (takings_slots h round.takings) (round.due ++ takings_parts round.takings))
+    (comes_heard old opened round.event round.due round.halt runs.comes) all
+
+course_move : {pending : Option ℕ} (old new : Stage) (rounds : List Round) (follows : IsCourseBetween old rounds new)
+    → Stands old.session
+    → HeldIn pending old.session
+    → Move old.session new.session pending (askings_of old rounds new follows)
+    (slots_from old.session.heard rounds) (rounds_parts rounds)
+course_move {pending} old new [] follows stands held =
+    subst (λ (s : Stage). Move old.session s.session pending [] [] []) (sym follows)
+    (move_none old.session pending held)
+course_move {pending} old new (round ∷ rounds) follows stands held =
+    let mid : Stage = follows.0 in
+    let runs = follows.1.0 in
+    let now : ℕ = max old.session.heard (slot_in round.event) in
+    let one = round_move runs stands held in
+    let mids : Stands mid.session =
+    stands_by old.session mid.session (round_askings old round mid runs) _ (round_step old mid round runs stands) in
+    let rest = course_move {pending = one.after} mid new rounds follows.1.1 mids one.held in
+    let heard : mid.session.heard ≡ now =
+    (takes_left runs.opened mid round.takings runs.takes (opened_rest old mid round runs stands)).1
+    ∙ comes_heard old runs.opened round.event round.due round.halt runs.comes in
+    subst (λ h. Move old.session new.session pending
+    (round_askings old round mid runs ++ askings_of mid rounds new follows.1.1)
+    (takings_slots now round.takings ++ slots_from h rounds)
+    ((round.due ++ takings_parts round.takings) ++ rounds_parts rounds)) heard
+    (move_then
+    one rest)
+
+-- ---- where a course ends
+
+-- what is due of a play by two slots
+record PlayDue (p : PacerState) (keep slot heard : ℕ) : Type 0 where
+  then_due : due_of slot (play_with p keep) ≡ min (first_slots p.plan (slot + 1 - p.start)) p.keep
+  now_due : due_of heard (play_with p keep) ≡ p.sent
+
+unsent_last : {p : PacerState} {keep slot heard place : ℕ} → IsOnTime p heard → keep ≡ p.keep → IsHeldUp p slot heard →
+    PlayDue p keep slot heard → IsBoundaryIn (play_with p keep ∷ []) place →
+    all_due slot (play_with p keep ∷ []) ≤ place → all_due heard (play_with p keep ∷ []) < place
+unsent_last {p} {keep} {slot} {heard} {place} on same held due_are (inl own) due =
+    let first = due_then p keep slot [] due_are.then_due tt in
+    let last = due_then p keep heard [] due_are.now_due tt in
+    let past = held.none (p.before + place) own.1 (omega (arith, first, due)) in
+    omega (arith, past, last)
+unsent_last {p} {keep} {slot} {heard} {place} on same held due_are (inr over) due =
+    let last = due_then p keep heard [] due_are.now_due tt in
+    let past = held.none (p.before + p.keep) on.pacing.ends (omega arith) in
+    omega (arith, past, last, over.0, same)
+
+end_stand : (sends : Sends) (waits : Bool) (heard : ℕ) (pending : Option ℕ) → IsSound sends waits heard
+    → IsHeld pending sends waits heard
+    → Stand sends pending [] heard [] []
+end_stand Idle waits heard None sound held = tt
+end_stand Idle waits heard (Some slot) sound held = absurd held
+end_stand (Going p) waits heard None sound held =
+    record { holds = omega (arith, sound.0.pacing.sent, sound.0.pacing.due, sound.1); sent = tt }
+end_stand (Going p) waits heard (Some slot) sound held =
+    let keep : ℕ = total_bytes p.plan in
+    let here = due_here p heard sound.0 in
+    let same : keep ≡ p.keep = sym sound.1 in
+    let then_due = due_going p slot keep sound.0.pacing sound.1 (omega (arith, same)) in
+    let now_due : due_of heard (play_with p keep) ≡ p.sent =
+    due_going p heard keep sound.0.pacing sound.1 (omega (arith, same)) ∙ here in
+    record {
+      holds = omega (arith, sound.0.pacing.sent, sound.0.pacing.due, sound.1);
+      sent = (
+        λ place boundary due. unsent_last sound.0 same held.1
+            (record { then_due = then_due; now_due = now_due }) boundary due,
+        tt,
+      );
+    }
+end_stand (Ending p) waits heard None sound held =
+    record { holds = omega (arith, sound.0.pacing.sent, sound.0.pacing.due); sent = tt }
+end_stand (Ending p) waits heard (Some slot) sound held =
+    let here = due_here p heard sound.0 in
+    record {
+      holds = omega (arith, sound.0.pacing.sent, sound.0.pacing.due);
+      sent = (
+        λ place boundary due. unsent_last sound.0 refl held.1 (record { then_due = refl; now_due = here })
+            boundary due,
+        tt,
+      );
+    }
+
+course_sound : (old new : Stage) (rounds : List Round) (follows : IsCourseBetween old rounds new) → Stands old.session
+    → IsSound (sends_in new.session.state) new.session.waits new.session.heard
+course_sound old new rounds follows stands = (course_step old new rounds follows stands).on.sound
+
+pub replies_sent : (films : List Stored) (settings : Settings) (words : List ℕ) (rounds : List Round) (new : Stage)
+    (follows : IsCourseBetween (first_stage films settings words) rounds new)
+    → AreSentAt (greatest_slot rounds)
+    (plays_of (askings_of (first_stage films settings words) rounds new follows)) (slots_from 0 rounds)
+    (placed_texts 0 (rounds_parts rounds))
+replies_sent films settings words rounds new follows =
+    let first : Stage = first_stage films settings words in
+    let stands : Stands first.session = record { rest = refl; sound = tt } in
+    let made : List StationRequest = askings_of first rounds new follows in
+    let slots : List ℕ = slots_from 0 rounds in
+    let parts : List SentPart = rounds_parts rounds in
+    let heard : ℕ = new.session.heard in
+    let move = course_move {pending = None} first new rounds follows stands refl in
+    let ends : Fits (point (sends_in new.session.state) heard move.after) [] heard [] [] = record {
+      from = tt;
+      later = record { starts = tt; begins = refl };
+      stand = end_stand (sends_in new.session.state) new.session.waits heard move.after
+          (course_sound first new rounds follows stands) move.held;
+    } in
+    let fits = move.goes_on.rest [] heard [] [] (omega arith) ends in
+    let last : heard ≡ greatest_slot rounds = course_heard first new rounds follows stands ∙ omega arith in
+    subst (λ t. AreSentAt t (plays_of made) slots (placed_texts 0 parts)) last
+    (subst (λ ms. AreSentAt heard (plays_of ms) slots (placed_texts 0 parts)) (append-nil made)
+    (subst (λ ss. AreSentAt heard (plays_of (made ++ [])) ss (placed_texts 0 parts)) (append-nil slots)
+    (subst (λ ps. AreSentAt heard (plays_of (made ++ [])) (slots ++ []) (placed_texts 0 ps))
+    (append-nil parts) fits.stand)))

@@ -1,0 +1,473 @@
+-- The elements of a connection's input that are taken up, one after another: each byte CR or LF, each block, each
+-- request.
+use Rattle.std.proofs.Common.{◌≡◌, ◌⊎◌, ℕ, zero, suc, ◌<◌, ◌≤◌, ◌++◌, true, false, List, [], ◌∷◌}
+use Rattle.std.proofs.Common.{Ok, Err, length, take, drop, get_or, refl, ap, sym, ◌∙◌, subst, inl}
+use Rattle.std.proofs.Common.{inr, arith}
+use Rattle.std.proofs.lemmas.Bool.{both_ways, true≢false}
+use Rattle.std.proofs.lemmas.List.{append-nil, append_assoc, take-append-le, drop-append-le, length-append}
+use Rattle.std.proofs.lemmas.List.{get_or_append_left}
+use Rattle.interleave.specs.Heads.{is_line_end}
+use Rattle.interleave.specs.Elements.{IsFirst, StartsBlock, StartsMessage, block_length}
+use Rattle.interleave.specs.Streams.{IsElementLength, LineEnd, WholeBlock, WholeMessage}
+use Rattle.interleave.specs.declared.elements.Step.TheVariants.{More, Request}
+use Rattle.interleave.specs.declared.elements.DemuxFault.TheVariants.{HeadTooLong as LongHead, BodyTooLong as LongBody}
+use Rattle.interleave.proofs.ElementStability.{StartsBlock-append, block_length-append, whole_stays}
+use Rattle.interleave.proofs.StreamElements.{element_once, tells_none}
+use Rattle.interleave.proofs.ElementUniqueness.{clash_block_request, total_once}
+use Rattle.film_frames.specs.declared.stored_films.Stored.{Stored}
+use Rattle.session.specs.declared.commands.Ask.{Ask}
+use Rattle.session.specs.RequestSteps.{Hears}
+use Rattle.session.specs.SettingRanges.{AreFilms}
+use Rattle.session.specs.SessionStates.{SessionState}
+use Rattle.session.proofs.RequestEffectLemmas.{hears_ground}
+use Rattle.conn.proofs.CourseSteps.{stage_is}
+use Rattle.conn.specs.EventSteps.{IsStopped, takings_bytes, takings_outcomes}
+use Rattle.conn.specs.InputSteps.{Answered, IsAskAnswered, IsNext, IsPassed, IsReplied, Outcome, SentPart}
+use Rattle.conn.specs.InputSteps.{Passed, Stage, ElementStep, TakesAll, after_reply, parts_bytes, reply_parts}
+use Rattle.conn.specs.InputSteps.{stage}
+use Rattle.conn.specs.declared.reports.ConnEnd.{ConnEnd}
+use Rattle.conn.specs.declared.reports.ConnEnd.TheVariants.{Ended, TornDown, LinkFault, TooMuchInput, HeadTooLong}
+use Rattle.conn.specs.declared.reports.ConnEnd.TheVariants.{BodyTooLong, TurnsSpent, NoMemory}
+use Rattle.connection_laws.specs.InputSplits.{AllLackMemoryAlike, AreSameAnswers, HeardRequest, IsDrained}
+use Rattle.connection_laws.specs.InputSplits.{LackMemoryAlike, answer_in, answers_in}
+use Rattle.connection_laws.specs.InputSplits.{heard_requests_taken}
+use Rattle.connection_laws.proofs.UniqueResults.{answered_names, answers_same, hearing, hears_same, replied_names}
+use Rattle.connection_laws.proofs.UniqueResults.{AnswersAlike}
+
+-- a request that was taken up, what was asked, and what came of it
+pub record StationCall : Type 0 where
+  pub session : SessionState
+  pub message : List ℕ
+  pub ask : Ask
+  pub asking : SessionState
+  pub outcome : Outcome
+  pub answered : SessionState
+
+pub data Element : Type 0 where
+  Over : ℕ → Element
+  RequestElement : StationCall → Element
+
+-- a byte CR or LF is in front, or a block
+pub data IsOver (input : List ℕ) (n : ℕ) : Type 0 where
+  AnEnd : n ≡ 1 → 0 < length input → is_line_end (get_or input 0 0) ≡ true → IsOver input n
+  ABlock : StartsBlock input → 4 ≤ length input → n ≡ block_length input → n ≤ length input → IsOver input n
+
+pub over_element : (input : List ℕ) (n : ℕ) → IsOver input n → IsElementLength input n
+over_element input n (AnEnd one some end) = LineEnd one some end
+over_element input n (ABlock starts four size inside) = WholeBlock starts four size inside
+
+over_within : (input : List ℕ) (n : ℕ) → IsOver input n → n ≤ length input
+over_within input n (AnEnd one some end) = omega (arith, one, some)
+over_within input n (ABlock starts four size inside) = inside
+
+over_grows : (input more : List ℕ) (n : ℕ) → IsOver input n → IsOver (input ++ more) n
+over_grows input more n (AnEnd one some end) =
+    AnEnd one (omega (arith, length-append input more, some)) (rw (get_or_append_left input more 0 0 some) end)
+over_grows input more n (ABlock starts four size inside) =
+    ABlock (StartsBlock-append input more starts) (omega (arith, length-append input more, four))
+    (rw (block_length-append input more four) size)
+    (omega (arith, length-append input more, inside))
+
+over_no_request : (input : List ℕ) (n : ℕ) → IsOver input n → StartsMessage input → ⊥
+over_no_request input n (AnEnd one some end) starts = both_ways (is_line_end (get_or input 0 0)) starts.1 end
+over_no_request input n (ABlock block four size inside) starts = clash_block_request input block starts
+
+pub record IsTaken (old : Stage) (turn : StationCall) (new : Stage) : Type 0 where
+  pub session_is : turn.session ≡ old.session
+  pub next : IsNext old turn.message
+  pub hears : Hears old.session turn.message turn.ask turn.asking
+  pub answered : IsAskAnswered turn.asking turn.ask turn.outcome turn.answered
+  pub new_is : new ≡ stage (after_reply turn.answered) (drop (length turn.message) old.input)
+
+pub record IsPassing (old : Stage) (n : ℕ) (new : Stage) : Type 0 where
+  pub over : IsOver old.input n
+  pub torn : old.session.torn ≡ false
+  pub new_is : new ≡ stage old.session (drop n old.input)
+
+abbrev pub Goes : Stage → Element → Stage → Type 0
+Goes old (Over n) new = IsPassing old n new
+Goes old (RequestElement turn) new = IsTaken old turn new
+
+abbrev pub GoesAll : Stage → List Element → Stage → Type 0
+GoesAll old [] new = new ≡ old
+GoesAll old (element ∷ elements) new = (mid : Stage) × (Goes old element mid × GoesAll mid elements new)
+
+-- what is sent meanwhile, what the station answers, and the requests that are heard
+abbrev pub elements_bytes : List Element → List ℕ
+elements_bytes [] = []
+elements_bytes (Over n ∷ elements) = elements_bytes elements
+elements_bytes (RequestElement turn ∷ elements) = parts_bytes (reply_parts turn.answered) ++ elements_bytes elements
+
+abbrev pub elements_answers : List Element → List Outcome
+elements_answers [] = []
+elements_answers (Over n ∷ elements) = elements_answers elements
+elements_answers (RequestElement turn ∷ elements) = answer_in turn.outcome ++ elements_answers elements
+
+abbrev pub elements_hearings : List Element → List HeardRequest
+elements_hearings [] = []
+elements_hearings (Over n ∷ elements) = elements_hearings elements
+elements_hearings (RequestElement turn ∷ elements) = hearing turn.session turn.message turn.ask turn.asking
+    ∷ elements_hearings elements
+
+-- ---- joined, and with more input
+
+-- elements that are taken up from a stage on
+pub record LaterElements : Type 0 where
+  pub old : Stage
+  pub new : Stage
+  pub elements : List Element
+  pub leads : GoesAll old elements new
+
+pub join_goes : (a : Stage) (later : LaterElements) (xs : List Element) → GoesAll a xs later.old →
+    GoesAll a (xs ++ later.elements) later.new
+join_goes a later [] goes = subst (λ s. GoesAll s later.elements later.new) goes later.leads
+join_goes a later (x ∷ xs) goes = (goes.0, (goes.1.0, join_goes goes.0 later xs goes.1.1))
+
+pub join_bytes : (xs ys : List Element) → elements_bytes (xs ++ ys) ≡ elements_bytes xs ++ elements_bytes ys
+join_bytes [] ys = refl
+join_bytes (Over n ∷ xs) ys = join_bytes xs ys
+join_bytes (RequestElement turn ∷ xs) ys =
+    ap (λ bs. parts_bytes (reply_parts turn.answered) ++ bs) (join_bytes xs ys)
+    ∙ sym (append_assoc (parts_bytes (reply_parts turn.answered)) (elements_bytes xs) (elements_bytes ys))
+
+pub join_answers : (xs ys : List Element) → elements_answers (xs ++ ys) ≡ elements_answers xs ++ elements_answers ys
+join_answers [] ys = refl
+join_answers (Over n ∷ xs) ys = join_answers xs ys
+join_answers (RequestElement turn ∷ xs) ys =
+    ap (λ os. answer_in turn.outcome ++ os) (join_answers xs ys)
+    ∙ sym (append_assoc (answer_in turn.outcome) (elements_answers xs) (elements_answers ys))
+
+pub join_hearings : (xs ys : List Element) → elements_hearings (xs ++ ys) ≡ elements_hearings xs ++ elements_hearings ys
+join_hearings [] ys = refl
+join_hearings (Over n ∷ xs) ys = join_hearings xs ys
+join_hearings (RequestElement turn ∷ xs) ys = ap (λ hs. hearing turn.session turn.message turn.ask turn.asking ∷ hs)
+    (join_hearings xs ys)
+
+abbrev pub longer : Stage → List ℕ → Stage
+longer old more = stage old.session (old.input ++ more)
+
+shorter : {new : Stage} (old : Stage) (session : SessionState) (more : List ℕ) (n : ℕ) → n ≤ length old.input
+    → new ≡ stage session (drop n old.input)
+    → longer new more ≡ stage session (drop n (old.input ++ more))
+shorter {new} old session more n inside is =
+    ap (λ s. longer s more) is ∙ ap (λ input. stage session input) (sym (drop-append-le n old.input more inside))
+
+next_grows : (old : Stage) (message more : List ℕ) → IsNext old message → IsNext (longer old more) message
+next_grows old message more next = record {
+  first = whole_stays old.input more (Ok (Request (length message))) next.first tt;
+  message_is = next.message_is ∙ sym (take-append-le (length message) old.input more next.first.2);
+  replied = next.replied;
+  torn = next.torn;
+}
+
+element_grows : (old new : Stage) (element : Element) (more : List ℕ) → Goes old element new
+    → Goes (longer old more) element (longer new more)
+element_grows old new (Over n) more goes = record {
+  over = over_grows old.input more n goes.over;
+  torn = goes.torn;
+  new_is = shorter old old.session more n (over_within old.input n goes.over) goes.new_is;
+}
+element_grows old new (RequestElement turn) more goes = record {
+  session_is = goes.session_is;
+  next = next_grows old turn.message more goes.next;
+  hears = goes.hears;
+  answered = goes.answered;
+  new_is = shorter old (after_reply turn.answered) more (length turn.message) goes.next.first.2 goes.new_is;
+}
+
+pub goes_grow : (old new : Stage) (elements : List Element) (more : List ℕ) → GoesAll old elements new
+    → GoesAll (longer old more) elements (longer new more)
+goes_grow old new [] more goes = ap (λ s. longer s more) goes
+goes_grow old new (element ∷ elements) more goes =
+    (longer goes.0 more, (element_grows old goes.0 element more goes.1.0, goes_grow goes.0 new elements more goes.1.1))
+
+-- ---- what is taken up
+
+pub record Path (old new : Stage) (bytes : List ℕ) (answers : List Outcome) (hearings : List HeardRequest) : Type 0
+  where
+    pub elements : List Element
+    pub goes : GoesAll old elements new
+    pub bytes_are : elements_bytes elements ≡ bytes
+    pub answers_are : elements_answers elements ≡ answers
+    pub hearings_are : elements_hearings elements ≡ hearings
+
+path_none : (s : Stage) → Path s s [] [] []
+path_none s = record { elements = []; goes = refl; bytes_are = refl; answers_are = refl; hearings_are = refl }
+
+path_over : {a b c : Stage} {n : ℕ} {bytes : List ℕ} {answers : List Outcome} {hearings : List HeardRequest}
+    → IsPassing a n b
+    → Path b c bytes answers hearings → Path a c bytes answers hearings
+path_over {a} {b} {c} {n} {answers} passing path = record {
+  elements = Over n ∷ path.elements;
+  goes = (b, (passing, path.goes));
+  bytes_are = path.bytes_are;
+  answers_are = path.answers_are;
+  hearings_are = path.hearings_are;
+}
+
+path_then : {a b c : Stage} {first second : List ℕ} {one two : List Outcome} {heard later : List HeardRequest}
+    → Path a b first one heard
+    → Path b c second two later → Path a c (first ++ second) (one ++ two) (heard ++ later)
+path_then {a} {b} {c} {first} {second} {one} {heard} {later} path after = record {
+  elements = path.elements ++ after.elements;
+  goes = join_goes a (record { old = b; new = c; elements = after.elements; leads = after.goes })
+      path.elements path.goes;
+  bytes_are = join_bytes path.elements after.elements ∙ ap (λ bs. bs ++ elements_bytes after.elements) path.bytes_are
+      ∙ ap (λ bs. first ++ bs) after.bytes_are;
+  answers_are = join_answers path.elements after.elements
+      ∙ ap (λ os. os ++ elements_answers after.elements) path.answers_are
+      ∙ ap (λ os. one ++ os) after.answers_are;
+  hearings_are = join_hearings path.elements after.elements
+      ∙ ap (λ hs. hs ++ elements_hearings after.elements) path.hearings_are
+      ∙ ap (λ hs. heard ++ hs) after.hearings_are;
+}
+
+ends_over : (session : SessionState) (input : List ℕ) (n : ℕ) → session.torn ≡ false → n ≤ length input
+    → ((k : ℕ) → k < n → is_line_end (get_or input k 0) ≡ true)
+    → Path (stage session input) (stage session (drop n input)) [] [] []
+ends_over session input zero torn inside ends = path_none (stage session input)
+ends_over session [] (suc n) torn inside ends = let bad : ⊥ = omega (arith, inside) in absurd bad
+ends_over session (c ∷ cs) (suc n) torn inside ends =
+    path_over
+    (record { over = AnEnd refl (omega arith) (ends 0 (omega arith)); torn = torn; new_is = refl })
+    (ends_over session cs n torn (omega (arith, inside)) (λ k below. ends (suc k) (omega (arith, below))))
+
+passed_over : (session : SessionState) (input : List ℕ) (n : ℕ) → IsPassed input n → session.torn ≡ false
+    → Path (stage session input) (stage session (drop n input)) [] [] []
+passed_over session input n (inl skip) torn = ends_over session input n torn skip.1.within skip.1.line_ends
+passed_over session input n (inr block) torn =
+    path_over
+    (record { over = ABlock block.1.0 block.1.1 block.1.3 block.1.4; torn = torn; new_is = refl })
+    (path_none (stage session (drop n input)))
+
+path_taken : (old new : Stage) (message : List ℕ) (outcome : Outcome) (parts : List SentPart)
+    (replied : IsReplied old message outcome parts new)
+    → Path old new (parts_bytes parts) (answer_in outcome)
+    (hearing old.session message replied.heard.ask replied.heard.asking ∷ [])
+path_taken old new message outcome parts replied = record {
+  elements = RequestElement (record {
+    session = old.session;
+    message = message;
+    ask = replied.heard.ask;
+    asking = replied.heard.asking;
+    outcome = outcome;
+    answered = replied.answered;
+  }) ∷ [];
+  goes = (
+    new,
+    (
+      record {
+        session_is = refl;
+        next = replied.next;
+        hears = replied.heard.hears;
+        answered = replied.heard.answered;
+        new_is = replied.new_is;
+      },
+      refl,
+    ),
+  );
+  bytes_are = append-nil (parts_bytes (reply_parts replied.answered)) ∙ ap parts_bytes (sym replied.parts_are);
+  answers_are = append-nil (answer_in outcome);
+  hearings_are = refl;
+}
+
+pub path_of : (old new : Stage) (takings : List ElementStep) (takes : TakesAll old takings new)
+    → Path old new (takings_bytes takings) (answers_in (takings_outcomes takings))
+    (heard_requests_taken old takings new takes)
+path_of old new [] takes = subst (λ s. Path old s [] [] []) (sym takes) (path_none old)
+path_of old new (Passed n ∷ takings) takes =
+    let over : Path old takes.0 [] [] [] =
+    subst (λ s. Path old s [] [] []) (sym takes.1.0.2) (passed_over old.session old.input n takes.1.0.0 takes.1.0.1) in
+    path_then
+    over (path_of takes.0 new takings takes.1.1)
+path_of old new (Answered message outcome parts ∷ takings) takes =
+    let replied = takes.1.0 in
+    path_then
+    (path_taken old takes.0 message outcome parts replied) (path_of takes.0 new takings takes.1.1)
+
+-- ---- where nothing more can be taken up
+
+first_element : (old new : Stage) (element : Element) → Goes old element new → (n : ℕ) × IsElementLength old.input n
+first_element old new (Over n) goes = (n, over_element old.input n goes.over)
+first_element old new (RequestElement turn) goes =
+    (length turn.message, WholeMessage goes.next.first.0 goes.next.first.1 goes.next.first.2)
+
+goes_on : (old new : Stage) (element : Element) → Goes old element new → old.session.torn ≡ false
+goes_on old new (Over n) goes = goes.torn
+goes_on old new (RequestElement turn) goes = goes.next.torn
+
+waits_on : {n : ℕ} (old new : Stage) (element : Element) → IsFirst old.input (Ok (Request n))
+    → old.session.waits ≡ true → Goes old element new → ⊥
+waits_on old new (Over m) first waits goes = over_no_request old.input m goes.over first.0
+waits_on old new (RequestElement turn) first waits goes = true≢false (sym waits ∙ goes.next.replied)
+
+idle_done : (old new : Stage) (element : Element)
+    → (IsFirst old.input (Ok More) ⊎ ((n : ℕ) × (IsFirst old.input (Ok (Request n)) × (old.session.waits ≡ true))))
+    → Goes old element new → ⊥
+idle_done old new element (inl more) goes =
+    let first = first_element old new element goes in tells_none old.input (Ok More) more first.0 first.1
+idle_done old new element (inr request) goes = waits_on old new element request.1.0 request.1.1 goes
+
+stopped_done : (old new : Stage) (element : Element) (end : ConnEnd) → IsStopped end old → Goes old element new → ⊥
+stopped_done old new element Ended stopped goes = absurd stopped
+stopped_done old new element TornDown stopped goes = true≢false (sym stopped ∙ goes_on old new element goes)
+stopped_done old new element LinkFault stopped goes = absurd stopped
+stopped_done old new element TooMuchInput stopped goes = absurd stopped
+stopped_done old new element HeadTooLong stopped goes =
+    let first = first_element old new element goes in tells_none old.input (Err LongHead) stopped.1 first.0 first.1
+stopped_done old new element BodyTooLong stopped goes =
+    let first = first_element old new element goes in tells_none old.input (Err LongBody) stopped.1 first.0 first.1
+stopped_done old new element TurnsSpent stopped goes = absurd stopped
+stopped_done old new element NoMemory stopped goes = absurd stopped
+
+done_goes : (old new : Stage) (element : Element) → IsDrained old → Goes old element new → ⊥
+done_goes old new element (inl idle) goes = idle_done old new element idle.waits goes
+done_goes old new element (inr stopped) goes = stopped_done old new element stopped.0 stopped.1 goes
+
+-- ---- two paths from one place
+
+taken_films : (old new : Stage) (turn : StationCall) → IsTaken old turn new → new.session.films ≡ old.session.films
+taken_films old new turn taken =
+    ap (λ (s : Stage). s.session.films) taken.new_is
+    ∙ ap (λ (n : List Stored × List ℕ). n.0)
+    (replied_names turn.answered ∙ answered_names turn.asking turn.ask turn.outcome turn.answered taken.answered)
+    ∙ (hears_ground old.session turn.asking turn.message turn.ask taken.hears).films
+
+pub goes_films : (old new : Stage) (elements : List Element) → GoesAll old elements new
+    → new.session.films ≡ old.session.films
+goes_films old new [] goes = ap (λ (s : Stage). s.session.films) goes
+goes_films old new (Over n ∷ elements) goes =
+    goes_films goes.0 new elements goes.1.1 ∙ ap (λ (s : Stage). s.session.films) goes.1.0.new_is
+goes_films old new (RequestElement turn ∷ elements) goes =
+    goes_films goes.0 new elements goes.1.1 ∙ taken_films old goes.0 turn goes.1.0
+
+-- where a path ends, with what was sent on it, and the answers and the hearings on it and after it
+pub record PathEnd : Type 0 where
+  pub last : Stage
+  pub sent : List ℕ
+  pub outcomes : List Outcome
+  pub hearings : List HeardRequest
+
+abbrev path_end : Stage → List ℕ → List Outcome → List HeardRequest → PathEnd
+path_end last sent outcomes hearings = record { last = last; sent = sent; outcomes = outcomes; hearings = hearings }
+
+pub record SameEnds (one other : PathEnd) : Type 0 where
+  pub last : other.last ≡ one.last
+  pub bytes : other.sent ≡ one.sent
+  pub answers : AreSameAnswers one.outcomes other.outcomes
+  pub memory : AllLackMemoryAlike one.hearings other.hearings
+
+message_same : (old : Stage) (one other : List ℕ) → IsNext old one → IsNext old other → other ≡ one
+message_same old one other is also =
+    also.message_is
+    ∙ ap (λ n. take n old.input) (total_once old.input (length other) (length one) also.first.1 is.first.1)
+    ∙ sym is.message_is
+
+-- two hearings that are the one of a session and a message
+record SameHearing (session s r : SessionState) (message m k : List ℕ) : Type 0 where
+  session_is : s ≡ session
+  also_session : r ≡ session
+  message_is : m ≡ message
+  also_message : k ≡ message
+
+lacks_same : {session s r : SessionState} {message m k : List ℕ} (ask again : Ask) (asking other : SessionState) →
+    SameHearing session s r message m k → LackMemoryAlike (hearing s m ask asking) (hearing r k again other) →
+    LackMemoryAlike (hearing session message ask asking) (hearing session message again other)
+lacks_same {session} {s} {r} {message} {m} ask again asking other same alike =
+    subst (λ z. LackMemoryAlike (hearing z message ask asking) (hearing session message again other)) same.session_is
+    (subst (λ z. LackMemoryAlike (hearing s message ask asking) (hearing z message again other)) same.also_session
+    (subst (λ z. LackMemoryAlike (hearing s z ask asking) (hearing r message again other)) same.message_is
+    (subst (λ z. LackMemoryAlike (hearing s m ask asking) (hearing r z again other)) same.also_message alike)))
+
+turns_same : {old one other : Stage} {turn again : StationCall} (given : AnswersAlike turn.outcome again.outcome) →
+    AreFilms old.session.films → IsTaken old turn one → IsTaken old again other →
+    LackMemoryAlike (hearing turn.session turn.message turn.ask turn.asking)
+    (hearing again.session again.message again.ask again.asking) →
+    (other ≡ one) × (parts_bytes (reply_parts again.answered) ≡ parts_bytes (reply_parts turn.answered))
+    × AreSameAnswers given.ones given.others
+turns_same {old} {one} {other} {turn} {again} given films taken also alike =
+    let message : again.message ≡ turn.message = message_same old turn.message again.message taken.next also.next in
+    let heard = hears_same films taken.hears
+    (subst (λ m. Hears old.session m again.ask again.asking) message also.hears)
+    (lacks_same turn.ask again.ask turn.asking again.asking (record {
+      session_is = taken.session_is;
+      also_session = also.session_is;
+      message_is = refl;
+      also_message = message;
+    }) alike) in
+    let answered : IsAskAnswered turn.asking turn.ask again.outcome again.answered =
+    subst (λ a. IsAskAnswered turn.asking a again.outcome again.answered) heard.0
+    (subst (λ s. IsAskAnswered s again.ask again.outcome again.answered) heard.1 also.answered) in
+    let both = answers_same turn.asking turn.ask given taken.answered answered in (
+      also.new_is
+          ∙ stage_is (ap after_reply both.0) (ap (λ (m : List ℕ). drop (length m) old.input) message)
+          ∙ sym taken.new_is,
+      ap (λ s. parts_bytes (reply_parts s)) both.0,
+      both.1,
+    )
+
+-- these elements lead from a stage to one at which nothing more can be taken up
+pub record PathDone (old : Stage) (xs : List Element) (one : Stage) : Type 0 where
+  pub goes : GoesAll old xs one
+  pub done : IsDrained one
+
+-- two paths that go on with the same answers, and that lack memory alike
+pub record PathsAlike (xs ys : List Element) (ones others : List Outcome) (heard also : List HeardRequest) : Type 0
+  where
+    pub answers : AreSameAnswers (elements_answers xs ++ ones) (elements_answers ys ++ others)
+    pub memory : AllLackMemoryAlike (elements_hearings xs ++ heard) (elements_hearings ys ++ also)
+
+pub ends_same : {one other : Stage} {ones others : List Outcome} {heard also : List HeardRequest} {old : Stage}
+    (xs ys : List Element) → AreFilms old.session.films → PathDone old xs one → PathDone old ys other →
+    PathsAlike xs ys ones others heard also →
+    SameEnds (path_end one (elements_bytes xs) ones heard) (path_end other (elements_bytes ys) others also)
+ends_same {one} {other} [] [] films way other_way alike =
+    record { last = other_way.goes ∙ sym way.goes; bytes = refl; answers = alike.answers; memory = alike.memory }
+ends_same {one} {other} {old} [] (y ∷ ys) films way other_way alike =
+    absurd (done_goes old other_way.goes.0 y (subst IsDrained way.goes way.done) other_way.goes.1.0)
+ends_same {one} {other} {old} (x ∷ xs) [] films way other_way alike =
+    absurd (done_goes old way.goes.0 x (subst IsDrained other_way.goes other_way.done) way.goes.1.0)
+ends_same {one} {other} {old} (Over n ∷ xs) (Over m ∷ ys) films way other_way alike =
+    let mid : Stage = goes.0 in
+    let size : m ≡ n = element_once old.input m n (over_element old.input m too.1.0.over)
+    (over_element old.input n goes.1.0.over) in
+    let same : too.0 ≡ mid = too.1.0.new_is ∙ ap (λ k. stage old.session (drop k old.input)) size
+    ∙ sym goes.1.0.new_is in
+    let kept : AreFilms mid.session.films =
+    subst AreFilms (sym (ap (λ (s : Stage). s.session.films) goes.1.0.new_is)) films in
+    ends_same xs ys kept (record { goes = goes.1.1; done = done })
+    (record { goes = subst (λ s. GoesAll s ys other) same too.1.1; done = stops })
+    (record { answers = alike.answers; memory = alike.memory })
+  where
+    open way use {goes, done}
+    open other_way use {goes as too, done as stops}
+ends_same {one} {other} {old} (Over n ∷ xs) (RequestElement turn ∷ ys) films way other_way alike =
+    absurd (over_no_request old.input n way.goes.1.0.over other_way.goes.1.0.next.first.0)
+ends_same {one} {other} {old} (RequestElement turn ∷ xs) (Over m ∷ ys) films way other_way alike =
+    absurd (over_no_request old.input m other_way.goes.1.0.over way.goes.1.0.next.first.0)
+ends_same {one} {other} {ones} {others} {old} (RequestElement turn ∷ xs) (RequestElement again ∷ ys) films way other_way
+    alike =
+    let mid : Stage = goes.0 in
+    let split : AreSameAnswers (answer_in turn.outcome ++ (elements_answers xs ++ ones))
+    (answer_in again.outcome ++ (elements_answers ys ++ others)) =
+    subst (λ os. AreSameAnswers os (answer_in again.outcome ++ (elements_answers ys ++ others)))
+    (append_assoc (answer_in turn.outcome) (elements_answers xs) ones)
+    (subst (λ os. AreSameAnswers ((answer_in turn.outcome ++ elements_answers xs) ++ ones) os)
+    (append_assoc (answer_in again.outcome) (elements_answers ys) others) answers) in
+    let both = turns_same
+    (record { ones = elements_answers xs ++ ones; others = elements_answers ys ++ others; same = split }) films
+    goes.1.0 other_way.goes.1.0 memory.0 in
+    let kept : AreFilms mid.session.films = subst AreFilms (sym (taken_films old mid turn goes.1.0)) films in
+    let rest = ends_same xs ys kept (record { goes = goes.1.1; done = done })
+    (record { goes = subst (λ s. GoesAll s ys other) both.0 other_way.goes.1.1; done = other_way.done })
+    (record { answers = both.2; memory = memory.1 }) in
+    record {
+      last = rest.last;
+      bytes = ap (λ bs. bs ++ elements_bytes ys) both.1
+          ∙ ap (λ bs. parts_bytes (reply_parts turn.answered) ++ bs) rest.bytes;
+      answers = rest.answers;
+      memory = rest.memory;
+    }
+  where
+    open way use {goes, done}
+    open alike use {answers, memory}

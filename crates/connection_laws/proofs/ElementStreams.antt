@@ -1,0 +1,121 @@
+-- A stream of whole elements, cut at any place.
+use Rattle.std.proofs.Common.{◌≡◌, ℕ, suc, ◌+◌, ◌-◌, ◌<◌, nat_le, cond, List, [], ◌∷◌, ◌++◌, length, take, drop, refl}
+use Rattle.std.proofs.Common.{sym, ap, subst, ◌∙◌, arith, inl, inr}
+use Rattle.std.proofs.lemmas.Bool.{cases_lt, le-leb, lt-leb}
+use Rattle.std.proofs.lemmas.List.{append-nil, length-take-le, take-append-le, take-append-drop, take_all}
+use Rattle.std.proofs.Math.Seq.{drop-append-add, take-append-add, take-nil}
+use Rattle.film_frames.specs.FramedRuns.{count_ended}
+use Rattle.film_frames.specs.Tracks.{framed_bytes}
+use Rattle.interleave.specs.Streams.{AreInputElements, IsElementLength, IsStream, LineEnd, WholeBlock, WholeMessage}
+use Rattle.interleave.proofs.StreamElements.{TwoCuts, cut_more, cuts_agree, element_once, element_stays, element_within}
+
+-- an element by itself, whatever comes after it
+pub record IsAlone (element : List ℕ) : Type 0 where
+  pub some : 0 < length element
+  pub whole : IsElementLength element (length element)
+
+abbrev pub AreAlone : List (List ℕ) → Type 0
+AreAlone [] = Unit {0}
+AreAlone (element ∷ elements) = IsAlone element × AreAlone elements
+
+pub alone_append : (xs ys : List (List ℕ)) → AreAlone xs → AreAlone ys → AreAlone (xs ++ ys)
+alone_append [] ys one two = two
+alone_append (x ∷ xs) ys one two = (one.0, alone_append xs ys one.1 two)
+
+-- the front of an element at which a stream is cut
+abbrev pub rest_at : ℕ → List (List ℕ) → List ℕ
+rest_at c [] = []
+rest_at c (element ∷ elements) = cond (nat_le (length element) c) (rest_at (c - length element) elements)
+    (take c element)
+
+no_element : (n : ℕ) → IsElementLength [] n → ⊥
+no_element n (LineEnd one some end) = omega (arith, some)
+no_element n (WholeBlock starts four size inside) = omega (arith, four)
+no_element n (WholeMessage starts size inside) = omega (arith, starts.0)
+
+stream_cons : (p t : List ℕ) (ps : List (List ℕ)) (r : List ℕ) → IsAlone p → IsStream t ps r
+    → IsStream (p ++ t) (p ∷ ps) r
+stream_cons p t ps r alone stream =
+    let zero_ : length p ≡ length p + 0 = omega arith in
+    let front : p ≡ take (length p) (p ++ t) =
+    sym (take-append-le (length p) p t (omega arith) ∙ take_all (length p) p (omega arith)) in
+    let after : t ≡ drop (length p) (p ++ t) = sym (ap (λ n. drop n (p ++ t)) zero_ ∙ drop-append-add p t 0) in
+    let P : List ℕ → Type 0 = λ xs. AreInputElements xs ps r in
+    ((length p, (element_stays p t (length p) alone.whole, front, subst P after stream.0)), stream.1)
+
+stream_short : (p t : List ℕ) (c : ℕ) → IsAlone p → c < length p → IsStream (take c (p ++ t)) [] (take c p)
+stream_short p t c alone less =
+    let same : take c (p ++ t) ≡ take c p = take-append-le c p t (omega (arith, less)) in
+    let none : (n : ℕ) → IsElementLength (take c p) n → ⊥ = λ n is.
+    let stays : IsElementLength (take c p ++ drop c p) n = element_stays (take c p) (drop c p) n is in
+    let P : List ℕ → Type 0 = λ xs. IsElementLength xs n in
+    let there : IsElementLength p n = subst P (take-append-drop c p) stays in
+    omega (
+      arith,
+      element_once p n (length p) there alone.whole,
+      element_within (take c p) n is,
+      length-take-le c p (omega (arith, less)),
+      less,
+    ) in
+    (same, none)
+
+-- a front of a stream is its whole elements in front, and the front of the next one
+pub cut_at : (ps : List (List ℕ)) (c : ℕ) → AreAlone ps
+    → IsStream (take c (framed_bytes ps)) (take (count_ended c ps) ps) (rest_at c ps)
+cut_at [] c alone = let P : List ℕ → Type 0 = λ xs. IsStream xs [] [] in subst P (sym (take-nil c)) (refl, no_element)
+cut_at (p ∷ ps) c alone =
+    elim (cases_lt c (length p)) [
+      | inl less ↦
+          let count : count_ended c (p ∷ ps) ≡ 0 =
+          ap (λ b. cond b (count_ended (c - length p) ps + 1) 0) (lt-leb (length p) c less) in
+          let rest : rest_at c (p ∷ ps) ≡ take c p =
+          ap (λ b. cond b (rest_at (c - length p) ps) (take c p)) (lt-leb (length p) c less) in
+          let P : ℕ → Type 0 = λ k. IsStream (take c (p ++ framed_bytes ps)) (take k (p ∷ ps)) (rest_at c (p ∷ ps)) in
+          let Q : List ℕ → Type 0 = λ r. IsStream (take c (p ++ framed_bytes ps)) [] r in
+          subst P (sym count) (subst Q (sym rest) (stream_short p (framed_bytes ps) c alone.0 less))
+      | inr more ↦
+          let d = c - length p in
+          let sum : c ≡ length p + d = omega (arith, more) in
+          let count : count_ended c (p ∷ ps) ≡ suc (count_ended d ps) =
+          ap (λ b. cond b (count_ended d ps + 1) 0) (le-leb (length p) c more) ∙ omega arith in
+          let rest : rest_at c (p ∷ ps) ≡ rest_at d ps = ap (λ b. cond b (rest_at d ps) (take c p))
+          (le-leb (length p) c more) in
+          let bytes : take c (p ++ framed_bytes ps) ≡ p ++ take d (framed_bytes ps) =
+          ap (λ n. take n (p ++ framed_bytes ps)) sum ∙ take-append-add p (framed_bytes ps) d in
+          let P : ℕ → Type 0 = λ k. IsStream (take c (p ++ framed_bytes ps)) (take k (p ∷ ps)) (rest_at c (p ∷ ps)) in
+          let Q : List ℕ → Type 0 = λ r. IsStream (take c (p ++ framed_bytes ps)) (p ∷ take (count_ended d ps) ps) r in
+          let R : List ℕ → Type 0 = λ xs. IsStream xs (p ∷ take (count_ended d ps) ps) (rest_at d ps) in
+          subst P (sym count) (subst Q (sym rest) (subst R (sym bytes)
+          (stream_cons p (take d (framed_bytes ps)) (take (count_ended d ps) ps) (rest_at d ps) alone.0
+          (cut_at ps d alone.1))))
+    ]
+
+sends_front : {rest : List ℕ} {all cut : List (List ℕ)} (end : List ℕ) (more : List (List ℕ)) → cut ≡ all ++ more
+    → AreInputElements rest more end → ((n : ℕ) → IsElementLength rest n → ⊥)
+    → ((later : List (List ℕ)) × (all ≡ cut ++ later))
+sends_front {all} {cut} end [] is are none = ([], sym (append-nil cut ∙ is ∙ append-nil all))
+sends_front {all} {cut} end (element ∷ more) is are none = absurd (none are.0 are.1.0)
+
+-- bytes that are a front of framed elements, each of which stands alone
+pub record FramedFront (bytes : List ℕ) (ps : List (List ℕ)) : Type 0 where
+  pub count : ℕ
+  pub alone : AreAlone ps
+  pub front_is : bytes ≡ take count (framed_bytes ps)
+
+-- whatever was cut is a front of the elements
+pub cut_front : {bytes rest : List ℕ} {n : ℕ} {ps : List (List ℕ)} (front : FramedFront bytes ps)
+    (cut : List (List ℕ)) → AreInputElements bytes cut rest → IsElementLength rest n →
+    ((more : List (List ℕ)) × (take (count_ended front.count ps) ps ≡ (cut ++ take n rest ∷ []) ++ more))
+cut_front {bytes} {rest} {n} {ps} front cut are next =
+    let all = take (count_ended c ps) ps in
+    let P : List ℕ → Type 0 = λ xs. IsStream xs all (rest_at c ps) in
+    let stream : IsStream bytes all (rest_at c ps) = subst P (sym is) (cut_at ps c alone) in
+    let longer : AreInputElements bytes (cut ++ take n rest ∷ []) (drop n rest) = cut_more bytes cut rest n are next in
+    let cuts : TwoCuts bytes (cut ++ take n rest ∷ []) all (drop n rest) (rest_at c ps) =
+    record { one = longer; other = stream.0 } in
+    elim (cuts_agree cuts) [
+      | inl more ↦ (more.0, more.1.0)
+      | inr more ↦ sends_front (drop n rest) more.0 more.1.0 more.1.1 stream.1
+    ]
+  where
+    open front use {count as c, alone, front_is as is}

@@ -1,0 +1,359 @@
+-- The promise from a server to its client's meter.
+use Rattle.std.proofs.Common.{◌≡◌, ℕ, suc, ◌+◌, ◌-◌, ◌<◌, ◌≤◌, min, List, [], ◌∷◌, ◌++◌, length}
+use Rattle.std.proofs.Common.{take, drop, map, sum, refl, sym, ap, subst, ◌∙◌, arith, inl, inr}
+use Rattle.conn.proofs.ReplyContents.{parts-more}
+use Rattle.std.proofs.lemmas.Bool.{cases_lt}
+use Rattle.std.proofs.lemmas.List.{length-map, length-take, take_all, take-take}
+use Rattle.std.proofs.lemmas.List.Sums.{sum_by-take-le}
+use Rattle.vod_base.specs.Links.{IoEvent, HeardBytes, HeardEnd, HeardSlot, Sent}
+use Rattle.mpeg_scan.specs.declared.films.Film.{Film}
+use Rattle.mpeg_scan.specs.PictureRates.{picture_time}
+use Rattle.rtp_pack.specs.declared.reports.Identity.{Identity}
+use Rattle.interleave.specs.Streams.{WholeBlock}
+use Rattle.film_frames.specs.declared.stored_films.Stored.{Stored}
+use Rattle.film_frames.specs.Laws.{AreBlocks}
+use Rattle.film_frames.specs.FramedRuns.{pieces_in, run_of}
+use Rattle.film_frames.specs.Tracks.{framed_bytes}
+use Rattle.film_frames.proofs.EndedPieceLemmas.{are-blocks}
+use Rattle.plan_cert.specs.Plan.{IsPlan}
+use Rattle.plan_cert.specs.PlanSlots.{plan_slots, total_bytes}
+use Rattle.plan_cert.proofs.SlotSums.{sum-plan_slots}
+use Rattle.film_frames.specs.Pieces.{wire_size}
+use Rattle.film_run.specs.Plans.{rest_sizes}
+use Rattle.film_run.specs.Units.{stored_sizes}
+use Rattle.film_run.proofs.PlanLemmas.{sending-keeps}
+use Rattle.pacer.specs.PacerStates.{first_slots}
+use Rattle.conn.specs.Films.{rounds_film, rounds_parts}
+use Rattle.conn.specs.EventSteps.{Comes, Round, rounds_doings}
+use Rattle.conn.specs.InputSteps.{Outcome, SentPart, Stage, film_bytes}
+use Rattle.conn.proofs.CurveBounds.{planned_between}
+use Rattle.connection_laws.specs.Courses.{Course, IsCourseBetween, askings_of, first_stage, greatest_slot, rounds_bytes}
+use Rattle.connection_laws.specs.Plays.{FilmPlay, due_of, film_of, film_written, plays_of}
+use Rattle.connection_laws.specs.Replies.{PlacedText, placed_text, placed_texts, text_of, insert_texts}
+use Rattle.connection_laws.proofs.GreatestSlots.{course_heard, film_written_is}
+use Rattle.connection_laws.proofs.ReplyOrder.{bytes_woven}
+use Rattle.connection_laws.proofs.TextPlacement.{course_film, rounds_sent}
+use Rattle.connection_laws.proofs.FilmBytes.{Stands, course_step, stands_by}
+use Rattle.rtsp_client.specs.declared.watch_request.Wish.{Wish}
+use Rattle.rtsp_client.specs.MeterGuarantee.{IsBetween}
+use Rattle.connection_laws.specs.LinkDelivery.{IsWrittenBy, latest_slot, sent_bytes}
+use Rattle.connection_laws.specs.WholePlays.{AreAfter, HasPlayedWhole, IsWholePlay, film_blocks, playback_of, whole_run}
+use Rattle.connection_laws.proofs.Curves.{curves_same}
+use Rattle.connection_laws.proofs.FilmReading.{IsFilmIn, blocks_sum, film_sizes, run_blocks}
+use Rattle.connection_laws.proofs.MeterInput.{AreTexts, Stream, all_of, text_is}
+use Rattle.connection_laws.proofs.MeterBounds.{IsFed}
+use Rattle.connection_laws.proofs.ServedPlays.{askings_parts, course_late, late_play, one_so_far}
+use Rattle.connection_laws.proofs.CourseJoins.{parts_of}
+use Rattle.connection_laws.proofs.ElementStreams.{AreAlone, alone_append}
+use Rattle.connection_laws.proofs.UnitSizes.{blocks_one}
+use Rattle.connection_laws.proofs.SentStreams.{AreEvents, IsCounted, IsEvent, IsFromTo, IsFrontOf, all_woven}
+use Rattle.connection_laws.proofs.SentStreams.{counted_by, framed_append, parts_length, rounds_latest}
+use Rattle.connection_laws.proofs.SentStreams.{rounds_sent_are, texts_parts, texts_within, texts_length}
+use Rattle.connection_laws.proofs.SentStreams.{whole_rounds}
+
+-- ---- the stream
+
+alone_from : (bs : List (List ℕ)) → AreBlocks bs → AreAlone bs
+alone_from [] are = tt
+alone_from (b ∷ bs) are =
+    let its = are 0 (omega arith) in
+    let some : 0 < length b = its.0.0 in (
+      record { some = some; whole = WholeBlock its.0 (omega (arith, its.1)) (sym its.1) (omega arith) },
+      alone_from bs (λ k less. are (suc k) (omega (arith, less))),
+    )
+
+texts_of : (total : ℕ) (texts : List PlacedText) → AreAfter total texts → AreTexts (map text_of texts)
+texts_of total [] after = tt
+texts_of total (placed ∷ texts) after = (text_is placed.text after.1.starts after.1.size, texts_of total texts after.2)
+
+alone_texts : (ms : List (List ℕ)) → AreTexts ms → AreAlone ms
+alone_texts [] are = tt
+alone_texts (m ∷ ms) are = (are.0.alone, alone_texts ms are.1)
+
+pub stream_of : (wish : Wish) (stored : Stored) (course : Course) → HasPlayedWhole wish stored course → Stream
+stream_of wish stored course played =
+    let blocks = film_blocks stored played.identity in
+    let run = run_of stored.film 0 (length stored.film.units.items) played.identity in
+    let setup = text_is played.setup played.setup_is.starts played.setup_is.size in
+    let reply = text_is played.played played.played_is.starts played.played_is.size in
+    let texts = texts_of (length (framed_bytes blocks)) played.later played.after in
+    record {
+      first = played.setup;
+      second = played.played;
+      blocks = blocks;
+      later = map text_of played.later;
+      first_is = setup;
+      second_is = reply;
+      blocks_are = blocks_one (record {
+        run = run;
+        frames = 0;
+        octets = 0;
+        media = played.whole.media;
+        control = played.whole.control;
+      }) run.slice_starts run.units;
+      later_are = texts;
+      alone = (
+        setup.alone,
+        (
+          reply.alone,
+          alone_append blocks (map text_of played.later)
+              (alone_from blocks (are-blocks run 0 0 (pieces_in run))) (alone_texts (map text_of played.later) texts),
+        ),
+      );
+    }
+
+-- ---- the film by the step of a slot
+
+first_stands : (course : Course) → Stands (first_stage course.films course.settings course.words).session
+first_stands course = record { rest = refl; sound = tt }
+
+-- what was sent of a whole play by a slot
+pub record IsSentThrough (play : FilmPlay) (rounds : List Round) : Type 0 where
+  pub film : rounds_film rounds ≡ film_written (greatest_slot rounds) (play ∷ [])
+  pub plan : IsPlan play.plan
+  pub parts : film_bytes (rounds_parts rounds) ≡ rounds_film rounds
+
+-- the last slot of these rounds, counted from a play's start
+record LastSlot (play : FilmPlay) (first : List Round) : Type 0 where
+  place : ℕ
+  slot_is : greatest_slot first ≡ play.start + place
+
+sent_through : {first : List Round} {play : FilmPlay} (course : Course) (later : List Round) → LastSlot play first →
+    (follows : IsCourseBetween (first_stage course.films course.settings course.words) (first ++ later) course.last) →
+    plays_of (askings_of (first_stage course.films course.settings course.words) (first ++ later) course.last
+    follows) ≡ play ∷ [] →
+    play.keep ≡ total_bytes play.plan → IsSentThrough play first
+sent_through {first} {play} course later last follows one whole =
+    let begin = first_stage course.films course.settings course.words in
+    let stands = first_stands course in
+    let parts = parts_of begin course.last first later follows in
+    let a = askings_of begin first parts.0 parts.1.0 in
+    let b = askings_of parts.0 later course.last parts.1.1 in
+    let both : plays_of (a ++ b) ≡ play ∷ [] =
+    ap plays_of (sym (askings_parts begin course.last first later follows)) ∙ one in
+    let mid : Stands parts.0.session =
+    stands_by begin.session parts.0.session a (rounds_film first) (course_step begin parts.0 first parts.1.0 stands) in
+    let written = film_written_is course.films course.settings course.words first parts.0 parts.1.0 in
+    let its = late_play begin.session.heard (askings_of begin (first ++ later) course.last follows) play []
+    (course_late begin course.last (first ++ later) follows stands) one in
+    let now : plays_of a ≡ play ∷ [] = elim (one_so_far a b play both whole) [
+      | inl here ↦ here
+      | inr after ↦
+          let late = late_play parts.0.session.heard b play []
+          (course_late parts.0 course.last later parts.1.1 mid) after.1 in
+          let heard = course_heard begin parts.0 first parts.1.0 stands in
+          absurd (omega (arith, late.late, heard, last.slot_is))
+    ] in
+    record {
+      film = written ∙ ap (film_written (greatest_slot first)) now;
+      plan = its.plan;
+      parts = course_film begin parts.0 first parts.1.0;
+    }
+
+-- of one play, as many bytes as are due
+one_written : (slot : ℕ) (play : FilmPlay) → film_written slot (play ∷ []) ≡ take (due_of slot play) (film_of play)
+one_written slot play = ap (λ n. take n (film_of play)) (omega arith)
+
+film_blocks_are : (wish : Wish) (stored : Stored) (identity : Identity) (play : FilmPlay)
+    → IsWholePlay wish stored identity play
+    → film_of play ≡ framed_bytes (film_blocks stored identity)
+film_blocks_are wish stored identity play whole =
+    ap (λ n. drop n (framed_bytes play.pieces)) whole.before ∙ ap framed_bytes whole.pieces
+
+-- all units of a film are those of its run
+pub rest_all : (stored : Stored) → rest_sizes (stored_sizes stored) (whole_run stored) ≡ film_sizes stored.film
+rest_all stored =
+    take_all (length stored.film.units.items - 0) (film_sizes stored.film)
+    (omega (arith, length-map stored.film.units.items (λ u. wire_size stored.film.slice_starts.items u)))
+
+whole_bytes : {wish : Wish} {stored : Stored} {identity : Identity} {play : FilmPlay} {x : Stream}
+    → IsWholePlay wish stored identity play
+    → IsFilmIn stored.film identity x → total_bytes play.plan ≡ length (framed_bytes x.blocks)
+whole_bytes {wish} {stored} {identity} {play} {x} whole is =
+    let keeps = sending-keeps (stored_sizes stored) (playback_of wish stored) (whole_run stored) play.plan
+    whole.sending in
+    omega (arith, keeps.bytes, ap sum (rest_all stored), blocks_sum stored.film identity x is)
+
+slots_most : (play : FilmPlay) (n : ℕ) → IsPlan play.plan → first_slots play.plan n ≤ total_bytes play.plan
+slots_most play n is =
+    omega (arith, sum_by-take-le (λ (x : ℕ). x) (plan_slots play.plan) n, sum-plan_slots play.plan is.no_empty)
+
+-- how many bytes of the film were sent, and that they lie between the curves
+pub record IsSentBetween (wish : Wish) (film : Film) (total place count : ℕ) : Type 0 where
+  pub few : count ≤ total
+  pub between : IsBetween wish (film_sizes film) (picture_time film.rate) place count
+
+sent_between : {wish : Wish} {stored : Stored} {identity : Identity} {play : FilmPlay} {x : Stream}
+    {rounds : List Round} {j : ℕ}
+    → IsWholePlay wish stored identity play → IsFilmIn stored.film identity x
+    → x.blocks ≡ film_blocks stored identity → IsSentThrough play rounds
+    → greatest_slot rounds ≡ play.start + j
+    → IsSentBetween wish stored.film (length (framed_bytes x.blocks)) j (length (rounds_film rounds))
+sent_between {wish} {stored} {identity} {play} {x} {rounds} {j} whole is blocks sent slot =
+    let g = greatest_slot rounds in
+    let n = first_slots play.plan (j + 1) in
+    let total = length (framed_bytes x.blocks) in
+    let film : rounds_film rounds ≡ take (due_of g play) (framed_bytes x.blocks) =
+    sent.film ∙ (one_written g play
+    ∙ ap (take (due_of g play)) (film_blocks_are wish stored identity play whole ∙ ap framed_bytes (sym blocks))) in
+    let at : g + 1 - play.start ≡ j + 1 = omega (arith, slot) in
+    let due : first_slots play.plan (g + 1 - play.start) ≡ n = ap (first_slots play.plan) at in
+    let bytes = whole_bytes whole is in
+    let most = slots_most play (j + 1) sent.plan in
+    let size : length (rounds_film rounds) ≡ n =
+    ap (λ (l : List ℕ). length l) film
+    ∙ (length-take (due_of g play) (framed_bytes x.blocks) ∙ omega (arith, due, whole.keep, most, bytes)) in
+    let run = whole_run stored in
+    let playback = playback_of wish stored in
+    let curves = planned_between sent.plan whole.sending refl in
+    let came : 0 + n ≡ length (rounds_film rounds) = omega (arith, size) in
+    let P : List ℕ → Type 0 = λ sizes. IsBetween wish sizes (picture_time stored.film.rate) j (0 + n) in
+    let Q : ℕ → Type 0 = λ m. IsBetween wish (film_sizes stored.film) (picture_time stored.film.rate) j m in
+    record {
+      few = omega (arith, size, most, bytes);
+      between = subst Q came (subst P (rest_all stored)
+          (curves_same (record { units = refl; delay = refl }) refl refl curves.above curves.below));
+    }
+
+-- ---- what the client is fed
+
+event_is : (old opened : Stage) (event : IoEvent) (due : List SentPart) (halt : Outcome)
+    → Comes old event due halt opened → IsEvent event
+event_is old opened (HeardBytes bytes) due halt comes = tt
+event_is old opened (HeardSlot slot) due halt comes = tt
+event_is old opened HeardEnd due halt comes = tt
+event_is old opened (Sent byte) due halt comes = comes
+
+events_are : (old new : Stage) (rounds : List Round) → IsCourseBetween old rounds new → AreEvents rounds
+events_are old new [] follows = tt
+events_are old new (round ∷ rounds) follows = (
+  event_is old follows.1.0.opened round.event round.due round.halt follows.1.0.comes,
+  events_are follows.0 new rounds follows.1.1,
+)
+
+events_front : (a b : List Round) → AreEvents (a ++ b) → AreEvents a
+events_front [] b are = tt
+events_front (round ∷ a) b are = (are.0, events_front a b are.1)
+
+pub film_in : (wish : Wish) (stored : Stored) (course : Course) (played : HasPlayedWhole wish stored course)
+    → IsFilmIn stored.film played.identity (stream_of wish stored course played)
+unfolding stream_of
+film_in wish stored course played =
+    record {
+      media = played.whole.media;
+      control = played.whole.control;
+      blocks = run_blocks stored.film played.identity;
+    }
+
+fed_by : {wish : Wish} {stored : Stored} {course : Course} (played : HasPlayedWhole wish stored course)
+    (first later : List Round) (j : ℕ) → course.rounds ≡ first ++ later →
+    greatest_slot first ≡ played.play.start + j →
+    IsFed wish stored.film (stream_of wish stored course played) (rounds_bytes first) j
+unfolding stream_of
+fed_by {wish} {stored} {course} played first later j split slot =
+    let begin = first_stage course.films course.settings course.words in
+    let play = played.play in
+    let x = stream_of wish stored course played in
+    let is = film_in wish stored course played in
+    let G : (rs : List Round) → IsCourseBetween begin rs course.last → Type 0 =
+    λ rs f. plays_of (askings_of begin rs course.last f) ≡ play ∷ [] in
+    let H : List Round → Type 0 = λ rs. (f : IsCourseBetween begin rs course.last) × G rs f in
+    let there : H (first ++ later) = subst H split (course.follows, played.plays) in
+    let sent = sent_through course later (record { place = j; slot_is = slot }) there.0 there.1 played.whole.keep in
+    let between = sent_between played.whole is refl sent slot in
+    let one = rounds_parts first in
+    let two = rounds_parts later in
+    let film = length (rounds_film first) in
+    let size : length (film_bytes one) ≡ film = ap (λ (l : List ℕ). length l) sent.parts in
+    let bytes : length (rounds_bytes first) ≡ film + texts_length (placed_texts 0 one) =
+    ap (λ (l : List ℕ). length l) (rounds_sent first)
+    ∙ (parts_length 0 one ∙ ap (λ n. n + texts_length (placed_texts 0 one)) size) in
+    let texts : placed_texts 0 one ++ placed_texts (0 + length (film_bytes one)) two
+    ≡ placed_text 0 played.setup ∷ placed_text 0 played.played ∷ played.later =
+    sym (texts_parts 0 one two) ∙ (ap (placed_texts 0) (sym (ap rounds_parts split ∙ parts-more first later))
+    ∙ played.texts) in
+    let F : ℕ → Type 0 = λ n. IsFromTo 0 n (placed_texts 0 one) in
+    let same : 0 + length (film_bytes one) ≡ film = omega (arith, size) in
+    let within : IsFromTo 0 film (placed_texts 0 one) = subst F same (texts_within 0 one) in
+    let next : (placed : PlacedText) (rest : List PlacedText)
+    → placed_texts (0 + length (film_bytes one)) two ≡ placed ∷ rest → film ≤ placed.place = λ placed rest at.
+    let T : List PlacedText → Type 0 =
+    λ l. IsFromTo (0 + length (film_bytes one)) (0 + length (film_bytes one) + length (film_bytes two)) l in
+    let its = subst T at (texts_within (0 + length (film_bytes one)) two) in omega (arith, its.0, same) in
+    let counted = counted_by (record {
+      setup = played.setup;
+      played = played.played;
+      some_setup = played.setup_is.starts.0;
+      some_played = played.played_is.starts.0;
+    }) (placed_texts 0 one) texts within next
+    (record { after = played.after; few = between.few }) in
+    let C : ℕ → Type 0 = λ n. IsCounted (length x.first) (length x.second) film (length (framed_bytes x.blocks)) n in
+    let here = subst C (sym bytes) counted in
+    let P : ℕ → Type 0 = λ n. IsBetween wish (film_sizes stored.film) (picture_time stored.film.rate) j n in
+    record { between = λ much. subst P (sym (here.is much)) between.between }
+
+pub fed : {wish : Wish} {stored : Stored} {course : Course} {bytes : List ℕ} {j : ℕ}
+    (played : HasPlayedWhole wish stored course)
+    → IsWrittenBy (rounds_doings course.rounds) (played.play.start + j) bytes
+    → IsFed wish stored.film (stream_of wish stored course played) bytes j
+fed {wish} {stored} {course} {bytes} {j} played written =
+    let begin = first_stage course.films course.settings course.words in
+    let whole = whole_rounds course.rounds written.front written.rest written.parts written.whole in
+    let E : List Round → Type 0 = λ rs. AreEvents rs in
+    let events =
+    events_front whole.first whole.later
+    (subst E whole.parts (events_are begin course.last course.rounds course.follows)) in
+    let slot : greatest_slot whole.first ≡ played.play.start + j =
+    sym (rounds_latest whole.first) ∙ (ap latest_slot (sym whole.front_is) ∙ written.slot_is) in
+    let are : rounds_bytes whole.first ≡ bytes =
+    sym (written.bytes_are ∙ (ap sent_bytes whole.front_is ∙ rounds_sent_are whole.first events)) in
+    let F : List ℕ → Type 0 = λ b. IsFed wish stored.film (stream_of wish stored course played) b j in
+    subst F are (fed_by played whole.first whole.later j whole.parts slot)
+
+-- ---- all that was sent is a front of the stream
+
+pub all_sent : (wish : Wish) (stored : Stored) (course : Course) (played : HasPlayedWhole wish stored course)
+    → IsFrontOf (sent_bytes (rounds_doings course.rounds)) (framed_bytes (all_of (stream_of wish stored course played)))
+unfolding stream_of
+all_sent wish stored course played =
+    let begin = first_stage course.films course.settings course.words in
+    let play = played.play in
+    let x = stream_of wish stored course played in
+    let g = greatest_slot course.rounds in
+    let blocks = framed_bytes x.blocks in
+    let parts = rounds_parts course.rounds in
+    let film = film_written g (plays_of (askings_of begin course.rounds course.last course.follows)) in
+    let is : film ≡ take (due_of g play) blocks =
+    ap (film_written g) played.plays
+    ∙ (one_written g play
+    ∙ ap (take (due_of g play)) (film_blocks_are wish stored played.identity play played.whole)) in
+    let woven_is = bytes_woven course.films course.settings course.words course.rounds course.last course.follows in
+    let size : length (film_bytes parts) ≡ length film =
+    ap (λ (l : List ℕ). length l) (course_film begin course.last course.rounds course.follows
+    ∙ film_written_is course.films course.settings course.words course.rounds course.last course.follows) in
+    let T : List PlacedText → Type 0 = λ l. IsFromTo 0 (0 + length (film_bytes parts)) l in
+    let all_within = subst T played.texts (texts_within 0 parts) in
+    let F : ℕ → Type 0 = λ n. IsFromTo 0 n played.later in
+    let within : IsFromTo 0 (length film) played.later =
+    subst F (let e : 0 + length (film_bytes parts) ≡ length film = omega (arith, size) in e) all_within.1.1.1.1 in
+    let front = all_woven (record { blocks = blocks; count = due_of g play; front_is = is }) played.setup
+    played.played played.later
+    played.after within in
+    let events = events_are begin course.last course.rounds course.follows in
+    let bytes : sent_bytes (rounds_doings course.rounds)
+    ≡ insert_texts 0 film (placed_text 0 played.setup ∷ placed_text 0 played.played ∷ played.later) =
+    rounds_sent_are course.rounds events ∙ (woven_is ∙ ap (insert_texts 0 film) played.texts) in
+    let all : played.setup ++ (played.played ++ (blocks ++ framed_bytes (map text_of played.later)))
+    ≡ framed_bytes (all_of x) =
+    ap (λ l. played.setup ++ (played.played ++ l)) (sym (framed_append x.blocks x.later)) in
+    record { count = front.count; is = bytes ∙ (front.is ∙ ap (take front.count) all) }
+
+-- a front of a front
+pub front_again : (bytes mid all : List ℕ) (n : ℕ) → bytes ≡ take n mid → IsFrontOf mid all → IsFrontOf bytes all
+front_again bytes mid all n is front =
+    let size : length mid ≡ min front.count (length all) = ap (λ (l : List ℕ). length l) front.is
+    ∙ length-take front.count all in
+    elim (cases_lt front.count n) [
+      | inl less ↦ record { count = front.count; is = is ∙ (take_all n mid (omega (arith, size, less)) ∙ front.is) }
+      | inr more ↦ record { count = n; is = is ∙ (ap (take n) front.is ∙ take-take n front.count all more) }
+    ]

@@ -1,0 +1,224 @@
+-- What was sent where a send failed is a front of what a longer course sends.
+use Rattle.std.proofs.Common.{◌≡◌, ℕ, ◌+◌, ◌++◌, ◌&&◌, if◌then◌else◌, Bool, true, false, List, [], ◌∷◌, length, drop}
+use Rattle.std.proofs.Common.{arith, refl, sym, ap, subst, ◌∙◌}
+use Rattle.conn.proofs.CourseSteps.{takings_bytes-append}
+use Rattle.std.proofs.lemmas.Bool.{and_from, cond-true}
+use Rattle.std.proofs.lemmas.List.{append_assoc, append-nil, length-append, take_at}
+use Rattle.std.proofs.Math.Seq.{take-append-add}
+use Rattle.vod_base.specs.Links.{HeardSlot}
+use Rattle.admission.specs.declared.entries.Answer.TheVariants.{Halted}
+use Rattle.admission.specs.declared.entries.Command.TheVariants.{Halt as HaltCommand}
+use Rattle.admission.specs.Makers.{PlacedEntry}
+use Rattle.session.specs.declared.states.Awaited.{Awaited}
+use Rattle.session.specs.declared.states.Awaited.TheVariants.{Nothing, Halt}
+use Rattle.session.specs.declared.states.AfterHalt.TheVariants.{Done}
+use Rattle.session.specs.RequestSteps.{after_halt}
+use Rattle.session.specs.SlotSteps.{can_reply, due_bytes, after_play, is_between, is_done_in}
+use Rattle.session.specs.SlotSteps.{is_sending, is_taken, sent_due, sent_in, sent_slot, step_bytes}
+use Rattle.session.specs.SlotSteps.{stepped_in}
+use Rattle.session.specs.SessionStates.{SessionState, awaited_answer, awaited_answer_of}
+use Rattle.conn.specs.EventSteps.{EndsInReply, HasFailedInSlot, IsPrefixOf, Round, Runs, round_bytes, takings_bytes}
+use Rattle.conn.specs.InputSteps.{Answered, Entered, Film, IsFinished, Outcome, Stage, ElementStep, TakesAll}
+use Rattle.conn.specs.InputSteps.{Text, Unasked, after_reply, due_parts, parts_bytes, reply_parts}
+use Rattle.conn.specs.InputSteps.{slot_parts, stage}
+use Rattle.connection_laws.specs.Courses.{Course, IsCourseBetween, first_stage, rounds_bytes}
+use Rattle.connection_laws.specs.Failures.{IsCutShort}
+use Rattle.connection_laws.proofs.FilmBytes.{Stands, course_step, stands_by, reply_awaited}
+use Rattle.connection_laws.specs.Courses.{askings_of}
+use Rattle.conn.specs.Films.{rounds_film}
+
+-- ---- fronts
+front_of : (xs ys : List ℕ) → IsPrefixOf xs (xs ++ ys)
+front_of xs ys = (length xs, (omega (arith, length-append xs ys), sym (take_at xs ys (length xs) refl)))
+
+front_after : (xs front ys : List ℕ) → IsPrefixOf front ys → IsPrefixOf (xs ++ front) (xs ++ ys)
+front_after xs front ys is = (
+  length xs + is.0,
+  (omega (arith, is.1.0, length-append xs ys), ap (λ f. xs ++ f) is.1.1 ∙ sym (take-append-add xs ys is.0)),
+)
+
+bytes_append : (xs ys : List Round) → rounds_bytes (xs ++ ys) ≡ rounds_bytes xs ++ rounds_bytes ys
+bytes_append [] ys = refl
+bytes_append (x ∷ xs) ys =
+    ap (λ bs. round_bytes x ++ bs) (bytes_append xs ys)
+    ∙ sym (append_assoc (round_bytes x) (rounds_bytes xs) (rounds_bytes ys))
+
+-- ---- one event more
+follows_more : {mid new : Stage} {round : Round} (old : Stage) (rounds : List Round) → IsCourseBetween old rounds mid
+    → Runs mid round new → IsCourseBetween old (rounds ++ round ∷ []) new
+follows_more {new} {round} old [] follows runs = (new, (subst (λ s. Runs s round new) follows runs, refl))
+follows_more {mid} {new} {round} old (first ∷ rounds) follows runs =
+    (follows.0, (follows.1.0, follows_more {mid = mid} {new = new} {round = round} follows.0 rounds follows.1.1 runs))
+
+cut_short : (course : Course) (round : Round) (new : Stage) (sent : List ℕ) → Runs course.last round new
+    → IsPrefixOf sent (round_bytes round)
+    → IsCutShort course round.event round.takings (rounds_bytes course.rounds ++ sent)
+cut_short course round new sent runs front =
+    let longer : Course = record {
+      films = course.films;
+      settings = course.settings;
+      words = course.words;
+      rounds = course.rounds ++ round ∷ [];
+      last = new;
+      follows = follows_more (first_stage course.films course.settings course.words) course.rounds course.follows runs;
+    } in
+    let all : rounds_bytes longer.rounds ≡ rounds_bytes course.rounds ++ round_bytes round =
+    bytes_append course.rounds (round ∷ [])
+    ∙ ap (λ bs. rounds_bytes course.rounds ++ bs) (append-nil (round_bytes round)) in
+    let F : List ℕ → Type 0 = λ bs. IsPrefixOf (rounds_bytes course.rounds ++ sent) bs in
+    record {
+      longer = longer;
+      films = refl;
+      settings = refl;
+      words = refl;
+      round = round;
+      event_is = refl;
+      takings_are = refl;
+      rounds = refl;
+      begun = front_of (rounds_bytes course.rounds) sent;
+      front = subst F (sym all) (front_after (rounds_bytes course.rounds) sent (round_bytes round) front);
+    }
+
+-- ---- a slot
+-- a play that is done can be halted
+record CanFinish (s : SessionState) : Type 0 where
+  halt : Outcome
+  new : SessionState
+  finished : IsFinished (awaited_answer s) s halt new
+
+finish_none : (s : SessionState) → s.awaited ≡ Nothing → CanFinish s
+finish_none s rest =
+    let F : Awaited → Type 0 = λ a. IsFinished (awaited_answer_of a) s Unasked s in
+    record { halt = Unasked; new = s; finished = subst F (sym rest) refl }
+
+finish_halt : (s : SessionState) (keep : ℕ) → s.awaited ≡ Halt keep Done → CanFinish s
+finish_halt s keep halts =
+    let placed : PlacedEntry =
+    record { place = 0; entry = record { maker = 0; command = HaltCommand 0 keep; answer = Halted } } in
+    let F : Awaited → Type 0 = λ a. IsFinished (awaited_answer_of a) s (Entered placed) (after_halt s 0) in
+    record {
+      halt = Entered placed;
+      new = after_halt s 0;
+      finished = subst F (sym halts) (record { number = 0; command = refl; answer = refl; halts = refl });
+    }
+
+finish_if : (done : Bool) (s : SessionState) (keep : ℕ) → s.awaited ≡ (if done then Halt keep Done else Nothing)
+    → CanFinish s
+finish_if true s keep is = finish_halt s keep is
+finish_if false s keep is = finish_none s is
+
+finish_sent : (s : SessionState) → s.awaited ≡ Nothing → CanFinish (after_play s)
+finish_sent s rest =
+    finish_if (is_done_in s.state) (after_play s) (sent_in s.state)
+    (ap (λ a. if is_done_in s.state then Halt (sent_in s.state) Done else a) rest)
+
+finish_slotted : (old : SessionState) (slot : ℕ) (taken sending : Bool) → old.awaited ≡ Nothing
+    → CanFinish (if taken then (if sending then after_play (sent_slot old slot) else record old
+    { heard = slot }) else old)
+finish_slotted old slot true true rest =
+    finish_sent (sent_slot old slot)
+    (reply_awaited (old.waits && is_between (stepped_in true slot old.state)) (sent_due old slot) ∙ rest)
+finish_slotted old slot true false rest = finish_none (record old { heard = slot }) rest
+finish_slotted old slot false sending rest = finish_none old rest
+
+between_bytes : (old : SessionState) (slot : ℕ) (between : Bool)
+    → parts_bytes (if between then Text old.text ∷ Film (step_bytes false slot (stepped_in true slot old.state))
+    ∷ [] else [])
+    ≡ (if between then old.text ++ step_bytes false slot (stepped_in true slot old.state) else [])
+between_bytes old slot true =
+    ap (λ bs. old.text ++ bs) (append-nil (step_bytes false slot (stepped_in true slot old.state)))
+between_bytes old slot false = refl
+
+due_as : (old : SessionState) (slot : ℕ) (waits : Bool)
+    → parts_bytes (if waits then Film (step_bytes true slot old.state)
+    ∷ (if is_between (stepped_in true slot old.state) then Text old.text
+    ∷ Film (step_bytes false slot (stepped_in true slot old.state)) ∷ [] else [])
+    else Film (step_bytes false slot old.state) ∷ []) ≡ due_bytes waits old.state old.text slot
+due_as old slot true =
+    ap (λ bs. step_bytes true slot old.state ++ bs)
+    (between_bytes old slot (is_between (stepped_in true slot old.state)))
+due_as old slot false = append-nil (step_bytes false slot old.state)
+
+pub failed_slot : (course : Course) (slot : ℕ) (front : List ℕ) (new : Stage)
+    → HasFailedInSlot course.last slot front new
+    → IsCutShort course (HeardSlot slot) [] (rounds_bytes course.rounds ++ front)
+failed_slot course slot front new failed =
+    let old = course.last in
+    let first = first_stage course.films course.settings course.words in
+    let stands : Stands old.session =
+    stands_by first.session old.session (askings_of first course.rounds old course.follows) (rounds_film course.rounds)
+    (course_step first old course.rounds course.follows (record { rest = refl; sound = tt })) in
+    let can = finish_slotted old.session slot (is_taken old.session slot) (is_sending old.session.state) stands.rest in
+    let round : Round = record {
+      event = HeardSlot slot;
+      due = slot_parts old.session slot;
+      halt = can.halt;
+      takings = [];
+    } in
+    let opened : Stage = stage can.new old.input in
+    let runs : Runs old round opened = record {
+      opened = opened;
+      comes = (refl, record { parts_are = refl; finished = can.finished });
+      takes = refl;
+    } in
+    let both : (is_taken old.session slot && is_sending old.session.state) ≡ true =
+    and_from (is_taken old.session slot) (is_sending old.session.state) failed.taken failed.sending in
+    let bytes : round_bytes round ≡ due_bytes old.session.waits old.session.state old.session.text slot =
+    append-nil (parts_bytes (slot_parts old.session slot))
+    ∙ ap parts_bytes (cond-true (is_taken old.session slot && is_sending old.session.state)
+    (due_parts old.session slot) [] both)
+    ∙ due_as old.session slot old.session.waits in
+    let F : List ℕ → Type 0 = λ bs. IsPrefixOf front bs in
+    cut_short course round opened front runs (subst F (sym bytes) failed.front_is)
+
+-- ---- a reply
+takes_more : {new : Stage} (old mid : Stage) (takings : List ElementStep) (taking : ElementStep)
+    → TakesAll old takings mid → TakesAll mid (taking ∷ []) new
+    → TakesAll old (takings ++ taking ∷ []) new
+takes_more {new} old mid [] taking takes more =
+    let T : Stage → Type 0 = λ s. TakesAll s (taking ∷ []) new in
+    subst T takes more
+takes_more {new} old mid (first ∷ takings) taking takes more =
+    (takes.0, (takes.1.0, takes_more {new = new} takes.0 mid takings taking takes.1.1 more))
+
+pub failed_reply : {round : Round} {message : List ℕ} {outcome : Outcome} {front : List ℕ} {new : Stage}
+    (course : Course) (ends : EndsInReply course.last round message outcome front new) →
+    IsCutShort course round.event (round.takings ++ Answered message outcome (reply_parts ends.fails.answered) ∷ [])
+    (rounds_bytes course.rounds ++ (round_bytes round ++ front))
+failed_reply {round} {message} {outcome} {front} course ends =
+    let failed = ends.fails in
+    let answered = failed.answered in
+    let parts = reply_parts answered in
+    let last : Stage = stage (after_reply answered) (drop (length message) ends.mid.input) in
+    let taking = Answered message outcome parts in
+    let more : TakesAll ends.mid (taking ∷ []) last = (
+      last,
+      (
+        record {
+          next = failed.next;
+          answered = answered;
+          heard = failed.heard;
+          parts_are = refl;
+          new_is = refl;
+        },
+        refl,
+      ),
+    ) in
+    let longer : Round =
+    record { event = round.event; due = round.due; halt = round.halt; takings = round.takings ++ taking ∷ [] } in
+    let runs : Runs course.last longer last = record {
+      opened = ends.runs.opened;
+      comes = ends.runs.comes;
+      takes = takes_more ends.runs.opened ends.mid round.takings taking ends.runs.takes more;
+    } in
+    let text : takings_bytes (taking ∷ []) ≡ answered.text =
+    append-nil (parts_bytes parts)
+    ∙ ap parts_bytes (cond-true (can_reply answered) (Text answered.text ∷ []) [] failed.can)
+    ∙ append-nil answered.text in
+    let bytes : round_bytes longer ≡ round_bytes round ++ answered.text =
+    ap (λ bs. parts_bytes round.due ++ bs)
+    (takings_bytes-append round.takings (taking ∷ []) ∙ ap (λ bs. takings_bytes round.takings ++ bs) text)
+    ∙ sym (append_assoc (parts_bytes round.due) (takings_bytes round.takings) answered.text) in
+    let F : List ℕ → Type 0 = λ bs. IsPrefixOf (round_bytes round ++ front) bs in
+    cut_short course longer last (round_bytes round ++ front) runs
+    (subst F (sym bytes) (front_after (round_bytes round) front answered.text failed.front_is))

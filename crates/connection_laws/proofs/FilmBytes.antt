@@ -1,0 +1,382 @@
+-- What a connection writes of films, event by event, is what is due of its plays.
+use Rattle.std.proofs.Common.{◌≡◌, ℕ, ◌^◌, ◌<◌, ◌≤◌, ◌++◌, ◌&&◌, ◌==◌, if◌then◌else◌, Bool, true}
+use Rattle.std.proofs.Common.{false, nat_lt, nat_le, List, [], ◌∷◌, take, refl, ap, sym, ◌∙◌, subst}
+use Rattle.std.proofs.Common.{arith}
+use Rattle.conn.proofs.PlayProgress.{reply_state, reply_heard}
+use Rattle.std.proofs.lemmas.Bool.{eqb-true, ltb-true, true≢false, and_parts}
+use Rattle.std.proofs.lemmas.List.{append-nil}
+use Rattle.vod_base.specs.Links.{IoEvent, HeardBytes, HeardEnd, HeardSlot, Sent}
+use Rattle.pacer.specs.PacerStates.{PacerState, is_done}
+use Rattle.plan_cert.specs.PlanSlots.{total_bytes}
+use Rattle.admission.specs.declared.entries.Command.TheVariants.{Halt as HaltCommand}
+use Rattle.admission.specs.Makers.{PlacedEntry}
+use Rattle.session.specs.declared.states.Awaited.{Awaited}
+use Rattle.session.specs.declared.states.Awaited.TheVariants.{Nothing, Halt}
+use Rattle.session.specs.declared.states.AfterHalt.TheVariants.{Done}
+use Rattle.session.specs.declared.states.Play.{Play as Played}
+use Rattle.session.specs.declared.states.Setup.{Setup}
+use Rattle.session.specs.declared.states.State.{State}
+use Rattle.session.specs.declared.states.State.TheVariants.{Init, Ready, Playing, Stopping}
+use Rattle.session.specs.SlotSteps.{can_reply, after_play, halted_in, is_between, is_done_in}
+use Rattle.session.specs.SlotSteps.{is_sending, sent_due, sent_in, sent_reply, sent_slot, after_slot}
+use Rattle.session.specs.SlotSteps.{stepped_in}
+use Rattle.session.specs.SessionStates.{NoAnswer, SessionState, awaited_answer, awaited_answer_of}
+use Rattle.conn.specs.Films.{rounds_film}
+use Rattle.conn.specs.EventSteps.{Comes, Round, Runs}
+use Rattle.conn.specs.InputSteps.{Outcome, Unasked, Entered, WasFull, Offered, SentPart, Stage, ElementStep}
+use Rattle.conn.specs.InputSteps.{Passed, Answered, IsFinished, IsHaltAnswered, IsHalted, IsReplied}
+use Rattle.conn.specs.InputSteps.{Takes, TakesAll, after_reply, due_parts, film_bytes, slot_parts}
+use Rattle.connection_laws.specs.Courses.{IsCourseBetween, asked_by, askings_of, round_askings, takings_askings}
+use Rattle.connection_laws.specs.Plays.{StationRequest, Asks, plays_admitted, plays_begun, kept_by, kept_in, kept_with}
+use Rattle.connection_laws.specs.Plays.{plays_of}
+use Rattle.connection_laws.proofs.JoinedFilms.{IsFilm, IsOnTime, IsRest, IsSound, film_in, film_over, play_with}
+use Rattle.connection_laws.proofs.Slots.{reply_on, same_on, slot_goes, state_after, waits_after}
+use Rattle.connection_laws.proofs.FilmSteps.{GoesOn, sound_waits, still_rest, then_on, turn_goes}
+use Rattle.connection_laws.proofs.RequestEffects.{Ends, Going, Idle, IsAfter, Starts, Stays, TurnsAs, sends_in}
+use Rattle.connection_laws.proofs.RequestEffects.{turns_as}
+
+-- between doings nothing is awaited, and what is sent is on time
+pub record Stands (session : SessionState) : Type 0 where
+  pub rest : session.awaited ≡ Nothing
+  pub sound : IsSound (sends_in session.state) session.waits session.heard
+
+abbrev pub On : SessionState → SessionState → List StationRequest → List ℕ → Type 0
+On old new made bytes = GoesOn (sends_in old.state) (sends_in new.state) old.heard new.heard new.waits made bytes
+
+pub record Step (old new : SessionState) (made : List StationRequest) (bytes : List ℕ) : Type 0 where
+  pub rest : new.awaited ≡ Nothing
+  pub on : On old new made bytes
+
+pub stands_by : (old new : SessionState) (made : List StationRequest) (bytes : List ℕ) → Step old new made bytes →
+    Stands new
+stands_by old new made bytes step = record { rest = step.rest; sound = step.on.sound }
+
+pub step_then : {a b c : SessionState} {made more : List StationRequest} {film bytes : List ℕ} → Step a b made film
+    → Step b c more bytes → Step a c (made ++ more) (film ++ bytes)
+step_then {a} {c} {made} {more} one two = record {
+  rest = two.rest;
+  on = then_on one.on two.on;
+}
+
+pub step_none : (session : SessionState) → Stands session → Step session session [] []
+step_none session stands =
+    record { rest = stands.rest; on = same_on (sends_in session.state) session.waits session.heard stands.sound }
+
+-- ---- requests
+
+pub turn_after : (old new : SessionState) (asked : Awaited) (outcome : Outcome) → TurnsAs old asked outcome new
+    → IsAfter old new
+turn_after old new asked outcome (Stays same after still) = after
+turn_after old new asked outcome (Starts after begins) = after
+turn_after old new asked outcome (Ends after halts) = after
+
+pub turn_step : (old new : SessionState) (asked : Awaited) (outcome : Outcome) → Stands old
+    → TurnsAs old asked outcome new → Step old new (Asks asked outcome ∷ []) []
+turn_step old new asked outcome stands turns =
+    let after = turn_after old new asked outcome turns in
+    let on = turn_goes old new asked outcome
+    (sound_waits (sends_in old.state) old.waits true old.heard stands.sound refl) turns in
+    record {
+      rest = after.awaited;
+      on = subst (λ h. GoesOn (sends_in old.state) (sends_in new.state) old.heard h new.waits
+          (Asks asked outcome ∷ []) []) (sym after.heard)
+          (subst (λ w. GoesOn (sends_in old.state) (sends_in new.state) old.heard old.heard w
+          (Asks asked outcome ∷ []) []) (sym after.waits) on);
+    }
+
+reply_is : (goes : Bool) (s : SessionState) → (goes ≡ true → is_between s.state ≡ true) → Stands s
+    → Step s (if goes then sent_reply s else s) [] []
+reply_is true s between stands =
+    record { rest = stands.rest; on = reply_on true s.state s.waits s.heard stands.sound between }
+reply_is false s between stands = step_none s stands
+
+reply_step : (s : SessionState) → Stands s → Step s (after_reply s) [] []
+reply_step s stands = reply_is (can_reply s) s (λ can. (and_parts s.waits (is_between s.state) can).1) stands
+
+answered_step : {old new : Stage} {message : List ℕ} {outcome : Outcome} {parts : List SentPart}
+    (replied : IsReplied old message outcome parts new)
+    → Stands old.session → Step old.session new.session (Asks replied.heard.asking.awaited outcome ∷ []) []
+answered_step {old} {new} {message} {outcome} replied stands =
+    let asked : Awaited = replied.heard.asking.awaited in
+    let turns = turns_as old.session message outcome replied.answered replied.heard stands.rest in
+    let one : Step old.session replied.answered (Asks asked outcome ∷ []) [] =
+    turn_step old.session replied.answered asked outcome stands turns in
+    let two : Step replied.answered (after_reply replied.answered) [] [] =
+    reply_step replied.answered (stands_by old.session replied.answered (Asks asked outcome ∷ []) [] one) in
+    subst (λ (s : Stage). Step old.session s.session (Asks asked outcome ∷ []) []) (sym replied.new_is)
+    (step_then one two)
+
+pub taken_stands : (old new : Stage) (taking : ElementStep) → Takes old taking new → Stands old.session → Stands
+    new.session
+taken_stands old new (Passed n) takes stands = subst Stands (sym (ap (λ (s : Stage). s.session) takes.2)) stands
+taken_stands old new (Answered message outcome parts) takes stands =
+    stands_by old.session new.session (Asks takes.heard.asking.awaited outcome ∷ []) [] (answered_step takes stands)
+
+pub takes_step : (old new : Stage) (takings : List ElementStep) (takes : TakesAll old takings new) → Stands old.session
+    → Step old.session new.session (takings_askings old takings new takes) []
+takes_step old new [] takes stands =
+    subst (λ (s : Stage). Step old.session s.session [] []) (sym takes) (step_none old.session stands)
+takes_step old new (Passed n ∷ takings) takes stands =
+    let same : takes.0.session ≡ old.session = ap (λ (s : Stage). s.session) takes.1.0.2 in
+    let rest = takes_step takes.0 new takings takes.1.1 (subst Stands (sym same) stands) in
+    subst (λ s. Step s new.session (takings_askings takes.0 takings new takes.1.1) []) same rest
+takes_step old new (Answered message outcome parts ∷ takings) takes stands =
+    let made : List StationRequest = Asks takes.1.0.heard.asking.awaited outcome ∷ [] in
+    let one = answered_step takes.1.0 stands in
+    let rest = takes_step takes.0 new takings takes.1.1 (stands_by old.session takes.0.session made [] one) in
+    step_then one rest
+
+-- ---- slots
+
+-- a play that is done is halted with all that was sent
+pub done_kept : (p : PacerState) → is_done p ≡ true → p.sent ≡ p.keep
+done_kept p done = eqb-true p.sent p.keep (and_parts (nat_lt 0 p.passed) (p.sent == p.keep) done).1
+
+-- a play that is done is halted, and keeps what was sent of it
+record DoneHalt (p : PacerState) (asked : Awaited) (number keep : ℕ) (placed : PlacedEntry) : Type 0 where
+  sent : keep ≡ p.sent
+  command : placed.entry.command ≡ HaltCommand number keep
+  asks : asked ≡ Halt keep Done
+
+done_rest : {p : PacerState} {slot : ℕ} {asked : Awaited} {number keep end : ℕ} {placed : PlacedEntry} (askings : List
+    StationRequest)
+    (more : List ℕ) → IsOnTime p slot → DoneHalt p asked number keep placed → slot ≤ end →
+    IsFilm end (plays_of askings) more → IsRest (Going p) (Asks asked (Entered placed) ∷ askings) end more
+done_rest {p} {slot} {asked} {number} {keep} {end} {placed} askings more on halt later is =
+    let kept : kept_with (Entered placed) (kept_in askings (total_bytes p.plan)) ≡ keep =
+    ap (λ c. kept_by c (kept_in askings (total_bytes p.plan))) halt.command in
+    let none : plays_begun asked (Entered placed) askings ≡ [] =
+    ap (λ a. plays_admitted a placed.entry.answer askings) halt.asks in
+    subst (λ k. IsFilm end (play_with p k ∷ (plays_begun asked (Entered placed) askings ++ plays_of askings))
+    (take p.sent (film_in p) ++ more)) (sym kept)
+    (subst (λ ps. IsFilm end (play_with p keep ∷ (ps ++ plays_of askings)) (take p.sent (film_in p) ++ more)) (sym none)
+    (film_over (plays_of askings) more on (sym halt.sent) later is))
+
+pub halt_state : {state : State} {awaited : Awaited} {setup : Setup} {play : Played} {keep : ℕ}
+    → state ≡ Playing setup play → awaited ≡ Halt keep Done
+    → sends_in (halted_in state awaited) ≡ Idle
+halt_state {awaited} {setup} {play} is asks =
+    ap (λ (s : State). sends_in (halted_in s awaited)) is
+    ∙ ap (λ (a : Awaited). sends_in (halted_in (Playing setup play) a)) asks
+
+done_step : {s : SessionState} {setup : Setup} {play : Played} {placed : PlacedEntry} {keep : ℕ} {new : SessionState}
+    → s.state ≡ Playing setup play
+    → IsSound (sends_in s.state) s.waits s.heard → is_done play.pacer ≡ true → keep ≡ play.pacer.sent
+    → s.awaited ≡ Halt keep Done
+    → IsHaltAnswered s keep placed new → Step s new (Asks s.awaited (Entered placed) ∷ []) []
+done_step {s} {play} {placed} {new} is sound done sent asks halted =
+    let p : PacerState = play.pacer in
+    let on : IsOnTime p s.heard = (subst (λ st. IsSound (sends_in st) s.waits s.heard) is sound).0 in
+    let sends : sends_in new.state ≡ Idle =
+    ap (λ (n : SessionState). sends_in n.state) halted.halts ∙ halt_state is asks in
+    let heard : new.heard ≡ s.heard = ap (λ (n : SessionState). n.heard) halted.halts in
+    let goes : GoesOn (Going p) Idle s.heard s.heard new.waits (Asks s.awaited (Entered placed) ∷ []) [] = record {
+      sound = tt;
+      later = omega arith;
+      rest = λ askings end more later film. done_rest {placed = placed} askings more on
+          (record { sent = sent; command = halted.command; asks = asks }) later film;
+    } in
+    record {
+      rest = ap (λ (n : SessionState). n.awaited) halted.halts;
+      on = subst (λ x. GoesOn x (sends_in new.state) s.heard new.heard new.waits
+          (Asks s.awaited (Entered placed) ∷ []) []) (sym (ap sends_in is))
+          (subst (λ x. GoesOn (Going p) x s.heard new.heard new.waits (Asks s.awaited (Entered placed) ∷ [])
+          []) (sym sends)
+          (subst (λ h. GoesOn (Going p) Idle s.heard h new.waits (Asks s.awaited (Entered placed) ∷ []) [])
+          (sym heard) goes));
+    }
+
+halted_step : {s : SessionState} {setup : Setup} {play : Played} {halt : Outcome} {keep : ℕ} {new : SessionState}
+    → s.state ≡ Playing setup play
+    → IsSound (sends_in s.state) s.waits s.heard → is_done play.pacer ≡ true → keep ≡ play.pacer.sent
+    → s.awaited ≡ Halt keep Done
+    → IsHalted s keep halt new → Step s new (Asks s.awaited halt ∷ []) []
+halted_step {s} {halt = Unasked} {new} is sound done sent asks halted = absurd halted
+halted_step {s} {halt = Entered placed} {new} is sound done sent asks halted = done_step is sound done sent asks halted
+halted_step {s} {halt = WasFull more entries live} {new} is sound done sent asks halted = absurd halted
+halted_step {s} {halt = Offered at_slot note} {new} is sound done sent asks halted = absurd halted
+
+finishes : {s : SessionState} {state : State} {halt : Outcome} {new : SessionState} → s.state ≡ state
+    → IsSound (sends_in s.state) s.waits s.heard
+    → is_done_in state ≡ true → s.awaited ≡ Halt (sent_in state) Done → IsFinished (awaited_answer s) s halt new
+    → Step s new (Asks s.awaited halt ∷ []) []
+finishes {s} {state = Init} {halt} {new} is sound done asks finished = absurd (true≢false (sym done))
+finishes {s} {state = Ready setup paused} {halt} {new} is sound done asks finished = absurd (true≢false (sym done))
+finishes {s} {state = Playing setup play} {halt} {new} is sound done asks finished =
+    halted_step is sound done refl asks (subst (λ a. IsFinished (awaited_answer_of a) s halt new) asks finished)
+finishes {s} {state = Stopping setup stop} {halt} {new} is sound done asks finished = absurd (true≢false (sym done))
+
+-- nothing is asked
+same_step : (s new : SessionState) → Stands s → new ≡ s → Step s new (Asks s.awaited Unasked ∷ []) []
+same_step s new stands same = subst (λ n. Step s n (Asks s.awaited Unasked ∷ []) []) (sym same) (record {
+  rest = stands.rest;
+  on = record {
+    sound = stands.sound;
+    later = omega arith;
+    rest = λ askings end more later is.
+        still_rest (sends_in s.state) askings end more
+        (record { none = λ after. refl; kept = λ after. refl; untold = λ made. refl }) is;
+  };
+})
+
+unasked_same : (s : SessionState) (halt : Outcome) (new : SessionState) → Stands s → IsFinished NoAnswer s halt new
+    → Step s new (Asks s.awaited halt ∷ []) []
+unasked_same s Unasked new stands finished = same_step s new stands finished
+unasked_same s (Entered placed) new stands finished = absurd finished
+unasked_same s (WasFull more entries live) new stands finished = absurd finished
+unasked_same s (Offered at_slot note) new stands finished = absurd finished
+
+unasked_step : (s : SessionState) (halt : Outcome) (new : SessionState) → Stands s
+    → IsFinished (awaited_answer s) s halt new → Step s new (Asks s.awaited halt ∷ []) []
+unasked_step s halt new stands finished =
+    unasked_same s halt new stands (subst (λ a. IsFinished (awaited_answer_of a) s halt new) stands.rest finished)
+
+-- a slot that is taken up by what is being sent
+finished_step : {s : SessionState} {halt : Outcome} {new : SessionState} {done : Bool}
+    → IsSound (sends_in s.state) s.waits s.heard → is_done_in s.state ≡ done
+    → s.awaited ≡ (if done then Halt (sent_in s.state) Done else Nothing)
+    → IsFinished (awaited_answer s) s halt new → Step s new (Asks s.awaited halt ∷ []) []
+finished_step {s} {halt} {new} {done = true} sound done asks finished = finishes refl sound done asks finished
+finished_step {s} {halt} {new} {done = false} sound done asks finished =
+    unasked_step s halt new (record { rest = asks; sound = sound }) finished
+
+pub reply_waits : (goes : Bool) (s : SessionState) → (if goes then sent_reply s else s).waits
+    ≡ (if goes then false else s.waits)
+reply_waits true s = refl
+reply_waits false s = refl
+
+pub reply_awaited : (goes : Bool) (s : SessionState) → (if goes then sent_reply s else s).awaited ≡ s.awaited
+reply_awaited true s = refl
+reply_awaited false s = refl
+
+-- bytes of a film were sent, and then what the session asks was answered
+pub then_asked : {a b c : SessionState} {asked : Awaited} {outcome : Outcome} {bytes : List ℕ} → On a b [] bytes
+    → Step b c (Asks asked outcome ∷ []) []
+    → Step a c (Asks asked outcome ∷ []) bytes
+then_asked {a} {c} {asked} {outcome} {bytes} one two = record {
+  rest = two.rest;
+  on = subst (λ bs. On a c (Asks asked outcome ∷ []) bs) (append-nil bytes)
+      (then_on one two.on);
+}
+
+pub sent_on : (old : SessionState) (slot : ℕ) → Stands old → is_sending old.state ≡ true → old.heard < slot
+    → On old (after_play (sent_slot old slot)) [] (film_bytes (due_parts old slot))
+sent_on old slot stands sending later =
+    let s : SessionState = after_play (sent_slot old slot) in
+    let goes : Bool = old.waits && is_between (stepped_in true slot old.state) in
+    let due : SessionState = sent_due old slot in
+    let state : s.state ≡ state_after old.waits old.state slot = reply_state goes due in
+    let heard : s.heard ≡ slot = reply_heard goes due in
+    let waits : s.waits ≡ waits_after old.waits old.state slot = reply_waits goes due in
+    subst (λ st. GoesOn (sends_in old.state) (sends_in st) old.heard s.heard s.waits []
+    (film_bytes (due_parts old slot))) (sym state)
+    (subst (λ h. GoesOn (sends_in old.state) (sends_in (state_after old.waits old.state slot)) old.heard h
+    s.waits [] (film_bytes (due_parts old slot))) (sym heard)
+    (subst (λ w. GoesOn (sends_in old.state) (sends_in (state_after old.waits old.state slot)) old.heard slot w
+    [] (film_bytes (due_parts old slot))) (sym waits)
+    (slot_goes old.state old.waits old.text sending stands.sound later)))
+
+sent_step : {old : SessionState} {halt : Outcome} {new : SessionState} (slot : ℕ) → Stands old
+    → is_sending old.state ≡ true → old.heard < slot
+    → IsFinished (awaited_answer (after_play (sent_slot old slot))) (after_play (sent_slot old slot)) halt new
+    → Step old new (Asks (after_play (sent_slot old slot)).awaited halt ∷ []) (film_bytes (due_parts old slot))
+sent_step {old} {halt} {new} slot stands sending later finishing =
+    let s : SessionState = after_play (sent_slot old slot) in
+    let goes : Bool = old.waits && is_between (stepped_in true slot old.state) in
+    let asks : s.awaited ≡ (if is_done_in s.state then Halt (sent_in s.state) Done else Nothing) =
+    ap (λ a. if is_done_in s.state then Halt (sent_in s.state) Done else a)
+    (reply_awaited goes (sent_due old slot) ∙ stands.rest) in
+    let on = sent_on old slot stands sending later in
+    then_asked on
+    (finished_step on.sound refl asks finishing)
+
+-- nothing is being sent
+pub idle_sound : (state : State) (waits : Bool) (from to : ℕ) → is_sending state ≡ false
+    → IsSound (sends_in state) waits from → IsSound (sends_in state) waits to
+idle_sound Init waits from to none sound = tt
+idle_sound (Ready setup paused) waits from to none sound = tt
+idle_sound (Playing setup play) waits from to none sound = absurd (true≢false none)
+idle_sound (Stopping setup stop) waits from to none sound = absurd (true≢false none)
+
+idle_on : (old : SessionState) (slot : ℕ) → Stands old → is_sending old.state ≡ false → old.heard < slot
+    → On old (record old { heard = slot }) [] []
+idle_on old slot stands none later = record {
+  sound = idle_sound old.state old.waits old.heard slot none stands.sound;
+  later = omega (arith, later);
+  rest = λ askings end more on is. is;
+}
+
+slot_cases : {old : SessionState} {halt : Outcome} {new : SessionState} {taken sending : Bool} (slot : ℕ) → Stands old
+    → (taken ≡ true → old.heard < slot)
+    → is_sending old.state ≡ sending
+    → let s : SessionState =
+    if taken then (if sending then after_play (sent_slot old slot) else record old { heard = slot }) else old in
+    IsFinished (awaited_answer s) s halt new
+    → Step old new (Asks s.awaited halt ∷ []) (film_bytes (if taken && sending then due_parts old slot else []))
+slot_cases {old} {halt} {new} {taken = false} slot stands later is finishing =
+    unasked_step old halt new stands finishing
+slot_cases {halt} {new} {taken = true} {sending = true} slot stands later is finishing =
+    sent_step slot stands is (later refl) finishing
+slot_cases {old} {halt} {new} {taken = true} {sending = false} slot stands later is finishing =
+    let s : SessionState = record old { heard = slot } in
+    let on : On old s [] [] = idle_on old slot stands is (later refl) in
+    then_asked on (unasked_step s halt new (record { rest = stands.rest; sound = on.sound }) finishing)
+
+pub slot_step : (old : SessionState) (slot : ℕ) (halt : Outcome) (new : SessionState) → Stands old
+    → IsFinished (awaited_answer (after_slot old slot)) (after_slot old slot) halt new
+    → Step old new (Asks (after_slot old slot).awaited halt ∷ []) (film_bytes (slot_parts old slot))
+slot_step old slot halt new stands finishing =
+    slot_cases slot stands
+    (λ taken. ltb-true old.heard slot (and_parts (nat_lt old.heard slot) (nat_le slot (2 ^ 62)) taken).0) refl finishing
+
+-- ---- events
+
+comes_step : {halt : Outcome} (old opened : Stage) (event : IoEvent) (due : List SentPart)
+    → Comes old event due halt opened → Stands old.session
+    → Step old.session opened.session (Asks (asked_by old.session event) halt ∷ []) (film_bytes due)
+comes_step {halt} old opened (HeardBytes bytes) due comes stands =
+    subst (λ ps. Step old.session opened.session (Asks Nothing halt ∷ []) (film_bytes ps)) (sym comes.0)
+    (subst (λ h. Step old.session opened.session (Asks Nothing h ∷ []) []) (sym comes.1)
+    (subst (λ (s : Stage). Step old.session s.session (Asks Nothing Unasked ∷ []) []) (sym comes.3)
+    (subst (λ a. Step old.session old.session (Asks a Unasked ∷ []) []) stands.rest
+    (same_step old.session old.session stands refl))))
+comes_step {halt} old opened (HeardSlot slot) due comes stands =
+    subst (λ ps. Step old.session opened.session (Asks (after_slot old.session slot).awaited halt ∷ [])
+    (film_bytes ps)) (sym comes.1.parts_are)
+    (slot_step old.session slot halt opened.session stands comes.1.finished)
+comes_step {halt} old opened HeardEnd due comes stands = absurd comes
+comes_step {halt} old opened (Sent byte) due comes stands = absurd comes
+
+pub opened_stands : (old new : Stage) (round : Round) (runs : Runs old round new) → Stands old.session
+    → Stands runs.opened.session
+opened_stands old new round runs stands =
+    stands_by old.session runs.opened.session (Asks (asked_by old.session round.event) round.halt ∷ [])
+    (film_bytes round.due)
+    (comes_step old runs.opened round.event round.due runs.comes stands)
+
+pub opened_rest : (old new : Stage) (round : Round) (runs : Runs old round new) → Stands old.session
+    → runs.opened.session.awaited ≡ Nothing
+opened_rest old new round runs stands = (comes_step old runs.opened round.event round.due runs.comes stands).rest
+
+pub round_step : (old new : Stage) (round : Round) (runs : Runs old round new) → Stands old.session
+    → Step old.session new.session (round_askings old round new runs) (film_bytes round.due)
+round_step old new round runs stands =
+    let made : List StationRequest = Asks (asked_by old.session round.event) round.halt ∷ [] in
+    let one = comes_step old runs.opened round.event round.due runs.comes stands in
+    let two = takes_step runs.opened new round.takings runs.takes
+    (stands_by old.session runs.opened.session made (film_bytes round.due) one) in
+    let more : List StationRequest = takings_askings runs.opened round.takings new runs.takes in
+    subst (λ bs. Step old.session new.session (made ++ more) bs) (append-nil (film_bytes round.due))
+    (step_then one two)
+
+pub course_step : (old new : Stage) (rounds : List Round) (follows : IsCourseBetween old rounds new) → Stands
+    old.session
+    → Step old.session new.session (askings_of old rounds new follows) (rounds_film rounds)
+course_step old new [] follows stands =
+    subst (λ (s : Stage). Step old.session s.session [] []) (sym follows) (step_none old.session stands)
+course_step old new (round ∷ rounds) follows stands =
+    let made : List StationRequest = round_askings old round follows.0 follows.1.0 in
+    let one = round_step old follows.0 round follows.1.0 stands in
+    let two = course_step follows.0 new rounds follows.1.1
+    (stands_by old.session follows.0.session made (film_bytes round.due) one) in
+    step_then one two

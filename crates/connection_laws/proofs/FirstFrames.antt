@@ -1,0 +1,173 @@
+-- The first frame that a client hears of a film, and the time of a picture in it.
+use Rattle.std.proofs.Common.{◌≡◌, ℕ, zero, suc, ◌+◌, ◌-◌, ◌%◌, ◌<◌, ◌≤◌, ◌==◌, ◌&&◌, Bool, true}
+use Rattle.std.proofs.Common.{false, not, nat_le, cond, List, [], ◌∷◌, ◌++◌, length, take, drop}
+use Rattle.std.proofs.Common.{get_or, is_ok, sym, ap, subst, ◌∙◌, append_assoc, min, arith, inl}
+use Rattle.std.proofs.Common.{inr}
+use Rattle.std.proofs.lemmas.Bool.{cases_eq, cond-true, cond-false, eq-eqb, ne_eqb, leb-true, and_parts}
+use Rattle.std.proofs.lemmas.List.{get_or-drop, get_or-take, length-take}
+use Rattle.mpeg_scan.specs.declared.units.Unit.{Unit as PictureUnit}
+use Rattle.mpeg_scan.specs.Layout.{BeginsSequence, IsLaid}
+use Rattle.mpeg_scan.specs.PictureRates.{picture_time}
+use Rattle.rtp_pack.specs.declared.payloads.Packet.{Packet}
+use Rattle.rtp_pack.specs.Heads.{head_of}
+use Rattle.rtp_pack.specs.Packets.{DoCover, unit_packets}
+use Rattle.rtp_pack.proofs.UnitPacketLemmas.{packets-cover}
+use Rattle.film_frames.specs.Pieces.{pieces_of, unit_pieces}
+use Rattle.film_frames.specs.FramedRuns.{FramedRun, blocks_from, payload}
+use Rattle.rtsp_client.specs.Answers.{GoOn, GoesOn, history_after, events_of_elements}
+use Rattle.rtsp_client.specs.Films.{begins_film, is_complete, is_first_good, is_next_good, time_in, units_until}
+use Rattle.rtsp_client.specs.ClientHistory.{History, ClientEvent, Frame, Reply, Report, Slot, end_ms, first_frame}
+use Rattle.rtsp_client.specs.ClientHistory.{frames}
+use Rattle.rtsp_client.specs.ClientHistory.{is_playing}
+use Rattle.connection_laws.proofs.Blocks.{frame_block, frame_blocks, frame_moment, frames_one, frames_after}
+use Rattle.connection_laws.proofs.Blocks.{octets_after}
+use Rattle.connection_laws.proofs.Blocks.{report_block, report_if, report_moment}
+use Rattle.connection_laws.proofs.HistorySums.{AreOneBlocks, Sum, blocks_first, blocks_one_append, blocks_one_take}
+use Rattle.connection_laws.proofs.HistorySums.{step, steps}
+use Rattle.connection_laws.proofs.UnitSizes.{blocks_one, frame_sizes, more_blocks, packets_there, report_sizes}
+use Rattle.connection_laws.proofs.Blocks.{RunFrom}
+
+-- at each of its moments a watching went on
+abbrev pub HasGoneOn : History → Type 0
+HasGoneOn [] = Unit {0}
+HasGoneOn (m ∷ h) = GoesOn h m × HasGoneOn h
+
+pub gone_on : (h : History) (ms : List ClientEvent) → HasGoneOn h → GoOn h ms → HasGoneOn (history_after h ms)
+gone_on h [] gone good = gone
+gone_on h (m ∷ ms) gone good = gone_on (m ∷ h) ms (good.0, gone) good.1
+
+-- its first frame begins a film
+pub first_good : (h : History) → HasGoneOn h → 0 < frames h → begins_film (drop 20 (first_frame h)) ≡ true
+first_good [] gone some = absurd (omega (arith, some))
+first_good (Reply m ∷ h) gone some = first_good h gone.1 some
+first_good (Report b ∷ h) gone some = first_good h gone.1 some
+first_good (Slot t cut ∷ h) gone some = first_good h gone.1 some
+first_good (Frame b ∷ h) gone some =
+    let P : List ℕ → Type 0 = λ f. begins_film (drop 20 f) ≡ true in
+    let head : Bool = is_ok (head_of (drop 4 b)) in
+    let last : Bool = cond (frames h == 0) (is_first_good h b) (is_next_good h b) in
+    let all : last ≡ true =
+    (and_parts head last
+    (and_parts (not (is_complete h)) (head && last)
+    (and_parts (is_playing h) (not (is_complete h) && (head && last)) gone.0).1).1).1 in
+    elim (cases_eq (frames h) 0) [
+      | inl none ↦
+          let is : is_first_good h b ≡ true =
+          sym (cond-true (frames h == 0) (is_first_good h b) (is_next_good h b) (eq-eqb (frames h) 0 none)) ∙ all in
+          subst P (sym (cond-true (frames h == 0) b (first_frame h) (eq-eqb (frames h) 0 none)))
+          (and_parts (begins_film (drop 20 b))
+          (nat_le 1 (units_until (end_ms h) (time_in b)) && nat_le (units_until (end_ms h) (time_in b)) 4194304) is).0
+      | inr more ↦
+          subst P (sym (cond-false (frames h == 0) b (first_frame h) (ne_eqb (frames h) 0 more)))
+          (first_good h gone.1 (omega (arith, more)))
+    ]
+
+-- ---- the first frame of a run
+
+-- the first packet of a unit, and the blocks after its frame
+record FirstFrame : Type 0 where
+  unit : PictureUnit
+  packet : Packet
+  rest : List (List ℕ)
+  are_blocks : AreOneBlocks rest
+
+-- a sum with no frames yet
+record FramelessSum : Type 0 where
+  sum : Sum
+  none : sum.frames ≡ 0
+
+lead : (starts : Bool) (from : RunFrom) (k : ℕ) (first : FirstFrame) (sum : FramelessSum) →
+    0 < (steps sum.sum (events_of_elements (take k (report_if starts from.run first.unit from.frames from.octets ++
+    (frame_block from.run first.unit first.packet from.frames ∷ first.rest))))).frames →
+    (steps sum.sum (events_of_elements (take k (report_if starts from.run first.unit from.frames from.octets ++
+    (frame_block from.run first.unit first.packet from.frames ∷ first.rest))))).first ≡ frame_block from.run first.unit
+    first.packet from.frames
+lead false from zero first sum some = absurd (omega (arith, sum.none, some))
+lead false from (suc k) first sum some =
+    let b = frame_block run unit p f in
+    frame_sizes b (take k rest) s (λ t. t.first ≡ b) (frame_moment run f unit p media)
+    (blocks_first (take k rest) (step (Frame b) s) (blocks_one_take k rest are) (omega arith)
+    ∙ cond-true (s.frames == 0) b s.first (eq-eqb s.frames 0 none))
+  where
+    open from use {run, frames as f, media}
+    open first use {unit, packet as p, rest, are_blocks as are}
+    open sum use {sum as s, none}
+lead true from zero first sum some = absurd (omega (arith, sum.none, some))
+lead true from (suc k) first sum some =
+    let r = report_block run unit f o in
+    let b = frame_block run unit p f in
+    let is = report_moment run f o unit control in
+    report_sizes r (take k (b ∷ rest)) sum.sum (λ t. 0 < t.frames → t.first ≡ b) is
+    (λ more. lead false from k first (record { sum = step (Report r) sum.sum; none = sum.none }) more) some
+  where
+    open from use {run, frames as f, octets as o, control}
+    open first use {unit, packet as p, rest}
+
+pub record IsLed (run : FramedRun) (starts : List ℕ) (unit : PictureUnit) (f : ℕ) (first : List ℕ) : Type 0 where
+  pub packet : Packet
+  pub packets : List Packet
+  pub are : unit_packets starts unit ≡ packet ∷ packets
+  pub first_is : first ≡ frame_block run unit packet f
+
+pub first_frame_is : {starts : List ℕ} {unit : PictureUnit} (from : RunFrom) (k : ℕ) (units : List PictureUnit)
+    (s : Sum) → s.frames ≡ 0 →
+    let t : Sum =
+    steps s (events_of_elements
+    (take k (blocks_from from.run from.frames from.octets (pieces_of starts (unit ∷ units))))) in 0 < t.frames →
+    IsLed from.run starts unit from.frames t.first
+first_frame_is {starts} {unit} from k units s none some =
+    let there = packets_there starts unit in
+    let rest = blocks_from run (frames_after f (unit_pieces starts unit))
+    (octets_after o (unit_pieces starts unit)) (pieces_of starts units) in
+    let front = report_if unit.starts_group run unit f o in
+    let frames_rest = frame_blocks run unit (f + 1) there.packets in
+    let all : blocks_from run f o (pieces_of starts (unit ∷ units))
+    ≡ front ++ (frame_block run unit there.packet f ∷ (frames_rest ++ rest)) =
+    more_blocks run f o starts unit units
+    ∙ (ap (λ ps. (front ++ frame_blocks run unit f ps) ++ rest) there.are
+    ∙ append_assoc front (frame_block run unit there.packet f ∷ frames_rest) rest) in
+    let are : AreOneBlocks (frames_rest ++ rest) =
+    blocks_one_append frames_rest rest (frames_one run (f + 1) unit there.packets media)
+    (blocks_one (record {
+      run = run;
+      frames = frames_after f (unit_pieces starts unit);
+      octets = octets_after o (unit_pieces starts unit);
+      media = media;
+      control = control;
+    }) starts units) in
+    let P : List (List ℕ) → Type 0 =
+    λ bs. 0 < (steps s (events_of_elements (take k bs))).frames
+    → (steps s (events_of_elements (take k bs))).first ≡ frame_block run unit there.packet f in
+    record {
+      packet = there.packet;
+      packets = there.packets;
+      are = there.are;
+      first_is = (subst P (sym all) (λ more. lead unit.starts_group from k
+          (record { unit = unit; packet = there.packet; rest = frames_rest ++ rest; are_blocks = are })
+          (record { sum = s; none = none }) more)) some;
+    }
+  where
+    open from use {run, frames as f, octets as o, media, control}
+
+-- ---- the time of a picture
+
+-- a first frame that begins a film tells its rate
+pub frame_time_is : {run : FramedRun} {starts : List ℕ} {unit : PictureUnit} {f rate : ℕ} {first : List ℕ}
+    → IsLaid starts unit → IsLed run starts unit f first
+    → BeginsSequence run.film rate unit.from → begins_film (drop 20 first) ≡ true → time_in first ≡ picture_time rate
+frame_time_is {run} {starts} {unit} {first} laid led begins good =
+    let p = led.packet in
+    let its : List ℕ = payload run.film p in
+    let Q : List ℕ → Type 0 = λ b. begins_film (drop 20 b) ≡ true in
+    let all : begins_film its ≡ true = subst Q led.first_is good in
+    let long : 12 ≤ length its =
+    leb-true 12 (length its) (and_parts (nat_le 12 (length its)) _ (and_parts _ _ (and_parts _ _ all).0).0).0 in
+    let count : length its ≡ min (p.to - p.from) (length (drop p.from run.film)) =
+    length-take (p.to - p.from) (drop p.from run.film) in
+    let many : 7 < p.to - p.from = omega (arith, long, count) in
+    let P : List Packet → Type 0 = λ ps. DoCover unit.from ps unit.to in
+    let cover = subst P led.are (packets-cover starts unit laid) in
+    let byte : get_or its 7 0 ≡ get_or run.film (unit.from + 7) 0 =
+    get_or-take (p.to - p.from) (drop p.from run.film) 7 0 many
+    ∙ (get_or-drop p.from run.film 7 0 ∙ ap (λ n. get_or run.film (n + 7) 0) cover.0) in
+    ap time_in led.first_is ∙ ap picture_time (ap (λ n. n % 16) byte ∙ begins.rate_is)

@@ -1,0 +1,121 @@
+-- The play that a client's PLAY begins after its SETUP: of the whole film, as the client wished.
+use Rattle.std.proofs.Common.{◌≡◌, ℕ, ◌≤◌, List, [], Option, Some, None, codes, string_bytes, refl, sym, ap, subst, ◌∙◌}
+use Rattle.std.proofs.Common.{arith}
+use Rattle.film_frames.specs.declared.stored_films.Stored.{Stored}
+use Rattle.film_frames.specs.FramedRuns.{run_of, run_pieces}
+use Rattle.film_run.specs.declared.plans.Playback.{Playback}
+use Rattle.film_run.specs.declared.runs.Run.{Run}
+use Rattle.film_run.specs.Laws.{IsSending}
+use Rattle.film_run.specs.Units.{stored_sizes}
+use Rattle.mpeg_scan.specs.StartCodes.{read_after}
+use Rattle.mpeg_scan.specs.PictureRates.{picture_time}
+use Rattle.mpeg_scan.proofs.FilmBoundLemmas.{film-rate}
+use Rattle.plan_cert.specs.declared.Segment.{Segment}
+use Rattle.rtp_pack.specs.declared.reports.Identity.{Identity}
+use Rattle.rtsp_client.specs.RequestParts.{play_parts}
+use Rattle.rtsp_client.specs.Requests.{film_url, play_text}
+use Rattle.rtsp_client.proofs.RequestGrammar.{play-asked}
+use Rattle.rtsp_client.proofs.PictureTimes.{time_bounds}
+use Rattle.rtsp_text.specs.Fields.{header_value}
+use Rattle.rtsp_text.specs.Requests.{IsRequest}
+use Rattle.rtsp_text.specs.RequestTexts.{request_head}
+use Rattle.rtsp_text.proofs.MessageUniqueness.{request_once}
+use Rattle.session.specs.declared.settings.Settings.{Settings}
+use Rattle.session.specs.declared.states.Prepared.{Prepared}
+use Rattle.session.specs.declared.states.Setup.{Setup}
+use Rattle.session.specs.Films.{IsFilmAt, identity_of}
+use Rattle.session.specs.RequestedPlans.{IsPlannedRun}
+use Rattle.session.specs.RunRequests.{playback_of as session_playback}
+use Rattle.session.specs.SessionStates.{SessionState}
+use Rattle.session.proofs.WholeFilmLemmas.{asked-whole}
+use Rattle.connection_laws.specs.WholePlays.{film_blocks, playback_of, whole_run}
+use Rattle.connection_laws.specs.Plays.{FilmPlay}
+use Rattle.connection_laws.proofs.RequestedPlan.{playback_same}
+use Rattle.session.proofs.PlayInReadyLemmas.{IsPlayHeard}
+use Rattle.connection_laws.proofs.ClientSetups.{IsSettled, range_is}
+use Rattle.connection_laws.proofs.SetupOnly.{Beginning, IsUnbegun, IsWaiting}
+
+-- a play of the whole film, as the client wished
+pub record IsWished (b : Beginning) (play : FilmPlay) : Type 0 where
+  pub number : ℕ
+  pub stored : Stored
+  pub at : IsFilmAt b.films number stored
+  pub name_is : string_bytes stored.name ≡ string_bytes b.wish.name
+  pub identity : Identity
+  pub media : identity.channel ≡ 0
+  pub control : identity.control ≡ 1
+  pub pieces : play.pieces ≡ film_blocks stored identity
+  pub before : play.before ≡ 0
+  pub sending : IsSending (stored_sizes stored) (playback_of b.wish stored) (whole_run stored) play.plan
+
+some_time : (stored : Stored) → 1 ≤ picture_time stored.film.rate
+some_time stored =
+    let film = stored.film in
+    let rate = film-rate (read_after [] film.bytes.items) film.grammar.accepted in
+    (time_bounds film.rate (omega (arith, film.grammar.rate, rate.0)) (omega (arith, film.grammar.rate, rate.1))).0
+
+-- a session planned a run for the client, which is the whole film
+record IsPlannedFor (b : Beginning) (settings : Settings) (stored : Stored) (plan : List Segment) : Type 0 where
+  setup : Setup
+  run : Run
+  settled : IsSettled b.wish b.films setup
+  slot_units : settings.slot_units ≡ b.wish.slot_units
+  run_is : run ≡ whole_run stored
+  sending : IsSending (stored_sizes stored) (session_playback stored.film settings setup) run plan
+
+sending_for : (b : Beginning) (settings : Settings) (stored : Stored) (plan : List Segment)
+    → IsPlannedFor b settings stored plan
+    → IsSending (stored_sizes stored) (playback_of b.wish stored) (whole_run stored) plan
+sending_for b settings stored plan planned =
+    let S : Playback → Run → Type 0 = λ p r. IsSending (stored_sizes stored) p r plan in
+    let playback = playback_same (session_playback stored.film settings planned.setup) (playback_of b.wish stored) refl
+    planned.slot_units planned.settled.buffer planned.settled.delay in
+    subst (S (playback_of b.wish stored)) planned.run_is (subst (λ p. S p planned.run) playback planned.sending)
+
+pub wished_play : {b : Beginning} {old : SessionState} {message : List ℕ} {prepared : Prepared} {play : FilmPlay}
+    → IsWaiting b old → message ≡ play_text b.wish b.session → IsPlayHeard old message prepared
+    → play.plan ≡ prepared.plan → play.before ≡ prepared.run.sent → play.pieces ≡ run_pieces prepared.frames
+    → IsWished b play
+wished_play {b} {old} {message} {prepared} {play} waits is heard plan before pieces =
+    let stored = heard.stored in
+    let setup = heard.setup in
+    let planned = heard.planned in
+    let begun = subst (IsUnbegun b.wish b.films) heard.ready waits.unbegun in
+    let settled = begun.1 in
+    let asked = play-asked b.wish b.session b.wished b.port b.session_is in
+    let R : List ℕ → Type 0 = λ m.
+    IsRequest m (codes "PLAY") (film_url b.wish) 2 (request_head (play_parts b.wish b.session)) [] in
+    let same = request_once heard.is_request (subst R (sym is) asked.read) in
+    let range : header_value heard.request.head.now (codes "Range") ≡ Some (codes "npt=0-") =
+    ap (λ h. header_value h (codes "Range")) same.head_is ∙ range_is b.wish b.session b.wished b.port b.session_is in
+    let P : Option Run → Option (List ℕ) → Type 0 = λ p r. IsPlannedRun old stored setup p r planned in
+    let asked_range = header_value heard.request.head.now (codes "Range") in
+    let planned_is = subst (P None) range (subst (λ p. P p asked_range) begun.0 heard.planned_is) in
+    let run : planned.run ≡ whole_run stored =
+    planned_is.run_is ∙ asked-whole stored planned_is.wanted (some_time stored) planned_is.asked in
+    let prepared_is = heard.prepared_is in
+    let identity = identity_of old.source setup planned.counts in
+    let at = subst (λ films. IsFilmAt films setup.film stored) waits.films_are heard.planned_is.at in
+    let plan_is : play.plan ≡ planned.plan = plan ∙ ap (λ (p : Prepared). p.plan) prepared_is in
+    let planned_for : IsPlannedFor b old.settings stored planned.plan = record {
+      setup = setup;
+      run = planned.run;
+      settled = settled;
+      slot_units = ap (λ (s : Settings). s.slot_units) waits.settings_are ∙ b.slot_units;
+      run_is = run;
+      sending = record { can_play = planned_is.can_play; plan_is = planned_is.plan_is };
+    } in
+    record {
+      number = setup.film;
+      stored = stored;
+      at = at;
+      name_is = settled.film stored at;
+      identity = identity;
+      media = settled.media;
+      control = settled.control;
+      pieces = pieces ∙ (ap (λ (p : Prepared). run_pieces p.frames) prepared_is
+          ∙ ap (λ (r : Run). run_pieces (run_of stored.film r.first_unit r.end_unit identity)) run);
+      before = before ∙ (ap (λ (p : Prepared). p.run.sent) prepared_is ∙ ap (λ (r : Run). r.sent) run);
+      sending = subst (IsSending (stored_sizes stored) (playback_of b.wish stored) (whole_run stored)) (sym plan_is)
+          (sending_for b old.settings stored planned.plan planned_for);
+    }

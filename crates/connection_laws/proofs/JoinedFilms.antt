@@ -1,0 +1,163 @@
+-- What is written of films, as whole lists: the lemmas on plays joined.
+use Rattle.std.specs.Prelude.{⊤}
+use Rattle.std.proofs.Common.{◌≡◌, ℕ, ◌+◌, ◌-◌, ◌<◌, ◌≤◌, ◌++◌, Bool, true, min, List, [], ◌∷◌, length, take, drop}
+use Rattle.std.proofs.Common.{refl, ap, sym, ◌∙◌, subst, arith}
+use Rattle.std.proofs.lemmas.List.{append-nil, append_assoc, length-take, length-drop}
+use Rattle.std.proofs.lemmas.List.Sums.{sum_by-cons}
+use Rattle.std.proofs.Math.Seq.{take-append-add}
+use Rattle.film_frames.specs.Tracks.{IsBoundary, framed_bytes}
+use Rattle.plan_cert.specs.PlanSlots.{total_bytes}
+use Rattle.pacer.specs.Boundaries.{bytes_between}
+use Rattle.pacer.specs.PacerStates.{IsPacerState, PacerState, due_by, first_slots, plan_bytes}
+use Rattle.pacer.proofs.PacerStateLemmas.{first-slots-rise}
+use Rattle.pacer.proofs.SendLemmas.{between-join}
+use Rattle.conn.proofs.FilmBytes.{sent_through, through_is}
+use Rattle.connection_laws.specs.Plays.{AreOver, StationRequest, FilmPlay, due_by as all_due, due_of, film_of}
+use Rattle.connection_laws.specs.Plays.{film_written}
+use Rattle.connection_laws.specs.Plays.{bytes_of_plays, kept_in, plays_of}
+use Rattle.connection_laws.proofs.RequestEffects.{Sends, Idle, Going, Ending}
+
+-- the film of a pacing, and its play where so much is kept
+abbrev pub film_in : PacerState → List ℕ
+film_in p = drop p.before (framed_bytes p.pieces)
+
+abbrev pub play_with : PacerState → ℕ → FilmPlay
+play_with p keep = record { start = p.start; plan = p.plan; keep = keep; before = p.before; pieces = p.pieces }
+
+-- a play that another one follows was sent as far as it is kept
+abbrev pub IsSpent : List FilmPlay → ℕ → FilmPlay → Type 0
+IsSpent [] slot play = ⊤
+IsSpent (next ∷ plays) slot play = (due_of slot play ≡ play.keep) × (play.keep ≤ length (film_of play))
+
+-- the bytes are those of plays in order, of each as many as are due
+abbrev pub IsFilm : ℕ → List FilmPlay → List ℕ → Type 0
+IsFilm slot [] bytes = bytes ≡ []
+IsFilm slot (play ∷ plays) bytes =
+    (rest : List ℕ)
+    × ((bytes ≡ take (due_of slot play) (film_of play) ++ rest) × IsFilm slot plays rest × IsSpent plays slot play)
+
+-- as a whole list
+pub film_is : (slot : ℕ) (plays : List FilmPlay) (bytes : List ℕ) → IsFilm slot plays bytes
+    → bytes ≡ film_written slot plays
+film_is slot [] bytes is = is
+film_is slot (play ∷ []) bytes is =
+    is.1.0 ∙ ap (λ r. take (due_of slot play) (film_of play) ++ r) is.1.1
+    ∙ append-nil (take (due_of slot play) (film_of play))
+    ∙ ap (λ n. take n (film_of play)) (omega arith)
+film_is slot (play ∷ next ∷ plays) bytes is =
+    let due : due_of slot play ≡ play.keep = is.1.2.0 in
+    let front : List ℕ = take play.keep (film_of play) in
+    let size : length front ≡ play.keep = omega (arith, length-take play.keep (film_of play), is.1.2.1) in
+    let later : is.0 ≡ film_written slot (next ∷ plays) = film_is slot (next ∷ plays) is.0 is.1.1 in
+    is.1.0 ∙ ap (λ n. take n (film_of play) ++ is.0) due ∙ ap (λ r. front ++ r) later
+    ∙ sym (take-append-add front (bytes_of_plays (next ∷ plays)) (all_due slot (next ∷ plays)))
+    ∙ ap (λ n. take (n + all_due slot (next ∷ plays)) (front ++ bytes_of_plays (next ∷ plays))) (size ∙ sym due)
+    ∙ ap (λ n. take n (front ++ bytes_of_plays (next ∷ plays))) (sym (sum_by-cons (due_of slot) play (next ∷ plays)))
+
+pub film_over_all : (slot : ℕ) (plays : List FilmPlay) (bytes : List ℕ) → IsFilm slot plays bytes → AreOver slot plays
+film_over_all slot [] bytes is = tt
+film_over_all slot (play ∷ []) bytes is = tt
+film_over_all slot (play ∷ next ∷ plays) bytes is = (is.1.2.0, film_over_all slot (next ∷ plays) is.0 is.1.1)
+
+-- what was sent of the film in hand, and what is sent from here on, are the bytes of the plays from here on
+abbrev pub IsRest : Sends → List StationRequest → ℕ → List ℕ → Type 0
+IsRest Idle askings slot more = IsFilm slot (plays_of askings) more
+IsRest (Going p) askings slot more =
+    IsFilm slot (play_with p (kept_in askings (total_bytes p.plan)) ∷ plays_of askings)
+    (take p.sent (film_in p) ++ more)
+IsRest (Ending p) askings slot more = IsFilm slot (play_with p p.keep ∷ plays_of askings)
+    (take p.sent (film_in p) ++ more)
+
+-- all that is due of a pacing by a slot was sent
+pub record IsOnTime (p : PacerState) (slot : ℕ) : Type 0 where
+  pub pacing : IsPacerState p
+  pub passed : p.passed ≡ slot + 1 - p.start
+  pub even : p.sent ≡ p.due
+
+-- no boundary lies between what was sent and the end of what is kept
+abbrev pub IsAtLast : PacerState → Type 0
+IsAtLast p = (place : ℕ) → IsBoundary p.pieces place → p.before + p.sent ≤ place → p.before + p.keep ≤ place
+
+-- what is being sent is on time: a play with all its plan, or the rest up to a boundary of one that was halted, whose
+-- reply waits
+abbrev pub IsSound : Sends → Bool → ℕ → Type 0
+IsSound Idle waits slot = ⊤
+IsSound (Going p) waits slot = IsOnTime p slot × (p.keep ≡ total_bytes p.plan)
+IsSound (Ending p) waits slot = IsOnTime p slot × (waits ≡ true) × IsAtLast p
+
+-- so many bytes of a plan are at most its film
+pub film_holds : (p : PacerState) (n : ℕ) → IsPacerState p → n ≤ total_bytes p.plan → n ≤ length (film_in p)
+film_holds p n is few = omega (arith, few, is.whole, length-drop p.before (framed_bytes p.pieces))
+
+pub due_now : (p : PacerState) (slot : ℕ) → IsOnTime p slot → due_of slot (play_with p p.keep) ≡ p.sent
+due_now p slot on =
+    sym (on.even ∙ on.pacing.due ∙ ap (λ n. min (first_slots p.plan n) p.keep) on.passed)
+
+-- a play's bytes so far
+pub film_now : (p : PacerState) (slot : ℕ) → IsOnTime p slot
+    → IsFilm slot (play_with p p.keep ∷ []) (take p.sent (film_in p) ++ [])
+film_now p slot on = ([], (ap (λ n. take n (film_in p) ++ []) (sym (due_now p slot on)), refl, tt))
+
+-- nothing follows
+pub rest_none : (sends : Sends) (waits : Bool) (slot : ℕ) → IsSound sends waits slot → IsRest sends [] slot []
+rest_none Idle waits slot is = refl
+rest_none (Going p) waits slot is =
+    subst (λ k. IsFilm slot (play_with p k ∷ []) (take p.sent (film_in p) ++ [])) is.1 (film_now p slot is.0)
+rest_none (Ending p) waits slot is = film_now p slot is.0
+
+-- a play that was sent as far as it is kept is over
+spent : (slot : ℕ) (plays : List FilmPlay) (play : FilmPlay) → due_of slot play ≡ play.keep
+    → play.keep ≤ length (film_of play) → IsSpent plays slot play
+spent slot [] play due small = tt
+spent slot (next ∷ plays) play due small = (due, small)
+
+pub film_over : {p : PacerState} {heard slot keep : ℕ} (plays : List FilmPlay) (more : List ℕ) → IsOnTime p heard
+    → p.sent ≡ keep → heard ≤ slot
+    → IsFilm slot plays more → IsFilm slot (play_with p keep ∷ plays) (take p.sent (film_in p) ++ more)
+film_over {p} {heard} {slot} {keep} plays more on sent later is =
+    let rise : first_slots p.plan (heard + 1 - p.start) ≤ first_slots p.plan (slot + 1 - p.start) =
+    first-slots-rise p.plan (heard + 1 - p.start) (slot + 1 - p.start) (omega (arith, later)) in
+    let now : min (first_slots p.plan (heard + 1 - p.start)) p.keep ≡ p.sent = due_now p heard on in
+    let due : due_of slot (play_with p keep) ≡ keep = omega (arith, rise, now, sent) in
+    let few : keep ≤ total_bytes p.plan = omega (arith, now, sent, on.pacing.most) in (
+      more,
+      (
+        ap (λ n. take n (film_in p) ++ more) (sent ∙ sym due),
+        is,
+        spent slot plays (play_with p keep) due (film_holds p keep on.pacing few),
+      ),
+    )
+
+-- a slot later
+pub through_sent : (p : PacerState) (slot : ℕ) → IsPacerState p
+    → take p.sent (film_in p) ++ plan_bytes p p.sent (due_by p slot) ≡ take (due_by p slot) (film_in p)
+through_sent p slot is =
+    let due : ℕ = due_by p slot in
+    let first : take p.sent (film_in p) ≡ bytes_between p.pieces p.before (p.before + p.sent) =
+    ap (λ n. take n (film_in p)) (omega arith) in
+    ap (λ bs. bs ++ plan_bytes p p.sent due) first
+    ∙ between-join p.pieces p.before (p.before + p.sent) (p.before + due) (omega arith) (omega (arith, is.sent))
+    ∙ ap (λ n. take n (film_in p)) (omega arith)
+
+pub through_time : (p : PacerState) (heard slot : ℕ) → IsOnTime p heard → heard < slot → IsOnTime (sent_through slot p)
+    slot
+through_time p heard slot on later = record {
+  pacing = through_is slot p on.pacing;
+  passed = omega (arith, on.passed, later);
+  even = refl;
+}
+
+-- what a play keeps, the plays after it, and what is sent of them
+pub record LaterFilm : Type 0 where
+  pub keep : ℕ
+  pub plays : List FilmPlay
+  pub more : List ℕ
+
+pub through_film : {p : PacerState} (slot end : ℕ) (later : LaterFilm) → IsPacerState p →
+    IsFilm end (play_with p later.keep ∷ later.plays) (take (due_by p slot) (film_in p) ++ later.more) →
+    IsFilm end (play_with p later.keep ∷ later.plays)
+    (take p.sent (film_in p) ++ (plan_bytes p p.sent (due_by p slot) ++ later.more))
+through_film {p} slot end later is film =
+    subst (IsFilm end (play_with p later.keep ∷ later.plays))
+    (ap (λ bs. bs ++ later.more) (sym (through_sent p slot is)) ∙ append_assoc (take p.sent (film_in p))
+    (plan_bytes p p.sent (due_by p slot)) later.more) film

@@ -1,0 +1,251 @@
+-- At each reading of the meter what came lies between the film's curves.
+use Rattle.std.specs.Prelude.{⊤}
+use Rattle.std.proofs.Common.{◌≡◌, ℕ, ◌+◌, ◌-◌, ◌<◌, ◌≤◌, ◌==◌, ◌&&◌, Bool, true, false, nat_lt}
+use Rattle.std.proofs.Common.{nat_le, cond, min, List, [], ◌∷◌, ◌++◌, length, take, get_or, Ok}
+use Rattle.std.proofs.Common.{refl, sym, ap, subst, ◌∙◌, append_assoc, arith, inl, inr}
+use Rattle.std.proofs.lemmas.Bool.{cases_lt, leb-true, ltb-true, and_parts}
+use Rattle.std.proofs.lemmas.List.{append-nil, length-append, length-take, take-append-le, take-take, take_all}
+use Rattle.vod_base.specs.Links.{IoEvent, HeardBytes, HeardEnd, HeardSlot, Sent}
+use Rattle.interleave.specs.Heads.{is_line_end}
+use Rattle.interleave.specs.Elements.{IsFirst}
+use Rattle.interleave.specs.declared.elements.Step.TheVariants.{More}
+use Rattle.interleave.proofs.StreamElements.{tells_none}
+use Rattle.mpeg_scan.specs.declared.films.Film.{Film}
+use Rattle.mpeg_scan.specs.PictureRates.{picture_time}
+use Rattle.rtp_pack.specs.declared.reports.Identity.{Identity}
+use Rattle.film_frames.specs.Tracks.{framed_bytes}
+use Rattle.rtsp_client.specs.declared.watch_request.Wish.{Wish}
+use Rattle.rtsp_client.specs.Answers.{history_after, cut_bytes, events_of_elements, element_events}
+use Rattle.rtsp_client.specs.WatchCourses.{Brings, Round, Runs, RunsAll, Stage, events_of_rounds}
+use Rattle.rtsp_client.specs.Films.{units_until}
+use Rattle.rtsp_client.specs.Meters.{first_slot, is_read, place_in}
+use Rattle.rtsp_client.specs.ClientHistory.{History, ClientEvent, Frame, Reply, Report, Slot, is_playing, last_slot}
+use Rattle.rtsp_client.specs.ClientHistory.{bytes_received, replies}
+use Rattle.rtsp_client.specs.MeterGuarantee.{IsBetween, IsBetweenAlways, IsFilmHeard}
+use Rattle.rtsp_client.proofs.EventCourses.{history-later}
+use Rattle.connection_laws.proofs.FilmReading.{IsFilmIn, film_sizes, heard_of}
+use Rattle.connection_laws.specs.Requests.{bytes_in}
+use Rattle.connection_laws.proofs.ClientInput.{Heard, heard_round, replies_later, rounds_heard, slot_stays}
+use Rattle.connection_laws.proofs.MeterInput.{Stream, all_of, begun_sum, film_place, reading_of}
+
+-- ---- elements bring no slot
+
+abbrev HasNoSlot : List ClientEvent → Type 0
+HasNoSlot [] = ⊤
+HasNoSlot (Reply m ∷ ms) = HasNoSlot ms
+HasNoSlot (Frame b ∷ ms) = HasNoSlot ms
+HasNoSlot (Report b ∷ ms) = HasNoSlot ms
+HasNoSlot (Slot t cut ∷ ms) = ⊥
+
+no_slot_append : (a b : List ClientEvent) → HasNoSlot a → HasNoSlot b → HasNoSlot (a ++ b)
+no_slot_append [] b one two = two
+no_slot_append (Reply m ∷ a) b one two = no_slot_append a b one two
+no_slot_append (Frame x ∷ a) b one two = no_slot_append a b one two
+no_slot_append (Report x ∷ a) b one two = no_slot_append a b one two
+no_slot_append (Slot t cut ∷ a) b one two = absurd one
+
+no_slot_if : (c : Bool) (a b : List ClientEvent) → HasNoSlot a → HasNoSlot b → HasNoSlot (cond c a b)
+no_slot_if true a b one two = one
+no_slot_if false a b one two = two
+
+no_slot_of : (line block frame report : Bool) (p : List ℕ)
+    → HasNoSlot (cond line [] (cond block (cond frame (Frame p ∷ []) (cond report (Report p ∷ []) [])) (Reply p ∷ [])))
+no_slot_of line block frame report p =
+    no_slot_if line [] (cond block (cond frame (Frame p ∷ []) (cond report (Report p ∷ []) [])) (Reply p ∷ [])) tt
+    (no_slot_if block (cond frame (Frame p ∷ []) (cond report (Report p ∷ []) [])) (Reply p ∷ [])
+    (no_slot_if frame (Frame p ∷ []) (cond report (Report p ∷ []) []) tt
+    (no_slot_if report (Report p ∷ []) [] tt tt)) tt)
+
+no_slot_in : (ps : List (List ℕ)) → HasNoSlot (events_of_elements ps)
+no_slot_in [] = tt
+no_slot_in (p ∷ ps) =
+    no_slot_append (element_events p) (events_of_elements ps)
+    (no_slot_of (is_line_end (get_or p 0 0)) (get_or p 0 0 == 36) (get_or p 1 0 == 0) (get_or p 1 0 == 1) p)
+    (no_slot_in ps)
+
+-- a film's sizes and the time of its pictures, for a wish
+record WishedFilm : Type 0 where
+  wish : Wish
+  sizes : List ℕ
+  time : ℕ
+
+always_more : (film : WishedFilm) (h : History) (ms : List ClientEvent) → HasNoSlot ms →
+    IsBetweenAlways film.wish film.sizes film.time h
+    → IsBetweenAlways film.wish film.sizes film.time (history_after h ms)
+always_more film h [] none met = met
+always_more film h (Reply m ∷ ms) none met = always_more film (Reply m ∷ h) ms none met
+always_more film h (Frame b ∷ ms) none met = always_more film (Frame b ∷ h) ms none met
+always_more film h (Report b ∷ ms) none met = always_more film (Report b ∷ h) ms none met
+always_more film h (Slot t cut ∷ ms) none met = absurd none
+
+pub always_elements : (wish : Wish) (all : List ℕ) (time : ℕ) (h : History) (ps : List (List ℕ))
+    → IsBetweenAlways wish all time h
+    → IsBetweenAlways wish all time (history_after h (events_of_elements ps))
+always_elements wish all time h ps met =
+    always_more (record { wish = wish; sizes = all; time = time }) h (events_of_elements ps) (no_slot_in ps) met
+
+-- ---- the film that came
+
+take_short : (w : List ℕ) (c : ℕ) → length (take c w) ≤ c
+take_short w c = omega (arith, length-take c w)
+
+pub front_of : (xs ys w : List ℕ) (c : ℕ) → xs ++ ys ≡ take c w → xs ≡ take (length xs) w
+front_of xs ys w c is =
+    let mine : take (length xs) (xs ++ ys) ≡ xs =
+    take-append-le (length xs) xs ys (omega arith) ∙ take_all (length xs) xs (omega arith) in
+    elim (cases_lt c (length xs)) [
+      | inl less ↦
+          let short = take_short w c in
+          absurd (omega (arith, short, ap (λ (l : List ℕ). length l) is, length-append xs ys, less))
+      | inr more ↦ sym mine ∙ (ap (λ l. take (length xs) l) is ∙ take-take (length xs) c w more)
+    ]
+
+-- the film that had come with these bytes lies between the curves of a slot
+pub record IsFed (wish : Wish) (film : Film) (x : Stream) (bytes : List ℕ) (place : ℕ) : Type 0 where
+  pub between : length x.first + length x.second ≤ length bytes
+      → IsBetween wish (film_sizes film) (picture_time film.rate) place
+      (min (film_place x (length bytes)) (length (framed_bytes x.blocks)))
+
+-- so it is at each slot of a play that begins in one of the client's
+abbrev pub AreFed : Wish → Film → Stream → ℕ → List ℕ → List Round → Type 0
+AreFed wish film x begin bytes rounds =
+    (before later : List Round) (round : Round) (slot : ℕ) → rounds ≡ before ++ round ∷ later
+    → round.event ≡ HeardSlot slot → begin ≤ slot
+    → IsFed wish film x (bytes ++ rounds_heard before) (slot - begin)
+
+-- ---- a slot
+
+-- a stream's film, and as many units by its time as it has
+pub record FilmCounted (film : Film) (identity : Identity) (x : Stream) : Type 0 where
+  pub film_is : IsFilmIn film identity x
+  pub count : units_until (begun_sum x).end_ms (picture_time film.rate) ≡ length (film_sizes film)
+
+-- what was heard by a stage at which nothing more can be taken up is a front of a stream
+record HeardFront (x : Stream) (bytes : List ℕ) (at : Stage) : Type 0 where
+  heard : Heard bytes at
+  idle : IsFirst at.rest (Ok More)
+  front_is : bytes ≡ take (length bytes) (framed_bytes (all_of x))
+
+-- at most two replies came, and the second before a play's first slot
+record TwoReplies (at : Stage) (begin : ℕ) : Type 0 where
+  few : replies at.history ≤ 2
+  begins : (1 < replies at.history → first_slot at.history ≡ begin)
+
+slot_met : {wish : Wish} {film : Film} {identity : Identity} {x : Stream} {begin : ℕ} {bytes : List ℕ} {at : Stage}
+    (slot : ℕ) → FilmCounted film identity x → HeardFront x bytes at → TwoReplies at begin →
+    (begin ≤ slot → IsFed wish film x bytes (slot - begin)) → is_read at.history slot ≡ true →
+    IsFilmHeard (film_sizes film) (picture_time film.rate) at.history (cut_bytes at.rest)
+    × IsBetween wish (film_sizes film) (picture_time film.rate) (place_in at.history slot)
+    (bytes_received at.history + cut_bytes at.rest)
+slot_met {wish} {film} {begin} {at} slot counted front two fed read =
+    let h = at.history in
+    let playing : 1 < replies h =
+    ltb-true 1 (replies h)
+    (and_parts (is_playing h) (nat_le (first_slot h) slot && nat_lt (last_slot h) slot) read).0 in
+    let there : first_slot h ≤ slot = leb-true (first_slot h) slot
+    (and_parts (nat_le (first_slot h) slot) (nat_lt (last_slot h) slot)
+    (and_parts (is_playing h) (nat_le (first_slot h) slot && nat_lt (last_slot h) slot) read).1).0 in
+    let first : first_slot h ≡ begin = two.begins playing in
+    let reading = reading_of front.heard (tells_none at.rest (Ok More) front.idle) front.front_is playing two.few in
+    let its = heard_of counted.film_is front.heard.gone reading counted.count in
+    let between = (fed (omega (arith, there, first))).between reading.past in
+    let P : ℕ → ℕ → Type 0 = λ place came. IsBetween wish (film_sizes film) (picture_time film.rate) place came in (
+      its.0,
+      subst (λ n. P n (bytes_received h + cut_bytes at.rest)) (ap (λ n. slot - n) (sym first))
+          (subst (λ n. P (slot - begin) n) (sym its.1) between),
+    )
+
+-- ---- all events
+
+-- a round with this event
+record RoundHeard (event : IoEvent) (old : Stage) (round : Round) (new : Stage) : Type 0 where
+  event_is : round.event ≡ event
+  runs : Runs old round new
+
+always_round : {event : IoEvent} {wish : Wish} {film : Film} {identity : Identity} {x : Stream} {begin : ℕ}
+    {bytes : List ℕ} {old new : Stage} {round : Round} → RoundHeard event old round new →
+    FilmCounted film identity x → HeardFront x bytes old → TwoReplies new begin →
+    ((slot : ℕ) → event ≡ HeardSlot slot → begin ≤ slot → IsFed wish film x bytes (slot - begin)) →
+    IsBetweenAlways wish (film_sizes film) (picture_time film.rate) old.history →
+    IsBetweenAlways wish (film_sizes film) (picture_time film.rate) new.history
+always_round {event = HeardBytes more} {wish} {film} {old} {new} {round} round_heard counted front two fed met =
+    let B : IoEvent → Type 0 = λ e. Brings e old.rest round.moments new.rest in
+    let brings = subst B round_heard.event_is round_heard.runs.brings in
+    let A : History → Type 0 = λ h. IsBetweenAlways wish (film_sizes film) (picture_time film.rate) h in
+    subst A (sym (round_heard.runs.history_is ∙ ap (history_after old.history) brings.1.1))
+    (always_elements wish (film_sizes film) (picture_time film.rate) old.history brings.0 met)
+always_round {event = HeardSlot slot} {wish} {film} {begin} {old} {new} {round} round_heard counted front two fed met =
+    let B : IoEvent → Type 0 = λ e. Brings e old.rest round.moments new.rest in
+    let brings = subst B round_heard.event_is round_heard.runs.brings in
+    let A : History → Type 0 = λ h. IsBetweenAlways wish (film_sizes film) (picture_time film.rate) h in
+    let history : new.history ≡ Slot slot (cut_bytes old.rest) ∷ old.history =
+    round_heard.runs.history_is ∙ ap (history_after old.history) brings.0 in
+    let same : replies new.history ≡ replies old.history = ap replies history in
+    let begins_here : 1 < replies old.history → first_slot old.history ≡ begin = λ playing.
+    sym (ap first_slot history) ∙ two.begins (omega (arith, playing, same)) in
+    subst A (sym history) (
+      met,
+      λ read. slot_met slot counted front
+          (record { few = omega (arith, two.few, same); begins = begins_here }) (fed slot refl) read,
+    )
+always_round {event = HeardEnd} {old} {new} {round} round_heard counted front two fed met =
+    let B : IoEvent → Type 0 =
+    λ e. Brings e old.rest round.moments new.rest in absurd (subst B round_heard.event_is round_heard.runs.brings)
+always_round {event = Sent byte} {old} {new} {round} round_heard counted front two fed met =
+    let B : IoEvent → Type 0 =
+    λ e. Brings e old.rest round.moments new.rest in absurd (subst B round_heard.event_is round_heard.runs.brings)
+
+-- what was heard by a stage, and what rounds bring after it, is a front of a stream
+pub record HeardThrough (x : Stream) (bytes : List ℕ) (rounds : List Round) (old : Stage) : Type 0 where
+  pub heard : Heard bytes old
+  pub idle : IsFirst old.rest (Ok More)
+  pub count : ℕ
+  pub front : bytes ++ rounds_heard rounds ≡ take count (framed_bytes (all_of x))
+
+-- at most two replies came, and the first slot after them is known
+pub record RepliesKnown (new : Stage) (begin : ℕ) : Type 0 where
+  pub few : replies new.history ≤ 2
+  pub begins : first_slot new.history ≡ begin
+
+pub always_all : {wish : Wish} {film : Film} {identity : Identity} {x : Stream} {begin : ℕ} {bytes : List ℕ}
+    {old : Stage} {rounds : List Round} {new : Stage} → HeardThrough x bytes rounds old → RunsAll old rounds new →
+    FilmCounted film identity x → RepliesKnown new begin → AreFed wish film x begin bytes rounds →
+    IsBetweenAlways wish (film_sizes film) (picture_time film.rate) old.history →
+    IsBetweenAlways wish (film_sizes film) (picture_time film.rate) new.history
+always_all {wish} {film} {rounds = []} through all counted known fed met =
+    let A : Stage → Type 0 =
+    λ s. IsBetweenAlways wish (film_sizes film) (picture_time film.rate) s.history in subst A (sym all) met
+always_all {wish} {film} {identity} {x} {begin} {bytes} {old} {rounds = round ∷ rounds} {new} through all counted
+    known fed met =
+    let mid = all.0 in
+    let later = history-later mid new rounds all.1.2 in
+    let few_here : replies mid.history ≤ 2 =
+    omega (arith, known.few, replies_later mid.history (events_of_rounds rounds), ap replies later) in
+    let begins_here : 1 < replies mid.history → first_slot mid.history ≡ begin = λ playing.
+    sym (slot_stays mid.history (events_of_rounds rounds) playing) ∙ (sym (ap first_slot later) ∙ known.begins) in
+    let fed_here : (slot : ℕ) → round.event ≡ HeardSlot slot → begin ≤ slot
+    → IsFed wish film x bytes (slot - begin) = λ slot event after_begin.
+    let F : List ℕ → Type 0 = λ b. IsFed wish film x b (slot - begin) in
+    subst F (append-nil bytes) (fed [] rounds round slot refl event after_begin) in
+    let mine : bytes ≡ take (length bytes) (framed_bytes (all_of x)) =
+    front_of bytes (rounds_heard (round ∷ rounds)) (framed_bytes (all_of x)) c front in
+    let now = always_round (record { event_is = refl; runs = all.1.0 }) counted
+    (record { heard = heard; idle = idle; front_is = mine }) (record { few = few_here; begins = begins_here })
+    fed_here met in
+    let next : (bytes ++ bytes_in round.event) ++ rounds_heard rounds ≡ take c (framed_bytes (all_of x)) =
+    append_assoc bytes (bytes_in round.event) (rounds_heard rounds) ∙ front in
+    let fed_next : AreFed wish film x begin (bytes ++ bytes_in round.event) rounds =
+    λ before after_ r slot split event after_begin.
+    let F : List ℕ → Type 0 = λ b. IsFed wish film x b (slot - begin) in
+    subst F (sym (append_assoc bytes (bytes_in round.event) (rounds_heard before)))
+    (fed (round ∷ before) after_ r slot (ap (λ l. round ∷ l) split) event after_begin) in
+    always_all {wish = wish} {film = film} {identity = identity} {x = x} {begin = begin}
+    {bytes = bytes ++ bytes_in round.event}
+    {old = mid} {rounds = rounds} (record {
+      heard = heard_round bytes old mid round heard all.1.0;
+      idle = all.1.1;
+      count = c;
+      front = next;
+    }) all.1.2 counted known fed_next now
+  where
+    open through use {heard, idle, count as c, front}

@@ -1,0 +1,231 @@
+-- What a client reads its meter by, where what came is a front of two replies, a film's blocks and
+-- later replies.
+use Rattle.std.proofs.Common.{◌≡◌, ℕ, zero, suc, ◌+◌, ◌-◌, ◌<◌, ◌≤◌, ◌==◌, ◌&&◌, ◌||◌, Bool, true}
+use Rattle.std.proofs.Common.{false, nat_lt, cond, min, List, [], ◌∷◌, ◌++◌, length, take, get_or}
+use Rattle.std.proofs.Common.{refl, sym, ap, subst, ◌∙◌, arith, inl, inr}
+use Rattle.std.proofs.lemmas.Bool.{cases_lt, cond-true, cond-false, eq-eqb, lt-ltb, or_left, or_right}
+use Rattle.std.proofs.lemmas.List.{get_or-take, length-take-le, take-append-le, take_all}
+use Rattle.std.proofs.Math.Seq.{take-append-add}
+use Rattle.interleave.specs.Heads.{is_line_end}
+use Rattle.interleave.specs.Elements.{IsMessageLength, StartsMessage}
+use Rattle.interleave.specs.Streams.{IsElementLength, IsStream, WholeMessage}
+use Rattle.interleave.proofs.StreamElements.{TwoStreams, stream_once}
+use Rattle.film_frames.specs.FramedRuns.{count_ended}
+use Rattle.film_frames.specs.Tracks.{framed_bytes}
+use Rattle.rtsp_client.specs.Answers.{block_events, cut_bytes, events_of_elements, element_events}
+use Rattle.rtsp_client.specs.WatchCourses.{Stage}
+use Rattle.rtsp_client.specs.ClientHistory.{ClientEvent, Reply, replies}
+use Rattle.connection_laws.proofs.PieceCounts.{count_bytes, count_less, count_more, count_most, count_past}
+use Rattle.connection_laws.proofs.PieceCounts.{count_whole, count_within, rest_less, rest_more, rest_past}
+use Rattle.connection_laws.proofs.PieceCounts.{rest_within}
+use Rattle.connection_laws.proofs.ClientInput.{Heard, no_sum}
+use Rattle.connection_laws.proofs.ElementStreams.{AreAlone, IsAlone, cut_at, rest_at}
+use Rattle.connection_laws.proofs.HistorySums.{AreOneBlocks, Sum, blocks_same, step, steps, steps_on, sum_of}
+use Rattle.connection_laws.proofs.UnitSizes.{moments_parts}
+
+-- ---- a reply, as it is heard
+
+pub record IsText (m : List ℕ) : Type 0 where
+  pub moment : element_events m ≡ Reply m ∷ []
+  pub other : (get_or m 0 0 == 36) ≡ false
+  pub alone : IsAlone m
+
+abbrev pub AreTexts : List (List ℕ) → Type 0
+AreTexts [] = Unit {0}
+AreTexts (m ∷ ms) = IsText m × AreTexts ms
+
+pub text_is : (m : List ℕ) → StartsMessage m → IsMessageLength m (length m) → IsText m
+text_is m starts size = record {
+  moment = cond-false (is_line_end (get_or m 0 0)) []
+      (cond (get_or m 0 0 == 36) (block_events (get_or m 1 0) m) (Reply m ∷ [])) starts.1
+      ∙ cond-false (get_or m 0 0 == 36) (block_events (get_or m 1 0) m) (Reply m ∷ []) starts.2;
+  other = starts.2;
+  alone = record { some = starts.0; whole = WholeMessage starts size (omega arith) };
+}
+
+-- ---- the bytes of a block that isn't whole
+
+take_cut : (m : List ℕ) (d : ℕ) → (get_or m 0 0 == 36) ≡ false → cut_bytes (take d m) ≡ 0
+take_cut m zero other = refl
+take_cut m (suc d) other =
+    let rest = take (suc d) m in
+    let c : Bool = nat_lt (length rest) 2 || nat_lt (get_or rest 1 0) 2 in
+    cond-false ((get_or rest 0 0 == 36) && c) (length rest) 0
+    (ap (λ x. (x == 36) && c) (get_or-take (suc d) m 0 0 (omega arith)) ∙ ap (λ y. y && c) other)
+
+texts_cut : (ms : List (List ℕ)) (d : ℕ) → AreTexts ms → cut_bytes (rest_at d ms) ≡ 0
+texts_cut [] d are = refl
+texts_cut (m ∷ ms) d are =
+    elim (cases_lt d (length m)) [
+      | inl less ↦ ap cut_bytes (rest_less m ms d less) ∙ take_cut m d are.0.other
+      | inr more ↦ ap cut_bytes (rest_more m ms d more) ∙ texts_cut ms (d - length m) are.1
+    ]
+
+block_cut : (b : List ℕ) (d : ℕ) → d ≤ length b → get_or b 0 0 ≡ 36 → get_or b 1 0 < 2
+    → cut_bytes (take d b) ≡ length (take d b)
+block_cut b zero few starts channel = refl
+block_cut b (suc d) few starts channel =
+    let rest = take (suc d) b in
+    let long = length-take-le (suc d) b few in
+    let c : Bool = nat_lt (length rest) 2 || nat_lt (get_or rest 1 0) 2 in
+    let second : c ≡ true = elim (cases_lt (length rest) 2) [
+      | inl short ↦ or_left (nat_lt (length rest) 2) (nat_lt (get_or rest 1 0) 2) (lt-ltb (length rest) 2 short)
+      | inr more ↦
+          let there : get_or rest 1 0 ≡ get_or b 1 0 = get_or-take (suc d) b 1 0 (omega (arith, more, long)) in
+          or_right (nat_lt (length rest) 2) (nat_lt (get_or rest 1 0) 2)
+          (lt-ltb (get_or rest 1 0) 2 (omega (arith, there, channel)))
+    ] in
+    let first : (get_or rest 0 0 == 36) ≡ true =
+    eq-eqb (get_or rest 0 0) 36 (get_or-take (suc d) b 0 0 (omega arith) ∙ starts) in
+    cond-true ((get_or rest 0 0 == 36) && c) (length rest) 0 (ap (λ x. x && c) first ∙ second)
+
+blocks_cut : (bs : List (List ℕ)) (c : ℕ) → AreOneBlocks bs → cut_bytes (rest_at c bs) ≡ length (rest_at c bs)
+blocks_cut [] c are = refl
+blocks_cut (b ∷ bs) c are =
+    elim (cases_lt c (length b)) [
+      | inl less ↦
+          let rest = rest_less b bs c less in
+          ap cut_bytes rest ∙ (block_cut b c (omega (arith, less)) are.0.starts are.0.channel ∙ ap length (sym rest))
+      | inr more ↦
+          let rest = rest_more b bs c more in
+          ap cut_bytes rest ∙ (blocks_cut bs (c - length b) are.1 ∙ ap length (sym rest))
+    ]
+
+-- ---- a stream of two replies, blocks, and later replies
+
+pub record Stream : Type 0 where
+  pub first : List ℕ
+  pub second : List ℕ
+  pub blocks : List (List ℕ)
+  pub later : List (List ℕ)
+  pub first_is : IsText first
+  pub second_is : IsText second
+  pub blocks_are : AreOneBlocks blocks
+  pub later_are : AreTexts later
+  pub alone : AreAlone (first ∷ second ∷ (blocks ++ later))
+
+abbrev pub all_of : Stream → List (List ℕ)
+all_of x = x.first ∷ x.second ∷ (x.blocks ++ x.later)
+
+abbrev pub begun_sum : Stream → Sum
+begun_sum x = steps no_sum (Reply x.first ∷ Reply x.second ∷ [])
+
+abbrev pub film_place : Stream → ℕ → ℕ
+film_place x c = c - length x.first - length x.second
+
+texts_count : (ms : List (List ℕ)) (k : ℕ) (s : Sum) → AreTexts ms → k ≤ length ms
+    → (steps s (events_of_elements (take k ms))).replies ≡ s.replies + k
+texts_count ms zero s are few = omega arith
+texts_count [] (suc k) s are few = absurd (omega (arith, few))
+texts_count (m ∷ ms) (suc k) s are few =
+    let P : List ClientEvent → Type 0 = λ l. (steps s (l ++ events_of_elements (take k ms))).replies ≡ s.replies + suc k
+    in
+    subst P (sym are.0.moment) (omega (arith, texts_count ms k (step (Reply m) s) are.1 (omega (arith, few))))
+
+pub two_moments : (x : Stream) (rest : List (List ℕ))
+    → steps no_sum (events_of_elements (x.first ∷ x.second ∷ rest)) ≡ steps (begun_sum x) (events_of_elements rest)
+two_moments x rest =
+    ap (λ l. steps no_sum (l ++ (element_events x.second ++ events_of_elements rest))) x.first_is.moment
+    ∙ ap (λ l. steps no_sum (Reply x.first ∷ (l ++ events_of_elements rest))) x.second_is.moment
+
+-- what was heard at a reading, once the reply to PLAY was heard and before a third one
+pub record IsReadingOf (x : Stream) (c : ℕ) (at : Stage) : Type 0 where
+  pub past : length x.first + length x.second ≤ c
+  pub sum : sum_of at.history ≡ steps (begun_sum x) (events_of_elements (take (count_ended (film_place x c) x.blocks)
+      x.blocks))
+  pub cut : length (framed_bytes (take (count_ended (film_place x c) x.blocks) x.blocks)) + cut_bytes at.rest
+      ≡ min (film_place x c) (length (framed_bytes x.blocks))
+
+-- with the two first replies whole
+reading_film : {x : Stream} {c : ℕ} {at : Stage} → length x.first + length x.second ≤ c
+    → sum_of at.history
+    ≡ steps (begun_sum x) (events_of_elements (take (count_ended (film_place x c) (x.blocks ++ x.later)) (x.blocks ++
+    x.later)))
+    → at.rest ≡ rest_at (film_place x c) (x.blocks ++ x.later) → replies at.history ≤ 2 → IsReadingOf x c at
+reading_film {x} {c} {at} past sum rest few =
+    let d = film_place x c in
+    let bs = x.blocks in
+    let total = length (framed_bytes bs) in
+    let s = begun_sum x in
+    elim (cases_lt d total) [
+      | inl inside ↦
+          let within = count_within bs x.later d inside in
+          let k = count_ended d bs in
+          let its = rest_within bs x.later d inside in record {
+            past = past;
+            sum = sum ∙ (ap (λ n. steps s (events_of_elements (take n (bs ++ x.later)))) within.0
+                ∙ ap (λ l. steps s (events_of_elements l)) (take-append-le k bs x.later (omega (arith, within.1))));
+            cut =
+                let bytes = count_bytes bs d (omega (arith, inside)) in
+                let cut : cut_bytes at.rest ≡ length (rest_at d bs) = ap cut_bytes (rest ∙ its)
+                ∙ blocks_cut bs d x.blocks_are in
+                omega (arith, bytes, cut, inside);
+          }
+      | inr after ↦
+          let k = count_ended (d - total) x.later in
+          let many : count_ended d (bs ++ x.later) ≡ length bs + k = count_past bs x.later d after in
+          let t = steps s (events_of_elements bs) in
+          let all : sum_of at.history ≡ steps t (events_of_elements (take k x.later)) =
+          sum ∙ (ap (λ n. steps s (events_of_elements (take n (bs ++ x.later)))) many
+          ∙ (ap (λ l. steps s (events_of_elements l)) (take-append-add bs x.later k)
+          ∙ (ap (steps s) (moments_parts bs (take k x.later))
+          ∙ steps_on s (events_of_elements bs) (events_of_elements (take k x.later))))) in
+          let same = (blocks_same bs s x.blocks_are).replies in
+          let counted = texts_count x.later k t x.later_are (count_most x.later (d - total)) in
+          let none : k ≡ 0 = omega (arith, ap (λ (z : Sum). z.replies) all, counted, same, few) in
+          let whole : count_ended d bs ≡ length bs = count_whole bs d after in
+          let front : take (count_ended d bs) bs ≡ bs =
+          take_all (count_ended d bs) bs (omega (arith, whole)) in record {
+            past = past;
+            sum = all ∙ (ap (λ n. steps t (events_of_elements (take n x.later))) none
+                ∙ ap (λ l. steps s (events_of_elements l)) (sym front));
+            cut =
+                let cut : cut_bytes at.rest ≡ 0 =
+                ap cut_bytes (rest ∙ rest_past bs x.later d after) ∙ texts_cut x.later (d - total) x.later_are in
+                omega (arith, cut, ap (λ l. length (framed_bytes l)) front, after);
+          }
+    ]
+
+pub reading_of : {x : Stream} {bytes : List ℕ} {c : ℕ} {at : Stage} → Heard bytes at
+    → ((n : ℕ) → IsElementLength at.rest n → ⊥)
+    → bytes ≡ take c (framed_bytes (all_of x)) → 1 < replies at.history → replies at.history ≤ 2 → IsReadingOf x c at
+reading_of {x} {bytes} {c} {at} heard none is playing few =
+    let all = all_of x in
+    let P : List ℕ → Type 0 = λ b. IsStream b (take (count_ended c all) all) (rest_at c all) in
+    let streams : TwoStreams bytes heard.elements (take (count_ended c all) all) at.rest (rest_at c all) =
+    record { one = (heard.cut, none); other = subst P (sym is) (cut_at all c x.alone) } in
+    let once = stream_once streams in
+    let sum : sum_of at.history ≡ steps no_sum (events_of_elements (take (count_ended c all) all)) =
+    heard.sum ∙ ap (λ l. steps no_sum (events_of_elements l)) once.0 in
+    let after_first = x.second ∷ (x.blocks ++ x.later) in
+    elim (cases_lt c (length x.first)) [
+      | inl short ↦
+          let nothing = ap (λ n. steps no_sum (events_of_elements (take n all))) (count_less x.first after_first c
+          short) in
+          absurd (omega (arith, playing, ap (λ (z : Sum). z.replies) (sum ∙ nothing)))
+      | inr long ↦
+          let c1 = c - length x.first in
+          let one = count_more x.first after_first c long in
+          let rest_one = rest_more x.first after_first c long in
+          elim (cases_lt c1 (length x.second)) [
+            | inl short ↦
+                let only : take (count_ended c all) all ≡ x.first ∷ [] =
+                ap (λ n. take n all) (one ∙ ap suc (count_less x.second (x.blocks ++ x.later) c1 short)) in
+                let single : steps no_sum (events_of_elements (x.first ∷ [])) ≡ steps no_sum (Reply x.first ∷ []) =
+                ap (λ l. steps no_sum (l ++ [])) x.first_is.moment in
+                absurd (omega (
+                  arith,
+                  playing,
+                  ap (λ (z : Sum). z.replies) (sum ∙ (ap (λ l. steps no_sum (events_of_elements l)) only ∙ single)),
+                ))
+            | inr more ↦
+                let d = film_place x c in
+                let k = count_ended d (x.blocks ++ x.later) in
+                let two : take (count_ended c all) all ≡ x.first ∷ x.second ∷ take k (x.blocks ++ x.later) =
+                ap (λ n. take n all) (one ∙ ap suc (count_more x.second (x.blocks ++ x.later) c1 more)) in
+                reading_film (omega (arith, long, more))
+                (sum ∙ (ap (λ l. steps no_sum (events_of_elements l)) two ∙ two_moments x (take k (x.blocks ++
+                x.later))))
+                (once.1 ∙ (rest_one ∙ rest_more x.second (x.blocks ++ x.later) c1 more)) few
+          ]
+    ]

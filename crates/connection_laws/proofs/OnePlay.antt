@@ -1,0 +1,334 @@
+-- A connection that is asked for SETUP and PLAY, and perhaps TEARDOWN, has one play at most, of the whole film.
+use Rattle.std.specs.Prelude.{⊤}
+use Rattle.std.proofs.Common.{◌≡◌, ℕ, zero, suc, ◌<◌, ◌^◌, max, List, [], ◌∷◌, ◌++◌, length, get_or, codes, refl, sym}
+use Rattle.std.proofs.Common.{ap}
+use Rattle.std.proofs.Common.{subst, ◌∙◌, arith}
+use Rattle.film_frames.specs.FramedRuns.{run_pieces}
+use Rattle.plan_cert.specs.PlanSlots.{total_bytes}
+use Rattle.rtsp_client.specs.Requests.{film_url, play_text, setup_text}
+use Rattle.rtsp_client.specs.RequestParts.{setup_parts}
+use Rattle.rtsp_text.specs.RequestTexts.{request_head}
+use Rattle.rtsp_text.proofs.MessageUniqueness.{request_once}
+use Rattle.session.specs.declared.states.Awaited.{Awaited}
+use Rattle.session.specs.declared.states.Awaited.TheVariants.{Play}
+use Rattle.session.specs.declared.commands.Ask.TheVariants.{Reply}
+use Rattle.session.specs.SessionStates.{SessionState}
+use Rattle.session.specs.CompleteReplies.{IsMessage, HasValidIds, RepliesAreComplete}
+use Rattle.session.proofs.CompleteReplyLemmas.{replies_whole}
+use Rattle.conn.specs.EventSteps.{Round}
+use Rattle.conn.specs.InputSteps.{Answered, HasHeard, IsAskAnswered, Outcome, Passed, Stage, ElementStep, TakesAll}
+use Rattle.connection_laws.specs.Courses.{IsCourseBetween, askings_of, slot_in, takings_askings}
+use Rattle.connection_laws.specs.ReplyPlaces.{slots_from, takings_slots}
+use Rattle.connection_laws.specs.Plays.{StationRequest, Asks, FilmPlay, kept_in, plays_admitted, plays_begun, plays_of}
+use Rattle.connection_laws.proofs.FilmBytes.{Stands, taken_stands}
+use Rattle.connection_laws.proofs.GreatestSlots.{comes_heard, takes_left}
+use Rattle.connection_laws.proofs.NoPlays.{AreNoPlays, IsNoPlay, event_none, no_play_begins, no_plays_front}
+use Rattle.connection_laws.proofs.NoPlays.{no_plays_rest}
+use Rattle.connection_laws.proofs.NoPlays.{rounds_none, takes_stands, takings_none}
+use Rattle.session.proofs.PlayInReadyLemmas.{IsPlayHeard, play_heard}
+use Rattle.connection_laws.proofs.Requests.{rounds_requests, takings_requests}
+use Rattle.connection_laws.proofs.ClientSetups.{setup_is}
+use Rattle.session.proofs.SetupLemmas.{IsSetupRequest}
+use Rattle.connection_laws.proofs.RequestEffects.{Begins, Ends, Starts, Stays, TurnsAs, turns_as}
+use Rattle.connection_laws.proofs.SetupOnly.{Beginning, IsWaiting, answered_waits, opened_waits, setup_asked}
+use Rattle.connection_laws.proofs.CompleteReplies.{AreTeardowns, AreWhole, admitted_whole, answered_named, opened_named}
+use Rattle.connection_laws.proofs.CompleteReplies.{play_room, reply_whole, rounds_torn, setup_room, takings_torn}
+use Rattle.connection_laws.proofs.CompleteReplies.{teardowns_cut, whole_later}
+use Rattle.connection_laws.specs.Replies.{replies_of, takings_replies}
+use Rattle.connection_laws.proofs.FirstPlays.{IsWished, wished_play}
+
+-- ---- the walk to PLAY
+
+abbrev pub AreSetups : Beginning → List (List ℕ) → Type 0
+AreSetups b [] = ⊤
+AreSetups b (message ∷ messages) = (message ≡ setup_text b.wish) × AreSetups b messages
+
+-- so many slots in front are before another one
+abbrev pub AreBefore : ℕ → ℕ → List ℕ → Type 0
+AreBefore zero start slots = ⊤
+AreBefore (suc n) start [] = ⊥
+AreBefore (suc n) start (slot ∷ slots) = (slot < start) × AreBefore n start slots
+
+-- what comes of a course: its plays
+pub record Outlook : Type 0 where
+  pub last : List (List ℕ)
+  pub last_are : AreNoPlays last
+  pub play : FilmPlay
+  pub others : List FilmPlay
+  pub start : play.start < 2 ^ 64
+
+-- the one play, and the slots in which so many requests and PLAY were taken up
+pub record IsOnePlay (b : Beginning) (out : Outlook) (slot ahead : ℕ) (slots : List ℕ) : Type 0 where
+  pub wished : IsWished b out.play
+  pub alone : out.others ≡ []
+  pub late : slot < out.play.start
+  pub before : AreBefore (suc ahead) out.play.start slots
+
+-- so it is, and all replies are whole
+pub record IsPlayedWhole (b : Beginning) (out : Outlook) (slot ahead : ℕ) (slots : List ℕ) (replies : List (List ℕ))
+    : Type 0 where
+  pub one : IsOnePlay b out slot ahead slots
+  pub whole : AreWhole replies
+
+-- what is taken up after these pieces
+pub record Later : Type 0 where
+  requests : List (List ℕ)
+  askings : List StationRequest
+  slots : List ℕ
+  replies : List (List ℕ)
+
+-- PLAY is to come in what is taken up
+pub record IsAhead (b : Beginning) (out : Outlook) (s : SessionState) (slot : ℕ) (ahead : List (List ℕ))
+    (later : Later) : Type 0 where
+  pub waits : IsWaiting b s
+  pub named : HasValidIds s
+  pub heard : s.heard ≡ slot
+  pub setups : AreSetups b ahead
+  pub requests_are : later.requests ≡ ahead ++ (play_text b.wish b.session ∷ out.last)
+  pub teardowns : AreTeardowns b out.last
+  pub plays : plays_of later.askings ≡ out.play ∷ out.others
+
+pub record Leads (b : Beginning) (out : Outlook) (new : SessionState) (slot : ℕ) (later : Later) : Type 0 where
+  walk : (ahead : List (List ℕ)) → IsAhead b out new slot ahead later
+      → IsPlayedWhole b out slot (length ahead) later.slots later.replies
+  torn : HasValidIds new → AreTeardowns b later.requests → AreWhole later.replies
+  none : Stands new → AreNoPlays later.requests → plays_of later.askings ≡ []
+
+-- SETUP asks for no play
+pub setup_no_play : (b : Beginning) {message : List ℕ} → message ≡ setup_text b.wish → IsNoPlay message
+setup_no_play b {message} is = λ request read method.
+    let S : List ℕ → Type 0 = λ m.
+    IsSetupRequest m (film_url b.wish ++ codes "/video") (request_head (setup_parts b.wish)) in
+    let setup = subst S (sym is) (setup_is b.wish b.wished b.port) in
+    let same = request_once setup.read read in
+    let clash : 83 ≡ 80 = ap (λ name. get_or name 0 0) (same.method_is ∙ method) in omega (arith, clash)
+
+-- PLAY is taken up, and no play begins after it
+record IsPlayTaken (b : Beginning) (out : Outlook) (old : SessionState) (message : List ℕ) (asking : StationRequest)
+    (later : List StationRequest) : Type 0 where
+  waits : IsWaiting b old
+  message_is : message ≡ play_text b.wish b.session
+  none : plays_of later ≡ []
+  plays : plays_of (asking ∷ later) ≡ out.play ∷ out.others
+
+-- the play that begins at PLAY
+abbrev play_begun : {old : SessionState} {asked : Awaited} {outcome : Outcome} {new : SessionState} → List
+    StationRequest
+    → Begins old asked outcome new → FilmPlay
+play_begun later begins = record {
+  start = begins.start;
+  plan = begins.prepared.plan;
+  keep = kept_in later (total_bytes begins.prepared.plan);
+  before = begins.prepared.run.sent;
+  pieces = run_pieces begins.prepared.frames;
+}
+
+-- it is the one that is to come, with those after it
+record IsPlayBegun (out : Outlook) (mine : FilmPlay) (later : List StationRequest) : Type 0 where
+  same : mine ≡ out.play
+  rest : plays_of later ≡ out.others
+
+begun_same : {b : Beginning} {out : Outlook} {old : SessionState} {message : List ℕ} {asked : Awaited} {outcome :
+    Outcome}
+    {new : SessionState} (later : List StationRequest) → IsPlayTaken b out old message (Asks asked outcome) later
+    → (begins : Begins old asked outcome new) → IsPlayBegun out (play_begun later begins) later
+begun_same {out = out} {asked = asked} {outcome = outcome} later taken begins =
+    let mine = play_begun later begins in
+    let made : plays_begun asked outcome later ≡ mine ∷ [] =
+    ap (λ o. plays_begun asked o later) begins.outcome_is
+    ∙ (ap (λ a. plays_admitted a begins.placed.entry.answer later) begins.asked_is
+    ∙ ap (λ a. plays_admitted (Play begins.prepared) a later) begins.answer) in
+    let all : mine ∷ plays_of later ≡ out.play ∷ out.others = sym (ap (λ l. l ++ plays_of later) made) ∙ taken.plays in
+    record { same = cc; rest = cc }
+
+-- a play begins at PLAY
+begun_play : {b : Beginning} {out : Outlook} {old : SessionState} {message : List ℕ} {asked : Awaited} {outcome :
+    Outcome}
+    {new : SessionState} (later : List StationRequest) (slots : List ℕ) → IsPlayTaken b out old message (Asks asked
+    outcome) later
+    → (begins : Begins old asked outcome new) → IsPlayHeard old message begins.prepared
+    → IsOnePlay b out old.heard 0 (old.heard ∷ slots)
+begun_play {b} {out} {old} {message} {asked} {outcome} {new} later slots taken begins hears =
+    let begun = begun_same later taken begins in
+    let same = begun.same in
+    let late : old.heard < out.play.start = subst (λ (p : FilmPlay). old.heard < p.start) same begins.later in
+    record {
+      wished = subst (IsWished b) same (wished_play taken.waits taken.message_is hears refl refl refl);
+      alone = sym begun.rest ∙ taken.none;
+      late = late;
+      before = (late, tt);
+    }
+
+-- nothing begins at PLAY, though a play is to come
+not_begun : {b : Beginning} {out : Outlook} {old : SessionState} {message : List ℕ} {asked : Awaited} {outcome :
+    Outcome}
+    (later : List StationRequest) → IsPlayTaken b out old message (Asks asked outcome) later
+    → plays_begun asked outcome later ≡ [] → ⊥
+not_begun {out = out} later taken begun =
+    let clash : [] ≡ out.play ∷ out.others =
+    sym taken.none ∙ (sym (ap (λ l. l ++ plays_of later) begun) ∙ taken.plays) in
+    let no : ⊥ = cc in no
+
+play_turn : {b : Beginning} {out : Outlook} {old : SessionState} {message : List ℕ} {outcome : Outcome}
+    {new : SessionState} (later : List StationRequest) (slots : List ℕ) (heard : HasHeard old message outcome new)
+    → IsPlayTaken b out old message (Asks heard.asking.awaited outcome) later
+    → TurnsAs old heard.asking.awaited outcome new → IsOnePlay b out old.heard 0 (old.heard ∷ slots)
+play_turn later slots heard taken (Stays same after still) = absurd (not_begun later taken (still.none later))
+play_turn later slots heard taken (Ends after halts) = absurd (not_begun later taken (halts.none later))
+play_turn {b} {out} {old} {message} {outcome} {new} later slots heard taken (Starts after begins) =
+    begun_play later slots taken begins
+    (play_heard old message heard.ask heard.asking begins.prepared taken.waits.stands.rest begins.asked_is heard.hears)
+
+-- its reply is whole
+play_whole : {b : Beginning} {out : Outlook} {old : SessionState} {message : List ℕ} {outcome : Outcome}
+    {new : SessionState} (later : List StationRequest) (heard : HasHeard old message outcome new)
+    → IsPlayTaken b out old message (Asks heard.asking.awaited outcome) later
+    → RepliesAreComplete heard.ask heard.asking → TurnsAs old heard.asking.awaited outcome new → IsMessage new.text
+play_whole later heard taken whole (Stays same after still) = absurd (not_begun later taken (still.none later))
+play_whole later heard taken whole (Ends after halts) = absurd (not_begun later taken (halts.none later))
+play_whole {out = out} {new = new} later heard taken whole (Starts after begins) =
+    let begun = begun_same later taken begins in
+    let small : begins.start < 2 ^ 64 = subst (λ (p : FilmPlay). p.start < 2 ^ 64) (sym begun.same) out.start in
+    admitted_whole heard.ask begins.answer small (record {
+      whole = whole;
+      answered = subst (λ o. IsAskAnswered heard.asking heard.ask o new) begins.outcome_is heard.answered;
+    })
+
+-- what is taken up from these elements on, in this slot
+abbrev from_takings : (slot : ℕ) (old : Stage) (takings : List ElementStep) (new : Stage) → TakesAll old takings new
+    → Later → Later
+from_takings slot old takings new takes later = record {
+  requests = takings_requests takings ++ later.requests;
+  askings = takings_askings old takings new takes ++ later.askings;
+  slots = takings_slots slot takings ++ later.slots;
+  replies = takings_replies old takings new takes ++ later.replies;
+}
+
+takings_walk : {b : Beginning} {out : Outlook} {slot : ℕ} {later : Later} {ahead : List (List ℕ)} (old new : Stage)
+    (takings : List ElementStep) (takes : TakesAll old takings new) → Leads b out new.session slot later
+    → IsAhead b out old.session slot ahead (from_takings slot old takings new takes later)
+    → IsPlayedWhole b out slot (length ahead) (takings_slots slot takings ++ later.slots)
+    (takings_replies old takings new takes ++ later.replies)
+takings_walk {b} {out} {slot} {later} {ahead} old new [] takes leads is =
+    leads.walk ahead (subst (λ (s : Stage). IsAhead b out s.session slot ahead later) (sym takes) is)
+takings_walk {b} {out} {slot} {later} {ahead} old new (Passed n ∷ takings) takes leads is =
+    let same : takes.0.session ≡ old.session = ap (λ (s : Stage). s.session) takes.1.0.2 in
+    takings_walk {ahead = ahead} takes.0 new takings takes.1.1 leads (record {
+      waits = subst (IsWaiting b) (sym same) is.waits;
+      named = subst HasValidIds (sym same) is.named;
+      heard = ap (λ (s : SessionState). s.heard) same ∙ is.heard;
+      setups = is.setups;
+      requests_are = is.requests_are;
+      teardowns = is.teardowns;
+      plays = is.plays;
+    })
+takings_walk {b} {out} {slot} {later} {ahead = []} old new (Answered message outcome parts ∷ takings) takes leads is =
+    let more = takings_askings takes.0 takings new takes.1.1 ++ later.askings in
+    let front = takings_requests takings in
+    let all : message ∷ (front ++ later.requests) ≡ play_text b.wish b.session ∷ out.last = is.requests_are in
+    let at : message ≡ play_text b.wish b.session = cc in
+    let rest : front ++ later.requests ≡ out.last = cc in
+    let nones : AreNoPlays (front ++ later.requests) = subst AreNoPlays (sym rest) out.last_are in
+    let mid = taken_stands old takes.0 (Answered message outcome parts) takes.1.0 is.waits.stands in
+    let last = leads.none (takes_stands takes.0 new takings takes.1.1 mid) (no_plays_rest front later.requests nones) in
+    let none = takings_none takes.0 new takings takes.1.1 later.askings (record {
+      stands = mid;
+      requests = no_plays_front front later.requests nones;
+      none = last;
+    }) in
+    let heard = takes.1.0.heard in
+    let turns = turns_as old.session message outcome takes.1.0.answered heard is.waits.stands.rest in
+    let slots = takings_slots slot takings ++ later.slots in
+    let taken : IsPlayTaken b out old.session message (Asks heard.asking.awaited outcome) more =
+    record { waits = is.waits; message_is = at; none = none; plays = is.plays } in
+    let whole = replies_whole old.session message heard.ask heard.asking is.named (play_room b at) heard.hears in
+    let torn : AreTeardowns b (front ++ later.requests) = subst (AreTeardowns b) (sym rest) is.teardowns in
+    let cut = teardowns_cut b front later.requests torn in
+    let first = takings_torn {b = b} takes.0 new takings takes.1.1
+    (record { named = answered_named takes.1.0 is.named; teardowns = cut.0 }) in
+    record {
+      one = subst (λ h. IsOnePlay b out h 0 (h ∷ slots)) is.heard (play_turn more slots heard taken turns);
+      whole = (
+        play_whole more heard taken whole turns,
+        whole_later later.replies first (λ named. leads.torn named cut.1),
+      );
+    }
+takings_walk {b} {out} {later} {ahead = one ∷ ahead} old new (Answered message outcome parts ∷ takings) takes leads is =
+    let more = takings_askings takes.0 takings new takes.1.1 ++ later.askings in
+    let all : message ∷ (takings_requests takings ++ later.requests)
+    ≡ one ∷ (ahead ++ (play_text b.wish b.session ∷ out.last)) = is.requests_are in
+    let here : message ≡ one = cc in
+    let rest : takings_requests takings ++ later.requests ≡ ahead ++ (play_text b.wish b.session ∷ out.last) = cc in
+    let at : message ≡ setup_text b.wish = here ∙ is.setups.0 in
+    let none = no_play_begins takes.1.0 is.waits.stands (setup_no_play b at) more in
+    let left = takes_left old takes.0 (Answered message outcome parts ∷ []) (takes.0, (takes.1.0, refl))
+    is.waits.stands.rest in
+    let rec = takings_walk {ahead = ahead} takes.0 new takings takes.1.1 leads (record {
+      waits = answered_waits takes.1.0 at is.waits;
+      named = answered_named takes.1.0 is.named;
+      heard = left.1 ∙ is.heard;
+      setups = is.setups.1;
+      requests_are = rest;
+      teardowns = is.teardowns;
+      plays = sym (ap (λ l. l ++ plays_of more) none) ∙ is.plays;
+    }) in
+    let heard = takes.1.0.heard in
+    let whole = replies_whole old.session message heard.ask heard.asking is.named (setup_room b at) heard.hears in
+    let reply : heard.ask ≡ Reply = (setup_asked {outcome = outcome} {parts = parts} takes.1.0 at is.waits).0 in
+    record {
+      one = record {
+        wished = rec.one.wished;
+        alone = rec.one.alone;
+        late = rec.one.late;
+        before = (rec.one.late, rec.one.before);
+      };
+      whole = (reply_whole heard reply whole, rec.whole);
+    }
+
+ahead_some : (ahead : List (List ℕ)) (x : List ℕ) (xs : List (List ℕ)) → [] ≡ ahead ++ (x ∷ xs) → ⊥
+ahead_some [] x xs is = let no : ⊥ = cc in no
+ahead_some (y ∷ ahead) x xs is = let no : ⊥ = cc in no
+
+-- what is taken up in these rounds, after this slot
+abbrev pub in_rounds : (slot : ℕ) (old : Stage) (rounds : List Round) (new : Stage) → IsCourseBetween old rounds new →
+    Later
+in_rounds slot old rounds new follows = record {
+  requests = rounds_requests rounds;
+  askings = askings_of old rounds new follows;
+  slots = slots_from slot rounds;
+  replies = replies_of old rounds new follows;
+}
+
+pub rounds_walk : {b : Beginning} {out : Outlook} {slot : ℕ} (old new : Stage) (rounds : List Round)
+    (follows : IsCourseBetween old rounds new) (ahead : List (List ℕ))
+    → IsAhead b out old.session slot ahead (in_rounds slot old rounds new follows)
+    → IsPlayedWhole b out slot (length ahead) (slots_from slot rounds) (replies_of old rounds new follows)
+rounds_walk {b} {out} {slot} old new [] follows ahead is =
+    absurd (ahead_some ahead (play_text b.wish b.session) out.last is.requests_are)
+rounds_walk {b} {out} {slot} old new (round ∷ rounds) follows ahead is =
+    let runs = follows.1.0 in
+    let mid : Stage = follows.0 in
+    let later = max slot (slot_in round.event) in
+    let more = askings_of mid rounds new follows.1.1 in
+    let after = takings_askings runs.opened round.takings mid runs.takes ++ more in
+    let leads : Leads b out mid.session later (in_rounds later mid rounds new follows.1.1) = record {
+      walk = λ further its. rounds_walk {slot = later} mid new rounds follows.1.1 further its;
+      torn = λ named are. rounds_torn {b = b} mid new rounds follows.1.1 (record { named = named; teardowns = are });
+      none = λ stands are. rounds_none mid new rounds follows.1.1 stands are;
+    } in
+    let rec = takings_walk {ahead = ahead} runs.opened mid round.takings runs.takes leads (record {
+      waits = opened_waits runs is.waits;
+      named = opened_named runs is.named;
+      heard = comes_heard old runs.opened round.event round.due round.halt runs.comes
+          ∙ ap (λ n. max n (slot_in round.event)) is.heard;
+      setups = is.setups;
+      requests_are = is.requests_are;
+      teardowns = is.teardowns;
+      plays = sym (ap (λ l. l ++ plays_of after) (event_none runs after)) ∙ is.plays;
+    }) in
+    let one = rec.one in
+    let late : slot < out.play.start = omega (arith, one.late) in
+    record {
+      one = record { wished = one.wished; alone = one.alone; late = late; before = one.before };
+      whole = rec.whole;
+    }

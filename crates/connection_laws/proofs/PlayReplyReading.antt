@@ -1,0 +1,286 @@
+-- What a client reads in the reply to PLAY that a server writes.
+use Rattle.std.proofs.Common.{◌≡◌, ℕ, zero, suc, ◌+◌, ◌-◌, ◌*◌, ◌/◌, ◌%◌, ◌^◌, ◌<◌, ◌≤◌, ◌&&◌, ◌==◌}
+use Rattle.std.proofs.Common.{Bool, true, false, not, nat_lt, nat_le, List, [], ◌∷◌, ◌++◌, All}
+use Rattle.std.proofs.Common.{codes, decimal, length, get_or, take, drop, Some, None, refl, sym, ap}
+use Rattle.std.proofs.Common.{subst, ◌∙◌, append_assoc, arith, inl, inr, rules}
+use Rattle.std.specs.Prelude.{option_map, option_and_then}
+use Rattle.std.specs.Int.{div_ceil}
+use Rattle.std.proofs.lemmas.Bool.{cases_lt, cond-true, eq-eqb, eqb-true, ltb-true, le-leb}
+use Rattle.std.proofs.lemmas.Grind.{div_ceil_times}
+use Rattle.std.proofs.lemmas.Fmt.{decimal_digit, decimal_nonempty}
+use Rattle.std.proofs.lemmas.List.{append-nil, length-append, get_or_append_left, get_or-append_right, take_at, drop_at}
+use Rattle.std.proofs.Math.Nat.{mul-le-mul_right}
+use Rattle.mpeg_scan.specs.declared.films.Film.{Film}
+use Rattle.mpeg_scan.specs.StartCodes.{read_after}
+use Rattle.mpeg_scan.specs.PictureRates.{picture_time}
+use Rattle.mpeg_scan.proofs.FilmBoundLemmas.{film-rate}
+use Rattle.session.specs.Films.{length_ms}
+use Rattle.session.specs.Replies.{field, joined_parts, play_fields, play_text}
+use Rattle.connection_laws.specs.PlayReplies.{IsPlayRead}
+use Rattle.plan_cert.proofs.DecimalLemmas.{no_leading_zero}
+use Rattle.vod_base.specs.Numbers.{number_of}
+use Rattle.vod_base.proofs.TextLemmas.{decimal_read}
+use Rattle.rtsp_fields.specs.Sdp.{seconds_text}
+use Rattle.rtsp_client.specs.Films.{units_until}
+use Rattle.interleave.specs.Elements.{IsMessageLength}
+use Rattle.rtsp_text.specs.Fields.{header_value}
+use Rattle.rtsp_text.specs.Replies.{Field, IsPlain, all_fields, phrase, reply_front, reply_text, value_named}
+use Rattle.rtsp_text.proofs.ReplyRoundTrip.{read_back}
+use Rattle.rtsp_client.specs.Replies.{has_point, milliseconds, range_end, session_id, start_within, time_in}
+
+-- as many pictures as a film has last until its end in whole milliseconds
+units_counted : (n time : ℕ) → 360 ≤ time → units_until (n * time / 360) time ≡ n
+units_counted n time long =
+    let ms = n * time / 360 in
+    let c = div_ceil (ms * 360) time in
+    let times = div_ceil_times (ms * 360) time (omega (arith, long)) in
+    elim (cases_lt c n) [
+      | inl less ↦
+          let rows : (c + 1) * time ≤ n * time = mul-le-mul_right time (omega (arith, less)) in
+          absurd (omega (arith, times, rows, long))
+      | inr more ↦ elim (cases_lt n c) [
+        | inl over ↦
+            let rows : (n + 1) * time ≤ c * time = mul-le-mul_right time (omega (arith, over)) in
+            absurd (omega (arith, times, rows))
+        | inr same ↦ omega (arith, more, same)
+      ]
+    ]
+
+three : (a b c : ℕ) → a < 10 → b < 10 → c < 10 → number_of ((48 + a) ∷ (48 + b) ∷ (48 + c) ∷ [])
+    ≡ Some (a * 100 + b * 10 + c)
+three a b c la lb lc = search rules
+
+seconds_is : (ms : ℕ)
+    → seconds_text ms ≡ decimal (ms / 1000) ++ 46 ∷ (48 + ms / 100 % 10) ∷ (48 + ms / 10 % 10) ∷ (48 + ms % 10) ∷ []
+seconds_is ms =
+    let s = decimal (ms / 1000) in
+    let one : decimal (ms / 100 % 10) ≡ (48 + ms / 100 % 10) ∷ [] = decimal_digit (ms / 100 % 10) (omega arith) in
+    let two : decimal (ms / 10 % 10) ≡ (48 + ms / 10 % 10) ∷ [] = decimal_digit (ms / 10 % 10) (omega arith) in
+    let three_ : decimal (ms % 10) ≡ (48 + ms % 10) ∷ [] = decimal_digit (ms % 10) (omega arith) in
+    ap (λ x. (((s ++ codes ".") ++ x) ++ decimal (ms / 10 % 10)) ++ decimal (ms % 10)) one
+    ∙ (ap (λ x. (((s ++ codes ".") ++ (48 + ms / 100 % 10) ∷ []) ++ x) ++ decimal (ms % 10)) two
+    ∙ (ap (λ x. (((s ++ codes ".") ++ (48 + ms / 100 % 10) ∷ []) ++ (48 + ms / 10 % 10) ∷ []) ++ x) three_
+    ∙ (append_assoc ((s ++ codes ".") ++ (48 + ms / 100 % 10) ∷ []) ((48 + ms / 10 % 10) ∷ []) ((48 + ms % 10) ∷ [])
+    ∙ (append_assoc (s ++ codes ".") ((48 + ms / 100 % 10) ∷ []) ((48 + ms / 10 % 10) ∷ (48 + ms % 10) ∷ [])
+    ∙ append_assoc s (codes ".") ((48 + ms / 100 % 10) ∷ (48 + ms / 10 % 10) ∷ (48 + ms % 10) ∷ [])))))
+
+and_three : (a b c : Bool) → a ≡ true → b ≡ true → c ≡ true → (a && b && c) ≡ true
+and_three true true true one two three_ = refl
+and_three true true false one two three_ = three_
+and_three true false c one two three_ = two
+and_three false b c one two three_ = one
+
+-- a first zero of more than one digit
+no_zero : (long zero_ : Bool) → (long ≡ true → zero_ ≡ true → ⊥) → not (long && zero_) ≡ true
+no_zero true true clash = absurd (clash refl refl)
+no_zero true false clash = refl
+no_zero false zero_ clash = refl
+
+-- the three digits after a point
+record ThreeDigits : Type 0 where
+  first : ℕ
+  second : ℕ
+  third : ℕ
+  first_is : first < 10
+  second_is : second < 10
+  third_is : third < 10
+
+-- seconds, a point and three digits are read
+point_read : {text s : List ℕ} (n : ℕ) (after_point : ThreeDigits) →
+    text ≡ s ++ 46 ∷ (48 + after_point.first) ∷ (48 + after_point.second) ∷ (48 + after_point.third) ∷ [] →
+    s ≡ decimal n → n < 2 ^ 64 →
+    time_in text ≡ Some (n * 1000 + (after_point.first * 100 + after_point.second * 10 + after_point.third))
+point_read {text} {s} n after_point is s_is small =
+    let tail = 46 ∷ (48 + a) ∷ (48 + b) ∷ (48 + c) ∷ [] in
+    let size : length text ≡ length s + 4 = ap (λ (l : List ℕ). length l) is ∙ length-append s tail in
+    let some : 0 < length s = omega (arith, ap (λ (l : List ℕ). length l) s_is, decimal_nonempty n small) in
+    let at : length text - 4 ≡ length s = omega (arith, size) in
+    let at3 : length text - 3 ≡ length s + 1 = omega (arith, size) in
+    let dot : get_or text (length text - 4) 0 ≡ 46 =
+    ap (λ k. get_or text k 0) at ∙ (ap (λ l. get_or l (length s) 0) is
+    ∙ (get_or-append_right s tail (length s) (length s) 0 refl (omega arith)
+    ∙ ap (λ k. get_or tail k 0) (let z : length s - length s ≡ 0 = omega arith in z))) in
+    let front : get_or text 0 0 ≡ get_or (decimal n) 0 0 =
+    ap (λ l. get_or l 0 0) is ∙ (get_or_append_left s tail 0 0 some ∙ ap (λ l. get_or l 0 0) s_is) in
+    let bare : not (nat_lt 5 (length text) && (get_or text 0 0 == 48)) ≡ true =
+    no_zero (nat_lt 5 (length text)) (get_or text 0 0 == 48) (λ long zero_.
+    let more : 1 < length (decimal n) = omega (
+      arith,
+      ltb-true 5 (length text) long,
+      size,
+      ap (λ (l : List ℕ). length l) s_is,
+    ) in
+    no_leading_zero n small more (sym front ∙ eqb-true (get_or text 0 0) 48 zero_)) in
+    let point : has_point text ≡ true =
+    and_three (nat_le 4 (length text)) (get_or text (length text - 4) 0 == 46)
+    (not (nat_lt 5 (length text) && (get_or text 0 0 == 48)))
+    (le-leb 4 (length text) (omega (arith, size))) (eq-eqb (get_or text (length text - 4) 0) 46 dot) bare in
+    let seconds : take (length text - 4) text ≡ decimal n =
+    ap (λ k. take k text) at ∙ (ap (λ l. take (length s) l) is ∙ (take_at s tail (length s) refl ∙ s_is)) in
+    let digits : drop (length text - 3) text ≡ (48 + a) ∷ (48 + b) ∷ (48 + c) ∷ [] =
+    ap (λ k. drop k text) at3 ∙ (ap (λ l. drop (length s + 1) l) is
+    ∙ (ap (λ l. drop (length s + 1) l) (sym (append_assoc s (46 ∷ []) ((48 + a) ∷ (48 + b) ∷ (48 + c) ∷ [])))
+    ∙ drop_at (s ++ 46 ∷ []) ((48 + a) ∷ (48 + b) ∷ (48 + c) ∷ []) (length s + 1) (length-append s (46 ∷ [])))) in
+    let read : milliseconds (decimal n) ((48 + a) ∷ (48 + b) ∷ (48 + c) ∷ [])
+    ≡ Some (n * 1000 + (a * 100 + b * 10 + c)) =
+    ap (λ o. option_and_then
+    (λ t. option_map (λ f. t * 1000 + f) (number_of ((48 + a) ∷ (48 + b) ∷ (48 + c) ∷ []))) o) (decimal_read n small)
+    ∙ ap (λ o. option_map (λ f. n * 1000 + f) o) (three a b c la lb lc) in
+    cond-true (has_point text) (milliseconds (take (length text - 4) text) (drop (length text - 3) text)) None point
+    ∙ (ap (λ l. milliseconds l (drop (length text - 3) text)) seconds ∙ (ap (milliseconds (decimal n)) digits ∙ read))
+  where
+    open after_point use {first as a, second as b, third as c, first_is as la, second_is as lb, third_is as lc}
+
+time_read : (ms : ℕ) → ms < 2 ^ 64 → time_in (seconds_text ms) ≡ Some ms
+time_read ms small =
+    point_read (ms / 1000) (record {
+      first = ms / 100 % 10;
+      second = ms / 10 % 10;
+      third = ms % 10;
+      first_is = omega arith;
+      second_is = omega arith;
+      third_is = omega arith;
+    }) (seconds_is ms) refl (omega (arith, small))
+    ∙ ap Some (let e : ms / 1000 * 1000 + (ms / 100 % 10 * 100 + ms / 10 % 10 * 10 + ms % 10) ≡ ms = omega arith in e)
+
+-- the range from a film's beginning to its end
+range_read : (ms : ℕ) → ms < 2 ^ 64 → range_end (codes "npt=0.000-" ++ seconds_text ms) ≡ Some ms
+range_read ms small = time_read ms small
+
+-- ---- the reply to PLAY
+
+-- the fields of a reply to PLAY
+abbrev play_named : List ℕ → List ℕ → List ℕ → ℕ → List Field
+play_named id range info slots =
+    record { name = codes "Session"; value = id } ∷ record { name = codes "Range"; value = range }
+    ∷ record { name = codes "RTP-Info"; value = info }
+    ∷ record { name = codes "x-Start"; value = decimal slots } ∷ []
+
+named_session : (id range info : List ℕ) (sequence slots : ℕ)
+    → value_named (codes "Session") (all_fields (Some sequence) (play_named id range info slots)) ≡ Some id
+unfolding value_named
+named_session id range info sequence slots = refl
+
+named_range : (id range info : List ℕ) (sequence slots : ℕ)
+    → value_named (codes "Range") (all_fields (Some sequence) (play_named id range info slots)) ≡ Some range
+unfolding value_named
+named_range id range info sequence slots = refl
+
+named_start : (id range info : List ℕ) (sequence slots : ℕ)
+    → value_named (codes "x-Start") (all_fields (Some sequence) (play_named id range info slots)) ≡ Some (decimal slots)
+unfolding value_named
+named_start id range info sequence slots = refl
+
+named_sequence : (id range info : List ℕ) (sequence slots : ℕ)
+    → value_named (codes "CSeq") (all_fields (Some sequence) (play_named id range info slots)) ≡ Some (decimal sequence)
+unfolding value_named
+named_sequence id range info sequence slots = refl
+
+start_read : (slots : ℕ) → 1 ≤ slots → slots ≤ 2 ^ 62 + 1
+    → option_and_then start_within (number_of (decimal slots)) ≡ Some slots
+start_read slots some few =
+    ap (λ o. option_and_then start_within o) (decimal_read slots (omega (arith, few)))
+    ∙ cond-true (nat_le 1 slots && nat_le slots (2 ^ 62 + 1)) (Some slots) None
+    (ap (λ b. b && nat_le slots (2 ^ 62 + 1)) (le-leb 1 slots some) ∙ le-leb slots (2 ^ 62 + 1) few)
+
+-- the numbers of a PLAY's reply, in their ranges
+pub record PlayNumbers : Type 0 where
+  pub sequence : ℕ
+  pub end_ms : ℕ
+  pub slots : ℕ
+  pub small : sequence < 2 ^ 64
+  pub short : end_ms < 2 ^ 64
+  pub some : 1 ≤ slots
+  pub few : slots ≤ 2 ^ 62 + 1
+
+named_read : {message id : List ℕ} (info : List ℕ) (numbers : PlayNumbers) →
+    IsMessageLength message (length message) →
+    All IsPlain (all_fields (Some numbers.sequence)
+    (play_named id (codes "npt=0.000-" ++ seconds_text numbers.end_ms) info numbers.slots)) →
+    message ≡ reply_text 200 (Some numbers.sequence)
+    (play_named id (codes "npt=0.000-" ++ seconds_text numbers.end_ms) info numbers.slots) [] →
+    IsPlayRead message id numbers.sequence numbers.end_ms numbers.slots
+unfolding reply_text
+named_read {message} {id} info numbers size plain is =
+    let range = codes "npt=0.000-" ++ seconds_text end_ms in
+    let fields = play_named id range info slots in
+    let head = reply_front 200 (Some sequence) fields ++ codes "\r\n" in
+    let back = read_back (record { code = 200; sequence = Some sequence; fields = fields; body = [] }) size
+    refl plain is in
+    let whole : message ≡ head = is ∙ append-nil head in
+    let value : (name : List ℕ)
+    → header_value message name ≡ value_named name (all_fields (Some sequence) fields) = λ name.
+    ap (λ m. header_value m name) whole ∙ back.values name in
+    record {
+      answer = record {
+        phrase = phrase 200;
+        line = back.reply.line;
+        sequence = ap (λ v. option_and_then number_of v)
+            (value (codes "CSeq") ∙ named_sequence id range info sequence slots) ∙ decimal_read sequence small;
+      };
+      session = ap (λ v. option_map session_id v)
+          (value (codes "Session") ∙ named_session id range info sequence slots);
+      range = ap (λ v. option_and_then range_end v)
+          (value (codes "Range") ∙ named_range id range info sequence slots) ∙ range_read end_ms short;
+      start = ap (λ v. option_and_then start_within (option_and_then number_of v))
+          (value (codes "x-Start") ∙ named_start id range info sequence slots) ∙ start_read slots some few;
+    }
+  where
+    open numbers use {sequence, end_ms, slots, small, short, some, few}
+
+-- no time in front
+zero_text : seconds_text 0 ≡ codes "0.000"
+zero_text = seconds_is 0 ∙ ap (λ d. d ++ 46 ∷ 48 ∷ 48 ∷ 48 ∷ []) (decimal_digit 0 (omega arith))
+
+range_text : (end_ms : ℕ)
+    → joined_parts (codes "npt=" ∷ seconds_text 0 ∷ codes "-" ∷ seconds_text end_ms ∷ [])
+    ≡ codes "npt=0.000-" ++ seconds_text end_ms
+range_text end_ms =
+    ap (λ z. codes "npt=" ++ (z ++ (codes "-" ++ (seconds_text end_ms ++ [])))) zero_text
+    ∙ ap (λ l. codes "npt=0.000-" ++ l) (append-nil (seconds_text end_ms))
+
+-- what a reply tells of its stream: where it is asked for, and its first packet
+pub record StreamInfo : Type 0 where
+  pub authority : List ℕ
+  pub name : List ℕ
+  pub number : ℕ
+  pub time : ℕ
+
+pub play_read : {message id : List ℕ} (stream_info : StreamInfo) (numbers : PlayNumbers) →
+    IsMessageLength message (length message) →
+    message ≡ play_text numbers.sequence
+    (play_fields id 0 numbers.end_ms stream_info.authority stream_info.name stream_info.number
+    stream_info.time) numbers.slots →
+    All IsPlain (all_fields (Some numbers.sequence)
+    (play_fields id 0 numbers.end_ms stream_info.authority stream_info.name
+    stream_info.number stream_info.time ++ field (codes "x-Start") (decimal numbers.slots) ∷ [])) →
+    IsPlayRead message id numbers.sequence numbers.end_ms numbers.slots
+play_read {id} stream_info numbers size is plain =
+    let info : List ℕ =
+    joined_parts (codes "url=rtsp://" ∷ stream_info.authority ∷ codes "/" ∷ stream_info.name ∷ codes "/video;seq="
+    ∷ decimal stream_info.number ∷ codes ";rtptime=" ∷ decimal stream_info.time ∷ []) in
+    let P : List ℕ → Type 0 = λ r. All IsPlain (all_fields (Some sequence) (play_named id r info slots)) in
+    named_read info numbers size (subst P (range_text end_ms) plain)
+    (is ∙ ap (λ r. reply_text 200 (Some sequence) (play_named id r info slots) []) (range_text end_ms))
+  where
+    open numbers use {sequence, end_ms, slots}
+
+-- ---- the number of a film's units
+
+time_long : (rate : ℕ) → 1 ≤ rate → rate ≤ 8 → 360 ≤ picture_time rate
+time_long zero low high = absurd (omega (arith, low))
+time_long (suc zero) low high = omega arith
+time_long (suc (suc zero)) low high = omega arith
+time_long (suc (suc (suc zero))) low high = omega arith
+time_long (suc (suc (suc (suc zero)))) low high = omega arith
+time_long (suc (suc (suc (suc (suc zero))))) low high = omega arith
+time_long (suc (suc (suc (suc (suc (suc zero)))))) low high = omega arith
+time_long (suc (suc (suc (suc (suc (suc (suc zero))))))) low high = omega arith
+time_long (suc (suc (suc (suc (suc (suc (suc (suc zero)))))))) low high = omega arith
+time_long (suc (suc (suc (suc (suc (suc (suc (suc (suc n))))))))) low high = absurd (omega (arith, high))
+
+pub film_counted : (film : Film) → units_until (length_ms film) (picture_time film.rate) ≡ length film.units.items
+film_counted film =
+    let rate = film-rate (read_after [] film.bytes.items) film.grammar.accepted in
+    units_counted (length film.units.items) (picture_time film.rate)
+    (time_long film.rate (omega (arith, film.grammar.rate, rate.0)) (omega (arith, film.grammar.rate, rate.1)))

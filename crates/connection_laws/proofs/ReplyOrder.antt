@@ -1,0 +1,251 @@
+-- Replies are sent in the order of their requests, each once, but for the one that waits.
+use Rattle.std.proofs.Common.{◌≡◌, ℕ, ◌+◌, ◌++◌, ◌&&◌, if◌then◌else◌, Bool, true, false, List, [], ◌∷◌, length, map}
+use Rattle.std.proofs.Common.{refl, ap, sym, ◌∙◌, subst}
+use Rattle.std.proofs.lemmas.List.{append-nil, append_assoc}
+use Rattle.vod_base.specs.Links.{IoEvent, HeardBytes, HeardEnd, HeardSlot, Sent}
+use Rattle.film_frames.specs.declared.stored_films.Stored.{Stored}
+use Rattle.session.specs.declared.settings.Settings.{Settings}
+use Rattle.session.specs.declared.states.Awaited.{Awaited}
+use Rattle.session.specs.declared.states.Awaited.TheVariants.{Nothing, Halt}
+use Rattle.session.specs.declared.states.AfterHalt.TheVariants.{Done}
+use Rattle.session.specs.RequestSteps.{is_answered}
+use Rattle.session.specs.SlotSteps.{can_reply, after_play, is_between, is_done_in, is_sending}
+use Rattle.session.specs.SlotSteps.{is_taken, next_of, sent_due, sent_in, sent_reply, sent_slot}
+use Rattle.session.specs.SlotSteps.{after_slot, step_bytes, stepped_in}
+use Rattle.session.specs.SessionStates.{AwaitedAnswer, NoAnswer, PlayAnswer, HaltAnswer, LookAnswer, OfferAnswer}
+use Rattle.session.specs.SessionStates.{SessionState}
+use Rattle.session.specs.SessionStates.{awaited_answer}
+use Rattle.conn.specs.Films.{round_parts, rounds_parts, takings_parts}
+use Rattle.conn.specs.EventSteps.{Round}
+use Rattle.conn.specs.InputSteps.{Answered, Entered, Film, IsFinished, IsHalted, IsReplied, Offered}
+use Rattle.conn.specs.InputSteps.{Outcome, SentPart, Passed, Stage, ElementStep, TakesAll, Text, Unasked, WasFull}
+use Rattle.conn.specs.InputSteps.{due_parts, film_bytes, slot_parts}
+use Rattle.connection_laws.specs.Courses.{IsCourseBetween, askings_of, first_stage, greatest_slot, rounds_bytes}
+use Rattle.connection_laws.specs.Courses.{round_askings}
+use Rattle.connection_laws.specs.Plays.{film_written, plays_of}
+use Rattle.connection_laws.specs.Replies.{placed_texts, replies_of, takings_replies, text_of, waiting_reply}
+use Rattle.connection_laws.specs.Replies.{insert_texts}
+use Rattle.connection_laws.proofs.FilmBytes.{Stands, opened_stands, round_step, stands_by, taken_stands, turn_after}
+use Rattle.connection_laws.proofs.FilmBytes.{reply_awaited}
+use Rattle.connection_laws.proofs.GreatestSlots.{film_written_is}
+use Rattle.connection_laws.proofs.RequestEffects.{turns_as}
+use Rattle.connection_laws.proofs.TextPlacement.{course_film, parts_woven, rounds_sent}
+use Rattle.conn.proofs.EventPremises.{EventCome}
+
+-- the texts among parts
+abbrev texts_in : List SentPart → List (List ℕ)
+texts_in [] = []
+texts_in (Film bytes ∷ parts) = texts_in parts
+texts_in (Text text ∷ parts) = text ∷ texts_in parts
+
+texts_placed : (place : ℕ) (parts : List SentPart) → map text_of (placed_texts place parts) ≡ texts_in parts
+texts_placed place [] = refl
+texts_placed place (Film bytes ∷ parts) = texts_placed (place + length bytes) parts
+texts_placed place (Text text ∷ parts) = ap (λ ts. text ∷ ts) (texts_placed place parts)
+
+texts_append : (xs ys : List SentPart) → texts_in (xs ++ ys) ≡ texts_in xs ++ texts_in ys
+texts_append [] ys = refl
+texts_append (Film bytes ∷ xs) ys = texts_append xs ys
+texts_append (Text text ∷ xs) ys = ap (λ ts. text ∷ ts) (texts_append xs ys)
+
+-- these texts were sent, and these are replies to requests that were taken up meanwhile
+abbrev Replies : SessionState → List (List ℕ) → List (List ℕ) → SessionState → Type 0
+Replies old sent replies new = sent ++ waiting_reply new ≡ waiting_reply old ++ replies
+
+-- replies that come from a session on
+record LaterReplies : Type 0 where
+  old : SessionState
+  new : SessionState
+  texts : List (List ℕ)
+  messages : List (List ℕ)
+  replied : Replies old texts messages new
+
+replies_then : (a : SessionState) (next : LaterReplies) (one first : List (List ℕ)) → Replies a one first next.old →
+    Replies a (one ++ next.texts) (first ++ next.messages) next.new
+replies_then a next one first is =
+    append_assoc one two (waiting_reply c) ∙ ap (λ ts. one ++ ts) later
+    ∙ sym (append_assoc one (waiting_reply b) second)
+    ∙ ap (λ ts. ts ++ second) is ∙ append_assoc (waiting_reply a) first second
+  where
+    open next use {old as b, new as c, texts as two, messages as second, replied as later}
+
+waiting_same : (a b : SessionState) → b ≡ a → Replies a [] [] b
+waiting_same a b same = ap waiting_reply same ∙ sym (append-nil (waiting_reply a))
+
+-- a request
+waits_none : (s : SessionState) → s.waits ≡ false → waiting_reply s ≡ []
+waits_none s none = ap (λ w. if w then s.text ∷ [] else []) none
+
+reply_cases : (goes : Bool) (s : SessionState) → s.waits ≡ true
+    → texts_in (if goes then Text s.text ∷ [] else []) ++ waiting_reply (if goes then sent_reply s else s) ≡ s.text ∷ []
+reply_cases true s waits = refl
+reply_cases false s waits = ap (λ w. if w then s.text ∷ [] else []) waits
+
+answered_replies : {old new : Stage} {message : List ℕ} {outcome : Outcome} {parts : List SentPart}
+    (replied : IsReplied old message outcome parts new)
+    → Stands old.session → Replies old.session (texts_in parts) (replied.answered.text ∷ []) new.session
+answered_replies {old} {new} {message} {outcome} {parts} replied stands =
+    let after = turn_after old.session replied.answered replied.heard.asking.awaited outcome
+    (turns_as old.session message outcome replied.answered replied.heard stands.rest) in
+    ap (λ (s : Stage). texts_in parts ++ waiting_reply s.session) replied.new_is
+    ∙ ap (λ ps. texts_in ps
+    ++ waiting_reply (if can_reply replied.answered then sent_reply replied.answered else replied.answered))
+    replied.parts_are
+    ∙ reply_cases (can_reply replied.answered) replied.answered after.waits
+    ∙ ap (λ ts. ts ++ replied.answered.text ∷ []) (sym (waits_none old.session replied.next.replied))
+
+takes_replies : (old new : Stage) (takings : List ElementStep) (takes : TakesAll old takings new) → Stands old.session
+    → Replies old.session (texts_in (takings_parts takings)) (takings_replies old takings new takes) new.session
+takes_replies old new [] takes stands = waiting_same old.session new.session (ap (λ (s : Stage). s.session) takes)
+takes_replies old new (Passed n ∷ takings) takes stands =
+    let same : takes.0.session ≡ old.session = ap (λ (s : Stage). s.session) takes.1.0.2 in
+    subst (λ s. Replies s (texts_in (takings_parts takings)) (takings_replies takes.0 takings new takes.1.1)
+    new.session) same
+    (takes_replies takes.0 new takings takes.1.1 (taken_stands old takes.0 (Passed n) takes.1.0 stands))
+takes_replies old new (Answered message outcome parts ∷ takings) takes stands =
+    let text : List ℕ = takes.1.0.answered.text in
+    let rest : List (List ℕ) = takings_replies takes.0 takings new takes.1.1 in
+    subst (λ ts. Replies old.session ts (text ∷ rest) new.session) (sym (texts_append parts (takings_parts takings)))
+    (replies_then old.session (record {
+      old = takes.0.session;
+      new = new.session;
+      texts = texts_in (takings_parts takings);
+      messages = rest;
+      replied = takes_replies takes.0 new takings takes.1.1
+          (taken_stands old takes.0 (Answered message outcome parts) takes.1.0 stands);
+    }) (texts_in parts) (text ∷ [])
+    (answered_replies takes.1.0 stands))
+
+-- a play that is done is halted without a reply
+halted_waiting : (s : SessionState) (keep : ℕ) (halt : Outcome) (new : SessionState) → next_of s.awaited ≡ Done
+    → IsHalted s keep halt new → waiting_reply new ≡ waiting_reply s
+halted_waiting s keep Unasked new done halted = absurd halted
+halted_waiting s keep (Entered placed) new done halted =
+    ap waiting_reply halted.halts ∙ ap (λ n. if (if is_answered n then true else s.waits) then s.text ∷ [] else []) done
+halted_waiting s keep (WasFull more entries live) new done halted = absurd halted
+halted_waiting s keep (Offered at_slot note) new done halted = absurd halted
+
+finished_waiting : (asks : AwaitedAnswer) (s : SessionState) (halt : Outcome) (new : SessionState) → next_of s.awaited ≡
+    Done
+    → IsFinished asks s halt new
+    → waiting_reply new ≡ waiting_reply s
+finished_waiting NoAnswer s Unasked new done is = ap waiting_reply is
+finished_waiting NoAnswer s (Entered placed) new done is = absurd is
+finished_waiting NoAnswer s (WasFull more entries live) new done is = absurd is
+finished_waiting NoAnswer s (Offered at_slot note) new done is = absurd is
+finished_waiting (PlayAnswer plan) s halt new done is = absurd is
+finished_waiting (HaltAnswer keep) s halt new done is = halted_waiting s keep halt new done is
+finished_waiting LookAnswer s halt new done is = absurd is
+finished_waiting OfferAnswer s halt new done is = absurd is
+
+done_next : (done : Bool) (sent : ℕ) (awaited : Awaited) → awaited ≡ Nothing
+    → next_of (if done then Halt sent Done else awaited) ≡ Done
+done_next true sent awaited rest = refl
+done_next false sent awaited rest = ap next_of rest
+
+reply_waiting : (goes : Bool) (s : SessionState)
+    → waiting_reply (if goes then sent_reply s else s) ≡ (if (if goes then false else s.waits) then s.text ∷ [] else [])
+reply_waiting true s = refl
+reply_waiting false s = refl
+
+-- a slot
+slot_texts : (waits between : Bool) (text one after plain : List ℕ)
+    → texts_in (if waits then Film one ∷ (if between then Text text ∷ Film after ∷ [] else []) else Film plain ∷ [])
+    ++ (if (if waits && between then false else waits) then text ∷ [] else []) ≡ (if waits then text ∷ [] else [])
+slot_texts false between text one after plain = refl
+slot_texts true true text one after plain = refl
+slot_texts true false text one after plain = refl
+
+slot_cases : (old : SessionState) (slot : ℕ) (taken sending : Bool) → old.awaited ≡ Nothing
+    → let s : SessionState =
+    if taken then (if sending then after_play (sent_slot old slot) else record old { heard = slot }) else old in
+    (texts_in (if taken && sending then due_parts old slot else []) ++ waiting_reply s ≡ waiting_reply old)
+    × (next_of s.awaited ≡ Done)
+slot_cases old slot false sending rest = (refl, ap next_of rest)
+slot_cases old slot true false rest = (refl, ap next_of rest)
+slot_cases old slot true true rest =
+    let between : Bool = is_between (stepped_in true slot old.state) in
+    let goes : Bool = old.waits && between in
+    let due : SessionState = sent_due old slot in
+    let sent : SessionState = sent_slot old slot in (
+      ap (λ ts. texts_in (due_parts old slot) ++ ts) (reply_waiting goes due)
+          ∙ slot_texts old.waits between old.text (step_bytes true slot old.state)
+          (step_bytes false slot (stepped_in true slot old.state)) (step_bytes false slot old.state),
+      done_next (is_done_in sent.state) (sent_in sent.state) sent.awaited (reply_awaited goes due ∙ rest),
+    )
+
+slot_replies : (old : SessionState) (slot : ℕ) (halt : Outcome) (new : SessionState) → old.awaited ≡ Nothing
+    → IsFinished (awaited_answer (after_slot old slot)) (after_slot old slot) halt new
+    → Replies old (texts_in (slot_parts old slot)) [] new
+slot_replies old slot halt new rest finishing =
+    let cases = slot_cases old slot (is_taken old slot) (is_sending old.state) rest in
+    ap (λ ts. texts_in (slot_parts old slot) ++ ts)
+    (finished_waiting (awaited_answer (after_slot old slot)) (after_slot old slot) halt new cases.1 finishing)
+    ∙ cases.0 ∙ sym (append-nil (waiting_reply old))
+
+comes_replies : {old opened : Stage} {event : IoEvent} (come : EventCome old event opened) → Stands old.session →
+    Replies old.session (texts_in come.due) [] opened.session
+comes_replies {old} {opened} {event = HeardBytes bytes} come stands =
+    subst (λ ps. Replies old.session (texts_in ps) [] opened.session) (sym come.comes.0)
+    (waiting_same old.session opened.session (ap (λ (s : Stage). s.session) come.comes.3))
+comes_replies {old} {opened} {event = HeardSlot slot} come stands =
+    subst (λ ps. Replies old.session (texts_in ps) [] opened.session) (sym come.comes.1.parts_are)
+    (slot_replies old.session slot come.halt opened.session stands.rest come.comes.1.finished)
+comes_replies {event = HeardEnd} come stands = absurd come.comes
+comes_replies {event = Sent byte} come stands = absurd come.comes
+
+course_replies : (old new : Stage) (rounds : List Round) (follows : IsCourseBetween old rounds new) → Stands old.session
+    → Replies old.session (texts_in (rounds_parts rounds)) (replies_of old rounds new follows) new.session
+course_replies old new [] follows stands = waiting_same old.session new.session (ap (λ (s : Stage). s.session) follows)
+course_replies old new (round ∷ rounds) follows stands =
+    let runs = follows.1.0 in
+    let opened = runs.opened in
+    let due : List (List ℕ) = texts_in round.due in
+    let taken : List (List ℕ) = texts_in (takings_parts round.takings) in
+    let replies : List (List ℕ) = takings_replies opened round.takings follows.0 runs.takes in
+    let mid : Stands follows.0.session =
+    stands_by old.session follows.0.session (round_askings old round follows.0 runs) (film_bytes round.due)
+    (round_step old follows.0 round runs stands) in
+    let first : Replies old.session (due ++ taken) ([] ++ replies) follows.0.session =
+    replies_then old.session (record {
+      old = opened.session;
+      new = follows.0.session;
+      texts = taken;
+      messages = replies;
+      replied = takes_replies opened follows.0 round.takings runs.takes (opened_stands old follows.0 round runs stands);
+    }) due []
+    (comes_replies (record { due = round.due; halt = round.halt; comes = runs.comes }) stands) in
+    let all : Replies old.session ((due ++ taken) ++ texts_in (rounds_parts rounds))
+    (replies ++ replies_of follows.0 rounds new follows.1.1) new.session =
+    replies_then old.session (record {
+      old = follows.0.session;
+      new = new.session;
+      texts = texts_in (rounds_parts rounds);
+      messages = replies_of follows.0 rounds new follows.1.1;
+      replied = course_replies follows.0 new rounds follows.1.1 mid;
+    })
+    (due ++ taken) replies first in
+    subst (λ ts. Replies old.session ts (replies ++ replies_of follows.0 rounds new follows.1.1) new.session)
+    (sym (texts_append (round_parts round) (rounds_parts rounds)
+    ∙ ap (λ ts. ts ++ texts_in (rounds_parts rounds)) (texts_append round.due (takings_parts round.takings)))) all
+
+-- from a connection's beginning on
+pub replies_in_order : (films : List Stored) (settings : Settings) (words : List ℕ) (rounds : List Round) (new : Stage)
+    (follows : IsCourseBetween (first_stage films settings words) rounds new)
+    → map text_of (placed_texts 0 (rounds_parts rounds)) ++ waiting_reply new.session
+    ≡ replies_of (first_stage films settings words) rounds new follows
+replies_in_order films settings words rounds new follows =
+    ap (λ ts. ts ++ waiting_reply new.session) (texts_placed 0 (rounds_parts rounds))
+    ∙ course_replies (first_stage films settings words) new rounds follows (record { rest = refl; sound = tt })
+
+pub bytes_woven : (films : List Stored) (settings : Settings) (words : List ℕ) (rounds : List Round) (new : Stage)
+    (follows : IsCourseBetween (first_stage films settings words) rounds new)
+    → rounds_bytes rounds
+    ≡ insert_texts 0
+    (film_written (greatest_slot rounds) (plays_of (askings_of (first_stage films settings words) rounds new follows)))
+    (placed_texts 0 (rounds_parts rounds))
+bytes_woven films settings words rounds new follows =
+    rounds_sent rounds ∙ parts_woven 0 (rounds_parts rounds)
+    ∙ ap (λ bs. insert_texts 0 bs (placed_texts 0 (rounds_parts rounds)))
+    (course_film (first_stage films settings words) new rounds follows
+    ∙ film_written_is films settings words rounds new follows)

@@ -1,0 +1,259 @@
+-- The requests that were taken up are those of the input, in order.
+use Rattle.std.proofs.Common.{◌≡◌, ◌⊎◌, ℕ, ◌<◌, ◌++◌, ◌||◌, ◌==◌, if◌then◌else◌, Bool, true, false}
+use Rattle.std.proofs.Common.{List, [], ◌∷◌, Ok, Err, length, take, drop, map, get_or, refl, ap}
+use Rattle.std.proofs.Common.{sym, ◌∙◌, subst, inl, inr, arith}
+use Rattle.std.proofs.lemmas.List.{append-nil, append_assoc, get_or-take}
+use Rattle.vod_base.specs.Links.{IoEvent, HeardBytes, HeardEnd, HeardSlot, Sent}
+use Rattle.interleave.specs.Heads.{is_line_end}
+use Rattle.interleave.specs.Elements.{IsFirst, StartsMessage}
+use Rattle.interleave.specs.Streams.{AreInputElements, IsElementLength, WholeMessage}
+use Rattle.interleave.specs.declared.elements.Step.TheVariants.{More, Request}
+use Rattle.interleave.specs.declared.elements.DemuxFault.TheVariants.{HeadTooLong as LongHead, BodyTooLong as LongBody}
+use Rattle.interleave.proofs.StreamElements.{cut_grows, tells_none}
+use Rattle.conn.specs.EventSteps.{Comes, IsStopped, Round}
+use Rattle.conn.specs.InputSteps.{Answered, Outcome, SentPart, Passed, Stage, ElementStep, TakesAll, stage}
+use Rattle.conn.specs.declared.reports.ConnEnd.{ConnEnd}
+use Rattle.conn.specs.declared.reports.ConnEnd.TheVariants.{Ended, TornDown, LinkFault, TooMuchInput, HeadTooLong}
+use Rattle.conn.specs.declared.reports.ConnEnd.TheVariants.{BodyTooLong, TurnsSpent, NoMemory}
+use Rattle.connection_laws.specs.Courses.{IsCourseBetween, first_stage}
+use Rattle.connection_laws.specs.InputSplits.{Beginning, InputSplit, HeardRequest, IsDrained, TakesUp}
+use Rattle.connection_laws.specs.InputSplits.{heard_requests_in, heard_requests_taken}
+use Rattle.connection_laws.specs.Requests.{AreTaken, AwaitsReply, bytes_in, is_no_request, message_of, requests_in}
+use Rattle.connection_laws.specs.Requests.{rounds_input}
+use Rattle.connection_laws.proofs.ElementPaths.{GoesAll, IsOver, AnEnd, ABlock, Over, Element, RequestElement}
+use Rattle.connection_laws.proofs.ElementPaths.{over_element, path_of}
+use Rattle.connection_laws.proofs.ElementPaths.{elements_hearings}
+
+append_by : (other : Bool) (x : List ℕ) (all xs ys : List (List ℕ)) → all ≡ xs ++ ys
+    → (if other then all else x ∷ all) ≡ (if other then xs else x ∷ xs) ++ ys
+append_by true x all xs ys same = same
+append_by false x all xs ys same = ap (λ rs. x ∷ rs) same
+
+pub requests_append : (xs ys : List (List ℕ)) → requests_in (xs ++ ys) ≡ requests_in xs ++ requests_in ys
+requests_append [] ys = refl
+requests_append (x ∷ xs) ys =
+    append_by (is_no_request x) x (requests_in (xs ++ ys)) (requests_in xs) (requests_in ys) (requests_append xs ys)
+
+-- a request begins with another byte than CR, LF and `$`
+pub starts_request : (input : List ℕ) (n : ℕ) → StartsMessage input → 0 < n → is_no_request (take n input) ≡ false
+starts_request input n starts some =
+    let same : get_or (take n input) 0 0 ≡ get_or input 0 0 = get_or-take n input 0 0 some in
+    ap (λ b. is_line_end b || (b == 36)) same ∙ ap (λ b. b || (get_or input 0 0 == 36)) starts.1 ∙ starts.2
+
+over_other : (input : List ℕ) (n : ℕ) → IsOver input n → is_no_request (take n input) ≡ true
+over_other input n (AnEnd one some end) =
+    let same : get_or (take n input) 0 0 ≡ get_or input 0 0 = get_or-take n input 0 0 (omega (arith, one)) in
+    ap (λ b. is_line_end b || (b == 36)) same ∙ ap (λ b. b || (get_or input 0 0 == 36)) end
+over_other input n (ABlock starts four size inside) =
+    let same : get_or (take n input) 0 0 ≡ 36 = get_or-take n input 0 0 (omega (arith, size)) ∙ starts.1 in
+    ap (λ b. is_line_end b || (b == 36)) same
+
+-- elements that are taken up are those of the input
+record Cuts (old new : Stage) (messages : List (List ℕ)) : Type 0 where
+  elements : List (List ℕ)
+  cut : AreInputElements old.input elements new.input
+  requests : requests_in elements ≡ messages
+
+goes_cut : (old new : Stage) (elements : List Element) → GoesAll old elements new
+    → Cuts old new (map message_of (elements_hearings elements))
+goes_cut old new [] goes = record { elements = []; cut = ap (λ (s : Stage). s.input) (sym goes); requests = refl }
+goes_cut old new (Over n ∷ elements) goes =
+    let mid : Stage = goes.0 in
+    let rest = goes_cut mid new elements goes.1.1 in
+    let passing = goes.1.0 in
+    record {
+      elements = take n old.input ∷ rest.elements;
+      cut = (
+        n,
+        (
+          over_element old.input n passing.over,
+          refl,
+          subst (λ input. AreInputElements input rest.elements new.input) (ap (λ (s : Stage). s.input) passing.new_is)
+              rest.cut,
+        ),
+      );
+      requests = ap (λ b. if b then requests_in rest.elements else take n old.input ∷ requests_in rest.elements)
+          (over_other old.input n passing.over) ∙ rest.requests;
+    }
+goes_cut old new (RequestElement turn ∷ elements) goes =
+    let mid : Stage = goes.0 in
+    let rest = goes_cut mid new elements goes.1.1 in
+    let taken = goes.1.0 in
+    let n : ℕ = length turn.message in
+    let some : 0 < n = omega (arith, taken.next.first.1.total_is, taken.next.first.1.is_head.some) in
+    record {
+      elements = take n old.input ∷ rest.elements;
+      cut = (
+        n,
+        (
+          WholeMessage taken.next.first.0 taken.next.first.1 taken.next.first.2,
+          refl,
+          subst (λ input. AreInputElements input rest.elements new.input) (ap (λ (s : Stage). s.input) taken.new_is)
+              rest.cut,
+        ),
+      );
+      requests = ap (λ b. if b then requests_in rest.elements else take n old.input ∷ requests_in rest.elements)
+          (starts_request old.input n taken.next.first.0 some)
+          ∙ ap (λ rs. take n old.input ∷ rs) rest.requests
+          ∙ ap (λ m. m ∷ map message_of (elements_hearings elements)) (sym taken.next.message_is);
+    }
+
+-- bytes that wait are cut on
+record LaterCut : Type 0 where
+  input : List ℕ
+  elements : List (List ℕ)
+  rest : List ℕ
+  cut : AreInputElements input elements rest
+
+cut_then : (input : List ℕ) (ps : List (List ℕ)) (later : LaterCut) → AreInputElements input ps later.input →
+    AreInputElements input (ps ++ later.elements) later.rest
+cut_then input [] later cut = subst (λ w. AreInputElements w later.elements later.rest) (sym cut) later.cut
+cut_then input (p ∷ ps) later cut = (cut.0, (cut.1.0, cut.1.1, cut_then (drop cut.0 input) ps later cut.1.2))
+
+comes_input : (old opened : Stage) (event : IoEvent) (due : List SentPart) (halt : Outcome) → Comes old event due halt
+    opened
+    → opened.input ≡ old.input ++ bytes_in event
+comes_input old opened (HeardBytes bytes) due halt comes = ap (λ (s : Stage). s.input) comes.3
+comes_input old opened (HeardSlot slot) due halt comes = comes.0 ∙ sym (append-nil old.input)
+comes_input old opened HeardEnd due halt comes = absurd comes
+comes_input old opened (Sent byte) due halt comes = absurd comes
+
+hearings_map : (xs ys : List HeardRequest) → map message_of (xs ++ ys) ≡ map message_of xs ++ map message_of ys
+hearings_map [] ys = refl
+hearings_map (x ∷ xs) ys = ap (λ ms. x.message ∷ ms) (hearings_map xs ys)
+
+pub record CutsAll (heard : List ℕ) (new : Stage) (messages : List (List ℕ)) : Type 0 where
+  pub elements : List (List ℕ)
+  pub cut : AreInputElements heard elements new.input
+  pub requests : requests_in elements ≡ messages
+
+-- what was heard by a stage is cut into elements with these requests, and into what waits
+pub record HeardCut (old : Stage) (messages : List (List ℕ)) : Type 0 where
+  pub heard : List ℕ
+  pub elements : List (List ℕ)
+  pub cut : AreInputElements heard elements old.input
+  pub requests : requests_in elements ≡ messages
+
+-- the requests that were taken up, in order
+abbrev pub takings_requests : List ElementStep → List (List ℕ)
+takings_requests [] = []
+takings_requests (Passed n ∷ takings) = takings_requests takings
+takings_requests (Answered message outcome parts ∷ takings) = message ∷ takings_requests takings
+
+abbrev pub rounds_requests : List Round → List (List ℕ)
+rounds_requests [] = []
+rounds_requests (round ∷ rounds) = takings_requests round.takings ++ rounds_requests rounds
+
+-- the requests that are heard are those that are taken up
+takings_heard : (old new : Stage) (takings : List ElementStep) (takes : TakesAll old takings new)
+    → map message_of (heard_requests_taken old takings new takes) ≡ takings_requests takings
+takings_heard old new [] takes = refl
+takings_heard old new (Passed n ∷ takings) takes = takings_heard takes.0 new takings takes.1.1
+takings_heard old new (Answered message outcome parts ∷ takings) takes =
+    ap (λ ms. message ∷ ms) (takings_heard takes.0 new takings takes.1.1)
+
+rounds_heard : (old new : Stage) (rounds : List Round) (takes : TakesUp old rounds new)
+    → map message_of (heard_requests_in old rounds new takes) ≡ rounds_requests rounds
+rounds_heard old new [] takes = refl
+rounds_heard old new (round ∷ rounds) takes =
+    let runs = takes.1.0 in
+    hearings_map (heard_requests_taken runs.opened round.takings takes.0 runs.takes)
+    (heard_requests_in takes.0 rounds new takes.1.2)
+    ∙ ap (λ ms. ms ++ map message_of (heard_requests_in takes.0 rounds new takes.1.2))
+    (takings_heard runs.opened takes.0 round.takings runs.takes)
+    ∙ ap (λ ms. takings_requests round.takings ++ ms) (rounds_heard takes.0 new rounds takes.1.2)
+
+takes_follow : (old new : Stage) (rounds : List Round) → TakesUp old rounds new → IsCourseBetween old rounds new
+takes_follow old new [] takes = takes
+takes_follow old new (round ∷ rounds) takes = (takes.0, (takes.1.0, takes_follow takes.0 new rounds takes.1.2))
+
+pub follows_cut : {new : Stage} {messages : List (List ℕ)} (old : Stage) (rounds : List Round)
+    (follows : IsCourseBetween old rounds new) (heard_cut : HeardCut old messages) →
+    CutsAll (heard_cut.heard ++ rounds_input rounds) new (messages ++ rounds_requests rounds)
+follows_cut {new} {messages} old [] follows heard_cut = record {
+  elements = elements;
+  cut = subst (λ w. AreInputElements w elements new.input) (sym (append-nil heard))
+      (subst (AreInputElements heard elements) (ap (λ (s : Stage). s.input) (sym follows)) cut);
+  requests = requests ∙ sym (append-nil messages);
+}
+  where
+    open heard_cut use {heard, elements, cut, requests}
+follows_cut {new} {messages} old (round ∷ rounds) follows heard_cut =
+    let mid : Stage = follows.0 in
+    let runs = follows.1.0 in
+    let opened : Stage = runs.opened in
+    let bytes : List ℕ = bytes_in round.event in
+    let grown : AreInputElements (heard ++ bytes) elements opened.input =
+    subst (AreInputElements (heard ++ bytes) elements)
+    (sym (comes_input old opened round.event round.due round.halt runs.comes))
+    (cut_grows heard bytes elements old.input cut) in
+    let path = path_of opened mid round.takings runs.takes in
+    let cuts = goes_cut opened mid path.elements path.goes in
+    let more : List (List ℕ) = takings_requests round.takings in
+    let these : requests_in (elements ++ cuts.elements) ≡ messages ++ more =
+    requests_append elements cuts.elements ∙ ap (λ rs. rs ++ requests_in cuts.elements) requests
+    ∙ ap (λ rs. messages ++ rs) (cuts.requests ∙ ap (λ hs. map message_of hs) path.hearings_are
+    ∙ takings_heard opened mid round.takings runs.takes) in
+    let rest = follows_cut {new = new} {messages = messages ++ more} mid rounds follows.1.1
+    (record {
+      heard = heard ++ bytes;
+      elements = elements ++ cuts.elements;
+      cut = cut_then (heard ++ bytes) elements (record {
+        input = opened.input;
+        elements = cuts.elements;
+        rest = mid.input;
+        cut = cuts.cut;
+      }) grown;
+      requests = these;
+    }) in
+    record {
+      elements = rest.elements;
+      cut = subst (λ w. AreInputElements w rest.elements new.input) (append_assoc heard bytes (rounds_input rounds))
+          rest.cut;
+      requests = rest.requests ∙ append_assoc messages more (rounds_requests rounds);
+    }
+  where
+    open heard_cut use {heard, elements, cut, requests}
+
+-- what isn't taken up isn't whole, or waits for a reply
+abbrev IsRest : Stage → Type 0
+IsRest stage = ((n : ℕ) → IsElementLength stage.input n → ⊥) ⊎ (AwaitsReply stage ⊎ (stage.session.torn ≡ true))
+
+idle_rest : (stage : Stage)
+    → (IsFirst stage.input (Ok More)
+    ⊎ ((n : ℕ) × (IsFirst stage.input (Ok (Request n)) × (stage.session.waits ≡ true))))
+    → IsRest stage
+idle_rest stage (inl more) = inl (tells_none stage.input (Ok More) more)
+idle_rest stage (inr request) = inr (inl (record { length = request.0; first = request.1.0; waits = request.1.1 }))
+
+stopped_rest : (stage : Stage) (end : ConnEnd) → IsStopped end stage → IsRest stage
+stopped_rest stage Ended stopped = absurd stopped
+stopped_rest stage TornDown stopped = inr (inr stopped)
+stopped_rest stage LinkFault stopped = absurd stopped
+stopped_rest stage TooMuchInput stopped = absurd stopped
+stopped_rest stage HeadTooLong stopped = inl (tells_none stage.input (Err LongHead) stopped.1)
+stopped_rest stage BodyTooLong stopped = inl (tells_none stage.input (Err LongBody) stopped.1)
+stopped_rest stage TurnsSpent stopped = absurd stopped
+stopped_rest stage NoMemory stopped = absurd stopped
+
+done_rest : (stage : Stage) → IsDrained stage → IsRest stage
+done_rest stage (inl idle) = idle_rest stage idle.waits
+done_rest stage (inr stopped) = stopped_rest stage stopped.0 stopped.1
+
+last_done : (old new : Stage) (rounds : List Round) → IsDrained old → TakesUp old rounds new → IsDrained new
+last_done old new [] done takes = subst IsDrained (sym takes) done
+last_done old new (round ∷ rounds) done takes = last_done takes.0 new rounds takes.1.1 takes.1.2
+
+pub requests_taken : (beginning : Beginning) (cutting : InputSplit beginning) → AreTaken beginning cutting
+requests_taken beginning cutting =
+    let first : Stage = first_stage beginning.films beginning.settings beginning.words in
+    let follows = takes_follow first cutting.last cutting.rounds cutting.takes in
+    let cuts = follows_cut first cutting.rounds follows
+    (record { heard = []; elements = []; cut = refl; requests = refl }) in
+    let begins : IsDrained first = inl (record { torn = refl; waits = inl (inl refl) }) in
+    record {
+      elements = cuts.elements;
+      cut = cuts.cut;
+      requests = cuts.requests ∙ sym (rounds_heard first cutting.last cutting.rounds cutting.takes);
+      rest = done_rest cutting.last (last_done first cutting.last cutting.rounds begins cutting.takes);
+    }

@@ -1,0 +1,289 @@
+-- What a connection sent as a stream of two replies, a film's blocks, and later replies.
+use Rattle.std.specs.Prelude.{⊤}
+use Rattle.std.proofs.Common.{◌≡◌, ℕ, ◌+◌, ◌-◌, ◌<◌, ◌≤◌, max, min, List, [], ◌∷◌, ◌++◌, length}
+use Rattle.std.proofs.Common.{take, drop, map, refl, sym, ap, subst, ◌∙◌, append_assoc, arith, inl}
+use Rattle.std.proofs.Common.{inr}
+use Rattle.std.proofs.lemmas.Bool.{cases_lt}
+use Rattle.std.proofs.lemmas.List.{append-nil, drop_all, length-append, length-take, take_all}
+use Rattle.std.proofs.Math.Seq.{drop-nil, take-append-add, take-nil}
+use Rattle.vod_base.specs.Links.{IoEvent, HeardBytes, HeardEnd, HeardSlot, Sent, sends}
+use Rattle.film_frames.specs.Tracks.{framed_bytes}
+use Rattle.conn.specs.EventSteps.{Round, round_bytes, rounds_doings}
+use Rattle.conn.specs.InputSteps.{Film, SentPart, Text, film_bytes, parts_bytes}
+use Rattle.connection_laws.specs.Courses.{greatest_slot, rounds_bytes}
+use Rattle.connection_laws.specs.Replies.{PlacedText, placed_text, placed_texts, text_of, insert_texts}
+use Rattle.connection_laws.specs.LinkDelivery.{latest_slot, sent_bytes}
+use Rattle.connection_laws.specs.WholePlays.{AreAfter}
+
+-- ---- texts among parts
+
+abbrev pub texts_length : List PlacedText → ℕ
+texts_length [] = 0
+texts_length (placed ∷ texts) = length placed.text + texts_length texts
+
+pub parts_length : (place : ℕ) (parts : List SentPart)
+    → length (parts_bytes parts) ≡ length (film_bytes parts) + texts_length (placed_texts place parts)
+parts_length place [] = refl
+parts_length place (Film bytes ∷ parts) =
+    omega (
+      arith,
+      parts_length (place + length bytes) parts,
+      length-append bytes (parts_bytes parts),
+      length-append bytes (film_bytes parts),
+    )
+parts_length place (Text text ∷ parts) = omega (arith, parts_length place parts, length-append text (parts_bytes parts))
+
+abbrev pub IsFromTo : ℕ → ℕ → List PlacedText → Type 0
+IsFromTo from to [] = ⊤
+IsFromTo from to (placed ∷ texts) = (from ≤ placed.place) × ((placed.place ≤ to) × IsFromTo from to texts)
+
+from_to_wider : {low from to high : ℕ} (texts : List PlacedText) → low ≤ from → to ≤ high
+    → IsFromTo from to texts → IsFromTo low high texts
+from_to_wider {low} {from} [] less more are = tt
+from_to_wider {low} {from} {to} {high} (placed ∷ texts) less more are = (
+  omega (arith, less, are.0),
+  (
+    omega (arith, more, are.1.0),
+    from_to_wider {low = low} {from = from} {to = to} {high = high} texts less more are.1.1,
+  ),
+)
+
+pub texts_within : (place : ℕ) (parts : List SentPart) → IsFromTo place (place + length (film_bytes parts))
+    (placed_texts place parts)
+texts_within place [] = tt
+texts_within place (Film bytes ∷ parts) =
+    from_to_wider
+    (placed_texts (place + length bytes) parts) (omega arith)
+    (omega (arith, length-append bytes (film_bytes parts))) (texts_within (place + length bytes) parts)
+texts_within place (Text text ∷ parts) = (omega arith, (omega arith, texts_within place parts))
+
+pub texts_parts : (place : ℕ) (xs ys : List SentPart)
+    → placed_texts place (xs ++ ys) ≡ placed_texts place xs ++ placed_texts (place + length (film_bytes xs)) ys
+texts_parts place [] ys = ap (λ n. placed_texts n ys) (let e : place ≡ place + 0 = omega arith in e)
+texts_parts place (Film bytes ∷ xs) ys =
+    texts_parts (place + length bytes) xs ys
+    ∙ ap (λ n. placed_texts (place + length bytes) xs ++ placed_texts n ys)
+    (let e : place + length bytes + length (film_bytes xs) ≡ place + length (bytes ++ film_bytes xs) =
+    omega (arith, length-append bytes (film_bytes xs)) in e)
+texts_parts place (Text text ∷ xs) ys = ap (λ l. placed_text place text ∷ l) (texts_parts place xs ys)
+
+-- ---- how much film there is in a front
+
+pub record IsCounted (first second film total bytes : ℕ) : Type 0 where
+  pub is : first + second ≤ bytes → min (bytes - first - second) total ≡ film
+
+-- the replies to SETUP and to PLAY, neither of them empty
+pub record FirstTexts : Type 0 where
+  pub setup : List ℕ
+  pub played : List ℕ
+  pub some_setup : 0 < length setup
+  pub some_played : 0 < length played
+
+-- texts after a film's last byte
+pub record LaterTexts (film total : ℕ) (later : List PlacedText) : Type 0 where
+  pub after : AreAfter total later
+  pub few : film ≤ total
+
+pub counted_by : {later rest : List PlacedText} {film total : ℕ} (texts_first : FirstTexts)
+    (front : List PlacedText) →
+    front ++ rest ≡ placed_text 0 texts_first.setup ∷ placed_text 0 texts_first.played ∷ later →
+    IsFromTo 0 film front →
+    ((placed : PlacedText) (texts : List PlacedText) → rest ≡ placed ∷ texts → film ≤ placed.place) →
+    LaterTexts film total later →
+    IsCounted (length texts_first.setup) (length texts_first.played) film total (film + texts_length front)
+counted_by {later} {film} texts_first [] all within next later_texts =
+    let none : film ≤ 0 = next (placed_text 0 texts_first.setup) (placed_text 0 texts_first.played ∷ later) all in
+    record { is = λ much. absurd (omega (arith, much, none, texts_first.some_setup)) }
+counted_by {later} {rest} {film} texts_first (a ∷ []) all within next later_texts =
+    let first : a ≡ placed_text 0 setup = cc in
+    let second : rest ≡ placed_text 0 played ∷ later = cc in
+    let none : film ≤ 0 = next (placed_text 0 played) later second in
+    let size : length a.text ≡ length setup = ap (λ (p : PlacedText). length p.text) first in
+    record { is = λ much. absurd (omega (arith, much, none, size, some_played)) }
+  where
+    open texts_first use {setup, played, some_played}
+counted_by {later} texts_first (a ∷ b ∷ []) all within next later_texts =
+    let first : a ≡ placed_text 0 texts_first.setup = cc in
+    let second : b ≡ placed_text 0 texts_first.played = cc in
+    let one : length a.text ≡ length texts_first.setup = ap (λ (p : PlacedText). length p.text) first in
+    let two : length b.text ≡ length texts_first.played = ap (λ (p : PlacedText). length p.text) second in
+    record { is = λ much. omega (arith, one, two, later_texts.few) }
+counted_by {later} {rest} {total} texts_first (a ∷ b ∷ c ∷ texts) all within next later_texts =
+    let first : a ≡ placed_text 0 texts_first.setup = cc in
+    let second : b ≡ placed_text 0 texts_first.played = cc in
+    let third : later ≡ c ∷ (texts ++ rest) = cc in
+    let one : length a.text ≡ length texts_first.setup = ap (λ (p : PlacedText). length p.text) first in
+    let two : length b.text ≡ length texts_first.played = ap (λ (p : PlacedText). length p.text) second in
+    let P : List PlacedText → Type 0 = λ l. AreAfter total l in
+    let past = subst P third later_texts.after in
+    record { is = λ much. omega (arith, one, two, later_texts.few, past.0, within.1.1.1.0) }
+
+-- ---- all of it, as a front of the stream
+
+pub framed_append : (xs ys : List (List ℕ)) → framed_bytes (xs ++ ys) ≡ framed_bytes xs ++ framed_bytes ys
+framed_append [] ys = refl
+framed_append (x ∷ xs) ys = ap (λ l. x ++ l) (framed_append xs ys)
+    ∙ sym (append_assoc x (framed_bytes xs) (framed_bytes ys))
+
+woven_texts : (from : ℕ) (film : List ℕ) (texts : List PlacedText) → film ≡ []
+    → insert_texts from film texts ≡ framed_bytes (map text_of texts)
+woven_texts from film [] none = none
+woven_texts from film (placed ∷ texts) none =
+    let n = placed.place - from in
+    ap (λ l. l ++ (placed.text ++ insert_texts placed.place (drop n film) texts)) (ap (take n) none ∙ take-nil n)
+    ∙ ap (λ l. placed.text ++ l) (woven_texts placed.place (drop n film) texts (ap (drop n) none ∙ drop-nil n))
+
+pub record IsFrontOf (bytes all : List ℕ) : Type 0 where
+  pub count : ℕ
+  pub is : bytes ≡ take count all
+
+front_same : (film blocks : List ℕ) (n : ℕ) → film ≡ take n blocks → film ≡ take (length film) (blocks ++ [])
+front_same film blocks n is =
+    let size : length film ≡ min n (length blocks) = ap (λ (l : List ℕ). length l) is ∙ length-take n blocks in
+    elim (cases_lt n (length blocks)) [
+      | inl less ↦ is
+          ∙ (ap (λ k. take k blocks) (let e : n ≡ length film = omega (arith, size, less) in e)
+          ∙ ap (λ l. take (length film) l) (sym (append-nil blocks)))
+      | inr more ↦
+          let all : film ≡ blocks = is ∙ take_all n blocks more in
+          all ∙ (sym (take_all (length film) blocks (omega (arith, size, more)))
+          ∙ ap (λ l. take (length film) l) (sym (append-nil blocks)))
+    ]
+
+-- after the two first replies
+film_woven : {film : List ℕ} (blocks : List ℕ) (later : List PlacedText) (n : ℕ) → film ≡ take n blocks
+    → AreAfter (length blocks) later → IsFromTo 0 (length film) later
+    → IsFrontOf (insert_texts 0 film later) (blocks ++ framed_bytes (map text_of later))
+film_woven {film} blocks [] n is after within =
+    record { count = length film; is = front_same film blocks n is }
+film_woven {film} blocks (placed ∷ texts) n is after within =
+    let long : length blocks ≤ length film = omega (arith, after.0, within.1.0) in
+    let size : length film ≡ min n (length blocks) = ap (λ (l : List ℕ). length l) is ∙ length-take n blocks in
+    let whole : film ≡ blocks = is ∙ take_all n blocks (omega (arith, size, long)) in
+    let n0 : ℕ = placed.place - 0 in
+    let all : insert_texts 0 film (placed ∷ texts) ≡ blocks ++ framed_bytes (map text_of (placed ∷ texts)) =
+    ap (λ l. l ++ (placed.text ++ insert_texts placed.place (drop n0 film) texts))
+    (take_all n0 film (omega (arith, after.0, ap (λ (l : List ℕ). length l) whole)) ∙ whole)
+    ∙ ap (λ l. blocks ++ (placed.text ++ l))
+    (woven_texts placed.place (drop n0 film) texts
+    (drop_all n0 film (omega (arith, after.0, ap (λ (l : List ℕ). length l) whole)))) in
+    record {
+      count = length (blocks ++ framed_bytes (map text_of (placed ∷ texts)));
+      is =
+          all ∙ sym (take_all (length (blocks ++ framed_bytes (map text_of (placed ∷ texts))))
+          (blocks ++ framed_bytes (map text_of (placed ∷ texts))) (omega arith));
+    }
+
+-- bytes that are a front of these blocks
+pub record BlocksFront (film : List ℕ) : Type 0 where
+  pub blocks : List ℕ
+  pub count : ℕ
+  pub front_is : film ≡ take count blocks
+
+pub all_woven : {film : List ℕ} (front : BlocksFront film) (setup played : List ℕ) (later : List PlacedText) →
+    AreAfter (length front.blocks) later → IsFromTo 0 (length film) later →
+    IsFrontOf (insert_texts 0 film (placed_text 0 setup ∷ placed_text 0 played ∷ later))
+    (setup ++ (played ++ (front.blocks ++ framed_bytes (map text_of later))))
+all_woven front setup played later after within =
+    let rest = film_woven blocks later n is after within in
+    let all = blocks ++ framed_bytes (map text_of later) in
+    let both : setup ++ (played ++ take rest.count all)
+    ≡ take (length setup + (length played + rest.count)) (setup ++ (played ++ all)) =
+    ap (λ l. setup ++ l) (sym (take-append-add played all rest.count))
+    ∙ sym (take-append-add setup (played ++ all) (length played + rest.count)) in
+    record { count = length setup + (length played + rest.count); is = ap (λ l. setup ++ (played ++ l)) rest.is ∙ both }
+  where
+    open front use {blocks, count as n, front_is as is}
+
+-- ---- what the link told of rounds
+
+sent_append : (a b : List IoEvent) → sent_bytes (a ++ b) ≡ sent_bytes a ++ sent_bytes b
+sent_append [] b = refl
+sent_append (HeardBytes bytes ∷ a) b = sent_append a b
+sent_append (HeardSlot slot ∷ a) b = sent_append a b
+sent_append (HeardEnd ∷ a) b = sent_append a b
+sent_append (Sent byte ∷ a) b = ap (λ l. byte ∷ l) (sent_append a b)
+
+sent_sends : (bytes : List ℕ) → sent_bytes (sends bytes) ≡ bytes
+sent_sends [] = refl
+sent_sends (b ∷ bytes) = ap (λ l. b ∷ l) (sent_sends bytes)
+
+latest_append : (a b : List IoEvent) → latest_slot (a ++ b) ≡ max (latest_slot a) (latest_slot b)
+latest_append [] b = omega arith
+latest_append (d ∷ a) b = omega (arith, latest_append a b)
+
+latest_sends : (bytes : List ℕ) → latest_slot (sends bytes) ≡ 0
+latest_sends [] = refl
+latest_sends (b ∷ bytes) = omega (arith, latest_sends bytes)
+
+-- an event that isn't a byte that was sent
+abbrev pub IsEvent : IoEvent → Type 0
+IsEvent (HeardBytes bytes) = ⊤
+IsEvent (HeardSlot slot) = ⊤
+IsEvent HeardEnd = ⊤
+IsEvent (Sent byte) = ⊥
+
+abbrev pub AreEvents : List Round → Type 0
+AreEvents [] = ⊤
+AreEvents (round ∷ rounds) = IsEvent round.event × AreEvents rounds
+
+event_sent : (event : IoEvent) (rest : List IoEvent) → IsEvent event → sent_bytes (event ∷ rest) ≡ sent_bytes rest
+event_sent (HeardBytes bytes) rest is = refl
+event_sent (HeardSlot slot) rest is = refl
+event_sent HeardEnd rest is = refl
+event_sent (Sent byte) rest is = absurd is
+
+pub rounds_sent_are : (rounds : List Round) → AreEvents rounds → sent_bytes (rounds_doings rounds) ≡ rounds_bytes rounds
+rounds_sent_are [] are = refl
+rounds_sent_are (round ∷ rounds) are =
+    let sent = sends (round_bytes round) in
+    event_sent round.event (sent ++ rounds_doings rounds) are.0
+    ∙ (sent_append sent (rounds_doings rounds)
+    ∙ (ap (λ l. l ++ sent_bytes (rounds_doings rounds)) (sent_sends (round_bytes round))
+    ∙ ap (λ l. round_bytes round ++ l) (rounds_sent_are rounds are.1)))
+
+pub rounds_latest : (rounds : List Round) → latest_slot (rounds_doings rounds) ≡ greatest_slot rounds
+rounds_latest [] = refl
+rounds_latest (round ∷ rounds) =
+    let sent = sends (round_bytes round) in
+    omega (arith, latest_append sent (rounds_doings rounds), latest_sends (round_bytes round), rounds_latest rounds)
+
+-- a front that no byte follows is that of whole rounds
+pub record AreWhole (rounds : List Round) (front : List IoEvent) : Type 0 where
+  pub first : List Round
+  pub later : List Round
+  pub parts : rounds ≡ first ++ later
+  pub front_is : front ≡ rounds_doings first
+
+past_sends : (bytes : List ℕ) (rest front after : List IoEvent) → sends bytes ++ rest ≡ front ++ after
+    → ((byte : ℕ) (later : List IoEvent) → after ≡ Sent byte ∷ later → ⊥)
+    → ((more : List IoEvent) × ((front ≡ sends bytes ++ more) × (rest ≡ more ++ after)))
+past_sends [] rest front after is whole = (front, (refl, is))
+past_sends (b ∷ bytes) rest [] after is whole =
+    let next : after ≡ Sent b ∷ (sends bytes ++ rest) = sym is in absurd (whole b (sends bytes ++ rest) next)
+past_sends (b ∷ bytes) rest (d ∷ front) after is whole =
+    let first : d ≡ Sent b = cc in
+    let tail : sends bytes ++ rest ≡ front ++ after = cc in
+    let next = past_sends bytes rest front after tail whole in
+    (next.0, (ap (λ l. d ∷ l) next.1.0 ∙ ap (λ x. x ∷ (sends bytes ++ next.0)) first, next.1.1))
+
+joined_front : {event d : IoEvent} {front more rest : List IoEvent} (sent : List IoEvent) → d ≡ event
+    → front ≡ sent ++ more → more ≡ rest → d ∷ front ≡ (event ∷ sent) ++ rest
+joined_front {event} {front} {more} sent first is same =
+    ap (λ x. x ∷ front) first ∙ (ap (λ l. event ∷ l) is ∙ ap (λ l. event ∷ (sent ++ l)) same)
+
+pub whole_rounds : (rounds : List Round) (front after : List IoEvent) → rounds_doings rounds ≡ front ++ after
+    → ((byte : ℕ) (later : List IoEvent) → after ≡ Sent byte ∷ later → ⊥) → AreWhole rounds front
+whole_rounds rounds [] after is whole = record { first = []; later = rounds; parts = refl; front_is = refl }
+whole_rounds [] (d ∷ front) after is whole = absurd (let no : ⊥ = cc in no)
+whole_rounds (round ∷ rounds) (d ∷ front) after is whole =
+    let first : d ≡ round.event = cc in
+    let tail : sends (round_bytes round) ++ rounds_doings rounds ≡ front ++ after = cc in
+    let next = past_sends (round_bytes round) (rounds_doings rounds) front after tail whole in
+    let rest = whole_rounds rounds next.0 after next.1.1 whole in
+    record {
+      first = round ∷ rest.first;
+      later = rest.later;
+      parts = ap (λ l. round ∷ l) rest.parts;
+      front_is = joined_front (sends (round_bytes round)) first next.1.0 rest.front_is;
+    }

@@ -1,0 +1,308 @@
+-- What a server's connection sent of its one play by the step of a slot.
+use Rattle.std.specs.Prelude.{⊤}
+use Rattle.std.proofs.Common.{◌≡◌, ℕ, ◌<◌, ◌≤◌, ◌⊎◌, List, [], ◌∷◌, ◌++◌, refl, sym, ap, subst, ◌∙◌, append_assoc}
+use Rattle.std.proofs.Common.{arith, inl, inr}
+use Rattle.vod_base.specs.Links.{IoEvent, HeardBytes, HeardEnd, HeardSlot, Sent}
+use Rattle.plan_cert.specs.Plan.{IsPlan}
+use Rattle.plan_cert.specs.PlanSlots.{total_bytes}
+use Rattle.film_frames.specs.FramedRuns.{run_pieces}
+use Rattle.admission.specs.declared.entries.Answer.{Answer}
+use Rattle.admission.specs.declared.entries.Answer.TheVariants.{Admitted, Halted, Looked, Overflow}
+use Rattle.admission.specs.declared.entries.Command.{Command}
+use Rattle.admission.specs.declared.entries.Command.TheVariants.{Play as PlayCommand, Halt as HaltCommand}
+use Rattle.admission.specs.declared.entries.Command.TheVariants.{Look as LookCommand}
+use Rattle.admission.specs.Makers.{PlacedEntry}
+use Rattle.session.specs.declared.states.Awaited.{Awaited}
+use Rattle.session.specs.declared.states.Awaited.TheVariants.{Nothing, Play, Halt, Look, Offer}
+use Rattle.session.specs.declared.states.Prepared.{Prepared}
+use Rattle.session.specs.SlotSteps.{after_slot}
+use Rattle.session.specs.SessionStates.{SessionState, awaited_answer_of}
+use Rattle.conn.specs.EventSteps.{Round, Runs}
+use Rattle.conn.specs.InputSteps.{Outcome, Unasked, Entered, WasFull, Offered, Stage, ElementStep, Passed, Answered}
+use Rattle.conn.specs.InputSteps.{IsFinished}
+use Rattle.conn.specs.InputSteps.{TakesAll, film_bytes}
+use Rattle.connection_laws.specs.Courses.{IsCourseBetween, IsCourseSplit, asked_by, askings_of, round_askings}
+use Rattle.connection_laws.specs.Courses.{takings_askings}
+use Rattle.connection_laws.specs.Plays.{StationRequest, Asks, FilmPlay, plays_admitted, plays_begun, kept_by, kept_in}
+use Rattle.connection_laws.specs.Plays.{kept_with}
+use Rattle.connection_laws.specs.Plays.{plays_of}
+use Rattle.connection_laws.proofs.FilmBytes.{Stands, opened_stands, round_step, stands_by, taken_stands, takes_step}
+use Rattle.connection_laws.proofs.CourseJoins.{parts_of}
+use Rattle.connection_laws.proofs.RequestEffects.{Begins, Ends, Starts, Stays, TurnsAs, turns_as}
+use Rattle.conn.proofs.EventPremises.{EventCome}
+
+-- ---- askings in two parts
+
+pub askings_parts : (old new : Stage) (first rest : List Round) (follows : IsCourseBetween old (first ++ rest) new)
+    → let parts : IsCourseSplit old first rest new = parts_of old new first rest follows in
+    askings_of old (first ++ rest) new follows ≡ askings_of old first parts.0 parts.1.0
+    ++ askings_of parts.0 rest new parts.1.1
+askings_parts old new [] rest follows = refl
+askings_parts old new (round ∷ first) rest follows =
+    let made = round_askings old round follows.0 follows.1.0 in
+    let parts = parts_of follows.0 new first rest follows.1.1 in
+    ap (λ l. made ++ l) (askings_parts follows.0 new first rest follows.1.1)
+    ∙ sym (append_assoc made (askings_of follows.0 first parts.0 parts.1.0) (askings_of parts.0 rest new parts.1.1))
+
+-- ---- what is kept, and which plays begin
+
+kept_append : (a b : List StationRequest) (all : ℕ) → kept_in (a ++ b) all ≡ kept_in a (kept_in b all)
+kept_append [] b all = refl
+kept_append (Asks asked outcome ∷ a) b all = ap (kept_with outcome) (kept_append a b all)
+
+-- what is kept is what is kept later, or a number
+abbrev IsKeptSome : (ℕ → ℕ) → Type 0
+IsKeptSome keep = ((later : ℕ) → keep later ≡ later) ⊎ ((n : ℕ) × ((later : ℕ) → keep later ≡ n))
+
+kept_command : (command : Command) → IsKeptSome (kept_by command)
+kept_command (PlayCommand slot plan) = inl (λ later. refl)
+kept_command (HaltCommand number keep) = inr (keep, λ later. refl)
+kept_command (LookCommand slot) = inl (λ later. refl)
+
+kept_outcome : (outcome : Outcome) → IsKeptSome (kept_with outcome)
+kept_outcome Unasked = inl (λ later. refl)
+kept_outcome (Entered placed) = kept_command placed.entry.command
+kept_outcome (WasFull more entries live) = inl (λ later. refl)
+kept_outcome (Offered slot note) = inl (λ later. refl)
+
+kept_both : (one two : ℕ → ℕ) → IsKeptSome one → IsKeptSome two → IsKeptSome (λ later. one (two later))
+kept_both one two (inl same) (inl other) = inl (λ later. same (two later) ∙ other later)
+kept_both one two (inl same) (inr (n, is)) = inr (n, λ later. same (two later) ∙ is later)
+kept_both one two (inr (n, is)) other = inr (n, λ later. is (two later))
+
+kept_some : (a : List StationRequest) → IsKeptSome (kept_in a)
+kept_some [] = inl (λ later. refl)
+kept_some (Asks asked outcome ∷ a) = kept_both (kept_with outcome) (kept_in a) (kept_outcome outcome) (kept_some a)
+
+-- where all is kept in the end, all is kept so far
+kept_all : (a : List StationRequest) (rest all : ℕ) → IsKeptSome (kept_in a) → kept_in a rest ≡ all → kept_in a all ≡
+    all
+kept_all a rest all (inl same) is = same all
+kept_all a rest all (inr (n, const)) is = const all ∙ (sym (const rest) ∙ is)
+
+abbrev begun_play : Prepared → ℕ → List StationRequest → FilmPlay
+begun_play prepared start askings = record {
+  start = start;
+  plan = prepared.plan;
+  keep = kept_in askings (total_bytes prepared.plan);
+  before = prepared.run.sent;
+  pieces = run_pieces prepared.frames;
+}
+
+-- an asking begins no play, or one
+data Beginning (asked : Awaited) (outcome : Outcome) : Type 0 where
+  BeginsNone : ((askings : List StationRequest) → plays_begun asked outcome askings ≡ []) → Beginning asked outcome
+  BeginsOne : (prepared : Prepared) (start : ℕ)
+      → ((askings : List StationRequest) → plays_begun asked outcome askings ≡ begun_play prepared start askings ∷ [])
+      → Beginning asked outcome
+
+entered_either : (asked : Awaited) (placed : PlacedEntry) (answer : Answer) → placed.entry.answer ≡ answer
+    → Beginning asked (Entered placed)
+entered_either (Play prepared) placed (Admitted start) is =
+    BeginsOne prepared start (λ askings. ap (λ a. plays_admitted (Play prepared) a askings) is)
+entered_either (Play prepared) placed (Overflow slot booked asks) is =
+    BeginsNone (λ askings. ap (λ a. plays_admitted (Play prepared) a askings) is)
+entered_either (Play prepared) placed Halted is =
+    BeginsNone (λ askings. ap (λ a. plays_admitted (Play prepared) a askings) is)
+entered_either (Play prepared) placed (Looked now at booked) is =
+    BeginsNone (λ askings. ap (λ a. plays_admitted (Play prepared) a askings) is)
+entered_either Nothing placed answer is = BeginsNone (λ askings. refl)
+entered_either (Halt keep next) placed answer is = BeginsNone (λ askings. refl)
+entered_either (Look sequence) placed answer is = BeginsNone (λ askings. refl)
+entered_either (Offer sequence) placed answer is = BeginsNone (λ askings. refl)
+
+either : (asked : Awaited) (outcome : Outcome) → Beginning asked outcome
+either asked Unasked = BeginsNone (λ askings. refl)
+either asked (Entered placed) = entered_either asked placed placed.entry.answer refl
+either asked (WasFull more entries live) = BeginsNone (λ askings. refl)
+either asked (Offered slot note) = BeginsNone (λ askings. refl)
+
+-- none at all, none so far
+before_by : {asked : Awaited} {outcome : Outcome} (a b : List StationRequest)
+    → (plays_of (a ++ b) ≡ [] → plays_of a ≡ []) → Beginning asked outcome
+    → plays_of (Asks asked outcome ∷ (a ++ b)) ≡ []
+    → plays_of (Asks asked outcome ∷ a) ≡ []
+before_by a b rest (BeginsNone is) none =
+    ap (λ l. l ++ plays_of a) (is a) ∙ rest (sym (ap (λ l. l ++ plays_of (a ++ b)) (is (a ++ b))) ∙ none)
+before_by a b rest (BeginsOne prepared start is) none =
+    let some : begun_play prepared start (a ++ b) ∷ plays_of (a ++ b) ≡ [] =
+    sym (ap (λ l. l ++ plays_of (a ++ b)) (is (a ++ b))) ∙ none in
+    absurd (let no : ⊥ = cc in no)
+
+none_before : (a b : List StationRequest) → plays_of (a ++ b) ≡ [] → plays_of a ≡ []
+none_before [] b none = refl
+none_before (Asks asked outcome ∷ a) b none = before_by a b (none_before a b) (either asked outcome) none
+
+-- one play that is kept whole: it began already, and is the same, or it begins later
+abbrev pub IsSoFar : List StationRequest → List StationRequest → FilmPlay → Type 0
+IsSoFar a b play = (plays_of a ≡ play ∷ []) ⊎ ((plays_of a ≡ []) × (plays_of b ≡ play ∷ []))
+
+one_by : {asked : Awaited} {outcome : Outcome} {play : FilmPlay} (a b : List StationRequest)
+    → (plays_of (a ++ b) ≡ play ∷ [] → IsSoFar a b play) → Beginning asked outcome
+    → plays_of (Asks asked outcome ∷ (a ++ b)) ≡ play ∷ [] → play.keep ≡ total_bytes play.plan
+    → IsSoFar (Asks asked outcome ∷ a) b play
+one_by {play} a b rest (BeginsNone is) one whole =
+    let P : List FilmPlay → Type 0 = λ l. (l ++ plays_of a ≡ play ∷ [])
+    ⊎ ((l ++ plays_of a ≡ []) × (plays_of b ≡ play ∷ [])) in
+    subst P (sym (is a)) (rest (sym (ap (λ l. l ++ plays_of (a ++ b)) (is (a ++ b))) ∙ one))
+one_by {play} a b rest (BeginsOne prepared start is) one whole =
+    let there : begun_play prepared start (a ++ b) ∷ plays_of (a ++ b) ≡ play ∷ [] =
+    sym (ap (λ l. l ++ plays_of (a ++ b)) (is (a ++ b))) ∙ one in
+    let same : begun_play prepared start (a ++ b) ≡ play = cc in
+    let none : plays_of (a ++ b) ≡ [] = cc in
+    let all : kept_in (a ++ b) (total_bytes prepared.plan) ≡ total_bytes prepared.plan =
+    ap (λ (p : FilmPlay). p.keep) same ∙ (whole ∙ sym (ap (λ (p : FilmPlay). total_bytes p.plan) same)) in
+    let kept : kept_in a (total_bytes prepared.plan) ≡ kept_in (a ++ b) (total_bytes prepared.plan) =
+    kept_all a (kept_in b (total_bytes prepared.plan)) (total_bytes prepared.plan) (kept_some a)
+    (sym (kept_append a b (total_bytes prepared.plan)) ∙ all) ∙ sym all in
+    let mine : begun_play prepared start a ≡ begun_play prepared start (a ++ b) =
+    ap (λ k. record (begun_play prepared start a) { keep = k }) kept in
+    inl (ap (λ l. l ++ plays_of a) (is a)
+    ∙ (ap (λ l. begun_play prepared start a ∷ l) (none_before a b none) ∙ ap (λ p. p ∷ []) (mine ∙ same)))
+
+pub one_so_far : (a b : List StationRequest) (play : FilmPlay) → plays_of (a ++ b) ≡ play ∷ []
+    → play.keep ≡ total_bytes play.plan → IsSoFar a b play
+one_so_far [] b play one whole = inr (refl, one)
+one_so_far (Asks asked outcome ∷ a) b play one whole =
+    one_by a b (λ is. one_so_far a b play is whole) (either asked outcome) one whole
+
+-- ---- a play begins after the slot that was heard, with a plan of segments
+
+pub record IsLatePlay (heard : ℕ) (play : FilmPlay) : Type 0 where
+  pub late : heard < play.start
+  pub plan : IsPlan play.plan
+
+abbrev IsLate : ℕ → Awaited → Outcome → Type 0
+IsLate heard asked outcome =
+    (askings : List StationRequest) (play : FilmPlay) (rest : List FilmPlay)
+    → plays_begun asked outcome askings ≡ play ∷ rest → IsLatePlay heard play
+
+abbrev pub AreLate : ℕ → List StationRequest → Type 0
+AreLate heard [] = ⊤
+AreLate heard (Asks asked outcome ∷ askings) = IsLate heard asked outcome × AreLate heard askings
+
+late_append : (heard : ℕ) (a b : List StationRequest) → AreLate heard a → AreLate heard b → AreLate heard (a ++ b)
+late_append heard [] b one two = two
+late_append heard (Asks asked outcome ∷ a) b one two = (one.0, late_append heard a b one.1 two)
+
+late_lower : (low heard : ℕ) (a : List StationRequest) → low ≤ heard → AreLate heard a → AreLate low a
+late_lower low heard [] less are = tt
+late_lower low heard (Asks asked outcome ∷ a) less are = (
+  λ askings play rest is. let its =
+      are.0 askings play rest is in record { late = omega (arith, less, its.late); plan = its.plan },
+  late_lower low heard a less are.1,
+)
+
+late_by : {heard : ℕ} {asked : Awaited} {outcome : Outcome} {play : FilmPlay} {rest : List FilmPlay}
+    (a : List StationRequest)
+    → (plays_of a ≡ play ∷ rest → IsLatePlay heard play) → Beginning asked outcome
+    → AreLate heard (Asks asked outcome ∷ a) → plays_of (Asks asked outcome ∷ a) ≡ play ∷ rest → IsLatePlay heard play
+late_by a next (BeginsNone none) are is =
+    next (sym (ap (λ l. l ++ plays_of a) (none a)) ∙ is)
+late_by {play} {rest} a next (BeginsOne prepared start one) are is =
+    let all : begun_play prepared start a ∷ plays_of a ≡ play ∷ rest = sym (ap (λ l. l ++ plays_of a) (one a)) ∙ is in
+    let same : begun_play prepared start a ≡ play = cc in
+    are.0 a play [] (one a ∙ ap (λ p. p ∷ []) same)
+
+pub late_play : (heard : ℕ) (a : List StationRequest) (play : FilmPlay) (rest : List FilmPlay) → AreLate heard a
+    → plays_of a ≡ play ∷ rest → IsLatePlay heard play
+late_play heard [] play rest are is = absurd (let no : ⊥ = cc in no)
+late_play heard (Asks asked outcome ∷ a) play rest are is =
+    late_by a (λ same. late_play heard a play rest are.1 same) (either asked outcome) are is
+
+-- by what was asked
+none_late : (heard : ℕ) (asked : Awaited) (outcome : Outcome)
+    → ((askings : List StationRequest) → plays_begun asked outcome askings ≡ []) → IsLate heard asked outcome
+none_late heard asked outcome none = λ askings play rest is.
+    let clash : [] ≡ play ∷ rest = sym (none askings) ∙ is in absurd (let no : ⊥ = cc in no)
+
+begins_late : (old new : SessionState) (asked : Awaited) (outcome : Outcome) → Begins old asked outcome new
+    → IsLate old.heard asked outcome
+begins_late old new asked outcome begins = λ askings play rest is.
+    let mine : plays_begun asked outcome askings ≡ begun_play begins.prepared begins.start askings ∷ [] =
+    ap (λ o. plays_begun asked o askings) begins.outcome_is
+    ∙ (ap (λ a. plays_admitted a begins.placed.entry.answer askings) begins.asked_is
+    ∙ ap (λ a. plays_admitted (Play begins.prepared) a askings) begins.answer) in
+    let all : begun_play begins.prepared begins.start askings ∷ [] ≡ play ∷ rest = sym mine ∙ is in
+    let same : begun_play begins.prepared begins.start askings ≡ play = cc in
+    let L : FilmPlay → Type 0 = λ p. IsLatePlay old.heard p in
+    subst L same (record { late = begins.later; plan = subst IsPlan begins.paced begins.pacing.plan })
+
+turn_late : (old new : SessionState) (asked : Awaited) (outcome : Outcome) → TurnsAs old asked outcome new
+    → IsLate old.heard asked outcome
+turn_late old new asked outcome (Stays same after still) = none_late old.heard asked outcome still.none
+turn_late old new asked outcome (Starts after begins) = begins_late old new asked outcome begins
+turn_late old new asked outcome (Ends after halts) = none_late old.heard asked outcome halts.none
+
+takes_late : (old new : Stage) (takings : List ElementStep) (takes : TakesAll old takings new) → Stands old.session
+    → AreLate old.session.heard (takings_askings old takings new takes)
+takes_late old new [] takes stands = tt
+takes_late old new (Passed n ∷ takings) takes stands =
+    let same : takes.0.session ≡ old.session = ap (λ (s : Stage). s.session) takes.1.0.2 in
+    let P : SessionState → Type 0 = λ s. AreLate s.heard (takings_askings takes.0 takings new takes.1.1) in
+    subst P same (takes_late takes.0 new takings takes.1.1 (taken_stands old takes.0 (Passed n) takes.1.0 stands))
+takes_late old new (Answered message outcome parts ∷ takings) takes stands =
+    let replied = takes.1.0 in
+    let mid = taken_stands old takes.0 (Answered message outcome parts) takes.1.0 stands in
+    let one = takes_step old takes.0 (Answered message outcome parts ∷ []) (takes.0, (takes.1.0, refl)) stands in (
+      turn_late old.session replied.answered replied.heard.asking.awaited outcome
+          (turns_as old.session message outcome replied.answered replied.heard stands.rest),
+      late_lower old.session.heard takes.0.session.heard (takings_askings takes.0 takings new takes.1.1)
+          one.on.later (takes_late takes.0 new takings takes.1.1 mid),
+    )
+
+-- the halt of a play that is done begins none
+halt_none : (asked : Awaited) (halt : Outcome) (s new : SessionState)
+    → IsFinished (awaited_answer_of asked) s halt new → (askings : List StationRequest) → plays_begun asked halt askings
+    ≡ []
+halt_none Nothing Unasked s new is = λ askings. refl
+halt_none Nothing (Entered placed) s new is = absurd is
+halt_none Nothing (WasFull more entries live) s new is = λ askings. refl
+halt_none Nothing (Offered slot note) s new is = λ askings. refl
+halt_none (Play prepared) halt s new is = absurd is
+halt_none (Halt keep next) Unasked s new is = λ askings. refl
+halt_none (Halt keep next) (Entered placed) s new is = λ askings. refl
+halt_none (Halt keep next) (WasFull more entries live) s new is = λ askings. refl
+halt_none (Halt keep next) (Offered slot note) s new is = λ askings. refl
+halt_none (Look sequence) halt s new is = absurd is
+halt_none (Offer sequence) halt s new is = absurd is
+
+pub comes_none : {old opened : Stage} {event : IoEvent} (come : EventCome old event opened) (askings : List
+    StationRequest) →
+    plays_begun (asked_by old.session event) come.halt askings ≡ []
+comes_none {event = HeardBytes bytes} come = λ askings. ap (λ h. plays_begun Nothing h askings) come.comes.1
+comes_none {old} {opened} {event = HeardSlot slot} come =
+    halt_none (after_slot old.session slot).awaited come.halt (after_slot old.session slot) opened.session
+    come.comes.1.finished
+comes_none {event = HeardEnd} come = absurd come.comes
+comes_none {event = Sent byte} come = absurd come.comes
+
+-- an event leaves the heard slot, or raises it
+opened_heard : (old new : Stage) (round : Round) (runs : Runs old round new) → Stands old.session
+    → old.session.heard ≤ runs.opened.session.heard
+opened_heard old new round runs stands =
+    let alone : Runs old (record round { takings = [] }) runs.opened =
+    record { opened = runs.opened; comes = runs.comes; takes = refl } in
+    (round_step old runs.opened (record round { takings = [] }) alone stands).on.later
+
+pub course_late : (old new : Stage) (rounds : List Round) (follows : IsCourseBetween old rounds new) → Stands
+    old.session
+    → AreLate old.session.heard (askings_of old rounds new follows)
+course_late old new [] follows stands = tt
+course_late old new (round ∷ rounds) follows stands =
+    let runs = follows.1.0 in
+    let step = round_step old follows.0 round runs stands in
+    let mid : Stands follows.0.session =
+    stands_by old.session follows.0.session (round_askings old round follows.0 runs) (film_bytes round.due) step in
+    let opened = opened_stands old follows.0 round runs stands in
+    let grown : old.session.heard ≤ runs.opened.session.heard = opened_heard old follows.0 round runs stands in
+    late_append old.session.heard (round_askings old round follows.0 runs)
+    (askings_of follows.0 rounds new follows.1.1) (
+      none_late old.session.heard (asked_by old.session round.event) round.halt
+          (comes_none (record { due = round.due; halt = round.halt; comes = runs.comes })),
+      late_lower old.session.heard runs.opened.session.heard
+          (takings_askings runs.opened round.takings follows.0 runs.takes) grown
+          (takes_late runs.opened follows.0 round.takings runs.takes opened),
+    )
+    (late_lower old.session.heard follows.0.session.heard (askings_of follows.0 rounds new follows.1.1)
+    step.on.later (course_late follows.0 new rounds follows.1.1 mid))

@@ -1,0 +1,280 @@
+-- What a slot makes of a session and of the reply that is held up.
+use Rattle.std.proofs.Common.{◌≡◌, ℕ, ◌+◌, ◌^◌, ◌<◌, ◌≤◌, ◌++◌, ◌&&◌, if◌then◌else◌, Bool}
+use Rattle.std.proofs.Common.{true, false, nat_lt, nat_le, List, [], ◌∷◌, Option, Some, None, refl}
+use Rattle.std.proofs.Common.{ap, sym, ◌∙◌, subst, arith}
+use Rattle.conn.proofs.PlayProgress.{reply_state, reply_heard}
+use Rattle.std.proofs.lemmas.Bool.{ltb-true, true≢false, and_parts}
+use Rattle.std.proofs.lemmas.List.{append-nil}
+use Rattle.plan_cert.specs.PlanSlots.{total_bytes}
+use Rattle.pacer.specs.PacerStates.{IsPacerState, PacerState, is_done}
+use Rattle.admission.specs.declared.entries.Command.TheVariants.{Halt as HaltCommand}
+use Rattle.admission.specs.Makers.{PlacedEntry}
+use Rattle.session.specs.declared.states.Awaited.{Awaited}
+use Rattle.session.specs.declared.states.Awaited.TheVariants.{Nothing, Halt}
+use Rattle.session.specs.declared.states.AfterHalt.TheVariants.{Done}
+use Rattle.session.specs.declared.states.Play.{Play as Played}
+use Rattle.session.specs.declared.states.Setup.{Setup}
+use Rattle.session.specs.declared.states.State.{State}
+use Rattle.session.specs.declared.states.State.TheVariants.{Init, Ready, Playing, Stopping}
+use Rattle.session.specs.RequestSteps.{is_answered}
+use Rattle.session.specs.SlotSteps.{after_play, is_between, is_done_in, is_sending, next_of, sent_due, sent_in}
+use Rattle.session.specs.SlotSteps.{sent_slot, after_slot, stepped_in}
+use Rattle.session.specs.SessionStates.{NoAnswer, SessionState, awaited_answer, awaited_answer_of}
+use Rattle.conn.specs.InputSteps.{Entered, IsFinished, IsHaltAnswered, IsHalted, Offered, Outcome, SentPart, Unasked}
+use Rattle.conn.specs.InputSteps.{WasFull}
+use Rattle.conn.specs.InputSteps.{due_parts}
+use Rattle.connection_laws.specs.Plays.{StationRequest, Asks, plays_admitted, plays_begun, kept_by, kept_in, kept_with}
+use Rattle.connection_laws.specs.Plays.{plays_of}
+use Rattle.connection_laws.proofs.FilmBytes.{Stands, done_kept, halt_state, idle_sound, reply_awaited, reply_waits}
+use Rattle.connection_laws.proofs.FilmBytes.{sent_on}
+use Rattle.connection_laws.proofs.JoinedFilms.{IsOnTime, IsSound}
+use Rattle.connection_laws.proofs.TextPlaces.{AreLater, StandAt, from_lower, later_lower, over_at}
+use Rattle.connection_laws.proofs.ReplyBoundaries.{slot_moves, still_fits}
+use Rattle.connection_laws.proofs.Slots.{state_after, waits_after}
+use Rattle.connection_laws.proofs.RequestEffects.{Going, Idle, IsStill, sends_in, unasked_still}
+use Rattle.connection_laws.proofs.WaitingReplies.{Fits, GoesTo, IsHeld, point}
+use Rattle.connection_laws.proofs.SessionMoves.{HeldIn, Move, move_then}
+
+-- nothing is asked
+pub still_move : {s new : SessionState} {asked : Awaited} {outcome : Outcome} {pending : Option ℕ} → new ≡ s
+    → IsStill asked outcome → HeldIn pending s
+    → Move s new pending (Asks asked outcome ∷ []) [] []
+still_move {s} {new} {asked} {outcome} {pending} same still held =
+    subst (λ n. Move s n pending (Asks asked outcome ∷ []) [] []) (sym same) (record {
+      after = pending;
+      held = held;
+      goes_on = record {
+        later = omega arith;
+        rest = λ askings end more rest on fits. still_fits still fits;
+      };
+    })
+
+unasked_move : (s : SessionState) (halt : Outcome) (new : SessionState) (pending : Option ℕ) → HeldIn pending s
+    → IsFinished NoAnswer s halt new
+    → Move s new pending (Asks s.awaited halt ∷ []) [] []
+unasked_move s Unasked new pending held finishing = still_move finishing (unasked_still s.awaited) held
+unasked_move s (Entered placed) new pending held finishing = absurd finishing
+unasked_move s (WasFull more entries live) new pending held finishing = absurd finishing
+unasked_move s (Offered at_slot note) new pending held finishing = absurd finishing
+
+rest_move : {s : SessionState} {halt : Outcome} {new : SessionState} {pending : Option ℕ} → s.awaited ≡ Nothing
+    → HeldIn pending s → IsFinished (awaited_answer s) s halt new
+    → Move s new pending (Asks s.awaited halt ∷ []) [] []
+rest_move {s} {halt} {new} {pending} rest held finishing =
+    unasked_move s halt new pending held (subst (λ a. IsFinished (awaited_answer_of a) s halt new) rest finishing)
+
+-- a play that is done: no reply is held up, and it is halted with all that was sent
+done_unheld : {p : PacerState} {pending : Option ℕ} (waits : Bool) (heard : ℕ) → IsPacerState p → p.sent ≡ p.keep
+    → IsHeld pending (Going p) waits heard
+    → pending ≡ None
+done_unheld {p} {pending = None} waits heard is done held = refl
+done_unheld {p} {pending = Some slot} waits heard is done held =
+    let past = held.1.none (p.before + p.keep) is.ends (omega arith) in absurd (omega (arith, past, done))
+
+done_fits : {p : PacerState} {heard : ℕ} {asked : Awaited} {placed : PlacedEntry} {number keep : ℕ} {askings : List
+    StationRequest}
+    {end : ℕ} {slots : List ℕ} {parts : List SentPart} → IsOnTime p heard → keep ≡ p.sent
+    → placed.entry.command ≡ HaltCommand number keep → asked ≡ Halt keep Done → heard ≤ end
+    → Fits (point Idle heard None) askings end slots parts
+    → Fits (point (Going p) heard None) (Asks asked (Entered placed) ∷ askings) end slots parts
+done_fits {p} {heard} {asked} {placed} {number} {keep} {askings} {end} {slots} {parts} on sent command asks ends fits =
+    let kept : kept_with (Entered placed) (kept_in askings (total_bytes p.plan)) ≡ keep =
+    ap (λ c. kept_by c (kept_in askings (total_bytes p.plan))) command in
+    let none : plays_begun asked (Entered placed) askings ≡ [] =
+    ap (λ a. plays_admitted a placed.entry.answer askings) asks in
+    record {
+      from = fits.from;
+      later = subst (λ ps. AreLater heard (ps ++ plays_of askings)) (sym none) fits.later;
+      stand = subst (λ k. StandAt p k None (plays_begun asked (Entered placed) askings ++ plays_of askings) end
+          slots parts) (sym kept)
+          (subst (λ ps. StandAt p keep None (ps ++ plays_of askings) end slots parts) (sym none)
+          (over_at on (sym sent) ends fits.from fits.later fits.stand));
+    }
+
+-- a session's play is done, and its halt is asked for
+record DonePlay (s : SessionState) (setup : Setup) (play : Played) (keep : ℕ) : Type 0 where
+  state_is : s.state ≡ Playing setup play
+  sound : IsSound (sends_in s.state) s.waits s.heard
+  done : is_done play.pacer ≡ true
+  sent : keep ≡ play.pacer.sent
+  asks : s.awaited ≡ Halt keep Done
+
+done_move : {s : SessionState} {setup : Setup} {play : Played} {placed : PlacedEntry} {keep : ℕ} {new : SessionState}
+    {pending : Option ℕ} → DonePlay s setup play keep → IsHaltAnswered s keep placed new → HeldIn pending s →
+    Move s new pending (Asks s.awaited (Entered placed) ∷ []) [] []
+done_move {s} {play} {placed} {new} {pending} finished halted held =
+    let p : PacerState = play.pacer in
+    let on : IsOnTime p s.heard = (subst (λ st. IsSound (sends_in st) s.waits s.heard) is sound).0 in
+    let here : IsHeld pending (Going p) s.waits s.heard =
+    subst (λ st. IsHeld pending (sends_in st) s.waits s.heard) is held in
+    let none : pending ≡ None = done_unheld s.waits s.heard on.pacing (done_kept p done) here in
+    let waits : s.waits ≡ false = subst (λ o. IsHeld o (Going p) s.waits s.heard) none here in
+    let sends : sends_in new.state ≡ Idle =
+    ap (λ (n : SessionState). sends_in n.state) halted.halts ∙ halt_state is asks in
+    let heard : new.heard ≡ s.heard = ap (λ (n : SessionState). n.heard) halted.halts in
+    let later : new.waits ≡ false =
+    ap (λ (n : SessionState). n.waits) halted.halts
+    ∙ ap (λ (a : Awaited). if is_answered (next_of a) then true else s.waits) asks ∙ waits in
+    let goes : GoesTo (point (Going p) s.heard None) (point Idle s.heard None) (Asks s.awaited (Entered placed) ∷ [])
+    [] [] = record {
+      later = omega arith;
+      rest = λ askings end more rest ends fits.
+          done_fits on sent halted.command asks ends fits;
+    } in
+    record {
+      after = None;
+      held = later;
+      goes_on = subst (λ o. GoesTo (point (sends_in s.state) s.heard o) (point (sends_in new.state) new.heard None)
+          (Asks s.awaited (Entered placed) ∷ []) [] []) (sym none)
+          (subst (λ x. GoesTo (point x s.heard None) (point (sends_in new.state) new.heard None)
+          (Asks s.awaited (Entered placed) ∷ []) [] []) (sym (ap sends_in is))
+          (subst (λ x. GoesTo (point (Going p) s.heard None) (point x new.heard None)
+          (Asks s.awaited (Entered placed) ∷ []) [] []) (sym sends)
+          (subst (λ h. GoesTo (point (Going p) s.heard None) (point Idle h None)
+          (Asks s.awaited (Entered placed) ∷ []) [] [])
+          (sym heard) goes)));
+    }
+  where
+    open finished use {state_is as is, sound, done, sent, asks}
+
+halted_move : {s : SessionState} {setup : Setup} {play : Played} {halt : Outcome} {keep : ℕ} {new : SessionState}
+    {pending : Option ℕ} → DonePlay s setup play keep → IsHalted s keep halt new → HeldIn pending s →
+    Move s new pending (Asks s.awaited halt ∷ []) [] []
+halted_move {s} {halt = Unasked} {new} finished halted held = absurd halted
+halted_move {s} {halt = Entered placed} {new} finished halted held =
+    done_move finished halted held
+halted_move {s} {halt = WasFull more entries live} {new} finished halted held = absurd halted
+halted_move {s} {halt = Offered at_slot note} {new} finished halted held = absurd halted
+
+finishes_move : {s : SessionState} {state : State} {halt : Outcome} {new : SessionState} {pending : Option ℕ} → s.state
+    ≡ state
+    → IsSound (sends_in s.state) s.waits s.heard → is_done_in state ≡ true
+    → s.awaited ≡ Halt (sent_in state) Done → IsFinished (awaited_answer s) s halt new
+    → HeldIn pending s → Move s new pending (Asks s.awaited halt ∷ []) [] []
+finishes_move {s} {state = Init} {halt} {new} is sound done asks finishing held = absurd (true≢false (sym done))
+finishes_move {s} {state = Ready setup paused} {halt} {new} is sound done asks finishing held =
+    absurd (true≢false (sym done))
+finishes_move {s} {state = Playing setup play} {halt} {new} is sound done asks finishing held =
+    halted_move (record { state_is = is; sound = sound; done = done; sent = refl; asks = asks })
+    (subst (λ a. IsFinished (awaited_answer_of a) s halt new) asks finishing) held
+finishes_move {s} {state = Stopping setup stop} {halt} {new} is sound done asks finishing held =
+    absurd (true≢false (sym done))
+
+finished_move : {s : SessionState} {halt : Outcome} {new : SessionState} {done : Bool} {pending : Option ℕ}
+    → IsSound (sends_in s.state) s.waits s.heard
+    → is_done_in s.state ≡ done → s.awaited ≡ (if done then Halt (sent_in s.state) Done else Nothing)
+    → IsFinished (awaited_answer s) s halt new → HeldIn pending s
+    → Move s new pending (Asks s.awaited halt ∷ []) [] []
+finished_move {s} {halt} {new} {done = true} sound is asks finishing held =
+    finishes_move refl sound is asks finishing held
+finished_move {s} {halt} {new} {done = false} sound is asks finishing held = rest_move asks held finishing
+
+-- a session that stands, with the slot in which a reply is held
+pub record StandingHeld (old : SessionState) (pending : Option ℕ) : Type 0 where
+  pub stands : Stands old
+  pub held : HeldIn pending old
+
+sent_move : {old : SessionState} {halt : Outcome} {new : SessionState} {pending : Option ℕ} (slot : ℕ) →
+    StandingHeld old pending →
+    IsSound (sends_in (after_play (sent_slot old slot)).state) (after_play (sent_slot old slot)).waits
+    (after_play (sent_slot old slot)).heard →
+    is_sending old.state ≡ true → old.heard < slot →
+    IsFinished (awaited_answer (after_play (sent_slot old slot))) (after_play (sent_slot old slot)) halt new →
+    Move old new pending (Asks (after_play (sent_slot old slot)).awaited halt ∷ []) [] (due_parts old slot)
+sent_move {old} {halt} {new} {pending} slot standing sound sending later finishing =
+    let s : SessionState = after_play (sent_slot old slot) in
+    let goes : Bool = old.waits && is_between (stepped_in true slot old.state) in
+    let due : SessionState = sent_due old slot in
+    let state : s.state ≡ state_after old.waits old.state slot = reply_state goes due in
+    let heard : s.heard ≡ slot = reply_heard goes due in
+    let waits : s.waits ≡ waits_after old.waits old.state slot = reply_waits goes due in
+    let asks : s.awaited ≡ (if is_done_in s.state then Halt (sent_in s.state) Done else Nothing) =
+    ap (λ a. if is_done_in s.state then Halt (sent_in s.state) Done else a)
+    (reply_awaited goes due ∙ standing.stands.rest) in
+    let slots = slot_moves sending standing.stands.sound later standing.held in
+    let there : HeldIn slots.after s =
+    subst (λ st. IsHeld slots.after (sends_in st) s.waits s.heard) (sym state)
+    (subst (λ w. IsHeld slots.after (sends_in (state_after old.waits old.state slot)) w s.heard) (sym waits)
+    (subst (λ h. IsHeld slots.after (sends_in (state_after old.waits old.state slot))
+    (waits_after old.waits old.state slot) h) (sym heard) slots.held)) in
+    let first : Move old s pending [] [] (due_parts old slot) = record {
+      after = slots.after;
+      held = there;
+      goes_on = subst (λ st. GoesTo (point (sends_in old.state) old.heard pending)
+          (point (sends_in st) s.heard slots.after) [] [] (due_parts old slot)) (sym state)
+          (subst (λ h. GoesTo (point (sends_in old.state) old.heard pending)
+          (point (sends_in (state_after old.waits old.state slot)) h slots.after) [] []
+          (due_parts old slot)) (sym heard)
+          slots.goes_on);
+    } in
+    let second = finished_move sound refl asks finishing there in
+    subst (λ ps. Move old new pending (Asks s.awaited halt ∷ []) [] ps) (append-nil (due_parts old slot))
+    (move_then first second)
+
+-- nothing is being sent
+idle_none : (state : State) (pending : Option ℕ) (waits : Bool) (heard : ℕ) → is_sending state ≡ false
+    → IsHeld pending (sends_in state) waits heard
+    → (pending ≡ None) × (sends_in state ≡ Idle)
+idle_none Init None waits heard none held = (refl, refl)
+idle_none Init (Some slot) waits heard none held = absurd held
+idle_none (Ready setup paused) None waits heard none held = (refl, refl)
+idle_none (Ready setup paused) (Some slot) waits heard none held = absurd held
+idle_none (Playing setup play) pending waits heard none held = absurd (true≢false none)
+idle_none (Stopping setup stop) pending waits heard none held = absurd (true≢false none)
+
+idle_later : (from to : ℕ) → from ≤ to → GoesTo (point Idle from None) (point Idle to None) [] [] []
+idle_later from to less = record {
+  later = less;
+  rest = λ askings end more rest on fits. record {
+    from = from_lower from to more less fits.from;
+    later = later_lower from to (plays_of askings) less fits.later;
+    stand = fits.stand;
+  };
+}
+
+idle_move : (old : SessionState) (slot : ℕ) (pending : Option ℕ) → HeldIn pending old → is_sending old.state ≡ false
+    → old.heard < slot
+    → Move old (record old { heard = slot }) pending [] [] []
+idle_move old slot pending held none later =
+    let idle = idle_none old.state pending old.waits old.heard none held in
+    let waits : old.waits ≡ false = subst (λ o. IsHeld o (sends_in old.state) old.waits old.heard) idle.0 held in
+    record {
+      after = None;
+      held = waits;
+      goes_on = subst (λ o. GoesTo (point (sends_in old.state) old.heard o) (point (sends_in old.state) slot None) []
+          [] []) (sym idle.0)
+          (subst (λ s. GoesTo (point s old.heard None) (point s slot None) [] [] []) (sym idle.1)
+          (idle_later old.heard slot (omega (arith, later))));
+    }
+
+slot_sound : {old : SessionState} {taken sending : Bool} (slot : ℕ) → Stands old → (taken ≡ true → old.heard < slot)
+    → is_sending old.state ≡ sending
+    → let s : SessionState =
+    if taken then (if sending then after_play (sent_slot old slot) else record old { heard = slot }) else old in
+    IsSound (sends_in s.state) s.waits s.heard
+slot_sound {taken = false} slot stands later is = stands.sound
+slot_sound {old} {taken = true} {sending = true} slot stands later is = (sent_on old slot stands is (later refl)).sound
+slot_sound {old} {taken = true} {sending = false} slot stands later is =
+    idle_sound old.state old.waits old.heard slot is stands.sound
+
+pub slot_move : {old : SessionState} {halt : Outcome} {new : SessionState} {pending : Option ℕ} {taken sending : Bool}
+    (slot : ℕ) → StandingHeld old pending → (taken ≡ true → old.heard < slot) → is_sending old.state ≡ sending →
+    let s : SessionState =
+    if taken then (if sending then after_play (sent_slot old slot) else record old { heard = slot }) else old in
+    IsSound (sends_in s.state) s.waits s.heard →
+    IsFinished (awaited_answer s) s halt new →
+    Move old new pending (Asks s.awaited halt ∷ []) [] (if taken && sending then due_parts old slot else [])
+slot_move {halt} {new} {taken = false} slot standing later is sound finishing =
+    rest_move standing.stands.rest standing.held finishing
+slot_move {halt} {new} {taken = true} {sending = true} slot standing later is sound finishing =
+    sent_move slot standing sound is (later refl) finishing
+slot_move {old} {halt} {new} {pending} {taken = true} {sending = false} slot standing later is sound finishing =
+    let s : SessionState = record old { heard = slot } in
+    let first = idle_move old slot pending standing.held is (later refl) in
+    move_then first (rest_move standing.stands.rest first.held finishing)
+
+pub slotted_sound : (old : SessionState) (slot : ℕ) → Stands old
+    → IsSound (sends_in (after_slot old slot).state) (after_slot old slot).waits (after_slot old slot).heard
+slotted_sound old slot stands =
+    slot_sound slot stands
+    (λ taken. ltb-true old.heard slot (and_parts (nat_lt old.heard slot) (nat_le slot (2 ^ 62)) taken).0) refl

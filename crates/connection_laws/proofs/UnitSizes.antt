@@ -1,0 +1,423 @@
+-- The sizes of units, as a client reads them from the frames and reports of a run.
+use Rattle.std.proofs.Common.{◌≡◌, ℕ, zero, suc, ◌+◌, ◌-◌, ◌<◌, ◌≤◌, ◌&&◌, Bool, true, false, not}
+use Rattle.std.proofs.Common.{nat_lt, List, [], ◌∷◌, ◌++◌, length, take, map, sum, refl, sym, ap}
+use Rattle.std.proofs.Common.{subst, ◌∙◌, append_assoc, arith, inl, inr}
+use Rattle.std.proofs.lemmas.Bool.{cases_lt, cond-true, cond-false, and_from}
+use Rattle.std.proofs.lemmas.List.{append-nil, length-append, take-append-le, take_all}
+use Rattle.std.proofs.lemmas.List.Sums.{sum_by-cons}
+use Rattle.std.proofs.Math.Seq.{take-append-add}
+use Rattle.mpeg_scan.specs.declared.units.Unit.{Unit as PictureUnit}
+use Rattle.mpeg_scan.specs.Layout.{AreLaid}
+use Rattle.rtp_pack.specs.declared.payloads.Packet.{Packet}
+use Rattle.rtp_pack.specs.declared.open_packet.OpenPacket.{OpenPacket}
+use Rattle.rtp_pack.specs.Packetization.{first_portion, next_filling}
+use Rattle.rtp_pack.specs.Laws.{IsLastMarked}
+use Rattle.rtp_pack.specs.Packets.{IsLaid, packets_from, slice_packets, unit_lengths, unit_packets}
+use Rattle.rtp_pack.proofs.MarkerLemmas.{last-marked}
+use Rattle.rtp_pack.proofs.UnitPacketLemmas.{packets-are, packets-cover}
+use Rattle.film_frames.specs.Laws.{frames_among}
+use Rattle.film_frames.specs.Tracks.{framed_bytes}
+use Rattle.film_frames.specs.Pieces.{pieces_of, unit_pieces, wire_in, wire_size}
+use Rattle.film_frames.specs.FramedRuns.{FramedRun, blocks_from, count_ended}
+use Rattle.film_frames.proofs.PieceLemmas.{pieces-cons, unit-sound, unit-wire}
+use Rattle.film_frames.proofs.RunBytesLemmas.{blocks_from-begin, blocks_from-count}
+use Rattle.film_frames.proofs.TrackLemmas.{begin-all}
+use Rattle.rtsp_client.specs.Answers.{events_of_elements, element_events}
+use Rattle.rtsp_client.specs.ClientHistory.{Frame, ClientEvent, Reply, Report, Slot, is_last}
+use Rattle.rtsp_client.specs.MeterGuarantee.{frames_of}
+use Rattle.connection_laws.proofs.Blocks.{blocks_append, frame_block, frame_blocks, frame_moment}
+use Rattle.connection_laws.proofs.Blocks.{frames_after, last_is, octets_after, report_block, report_if}
+use Rattle.connection_laws.proofs.Blocks.{report_moment, unit_among, unit_blocks, unit_made, unit_one}
+use Rattle.connection_laws.proofs.PieceCounts.{count_past, count_within}
+use Rattle.connection_laws.proofs.HistorySums.{AreOneBlocks, Sum, blocks_one_append, blocks_same, plays, step, steps}
+use Rattle.connection_laws.proofs.HistorySums.{steps_on}
+use Rattle.connection_laws.proofs.Blocks.{RunFrom}
+
+-- the moments of blocks, in two parts
+pub moments_parts : (xs ys : List (List ℕ)) → events_of_elements (xs ++ ys) ≡ events_of_elements xs ++
+    events_of_elements ys
+moments_parts [] ys = refl
+moments_parts (x ∷ xs) ys =
+    ap (λ ms. element_events x ++ ms) (moments_parts xs ys)
+    ∙ sym (append_assoc (element_events x) (events_of_elements xs) (events_of_elements ys))
+
+-- ---- the frames of a unit
+
+-- the sizes after a frame
+pub frame_sizes : (b : List ℕ) (bs : List (List ℕ)) (s : Sum) (P : Sum → Type 0) → element_events b ≡ Frame b ∷ []
+    → P (steps (step (Frame b) s) (events_of_elements bs)) → P (steps s (events_of_elements (b ∷ bs)))
+frame_sizes b bs s P is met = let Q : List ClientEvent → Type 0 = λ l. P (steps s (l ++ events_of_elements bs)) in
+    subst Q (sym is) met
+
+pub report_sizes : (b : List ℕ) (bs : List (List ℕ)) (s : Sum) (P : Sum → Type 0) → element_events b ≡ Report b ∷ []
+    → P (steps (step (Report b) s) (events_of_elements bs)) → P (steps s (events_of_elements (b ∷ bs)))
+report_sizes b bs s P is met = let Q : List ClientEvent → Type 0 = λ l. P (steps s (l ++ events_of_elements bs)) in
+    subst Q (sym is) met
+
+-- a unit of a run on channel 0, with the frames that the run sent before
+record UnitOfRun : Type 0 where
+  run : FramedRun
+  frames : ℕ
+  unit : PictureUnit
+  media : run.identity.channel ≡ 0
+
+-- before the last frame the sizes are as they were
+part_frames : (of_run : UnitOfRun) (k : ℕ) (packets : List Packet) (s : Sum) → IsLastMarked packets →
+    k < length (frame_blocks of_run.run of_run.unit of_run.frames packets) →
+    (steps s (events_of_elements (take k (frame_blocks of_run.run of_run.unit of_run.frames packets)))).sizes ≡ s.sizes
+part_frames of_run zero packets s marked few = refl
+part_frames of_run (suc k) [] s marked few = absurd (omega (arith, few))
+part_frames of_run (suc k) (p ∷ []) s marked few = absurd (omega (arith, few))
+part_frames of_run (suc k) (p ∷ (q ∷ packets)) s marked few =
+    let b = frame_block run unit p f in
+    frame_sizes b (take k (frame_blocks run unit (f + 1) (q ∷ packets))) s (λ t. t.sizes ≡ s.sizes)
+    (frame_moment run f unit p media)
+    (part_frames (record { run = run; frames = f + 1; unit = unit; media = media }) k (q ∷ packets)
+    (step (Frame b) s) marked.1 (omega (arith, few))
+    ∙ cond-false (is_last b) (s.sizes ++ (s.pending + length b) ∷ []) s.sizes (last_is run f unit p ∙ marked.0))
+  where
+    open of_run use {run, frames as f, unit, media}
+
+-- a unit is whole: its size is that of its frames and of what waited before them
+pub record IsUnitDone (s : Sum) (size : ℕ) (t : Sum) : Type 0 where
+  pub sizes : t.sizes ≡ s.sizes ++ size ∷ []
+  pub pending : t.pending ≡ 0
+  pub inside : t.inside ≡ false
+
+whole_frames : {s : Sum} (of_run : UnitOfRun) (packets : List Packet) → IsLastMarked packets → 0 < length packets →
+    IsUnitDone s (s.pending + length (framed_bytes (frame_blocks of_run.run of_run.unit of_run.frames packets)))
+    (steps s (events_of_elements (frame_blocks of_run.run of_run.unit of_run.frames packets)))
+whole_frames {s} of_run [] marked some = absurd (omega (arith, some))
+whole_frames {s} of_run (p ∷ []) marked some =
+    let b = frame_block run unit p f in
+    let last : is_last b ≡ true = last_is run f unit p ∙ marked in
+    let size : s.pending + length b ≡ s.pending + length (b ++ []) =
+    ap (λ (l : List ℕ). s.pending + length l) (sym (append-nil b)) in
+    frame_sizes b [] s (λ t. IsUnitDone s (s.pending + length (b ++ [])) t) (frame_moment run f unit p media)
+    (record {
+      sizes = cond-true (is_last b) (s.sizes ++ (s.pending + length b) ∷ []) s.sizes last
+          ∙ ap (λ n. s.sizes ++ n ∷ []) size;
+      pending = cond-true (is_last b) 0 (s.pending + length b) last;
+      inside = ap not last;
+    })
+  where
+    open of_run use {run, frames as f, unit, media}
+whole_frames {s} of_run (p ∷ (q ∷ packets)) marked some =
+    let b = frame_block run unit p f in
+    let last : is_last b ≡ false = last_is run f unit p ∙ marked.0 in
+    let blocks = frame_blocks run unit (f + 1) (q ∷ packets) in
+    let t = step (Frame b) s in
+    let rest = whole_frames {s = t} (record { run = run; frames = f + 1; unit = unit; media = media })
+    (q ∷ packets) marked.1 (omega arith) in
+    let sizes_same = cond-false (is_last b) (s.sizes ++ (s.pending + length b) ∷ []) s.sizes last in
+    let pending_is = cond-false (is_last b) 0 (s.pending + length b) last in
+    let size : t.pending + length (framed_bytes blocks) ≡ s.pending + length (b ++ framed_bytes blocks) =
+    omega (arith, pending_is, length-append b (framed_bytes blocks)) in
+    frame_sizes b blocks s (λ u. IsUnitDone s (s.pending + length (b ++ framed_bytes blocks)) u)
+    (frame_moment run f unit p media)
+    (record {
+      sizes = rest.sizes
+          ∙ (ap (λ l. l ++ (t.pending + length (framed_bytes blocks)) ∷ []) sizes_same
+          ∙ ap (λ n. s.sizes ++ n ∷ []) size);
+      pending = rest.pending;
+      inside = rest.inside;
+    })
+  where
+    open of_run use {run, frames as f, unit, media}
+
+-- ---- a unit, its report before its frames
+
+-- a unit's packets, of which the last one is marked
+record MarkedUnit : Type 0 where
+  unit : PictureUnit
+  packets : List Packet
+  marked : IsLastMarked packets
+
+part_unit : (starts : Bool) (from : RunFrom) (k : ℕ) (marked_unit : MarkedUnit) (s : Sum) →
+    k < length (report_if starts from.run marked_unit.unit from.frames from.octets
+    ++ frame_blocks from.run marked_unit.unit
+    from.frames marked_unit.packets) →
+    (steps s (events_of_elements (take k (report_if starts from.run marked_unit.unit from.frames from.octets
+    ++ frame_blocks from.run
+    marked_unit.unit from.frames marked_unit.packets)))).sizes ≡ s.sizes
+part_unit false from k marked_unit s few =
+    part_frames (record { run = run; frames = f; unit = marked_unit.unit; media = media }) k
+    marked_unit.packets s marked_unit.marked few
+  where
+    open from use {run, frames as f, media}
+part_unit true from zero marked_unit s few = refl
+part_unit true from (suc k) marked_unit s few =
+    let b = report_block run unit f o in
+    report_sizes b (take k (frame_blocks run unit f packets)) s (λ t. t.sizes ≡ s.sizes)
+    (report_moment run f o unit control)
+    (part_frames (record { run = run; frames = f; unit = unit; media = media }) k packets (step (Report b) s)
+    marked (omega (arith, few)))
+  where
+    open from use {run, frames as f, octets as o, media, control}
+    open marked_unit use {unit, packets, marked}
+
+-- a sum that plays and stands between two units
+pub record AtUnit (s : Sum) : Type 0 where
+  pub on : plays s ≡ true
+  pub none : s.pending ≡ 0
+  pub outside : s.inside ≡ false
+
+whole_unit : {s : Sum} (starts : Bool) (from : RunFrom) (marked_unit : MarkedUnit) → 0 < length marked_unit.packets →
+    AtUnit s →
+    IsUnitDone s
+    (length (framed_bytes (report_if starts from.run marked_unit.unit from.frames from.octets ++ frame_blocks from.run
+    marked_unit.unit from.frames marked_unit.packets)))
+    (steps s (events_of_elements
+    (report_if starts from.run marked_unit.unit from.frames from.octets ++ frame_blocks from.run marked_unit.unit
+    from.frames marked_unit.packets)))
+whole_unit {s} false from marked_unit some between =
+    let done = whole_frames (record { run = run; frames = f; unit = unit; media = media }) packets marked some in
+    let size : s.pending + length (framed_bytes (frame_blocks run unit f packets)) ≡ length
+    (framed_bytes (frame_blocks run unit f packets)) = omega (arith, between.none) in
+    record {
+      sizes = done.sizes ∙ ap (λ n. s.sizes ++ n ∷ []) size;
+      pending = done.pending;
+      inside = done.inside;
+    }
+  where
+    open from use {run, frames as f, media}
+    open marked_unit use {unit, packets, marked}
+whole_unit {s} true from marked_unit some between =
+    let b = report_block run unit f o in
+    let t = step (Report b) s in
+    let blocks = frame_blocks run unit f packets in
+    let done = whole_frames (record { run = run; frames = f; unit = unit; media = media }) packets marked some in
+    let waits : t.pending ≡ s.pending + length b = cond-true (plays s && not s.inside) (s.pending + length b) s.pending
+    (and_from (plays s) (not s.inside) between.on (ap not between.outside)) in
+    let size : t.pending + length (framed_bytes blocks) ≡ length (b ++ framed_bytes blocks) = omega (
+      arith,
+      waits,
+      between.none,
+      length-append b (framed_bytes blocks),
+    ) in
+    report_sizes b blocks s (λ u. IsUnitDone s (length (b ++ framed_bytes blocks)) u)
+    (report_moment run f o unit control)
+    (record {
+      sizes = done.sizes ∙ ap (λ n. s.sizes ++ n ∷ []) size;
+      pending = done.pending;
+      inside = done.inside;
+    })
+  where
+    open from use {run, frames as f, octets as o, media, control}
+    open marked_unit use {unit, packets, marked}
+
+-- ---- units
+
+-- by so many bytes of units of these sizes, some units are whole, and the next isn't
+pub record HasCome (sizes : List ℕ) (c : ℕ) (s t : Sum) : Type 0 where
+  pub count : ℕ
+  pub sizes_are : t.sizes ≡ s.sizes ++ take count sizes
+  pub among : count ≤ length sizes
+  pub next : count < length sizes → c < sum (take (count + 1) sizes)
+
+packets_some : (unit : PictureUnit) (f : OpenPacket) (slices : List ℕ) → 0 < length (packets_from unit f slices)
+packets_some unit f [] = omega arith
+packets_some unit f (l ∷ slices) =
+    omega (
+      arith,
+      length-append (slice_packets unit f l) (packets_from unit (next_filling f l) slices),
+      packets_some unit (next_filling f l) slices,
+    )
+
+-- a unit has a first packet
+pub record HasPacket (starts : List ℕ) (unit : PictureUnit) : Type 0 where
+  pub packet : Packet
+  pub packets : List Packet
+  pub are : unit_packets starts unit ≡ packet ∷ packets
+
+first_there : (starts : List ℕ) (unit : PictureUnit) (packets : List Packet)
+    → unit_packets starts unit ≡ packets → 0 < length packets → HasPacket starts unit
+first_there starts unit [] is some = absurd (omega (arith, some))
+first_there starts unit (p ∷ packets) is some = record { packet = p; packets = packets; are = is }
+
+pub packets_there : (starts : List ℕ) (unit : PictureUnit) → HasPacket starts unit
+packets_there starts unit =
+    first_there starts unit (unit_packets starts unit) refl
+    (packets_some unit (first_portion unit.from unit.head_end) (unit_lengths starts unit))
+
+unit_marked : (starts : List ℕ) (unit : PictureUnit) → IsLaid starts unit → IsLastMarked (unit_packets starts unit)
+unit_marked starts unit laid =
+    last-marked starts unit (unit_packets starts unit) (packets-are starts unit laid) (packets-cover starts unit laid)
+
+unit_size : {starts : List ℕ} {unit : PictureUnit} (run : FramedRun) (f o : ℕ) → IsLaid starts unit
+    → unit.to ≤ length run.film
+    → length (framed_bytes (unit_blocks run starts unit f o)) ≡ wire_size starts unit
+unit_size {starts} {unit} run f o laid short =
+    let pieces = unit_pieces starts unit in
+    let sound = unit-sound run.film starts unit laid short in
+    let n = length (blocks_from run f o pieces) in
+    ap (λ bs. length (framed_bytes bs)) (sym (unit_made run f o starts unit))
+    ∙ (sym (begin-all (blocks_from run f o pieces)) ∙ (blocks_from-begin run f o pieces n sound
+    ∙ (ap (λ l. wire_in l) (take_all n pieces (omega (arith, blocks_from-count run f o pieces)))
+    ∙ unit-wire starts unit laid)))
+
+one_more : (n : ℕ) → suc n + 1 ≡ suc (n + 1)
+one_more n = omega arith
+
+-- the blocks of one unit more
+pub more_blocks : (run : FramedRun) (f o : ℕ) (starts : List ℕ) (unit : PictureUnit) (units : List PictureUnit)
+    → blocks_from run f o (pieces_of starts (unit ∷ units))
+    ≡ unit_blocks run starts unit f o
+    ++ blocks_from run (frames_after f (unit_pieces starts unit)) (octets_after o (unit_pieces starts unit))
+    (pieces_of starts units)
+more_blocks run f o starts unit units =
+    let first = unit_pieces starts unit in
+    let rest = pieces_of starts units in
+    ap (λ ps. blocks_from run f o ps) (pieces-cons starts unit units)
+    ∙ (blocks_append run f o first rest
+    ∙ ap (λ bs. bs ++ blocks_from run (frames_after f first) (octets_after o first) rest)
+    (unit_made run f o starts unit))
+
+pub blocks_one : (from : RunFrom) (starts : List ℕ) (units : List PictureUnit) →
+    AreOneBlocks (blocks_from from.run from.frames from.octets (pieces_of starts units))
+blocks_one from starts [] = tt
+blocks_one from starts (unit ∷ units) =
+    let f2 = frames_after f (unit_pieces starts unit) in
+    let o2 = octets_after o (unit_pieces starts unit) in
+    subst AreOneBlocks (sym (more_blocks run f o starts unit units))
+    (blocks_one_append (unit_blocks run starts unit f o) (blocks_from run f2 o2 (pieces_of starts units))
+    (unit_one from starts unit)
+    (blocks_one (record from { frames = f2; octets = o2 }) starts units))
+  where
+    open from use {run, frames as f, octets as o}
+
+-- the sizes of the units that are whole
+pub units_come : {c : ℕ} {s : Sum} (from : RunFrom) (starts : List ℕ) (units : List PictureUnit) →
+    AreLaid (length from.run.film) starts units → AtUnit s →
+    HasCome (map (λ u. wire_size starts u) units) c s
+    (steps s (events_of_elements (take (count_ended c (blocks_from from.run from.frames from.octets (pieces_of starts
+    units)))
+    (blocks_from from.run from.frames from.octets (pieces_of starts units)))))
+units_come {c} {s} from starts [] laid between =
+    record {
+      count = 0;
+      sizes_are = sym (append-nil s.sizes);
+      among = omega arith;
+      next = λ less. absurd (omega (arith, less));
+    }
+units_come {c} {s} from starts (unit ∷ units) laid between =
+    let f2 = frames_after f (unit_pieces starts unit) in
+    let o2 = octets_after o (unit_pieces starts unit) in
+    let xs = unit_blocks run starts unit f o in
+    let ys = blocks_from run f2 o2 (pieces_of starts units) in
+    let w = wire_size starts unit in
+    let sizes = map (λ u. wire_size starts u) units in
+    let size : length (framed_bytes xs) ≡ w = unit_size {starts = starts} {unit = unit} run f o laid.0.1 laid.0.0 in
+    let marked = unit_marked starts unit laid.0.1 in
+    let some : 0 < length (unit_packets starts unit) =
+    packets_some unit (first_portion unit.from unit.head_end) (unit_lengths starts unit) in
+    let Q : List (List ℕ)
+    → Type 0 = λ bs. HasCome (w ∷ sizes) c s (steps s (events_of_elements (take (count_ended c bs) bs))) in
+    let R : ℕ → Type 0 = λ k. HasCome (w ∷ sizes) c s (steps s (events_of_elements (take k (xs ++ ys)))) in
+    let S : List (List ℕ) → Type 0 = λ bs. HasCome (w ∷ sizes) c s (steps s (events_of_elements bs)) in
+    subst Q (sym (more_blocks run f o starts unit units))
+    (elim (cases_lt c w) [
+      | inl less ↦
+          let within = count_within xs ys c (omega (arith, less, size)) in
+          let k = count_ended c xs in
+          subst R (sym within.0) (subst S (sym (take-append-le k xs ys (omega (arith, within.1))))
+          (record {
+            count = 0;
+            sizes_are = part_unit unit.starts_group from k (record {
+              unit = unit;
+              packets = unit_packets starts unit;
+              marked = marked;
+            }) s within.1 ∙ sym (append-nil s.sizes);
+            among = omega arith;
+            next = λ l. omega (arith, less, sum_by-cons (λ (y : ℕ). y) w (take 0 sizes));
+          }))
+      | inr more ↦
+          let d = c - length (framed_bytes xs) in
+          let k = count_ended d ys in
+          let past : count_ended c (xs ++ ys) ≡ length xs + k = count_past xs ys c (omega (arith, more, size)) in
+          let t = steps s (events_of_elements xs) in
+          let done : IsUnitDone s (length (framed_bytes xs)) t =
+          whole_unit {s = s} unit.starts_group from
+          (record { unit = unit; packets = unit_packets starts unit; marked = marked })
+          some between in
+          let same = blocks_same xs s (unit_one from starts unit) in
+          let still : plays t ≡ true = ap (λ n. nat_lt 1 n) same.replies ∙ between.on in
+          let come = units_come {c = d} {s = t} (record from { frames = f2; octets = o2 }) starts units laid.1
+          (record { on = still; none = done.pending; outside = done.inside }) in
+          let u = steps t (events_of_elements (take k ys)) in
+          let all : steps s (events_of_elements (xs ++ take k ys)) ≡ u =
+          ap (steps s) (moments_parts xs (take k ys)) ∙ steps_on s (events_of_elements xs) (events_of_elements (take k
+          ys)) in
+          let T : Sum → Type 0 = λ v. HasCome (w ∷ sizes) c s v in
+          subst R (sym past) (subst S (sym (take-append-add xs ys k)) (subst T (sym all)
+          (record {
+            count = suc come.count;
+            sizes_are = come.sizes_are
+                ∙ (ap (λ l. l ++ take come.count sizes) (done.sizes ∙ ap (λ n. s.sizes ++ n ∷ []) size)
+                ∙ append_assoc s.sizes (w ∷ []) (take come.count sizes));
+            among = omega (arith, come.among);
+            next = λ l.
+                let later : d < sum (take (come.count + 1) sizes) = come.next (omega (arith, l)) in
+                let same_count = ap (λ n. sum (take n (w ∷ sizes))) (one_more come.count) in
+                omega (
+                  arith,
+                  later,
+                  same_count,
+                  sum_by-cons (λ (y : ℕ). y) w (take (come.count + 1) sizes),
+                  size,
+                  more,
+                );
+          })))
+    ])
+  where
+    open from use {run, frames as f, octets as o}
+
+-- ---- the frames that are handed on
+
+frames_parts : (a b : List ClientEvent) → frames_of (a ++ b) ≡ frames_of a ++ frames_of b
+frames_parts [] b = refl
+frames_parts (Reply m ∷ a) b = frames_parts a b
+frames_parts (Frame x ∷ a) b = ap (λ l. x ∷ l) (frames_parts a b)
+frames_parts (Report x ∷ a) b = frames_parts a b
+frames_parts (Slot t cut ∷ a) b = frames_parts a b
+
+frames_told : (run : FramedRun) (f : ℕ) (unit : PictureUnit) (packets : List Packet) → run.identity.channel ≡ 0
+    → frames_of (events_of_elements (frame_blocks run unit f packets)) ≡ frame_blocks run unit f packets
+frames_told run f unit [] media = refl
+frames_told run f unit (p ∷ packets) media =
+    ap (λ l. frames_of (l ++ events_of_elements (frame_blocks run unit (f + 1) packets))) (frame_moment run f unit p
+    media)
+    ∙ ap (λ l. frame_block run unit p f ∷ l) (frames_told run (f + 1) unit packets media)
+
+unit_told : (starts : Bool) (from : RunFrom) (unit : PictureUnit) (packets : List Packet) →
+    frames_of (events_of_elements
+    (report_if starts from.run unit from.frames from.octets ++ frame_blocks from.run unit from.frames packets))
+    ≡ frame_blocks from.run unit from.frames packets
+unit_told false from unit packets = frames_told from.run from.frames unit packets from.media
+unit_told true from unit packets =
+    ap (λ l. frames_of (l ++ events_of_elements (frame_blocks run unit f packets))) (report_moment run f o unit control)
+    ∙ frames_told run f unit packets media
+  where
+    open from use {run, frames as f, octets as o, media, control}
+
+pub units_told : (from : RunFrom) (starts : List ℕ) (units : List PictureUnit) →
+    frames_of (events_of_elements (blocks_from from.run from.frames from.octets (pieces_of starts units))) ≡
+    frames_among
+    (pieces_of starts units) (blocks_from from.run from.frames from.octets (pieces_of starts units))
+units_told from starts [] = refl
+units_told from starts (unit ∷ units) =
+    let f2 = frames_after f (unit_pieces starts unit) in
+    let o2 = octets_after o (unit_pieces starts unit) in
+    let xs = unit_blocks run starts unit f o in
+    let ys = blocks_from run f2 o2 (pieces_of starts units) in
+    let its = frame_blocks run unit f (unit_packets starts unit) in
+    ap (λ bs. frames_of (events_of_elements bs)) (more_blocks run f o starts unit units)
+    ∙ (ap frames_of (moments_parts xs ys) ∙ (frames_parts (events_of_elements xs) (events_of_elements ys)
+    ∙ (ap (λ l. l ++ frames_of (events_of_elements ys)) (unit_told unit.starts_group from unit (unit_packets starts
+    unit))
+    ∙ (ap (λ l. its ++ l) (units_told (record from { frames = f2; octets = o2 }) starts units)
+    ∙ (sym (unit_among run f o starts unit (record { parts = pieces_of starts units; blocks = ys }))
+    ∙ (ap (λ ps. frames_among ps (xs ++ ys)) (sym (pieces-cons starts unit units))
+    ∙ ap (λ bs. frames_among (pieces_of starts (unit ∷ units)) bs) (sym (more_blocks run f o starts unit units))))))))
+  where
+    open from use {run, frames as f, octets as o}

@@ -1,0 +1,252 @@
+-- A client that has watched a film over a link on which its bytes lay between the curves.
+use Rattle.std.proofs.Common.{◌≡◌, ℕ, ◌-◌, ◌<◌, ◌≤◌, List, [], ◌∷◌, ◌++◌, length, take, drop, Some}
+use Rattle.std.proofs.Common.{slice_get, refl, sym, ap, subst, ◌∙◌, append_assoc, arith, inl, inr}
+use Rattle.std.proofs.lemmas.List.{append-nil, length-map}
+use Rattle.std.proofs.lemmas.List.Concat.{flat_map-append}
+use Rattle.vod_base.specs.Links.{IoEvent, HeardBytes, HeardEnd, HeardSlot, Sent, sends}
+use Rattle.mpeg_scan.specs.declared.films.Film.{Film}
+use Rattle.mpeg_scan.specs.declared.units.Unit.{Unit as PictureUnit}
+use Rattle.mpeg_scan.specs.PictureRates.{picture_time}
+use Rattle.mpeg_scan.proofs.FirstUnitLemmas.{film-some}
+use Rattle.rtp_pack.specs.declared.reports.Identity.{Identity}
+use Rattle.film_frames.specs.Pieces.{wire_size}
+use Rattle.film_frames.specs.Tracks.{framed_bytes}
+use Rattle.rtsp_client.specs.declared.watch_request.Wish.{Wish}
+use Rattle.rtsp_client.specs.declared.watch_request.Watched.{Watched}
+use Rattle.rtsp_client.specs.declared.watch_request.WatchEnd.TheVariants.{Done}
+use Rattle.rtsp_client.specs.Answers.{Gives, history_after, events_of_elements, payload_of, payloads_of, requests_after}
+use Rattle.rtsp_client.specs.WatchCourses.{Ends, HasCourse, IsNext, Round, RunsAll, Stage, Stops, StopsAt}
+use Rattle.rtsp_client.specs.WatchCourses.{events_of_rounds}
+use Rattle.rtsp_client.specs.WatchCourses.{rounds_doings, stage}
+use Rattle.rtsp_client.specs.Meters.{first_slot}
+use Rattle.rtsp_client.specs.ClientHistory.{History, ClientEvent, payloads, replies}
+use Rattle.rtsp_client.specs.MeterGuarantee.{IsBetweenAlways}
+use Rattle.rtsp_client.specs.Requests.{setup_text}
+use Rattle.rtsp_client.specs.WatchRequests.{IsWish}
+use Rattle.rtsp_client.proofs.MeterBounds.{quiet-always}
+use Rattle.rtsp_client.proofs.ElementSteps.{after-on}
+use Rattle.rtsp_client.proofs.EventCourses.{history-later}
+use Rattle.connection_laws.specs.LinkDelivery.{heard_bytes}
+use Rattle.connection_laws.proofs.FilmReading.{IsFilmIn, film_comes_back, film_sizes, whole_of}
+use Rattle.connection_laws.proofs.FinishedWatches.{done_sum}
+use Rattle.connection_laws.specs.Requests.{bytes_in}
+use Rattle.connection_laws.proofs.ClientInput.{Heard, IsDrained, at_done, heard_all, heard_more, heard_none}
+use Rattle.connection_laws.proofs.ClientInput.{replies_later}
+use Rattle.connection_laws.proofs.ClientInput.{rounds_heard}
+use Rattle.connection_laws.proofs.MeterInput.{Stream, all_of}
+use Rattle.connection_laws.proofs.MeterBounds.{AreFed, always_all, always_elements, front_of}
+use Rattle.connection_laws.proofs.HistorySums.{Sum, steps_payloads, sum_after, sum_of}
+
+-- ---- how the course ends
+
+-- the next moment gives the answer, and nothing more is handed on
+record IsGiven (wish : Wish) (watched : Watched) (at : Stage) (out : List ℕ) : Type 0 where
+  pub moment : ClientEvent
+  pub next : IsNext at.rest moment
+  pub gives : Gives wish at.history moment (Done watched)
+  pub out_none : out ≡ []
+
+stop_of : (wish : Wish) (watched : Watched) (at : Stage) (sent out : List ℕ)
+    → Stops wish at (Done watched) sent out → IsGiven wish watched at out
+stop_of wish watched at sent out (inl framing) = absurd (let no : ⊥ = cc in no)
+stop_of wish watched at sent out (inr (moment, (next, inl gives))) =
+    record { moment = moment; next = next; gives = gives.0; out_none = gives.2 }
+stop_of wish watched at sent out (inr (moment, (next, inr fails))) = absurd fails.1
+
+-- bytes in which a watching that is done ended
+abbrev IsEnd : Wish → Watched → Stage → List IoEvent → List ℕ → Type 0
+IsEnd wish watched mid doings out = (bytes : List ℕ) × ((sent : List ℕ)
+    × (StopsAt wish (stage mid.history (mid.rest ++ bytes)) (Done watched) sent out
+    × (doings ≡ HeardBytes bytes ∷ sends sent)))
+
+end_of : {wish : Wish} {watched : Watched} {count : ℕ} {doings : List IoEvent} {out : List ℕ} (mid : Stage)
+    → Ends wish mid count (Done watched) doings out
+    → IsEnd wish watched mid doings out
+end_of {out} mid (inl (inl fault, none, empty)) = absurd (let no : ⊥ = cc in no)
+end_of {out} mid (inl (inr spent, none, empty)) = absurd (let no : ⊥ = cc in no)
+end_of {out} mid (inr (inl early)) = absurd (let no : ⊥ = cc in no)
+end_of {out} mid (inr (inr (bytes, (sent, (stops, doings_are, few))))) = (bytes, (sent, (stops, doings_are)))
+
+-- all of a course: the bytes that were heard, and where it is done
+pub record HasWatchedAll (wish : Wish) (watched : Watched) (rounds : List Round) (mid : Stage)
+    (bytes out : List ℕ) : Type 0 where
+  pub done : IsDrained wish watched (rounds_heard rounds ++ bytes) out
+  pub elements : List (List ℕ)
+  pub history : done.at.history ≡ history_after mid.history (events_of_elements elements)
+
+all_watched : {wish : Wish} {watched : Watched} {rounds : List Round} {mid : Stage}
+    {last sent bytes out : List ℕ} → RunsAll (stage [] []) rounds mid
+    → (stops : StopsAt wish (stage mid.history (mid.rest ++ bytes)) (Done watched) sent last)
+    → out ≡ payloads_of (events_of_rounds rounds) ++ last
+    → HasWatchedAll wish watched rounds mid bytes out
+all_watched {wish} {watched} {rounds} {mid} {last} {bytes} {out} runs stops out_is =
+    let moments = events_of_rounds rounds in
+    let at = stage (history_after mid.history (events_of_elements stops.elements)) stops.mid in
+    let heard : Heard (rounds_heard rounds) mid = heard_all [] (stage [] []) mid rounds heard_none runs in
+    let h : Heard (rounds_heard rounds ++ bytes) at = heard_more bytes stops.elements heard stops.cut stops.good in
+    let told : at.history ≡ history_after [] (moments ++ events_of_elements stops.elements) =
+    ap (λ x. history_after x (events_of_elements stops.elements)) (history-later (stage [] []) mid rounds runs)
+    ∙ sym (after-on [] moments (events_of_elements stops.elements)) in
+    let given = stop_of wish watched at stops.more_sent stops.more_out stops.stops in
+    let all_out : out ≡ payloads_of (moments ++ events_of_elements stops.elements) =
+    out_is ∙ (ap (λ o. payloads_of moments ++ o) (stops.out_is
+    ∙ (ap (λ o. payloads_of (events_of_elements stops.elements) ++ o) given.out_none
+    ∙ append-nil (payloads_of (events_of_elements stops.elements))))
+    ∙ sym (flat_map-append payload_of moments (events_of_elements stops.elements))) in
+    let done = at_done (moments ++ events_of_elements stops.elements) h given.next given.gives told all_out in
+    record { done = done.0; elements = stops.elements; history = ap (λ (s : Stage). s.history) done.1 }
+
+-- ---- the promise
+
+pub record IsPromise (wish : Wish) (film : Film) (watched : Watched) (out : List ℕ) : Type 0 where
+  pub over_none : watched.over ≡ 0
+  pub under_none : watched.under ≡ 0
+  pub most_fits : watched.most ≤ wish.buffer
+  pub film_back : (first last : PictureUnit) → slice_get film.units.items 0 ≡ Some first
+      → slice_get film.units.items (length film.units.items - 1) ≡ Some last
+      → out ≡ take (last.to - first.from) (drop first.from film.bytes.items)
+
+-- a stream's film for a wish, with some time for its pictures
+pub record WishedStream (wish : Wish) (film : Film) (identity : Identity) (x : Stream) : Type 0 where
+  pub wished : IsWish wish
+  pub timed : 0 < picture_time film.rate
+  pub film_is : IsFilmIn film identity x
+
+pub kept_promise : {wish : Wish} {film : Film} {identity : Identity} {x : Stream} {watched : Watched}
+    {rounds : List Round} {mid : Stage} {bytes out : List ℕ} (c : ℕ) → WishedStream wish film identity x →
+    RunsAll (stage [] []) rounds mid → HasWatchedAll wish watched rounds mid bytes out →
+    rounds_heard rounds ++ bytes ≡ take c (framed_bytes (all_of x)) →
+    AreFed wish film x (first_slot mid.history) [] rounds → IsPromise wish film watched out
+kept_promise {wish} {film} {x} {rounds} {mid} {bytes} {out} c wished_stream runs all front fed =
+    let done = all.done in
+    let h = done.at.history in
+    let sum = done_sum x c done front in
+    let whole = whole_of is done.heard.gone sum done.complete in
+    let few : replies mid.history ≤ 2 =
+    omega (arith, replies_later mid.history (events_of_elements all.elements), ap replies all.history, done.replies_are)
+    in
+    let mine : rounds_heard rounds ≡ take (length (rounds_heard rounds)) (framed_bytes (all_of x)) =
+    front_of (rounds_heard rounds) bytes (framed_bytes (all_of x)) c front in
+    let always =
+    always_all (record { heard = heard_none; idle = inl refl; count = length (rounds_heard rounds); front = mine }) runs
+    (record { film_is = is; count = whole.count }) (record { few = few; begins = refl }) fed tt in
+    let A : History → Type 0 = λ g. IsBetweenAlways wish (film_sizes film) (picture_time film.rate) g in
+    let last = subst A (sym all.history)
+    (always_elements wish (film_sizes film) (picture_time film.rate) mid.history all.elements always) in
+    let some = film-some film.bytes.items film.rate film.units.items film.slice_starts.items film.grammar in
+    let quiet = quiet-always wish (film_sizes film) h
+    (record { slot_lasts = omega (arith, wished.some_units); picture_lasts = timed })
+    (omega (arith, some, length-map film.units.items (λ u. wire_size film.slice_starts.items u))) last in
+    record {
+      over_none = ap (λ (w : Watched). w.over) done.watched_is ∙ quiet.over_none;
+      under_none = ap (λ (w : Watched). w.under) done.watched_is ∙ quiet.under_none;
+      most_fits = omega (arith, ap (λ (w : Watched). w.most) done.watched_is, quiet.most_fits);
+      film_back = λ first last_ at_first at_last. done.out_is
+          ∙ (sym (ap (λ (s : Sum). s.payloads) (sum_after [] done.moments)
+          ∙ steps_payloads (sum_of []) done.moments)
+          ∙ (ap payloads (sym done.history_is) ∙ film_comes_back h is sum at_first at_last));
+    }
+  where
+    open wished_stream use {wished, timed, film_is as is}
+
+-- ---- what the link told
+
+heard_append : (a b : List IoEvent) → heard_bytes (a ++ b) ≡ heard_bytes a ++ heard_bytes b
+heard_append [] b = refl
+heard_append (HeardBytes bytes ∷ a) b =
+    ap (λ l. bytes ++ l) (heard_append a b) ∙ sym (append_assoc bytes (heard_bytes a) (heard_bytes b))
+heard_append (HeardSlot slot ∷ a) b = heard_append a b
+heard_append (HeardEnd ∷ a) b = heard_append a b
+heard_append (Sent byte ∷ a) b = heard_append a b
+
+heard_sends : (bytes : List ℕ) → heard_bytes (sends bytes) ≡ []
+heard_sends [] = refl
+heard_sends (b ∷ bytes) = heard_sends bytes
+
+heard_one : (event : IoEvent) (rest : List IoEvent) → heard_bytes (event ∷ rest) ≡ bytes_in event ++ heard_bytes rest
+heard_one (HeardBytes bytes) rest = refl
+heard_one (HeardSlot slot) rest = refl
+heard_one HeardEnd rest = refl
+heard_one (Sent byte) rest = refl
+
+heard_rounds : (wish : Wish) (h : History) (rounds : List Round) → heard_bytes (rounds_doings wish h rounds)
+    ≡ rounds_heard rounds
+heard_rounds wish h [] = refl
+heard_rounds wish h (round ∷ rounds) =
+    let sent = sends (requests_after wish h round.moments) in
+    let rest = rounds_doings wish (history_after h round.moments) rounds in
+    heard_one round.event (sent ++ rest)
+    ∙ ap (λ l. bytes_in round.event ++ l)
+    (heard_append sent rest
+    ∙ (ap (λ l. l ++ heard_bytes rest) (heard_sends (requests_after wish h round.moments))
+    ∙ heard_rounds wish (history_after h round.moments) rounds))
+
+-- what it told before a round, and after it
+pub record IsSplit (wish : Wish) (h : History) (before : List Round) (round : Round) (told : List IoEvent) : Type 0
+  where
+    pub later : List IoEvent
+    pub told_is : told ≡ rounds_doings wish h before ++ round.event ∷ later
+
+split_at : (wish : Wish) (h : History) (before later : List Round) (round : Round)
+    → IsSplit wish h before round (rounds_doings wish h (before ++ round ∷ later))
+split_at wish h [] later round =
+    record {
+      later = sends (requests_after wish h round.moments) ++ rounds_doings wish (history_after h round.moments) later;
+      told_is = refl;
+    }
+split_at wish h (first ∷ before) later round =
+    let rest = split_at wish (history_after h first.moments) before later round in
+    let front = first.event ∷ sends (requests_after wish h first.moments) in
+    record {
+      later = rest.later;
+      told_is = ap (λ l. front ++ l) rest.told_is
+          ∙ sym (append_assoc front (rounds_doings wish (history_after h first.moments) before)
+          (round.event ∷ rest.later));
+    }
+
+-- the course of a watching that is done, by what its link told
+pub record IsToldCourse (wish : Wish) (watched : Watched) (heard : List IoEvent) (out : List ℕ)
+    (client : HasCourse wish (Done watched) (Some []) (Some heard) (Some []) (Some out))
+    : Type 0 where
+  pub bytes : List ℕ
+  pub all : HasWatchedAll wish watched client.rounds client.mid bytes out
+  pub heard_is : heard_bytes heard ≡ rounds_heard client.rounds ++ bytes
+  pub split : (before later : List Round) (round : Round) → client.rounds ≡ before ++ round ∷ later
+      → ((front : List IoEvent)
+      × ((rest : List IoEvent) × ((heard ≡ front ++ round.event ∷ rest) × (heard_bytes front ≡ rounds_heard before))))
+
+pub told_course : (wish : Wish) (watched : Watched) (heard : List IoEvent) (out : List ℕ)
+    (client : HasCourse wish (Done watched) (Some []) (Some heard) (Some []) (Some out))
+    → IsToldCourse wish watched heard out client
+told_course wish watched heard out client =
+    let setup = sends (setup_text wish) in
+    let doings = rounds_doings wish [] client.rounds in
+    let end = end_of client.mid client.ends in
+    let told : heard ≡ setup ++ (doings ++ client.last_doings) = let e = client.told in cc in
+    let out_is : out ≡ payloads_of (events_of_rounds client.rounds) ++ client.last_out = let e = client.out in cc in
+    let last : heard_bytes client.last_doings ≡ end.0 =
+    ap heard_bytes end.1.1.1 ∙ (ap (λ l. end.0 ++ l) (heard_sends end.1.0) ∙ append-nil end.0) in
+    record {
+      bytes = end.0;
+      all = all_watched client.runs end.1.1.0 out_is;
+      heard_is = ap heard_bytes told ∙ (heard_append setup (doings ++ client.last_doings)
+          ∙ (ap (λ l. l ++ heard_bytes (doings ++ client.last_doings)) (heard_sends (setup_text wish))
+          ∙ (heard_append doings client.last_doings
+          ∙ (ap (λ l. l ++ heard_bytes client.last_doings) (heard_rounds wish [] client.rounds)
+          ∙ ap (λ l. rounds_heard client.rounds ++ l) last))));
+      split = λ before later round is.
+          let its = split_at wish [] before later round in
+          let mine = rounds_doings wish [] before in (
+            setup ++ mine,
+            (
+              its.later ++ client.last_doings,
+              (
+                told ∙ (ap (λ l. setup ++ (l ++ client.last_doings)) (ap (rounds_doings wish []) is ∙ its.told_is)
+                    ∙ (ap (λ l. setup ++ l) (append_assoc mine (round.event ∷ its.later) client.last_doings)
+                    ∙ sym (append_assoc setup mine (round.event ∷ (its.later ++ client.last_doings))))),
+                heard_append setup mine
+                    ∙ (ap (λ l. l ++ heard_bytes mine) (heard_sends (setup_text wish)) ∙ heard_rounds wish [] before),
+              ),
+            ),
+          );
+    }

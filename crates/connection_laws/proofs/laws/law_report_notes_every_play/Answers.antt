@@ -1,0 +1,12 @@
+use Rattle.connection_laws.proofs.CourseNotes.{plays_noted, turns_told}
+use Rattle.connection_laws.proofs.EntryNotes.{entries_noted}
+use Rattle.connection_laws.proofs.laws.law_report_notes_every_play.Goals as goal
+
+pub returns-clause-notes : goal.returns-clause-notes
+returns-clause-notes c = plays_noted
+
+pub returns-clause-turns : goal.returns-clause-turns
+returns-clause-turns c = turns_told
+
+pub returns-clause-entries : goal.returns-clause-entries
+returns-clause-entries c = entries_noted

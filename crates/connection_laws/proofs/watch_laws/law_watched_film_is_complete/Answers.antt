@@ -1,0 +1,33 @@
+use Rattle.std.proofs.Common.{subst, sym}
+use Rattle.conn.specs.EventSteps.{rounds_doings}
+use Rattle.rtsp_client.specs.Meters.{first_slot}
+use Rattle.connection_laws.specs.LinkDelivery.{IsCarried}
+use Rattle.connection_laws.specs.Plays.{FilmPlay}
+use Rattle.connection_laws.proofs.RequestedPlays.{asked_played}
+use Rattle.connection_laws.proofs.CompleteWatch.{watched_whole}
+use Rattle.connection_laws.proofs.watch_laws.law_watched_film_is_complete.Goals as goal
+
+pub returns-clause-played : goal.returns-clause-played
+returns-clause-played c = λ wish stored course watched heard out wished played client carried.
+    watched_whole wish stored watched out (record {
+      course = course;
+      heard = heard;
+      wished = wished;
+      played = played;
+      client = client;
+      carried = carried;
+    })
+
+pub returns-clause-asked : goal.returns-clause-asked
+returns-clause-asked c = λ wish stored course watched heard out asked client carried.
+    let played = asked_played asked in
+    let C : FilmPlay → Type 0 = λ play.
+    IsCarried (rounds_doings course.rounds) heard play.start (first_slot client.mid.history) in
+    watched_whole wish stored watched out (record {
+      course = course;
+      heard = heard;
+      wished = asked.wished;
+      played = played.0;
+      client = client;
+      carried = subst C (sym played.1) carried;
+    })

@@ -1,0 +1,13 @@
+pub mod Plays
+pub mod Courses
+pub mod Replies
+pub mod InputSplits
+pub mod ReplyPlaces
+pub mod Requests
+pub mod LinkDelivery
+pub mod WholePlays
+pub mod PlayReplies
+pub mod Notes
+pub mod Receipts
+pub mod Failures
+pub mod ClientRequests

@@ -1,0 +1,96 @@
+//! What a client makes of what a connection sends: the promise to its meter, and what it reads in
+//! replies.
+
+ghost use Rattle.std.specs.Prelude.{◌≡◌, ◌≤◌, ◌<◌, ◌+◌, ◌^◌, ◌++◌, ◌∷◌, All, List, Some, []};
+ghost use Rattle.std.specs.Prelude.{ℕ, codes, decimal, length};
+ghost use Rattle.film_frames.specs.declared.stored_films.Stored.{Stored};
+ghost use Rattle.interleave.specs.Elements.{IsMessageLength};
+ghost use Rattle.mpeg_scan.specs.PictureRates.{picture_time};
+ghost use Rattle.mpeg_scan.specs.declared.films.Film.{Film};
+ghost use Rattle.rtsp_client.specs.Films.{units_until};
+ghost use Rattle.rtsp_text.specs.Replies.{IsPlain, all_fields};
+ghost use Rattle.film_run.specs.Laws.{IsSending};
+ghost use Rattle.film_run.specs.Units.{stored_sizes};
+ghost use Rattle.plan_cert.specs.declared.Segment.{Segment};
+ghost use Rattle.session.specs.Films.{length_ms};
+ghost use Rattle.session.specs.RunRequests.{IsPlayable};
+ghost use Rattle.session.specs.declared.settings.Settings.{Settings};
+ghost use Rattle.session.specs.declared.states.Counts.{Counts};
+ghost use Rattle.session.specs.declared.states.Setup.{Setup};
+ghost use Rattle.session.specs.declared.states.StreamSource.{StreamSource};
+ghost use Rattle.session.specs.Replies.{field, play_fields, play_text};
+ghost use Rattle.vod_base.specs.Links.{IoEvent};
+ghost use Rattle.conn.specs.EventSteps.{rounds_doings};
+ghost use Rattle.rtsp_client.specs.WatchCourses.{HasCourse};
+ghost use Rattle.rtsp_client.specs.Meters.{first_slot};
+ghost use Rattle.rtsp_client.specs.WatchRequests.{IsWish};
+ghost use Rattle.rtsp_client.specs.declared.watch_request.WatchEnd.TheVariants.{Done};
+ghost use Rattle.rtsp_client.specs.declared.watch_request.Watched.{Watched};
+ghost use Rattle.rtsp_client.specs.declared.watch_request.Wish.{Wish};
+ghost use Rattle.connection_laws.specs.ClientRequests.{HasWatchedWhole, IsAskedFor};
+ghost use Rattle.connection_laws.specs.LinkDelivery.{IsCarried};
+ghost use Rattle.connection_laws.specs.WholePlays.{HasPlayedWhole, IsSetUpFor, playback_of};
+ghost use Rattle.connection_laws.specs.WholePlays.{whole_run};
+ghost use Rattle.connection_laws.specs.PlayReplies.{IsPlayRead};
+ghost use Rattle.connection_laws.specs.Courses.{Course};
+
+/// A film that is watched over a link that carries, slot by slot, what a server's connection sent
+/// of its one play, of the whole film and for the client's own buffer, start delay and slot, comes
+/// back from its first picture to its last one; and at each reading no picture lacks that is used,
+/// and what waits fits in the buffer (Salehi, Zhang, Kurose and Towsley 1998). So it is where the
+/// connection was asked for the film by the client's requests, and its play was kept whole.
+pub fn law_watched_film_is_complete()
+    ensures played { (wish : Wish) (stored : Stored) (course : Course) (watched : Watched)
+        (heard : List IoEvent) (out : List ℕ) → IsWish wish
+        → (played : HasPlayedWhole wish stored course)
+        → (client : HasCourse wish (Done watched) (Some []) (Some heard) (Some []) (Some out))
+        → IsCarried (rounds_doings course.rounds) heard played.play.start
+        (first_slot client.mid.history) → HasWatchedWhole wish stored watched out }
+    ensures asked { (wish : Wish) (stored : Stored) (course : Course) (watched : Watched)
+        (heard : List IoEvent) (out : List ℕ) → (asked : IsAskedFor wish stored course)
+        → (client : HasCourse wish (Done watched) (Some []) (Some heard) (Some []) (Some out))
+        → IsCarried (rounds_doings course.rounds) heard asked.play.start
+        (first_slot client.mid.history) → HasWatchedWhole wish stored watched out }
+{}
+
+/// What a client that wishes for a film asks of a connection, SETUP, PLAY and, once the film was
+/// due to its end, TEARDOWN, is played as it wished where it was admitted and nothing cut it: one
+/// play, of the whole film, by its plan for the client's buffer, start delay and slot, on the
+/// channels 0 and 1. The replies to SETUP and to PLAY come before the film's first byte, and a
+/// later one after its last (RFC 2326 sections 10.4, 10.5 and 10.12).
+pub fn law_requested_film_is_played()
+    ensures { (wish : Wish) (stored : Stored) (course : Course)
+        → (asked : IsAskedFor wish stored course)
+        → (played : HasPlayedWhole wish stored course) × (played.play ≡ asked.play) }
+{}
+
+/// A client reads in the reply to PLAY what the server writes in it: its code and number, the
+/// session, the film's end and the play's start. The reply is a whole message, and its fields'
+/// values have no LF and no blanks around them.
+pub fn law_play_reply_is_read_correctly()
+    ensures { (message id authority name : List ℕ) (sequence end_ms number time slots : ℕ)
+        → IsMessageLength message (length message)
+        → message ≡ play_text sequence (play_fields id 0 end_ms authority name number time) slots
+        → All IsPlain (all_fields (Some sequence)
+        (play_fields id 0 end_ms authority name number time
+        ++ field (codes "x-Start") (decimal slots) ∷ []))
+        → sequence < 2 ^ 64 → end_ms < 2 ^ 64 → 1 ≤ slots → slots ≤ 2 ^ 62 + 1
+        → IsPlayRead message id sequence end_ms slots }
+{}
+
+/// The end that a server tells of a whole film, in whole milliseconds, and the time of a picture
+/// give the number of the film's units.
+pub fn law_unit_count_from_end_time()
+    ensures { (film : Film) → units_until (length_ms film) (picture_time film.rate) ≡ length
+        film.units.items }
+{}
+
+/// The plan with which a session asks for a whole film is the film's plan for the client for whom
+/// the session was set up.
+pub fn law_whole_film_uses_its_plan()
+    ensures { (wish : Wish) (stored : Stored) (source : StreamSource) (settings : Settings)
+        (setup : Setup) (counts : Counts) (plan : List Segment) → IsWish wish
+        → IsSetUpFor wish settings setup
+        → IsPlayable stored source settings setup counts (whole_run stored) plan
+        → IsSending (stored_sizes stored) (playback_of wish stored) (whole_run stored) plan }
+{}

@@ -1,0 +1,386 @@
+-- Clients that are passed over one after the other.
+use Rattle.std.proofs.Common.{◌≡◌, ◌<◌, ◌≤◌, ◌+◌, ℕ, List, [], ◌∷◌, ◌++◌, length, map, take, drop}
+use Rattle.std.proofs.Common.{set, get_or, Option, Some, None, arith, refl, sym, ap, subst}
+use Rattle.std.proofs.Common.{◌∙◌, inl, inr}
+use Rattle.std.specs.Prelude.{sum_by}
+use Rattle.std.proofs.lemmas.Bool.{cases_eq}
+use Rattle.std.proofs.lemmas.List.{append_assoc, append-nil, ext_get_or, get_or-map}
+use Rattle.std.proofs.lemmas.List.{get_or-set_other, get_or-set_same, length-map, length-set}
+use Rattle.std.proofs.lemmas.List.{length-take}
+use Rattle.std.proofs.lemmas.List.{map-set, set-get_or, take_all, take_at, take_more}
+use Rattle.std.proofs.lemmas.List.Sums.{sum_by_push}
+use Rattle.admission.specs.declared.entries.Entry.{Entry}
+use Rattle.day_run.specs.declared.clients.Client.{Client}
+use Rattle.day_run.specs.declared.clients.Client.TheVariants as clients
+use Rattle.day_run.specs.declared.clients.Halt.{Halt}
+use Rattle.std.specs.Prelude.{OnSome, IfNone}
+use Rattle.day_run.specs.Clients.{AreSteps, AreTimed, AreUndone, IsStep, IsTimed, IsUndone}
+use Rattle.day_run.specs.Clients.{halts_of, state_after_halt, state_of}
+use Rattle.day_run.specs.Days.{DayState, at_slot, done_halt, halt_entries}
+use Rattle.day_run.specs.ClientStates.{ClientState, Idle, after_play, after_sending, sent_between}
+
+-- the clients before a place were changed so, and those from it on weren't
+pub record IsSwept (f : ClientState → ClientState) (upto : ℕ) (old new : List ClientState) : Type 0 where
+  pub count : length new ≡ length old
+  pub past : (c : ℕ) → c < upto → c < length old → get_or new c Idle ≡ f (get_or old c Idle)
+  pub later : (c : ℕ) → upto ≤ c → get_or new c Idle ≡ get_or old c Idle
+
+pub swept-none : (f : ClientState → ClientState) (old : List ClientState) → IsSwept f 0 old old
+swept-none f old =
+    record { count = refl; past = λ c before inside. absurd (omega (arith, before)); later = λ c from. refl }
+
+pub swept-set : {f : ClientState → ClientState} {i : ℕ} {old new : List ClientState} {state : ClientState}
+    → i < length old → state ≡ f (get_or old i Idle) → IsSwept f i old new
+    → IsSwept f (i + 1) old (set new i state)
+swept-set {f} {i} {old} {new} {state} inside is swept = record {
+  count = length-set new i state ∙ swept.count;
+  past = λ c before within. elim (cases_eq c i) [
+    | inl same ↦
+        ap (λ k. get_or (set new i state) k Idle) same
+        ∙ get_or-set_same new i state Idle (omega (arith, inside, swept.count)) ∙ is
+        ∙ ap (λ k. f (get_or old k Idle)) (sym same)
+    | inr other ↦ get_or-set_other new i c state Idle other ∙ swept.past c (omega (arith, before, other)) within
+  ];
+  later = λ c from.
+      let other : c ≡ i → ⊥ = λ same. absurd (omega (arith, same, from)) in
+      get_or-set_other new i c state Idle other ∙ swept.later c (omega (arith, from));
+}
+
+pub swept-same : (f : ClientState → ClientState) (i : ℕ) (old new : List ClientState)
+    → f (get_or old i Idle) ≡ get_or old i Idle → IsSwept f i old new → IsSwept f (i + 1) old new
+swept-same f i old new same swept = record {
+  count = swept.count;
+  past = λ c before within. elim (cases_eq c i) [
+    | inl here ↦ ap (λ k. get_or new k Idle) here ∙ swept.later i (omega arith) ∙ sym same
+        ∙ ap (λ k. f (get_or old k Idle)) (sym here)
+    | inr other ↦ swept.past c (omega (arith, before, other)) within
+  ];
+  later = λ c from. swept.later c (omega (arith, from));
+}
+
+pub swept-all : (f : ClientState → ClientState) (n : ℕ) (old new : List ClientState) → length old ≤ n
+    → IsSwept f n old new → new ≡ map f old
+swept-all f n old new most swept =
+    ext_get_or Idle new (map f old) (swept.count ∙ sym (length-map old f))
+    (λ c inside. swept.past c (omega (arith, inside, swept.count, most)) (omega (arith, inside, swept.count))
+    ∙ sym (get_or-map f old c Idle Idle (omega (arith, inside, swept.count))))
+
+-- a client in the words of a day
+pub state-at : (cs : List Client) (c : ℕ) (none : Client) → c < length cs
+    → get_or (map state_of cs) c Idle ≡ state_of (get_or cs c none)
+state-at cs c none inside = get_or-map state_of cs c none Idle inside
+
+pub states-set : (cs : List Client) (c : ℕ) (client : Client)
+    → map state_of (set cs c client) ≡ set (map state_of cs) c (state_of client)
+states-set cs c client = map-set state_of cs c client
+
+-- sums and halts of one client more
+pub sum-more : (g : ClientState → ℕ) (states : List ClientState) (i : ℕ) → i < length states
+    → sum_by g (take (i + 1) states) ≡ sum_by g (take i states) + g (get_or states i Idle)
+sum-more g states i inside = ap (sum_by g) (take_more states i Idle inside)
+    ∙ sum_by_push g (take i states) (get_or states i Idle)
+
+pub halt_entries-append : (f : ℕ → ClientState → List Entry) (k : ℕ) (xs ys : List ClientState)
+    → halt_entries f k (xs ++ ys) ≡ halt_entries f k xs ++ halt_entries f (k + length xs) ys
+halt_entries-append f k [] ys =
+    let e : k ≡ k + 0 = omega arith in
+    ap (λ n. halt_entries f n ys) e
+halt_entries-append f k (x ∷ xs) ys =
+    let e : k + 1 + length xs ≡ k + length (x ∷ xs) = omega arith in
+    ap (λ es. f k x ++ es) (halt_entries-append f (k + 1) xs ys)
+    ∙ sym (append_assoc (f k x) (halt_entries f (k + 1) xs) (halt_entries f (k + 1 + length xs) ys))
+    ∙ ap (λ n. halt_entries f k (x ∷ xs) ++ halt_entries f n ys) e
+
+pub halt_entries-more : (f : ℕ → ClientState → List Entry) (states : List ClientState) (i : ℕ) → i < length states
+    → halt_entries f 0 (take (i + 1) states) ≡ halt_entries f 0 (take i states) ++ f i (get_or states i Idle)
+halt_entries-more f states i inside =
+    let n : 0 + length (take i states) ≡ i = omega (arith, length-take i states, inside) in
+    ap (halt_entries f 0) (take_more states i Idle inside)
+    ∙ halt_entries-append f 0 (take i states) (get_or states i Idle ∷ [])
+    ∙ ap (λ k. halt_entries f 0 (take i states) ++ (f k (get_or states i Idle) ++ [])) n
+    ∙ ap (λ es. halt_entries f 0 (take i states) ++ es) (append-nil (f i (get_or states i Idle)))
+
+-- the halts before a place, and those there
+pub record NextHalts (i : ℕ) (before after more : List Entry) (f : ℕ → ClientState → List Entry)
+    (states : List ClientState)
+    (begun : List Entry) : Type 0 where
+  pub before_is : before ≡ begun ++ halt_entries f 0 (take i states)
+  pub after_is : after ≡ before ++ more
+  pub here : f i (get_or states i Idle) ≡ more
+
+-- the entries of one halt more
+pub entries-more : {i : ℕ} {before after more : List Entry} (f : ℕ → ClientState → List Entry)
+    (states : List ClientState)
+    (begun : List Entry) → i < length states → NextHalts i before after more f states begun
+    → after ≡ begun ++ halt_entries f 0 (take (i + 1) states)
+entries-more {i} {before} {more} f states begun inside halts =
+    halts.after_is ∙ ap (λ es. before ++ es) (sym halts.here)
+    ∙ ap (λ es. es ++ f i (get_or states i Idle)) halts.before_is
+    ∙ append_assoc begun (halt_entries f 0 (take i states)) (f i (get_or states i Idle))
+    ∙ ap (λ es. begun ++ es) (sym (halt_entries-more f states i inside))
+
+-- one client is put in the place of another
+pub timed-set : (heard : ℕ) (cs : List Client) (c : ℕ) (client : Client) → IsTimed heard client
+    → AreTimed heard cs → AreTimed heard (set cs c client)
+timed-set heard cs c client own timed =
+    record {
+      each = λ d none inside. elim (cases_eq d c) [
+        | inl same ↦
+            let within : c < length cs = omega (arith, same, inside, length-set cs c client) in
+            let B : ℕ → Type 0 = λ n. IsTimed heard (get_or (set cs c client) n none) in
+            let C : Client → Type 0 = λ x. IsTimed heard x in
+            subst B (sym same) (subst C (sym (get_or-set_same cs c client none within)) own)
+        | inr other ↦
+            let within : d < length cs = omega (arith, inside, length-set cs c client) in
+            let C : Client → Type 0 = λ x. IsTimed heard x in
+            subst C (sym (get_or-set_other cs c d client none other)) (timed.each d none within)
+      ];
+    }
+
+-- the clients before a place have come to a slot, and those from it on not yet
+pub record AreTimedTo (upto slot heard : ℕ) (clients : List Client) : Type 0 where
+  pub past : (c : ℕ) (none : Client) → c < upto → c < length clients → IsTimed slot (get_or clients c none)
+  pub later : (c : ℕ) (none : Client) → upto ≤ c → c < length clients → IsTimed heard (get_or clients c none)
+
+pub timed-all : (n slot heard : ℕ) (cs : List Client) → length cs ≤ n → AreTimedTo n slot heard cs → AreTimed slot cs
+timed-all n slot heard cs most to =
+    record { each = λ c none inside. to.past c none (omega (arith, inside, most)) inside }
+
+pub timed-next : {i slot heard : ℕ} {cs : List Client} (client : Client) → i < length cs → IsTimed slot client
+    → AreTimedTo i slot heard cs
+    → AreTimedTo (i + 1) slot heard (set cs i client)
+timed-next {i} {slot} {heard} {cs} client inside own to = record {
+  past = λ c none before within. elim (cases_eq c i) [
+    | inl same ↦
+        let B : ℕ → Type 0 = λ n. IsTimed slot (get_or (set cs i client) n none) in
+        let C : Client → Type 0 = λ x. IsTimed slot x in
+        subst B (sym same) (subst C (sym (get_or-set_same cs i client none inside)) own)
+    | inr other ↦
+        let C : Client → Type 0 = λ x. IsTimed slot x in
+        subst C (sym (get_or-set_other cs i c client none other))
+        (to.past c none (omega (arith, before, other)) (omega (arith, within, length-set cs i client)))
+  ];
+  later = λ c none from within.
+      let other : c ≡ i → ⊥ = λ same. absurd (omega (arith, same, from)) in
+      let C : Client → Type 0 = λ x. IsTimed heard x in
+      subst C (sym (get_or-set_other cs i c client none other))
+      (to.later c none (omega (arith, from)) (omega (arith, within, length-set cs i client)));
+}
+
+-- the clients before a place have come from one slot to another
+pub record AreStepsTo (upto heard slot : ℕ) (old new : List Client) (sent : ℕ) : Type 0 where
+  pub timed : AreTimedTo upto slot heard new
+  pub sent_is : sent ≡ sum_by (sent_between heard slot) (take upto (map state_of old))
+  pub swept : IsSwept (after_sending slot) upto (map state_of old) (map state_of new)
+
+-- the place of a client in the words of a day
+pub swept-at : {f : ClientState → ClientState} {i : ℕ} (old cs : List Client) (none : Client) → i < length cs
+    → IsSwept f i (map state_of old) (map state_of cs)
+    → get_or (map state_of old) i Idle ≡ state_of (get_or cs i none)
+swept-at {i} old cs none inside swept = sym (swept.later i (omega arith)) ∙ state-at cs i none inside
+
+pub swept-inside : (f : ClientState → ClientState) (i : ℕ) (old cs : List Client) → i < length cs
+    → IsSwept f i (map state_of old) (map state_of cs)
+    → i < length (map state_of old)
+swept-inside f i old cs inside swept = omega (arith, inside, swept.count, length-map cs state_of)
+
+pub steps-next : {i heard slot : ℕ} {old cs : List Client} {new : Client} {sent n : ℕ} (none : Client) → i < length cs
+    → (IsTimed heard (get_or cs i none) → IsStep heard slot (get_or cs i none) new n)
+    → AreStepsTo i heard slot old cs sent
+    → AreStepsTo (i + 1) heard slot old (set cs i new) (sent + n)
+steps-next {i} {heard} {slot} {old} {cs} {new} {n} none inside stepped to =
+    let step = stepped (to.timed.later i none (omega arith) inside) in
+    let at : get_or (map state_of old) i Idle ≡ state_of (get_or cs i none) = swept-at old cs none inside to.swept in
+    let within : i < length (map state_of old) = swept-inside (after_sending slot) i old cs inside to.swept in
+    let S : List ClientState → Type 0 = λ l. IsSwept (after_sending slot) (i + 1) (map state_of old) l in
+    record {
+      timed = timed-next new inside step.timed to.timed;
+      sent_is =
+          ap (λ k. k + n) to.sent_is ∙ ap (λ k. sum_by (sent_between heard slot) (take i (map state_of old)) + k)
+          (step.sent_is ∙ ap (sent_between heard slot) (sym at))
+          ∙ sym (sum-more (sent_between heard slot) (map state_of old) i within);
+      swept =
+          subst S (sym (states-set cs i new))
+          (swept-set within (step.state ∙ ap (after_sending slot) (sym at)) to.swept);
+    }
+
+pub steps-all : {n heard slot : ℕ} {old new : List Client} {sent : ℕ} → length new ≤ n
+    → AreStepsTo n heard slot old new sent
+    → AreSteps heard slot old new sent
+steps-all {n} {heard} {slot} {old} {new} most to =
+    let few : length (map state_of old) ≤ n = omega (arith, most, to.swept.count, length-map new state_of) in
+    record {
+      timed = timed-all n slot heard new most to.timed;
+      sent_is = to.sent_is ∙ ap (sum_by (sent_between heard slot)) (take_all n (map state_of old) few);
+      states_are = swept-all (after_sending slot) n (map state_of old) (map state_of new) few to.swept;
+    }
+
+-- the plays of the clients before a place were halted where this asks for it
+pub record AreEndedTo (f : ℕ → ClientState → List Entry) (g : ClientState → ClientState) (slot upto : ℕ)
+    (begun entries : List Entry) (old new : List Client) : Type 0 where
+  pub timed : AreTimed slot new
+  pub entries_are : entries ≡ begun ++ halt_entries f 0 (take upto (map state_of old))
+  pub swept : IsSwept g upto (map state_of old) (map state_of new)
+
+-- a halt is what a sweep asks for, and it is noted
+pub record SweptHalt (f : ℕ → ClientState → List Entry) (g : ClientState → ClientState) (slot i : ℕ)
+    (xs ys : List Entry)
+    (cs : List Client) (none : Client) (halt : Option Halt) : Type 0 where
+  pub has : IsTimed slot (get_or cs i none) → f i (state_of (get_or cs i none)) ≡ halts_of i halt
+  pub goes : IsTimed slot (get_or cs i none)
+      → g (state_of (get_or cs i none)) ≡ state_after_halt halt (state_of (get_or cs i none))
+  pub entries : ys ≡ xs ++ halts_of i halt
+
+-- the clients after a halt, or none
+pub record HaltOutcome (i : ℕ) (cs ds : List Client) (halt : Option Halt) : Type 0 where
+  pub some : OnSome halt (ds ≡ set cs i clients.Idle)
+  pub left : IfNone halt (ds ≡ cs)
+
+pub ended-next : {f : ℕ → ClientState → List Entry} {g : ClientState
+    → ClientState} {slot i : ℕ} {begun xs ys : List Entry}
+    {old cs ds : List Client} (none : Client) (halt : Option Halt) → i < length cs
+    → SweptHalt f g slot i xs ys cs none halt → HaltOutcome i cs ds halt
+    → AreEndedTo f g slot i begun xs old cs → AreEndedTo f g slot (i + 1) begun ys old ds
+ended-next {f} {g} {slot} {i} {begun} {ys} {old} {cs} none None inside halts ended to =
+    let timed : IsTimed slot (get_or cs i none) = to.timed.each i none inside in
+    let at : get_or (map state_of old) i Idle ≡ state_of (get_or cs i none) = swept-at old cs none inside to.swept in
+    let within : i < length (map state_of old) = swept-inside g i old cs inside to.swept in
+    let D : List Client → Type 0 = λ l. AreEndedTo f g slot (i + 1) begun ys old l in
+    subst D (sym ended.left) (record {
+      timed = to.timed;
+      entries_are = entries-more f (map state_of old) begun within (record {
+        before_is = to.entries_are;
+        after_is = halts.entries;
+        here = ap (f i) at ∙ halts.has timed;
+      });
+      swept = swept-same g i (map state_of old) (map state_of cs) (ap g at ∙ halts.goes timed ∙ sym at) to.swept;
+    })
+ended-next {f} {g} {slot} {i} {begun} {ys} {old} {cs} none (Some halt) inside halts ended to =
+    let timed : IsTimed slot (get_or cs i none) = to.timed.each i none inside in
+    let at : get_or (map state_of old) i Idle ≡ state_of (get_or cs i none) = swept-at old cs none inside to.swept in
+    let within : i < length (map state_of old) = swept-inside g i old cs inside to.swept in
+    let D : List Client → Type 0 = λ l. AreEndedTo f g slot (i + 1) begun ys old l in
+    let S : List ClientState → Type 0 = λ l. IsSwept g (i + 1) (map state_of old) l in
+    subst D (sym ended.some) (record {
+      timed = timed-set slot cs i clients.Idle tt to.timed;
+      entries_are = entries-more f (map state_of old) begun within (record {
+        before_is = to.entries_are;
+        after_is = halts.entries;
+        here = ap (f i) at ∙ halts.has timed;
+      });
+      swept =
+          subst S (sym (states-set cs i clients.Idle))
+          (swept-set within (sym (ap g at ∙ halts.goes timed)) to.swept);
+    })
+
+pub ended-states : {f : ℕ → ClientState → List Entry} {g : ClientState
+    → ClientState} {slot n : ℕ} {begun entries : List Entry}
+    {old new : List Client} → length new ≤ n
+    → AreEndedTo f g slot n begun entries old new → map state_of new ≡ map g (map state_of old)
+ended-states {g} {slot} {n} {begun} {old} {new} most to =
+    let few : length (map state_of old) ≤ n = omega (arith, most, to.swept.count, length-map new state_of) in
+    swept-all g n (map state_of old) (map state_of new) few to.swept
+
+-- an element is read with whatever default
+read-any : (cs : List Client) (i : ℕ) (one other : Client) → i < length cs → get_or cs i other ≡ get_or cs i one
+read-any cs i one other inside =
+    sym (ap (λ l. get_or l i other) (set-get_or cs i one)) ∙ get_or-set_same cs i (get_or cs i one) other inside
+
+pub undone-next : {i : ℕ} {cs ds : List Client} (none : Client) (halt : Option Halt) → i < length cs
+    → IfNone halt (IsUndone (get_or cs i none)) → HaltOutcome i cs ds halt → AreUndone i cs → AreUndone (i + 1) ds
+undone-next {i} {cs} none None inside own ended undone =
+    let D : List Client → Type 0 = λ l. AreUndone (i + 1) l in
+    let U : Client → Type 0 = λ x. IsUndone x in
+    subst D (sym ended.left) (record {
+      each = λ c any before. elim (cases_eq c i) [
+        | inl same ↦
+            let B : ℕ → Type 0 = λ n. IsUndone (get_or cs n any) in
+            subst B (sym same) (subst U (sym (read-any cs i none any inside)) own)
+        | inr other ↦ undone.each c any (omega (arith, before, other))
+      ];
+    })
+undone-next {i} {cs} none (Some halt) inside own ended undone =
+    let D : List Client → Type 0 = λ l. AreUndone (i + 1) l in
+    let U : Client → Type 0 = λ x. IsUndone x in
+    subst D (sym ended.some) (record {
+      each = λ c any before. elim (cases_eq c i) [
+        | inl same ↦
+            let B : ℕ → Type 0 = λ n. IsUndone (get_or (set cs i clients.Idle) n any) in
+            subst B (sym same) (subst U (sym (get_or-set_same cs i clients.Idle any inside)) tt)
+        | inr other ↦
+            subst U (sym (get_or-set_other cs i c clients.Idle any other))
+            (undone.each c any (omega (arith, before, other)))
+      ];
+    })
+
+-- a list as long as another one is written in its place
+written : {X : Type 0} → (n : ℕ) (es xs : List X) → length es ≡ n → take n (es ++ drop (length es) xs) ≡ es
+written n es xs same = take_at es (drop (length es) xs) n same
+
+abbrev moment-as : ℕ → List Entry → List ClientState → DayState
+moment-as slot entries states = record { entries = entries; states = states; heard = slot }
+
+moment-same : {xs ys : List Entry} {one other : List ClientState} (slot : ℕ) → xs ≡ ys → one ≡ other
+    → moment-as slot xs one ≡ moment-as slot ys other
+moment-same {ys} {one} {other} slot e s = ap (λ l. moment-as slot l one) e ∙ ap (moment-as slot ys) s
+
+-- a slot as it is taken: all clients are stepped, and then the plays that are done are halted
+pub record SlotSwept (n : ℕ) (ys : List Entry) (old xs ds zs : List Client) (heard slot sent : ℕ) (entries : List Entry)
+    (es : List Client) : Type 0 where
+  pub count : n ≡ length old
+  pub same : xs ≡ old
+  pub written : zs ≡ take n (ds ++ drop (length ds) old)
+  pub le : heard ≤ slot
+  pub timed : AreTimed heard old
+  pub stepped : (h : ℕ) → h ≤ slot → AreTimed h xs → AreSteps h slot xs ds sent
+  pub ended : (s : ℕ) → AreTimed s zs → ys ≡ entries ++ halt_entries (done_halt s) 0 (map state_of zs)
+  pub left : (s : ℕ) → AreTimed s zs → map state_of es ≡ map (after_play s) (map state_of zs)
+  pub quiet : halt_entries (done_halt slot) 0 (map (after_sending slot) (map state_of old))
+      ≡ halt_entries (done_halt slot) 0 (map state_of old)
+
+-- a day at a slot
+pub slot-moment : {n : ℕ} {ys : List Entry} {old xs ds zs : List Client} {heard slot sent : ℕ} (entries : List Entry)
+    (es : List Client) → SlotSwept n ys old xs ds zs heard slot sent entries es
+    → record {
+      entries = ys;
+      states = map state_of (take n (es ++ drop (length es) (take n (ds ++ drop (length ds) old))));
+      heard = slot;
+    }
+    ≡ at_slot (record { entries = entries; states = map state_of old; heard = heard }) slot
+slot-moment {n} {ys} {old} {ds} {zs} {heard} {slot} entries es swept =
+    let T : List Client → Type 0 = λ l. AreTimed heard l in
+    let U : List Client → Type 0 = λ l. AreTimed slot l in
+    let steps = stepped heard le (subst T (sym x) timed) in
+    let d-states : map state_of ds ≡ map (after_sending slot) (map state_of old) =
+    steps.states_are ∙ ap (λ l. map (after_sending slot) (map state_of l)) x in
+    let d-len : length ds ≡ n =
+    omega (
+      arith,
+      ap length d-states,
+      length-map ds state_of,
+      length-map (map state_of old) (after_sending slot),
+      length-map old state_of,
+      len,
+    ) in
+    let z-is : zs ≡ ds = z ∙ written n ds old d-len in
+    let now : AreTimed slot zs = subst U (sym z-is) steps.timed in
+    let states : map state_of zs ≡ map (after_sending slot) (map state_of old) = ap (map state_of) z-is ∙ d-states in
+    let y : ys ≡ entries ++ halt_entries (done_halt slot) 0 (map state_of old) =
+    ended slot now ∙ ap (λ l. entries ++ halt_entries (done_halt slot) 0 l) states ∙ ap (λ l. entries ++ l) quiet in
+    let s : map state_of es ≡ map (after_play slot) (map (after_sending slot) (map state_of old)) =
+    left slot now ∙ ap (map (after_play slot)) states in
+    let e-len : length es ≡ n =
+    omega (
+      arith,
+      ap length s,
+      length-map es state_of,
+      length-map (map (after_sending slot) (map state_of old)) (after_play slot),
+      length-map (map state_of old) (after_sending slot),
+      length-map old state_of,
+      len,
+    ) in
+    moment-same slot
+    y
+    (ap (map state_of) (written n es (take n (ds ++ drop (length ds) old)) e-len) ∙ s)
+  where
+    open swept use {count as len, same as x, written as z, le, timed, stepped, ended, left, quiet}

@@ -1,0 +1,299 @@
+-- Turns of a large day, one after the other.
+use Rattle.std.proofs.Common.{◌≡◌, ◌<◌, ◌+◌, ◌-◌, ◌^◌, ◌%◌, ℕ, max, Bool, cond, List, [], ◌∷◌, ◌++◌}
+use Rattle.std.proofs.Common.{length, map, get_or, arith, Result, Ok, Err, IfOk, refl}
+use Rattle.std.proofs.Common.{sym, ap, subst, ◌∙◌}
+use Rattle.std.specs.Prelude.{OnOk, sum_by}
+use Rattle.std.specs.List.{fold, range_with_len}
+use Rattle.std.proofs.lemmas.List.{length-append, map-append}
+use Rattle.std.proofs.lemmas.List.Sums.{sum_by_push}
+use Rattle.film_make.proofs.GeneratorLemmas.{words_after-twice, words_after-at, words_after-zero}
+use Rattle.film_make.specs.Generator.{words_after, words_of}
+use Rattle.slot_calendar.specs.declared.profiles.CapStep.{CapStep}
+use Rattle.admission.specs.declared.entries.Entry.{Entry}
+use Rattle.admission.specs.Histories.{state_after}
+use Rattle.admission.specs.Machine.{booked_in}
+use Rattle.day_run.specs.declared.fair_totals.FairTotals.{FairTotals}
+use Rattle.day_run.specs.declared.fair_totals.EntryCounts.{EntryCounts}
+use Rattle.day_run.specs.declared.clients.Client.{Client}
+use Rattle.day_run.specs.Clients.{state_of}
+use Rattle.day_run.specs.BookingBalance.{IsReady}
+use Rattle.day_run.specs.Days.{Link, DayState, last_journal, IsPlayLine, first_moment, rest_at, state_at}
+use Rattle.day_run.specs.FairDays.{AreTurns, IsDone, IsTurn, Turn, after_traces, after_turn}
+use Rattle.day_run.specs.FairDays.{at_later, counts_of, fair_link, IsFair, is_full_line, is_refused}
+use Rattle.day_run.specs.FairDays.{line_drawn, line_in, entry_counts_of, turn_booked, turn_peak, turn_sent, words_for}
+use Rattle.day_run.specs.FairProgress.{AreTurnResults, IsTurnResult, after_turns, drawn_to, with_slot, with_turn}
+use Rattle.day_run.specs.LineTexts.{fair_text}
+use Rattle.day_run.specs.declared.machine.LineAnswer.{LineAnswer}
+use Rattle.day_run.specs.MachineState.{reply_text}
+use Rattle.vod_base.specs.declared.errors.NoMemory.{NoMemory}
+use Rattle.day_run.specs.ClientStates.{Rest, ClientState, Idle, Playing, Pausing, Paused}
+use Rattle.day_run.proofs.SentBookedLemmas.{sum-none}
+use Rattle.day_run.proofs.LineBalance.{morning-ready, pause-ready, play-ready, ready-kept, resume-ready}
+use Rattle.day_run.proofs.ClientSweepLemmas.{state-at}
+use Rattle.day_run.proofs.ScriptLineFacts.{ClientAsks, ClientOf, LineStep}
+use Rattle.day_run.proofs.PeakLemmas.{peak-push}
+
+-- ---- what a client does keeps the balance
+pub done-ready : {c : ℕ} {state : ClientState} (step : LineStep) (words : ℕ → ℕ) → ClientOf step.old c state
+    → IsDone step.link (line_drawn words c state) step.old step.new step.text → IsReady step.old → IsReady step.new
+done-ready {c} {state = Idle} step words own is ready =
+    play-ready step (rest_at step.link (words 0 % 16) (16384 + words 1 % 16384) (words 2 % 26))
+    (record { client = own.client; at = refl }) is ready
+done-ready {c} {state = Playing play} step words own is ready =
+    pause-ready step (record { client = own.client; at = refl }) is ready
+done-ready {c} {state = Pausing stop rest} step words own is ready = ready-kept step.old step.new is.kept ready
+done-ready {c} {state = Paused rest} step words own is ready =
+    resume-ready step (record { client = own.client; at = refl }) is ready
+
+-- counts that have the same numbers
+record HaveSameNumbers (one other : FairTotals) : Type 0 where
+  turns : one.turns ≡ other.turns
+  full : one.full ≡ other.full
+  last : one.last ≡ other.last
+  sent : one.sent ≡ other.sent
+  booked : one.booked ≡ other.booked
+  peak : one.peak ≡ other.peak
+
+abbrev counts-as : ℕ → ℕ → ℕ → ℕ → ℕ → ℕ → FairTotals
+counts-as turns full last sent booked peak =
+    record { turns = turns; full = full; last = last; sent = sent; booked = booked; peak = peak }
+
+counts-same : (a b : FairTotals) → HaveSameNumbers a b → a ≡ b
+counts-same a b same =
+    ap (λ n. counts-as n a.full a.last a.sent a.booked a.peak) same.turns
+    ∙ ap (λ n. counts-as b.turns n a.last a.sent a.booked a.peak) same.full
+    ∙ ap (λ n. counts-as b.turns b.full n a.sent a.booked a.peak) same.last
+    ∙ ap (λ n. counts-as b.turns b.full b.last n a.booked a.peak) same.sent
+    ∙ ap (λ n. counts-as b.turns b.full b.last b.sent n a.peak) same.booked
+    ∙ ap (λ n. counts-as b.turns b.full b.last b.sent b.booked n) same.peak
+
+pub same-counts : (counts : FairTotals) (moment : DayState) → counts.last ≡ moment.heard
+    → counts ≡ with_slot counts moment moment.heard
+same-counts counts moment last =
+    let f = booked_in (state_after moment.entries) in
+    let none : moment.heard - moment.heard ≡ 0 = omega arith in
+    let sent = sum-none moment.heard moment.states in
+    let booked = ap (λ n. sum_by f (range_with_len (moment.heard + 1) n)) none in
+    let peak = ap (λ n. fold max 0 (map f (range_with_len (moment.heard + 1) n))) none in
+    counts-same counts (with_slot counts moment moment.heard) (record {
+      turns = refl;
+      full = refl;
+      last = last;
+      sent = omega (arith, sent);
+      booked = omega (arith, booked);
+      peak = omega (arith, peak);
+    })
+
+-- the steps of a turn, one after the other
+pub record TurnSteps (link here : Link) (w w1 w2 w3 : ℕ → ℕ) (later client : ℕ) (c c1 c2 : FairTotals) (full : Bool)
+    (turn : Turn)
+    : Type 0 where
+  pub same : here ≡ link
+  pub one : w1 ≡ words_after 1 w
+  pub two : w2 ≡ words_after 1 w1
+  pub later_is : later ≡ w 0 % 4
+  pub who : client ≡ w1 0 % 256
+  pub slot : turn.mid ≡ at_later turn.old later
+  pub done : IsDone here (line_drawn w2 client (state_at turn.mid client)) turn.mid turn.new turn.text
+  pub left : w3 ≡ words_after (words_for (state_at turn.mid client)) w2
+  pub counted : c1 ≡ with_slot c turn.old turn.mid.heard
+  pub told : is_full_line turn.text ≡ full
+  pub counts_are : c2
+      ≡ record {
+        turns = c1.turns + 1;
+        full = c1.full + cond full 1 0;
+        last = c1.last;
+        sent = c1.sent;
+        booked = c1.booked;
+        peak = c1.peak;
+      }
+
+-- ---- one turn
+pub turn-of : {link here : Link} {w w1 w2 w3 : ℕ → ℕ} {later client : ℕ} {c c1 c2 : FairTotals} {full : Bool} (turn :
+    Turn)
+    → TurnSteps link here w w1 w2 w3 later client c c1 c2 full turn
+    → IsTurnResult link (drawn_to w c turn.old) (drawn_to w3 c2 turn.new)
+turn-of {here} {w} {w2} {later} {client} {c} {full} turn steps =
+    let who-is : client ≡ w 1 % 256 = who ∙ ap (λ (f : ℕ → ℕ). f 0 % 256) one
+    ∙ ap (λ k. k % 256) (words_after-at 1 w 0) in
+    let second : w2 ≡ words_after 2 w = two ∙ ap (words_after 1) one ∙ words_after-twice 1 1 w in
+    let D : ℕ → Type 0 = λ k. IsDone here (line_drawn w2 k (state_at turn.mid k)) turn.mid turn.new turn.text in
+    let W : (ℕ → ℕ) → Type 0 =
+    λ f. IsDone here (line_drawn f (w 1 % 256) (state_at turn.mid (w 1 % 256))) turn.mid turn.new turn.text in
+    let L : Link → Type 0 =
+    λ x. IsDone x (line_in w turn) turn.mid turn.new turn.text in
+    record {
+      turn = turn;
+      old_is = refl;
+      new_is = refl;
+      turn_is =
+          record { slot = slot ∙ ap (at_later turn.old) l; done = subst L same (subst W second (subst D who-is done)) };
+      left_is =
+          left ∙ ap (λ k. words_after (words_for (state_at turn.mid k)) w2) who-is
+          ∙ ap (words_after (words_for (state_at turn.mid (w 1 % 256)))) second
+          ∙ words_after-twice (words_for (state_at turn.mid (w 1 % 256))) 2 w;
+      counts_are =
+          m ∙ ap (λ (x : FairTotals).
+          record {
+            turns = x.turns + 1;
+            full = x.full + cond full 1 0;
+            last = x.last;
+            sent = x.sent;
+            booked = x.booked;
+            peak = x.peak;
+          }) n
+          ∙ ap (λ b. record (with_turn c turn) { full = c.full + cond b 1 0 }) (sym told);
+    }
+  where
+    open steps use {same, one, two, later_is as l, who, slot, done, left, counted as n, told, counts_are as m}
+
+-- ---- turns
+turns-more : {link : Link} {turn : Turn} {mid : DayState} (words : ℕ → ℕ) (turns : List Turn) (old : DayState)
+    → AreTurns link words turns old mid → turn.old ≡ mid
+    → IsTurn link (after_turns words turns) turn → AreTurns link words (turns ++ turn ∷ []) old turn.new
+turns-more words [] old run at is = (at ∙ run, (is, refl))
+turns-more {link} {turn} {mid} words (t ∷ turns) old run at is = (
+  run.0,
+  (
+    run.1.0,
+    turns-more {link = link} {turn = turn} {mid = mid}
+        (after_turn words t) turns t.new run.1.1 at is,
+  ),
+)
+
+after-more : (words : ℕ → ℕ) (turns : List Turn) (turn : Turn)
+    → after_turns words (turns ++ turn ∷ []) ≡ after_turn (after_turns words turns) turn
+after-more words [] turn = refl
+after-more words (t ∷ turns) turn = after-more (after_turn words t) turns turn
+
+counts-more : (turns : List Turn) (turn : Turn) (old new : DayState) → turn.mid.heard ≡ new.heard
+    → with_turn (counts_of turns old) turn ≡ counts_of (turns ++ turn ∷ []) new
+counts-more turns turn old new heard =
+    counts-same (with_turn (counts_of turns old) turn) (counts_of (turns ++ turn ∷ []) new) (record {
+      turns = sym (length-append turns (turn ∷ []));
+      full = sym (sum_by_push (λ t. cond (is_refused t) 1 0) turns turn);
+      last = heard;
+      sent = sym (sum_by_push turn_sent turns turn);
+      booked = sym (sum_by_push turn_booked turns turn);
+      peak = sym (ap (fold max 0) (map-append turn_peak turns (turn ∷ []))
+          ∙ peak-push (map turn_peak turns) (turn_peak turn));
+    })
+
+pub come-none : (link : Link) (words : ℕ → ℕ) (counts : FairTotals) (moment : DayState) → moment ≡ first_moment
+    → counts ≡ record { turns = 0; full = 0; last = 0; sent = 0; booked = 0; peak = 0 }
+    → AreTurnResults link words words 0 counts moment
+come-none link words counts moment is c =
+    record { turns = []; count = refl; run = is; left_is = refl; counts_are = c ∙ ap (counts_of []) (sym is) }
+
+pub come-next : {link here : Link} {words left next : ℕ → ℕ} {n : ℕ} {counts more : FairTotals} {old new : DayState}
+    → here ≡ link → AreTurnResults link words left n counts old
+    → IsTurnResult here (drawn_to left counts old) (drawn_to next more new) → more.last ≡ new.heard
+    → AreTurnResults link words next (n + 1) more new
+come-next {link} {here} {words} {left} {next} {more} {old} {new} same come turned last =
+    let turn = turned.turn in
+    let all = come.turns ++ turn ∷ [] in
+    let heard : turn.mid.heard ≡ new.heard = sym (ap (λ (c : FairTotals). c.last) turned.counts_are) ∙ last in
+    let L : Link → Type 0 = λ x. IsTurn x left turn in
+    let W : (ℕ → ℕ) → Type 0 = λ w. IsTurn link w turn in
+    let M : DayState → Type 0 = λ m. AreTurns link words all first_moment m in
+    let is : IsTurn link (after_turns words come.turns) turn = subst W come.left_is (subst L same turned.turn_is) in
+    record {
+      turns = all;
+      count = length-append come.turns (turn ∷ []) ∙ ap (λ k. k + 1) come.count;
+      run = subst M turned.new_is (turns-more words come.turns first_moment come.run turned.old_is is);
+      left_is = turned.left_is ∙ ap (λ (w : ℕ → ℕ). after_turn w turn) come.left_is
+          ∙ sym (after-more words come.turns turn);
+      counts_are =
+          turned.counts_are ∙ ap (λ (c : FairTotals). with_turn c turn) come.counts_are
+          ∙ counts-more come.turns turn old new heard;
+    }
+
+-- a day of turns
+pub fair-of : {here : Link} {steps : List CapStep} {number plays : ℕ} {words left : ℕ → ℕ} {counts : FairTotals}
+    {entries : EntryCounts} {evening : DayState} {text : List ℕ} {journal : List Entry}
+    → here ≡ fair_link steps (words_of number) → words ≡ after_traces 16 (words_of number)
+    → AreTurnResults here words left plays counts evening
+    → journal ≡ last_journal evening → entries ≡ entry_counts_of journal → text ≡ fair_text counts entries
+    → IsFair steps number plays text journal
+fair-of {here} {steps} {number} {words} {left} {entries} {evening} {text} same w come j m t =
+    let L : Link → Type 0 = λ x. AreTurns x words come.turns first_moment evening in
+    let W : (ℕ → ℕ) → Type 0 = λ x. AreTurns (fair_link steps (words_of number)) x come.turns first_moment evening in
+    record {
+      turns = come.turns;
+      evening = evening;
+      count = come.count;
+      run = subst W w (subst L same come.run);
+      journal_is = j;
+      text_is = t ∙ ap (λ c. fair_text c entries) come.counts_are ∙ ap (fair_text (counts_of come.turns evening)) m;
+    }
+
+-- ---- words that are drawn one after the other
+pub second-word : (w w1 : ℕ → ℕ) → w1 ≡ words_after 1 w → w1 0 ≡ w 1
+second-word w w1 one = ap (λ (f : ℕ → ℕ). f 0) one ∙ words_after-at 1 w 0
+
+pub third-word : (w w1 w2 : ℕ → ℕ) → w1 ≡ words_after 1 w → w2 ≡ words_after 1 w1 → w2 0 ≡ w 2
+third-word w w1 w2 one two = ap (λ (f : ℕ → ℕ). f 0) (two ∙ ap (words_after 1) one ∙ words_after-twice 1 1 w)
+    ∙ words_after-at 2 w 0
+
+pub three-left : {w1 w2 w3 : ℕ → ℕ} (w : ℕ → ℕ) → w1 ≡ words_after 1 w → w2 ≡ words_after 1 w1 → w3 ≡ words_after 1 w2
+    → w3 ≡ words_after 3 w
+three-left w one two three = three ∙ ap (words_after 1) (two ∙ ap (words_after 1) one ∙ words_after-twice 1 1 w)
+    ∙ words_after-twice 1 2 w
+
+pub ok-of : {A E : Type 0} (r : Result A E) (X : Type 0) → X → OnOk r X
+ok-of (Ok a) X x = x
+ok-of (Err e) X x = tt
+
+-- the source, the buffer and the delay that were drawn
+pub record SameDraws (s b d source buffer delay : ℕ) : Type 0 where
+  pub sources_are : s ≡ source
+  pub buffers_are : b ≡ buffer
+  pub delays_are : d ≡ delay
+
+pub play-drawn : {s b d source buffer delay : ℕ} (r : Result LineAnswer NoMemory) (asks : ClientAsks)
+    → SameDraws s b d source buffer delay
+    → IfOk r (λ told. IsPlayLine asks.link asks.client (rest_at asks.link s b d) asks.old asks.new
+    (reply_text asks.entries told))
+    → IfOk r (λ told. IsPlayLine asks.link asks.client (rest_at asks.link source buffer delay) asks.old
+    asks.new (reply_text asks.entries told))
+play-drawn {s} {b} {d} {source} {buffer} {delay} r asks draws is =
+    let P : Rest → Type 0 =
+    λ rest. IfOk r (λ told. IsPlayLine link client rest old new (reply_text entries told)) in
+    let e : rest_at link s b d ≡ rest_at link source buffer delay =
+    ap (λ k. rest_at link k b d) es ∙ ap (λ k. rest_at link source k d) eb ∙ ap (rest_at link source buffer) ed in
+    subst P e is
+  where
+    open draws use {sources_are as es, buffers_are as eb, delays_are as ed}
+    open asks use {link, client, old, new, entries}
+
+-- no words are drawn
+none-left : (w : ℕ → ℕ) (n : ℕ) → n ≡ 0 → w ≡ words_after n w
+none-left w n none = sym (ap (λ k. words_after k w) none ∙ words_after-zero w)
+
+-- one of a day's clients, at its place among them
+pub record StandsAt (clients : List Client) (c : ℕ) (client : Client) : Type 0 where
+  pub count : length clients ≡ 256
+  pub small : c < 2 ^ 8
+  pub at : client ≡ get_or clients c client
+
+state-there : {clients : List Client} {c : ℕ} {client : Client} → StandsAt clients c client
+    → get_or (map state_of clients) c Idle ≡ state_of client
+state-there {clients} {c} {client} stands =
+    state-at clients c client (omega (arith, stands.count, stands.small)) ∙ sym (ap state_of stands.at)
+
+-- a client for whom no word is drawn
+pub no-words : {w : ℕ → ℕ} {clients : List Client} {c : ℕ} {client : Client} → StandsAt clients c client
+    → words_for (state_of client) ≡ 0 → w ≡ words_after (words_for (get_or (map state_of clients) c Idle)) w
+no-words {w} stands none = none-left w _ (ap words_for (state-there stands) ∙ none)
+
+-- what the drawn client does, by what it is
+pub done-as : {clients : List Client} {c : ℕ} {client is : Client} (step : LineStep) (w : ℕ → ℕ)
+    → StandsAt clients c client → client ≡ is
+    → IsDone step.link (line_drawn w c (state_of is)) step.old step.new step.text
+    → IsDone step.link (line_drawn w c (get_or (map state_of clients) c Idle)) step.old step.new step.text
+done-as {c} step w stands same own =
+    let S : ClientState → Type 0 = λ s. IsDone step.link (line_drawn w c s) step.old step.new step.text in
+    subst S (sym (state-there stands ∙ ap state_of same)) own
+
+pub ready-morning : (m : DayState) → m ≡ first_moment → IsReady m
+ready-morning m is = ready-kept first_moment m is morning-ready

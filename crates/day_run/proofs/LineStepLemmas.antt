@@ -1,0 +1,238 @@
+-- What the lines of a script make of a day.
+use Rattle.std.proofs.Common.{◌≡◌, ◌<◌, ◌+◌, ℕ, false, List, [], ◌∷◌, ◌++◌, length, map, drop, set}
+use Rattle.std.proofs.Common.{replicate, Result, Ok, Err, IfOk, arith, refl, sym, ap}
+use Rattle.std.proofs.Common.{subst, ◌∙◌}
+use Rattle.std.proofs.lemmas.List.{append-nil, drop_at, ext_get_or, get_or-replicate, length-map}
+use Rattle.plan_cert.specs.declared.Segment.{Segment}
+use Rattle.admission.specs.declared.entries.Answer.{Answer}
+use Rattle.admission.specs.declared.entries.Answer.TheVariants.{Admitted, Overflow, Halted, Looked}
+use Rattle.admission.specs.declared.entries.Command.TheVariants as commands
+use Rattle.admission.specs.declared.entries.Entry.{Entry}
+use Rattle.admission.specs.declared.entries.Full.{Full}
+use Rattle.admission.specs.Books.{places_taken}
+use Rattle.admission.specs.Histories.{IsAnswered, is_admission, open_count, state_after}
+use Rattle.report.specs.EntryLines.{entry_line}
+use Rattle.day_run.specs.declared.clients.Client.{Client}
+use Rattle.day_run.specs.declared.clients.Client.TheVariants as clients
+use Rattle.day_run.specs.declared.clients.Halt.{Halt}
+use Rattle.day_run.specs.declared.clients.Play.{Play as ClientPlay}
+use Rattle.day_run.specs.declared.clients.Rest.{Rest as ClientRest}
+use Rattle.slot_calendar.specs.declared.profiles.CapStep.{CapStep}
+use Rattle.admission.specs.Machine.{IsAnswer, State}
+use Rattle.day_run.specs.declared.machine.LineAnswer.{LineAnswer}
+use Rattle.day_run.specs.declared.machine.LineAnswer.TheVariants as tolds
+use Rattle.vod_base.specs.declared.errors.NoMemory.{NoMemory}
+use Rattle.day_run.specs.Clients.{AreIdle, IsPauseOf, IsQuiet, IsTimed, play_of, rest_of, state_of}
+use Rattle.report.specs.JournalTexts.{journal_text}
+use Rattle.day_run.specs.Days.{IsAsked, IsFull, IsNoted, IsPauseLine, IsPlayLine, IsTold, Link}
+use Rattle.day_run.specs.Days.{DayState, done_halt, entry_by, halt_entries, state_at, with_play}
+use Rattle.day_run.specs.LineTexts.{full_text, state_text}
+use Rattle.day_run.specs.MachineState.{reply_text}
+use Rattle.day_run.specs.ClientStates.{Idle, Playing, Pausing, Paused, Rest, ClientState, IfBusy, after_sending}
+use Rattle.day_run.specs.ClientStates.{is_busy}
+use Rattle.day_run.proofs.ClientSweepLemmas.{state-at, states-set}
+use Rattle.day_run.proofs.ScriptLineFacts.{ClientAsks}
+use Rattle.day_run.proofs.PacerTimingLemmas.{done-sent}
+
+-- the entries after those of a moment
+pub more-entries : (xs ys es : List Entry) → ys ≡ xs ++ es → drop (length xs) ys ≡ es
+more-entries xs ys es y = ap (drop (length xs)) y ∙ drop_at xs es (length xs) refl
+
+pub told-entry : (place : ℕ) (xs ys : List Entry) (e : Entry) → place ≡ length xs → ys ≡ xs ++ e ∷ []
+    → reply_text ys (tolds.Entry place) ≡ entry_line (length xs) e
+told-entry place xs ys e at y =
+    ap (λ n. journal_text n (drop n ys)) at ∙ ap (journal_text (length xs)) (more-entries xs ys (e ∷ []) y)
+    ∙ append-nil (entry_line (length xs) e)
+
+pub told-full : {link : Link} {places : ℕ} {old new : DayState} (full : Full)
+    → link.limit < places_taken old.entries + places
+    → full.entries ≡ length old.entries → full.live ≡ open_count old.entries → new ≡ old
+    → IsFull link places old new (full_text full)
+told-full {old} {new} full above entries opened kept = record {
+  full = above;
+  told = record {
+    kept = kept;
+    text_is =
+        ap (λ n. full_text (record { entries = n; live = full.live })) entries
+        ∙ ap (λ n. full_text (record { entries = length old.entries; live = n })) opened;
+  };
+}
+
+-- an entry was made: its place, and the day after it
+pub record EntryMade (old new : DayState) (place : ℕ) (e : Entry) (states : List ClientState) : Type 0 where
+  pub place_is : place ≡ length old.entries
+  pub entries_are : new.entries ≡ old.entries ++ e ∷ []
+  pub states_are : new.states ≡ states
+  pub heard_is : new.heard ≡ old.heard
+
+-- an entry was made
+pub noted : {link : Link} {old new : DayState} {place : ℕ} {e : Entry} {states : List ClientState}
+    → IsAnswered link.steps (state_after old.entries) e
+    → EntryMade old new place e states → IsNoted link e states old new (reply_text new.entries (tolds.Entry place))
+noted {old} {new} {place} {e} {states} answered made = record {
+  answered = answered;
+  new_is =
+      ap (λ es. record { entries = es; states = new.states; heard = new.heard }) y
+      ∙ ap (λ l. record { entries = old.entries ++ e ∷ []; states = l; heard = new.heard }) s
+      ∙ ap (λ n. record { entries = old.entries ++ e ∷ []; states = states; heard = n }) h;
+  text_is = told-entry place old.entries new.entries e at y;
+}
+  where
+    open made use {place_is as at, entries_are as y, states_are as s, heard_is as h}
+
+-- the entry of a client's halt
+pub record HaltEntry (c number keep : ℕ) (e : Entry) : Type 0 where
+  pub maker : e.maker ≡ c
+  pub answer : e.answer ≡ Halted
+  pub command : e.command ≡ commands.Halt number keep
+
+-- the entry of a halt was made
+pub noted-halt : {link : Link} {old new : DayState} {place c number keep : ℕ} {e : Entry} {states : List ClientState}
+    → IsAnswered link.steps (state_after old.entries) e → EntryMade old new place e states → HaltEntry c number keep e
+    → IsNoted link (entry_by c (commands.Halt number keep) Halted) states old new
+    (reply_text new.entries (tolds.Entry place))
+noted-halt {link} {old} {new} {place} {c} {number} {keep} {e} {states} answered made entry =
+    let same : e ≡ entry_by c (commands.Halt number keep) Halted =
+    ap (λ n. record { maker = n; command = e.command; answer = e.answer }) maker
+    ∙ ap (λ x. record { maker = c; command = x; answer = e.answer }) command
+    ∙ ap (λ a. entry_by c (commands.Halt number keep) a) answer in
+    let N : Entry → Type 0 = λ x. IsNoted link x states old new (reply_text new.entries (tolds.Entry place)) in
+    subst N same (noted answered made)
+  where
+    open entry use {maker, answer, command}
+
+-- the entry of a play was made
+pub noted-play : {link : Link} {old new : DayState} {place c slot maker : ℕ} {states : List ClientState}
+    (plan : List Segment)
+    (answer : Answer) → slot ≡ old.heard → maker ≡ c
+    → IsAnswered link.steps (state_after old.entries) (entry_by maker (commands.Play slot plan) answer)
+    → EntryMade old new place (entry_by maker (commands.Play slot plan) answer) states
+    → IsNoted link (entry_by c (commands.Play old.heard plan) answer) states old new
+    (reply_text new.entries (tolds.Entry place))
+noted-play {link} {old} {new} {place} {c} {slot} {maker} {states} plan answer late own answered made =
+    let N : Entry → Type 0 = λ x. IsNoted link x states old new (reply_text new.entries (tolds.Entry place)) in
+    let same : entry_by maker (commands.Play slot plan) answer ≡ entry_by c (commands.Play old.heard plan) answer =
+    ap (λ n. entry_by n (commands.Play slot plan) answer) own
+    ∙ ap (λ n. entry_by c (commands.Play n plan) answer) late in
+    subst N same (noted answered made)
+
+-- a play that was begun: its number, what was to be sent, its plan, and its first slot
+pub record PlayBegun (number : ℕ) (rest : ClientRest) (plan : List Segment) (start : ℕ) (play : ClientPlay)
+    : Type 0 where
+  pub number_is : play.number ≡ number
+  pub rest_is : play.rest ≡ rest
+  pub plan_is : play.plan ≡ plan
+  pub start_is : play.pacer.start ≡ start
+
+-- a play in the words of a day
+pub play-is : {number : ℕ} {rest : ClientRest} {plan : List Segment} {start : ℕ} (play : ClientPlay)
+    → PlayBegun number rest plan start play
+    → play_of play ≡ record { number = number; rest = rest_of rest; plan = plan; start = start }
+play-is {number} {rest} {plan} {start} play begun =
+    ap (λ x. record {
+      number = x;
+      rest = rest_of play.rest;
+      plan = play.plan;
+      start = play.pacer.start;
+    }) begun.number_is
+    ∙ ap (λ x. record { number = number; rest = rest_of x; plan = play.plan; start = play.pacer.start }) begun.rest_is
+    ∙ ap (λ x. record { number = number; rest = rest_of rest; plan = x; start = play.pacer.start }) begun.plan_is
+    ∙ ap (λ x. record { number = number; rest = rest_of rest; plan = plan; start = x }) begun.start_is
+
+-- the clients after a play's answer
+pub states-played : {number : ℕ} {rest : ClientRest} {plan : List Segment} {start : ℕ} {answer : Answer}
+    (cs : List Client) (c : ℕ)
+    (play : ClientPlay) → answer ≡ Admitted start → PlayBegun number rest plan start play
+    → map state_of (set cs c (clients.Playing play)) ≡ with_play c (rest_of rest) plan number answer (map state_of cs)
+states-played {number} {rest} {plan} {start} cs c play is begun =
+    states-set cs c (clients.Playing play) ∙ ap (λ x. set (map state_of cs) c (Playing x)) (play-is play begun)
+    ∙ ap (λ a. with_play c (rest_of rest) plan number a (map state_of cs)) (sym is)
+
+pub states-same : {states : List ClientState} (c : ℕ) (rest : Rest) (plan : List Segment) (number : ℕ)
+    (answer : Answer) → is_admission answer ≡ false
+    → states ≡ with_play c rest plan number answer states
+states-same c rest plan number (Admitted start) not = cc not
+states-same c rest plan number (Overflow over booked asked) not = refl
+states-same c rest plan number Halted not = refl
+states-same c rest plan number (Looked now at booked) not = refl
+
+-- a play was admitted after the slot that was heard
+pub record PlayAdmitted (slot start heard : ℕ) (answer : Answer) (steps : List CapStep) (state : State)
+    (plan : List Segment)
+    : Type 0 where
+  pub is : answer ≡ Admitted start
+  pub answered : IsAnswer steps state (commands.Play slot plan) answer
+  pub late : slot ≡ heard
+
+-- a play that was admitted hasn't come to its first slot
+pub begun-timed : {slot start heard : ℕ} {answer : Answer} {steps : List CapStep} {state : State}
+    {plan : List Segment} (play : ClientPlay) → PlayAdmitted slot start heard answer steps state plan
+    → play.pacer.start ≡ start → play.pacer.passed ≡ 0
+    → IsTimed heard (clients.Playing play)
+begun-timed {slot} {start} {steps} {state} {plan} play admitted at begun =
+    let A : Answer → Type 0 = λ a. IsAnswer steps state (commands.Play slot plan) a in
+    let its = subst A admitted.is admitted.answered in
+    omega (arith, its.0, admitted.late, at, begun)
+
+-- a client pauses
+pub pause-line : {link : Link} {c : ℕ} {halt : Halt} {old new : DayState} {text : List ℕ} (client next : Client)
+    → IsPauseOf old.heard halt client next
+    → IsNoted link (entry_by c (commands.Halt halt.number halt.keep) Halted)
+    (set old.states c (state_of next)) old new text
+    → IsPauseLine link c (state_of client) old new text
+pause-line {c} {halt} {new} {text} clients.Idle next is n = absurd is
+pause-line {link} {c} {halt} {old} {new} {text} (clients.Playing play) next is n =
+    let N : ℕ → Type 0 =
+    λ k. IsNoted link (entry_by c (commands.Halt k halt.keep) Halted) (set old.states c (state_of next)) old new text in
+    record { keep = halt.keep; state = state_of next; pause = is.1; noted = subst N is.0 n }
+pause-line {c} {halt} {new} {text} (clients.Pausing stop) next is n = absurd is
+pause-line {c} {halt} {new} {text} (clients.Paused rest) next is n = absurd is
+
+pub no-pause : {old new : DayState} {text : List ℕ} (link : Link) (c : ℕ) (client : Client) → IsQuiet client
+    → IsTold state_text old new text
+    → IsPauseLine link c (state_of client) old new text
+no-pause {new} {text} link c clients.Idle quiet told = told
+no-pause {new} {text} link c (clients.Playing play) quiet told = absurd quiet
+no-pause {new} {text} link c (clients.Pausing stop) quiet told = told
+no-pause {new} {text} link c (clients.Paused rest) quiet told = told
+
+-- a client asks for a play, or can't
+if-free : {Free : Type 0} (Busy : Type 0) (state : ClientState) → is_busy state ≡ false → Free
+    → IfBusy state Busy Free
+if-free Busy Idle free asked = asked
+if-free Busy (Playing play) free asked = cc free
+if-free Busy (Pausing stop left) free asked = cc free
+if-free Busy (Paused left) free asked = asked
+
+play-asked : {link : Link} {c : ℕ} {one rest : Rest} {own : ClientState} {old new : DayState} {text : List ℕ}
+    → one ≡ rest → own ≡ state_at old c → is_busy own ≡ false
+    → IsAsked link c one old new text → IsPlayLine link c rest old new text
+play-asked {link} {c} {one} {own} {old} {new} {text} r s free asked =
+    let R : Rest → Type 0 = λ x. IsPlayLine link c x old new text in
+    let S : ClientState → Type 0 = λ x. IfBusy x (IsTold state_text old new text) (IsAsked link c one old new text) in
+    subst R r (subst S s (if-free (IsTold state_text old new text) own free asked))
+
+pub play-ok : {one rest : Rest} {own : ClientState} (r : Result LineAnswer NoMemory) (asks : ClientAsks) → one ≡ rest
+    → own ≡ state_at asks.old asks.client → is_busy own ≡ false
+    → IfOk r (λ told. IsAsked asks.link asks.client one asks.old asks.new (reply_text asks.entries told))
+    → IfOk r (λ told. IsPlayLine asks.link asks.client rest asks.old asks.new (reply_text asks.entries told))
+play-ok {one} (Ok told) asks r s free asked =
+    play-asked r s free asked
+play-ok {one} (Err e) asks r s free asked = tt
+
+-- the halts after a sending
+pub halt_entries-sent : (slot k : ℕ) (states : List ClientState)
+    → halt_entries (done_halt slot) k (map (after_sending slot) states) ≡ halt_entries (done_halt slot) k states
+halt_entries-sent slot k [] = refl
+halt_entries-sent slot k (state ∷ states) =
+    ap (λ es. es ++ halt_entries (done_halt slot) (k + 1) (map (after_sending slot) states)) (done-sent slot k state)
+    ∙ ap (λ es. done_halt slot k state ++ es) (halt_entries-sent slot (k + 1) states)
+
+-- clients that play nothing
+pub idle-states : (cs : List Client) → length cs ≡ 256 → AreIdle cs → map state_of cs ≡ replicate 256 Idle
+idle-states cs count idle =
+    ext_get_or Idle (map state_of cs) (replicate 256 Idle) (length-map cs state_of ∙ count)
+    (λ c inside.
+    let within : c < length cs = omega (arith, inside, length-map cs state_of) in
+    state-at cs c clients.Idle within ∙ ap state_of (idle.each c clients.Idle within)
+    ∙ sym (get_or-replicate 256 c Idle Idle (omega (arith, within, count))))

@@ -1,0 +1,151 @@
+-- The plays that a book has open for the clients of a day, after one more entry.
+use Rattle.std.proofs.Common.{◌≡◌, ◌<◌, ◌≤◌, ℕ, true, List, [], ◌∷◌, ◌++◌, length, get_or, set}
+use Rattle.std.proofs.Common.{Option, Some, IsSomeAnd, arith, sym, ap, subst, ◌∙◌, inl, inr}
+use Rattle.std.proofs.lemmas.Bool.{cases_eq}
+use Rattle.std.proofs.lemmas.List.{length-append, get_or_append_left, length-set, get_or-set_same, get_or-set_other}
+use Rattle.plan_cert.specs.PlanSlots.{total_bytes}
+use Rattle.admission.specs.declared.entries.Command.{Command}
+use Rattle.admission.specs.declared.entries.Command.TheVariants.{Halt}
+use Rattle.admission.specs.declared.entries.Entry.{Entry}
+use Rattle.admission.specs.Histories.{Halts, state_after}
+use Rattle.admission.specs.Machine.{CanHalt, AdmittedPlay, State, play_numbered}
+use Rattle.admission.proofs.PlayLookup.{found-next}
+use Rattle.admission.proofs.Halts.{halting}
+use Rattle.admission.proofs.HistoryPrefixes.{next_of, state-push}
+use Rattle.day_run.specs.declared.clients.Client.{Client}
+use Rattle.day_run.specs.declared.clients.Client.TheVariants.{Idle, Playing, Pausing, Paused}
+use Rattle.day_run.specs.Clients.{AreBooked, AreGoing, AreUndone, IsBooked, IsGoing, IsOpenOf, IsQuiet, IsUndone}
+
+-- an entry that doesn't halt a play leaves it open
+pub open-push : {xs : List Entry} {c number bytes : ℕ} (e : Entry) → IsOpenOf xs c number bytes
+    → (Halts number e.command → ⊥)
+    → IsOpenOf (xs ++ e ∷ []) c number bytes
+open-push {xs} {c} {number} {bytes} e its apart =
+    let h = halting (state_after xs) number bytes its.can in
+    let still : play_numbered number (next_of (state_after xs) (length xs) e).held ≡ Some h.held =
+    found-next (length xs) e.command e.answer (record { is = h.is; unhalted = apart }) in
+    let P : Option AdmittedPlay → Type 0 =
+    λ o. IsSomeAnd o (λ (h : AdmittedPlay). (h.is_open ≡ true) × (bytes ≤ total_bytes h.play.segments)) in
+    let C : State → Type 0 = λ s. CanHalt s number bytes in
+    let can : CanHalt (next_of (state_after xs) (length xs) e) number bytes =
+    subst P (sym still) (h.is_open, h.small) in
+    record {
+      inside = omega (arith, length-append xs (e ∷ []), its.inside);
+      maker = λ none. ap (λ (x : Entry). x.maker) (get_or_append_left xs (e ∷ []) none number its.inside)
+          ∙ its.maker none;
+      can = subst C (sym (state-push xs e)) can;
+    }
+
+-- an entry halts none but a client's plays
+pub record HaltsNone (xs : List Entry) (client : ℕ) (e : Entry) : Type 0 where
+  pub apart : (number : ℕ) → Halts number e.command → ((none : Entry) → (get_or xs number none).maker ≡ client) → ⊥
+
+booked-push : (xs : List Entry) (c : ℕ) (client : Client) (e : Entry) → HaltsNone xs c e → IsBooked xs c client
+    → IsBooked (xs ++ e ∷ []) c client
+booked-push xs c Idle e none booked = tt
+booked-push xs c (Playing play) e none booked =
+    open-push e booked (λ halts. none.apart play.number halts booked.maker)
+booked-push xs c (Pausing stop) e none booked = tt
+booked-push xs c (Paused rest) e none booked = tt
+
+-- an entry that halts nothing
+pub booked-more : (xs : List Entry) (clients : List Client) (e : Entry)
+    → ((number : ℕ) → Halts number e.command → ⊥) → AreBooked xs clients
+    → AreBooked (xs ++ e ∷ []) clients
+booked-more xs clients e none booked =
+    record {
+      each =
+          λ c d inside. booked-push xs c (get_or clients c d) e
+          (record { apart = λ number halts _. none number halts }) (booked.each c d inside);
+    }
+
+-- a client is put in the place of one, whose play alone an entry may halt
+pub booked-set : {xs : List Entry} {clients : List Client} {c : ℕ} {e : Entry} (client : Client)
+    → ((d : ℕ) → (d ≡ c → ⊥) → HaltsNone xs d e) → IsBooked (xs ++ e ∷ []) c client → AreBooked xs clients
+    → AreBooked (xs ++ e ∷ []) (set clients c client)
+booked-set {xs} {clients} {c} {e} client others own booked =
+    record {
+      each = λ d none inside. elim (cases_eq d c) [
+        | inl same ↦
+            let within : c < length clients = omega (arith, same, inside, length-set clients c client) in
+            let B : ℕ → Type 0 = λ n. IsBooked (xs ++ e ∷ []) n (get_or (set clients c client) n none) in
+            let C : Client → Type 0 = λ x. IsBooked (xs ++ e ∷ []) c x in
+            subst B (sym same) (subst C (sym (get_or-set_same clients c client none within)) own)
+        | inr other ↦
+            let within : d < length clients = omega (arith, inside, length-set clients c client) in
+            let C : Client → Type 0 = λ x. IsBooked (xs ++ e ∷ []) d x in
+            subst C (sym (get_or-set_other clients c d client none other))
+            (booked-push xs d (get_or clients d none) e (others d other) (booked.each d none within))
+      ];
+    }
+
+quiet-booked : (xs : List Entry) (c : ℕ) (client : Client) → IsQuiet client → IsBooked xs c client
+quiet-booked xs c Idle quiet = tt
+quiet-booked xs c (Playing play) quiet = absurd quiet
+quiet-booked xs c (Pausing stop) quiet = tt
+quiet-booked xs c (Paused rest) quiet = tt
+
+-- a client whose play is halted is quiet from then on
+pub booked-halt : {xs : List Entry} {clients : List Client} {c number bytes keep : ℕ} (client : Client) (e : Entry)
+    → e.command ≡ Halt number keep → IsOpenOf xs c number bytes → IsQuiet client → AreBooked xs clients
+    → AreBooked (xs ++ e ∷ []) (set clients c client)
+booked-halt {xs} {c} {number} client e is its quiet booked =
+    booked-set client
+    (λ d other. record {
+      apart = λ n halts maker.
+          let H : Command → Type 0 = λ x. Halts n x in
+          let same : number ≡ n = subst H is halts in
+          other (sym (maker e) ∙ ap (λ k. (get_or xs k e).maker) (sym same) ∙ its.maker e);
+    })
+    (quiet-booked (xs ++ e ∷ []) c client quiet) booked
+
+-- one client is put in the place of another
+pub going-set : (clients : List Client) (c : ℕ) (client : Client) → IsGoing client → AreGoing clients
+    → AreGoing (set clients c client)
+going-set clients c client own going =
+    record {
+      each = λ d none inside. elim (cases_eq d c) [
+        | inl same ↦
+            let within : c < length clients = omega (arith, same, inside, length-set clients c client) in
+            let B : ℕ → Type 0 = λ n. IsGoing (get_or (set clients c client) n none) in
+            let C : Client → Type 0 = λ x. IsGoing x in
+            subst B (sym same) (subst C (sym (get_or-set_same clients c client none within)) own)
+        | inr other ↦
+            let within : d < length clients = omega (arith, inside, length-set clients c client) in
+            let C : Client → Type 0 = λ x. IsGoing x in
+            subst C (sym (get_or-set_other clients c d client none other)) (going.each d none within)
+      ];
+    }
+
+pub undone-set : {upto : ℕ} {clients : List Client} (c : ℕ) (client : Client) → c < length clients
+    → IsUndone client → AreUndone upto clients
+    → AreUndone upto (set clients c client)
+undone-set {clients} c client within own undone =
+    record {
+      each = λ d none inside. elim (cases_eq d c) [
+        | inl same ↦
+            let B : ℕ → Type 0 = λ n. IsUndone (get_or (set clients c client) n none) in
+            let C : Client → Type 0 = λ x. IsUndone x in
+            subst B (sym same) (subst C (sym (get_or-set_same clients c client none within)) own)
+        | inr other ↦
+            let C : Client → Type 0 = λ x. IsUndone x in
+            subst C (sym (get_or-set_other clients c d client none other)) (undone.each d none inside)
+      ];
+    }
+
+pub booked-same : (xs : List Entry) (clients : List Client) (c : ℕ) (client : Client) → IsBooked xs c client
+    → AreBooked xs clients → AreBooked xs (set clients c client)
+booked-same xs clients c client own booked =
+    record {
+      each = λ d none inside. elim (cases_eq d c) [
+        | inl same ↦
+            let within : c < length clients = omega (arith, same, inside, length-set clients c client) in
+            let B : ℕ → Type 0 = λ n. IsBooked xs n (get_or (set clients c client) n none) in
+            let C : Client → Type 0 = λ x. IsBooked xs c x in
+            subst B (sym same) (subst C (sym (get_or-set_same clients c client none within)) own)
+        | inr other ↦
+            let within : d < length clients = omega (arith, inside, length-set clients c client) in
+            let C : Client → Type 0 = λ x. IsBooked xs d x in
+            subst C (sym (get_or-set_other clients c d client none other)) (booked.each d none within)
+      ];
+    }

@@ -1,0 +1,380 @@
+-- What is sent in a day's slots is what is booked there.
+use Rattle.std.proofs.Common.{◌≡◌, ◌<◌, ◌≤◌, ◌+◌, ◌-◌, ◌==◌, ℕ, zero, suc, List, [], ◌∷◌, ◌++◌, All}
+use Rattle.std.proofs.Common.{length, map, set, get_or, Some, arith, refl, sym, ap}
+use Rattle.std.proofs.Common.{subst, ◌∙◌, inl, inr}
+use Rattle.slot_calendar.proofs.PlanSlots.{sent-rises}
+use Rattle.std.specs.Prelude.{sum_by}
+use Rattle.std.specs.List.{range_with_len}
+use Rattle.std.proofs.lemmas.Bool.{cases_Bool, cases_eq, cond-true, cond-false}
+use Rattle.std.proofs.lemmas.List.{get_or-set_other, get_or-set_same, get_or_append_left}
+use Rattle.std.proofs.lemmas.List.{get_or-append_right, length-append, length-set, map-append}
+use Rattle.std.proofs.lemmas.List.Elements.{All-cons, All-head, All-push, All-tail, All-weaker}
+use Rattle.std.proofs.lemmas.List.Sums.{sum_by-append, sum_by-cons, sum_by-set, sum_by_push}
+use Rattle.plan_cert.specs.declared.Segment.{Segment}
+use Rattle.slot_calendar.specs.Plays.{Play as Booked, truncated_play, share_at, whole_play}
+use Rattle.admission.specs.declared.entries.Entry.{Entry}
+use Rattle.admission.specs.declared.entries.Answer.TheVariants.{Halted}
+use Rattle.admission.specs.declared.entries.Command.TheVariants as commands
+use Rattle.admission.specs.Histories.{state_after}
+use Rattle.admission.specs.Machine.{AdmittedPlay, State, admitted_play, booked_in, halted_play, play_numbered}
+use Rattle.admission.specs.Machine.{with_halted}
+use Rattle.admission.proofs.PlayLookup.{found-new, found-other, found-push}
+use Rattle.admission.proofs.Halts.{plays-split, split}
+use Rattle.admission.proofs.HistoryPrefixes.{state-push}
+use Rattle.day_run.specs.BookingBalance.{AreHeldOf, IsBalanced, IsHeld, share_of}
+use Rattle.day_run.specs.Days.{entry_by, halt_by}
+use Rattle.day_run.specs.ClientStates.{Idle, Playing, Pausing, Paused, Play, ClientState}
+use Rattle.day_run.specs.ClientStates.{booking_of, growth, sent_between, sent_by}
+use Rattle.day_run.proofs.SlotSums.{sum-slots}
+
+-- ---- plays slot by slot
+-- one slot more
+pub growth-more : (heard slot : ℕ) (play : Booked) → heard ≤ slot
+    → growth heard (slot + 1) play ≡ growth heard slot play + share_at (slot + 1) play
+growth-more heard slot play le =
+    omega (
+      arith,
+      sent-rises play.segments play.start (heard + 1) (slot + 1) (omega (arith, le)),
+      sent-rises play.segments play.start (slot + 1) (slot + 1 + 1) (omega arith),
+    )
+
+-- once all that is kept was sent nothing more is booked
+pub share-done : (t heard : ℕ) (play : Booked) → heard < t → sent_by play heard ≡ play.keep → share_at t play ≡ 0
+share-done t heard play later all =
+    omega (
+      arith,
+      all,
+      sent-rises play.segments play.start (heard + 1) t (omega (arith, later)),
+      sent-rises play.segments play.start (heard + 1) (t + 1) (omega (arith, later)),
+    )
+
+between-more : (heard slot : ℕ) (state : ClientState) → heard ≤ slot
+    → sent_between heard (slot + 1) state ≡ sent_between heard slot state + share_of (slot + 1) state
+between-more heard slot Idle le = omega arith
+between-more heard slot (Playing play) le = growth-more heard slot (booking_of play) le
+between-more heard slot (Pausing stop rest) le = growth-more heard slot stop le
+between-more heard slot (Paused rest) le = omega arith
+
+between-none : (heard : ℕ) (state : ClientState) → sent_between heard heard state ≡ 0
+between-none heard Idle = refl
+between-none heard (Playing play) = omega arith
+between-none heard (Pausing stop rest) = omega arith
+between-none heard (Paused rest) = refl
+
+sum-between : (heard slot : ℕ) (states : List ClientState) → heard ≤ slot
+    → sum_by (sent_between heard (slot + 1)) states
+    ≡ sum_by (sent_between heard slot) states + sum_by (share_of (slot + 1)) states
+sum-between heard slot [] le = omega arith
+sum-between heard slot (state ∷ states) le =
+    omega (
+      arith,
+      between-more heard slot state le,
+      sum-between heard slot states le,
+      sum_by-cons (sent_between heard (slot + 1)) state states,
+      sum_by-cons (sent_between heard slot) state states,
+      sum_by-cons (share_of (slot + 1)) state states,
+    )
+
+pub sum-none : (heard : ℕ) (states : List ClientState) → sum_by (sent_between heard heard) states ≡ 0
+sum-none heard [] = refl
+sum-none heard (state ∷ states) =
+    omega (arith, between-none heard state, sum-none heard states, sum_by-cons (sent_between heard heard) state states)
+
+-- what is sent in the slots after one is what the clients book there
+sent-booked : (booked : ℕ → ℕ) (heard n : ℕ) (states : List ClientState)
+    → ((t : ℕ) → heard < t → booked t ≡ sum_by (share_of t) states)
+    → sum_by (sent_between heard (heard + n)) states ≡ sum_by booked (range_with_len (heard + 1) n)
+sent-booked booked heard zero states each =
+    let e : heard + 0 ≡ heard = omega arith in
+    ap (λ s. sum_by (sent_between heard s) states) e ∙ sum-none heard states
+sent-booked booked heard (suc n) states each =
+    let e : heard + suc n ≡ heard + n + 1 = omega arith in
+    let f : suc n ≡ n + 1 = omega arith in
+    let g : heard + 1 + n ≡ heard + n + 1 = omega arith in
+    let s : sum_by (sent_between heard (heard + n + 1)) states
+    ≡ sum_by (sent_between heard (heard + n)) states + sum_by (share_of (heard + n + 1)) states =
+    sum-between heard (heard + n) states (omega arith) in
+    let b : sum_by booked (range_with_len (heard + 1) (n + 1))
+    ≡ sum_by booked (range_with_len (heard + 1) n) + booked (heard + n + 1) =
+    sum-slots booked (heard + 1) n ∙ ap (λ k. sum_by booked (range_with_len (heard + 1) n) + booked k) g in
+    let here : booked (heard + n + 1) ≡ sum_by (share_of (heard + n + 1)) states = each (heard + n + 1) (omega arith) in
+    let whole : sum_by (sent_between heard (heard + n + 1)) states
+    ≡ sum_by booked (range_with_len (heard + 1) (n + 1)) =
+    omega (arith, s, b, here, sent-booked booked heard n states each) in
+    ap (λ k. sum_by (sent_between heard k) states) e ∙ whole
+    ∙ sym (ap (λ k. sum_by booked (range_with_len (heard + 1) k)) f)
+
+pub balanced-sent : (entries : List Entry) (states : List ClientState) (heard slot : ℕ) → heard ≤ slot
+    → IsBalanced entries states heard
+    → sum_by (sent_between heard slot) states
+    ≡ sum_by (booked_in (state_after entries)) (range_with_len (heard + 1) (slot - heard))
+balanced-sent entries states heard slot le balanced =
+    let e : heard + (slot - heard) ≡ slot = omega (arith, le) in
+    sym (ap (λ s. sum_by (sent_between heard s) states) e)
+    ∙ sent-booked (booked_in (state_after entries)) heard (slot - heard) states balanced.each
+
+-- ---- one entry more
+-- a client has no play that is open
+abbrev pub IsShut : ClientState → Type 0
+IsShut Idle = Unit {0}
+IsShut (Playing play) = ⊥
+IsShut (Pausing stop rest) = Unit {0}
+IsShut (Paused rest) = Unit {0}
+
+shut-held : (entries : List Entry) (c : ℕ) (state : ClientState) → IsShut state → AreHeldOf entries c state
+shut-held entries c Idle shut = tt
+shut-held entries c (Playing play) shut = absurd shut
+shut-held entries c (Pausing stop rest) shut = tt
+shut-held entries c (Paused rest) shut = tt
+
+maker-more : (entries : List Entry) (e : Entry) (c : ℕ) (play : Play) → IsHeld entries c play
+    → play_numbered play.number (state_after (entries ++ e ∷ [])).held
+    ≡ Some (admitted_play play.number play.start play.plan) → IsHeld (entries ++ e ∷ []) c play
+maker-more entries e c play its held = record {
+  inside = omega (arith, its.inside, length-append entries (e ∷ []));
+  maker = λ none. ap (λ (x : Entry). x.maker) (get_or_append_left entries (e ∷ []) none play.number its.inside)
+      ∙ its.maker none;
+  held = held;
+}
+
+sum-split : (t : ℕ) (before after : List AdmittedPlay) (h : AdmittedPlay)
+    → sum_by (share_at t) (map (λ (x : AdmittedPlay). x.play) (before ++ h ∷ after))
+    ≡ sum_by (share_at t) (map (λ (x : AdmittedPlay). x.play) before)
+    + (share_at t h.play + sum_by (share_at t) (map (λ (x : AdmittedPlay). x.play) after))
+sum-split t before after h =
+    ap (sum_by (share_at t)) (plays-split before after h)
+    ∙ sum_by-append (share_at t) (map (λ (x : AdmittedPlay). x.play) before) (h.play ∷ map (λ (x : AdmittedPlay).
+    x.play) after)
+    ∙ ap (λ k. sum_by (share_at t) (map (λ (x : AdmittedPlay). x.play) before) + k)
+    (sum_by-cons (share_at t) h.play (map (λ (x : AdmittedPlay). x.play) after))
+
+-- a play that the machine holds
+pub record HeldPlay (entries : List Entry) : Type 0 where
+  pub number : ℕ
+  pub start : ℕ
+  pub plan : List Segment
+  pub held : play_numbered number (state_after entries).held ≡ Some (admitted_play number start plan)
+
+-- what is booked once a play was halted
+pub booked-halted : (entries : List Entry) (c : ℕ) (play : HeldPlay entries) (keep t : ℕ)
+    → booked_in (state_after (entries ++ halt_by c play.number keep)) t + share_at t (whole_play play.start play.plan)
+    ≡ booked_in (state_after entries) t + share_at t (truncated_play play.start play.plan keep)
+booked-halted entries c play keep t =
+    let held = (state_after entries).held in
+    let parts = split number held (admitted_play number start plan) is in
+    let F : List AdmittedPlay → ℕ = λ hs. sum_by (share_at t) (map (λ (x : AdmittedPlay). x.play) hs) in
+    let s : F (state_after (entries ++ halt_by c number keep)).held ≡ F (with_halted number keep held) =
+    ap (λ (x : State). F x.held) (state-push entries (entry_by c (commands.Halt number keep) Halted)) in
+    let new : F (with_halted number keep held)
+    ≡ F parts.before + (share_at t (truncated_play start plan keep) + F parts.after) =
+    ap F (parts.becomes keep)
+    ∙ sum-split t parts.before parts.after (halted_play keep (admitted_play number start plan)) in
+    let old : F held ≡ F parts.before + (share_at t (whole_play start plan) + F parts.after) =
+    ap F parts.was ∙ sum-split t parts.before parts.after (admitted_play number start plan) in
+    omega (arith, s, new, old)
+  where
+    open play use {number, start, plan, held as is}
+
+-- another client's play is halted
+record HaltedApart (c d : ℕ) (entries : List Entry) (number : ℕ) : Type 0 where
+  pub inside : number < length entries
+  pub maker : (none : Entry) → (get_or entries number none).maker ≡ c
+  pub other : d ≡ c → ⊥
+
+other-halted : {entries : List Entry} {c d : ℕ} {play : Play} (number keep : ℕ) → HaltedApart c d entries number
+    → IsHeld entries d play → IsHeld (entries ++ halt_by c number keep) d play
+other-halted {entries} {c} {d} {play} number keep halted its =
+    let e = entry_by c (commands.Halt number keep) Halted in
+    let apart : number ≡ play.number → ⊥ =
+    λ same. halted.other (sym (its.maker e) ∙ ap (λ k. (get_or entries k e).maker) (sym same) ∙ halted.maker e) in
+    maker-more entries e d play its
+    (ap (λ (x : State). play_numbered play.number x.held) (state-push entries e)
+    ∙ found-other play.number number keep (state_after entries).held apart ∙ its.held)
+
+others-halted : {c d : ℕ} (entries : List Entry) (number keep : ℕ) (state : ClientState)
+    → HaltedApart c d entries number → AreHeldOf entries d state
+    → AreHeldOf (entries ++ halt_by c number keep) d state
+others-halted {c} entries number keep Idle apart its = tt
+others-halted {c} entries number keep (Playing play) apart its = other-halted number keep apart its
+others-halted {c} entries number keep (Pausing stop rest) apart its = tt
+others-halted {c} entries number keep (Paused rest) apart its = tt
+
+fresh-halted : (number keep n : ℕ) (held : List AdmittedPlay) → All (λ (h : AdmittedPlay). h.number < n) held
+    → All (λ (h : AdmittedPlay). h.number < n) (with_halted number keep held)
+fresh-halted number keep n [] all = all
+fresh-halted number keep n (x ∷ held) all =
+    let P : AdmittedPlay → Type 0 = λ h. h.number < n in
+    let A : List AdmittedPlay → Type 0 = λ l. All P l in
+    elim (cases_Bool (x.number == number)) [
+      | inl found ↦
+          subst A (sym (cond-true (x.number == number) (halted_play keep x ∷ held)
+          (x ∷ with_halted number keep held) found))
+          (All-cons P (halted_play keep x) held (All-head P x held all) (All-tail P x held all))
+      | inr other ↦
+          subst A (sym (cond-false (x.number == number) (halted_play keep x ∷ held)
+          (x ∷ with_halted number keep held) other))
+          (All-cons P x (with_halted number keep held) (All-head P x held all)
+          (fresh-halted number keep n held (All-tail P x held all)))
+    ]
+
+fresh-more : (n m : ℕ) (held : List AdmittedPlay) → n ≤ m → All (λ (h : AdmittedPlay). h.number < n) held
+    → All (λ (h : AdmittedPlay). h.number < m) held
+fresh-more n m held le all =
+    All-weaker (λ (h : AdmittedPlay). h.number < n) (λ (h : AdmittedPlay). h.number < m) (λ h less. omega (
+      arith,
+      less,
+      le,
+    )) held all
+
+-- a client among balanced ones
+pub record BalancedClient (heard c : ℕ) (entries : List Entry) (states : List ClientState)
+    (state : ClientState) : Type 0 where
+  pub inside : c < length states
+  pub at : get_or states c Idle ≡ state
+  pub balanced : IsBalanced entries states heard
+
+-- a client's play was halted, and the client books what is kept of it
+pub balanced-halt : {entries : List Entry} {states : List ClientState} {heard : ℕ} {play : Play} (c keep : ℕ)
+    (next : ClientState)
+    → BalancedClient heard c entries states (Playing play) → IsShut next
+    → ((t : ℕ) → heard < t → share_of t next ≡ share_at t (truncated_play play.start play.plan keep))
+    → IsBalanced (entries ++ halt_by c play.number keep) (set states c next) heard
+balanced-halt {entries} {states} {play} c keep next own shut shares =
+    let e = entry_by c (commands.Halt play.number keep) Halted in
+    let H : ClientState → Type 0 = λ s. AreHeldOf entries c s in
+    let its : IsHeld entries c play = subst H at (balanced.held c inside) in
+    record {
+      each = λ t later.
+          let b = booked-halted entries c
+          (record { number = play.number; start = play.start; plan = play.plan; held = its.held }) keep t in
+          let s = sum_by-set (share_of t) states c next Idle inside in
+          let was : share_of t (get_or states c Idle) ≡ share_at t (whole_play play.start play.plan) =
+          ap (share_of t) at in
+          omega (arith, b, s, was, shares t later, balanced.each t later);
+      held = λ d within. elim (cases_eq d c) [
+        | inl same ↦
+            let B : ℕ → Type 0 =
+            λ n. AreHeldOf (entries ++ halt_by c play.number keep) n (get_or (set states c next) n Idle) in
+            let C : ClientState → Type 0 = λ x. AreHeldOf (entries ++ halt_by c play.number keep) c x in
+            subst B (sym same)
+            (subst C (sym (get_or-set_same states c next Idle inside))
+            (shut-held (entries ++ halt_by c play.number keep) c next shut))
+        | inr other ↦
+            let C : ClientState → Type 0 = λ x. AreHeldOf (entries ++ halt_by c play.number keep) d x in
+            subst C (sym (get_or-set_other states c d next Idle other))
+            (others-halted entries play.number keep (get_or states d Idle)
+            (record { inside = its.inside; maker = its.maker; other = other })
+            (balanced.held d (omega (arith, within, length-set states c next))))
+      ];
+      fresh =
+          let A : State → Type 0 =
+          λ s. All (λ (h : AdmittedPlay). h.number < length (entries ++ halt_by c play.number keep)) s.held in
+          subst A (sym (state-push entries e))
+          (fresh-more (length entries) (length (entries ++ halt_by c play.number keep))
+          (with_halted play.number keep (state_after entries).held)
+          (omega (arith, length-append entries (e ∷ [])))
+          (fresh-halted play.number keep (length entries) (state_after entries).held balanced.fresh));
+    }
+  where
+    open own use {inside, at, balanced}
+
+-- an entry that leaves the plays of the machine as they are
+same-held : (entries : List Entry) (e : Entry) (c : ℕ) (state : ClientState)
+    → (state_after (entries ++ e ∷ [])).held ≡ (state_after entries).held
+    → AreHeldOf entries c state → AreHeldOf (entries ++ e ∷ []) c state
+same-held entries e c Idle same its = tt
+same-held entries e c (Playing play) same its =
+    maker-more entries e c play its (ap (play_numbered play.number) same ∙ its.held)
+same-held entries e c (Pausing stop rest) same its = tt
+same-held entries e c (Paused rest) same its = tt
+
+pub balanced-same : (entries : List Entry) (states : List ClientState) (heard : ℕ) (e : Entry)
+    → (state_after (entries ++ e ∷ [])).held ≡ (state_after entries).held
+    → IsBalanced entries states heard → IsBalanced (entries ++ e ∷ []) states heard
+balanced-same entries states heard e same balanced = record {
+  each = λ t later. ap (λ hs. sum_by (share_at t) (map (λ (x : AdmittedPlay). x.play) hs)) same ∙ balanced.each t later;
+  held = λ c inside. same-held entries e c (get_or states c Idle) same (balanced.held c inside);
+  fresh =
+      let A : List AdmittedPlay → Type 0 = λ l. All (λ (h : AdmittedPlay). h.number < length (entries ++ e ∷ [])) l in
+      subst A (sym same)
+      (fresh-more (length entries) (length (entries ++ e ∷ [])) (state_after entries).held
+      (omega (arith, length-append entries (e ∷ []))) balanced.fresh);
+}
+
+-- an entry by which the machine holds one play more
+record NextHeld (entries : List Entry) : Type 0 where
+  pub e : Entry
+  pub new : AdmittedPlay
+  pub is : (state_after (entries ++ e ∷ [])).held ≡ (state_after entries).held ++ new ∷ []
+
+push-held : (entries : List Entry) (next : NextHeld entries) (c : ℕ) (state : ClientState) → AreHeldOf entries c state
+    → AreHeldOf (entries ++ next.e ∷ []) c state
+push-held entries next c Idle its = tt
+push-held entries next c (Playing play) its =
+    maker-more entries e c play its
+    (ap (play_numbered play.number) is
+    ∙ found-push play.number (state_after entries).held (admitted_play play.number play.start play.plan) new its.held)
+  where
+    open next use {e, new, is}
+push-held entries next c (Pausing stop rest) its = tt
+push-held entries next c (Paused rest) its = tt
+
+-- a client's play was admitted
+pub record ClientPlayed (entries : List Entry) (c : ℕ) : Type 0 where
+  pub play : Play
+  pub e : Entry
+  pub number : play.number ≡ length entries
+  pub maker : e.maker ≡ c
+  pub is : (state_after (entries ++ e ∷ [])).held
+      ≡ (state_after entries).held ++ admitted_play play.number play.start play.plan ∷ []
+
+-- a client's play was admitted, which booked nothing before
+pub balanced-play : {entries : List Entry} {states : List ClientState} {heard c : ℕ} (played : ClientPlayed entries c)
+    → c < length states → ((t : ℕ) → share_of t (get_or states c Idle) ≡ 0) → IsBalanced entries states heard
+    → IsBalanced (entries ++ played.e ∷ []) (set states c (Playing played.play)) heard
+balanced-play {entries} {states} {c} played inside free balanced =
+    let new = admitted_play play.number play.start play.plan in
+    let held = (state_after entries).held in
+    let n : length (entries ++ e ∷ []) ≡ length entries + 1 = omega (arith, length-append entries (e ∷ [])) in
+    let own : IsHeld (entries ++ e ∷ []) c play = record {
+      inside = omega (arith, number, n);
+      maker = λ none.
+          let z : play.number - play.number ≡ 0 = omega arith in
+          ap (λ (x : Entry). x.maker)
+          (get_or-append_right entries (e ∷ []) play.number play.number none (sym number) (omega arith)
+          ∙ ap (λ k. get_or (e ∷ []) k none) z) ∙ maker;
+      held =
+          let A : ℕ → Type 0 = λ k. All (λ (h : AdmittedPlay). h.number < k) held in
+          ap (play_numbered play.number) is
+          ∙ found-new play.number play.start play.plan held (subst A (sym number) balanced.fresh);
+    } in
+    record {
+      each = λ t later.
+          let b : booked_in (state_after (entries ++ e ∷ [])) t
+          ≡ booked_in (state_after entries) t + share_at t (whole_play play.start play.plan) =
+          ap (λ hs. sum_by (share_at t) (map (λ (x : AdmittedPlay). x.play) hs)) is
+          ∙ ap (sum_by (share_at t)) (map-append (λ (x : AdmittedPlay). x.play) held (new ∷ []))
+          ∙ sum_by_push (share_at t) (map (λ (x : AdmittedPlay). x.play) held) (whole_play play.start play.plan) in
+          let s = sum_by-set (share_of t) states c (Playing play) Idle inside in
+          omega (arith, b, s, free t, balanced.each t later);
+      held = λ d within. elim (cases_eq d c) [
+        | inl same ↦
+            let B : ℕ → Type 0 = λ k. AreHeldOf (entries ++ e ∷ []) k (get_or (set states c (Playing play)) k Idle) in
+            let C : ClientState → Type 0 = λ x. AreHeldOf (entries ++ e ∷ []) c x in
+            subst B (sym same) (subst C (sym (get_or-set_same states c (Playing play) Idle inside)) own)
+        | inr other ↦
+            let C : ClientState → Type 0 = λ x. AreHeldOf (entries ++ e ∷ []) d x in
+            subst C (sym (get_or-set_other states c d (Playing play) Idle other))
+            (push-held entries (record { e = e; new = new; is = is }) d (get_or states d Idle)
+            (balanced.held d (omega (arith, within, length-set states c (Playing play)))))
+      ];
+      fresh =
+          let P : AdmittedPlay → Type 0 = λ h. h.number < length (entries ++ e ∷ []) in
+          let A : List AdmittedPlay → Type 0 = λ l. All P l in
+          subst A (sym is)
+          (All-push P held new
+          (fresh-more (length entries) (length (entries ++ e ∷ [])) held (omega (arith, n)) balanced.fresh)
+          (omega (arith, number, n)));
+    }
+  where
+    open played use {play, e, number, maker, is}

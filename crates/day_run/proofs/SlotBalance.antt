@@ -1,0 +1,317 @@
+-- The clients book what the machine has booked once a slot has come, and at the end of a day; and what
+-- is booked in past slots stays.
+use Rattle.std.proofs.Common.{◌≡◌, ◌<◌, ◌≤◌, ◌+◌, ◌-◌, ◌==◌, ℕ, zero, suc, true, false, Bool, cond}
+use Rattle.std.proofs.Common.{nat_le, List, [], ◌∷◌, ◌++◌, length, map, take, set, get_or}
+use Rattle.std.proofs.Common.{sum, Some, arith, refl, sym, ap, subst, ◌∙◌}
+use Rattle.slot_calendar.proofs.PlanSlots.{sent-rises}
+use Rattle.std.specs.Prelude.{sum_by}
+use Rattle.std.proofs.lemmas.Bool.{eqb-true, and_parts}
+use Rattle.std.proofs.lemmas.List.{append-nil, get_or-map, length-map, map-append, set-get_or, take_all}
+use Rattle.std.proofs.lemmas.List.Sums.{sum_by-cons, sum_by_push}
+use Rattle.plan_cert.specs.declared.Segment.{Segment}
+use Rattle.plan_cert.specs.PlanSlots.{plan_slots, total_bytes}
+use Rattle.slot_calendar.specs.Plays.{Play as Booked, truncated_play, sent_before, share_at, whole_play}
+use Rattle.admission.specs.declared.entries.Entry.{Entry}
+use Rattle.admission.specs.Histories.{state_after}
+use Rattle.admission.specs.Machine.{AdmittedPlay, admitted_play, booked_in, play_numbered}
+use Rattle.day_run.specs.BookingBalance.{AreHeldOf, IsBalanced, IsHeld, share_of}
+use Rattle.day_run.specs.Days.{DayState, at_slot, done_halt, halt_by, halt_entries, last_journal, open_halt}
+use Rattle.day_run.specs.Clients.{after_open}
+use Rattle.day_run.specs.ClientStates.{Idle, Playing, Pausing, Paused, Play, Rest, ClientState}
+use Rattle.day_run.specs.ClientStates.{after_play, after_sending, booking_of, is_done}
+use Rattle.day_run.specs.ClientStates.{pausing_state}
+use Rattle.day_run.specs.ClientStates.{sent_by}
+use Rattle.day_run.proofs.LineStepLemmas.{halt_entries-sent}
+use Rattle.day_run.proofs.ClientSweepLemmas.{IsSwept, entries-more, swept-all, swept-none, swept-set}
+use Rattle.day_run.proofs.SentBookedLemmas.{BalancedClient, balanced-halt, booked-halted, share-done}
+
+-- ---- a slot comes
+pause-share : (b : Bool) (t : ℕ) (stop : Booked) (rest : Rest) → (b ≡ true → share_at t stop ≡ 0)
+    → share_of t (cond b (Paused rest) (Pausing stop rest)) ≡ share_at t stop
+pause-share true t stop rest none = sym (none refl)
+pause-share false t stop rest none = refl
+
+pub pausing-share : (t slot : ℕ) (stop : Booked) (rest : Rest) → slot < t
+    → share_of t (pausing_state slot stop rest) ≡ share_at t stop
+pausing-share t slot stop rest later =
+    pause-share (sent_by stop slot == stop.keep) t stop rest
+    (λ all. share-done t slot stop later (eqb-true (sent_by stop slot) stop.keep all))
+
+sending-share : (t slot : ℕ) (state : ClientState) → slot < t → share_of t (after_sending slot state) ≡ share_of t state
+sending-share t slot Idle later = refl
+sending-share t slot (Playing play) later = refl
+sending-share t slot (Pausing stop rest) later = pausing-share t slot stop rest later
+sending-share t slot (Paused rest) later = refl
+
+sending-shares : (t slot : ℕ) (states : List ClientState) → slot < t
+    → sum_by (share_of t) (map (after_sending slot) states) ≡ sum_by (share_of t) states
+sending-shares t slot [] later = refl
+sending-shares t slot (state ∷ states) later =
+    omega (
+      arith,
+      sending-share t slot state later,
+      sending-shares t slot states later,
+      sum_by-cons (share_of t) state states,
+      sum_by-cons (share_of t) (after_sending slot state) (map (after_sending slot) states),
+    )
+
+pause-held : (b : Bool) (entries : List Entry) (c : ℕ) (stop : Booked) (rest : Rest)
+    → AreHeldOf entries c (cond b (Paused rest) (Pausing stop rest))
+pause-held true entries c stop rest = tt
+pause-held false entries c stop rest = tt
+
+sending-held : (entries : List Entry) (c slot : ℕ) (state : ClientState) → AreHeldOf entries c state
+    → AreHeldOf entries c (after_sending slot state)
+sending-held entries c slot Idle its = tt
+sending-held entries c slot (Playing play) its = its
+sending-held entries c slot (Pausing stop rest) its = pause-held (sent_by stop slot == stop.keep) entries c stop rest
+sending-held entries c slot (Paused rest) its = tt
+
+pub balanced-sending : (entries : List Entry) (states : List ClientState) (heard slot : ℕ) → heard ≤ slot
+    → IsBalanced entries states heard
+    → IsBalanced entries (map (after_sending slot) states) slot
+balanced-sending entries states heard slot le balanced = record {
+  each = λ t later. balanced.each t (omega (arith, le, later)) ∙ sym (sending-shares t slot states later);
+  held = λ c within.
+      let inside : c < length states = omega (arith, within, length-map states (after_sending slot)) in
+      let C : ClientState → Type 0 = λ x. AreHeldOf entries c x in
+      subst C (sym (get_or-map (after_sending slot) states c Idle Idle inside))
+      (sending-held entries c slot (get_or states c Idle) (balanced.held c inside));
+  fresh = balanced.fresh;
+}
+
+-- a play that is done is halted
+done-shares : (t slot : ℕ) (play : Play) → slot < t → is_done slot play ≡ true
+    → share_of t Idle ≡ share_at t (truncated_play play.start play.plan (total_bytes play.plan))
+done-shares t slot play later done =
+    let all : (sent_by (booking_of play) slot == total_bytes play.plan) ≡ true =
+    (and_parts (nat_le play.start slot) (sent_by (booking_of play) slot == total_bytes play.plan) done).1 in
+    sym (share-done t slot (booking_of play) later
+    (eqb-true (sent_by (booking_of play) slot) (total_bytes play.plan) all))
+
+left-alone : {slot : ℕ} {entries : List Entry} {states : List ClientState} {state : ClientState} (c : ℕ)
+    → get_or states c Idle ≡ state → IsBalanced entries states slot
+    → IsBalanced (entries ++ []) (set states c state) slot
+left-alone {slot} {entries} {states} {state} c at balanced =
+    let E : List Entry → Type 0 = λ es. IsBalanced es (set states c state) slot in
+    let S : List ClientState → Type 0 = λ l. IsBalanced entries l slot in
+    let same : states ≡ set states c state = sym (ap (set states c) (sym at) ∙ set-get_or states c Idle) in
+    subst E (sym (append-nil entries)) (subst S same balanced)
+
+-- ---- what is booked in past slots stays
+abbrev Stays : ℕ → List Entry → List Entry → Type 0
+Stays slot old new = (t : ℕ) → t ≤ slot → booked_in (state_after new) t ≡ booked_in (state_after old) t
+
+pub stays-none : (slot : ℕ) (entries : List Entry) → Stays slot entries (entries ++ [])
+stays-none slot entries t past = ap (λ es. booked_in (state_after es) t) (append-nil entries)
+
+-- what is kept of a play: no less than was sent
+pub record KeepsSent (slot start keep : ℕ) (plan : List Segment) : Type 0 where
+  pub sent : sent_by (whole_play start plan) slot ≤ keep
+  pub most : keep ≤ total_bytes plan
+
+-- a play books in past slots what it did, where it keeps what was sent
+past-share : {slot start keep : ℕ} {plan : List Segment} (t : ℕ) → t ≤ slot → KeepsSent slot start keep plan
+    → share_at t (whole_play start plan) ≡ share_at t (truncated_play start plan keep)
+past-share {slot} {start} {plan} t past kept =
+    omega (
+      arith,
+      kept.sent,
+      kept.most,
+      sent-rises plan start t (t + 1) (omega arith),
+      sent-rises plan start (t + 1) (slot + 1) (omega (arith, past)),
+    )
+
+pub stays-halt : {slot : ℕ} (entries : List Entry) (c keep : ℕ) (play : Play)
+    → play_numbered play.number (state_after entries).held ≡ Some (admitted_play play.number play.start play.plan)
+    → KeepsSent slot play.start keep play.plan → Stays slot entries (entries ++ halt_by c play.number keep)
+stays-halt entries c keep play held kept t past =
+    omega (
+      arith,
+      booked-halted entries c
+          (record { number = play.number; start = play.start; plan = play.plan; held = held }) keep t,
+      past-share t past kept,
+    )
+
+-- ---- the halts of a slot, or of a day's end
+record IsStep (slot : ℕ) (old new : List Entry) (states : List ClientState) : Type 0 where
+  balanced : IsBalanced new states slot
+  stays : Stays slot old new
+
+kept-step : {slot : ℕ} {entries : List Entry} {states : List ClientState} {state : ClientState} (c : ℕ)
+    → get_or states c Idle ≡ state → IsBalanced entries states slot
+    → IsStep slot entries (entries ++ []) (set states c state)
+kept-step {slot} {entries} c at balanced =
+    record { balanced = left-alone c at balanced; stays = stays-none slot entries }
+
+pub its-held : {entries : List Entry} {states : List ClientState} {heard : ℕ} {play : Play} (c : ℕ)
+    → c < length states → get_or states c Idle ≡ Playing play → IsBalanced entries states heard
+    → play_numbered play.number (state_after entries).held ≡ Some (admitted_play play.number play.start play.plan)
+its-held {entries} {play} c inside at balanced =
+    let H : ClientState → Type 0 = λ s. AreHeldOf entries c s in
+    let its : IsHeld entries c play = subst H at (balanced.held c inside) in
+    its.held
+
+step-play : {slot : ℕ} {entries : List Entry} {states : List ClientState} {play : Play} {done : Bool} (c : ℕ)
+    → is_done slot play ≡ done
+    → BalancedClient slot c entries states (Playing play)
+    → IsStep slot entries (entries ++ cond done (halt_by c play.number (total_bytes play.plan)) [])
+    (set states c (cond done Idle (Playing play)))
+step-play {slot} {entries} {play} {done = true} c done own = record {
+  balanced = balanced-halt c (total_bytes play.plan) Idle own tt (λ t later. done-shares t slot play later done);
+  stays = stays-halt entries c (total_bytes play.plan) play (its-held c own.inside own.at own.balanced)
+      (record { sent = omega arith; most = omega arith });
+}
+step-play {slot} {done = false} c done own = kept-step c own.at own.balanced
+
+step-state : {slot : ℕ} (c : ℕ) (entries : List Entry) (states : List ClientState) (state : ClientState)
+    → BalancedClient slot c entries states state
+    → IsStep slot entries (entries ++ done_halt slot c state) (set states c (after_play slot state))
+step-state {slot} c entries states Idle own = kept-step c own.at own.balanced
+step-state {slot} c entries states (Playing play) own = step-play c refl own
+step-state {slot} c entries states (Pausing stop rest) own = kept-step c own.at own.balanced
+step-state {slot} c entries states (Paused rest) own = kept-step c own.at own.balanced
+
+open-state : {slot : ℕ} (c : ℕ) (entries : List Entry) (states : List ClientState) (state : ClientState)
+    → BalancedClient slot c entries states state
+    → IsStep slot entries (entries ++ open_halt slot c state) (set states c (after_open state))
+open-state {slot} c entries states Idle own = kept-step c own.at own.balanced
+open-state {slot} c entries states (Playing play) own =
+    let keep = sent_by (booking_of play) slot in
+    record {
+      balanced =
+          balanced-halt c keep Idle own tt
+          (λ t later. sym (share-done t slot (truncated_play play.start play.plan keep) later (omega arith)));
+      stays = stays-halt entries c keep play (its-held c own.inside own.at own.balanced)
+          (record { sent = omega arith; most = omega arith });
+    }
+open-state {slot} c entries states (Pausing stop rest) own = kept-step c own.at own.balanced
+open-state {slot} c entries states (Paused rest) own = kept-step c own.at own.balanced
+
+abbrev IsStepOf : ℕ → (ℕ → ClientState → List Entry) → (ClientState → ClientState) → Type 0
+IsStepOf slot halt after =
+    (c : ℕ) (entries : List Entry) (states : List ClientState) (state : ClientState)
+    → BalancedClient slot c entries states state
+    → IsStep slot entries (entries ++ halt c state) (set states c (after state))
+
+record Ending (slot n : ℕ) (halt : ℕ → ClientState → List Entry) (after : ClientState → ClientState)
+    (begun : List Entry) (old : List ClientState) : Type 0 where
+  entries : List Entry
+  states : List ClientState
+  swept : IsSwept after n old states
+  entries_are : entries ≡ begun ++ halt_entries halt 0 (take n old)
+  balanced : IsBalanced entries states slot
+  stays : Stays slot begun entries
+
+ending : {slot : ℕ} {halt : ℕ → ClientState → List Entry} {after : ClientState → ClientState}
+    {begun : List Entry} {old : List ClientState}
+    {n : ℕ} → IsStepOf slot halt after → n ≤ length old
+    → IsBalanced begun old slot → Ending slot n halt after begun old
+ending {slot} {halt} {after} {begun} {old} {n = zero} step most balanced = record {
+  entries = begun;
+  states = old;
+  swept = swept-none after old;
+  entries_are = sym (append-nil begun);
+  balanced = balanced;
+  stays = λ t past. refl;
+}
+ending {slot} {halt} {after} {begun} {old} {n = suc n} step most balanced =
+    let e = ending {slot = slot} {halt = halt} {after = after} {begun = begun} {old = old} {n = n} step
+    (omega (arith, most)) balanced in
+    let state = get_or old n Idle in
+    let one : n + 1 ≡ suc n = omega arith in
+    let inside : n < length old = omega (arith, most) in
+    let next = step n e.entries e.states state (record {
+      inside = omega (arith, inside, e.swept.count);
+      at = e.swept.later n (omega arith);
+      balanced = e.balanced;
+    }) in
+    let E : ℕ → Type 0 = λ k. Ending slot k halt after begun old in
+    subst E one (record {
+      entries = e.entries ++ halt n state;
+      states = set e.states n (after state);
+      swept = swept-set {f = after} {i = n} {old = old} {new = e.states} {state = after state} inside refl e.swept;
+      entries_are =
+          entries-more {i = n} {before = e.entries} {after = e.entries ++ halt n state} {more = halt n state}
+          halt old begun inside
+          (record { before_is = e.entries_are; after_is = refl; here = refl });
+      balanced = next.balanced;
+      stays = λ t past. next.stays t past ∙ e.stays t past;
+    })
+
+pub balanced-slot : (old : DayState) (slot : ℕ) → old.heard ≤ slot → IsBalanced old.entries old.states old.heard
+    → IsBalanced (at_slot old slot).entries (at_slot old slot).states slot
+balanced-slot old slot le balanced =
+    let sent = map (after_sending slot) old.states in
+    let n = length sent in
+    let e = ending {slot = slot} {halt = done_halt slot} {after = after_play slot} {begun = old.entries}
+    {old = sent} {n = n} step-state (omega arith)
+    (balanced-sending old.entries old.states old.heard slot le balanced) in
+    let states : e.states ≡ map (after_play slot) sent =
+    swept-all (after_play slot) n sent e.states (omega arith) e.swept in
+    let entries : e.entries ≡ old.entries ++ halt_entries (done_halt slot) 0 old.states =
+    e.entries_are ∙ ap (λ l. old.entries ++ halt_entries (done_halt slot) 0 l) (take_all n sent (omega arith))
+    ∙ ap (λ es. old.entries ++ es) (halt_entries-sent slot 0 old.states) in
+    let E : List Entry → Type 0 = λ es. IsBalanced es (map (after_play slot) sent) slot in
+    let S : List ClientState → Type 0 = λ l. IsBalanced e.entries l slot in
+    subst E entries (subst S states e.balanced)
+
+pub slot-stays : (old : DayState) (slot t : ℕ) → old.heard ≤ slot → t ≤ slot → IsBalanced old.entries old.states
+    old.heard
+    → booked_in (state_after (at_slot old slot).entries) t ≡ booked_in (state_after old.entries) t
+slot-stays old slot t le past balanced =
+    let sent = map (after_sending slot) old.states in
+    let n = length sent in
+    let e = ending {slot = slot} {halt = done_halt slot} {after = after_play slot} {begun = old.entries}
+    {old = sent} {n = n} step-state (omega arith)
+    (balanced-sending old.entries old.states old.heard slot le balanced) in
+    let entries : e.entries ≡ old.entries ++ halt_entries (done_halt slot) 0 old.states =
+    e.entries_are ∙ ap (λ l. old.entries ++ halt_entries (done_halt slot) 0 l) (take_all n sent (omega arith))
+    ∙ ap (λ es. old.entries ++ es) (halt_entries-sent slot 0 old.states) in
+    sym (ap (λ es. booked_in (state_after es) t) entries) ∙ e.stays t past
+
+-- a day ends
+pub last-stays : (m : DayState) (t : ℕ) → t ≤ m.heard → IsBalanced m.entries m.states m.heard
+    → booked_in (state_after (last_journal m)) t ≡ booked_in (state_after m.entries) t
+last-stays m t past balanced =
+    let n = length m.states in
+    let e = ending {slot = m.heard} {halt = open_halt m.heard} {after = after_open} {begun = m.entries}
+    {old = m.states} {n = n} open-state (omega arith) balanced in
+    let entries : e.entries ≡ last_journal m =
+    e.entries_are ∙ ap (λ l. m.entries ++ halt_entries (open_halt m.heard) 0 l) (take_all n m.states (omega arith)) in
+    sym (ap (λ es. booked_in (state_after es) t) entries) ∙ e.stays t past
+
+-- the entry of a play that begins
+pub record BegunPlay (entries : List Entry) : Type 0 where
+  pub e : Entry
+  pub number : ℕ
+  pub start : ℕ
+  pub plan : List Segment
+  pub is : (state_after (entries ++ e ∷ [])).held ≡ (state_after entries).held ++ admitted_play number start plan ∷ []
+
+-- a play was admitted after the slot that was heard last
+pub play-stays : (entries : List Entry) (heard t : ℕ) (begun : BegunPlay entries) → heard < begun.start → t ≤ heard
+    → booked_in (state_after (entries ++ begun.e ∷ [])) t ≡ booked_in (state_after entries) t
+play-stays entries heard t begun early past =
+    let held = (state_after entries).held in
+    let none : t + 1 - start ≡ 0 = omega (arith, early, past) in
+    let sent : sent_before plan start (t + 1) ≡ 0 = ap (λ n. sum (take n (plan_slots plan))) none in
+    let b : booked_in (state_after (entries ++ e ∷ [])) t
+    ≡ booked_in (state_after entries) t + share_at t (whole_play start plan) =
+    ap (λ hs. sum_by (share_at t) (map (λ (x : AdmittedPlay). x.play) hs)) is
+    ∙ ap (sum_by (share_at t)) (map-append (λ (x : AdmittedPlay). x.play) held (admitted_play number start plan ∷ []))
+    ∙ sum_by_push (share_at t) (map (λ (x : AdmittedPlay). x.play) held) (whole_play start plan) in
+    omega (arith, b, sent)
+  where
+    open begun use {e, number, start, plan, is}
+
+pub last-later : (m : DayState) (t : ℕ) → m.heard < t → IsBalanced m.entries m.states m.heard
+    → booked_in (state_after (last_journal m)) t ≡ sum_by (share_of t) (map after_open m.states)
+last-later m t later balanced =
+    let n = length m.states in
+    let e = ending {slot = m.heard} {halt = open_halt m.heard} {after = after_open} {begun = m.entries}
+    {old = m.states} {n = n} open-state (omega arith) balanced in
+    let entries : e.entries ≡ last_journal m =
+    e.entries_are ∙ ap (λ l. m.entries ++ halt_entries (open_halt m.heard) 0 l) (take_all n m.states (omega arith)) in
+    let states : e.states ≡ map after_open m.states = swept-all after_open n m.states e.states (omega arith) e.swept in
+    sym (ap (λ es. booked_in (state_after es) t) entries) ∙ e.balanced.each t later ∙ ap (sum_by (share_of t)) states

@@ -1,9 +1,0 @@
-use Rattle.std.proofs.Common.{arith}
-use Rattle.std.proofs.lemmas.Grind.{common_steps}
-use Rattle.day_run.proofs.fairs.trace_reels.Goals as goal
-
-pub loop-trace-preserved : goal.loop-trace-preserved
-loop-trace-preserved c = grind (arith, common_steps)
-
-pub returns-clause-contents : goal.returns-clause-contents
-returns-clause-contents c = grind (arith, common_steps)

@@ -1,6 +1,0 @@
-use Rattle.day_run.proofs.DayFronts.{day-keeps}
-use Rattle.day_run.proofs.laws.law_each_line.Goals as goal
-
-pub returns : goal.returns
-returns c = λ link sources count lines text journal clients are day legal.
-    day-keeps count clients are day legal

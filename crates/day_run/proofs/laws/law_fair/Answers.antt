@@ -1,5 +1,0 @@
-use Rattle.day_run.proofs.FairLines.{fair-line}
-use Rattle.day_run.proofs.laws.law_fair.Goals as goal
-
-pub returns : goal.returns
-returns c = λ steps number plays text journal fair legal. fair-line steps plays text journal fair legal

@@ -1,0 +1,9 @@
+use Rattle.day_run.proofs.PastSlots.{look-leaves, offer-leaves}
+use Rattle.day_run.proofs.laws.law_looks_and_offers_book_nothing.Goals as goal
+
+pub returns-clause-look : goal.returns-clause-look
+returns-clause-look c = look-leaves
+
+pub returns-clause-offer : goal.returns-clause-offer
+returns-clause-offer c =
+    λ link client source buffer delay wait old new text is. offer-leaves {link = link} client source buffer delay is

@@ -1,5 +1,0 @@
-use Rattle.day_run.proofs.OfferLaws.{offer-told}
-use Rattle.day_run.proofs.laws.law_offers.Goals as goal
-
-pub returns : goal.returns
-returns c = λ link client source buffer delay wait old new text is. offer-told is

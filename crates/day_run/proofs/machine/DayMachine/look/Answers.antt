@@ -1,0 +1,42 @@
+use Rattle.std.proofs.Common.{◌^◌, min, ap, refl, inl, inr, arith}
+use Rattle.admission.specs.declared.entries.Command.TheVariants.{Look}
+use Rattle.admission.specs.declared.entries.Entry.{Entry}
+use Rattle.admission.specs.Books.{Journal}
+use Rattle.day_run.specs.MachineState.{day_state_of}
+use Rattle.day_run.proofs.JournalStepLemmas.{day-noted, looked-now}
+use Rattle.day_run.proofs.LineStepLemmas.{noted, told-full}
+use Rattle.day_run.proofs.machine.DayMachine.look.Goals as goal
+
+pub returns-in-Ok-clause-machine : goal.returns-in-Ok-clause-machine
+returns-in-Ok-clause-machine c =
+    let old = c.args.self.now in
+    let noted = c.in-Ok.ensures.noted in
+    let e : Entry = record { maker = 0; command = Look (min c.args.slot (2 ^ 62)); answer = c.in-Ok.noted.answer } in
+    let now = looked-now old.book.entries e (min c.args.slot (2 ^ 62)) refl in
+    day-noted e c.requires.machine
+    (ap (λ (j : Journal). j.entries) noted.journal_is) (λ number halts. halts)
+    (omega (arith, now, c.requires.machine.now_heard))
+
+pub returns-in-Ok-clause-line : goal.returns-in-Ok-clause-line
+returns-in-Ok-clause-line c =
+    let old = c.args.self.now in
+    let made = c.in-Ok.ensures.noted in
+    let e : Entry = record { maker = 0; command = Look (min c.args.slot (2 ^ 62)); answer = c.in-Ok.noted.answer } in
+    inr (record {
+      room = c.in-Ok.ensures.room;
+      answer = c.in-Ok.noted.answer;
+      noted =
+          noted made.answer_is (record {
+            place_is = made.place_is;
+            entries_are = ap (λ (j : Journal). j.entries) made.journal_is;
+            states_are = refl;
+            heard_is = refl;
+          });
+    })
+
+pub returns-in-Err-clause-line : goal.returns-in-Err-clause-line
+returns-in-Err-clause-line c =
+    let old = c.args.self.now in
+    inl (told-full c.in-Err.full c.in-Err.ensures.full
+    c.in-Err.ensures.counts.entries_are c.in-Err.ensures.counts.open_is
+    (ap (λ j. day_state_of (record old { book = j })) c.in-Err.ensures.left))

@@ -1,0 +1,103 @@
+use Rattle.std.proofs.lemmas.Grind.{common_steps}
+use Rattle.std.proofs.Common.{◌≡◌, ◌<◌, ◌∙◌, get_or, length, map, set, ap, refl, sym, subst, arith}
+use Rattle.std.proofs.lemmas.List.{set-get_or}
+use Rattle.admission.specs.declared.entries.Command.TheVariants.{Halt}
+use Rattle.admission.specs.declared.entries.Entry.{Entry}
+use Rattle.admission.specs.Books.{Journal}
+use Rattle.day_run.specs.declared.clients.Client.{Client}
+use Rattle.day_run.specs.Clients.{IsBooked, IsGoing, IsTimed, state_of}
+use Rattle.day_run.proofs.JournalStepLemmas.{day-halted, open-halt}
+use Rattle.day_run.specs.Days.{IsPauseLine, DayState}
+use Rattle.day_run.specs.MachineState.{link_on, day_state_of, reply_text}
+use Rattle.day_run.specs.ClientStates.{ClientState, Idle}
+use Rattle.day_run.specs.declared.machine.LineAnswer.TheVariants as tolds
+use Rattle.day_run.proofs.LineStepLemmas.{no-pause, noted-halt, pause-line}
+use Rattle.day_run.proofs.ClientSweepLemmas.{state-at, states-set}
+use Rattle.day_run.proofs.machine.DayMachine.pause.Goals as goal
+
+pub returns-in-Some-clause-machine : goal.returns-in-Some-clause-machine
+returns-in-Some-clause-machine c =
+    let old = c.args.self.now in
+    let day = c.requires.machine in
+    let halt = c.in-Some.halt in
+    let client = c.index_mut.result.now in
+    let inside : c.args.client < length old.clients.items = omega (arith, day.count, c.ranges.client.fits) in
+    let B : Client → Type 0 = λ x. IsBooked old.book.entries c.args.client x in
+    let G : Client → Type 0 = λ x. IsGoing x in
+    let booked = subst B (sym c.index_mut.ensures.value) (day.booked.each c.args.client client inside) in
+    let going = subst G (sym c.index_mut.ensures.value) (day.going.each c.args.client client inside) in
+    let T : Client → Type 0 = λ x. IsTimed old.heard x in
+    let timed = subst T (sym c.index_mut.ensures.value) (day.timed.each c.args.client client inside) in
+    let its = open-halt client going booked c.in-Some.ensures.some in
+    let e : Entry =
+    record { maker = c.from.result; command = Halt halt.number halt.keep; answer = c.halt-noted.result.answer } in
+    day-halted {e = e} c.pause.new.self day (record {
+      entries_are = ap (λ (j : Journal). j.entries) c.halt-noted.ensures.noted.journal_is;
+      clients_are = refl;
+      command = refl;
+    }) its inside (record {
+      going = c.pause.ensures.going;
+      undone = c.pause.ensures.undone;
+      quiet = c.in-Some.ensures.quiet;
+      timed = c.pause.ensures.timed old.heard timed;
+    })
+
+pub returns-in-Some-clause-line : goal.returns-in-Some-clause-line
+returns-in-Some-clause-line c =
+    let old = c.args.self.now in
+    let day = c.requires.machine in
+    let halt = c.in-Some.halt in
+    let client = c.index_mut.result.now in
+    let next = c.pause.new.self in
+    let new : DayState =
+    record {
+      entries = c.halt-noted.new.self.entries;
+      states = map state_of (set old.clients.items c.args.client next);
+      heard = old.heard;
+    } in
+    let inside : c.args.client < length old.clients.items = omega (arith, day.count, c.ranges.client.fits) in
+    let T : Client → Type 0 = λ x. IsTimed old.heard x in
+    let timed = subst T (sym c.index_mut.ensures.value) (day.timed.each c.args.client client inside) in
+    let made = c.halt-noted.ensures.noted in
+    let e : Entry =
+    record { maker = c.from.result; command = Halt halt.number halt.keep; answer = c.halt-noted.result.answer } in
+    let text = reply_text c.halt-noted.new.self.entries (tolds.Entry c.halt-noted.result.place) in
+    let at : state_of client ≡ get_or (map state_of old.clients.items) c.args.client Idle =
+    ap state_of c.index_mut.ensures.value ∙ sym (state-at old.clients.items c.args.client client inside) in
+    let P : ClientState → Type 0 = λ s. IsPauseLine (link_on old) c.args.client s (day_state_of old) new text in
+    subst P at (pause-line client next (c.in-Some.ensures.pause old.heard timed)
+    (noted-halt {link = link_on old} {old = day_state_of old} {new = new} {place = c.halt-noted.result.place}
+    {number = halt.number} {keep = halt.keep} {e = e}
+    made.answer_is (record {
+      place_is = made.place_is;
+      entries_are = ap (λ (j : Journal). j.entries) made.journal_is;
+      states_are = states-set old.clients.items c.args.client next;
+      heard_is = refl;
+    })
+    (record { maker = c.from.ensures; answer = c.halt-noted.ensures.answer; command = refl })))
+
+pub returns-in-None-clause-line : goal.returns-in-None-clause-line
+returns-in-None-clause-line c =
+    let old = c.args.self.now in
+    let day = c.requires.machine in
+    let client = c.index_mut.result.now in
+    let next = c.pause.new.self in
+    let new : DayState =
+    record {
+      entries = old.book.entries;
+      states = map state_of (set old.clients.items c.args.client next);
+      heard = old.heard;
+    } in
+    let inside : c.args.client < length old.clients.items = omega (arith, day.count, c.ranges.client.fits) in
+    let at : state_of client ≡ get_or (map state_of old.clients.items) c.args.client Idle =
+    ap state_of c.index_mut.ensures.value ∙ sym (state-at old.clients.items c.args.client client inside) in
+    let same : set old.clients.items c.args.client next ≡ old.clients.items =
+    ap (set old.clients.items c.args.client) (c.in-None.ensures.none ∙ c.index_mut.ensures.value)
+    ∙ set-get_or old.clients.items c.args.client client in
+    let P : ClientState → Type 0 =
+    λ s. IsPauseLine (link_on old) c.args.client s (day_state_of old) new (reply_text old.book.entries tolds.State) in
+    subst P at (no-pause (link_on old) c.args.client client c.in-None.ensures.idle
+    (record { kept = ap (λ l. record (day_state_of old) { states = map state_of l }) same; text_is = refl }))
+
+pub returns-in-None-clause-machine : goal.returns-in-None-clause-machine
+returns-in-None-clause-machine c = grind (arith, common_steps)

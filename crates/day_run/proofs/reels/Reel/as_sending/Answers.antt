@@ -1,5 +1,0 @@
-use Rattle.day_run.proofs.TraceReels.{trace-length}
-use Rattle.day_run.proofs.reels.Reel.as_sending.Goals as goal
-
-pub returns-in-Trace-clause-all : goal.returns-in-Trace-clause-all
-returns-in-Trace-clause-all c = trace-length c.args.self.now c.in-Trace.trace c.in-Trace.is

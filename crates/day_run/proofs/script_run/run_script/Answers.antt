@@ -1,0 +1,31 @@
+use Rattle.std.proofs.Common.{◌≡◌, List, map, ap, subst, ◌∙◌}
+use Rattle.day_run.specs.declared.media.Media.{Media}
+use Rattle.day_run.specs.declared.scripts.Line.{Line}
+use Rattle.day_run.specs.Days.{Link, link_of}
+use Rattle.day_run.specs.MachineState.{HasRun, link_on, day_state_of}
+use Rattle.day_run.specs.ClientStates.{MediaContent}
+use Rattle.day_run.specs.MediaContents.{media_content}
+use Rattle.day_run.proofs.LineSequenceLemmas.{day-of}
+use Rattle.day_run.proofs.PlayableMedia.{link-playable}
+use Rattle.day_run.proofs.script_run.run_script.Goals as goal
+
+pub returns-clause-day : goal.returns-clause-day
+returns-clause-day c =
+    let units = c.args.slot_units in
+    let link = link_of c.args.profile c.args.limit units c.args.sources.now in
+    let here = link_on c.in_ok-machine.machine in
+    let m = day_state_of c.run_lines.new.machine in
+    let text = c.run_lines.new.text.items in
+    let on : List MediaContent → Link =
+    λ ts. record { steps = c.args.profile; limit = c.args.limit; slot_units = units; media = ts } in
+    let R : List Line → Type 0 = λ l. HasRun here l text m in
+    let same : here ≡ link =
+    c.in_ok-machine.ensures.link ∙ ap (λ (l : List Media). on (map (media_content units) l)) c.deref.ensures.value
+    ∙ ap on (c.in_ok-media.ensures.contents units) in
+    day-of same
+    (subst R c.deref-2.ensures.value c.in_ok-run_lines.ensures.run) c.in_ok-run_end.ensures.text
+    (c.into_entries.ensures.value ∙ c.in_ok-run_end.ensures.journal)
+
+pub returns-clause-link : goal.returns-clause-link
+returns-clause-link c =
+    link-playable c.args.sources.now c.requires.some_slot_units c.requires.slot_units_fit c.in_ok-media.ensures.playable

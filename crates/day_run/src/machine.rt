@@ -1,0 +1,327 @@
+//! A day as it runs: what clients ask and slots, one after the other, on one book.
+
+ghost use Rattle.std.specs.Prelude.{◌≡◌, ◌-◌, ◌*◌, ◌^◌, ◌≤◌, ◌<◌, length, map, min, IfOk, OnOk};
+ghost use Rattle.admission.specs.Histories.{IsLegal};
+ghost use Rattle.admission.specs.Books.{places_taken};
+ghost use Rattle.day_run.specs.Clients.{IsPlanFor, IsRest, rest_of};
+ghost use Rattle.day_run.specs.Days.{at_slot, booked_up_to, last_journal, first_moment, rest_at};
+ghost use Rattle.day_run.specs.Days.{state_at, sent_up_to};
+ghost use Rattle.day_run.specs.Days.{IsAsked, IsLookLine, IsOfferLine, IsPauseLine, IsPlanned};
+ghost use Rattle.day_run.specs.Days.{IsPlayLine, IsResumeLine};
+ghost use Rattle.day_run.specs.FairDays.{most_up_to};
+ghost use Rattle.day_run.specs.MachineState.{IfSaid, IsKept, IsDayMachine, IsWithinRanges, link_on};
+ghost use Rattle.day_run.specs.MachineState.{day_state_of, reply_text};
+ghost use Rattle.day_run.specs.MediaContents.{media_content};
+
+use crate::booked_sums::booked_between;
+use crate::client_set::{halt_plays, idle_clients, step_clients};
+use crate::clients::{Client, HaltedPlays, Rest};
+use crate::media::Media;
+use crate::play_start::{begin_play, medium_at, start_of, whole_of};
+use admission::{Book, Entry, Full};
+use early_start::Offers;
+use film_run::plan_of;
+use plan_cert::Plan;
+use slot_calendar::Profile;
+use std::alloc::Global;
+use vod_base::NoMemory;
+use wire_curve::{CurveFault, CurveRefused};
+
+/// What is answered to a client.
+#[derive(Clone, Copy)]
+pub(crate) enum LineAnswer {
+    /// The entry at this place of the journal, which was made.
+    Entry(u64),
+    /// The journal is full.
+    Full(Full),
+    /// The client isn't in a state in which it can be asked.
+    State,
+    /// The curves are refused.
+    Fault(CurveFault),
+}
+
+/// What a slot brings.
+#[derive(Clone, Copy)]
+pub(crate) struct SlotTotals {
+    /// The bytes that were sent.
+    pub(crate) sent: u64,
+    /// The bytes that are booked in the slots since the last one that was heard.
+    pub(crate) booked: u64,
+    /// The most of them in one slot.
+    pub(crate) peak: u64,
+}
+
+/// A day as far as it has run.
+#[derive(Drop)]
+pub(crate) struct DayMachine<'r> {
+    /// The sources, in the order of their numbers.
+    pub(crate) media: &'r [Media<'r>],
+    /// The slot length in 1/360,000 second.
+    pub(crate) slot_units: u32,
+    pub(crate) book: Book,
+    /// The 256 clients, in the order of their numbers.
+    pub(crate) clients: Vec<Client<'r>>,
+    /// The slot that was heard last, 0 before the first.
+    pub(crate) heard: u64,
+}
+
+impl<'r> DayMachine<'r> {
+    /// A day that begins.
+    pub(crate) fn new(
+        alloc: Global,
+        media: &'r [Media<'r>],
+        profile: Profile,
+        limit: u64,
+        slot_units: u32,
+    ) -> Result<DayMachine<'r>, NoMemory>
+        requires some { 2 ≤ limit }
+        requires few { limit ≤ 1048576 }
+        requires some_slot_units { 1 ≤ slot_units }
+        requires slot_units_fit { slot_units ≤ 360000 }
+        ensures machine { IfOk result IsDayMachine }
+        ensures steps { IfOk result (λ machine. machine.book.steps ≡ profile) }
+        ensures link { IfOk result (λ machine. link_on machine ≡ record {
+          steps = profile;
+          limit = limit;
+          slot_units = slot_units;
+          media = map (media_content slot_units) media.entry.now;
+        }) }
+        ensures heard { IfOk result (λ machine. machine.heard ≡ 0) }
+        ensures media { IfOk result (λ machine. machine.media.now ≡ media.entry.now) }
+        ensures begun { IfOk result (λ machine. day_state_of machine ≡ first_moment) }
+    {
+        let book = Book::new(alloc, profile, limit)?;
+        let clients = idle_clients(alloc)?;
+        Ok(DayMachine {
+            media,
+            slot_units,
+            book,
+            clients,
+            heard: 0,
+        })
+    }
+
+    /// A client asks to play all of a source.
+    pub(crate) fn play(
+        &mut self,
+        alloc: Global,
+        client: u8,
+        source: usize,
+        buffer: u64,
+        delay: u64,
+    ) -> Result<LineAnswer, NoMemory>
+        requires machine { IsDayMachine self.old }
+        requires source { source < length self.old.media.now }
+        requires asked { IsWithinRanges 1 buffer delay }
+        ensures machine { OnOk result (IsDayMachine self.new) }
+        ensures kept { OnOk result (IsKept self.old self.new) }
+        ensures heard { OnOk result (self.new.heard ≡ self.old.heard) }
+        ensures line { IfOk result (λ told.
+            IsPlayLine (link_on self.old) client (rest_at (link_on self.old) source buffer delay)
+            (day_state_of self.old) (day_state_of self.new) (reply_text self.new.book.entries told))
+                }
+    {
+        if self.clients[client as usize].is_busy() {
+            return Ok(LineAnswer::State);
+        }
+        match whole_of(
+            medium_at(self.media, source),
+            self.slot_units,
+            buffer,
+            delay,
+        ) {
+            Some(rest) => self.ask(alloc, client, rest),
+            None => Ok(LineAnswer::Fault(CurveFault::NoPictures)),
+        }
+    }
+
+    /// A client asks to go on where it was paused.
+    pub(crate) fn resume(&mut self, alloc: Global, client: u8) -> Result<LineAnswer, NoMemory>
+        requires machine { IsDayMachine self.old }
+        ensures machine { OnOk result (IsDayMachine self.new) }
+        ensures kept { OnOk result (IsKept self.old self.new) }
+        ensures heard { OnOk result (self.new.heard ≡ self.old.heard) }
+        ensures line { IfOk result (λ told.
+            IsResumeLine (link_on self.old) client (state_at (day_state_of self.old) client)
+            (day_state_of self.old) (day_state_of self.new) (reply_text self.new.book.entries told))
+                }
+    {
+        match self.clients[client as usize].rest_left() {
+            Some(rest) => self.ask(alloc, client, rest),
+            None => Ok(LineAnswer::State),
+        }
+    }
+
+    /// A client that plays nothing asks for a rest.
+    fn ask(&mut self, alloc: Global, client: u8, rest: Rest<'r>) -> Result<LineAnswer, NoMemory>
+        requires machine { IsDayMachine self.old }
+        requires rest { IsRest rest }
+        ensures machine { OnOk result (IsDayMachine self.new) }
+        ensures kept { OnOk result (IsKept self.old self.new) }
+        ensures heard { OnOk result (self.new.heard ≡ self.old.heard) }
+        ensures asked { IfOk result (λ told.
+            IsAsked (link_on self.old) client (rest_of rest.entry)
+            (day_state_of self.old) (day_state_of self.new) (reply_text self.new.book.entries told))
+                }
+    {
+        match plan_of(alloc, rest.medium, &rest.playback, &rest.run) {
+            Ok(plan) => {
+                let paced = plan.copy()?;
+                let kept = plan.copy()?;
+                Ok(self.book_play(client, rest, plan, kept, paced))
+            }
+            Err(CurveRefused::Fault(fault)) => Ok(LineAnswer::Fault(fault)),
+            Err(CurveRefused::NoMemory) => Err(NoMemory),
+        }
+    }
+
+    /// Asks the book for a play, which begins where it is admitted.
+    fn book_play(
+        &mut self,
+        client: u8,
+        rest: Rest<'r>,
+        plan: Plan,
+        kept: Plan,
+        paced: Plan,
+    ) -> LineAnswer
+        requires machine { IsDayMachine self.old }
+        requires rest { IsRest rest }
+        requires plan { IsPlanFor rest plan }
+        requires kept { kept ≡ plan }
+        requires paced { paced ≡ plan }
+        ensures machine { IsDayMachine self.new }
+        ensures kept { IsKept self.old self.new }
+        ensures heard { self.new.heard ≡ self.old.heard }
+        ensures planned { IsPlanned (link_on self.old) client (rest_of rest.entry)
+            (day_state_of self.old) (day_state_of self.new) (reply_text self.new.book.entries
+            result) }
+    {
+        match self.book.play(u32::from(client), self.heard, plan) {
+            Ok(noted) => {
+                if let Some(start) = start_of(noted.answer) {
+                    let play = begin_play(noted.place, rest, kept, paced, start);
+                    self.clients[client as usize] = Client::Playing(play);
+                }
+                LineAnswer::Entry(noted.place)
+            }
+            Err(refused) => LineAnswer::Full(refused.full),
+        }
+    }
+
+    /// A client pauses.
+    pub(crate) fn pause(&mut self, client: u8) -> LineAnswer
+        requires machine { IsDayMachine self.old }
+        ensures machine { IsDayMachine self.new }
+        ensures kept { IsKept self.old self.new }
+        ensures heard { self.new.heard ≡ self.old.heard }
+        ensures line { IsPauseLine (link_on self.old) client (state_at (day_state_of self.old)
+            client)
+            (day_state_of self.old) (day_state_of self.new) (reply_text self.new.book.entries
+            result) }
+    {
+        match self.clients[client as usize].pause() {
+            Some(halt) => {
+                let noted = self.book.halt(u32::from(client), halt.number, halt.keep);
+                LineAnswer::Entry(noted.place)
+            }
+            None => LineAnswer::State,
+        }
+    }
+
+    /// A look at a slot.
+    pub(crate) fn look(&mut self, slot: u64) -> LineAnswer
+        requires machine { IsDayMachine self.old }
+        ensures machine { IsDayMachine self.new }
+        ensures kept { IsKept self.old self.new }
+        ensures heard { self.new.heard ≡ self.old.heard }
+        ensures line { IsLookLine (link_on self.old) (min slot (2 ^ 62))
+            (day_state_of self.old) (day_state_of self.new) (reply_text self.new.book.entries
+            result) }
+    {
+        match self.book.look(0, slot) {
+            Ok(noted) => LineAnswer::Entry(noted.place),
+            Err(full) => LineAnswer::Full(full),
+        }
+    }
+
+    /// The earliest start of a source within a wait, or the fault of its curves.
+    pub(crate) fn offer(
+        &self,
+        alloc: Global,
+        source: usize,
+        buffer: u64,
+        delay: u64,
+        wait: u64,
+    ) -> Result<Offers, CurveRefused>
+        requires machine { IsDayMachine self.now }
+        requires source { source < length self.now.media.now }
+        requires asked { IsWithinRanges 1 buffer delay }
+        requires wait { wait ≤ 255 }
+        ensures { IfSaid result
+            (IsOfferLine (link_on self.now) (rest_at (link_on self.now) source buffer delay) wait
+            (day_state_of self.now) (day_state_of self.now)) }
+    {
+        let Some(rest) = whole_of(
+            medium_at(self.media, source),
+            self.slot_units,
+            buffer,
+            delay,
+        ) else {
+            return Err(CurveRefused::Fault(CurveFault::NoPictures));
+        };
+        let plan = plan_of(alloc, rest.medium, &rest.playback, &rest.run)?;
+        let Ok(mut offers) = Offers::new(alloc, wait) else {
+            return Err(CurveRefused::NoMemory);
+        };
+        let calendar = self.book.calendar();
+        offers.find(calendar, &plan, calendar.now().max(self.heard) + 1);
+        Ok(offers)
+    }
+
+    /// The link comes to a slot: what is due is sent, and plays that are done are halted.
+    pub(crate) fn slot(&mut self, slot: u64) -> SlotTotals
+        requires machine { IsDayMachine self.old }
+        requires later { self.old.heard < slot }
+        requires small { slot ≤ 2 ^ 62 }
+        ensures machine { IsDayMachine self.new }
+        ensures kept { IsKept self.old self.new }
+        ensures heard { self.new.heard ≡ slot }
+        ensures moment { day_state_of self.new ≡ at_slot (day_state_of self.old) slot }
+        ensures sent { result.sent ≡ sent_up_to (day_state_of self.old) slot }
+        ensures booked { result.booked ≡ booked_up_to (day_state_of self.old) slot }
+        ensures peak { result.peak ≡ most_up_to (day_state_of self.old) slot }
+        ensures few { result.booked ≤ (slot - self.old.heard) * 2 ^ 42 }
+    {
+        let sent = step_clients(&mut self.clients, slot);
+        let (booked, peak) = booked_between(&self.book, self.heard, slot);
+        self.heard = slot;
+        halt_plays(&mut self.book, &mut self.clients, HaltedPlays::Done);
+        SlotTotals { sent, booked, peak }
+    }
+
+    /// The day ends: open plays are halted at what is due.
+    pub(crate) fn end(&mut self)
+        requires { IsDayMachine self.old }
+        ensures kept { IsKept self.old self.new }
+        ensures journal { self.new.book.entries ≡ last_journal (day_state_of self.old) }
+    {
+        halt_plays(&mut self.book, &mut self.clients, HaltedPlays::Open);
+    }
+
+    /// The entries of its journal.
+    pub(crate) fn into_entries(self) -> Vec<Entry>
+        ensures value { result.items ≡ self.entry.book.entries }
+        ensures legal { IsLegal self.entry.book.steps self.entry.book.entries }
+        ensures within { places_taken self.entry.book.entries ≤ self.entry.book.limit }
+        ensures few { self.entry.book.limit ≤ 1048576 }
+    {
+        let DayMachine {
+            media: _,
+            slot_units: _,
+            book,
+            clients: _,
+            heard: _,
+        } = self;
+        book.into_entries()
+    }
+}

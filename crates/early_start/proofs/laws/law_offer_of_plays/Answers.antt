@@ -1,6 +1,0 @@
-use Rattle.early_start.proofs.Everywhere.{offer_everywhere}
-use Rattle.early_start.proofs.laws.law_offer_of_plays.Goals as goal
-
-pub returns : goal.returns
-returns c =
-    λ calendar plays segments first found stands within. offer_everywhere (record { stands = stands; within = within })

@@ -1,0 +1,35 @@
+use Rattle.std.proofs.Common.{◌≡◌, ℕ, List, Option, length, subst, arith}
+use Rattle.plan_cert.specs.declared.Segment.{Segment}
+use Rattle.early_start.specs.StartSearch.{CanStart, IsOffer, IsStart, Offers}
+use Rattle.early_start.proofs.RefusedStarts.{no_room_tried}
+use Rattle.early_start.proofs.laws.law_offered_start_is_earliest.Goals as goal
+
+start_as : {from : ℕ} {booked capacity : ℕ → ℕ} {segments : List Segment} {first : ℕ} {found : Offers}
+    {start : Option ℕ} → IsOffer from booked capacity segments first found → found.start ≡ start →
+    IsStart (CanStart from booked capacity segments) first found.wait (length found.tried) start
+start_as {from} {booked} {capacity} {segments} {first} {found} {start} is same =
+    subst (IsStart (CanStart from booked capacity segments) first found.wait (length found.tried)) same is.start
+
+pub returns-clause-fits : goal.returns-clause-fits
+returns-clause-fits c = λ from first start booked capacity segments found is same.
+    (start_as is same).2
+
+pub returns-clause-begun : goal.returns-clause-begun
+returns-clause-begun c = λ from first start booked capacity segments found is same.
+    let at = start_as is same in
+    omega (arith, at.1)
+
+pub returns-clause-within : goal.returns-clause-within
+returns-clause-within c = λ from first start booked capacity segments found is same.
+    let at = start_as is same in
+    omega (arith, at.0, at.1)
+
+pub returns-clause-least : goal.returns-clause-least
+returns-clause-least c = λ from first start earlier booked capacity segments found is same begun before room.
+    let at = start_as is same in
+    no_room_tried is.refusals begun (omega (arith, at.1, before)) room
+
+pub returns-clause-none : goal.returns-clause-none
+returns-clause-none c = λ from first start booked capacity segments found is same begun within room.
+    let all = start_as is same in
+    no_room_tried is.refusals begun (omega (arith, all, within)) room

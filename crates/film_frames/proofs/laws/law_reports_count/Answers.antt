@@ -1,5 +1,0 @@
-use Rattle.film_frames.proofs.ReportLemmas.{on-channels, reports-count}
-use Rattle.film_frames.proofs.laws.law_reports_count.Goals as goal
-
-pub returns : goal.returns
-returns c = record { counts = reports-count; channels = on-channels }

@@ -1,5 +1,0 @@
-use Rattle.film_frames.proofs.RunFronts.{unit-blocks}
-use Rattle.film_frames.proofs.laws.law_unit_blocks.Goals as goal
-
-pub returns : goal.returns
-returns c = λ film first_unit unit identity order within u. unit-blocks film identity order within

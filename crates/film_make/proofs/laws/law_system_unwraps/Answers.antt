@@ -1,5 +1,0 @@
-use Rattle.film_make.proofs.SystemLemmas.{unwraps}
-use Rattle.film_make.proofs.laws.law_system_unwraps.Goals as goal
-
-pub returns : goal.returns
-returns c = unwraps

@@ -1,0 +1,115 @@
+-- Seeks by the picture rates.
+use Rattle.std.proofs.Common.{ℕ, zero, suc, ◌-◌, ◌*◌, ◌<◌, ◌≤◌, length, Option, Some, None, slice_index_or, inl, inr}
+use Rattle.std.proofs.Common.{arith}
+use Rattle.std.proofs.lemmas.Bool.{cases_lt}
+use Rattle.mpeg_scan.specs.declared.films.Film.{Film}
+use Rattle.mpeg_scan.specs.PictureRates.{picture_time}
+use Rattle.film_run.specs.declared.runs.Run.{Run}
+use Rattle.film_run.specs.Seeks.{IsRequestedRange, IsEnd}
+use Rattle.film_run.specs.SeekLaws.{IsEndFor, IsSeekResult, picture_rates}
+
+-- the time of a picture, by the rates
+abbrev rate : ℕ → ℕ × ℕ
+rate code = slice_index_or picture_rates (code - 1) (1, 1)
+
+-- a number of pictures against a time, in units of 1/360,000 second and by the rates
+record Agree (code : ℕ) : Type 0 where
+  past : (k time : ℕ) → k * picture_time code * 1000000000 ≤ time * 360000
+      → k * (rate code).1 * 1000000000 ≤ time * (rate code).0
+  begun : (k time : ℕ) → k * (rate code).1 * 1000000000 ≤ time * (rate code).0
+      → k * picture_time code * 1000000000 ≤ time * 360000
+  lasts : (k time : ℕ) → time * 360000 ≤ k * picture_time code * 1000000000
+      → time * (rate code).0 ≤ k * (rate code).1 * 1000000000
+  ended : (k time : ℕ) → time * (rate code).0 ≤ k * (rate code).1 * 1000000000
+      → time * 360000 ≤ k * picture_time code * 1000000000
+
+agree : (code : ℕ) → 1 ≤ code → code ≤ 8 → Agree code
+agree zero least most = absurd (omega arith)
+agree (suc zero) least most =
+    record {
+      past = λ k time h. omega arith;
+      begun = λ k time h. omega arith;
+      lasts = λ k time h. omega arith;
+      ended = λ k time h. omega arith;
+    }
+agree (suc (suc zero)) least most =
+    record {
+      past = λ k time h. omega arith;
+      begun = λ k time h. omega arith;
+      lasts = λ k time h. omega arith;
+      ended = λ k time h. omega arith;
+    }
+agree (suc (suc (suc zero))) least most =
+    record {
+      past = λ k time h. omega arith;
+      begun = λ k time h. omega arith;
+      lasts = λ k time h. omega arith;
+      ended = λ k time h. omega arith;
+    }
+agree (suc (suc (suc (suc zero)))) least most =
+    record {
+      past = λ k time h. omega arith;
+      begun = λ k time h. omega arith;
+      lasts = λ k time h. omega arith;
+      ended = λ k time h. omega arith;
+    }
+agree (suc (suc (suc (suc (suc zero))))) least most =
+    record {
+      past = λ k time h. omega arith;
+      begun = λ k time h. omega arith;
+      lasts = λ k time h. omega arith;
+      ended = λ k time h. omega arith;
+    }
+agree (suc (suc (suc (suc (suc (suc zero)))))) least most =
+    record {
+      past = λ k time h. omega arith;
+      begun = λ k time h. omega arith;
+      lasts = λ k time h. omega arith;
+      ended = λ k time h. omega arith;
+    }
+agree (suc (suc (suc (suc (suc (suc (suc zero))))))) least most =
+    record {
+      past = λ k time h. omega arith;
+      begun = λ k time h. omega arith;
+      lasts = λ k time h. omega arith;
+      ended = λ k time h. omega arith;
+    }
+agree (suc (suc (suc (suc (suc (suc (suc (suc zero)))))))) least most =
+    record {
+      past = λ k time h. omega arith;
+      begun = λ k time h. omega arith;
+      lasts = λ k time h. omega arith;
+      ended = λ k time h. omega arith;
+    }
+agree (suc (suc (suc (suc (suc (suc (suc (suc (suc code))))))))) least most = absurd (omega arith)
+
+ended-by : (film : Film) (to : Option ℕ) (first end : ℕ) → Agree film.rate
+    → IsEnd film.units.items (picture_time film.rate) to first end
+    → IsEndFor film to first end
+ended-by film None first end same is = is
+ended-by film (Some time) first end same is = record {
+  later = is.later;
+  lasts = λ inside.
+      elim (cases_lt (end * picture_time film.rate * 1000000000) (time * 360000)) [
+        | inl early ↦ absurd (is.from_then inside early)
+        | inr from ↦ same.lasts end time from
+      ];
+  group = λ inside. elim is.group [ inl group ↦ group | inr all ↦ absurd (omega arith) ];
+  least = λ other later group lasts.
+      let from = same.ended other time lasts in
+      is.first other later group
+      (λ early. let h : other * picture_time film.rate * 1000000000 < time * 360000 = early in omega arith);
+}
+
+pub seeks_run : {film : Film} {from : ℕ} {to : Option ℕ} {run : Run} → 1 ≤ film.rate → film.rate ≤ 8
+    → IsRequestedRange film from to run
+    → IsSeekResult film from to run
+seeks_run {film} {from} {to} {run} least most is =
+    let same = agree film.rate least most in
+    record {
+      goes_on = λ past. is.some (inl (same.begun (length film.units.items) from past));
+      group = is.begins.group;
+      begins = same.past run.first_unit from is.begins.by_then;
+      last = λ other group past. is.begins.last other group (same.begun other from past);
+      ends = ended-by film to run.first_unit run.end_unit same is.ends;
+    }

@@ -1,8 +1,0 @@
-use Rattle.inputs.proofs.TokenLaws.{separated_are, separated_only}
-use Rattle.inputs.proofs.laws.law_tokens.Goals as goal
-
-pub returns-clause-are : goal.returns-clause-are
-returns-clause-are c = λ text. separated_are text 0
-
-pub returns-clause-only : goal.returns-clause-only
-returns-clause-only c = λ text tokens separated. separated_only 0 text tokens separated

@@ -1,8 +1,0 @@
-use Rattle.std.proofs.Common.{◌≡◌, ℕ, List, ◌++◌, length, take}
-use Rattle.inputs.specs.Openings.{HasNoCode}
-use Rattle.inputs.proofs.openings.open_chunk.Given as goal
-
-abbrev pub invariant-loop-index : goal.invariant-loop-index
-invariant-loop-index l =
-    (seen : List ℕ) → length seen ≡ l.at → HasNoCode l.fn.before seen →
-    HasNoCode l.prefix (seen ++ take l.index l.chunk)

@@ -1,0 +1,456 @@
+//! Whole connections: every byte that is sent, how each ends, and the journal and calendar that
+//! they leave.
+
+ghost use Rattle.session.specs.SettingRanges.{AreFilms};
+
+use crate::films::server_films;
+use crate::link_scripts::{Failing, Visit, serve_all, station_of};
+use admission::{Answer, Book};
+use conn::{ConnEnd, ConnReport};
+use film_frames::Stored;
+use plan_cert::Segment;
+use session::{PlayNote, Receipt};
+use std::alloc::Global;
+use std::mem::size_of;
+use std::process::Abort;
+use std::sync::Wait;
+use std::test::Fail;
+use vod_base::NoMemory;
+
+/// Lines that stand for others: a session set up for `b.mpg` with a start delay of two slots and
+/// its play from the first picture, the replies to these requests, and the film's report and
+/// pictures.
+const PHRASES: [(&str, &str); 5] = [
+    (
+        "asks SETUP and PLAY",
+        "hears SETUP rtsp://h/b.mpg RTSP/1.0|CSeq: 1|\
+        Transport: RTP/AVP/TCP;unicast;interleaved=0-1|x-Startup: 2||\n\
+        hears PLAY rtsp://h/b.mpg RTSP/1.0|CSeq: 2|Session: 0123456789abcdef||",
+    ),
+    (
+        "answers SETUP and PLAY",
+        "says RTSP/1.0 200 OK|CSeq: 1|Transport: RTP/AVP/TCP;unicast;interleaved=0-1;ssrc=01020304|\
+        Session: 0123456789abcdef||\n\
+        says RTSP/1.0 200 OK|CSeq: 2|Session: 0123456789abcdef|Range: npt=0.000-0.080|\
+        RTP-Info: url=rtsp://h/b.mpg/video;seq=1;rtptime=0|x-Start: 1||",
+    ),
+    (
+        "sends the report",
+        "sends 24010030 80c80006 01020304 00000000 00000000 00000000 00000000 00000000 \
+        81ca0004 01020304 0108766f 64736572 76650000",
+    ),
+    (
+        "sends the first picture",
+        "sends 24000032 80a00001 00000000 01020304 00003900 000001b316012013ffffe0a0 \
+        000001b800080040 00000100000ffff8 000001011234",
+    ),
+    (
+        "sends the second picture",
+        "sends 2400001f 80a00002 00000e10 01020304 00011a01 000001000057fff880 000001011234",
+    ),
+];
+
+/// What a line stands for.
+fn phrase_of(line: &'static str) -> &'static str {
+    for (short, long) in PHRASES {
+        if line == short {
+            return long;
+        }
+    }
+    line
+}
+
+/// A script with all its lines in full.
+fn in_full(alloc: Global, script: &'static str) -> Result<String, NoMemory> {
+    let mut text = String::new(alloc);
+    for (place, line) in script.lines().enumerate() {
+        if 0 < place {
+            text.push('\n')?;
+        }
+        text.push_str(phrase_of(line))?;
+    }
+    Ok(text)
+}
+
+/// Serves the scenes of a script.
+fn serve_script<R: Wait + Abort>(
+    rt: &R,
+    alloc: Global,
+    script: &'static str,
+) -> Result<(), NoMemory> {
+    let films = server_films(rt, alloc)?;
+    serve_all(rt, alloc, &films, &in_full(alloc, script)?)
+}
+
+/// Plays of the film of two pictures.
+const PLAYS: &str = "\
+50000 1024
+# a pause within the report: its reply stands after the report's last byte
+asks SETUP and PLAY
+slot 1
+hears PAUSE rtsp://h/b.mpg RTSP/1.0|CSeq: 3|Session: 0123456789abcdef||
+slot 2
+slot 3
+hears PLAY rtsp://h/b.mpg RTSP/1.0|CSeq: 4|Session: 0123456789abcdef||
+slot 4
+serve
+answers SETUP and PLAY
+sends the report
+says RTSP/1.0 200 OK|CSeq: 3|Session: 0123456789abcdef||
+says RTSP/1.0 200 OK|CSeq: 4|Session: 0123456789abcdef|Range: npt=0.000-0.080|RTP-Info: \
+url=rtsp://h/b.mpg/video;seq=1;rtptime=0|x-Start: 1||
+sends 24000032 80a00001 00000000 01020304 00003900 0000
+ends Ended 0
+journal
+0 seat=0 play slot=0 slots=4 bytes=141 admitted start=1
+1 seat=0 halt number=0 keep=52 halted
+2 seat=0 play slot=3 slots=4 bytes=89 admitted start=4
+3 seat=0 halt number=2 keep=22 halted
+calendar from=3
+at 4 booked=22
+end
+
+36 1024
+# the last room: the one plays, the other reads where there is none, and gets no offer
+asks SETUP and PLAY
+slot 1
+slot 2
+slot 3
+slot 4
+serve
+answers SETUP and PLAY
+sends the report
+sends the first picture
+sends the second picture
+ends Ended 0
+asks SETUP and PLAY
+hears GET_PARAMETER rtsp://h/b.mpg RTSP/1.0|CSeq: 3|x-Wait: 0|Content-Length: 7||x-Offer
+hears GET_PARAMETER rtsp://h/b.mpg RTSP/1.0|CSeq: 4|x-Wait: 256|Content-Length: 7||x-Offer
+slot 1
+slot 2
+serve
+says RTSP/1.0 200 OK|CSeq: 1|Transport: RTP/AVP/TCP;unicast;interleaved=0-1;ssrc=01020304|\
+Session: 0123456789abcdef||
+says RTSP/1.0 453 Not Enough Bandwidth|CSeq: 2|x-Slot: 1|x-Booked: 35|x-Asked: 35||
+says RTSP/1.0 200 OK|CSeq: 3|Content-Type: text/parameters|Content-Length: 34||x-Start: none|\
+x-Over: 1 1 35 35|
+says RTSP/1.0 451 Parameter Not Understood|CSeq: 4||
+ends Ended 0
+journal
+0 seat=0 play slot=0 slots=4 bytes=141 admitted start=1
+1 seat=0 halt number=0 keep=141 halted
+2 seat=0 play slot=0 slots=4 bytes=141 overflow slot=1 booked=35 asked=35
+calendar from=0
+at 1 booked=35
+at 2 booked=35
+at 3 booked=36
+at 4 booked=35
+end
+
+50000 1024
+# in its first slot 35 bytes are sent, and 35 in its second
+asks SETUP and PLAY
+slot 1
+serve
+answers SETUP and PLAY
+sends 24010030 80c80006 01020304 00000000 00000000 00000000 00000000 00000000 81ca00
+ends Ended 0
+asks SETUP and PLAY
+slot 1
+slot 2
+serve
+answers SETUP and PLAY
+sends the report
+sends 24000032 80a00001 00000000 01020304 0000
+ends Ended 0
+# slots 3 and 4 are missed: the fifth sends 71 bytes
+asks SETUP and PLAY
+slot 1
+slot 2
+slot 5
+serve
+answers SETUP and PLAY
+sends the report
+sends the first picture
+sends the second picture
+ends Ended 2
+# slots 2 to 5 are missed: the play is done, and there is nothing to pause
+asks SETUP and PLAY
+slot 1
+slot 6
+hears PAUSE rtsp://h/b.mpg RTSP/1.0|CSeq: 3|Session: 0123456789abcdef||
+serve
+answers SETUP and PLAY
+sends the report
+sends the first picture
+sends the second picture
+says RTSP/1.0 455 Method Not Valid In This State|CSeq: 3||
+ends Ended 4
+journal
+0 seat=0 play slot=0 slots=4 bytes=141 admitted start=1
+1 seat=0 halt number=0 keep=35 halted
+2 seat=0 play slot=0 slots=4 bytes=141 admitted start=1
+3 seat=0 halt number=2 keep=70 halted
+4 seat=0 play slot=0 slots=4 bytes=141 admitted start=1
+5 seat=0 halt number=4 keep=141 halted
+6 seat=0 play slot=0 slots=4 bytes=141 admitted start=1
+7 seat=0 halt number=6 keep=141 halted
+calendar from=0
+at 1 booked=140
+at 2 booked=105
+at 3 booked=72
+at 4 booked=70
+end
+
+50000 1024
+# a look within the report: its reply stands after the report
+asks SETUP and PLAY
+slot 1
+hears GET_PARAMETER rtsp://h/b.mpg RTSP/1.0|CSeq: 3|Content-Length: 8||x-Booked
+slot 2
+slot 3
+serve
+answers SETUP and PLAY
+sends the report
+says RTSP/1.0 200 OK|CSeq: 3|Content-Type: text/parameters|Content-Length: 35||x-Now: 0|x-Slot: 1|\
+x-Booked: 35|
+sends the first picture
+ends Ended 0
+journal
+0 seat=0 play slot=0 slots=4 bytes=141 admitted start=1
+1 seat=0 look slot=1 looked now=0 at=1 booked=35
+2 seat=0 halt number=0 keep=106 halted
+calendar from=0
+at 1 booked=35
+at 2 booked=35
+at 3 booked=36
+end";
+
+/// Input that ends a connection.
+const ENDS: &str = "\
+50000 1024
+# a head without an empty line, and a body that is too long
+fill 16383
+serve
+ends Ended 0
+fill 16384
+serve
+ends HeadTooLong 0
+hears GET_PARAMETER rtsp://h/b.mpg RTSP/1.0|CSeq: 1|Content-Length: 65537||
+serve
+ends BodyTooLong 0
+journal
+calendar from=0
+end
+
+50000 1024
+# requests that wait for the report's end fill the room for input
+asks SETUP and PLAY
+slot 1
+hears GET_PARAMETER rtsp://h/b.mpg RTSP/1.0|CSeq: 3||
+hears GET_PARAMETER rtsp://h/b.mpg RTSP/1.0|CSeq: 4|Content-Length: 65536||
+fill 65536
+hears GET_PARAMETER rtsp://h/b.mpg RTSP/1.0|CSeq: 5|Content-Length: 65536||
+fill 65536
+slot 2
+serve
+answers SETUP and PLAY
+sends 24010030 80c80006 01020304 00000000 00000000 00000000 00000000 00000000 81ca00
+ends TooMuchInput 0
+journal
+0 seat=0 play slot=0 slots=4 bytes=141 admitted start=1
+1 seat=0 halt number=0 keep=35 halted
+calendar from=0
+at 1 booked=35
+end
+
+50000 1024
+# the third send fails, of the report's first 35 bytes: the booking keeps what is due
+asks SETUP and PLAY
+slot 1
+slot 2
+serve 3
+answers SETUP and PLAY
+ends LinkFault 0
+journal
+0 seat=0 play slot=0 slots=4 bytes=141 admitted start=1
+1 seat=0 halt number=0 keep=35 halted
+calendar from=0
+at 1 booked=35
+end
+
+50000 2
+# a journal of two entries has room for a play and its halt; what waits after a TEARDOWN isn't heard
+asks SETUP and PLAY
+hears PAUSE rtsp://h/b.mpg RTSP/1.0|CSeq: 3|Session: 0123456789abcdef||
+hears PLAY rtsp://h/b.mpg RTSP/1.0|CSeq: 4|Session: 0123456789abcdef||
+hears GET_PARAMETER rtsp://h/b.mpg RTSP/1.0|CSeq: 5|Content-Length: 8||x-Booked
+hears TEARDOWN rtsp://h/b.mpg RTSP/1.0|CSeq: 6|Session: 0123456789ABCDEF;timeout=60||OPTIONS * \
+RTSP/1.0|CSeq: 7||
+serve
+answers SETUP and PLAY
+says RTSP/1.0 200 OK|CSeq: 3|Session: 0123456789abcdef||
+says RTSP/1.0 503 Service Unavailable|CSeq: 4|x-Entries: 2|x-Open: 0||
+says RTSP/1.0 503 Service Unavailable|CSeq: 5|x-Entries: 2|x-Open: 0||
+says RTSP/1.0 200 OK|CSeq: 6|Session: 0123456789abcdef||
+ends TornDown 0
+journal
+0 seat=0 play slot=0 slots=4 bytes=141 admitted start=1
+1 seat=0 halt number=0 keep=0 halted
+calendar from=0
+end";
+
+/// An ordinary session of a film of ten seconds.
+const NEWS: &str = "\
+50000 1024
+hears OPTIONS * RTSP/1.0|CSeq: 1||DESCRIBE rtsp://127.0.0.1:8554/news.mpg RTSP/1.0|CSeq: 2||
+hears SETUP rtsp://127.0.0.1:8554/news.mpg/video RTSP/1.0|CSeq: 3|Transport: RTP/AVP;unicast;\
+client_port=5000-5001||
+hears SETUP rtsp://127.0.0.1:8554/news.mpg/video RTSP/1.0|CSeq: 4|Transport: RTP/AVP/TCP;unicast;\
+interleaved=0-1||
+hears PLAY rtsp://127.0.0.1:8554/news.mpg RTSP/1.0|CSeq: 5|Session: 0123456789abcdef|Range: \
+npt=0.000-||
+slots 1 100
+# a receiver report, in two parts
+gets 24 01 0008 80c9
+gets 0001 00000000
+slots 101 275
+hears GET_PARAMETER rtsp://127.0.0.1:8554/news.mpg RTSP/1.0|CSeq: 6|Session: 0123456789abcdef||
+hears TEARDOWN rtsp://127.0.0.1:8554/news.mpg RTSP/1.0|CSeq: 7|Session: 0123456789abcdef||
+serve
+says RTSP/1.0 200 OK|CSeq: 1|Public: OPTIONS, DESCRIBE, SETUP, PLAY, PAUSE, TEARDOWN, \
+GET_PARAMETER||
+says RTSP/1.0 200 OK|CSeq: 2|Content-Base: rtsp://127.0.0.1:8554/news.mpg/|Content-Type: \
+application/sdp|Content-Length: 142||\
+v=0|o=- 0 0 IN IP4 127.0.0.1|s=news.mpg|c=IN IP4 0.0.0.0|t=0 0|a=control:*|a=range:npt=0-10.000|\
+m=video 0 RTP/AVP 32|a=control:video|
+says RTSP/1.0 461 Unsupported Transport|CSeq: 3||
+says RTSP/1.0 200 OK|CSeq: 4|Transport: RTP/AVP/TCP;unicast;interleaved=0-1;ssrc=01020304|\
+Session: 0123456789abcdef||
+says RTSP/1.0 200 OK|CSeq: 5|Session: 0123456789abcdef|Range: npt=0.000-10.000|\
+RTP-Info: url=rtsp://127.0.0.1:8554/news.mpg/video;seq=1;rtptime=0|x-Start: 1||
+film
+says RTSP/1.0 200 OK|CSeq: 6||RTSP/1.0 200 OK|CSeq: 7|Session: 0123456789abcdef||
+ends TornDown 0";
+
+/// A play of the film of two pictures in the slots 1, 2 and 5, and its end.
+const FAILS: &str = "\
+hears SETUP rtsp://h/b.mpg RTSP/1.0|CSeq: 1|Transport: RTP/AVP/TCP|x-Startup: 2||PLAY \
+rtsp://h/b.mpg RTSP/1.0|CSeq: 2|Session: 0123456789abcdef||
+slot 1
+slot 2
+slot 5
+hears TEARDOWN rtsp://h/b.mpg RTSP/1.0|CSeq: 3|Session: 0123456789abcdef||";
+
+/// What stays of an ended connection: its report, with a receipt for each answer of the station and
+/// a note, with a plan, for each play. A connection that set up, played and tore down leaves a
+/// report, two receipts, a note and the segments of its plan.
+const _: () = prove!(size_of::<ConnReport>() == 112);
+
+const _: () = prove!(size_of::<Receipt>() <= 48);
+
+const _: () = prove!(size_of::<PlayNote>() == 128);
+
+const _: () = prove!(size_of::<Segment>() == 16);
+
+/// The slot that was heard before each send, from the first: two replies, a send in slot 1, two in
+/// slot 2, four in slot 5, a reply.
+const SENDS: [u64; 10] = [0, 0, 1, 2, 2, 5, 5, 5, 5, 5];
+
+/// The slot that was heard before each event.
+const NEXTS: [u64; 5] = [0, 0, 1, 2, 5];
+
+/// Serves a connection whose send or event of that number fails, after that slot was heard, or
+/// where none fails.
+fn fail_at<R: Wait + Abort>(
+    rt: &R,
+    alloc: Global,
+    films: &[Stored],
+    failing: Failing<'_>,
+    heard: Option<u64>,
+) -> Result<(), NoMemory>
+    requires { AreFilms films.now }
+{
+    let (station, mut seat) = station_of(rt, alloc, 50_000, 1_024)?;
+    let mut visit = Visit::new(alloc);
+    for line in FAILS.lines() {
+        visit.push(rt, alloc, line)?;
+    }
+    visit.serve(rt, alloc, &station, &mut seat, films, failing)?;
+    let end = match heard {
+        Some(_) => ConnEnd::LinkFault,
+        None => ConnEnd::TornDown,
+    };
+    assert_eq!(rt; visit.end, end);
+    check_book(rt, &station.close(seat), heard.unwrap_or(5));
+    Ok(())
+}
+
+/// One halt for each admission, and nothing booked after a slot.
+fn check_book<R: Abort>(rt: &R, book: &Book, heard: u64) {
+    let halted = book
+        .entries()
+        .iter()
+        .filter(|entry| entry.answer == Answer::Halted);
+    assert_eq!(rt; halted.count() * 2, book.entries().len());
+    assert_eq!(rt; book.calendar().now(), 0);
+    for slot in 0..20 {
+        let booked = book.calendar().booked(slot);
+        assert!(rt;
+            slot <= heard || booked == 0,
+            "booked at {slot} after {heard}"
+        );
+    }
+}
+
+fn fail_everywhere<R: Wait + Abort>(rt: &R, alloc: Global) -> Result<(), NoMemory> {
+    let films = server_films(rt, alloc)?;
+    for number in 1..=11 {
+        let failing = Failing {
+            sends: &[number],
+            nexts: &[],
+        };
+        let heard = SENDS.get(number as usize - 1).copied();
+        fail_at(rt, alloc, &films, failing, heard)?;
+    }
+    for number in 1..=6 {
+        let failing = Failing {
+            sends: &[],
+            nexts: &[number],
+        };
+        let heard = NEXTS.get(number as usize - 1).copied();
+        fail_at(rt, alloc, &films, failing, heard)?;
+    }
+    Ok(())
+}
+
+/// Runs a script. Where memory is refused, that is said by its name, and the script runs once more.
+fn passes<R: Wait + Abort>(rt: &R, alloc: Global, script: &'static str) -> Result<(), Fail> {
+    if serve_script(rt, alloc, script).is_err() {
+        serve_script(rt, alloc, script)?;
+    }
+    Ok(())
+}
+
+#[test]
+fn serves_plays(rt: HostRuntime) -> Result<(), Fail> {
+    passes(&rt, rt.alloc(), PLAYS)
+}
+
+#[test]
+fn ends_connections(rt: HostRuntime) -> Result<(), Fail> {
+    passes(&rt, rt.alloc(), ENDS)
+}
+
+#[test]
+fn serves_a_film(rt: HostRuntime) -> Result<(), Fail> {
+    passes(&rt, rt.alloc(), NEWS)
+}
+
+#[test]
+fn ends_at_a_failing_call(rt: HostRuntime) -> Result<(), Fail> {
+    if fail_everywhere(&rt, rt.alloc()).is_err() {
+        fail_everywhere(&rt, rt.alloc())?;
+    }
+    Ok(())
+}

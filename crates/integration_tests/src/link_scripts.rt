@@ -1,0 +1,333 @@
+//! Connections over links in memory by a script, one after another at one station.
+
+ghost use Rattle.std.specs.Prelude.{◌≡◌, IfOk};
+ghost use Rattle.session.specs.SettingRanges.{AreFilms};
+ghost use Rattle.station.specs.Seats.{IsSameSeat, first_seat};
+
+use crate::script_text::{bytes_of, compare_front, message_of, numbers_of, word_and_rest};
+use crate::session_scripts::{SETTINGS, WORDS};
+use admission::{Answer, Book, Command, Entry, MAX_ENTRIES};
+use conn::{ConnEnd, serve_connection};
+use film_frames::Stored;
+use report::calendar_text;
+use slot_calendar::Profile;
+use station::{Seat, Station};
+use std::alloc::{AllocError, Global};
+use std::process::Abort;
+use std::sync::Wait;
+use vod_base::{Event, MemoryLink, NoMemory};
+
+/// What a connection hears, and what came of it.
+#[derive(Drop)]
+pub(crate) struct Visit {
+    pub(crate) events: Vec<Event>,
+    pub(crate) end: ConnEnd,
+    pub(crate) late: u64,
+    pub(crate) sent: Vec<u8>,
+    read: usize,
+}
+
+/// The calls of a link that are to fail, by their numbers from 1.
+#[derive(Clone, Copy)]
+pub(crate) struct Failing<'a> {
+    pub(crate) sends: &'a [u64],
+    pub(crate) nexts: &'a [u64],
+}
+
+/// Whether a reply tells out of memory.
+fn has_refusal(sent: &[u8]) -> bool {
+    sent.windows(13)
+        .any(|part| part == b"RTSP/1.0 500 ".as_slice())
+}
+
+impl Visit {
+    pub(crate) fn new(alloc: Global) -> Visit {
+        Visit {
+            events: Vec::new(alloc),
+            end: ConnEnd::NoMemory,
+            late: 0,
+            sent: Vec::new(alloc),
+            read: 0,
+        }
+    }
+
+    /// Serves the connection that hears the events. Want of memory is its end, or a reply 500.
+    pub(crate) fn serve<R: Wait + Abort>(
+        &mut self,
+        rt: &R,
+        alloc: Global,
+        station: &Station,
+        seat: &mut Seat,
+        films: &[Stored],
+        failing: Failing<'_>,
+    ) -> Result<(), NoMemory>
+        requires seat { seat.old.id ≡ station.now.id }
+        requires films { AreFilms films.now }
+        ensures { IsSameSeat seat.old seat.new }
+    {
+        let events = std::mem::replace(&mut self.events, Vec::new(alloc));
+        let sends = Vec::from_slice(alloc, failing.sends)?;
+        let nexts = Vec::from_slice(alloc, failing.nexts)?;
+        let mut link = MemoryLink::new(alloc, events, 1 << 20, sends, nexts)?;
+        let report = serve_connection(
+            rt, alloc, station, seat, films, &SETTINGS, WORDS, 0, &mut link,
+        );
+        self.end = report.end;
+        self.late = report.late;
+        self.sent = Vec::from_slice(alloc, link.sent())?;
+        self.read = 0;
+        if self.end == ConnEnd::NoMemory || has_refusal(&self.sent) {
+            return Err(NoMemory);
+        }
+        Ok(())
+    }
+
+    fn unread(&self) -> &[u8] {
+        self.sent.get(self.read..).unwrap_or(&[])
+    }
+
+    /// Reads what was sent next, which is to be this.
+    fn read<R: Abort>(&mut self, rt: &R, alloc: Global, want: &[u8]) -> Result<(), NoMemory> {
+        compare_front(rt, alloc, self.unread(), want)?;
+        self.read = self.read.saturating_add(want.len());
+        Ok(())
+    }
+
+    /// Reads the blocks that were sent next, of which those of channel 0 are to hold these bytes.
+    fn read_film<R: Abort>(&mut self, rt: &R, alloc: Global, film: &[u8]) -> Result<(), NoMemory> {
+        let mut payloads = Vec::new(alloc);
+        for _ in 0..self.sent.len() {
+            let [b'$', channel, high, low, after @ ..] = self.unread() else {
+                break;
+            };
+            let length = usize::from(*high) * 256 + usize::from(*low);
+            if *channel == 0 {
+                payloads.extend_from_slice(after.get(16..length).unwrap_or(&[]))?;
+            }
+            self.read = self.read.saturating_add(4 + length);
+        }
+        assert!(rt; payloads.as_slice() == film, "another film");
+        Ok(())
+    }
+
+    /// Adds what is heard: a text, in which `|` stands for CR LF, bytes, a byte so many times, or
+    /// slots.
+    pub(crate) fn push<R: Abort>(
+        &mut self,
+        rt: &R,
+        alloc: Global,
+        line: &str,
+    ) -> Result<(), NoMemory> {
+        let (word, rest) = word_and_rest(line);
+        if word == "hears" {
+            self.events.push(Event::Bytes(message_of(alloc, rest)?))?;
+        } else if word == "fill" {
+            let filled = vec![in alloc; b'x'; numbers_of(rest)[0] as usize]?;
+            self.events.push(Event::Bytes(filled))?;
+        } else if word == "gets" {
+            self.events.push(Event::Bytes(bytes_of(rt, alloc, rest)?))?;
+        } else if word == "slots" {
+            let [first, last, _, _] = numbers_of(rest);
+            for slot in first..=last {
+                self.events.push(Event::Slot(slot))?;
+            }
+        } else {
+            assert!(rt; word == "slot", "no such line: {line}");
+            self.events.push(Event::Slot(numbers_of(rest)[0]))?;
+        }
+        Ok(())
+    }
+
+    /// Processes a line on what was sent.
+    fn check<R: Abort>(
+        &mut self,
+        rt: &R,
+        alloc: Global,
+        films: &[Stored],
+        line: &str,
+    ) -> Result<bool, NoMemory> {
+        let (word, rest) = word_and_rest(line);
+        if word == "says" {
+            let want = message_of(alloc, rest)?;
+            self.read(rt, alloc, &want)?;
+        } else if word == "sends" {
+            let want = bytes_of(rt, alloc, rest)?;
+            self.read(rt, alloc, &want)?;
+        } else if word == "film" {
+            assert!(rt; films.len() == 2);
+            self.read_film(rt, alloc, &films[1].film.bytes)?;
+        } else if word == "ends" {
+            assert!(rt; self.unread().is_empty(), "unread at {line}");
+            let end = format!(in alloc; "{:?} {}", self.end, self.late)?;
+            assert_eq!(rt; end.as_str(), rest);
+        } else {
+            return Ok(false);
+        }
+        Ok(true)
+    }
+
+    /// Processes a script's line.
+    fn take<R: Wait + Abort>(
+        &mut self,
+        rt: &R,
+        alloc: Global,
+        station: &Station,
+        seat: &mut Seat,
+        films: &[Stored],
+        line: &str,
+    ) -> Result<(), NoMemory>
+        requires seat { seat.old.id ≡ station.now.id }
+        requires films { AreFilms films.now }
+        ensures { IsSameSeat seat.old seat.new }
+    {
+        let (word, rest) = word_and_rest(line);
+        if word == "serve" {
+            let [number, ..] = numbers_of(rest);
+            let failing = Failing {
+                sends: &[number],
+                nexts: &[],
+            };
+            return self.serve(rt, alloc, station, seat, films, failing);
+        }
+        if line.starts_with('#') || line.is_empty() || self.check(rt, alloc, films, line)? {
+            return Ok(());
+        }
+        self.push(rt, alloc, line)
+    }
+}
+
+/// A station of a link of that capacity, whose journal has room for so many entries.
+pub(crate) fn station_of<R: Abort>(
+    rt: &R,
+    alloc: Global,
+    capacity: u64,
+    limit: u64,
+) -> Result<(Station, Seat), NoMemory>
+    ensures { IfOk result (λ made. made.1 ≡ first_seat made.0) }
+{
+    assert!(rt; 2 <= limit && limit <= MAX_ENTRIES && capacity <= 1 << 42);
+    Station::new(alloc, Profile::flat(alloc, capacity)?, limit)
+}
+
+/// The line of an entry, as a journal has it.
+fn push_entry(
+    alloc: Global,
+    text: &mut String,
+    place: usize,
+    entry: &Entry,
+) -> Result<(), AllocError> {
+    let front = format!(in alloc; "{place} seat={}", entry.maker)?;
+    text.push_str(&front)?;
+    let asked = match &entry.command {
+        Command::Play { slot, plan } => {
+            format!(in alloc;
+                " play slot={slot} slots={} bytes={}",
+                plan.slots(),
+                plan.bytes()
+            )?
+        }
+        Command::Halt { number, keep } => format!(in alloc; " halt number={number} keep={keep}")?,
+        Command::Look { slot } => format!(in alloc; " look slot={slot}")?,
+    };
+    text.push_str(&asked)?;
+    let told = match entry.answer {
+        Answer::Admitted { start } => format!(in alloc; " admitted start={start}\n")?,
+        Answer::Overflow {
+            slot,
+            booked,
+            asked,
+        } => format!(in alloc; " overflow slot={slot} booked={booked} asked={asked}\n")?,
+        Answer::Halted => format!(in alloc; " halted\n")?,
+        Answer::Looked { now, at, booked } => {
+            format!(in alloc; " looked now={now} at={at} booked={booked}\n")?
+        }
+    };
+    text.push_str(&told)
+}
+
+/// The journal and the calendar of a book.
+fn journal_of(alloc: Global, book: &Book) -> Result<Vec<u8>, NoMemory> {
+    let mut text = String::new(alloc);
+    for (place, entry) in book.entries().iter().enumerate() {
+        push_entry(alloc, &mut text, place, entry)?;
+    }
+    let mut bytes = Vec::from_slice(alloc, text.as_bytes())?;
+    calendar_text(book.calendar(), &mut bytes)?;
+    Ok(bytes)
+}
+
+/// Serves the connections of a scene at a station.
+fn visit_station<R: Wait + Abort>(
+    rt: &R,
+    alloc: Global,
+    station: &Station,
+    seat: &mut Seat,
+    films: &[Stored],
+    lines: &str,
+) -> Result<(), NoMemory>
+    requires seat { seat.old.id ≡ station.now.id }
+    requires films { AreFilms films.now }
+    ensures { IsSameSeat seat.old seat.new }
+{
+    let mut visit = Visit::new(alloc);
+    for line in lines.lines() {
+        visit.take(rt, alloc, station, seat, films, line)?;
+    }
+    assert!(rt;
+        visit.events.is_empty() && visit.unread().is_empty(),
+        "left over: {lines}"
+    );
+    Ok(())
+}
+
+/// Serves the connections of a scene, and compares the journal that they leave, if one is given.
+fn visit_all<R: Wait + Abort>(
+    rt: &R,
+    alloc: Global,
+    films: &[Stored],
+    head: &str,
+    lines: &str,
+    journal: Option<&str>,
+) -> Result<(), NoMemory>
+    requires { AreFilms films.now }
+{
+    let [capacity, limit, _, _] = numbers_of(head);
+    let (station, mut seat) = station_of(rt, alloc, capacity, limit)?;
+    visit_station(rt, alloc, &station, &mut seat, films, lines)?;
+    let book = station.close(seat);
+    let text = journal_of(alloc, &book)?;
+    if let Some(journal) = journal {
+        assert!(rt;
+            text.strip_suffix(b"\n") == Some(journal.as_bytes()),
+            "{}",
+            String::from_utf8_lossy(alloc, &text)?
+        );
+    }
+    Ok(())
+}
+
+/// Runs scenes, which empty lines part. A scene has a line with the station's capacity and the room
+/// of its journal; for each connection what it hears (`hears TEXT`, `gets BYTES`, `fill NUMBER`,
+/// `slot NUMBER`, `slots FIRST LAST`), `serve`, or `serve NUMBER` where the send of that number
+/// fails, and what was sent (`says REPLY`, `sends BYTES`, `film`), up to `ends END LATE`; and after
+/// a line `journal`, if it has one, the journal and the calendar.
+pub(crate) fn serve_all<R: Wait + Abort>(
+    rt: &R,
+    alloc: Global,
+    films: &[Stored],
+    script: &str,
+) -> Result<(), NoMemory>
+    requires { AreFilms films.now }
+{
+    for scene in script.split("\n\n") {
+        let (talks, journal) = match scene.split_once("\njournal\n") {
+            Some((talks, journal)) => (talks, Some(journal)),
+            None => (scene, None),
+        };
+        let Some((head, lines)) = talks.split_once('\n') else {
+            return Err(NoMemory);
+        };
+        visit_all(rt, alloc, films, head, lines, journal)?;
+    }
+    Ok(())
+}

@@ -1,7 +1,0 @@
-use Rattle.interleave.proofs.Streams.{TwoCuts, cuts_agree}
-use Rattle.interleave.proofs.laws.law_cuts_agree.Goals as goal
-
-pub returns : goal.returns
-returns c = λ heard one other rest end cut cut'.
-    let cuts : TwoCuts heard one other rest end = record { one = cut; other = cut' } in
-    cuts_agree cuts

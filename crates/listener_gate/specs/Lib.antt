@@ -1,0 +1,5 @@
+pub mod Accepts
+pub mod Codes
+pub mod Histories
+pub mod Listeners
+pub mod Openings

@@ -1,0 +1,375 @@
+//! A gate over a listener.
+
+ghost use Rattle.std.specs.Prelude.{◌≡◌, ◌<◌, ◌≤◌, ◌*◌, ◌+◌, ◌-◌, ◌^◌, ◌++◌, ◌∷◌, [], ◌⊎◌, min};
+ghost use Rattle.std.specs.Prelude.{None, Some, option_map};
+ghost use Rattle.std.specs.Prelude.{IsTrue, IfOk, IfErr, OnOk, OnErr, IfSome, IsSome, IsErr, true};
+ghost use Rattle.std.specs.Prelude.{false};
+ghost use Rattle.vod_base.specs.IoState.{HasRisen, one_more};
+ghost use Rattle.vod_base.specs.Gates.{MaySplit, IsPartOut, HasConnOut, after_open, split_off};
+ghost use Rattle.vod_base.specs.Gates.{new_part, after_take, after_empty_take, after_return};
+ghost use Rattle.vod_base.specs.Gates.{NoMore, Failed, told_rejoined};
+ghost use Rattle.listener_gate.specs.Accepts.{first_wait, longer_wait, IsAcceptedAfter};
+ghost use Rattle.listener_gate.specs.Accepts.{IsGivenUp, FailedTry, failed_try, wait_after};
+ghost use Rattle.listener_gate.specs.Openings.{address_of, MayGive, HasGivenAll};
+ghost use Rattle.listener_gate.specs.Histories.{splits_after};
+
+use crate::histories::{GateHistory, GateNote, PartHistory, PartNote};
+use crate::listeners::{AcceptError, Listener, ListenerDoing, ListenerFault};
+use http_server::Log;
+use vod_base::{Gate, GateFault, Opening};
+
+/// The first wait, in milliseconds, where descriptors or memory are short.
+const FIRST_WAIT: u64 = 10;
+
+/// The longest wait, in milliseconds.
+const LONGEST_WAIT: u64 = 1_000;
+
+/// A gate that takes connections from a listener. It listens at 127.0.0.1, or at 0.0.0.0 where
+/// connections from other machines are taken too.
+///
+/// Each part has a handle to the same listening socket and gives so many connections of its own as
+/// [`Opening`] says. A connection that was lost before it was accepted is passed over. Where
+/// descriptors or memory are short, `take` waits 10 ms, then twice as long each time, at most 1 s,
+/// until an accept succeeds. What else fails is a fault.
+#[derive(Drop)]
+pub struct ListenerGate<L: Listener> {
+    listener: L,
+    is_open: bool,
+    /// The most connections that it gives, or 0 where there is no limit.
+    most: u64,
+    /// How many it gave since it was opened or split off.
+    given: u64,
+    /// The wait for the next shortage, in milliseconds.
+    wait: u64,
+    /// How many parts were split off since it was opened.
+    splits: u32,
+    faults: u64,
+    own: PartHistory<L::Conn>,
+    history: GateHistory<L::Conn>,
+    ghost within: { 0 < most → given ≤ most },
+    ghost counted: { splits ≡ min (splits_after 0 history.items) (2 ^ 32 - 1) },
+}
+
+impl<L: Listener> ListenerGate<L> {
+    /// A gate that isn't open, over a listener that isn't bound.
+    pub fn new(listener: L) -> ListenerGate<L>
+        ensures listener { result.listener ≡ listener }
+        ensures closed { result.is_open ≡ false }
+        ensures wait { result.wait ≡ first_wait }
+        ensures faults { result.faults ≡ 0 }
+        ensures history { (result.own.number ≡ 0) × (result.own.notes.items ≡ [])
+            × (result.history.items ≡ []) }
+    {
+        ListenerGate {
+            listener,
+            is_open: false,
+            most: 0,
+            given: 0,
+            wait: FIRST_WAIT,
+            splits: 0,
+            faults: 0,
+            own: PartHistory::new(0),
+            history: Log::new(),
+        }
+    }
+
+    /// The listener.
+    pub fn listener(&self) -> &L
+        ensures { result.now ≡ self.now.listener }
+    {
+        &self.listener
+    }
+
+    /// Tries to accept a connection. A lost connection is passed over, and a shortage is waited out
+    /// for once.
+    fn try_accept(&mut self) -> Result<Option<L::Conn>, ListenerFault>
+        ensures same { (self.new.faults ≡ self.old.faults) × (self.new.is_open ≡ self.old.is_open)
+            × (self.new.given ≡ self.old.given) × (self.new.most ≡ self.old.most)
+            × (self.new.splits ≡ self.old.splits) × (self.new.own ≡ self.old.own)
+            × (self.new.history ≡ self.old.history) }
+        ensures count { L.faults self.old.listener ≤ L.faults self.new.listener }
+        ensures accepted { IfOk result (λ tried. IfSome tried (λ conn.
+            (self.new.wait ≡ first_wait)
+            × (IsTrue L.tells → L.did self.new.listener ≡ L.did self.old.listener
+            ++ ListenerDoing.Accepted ∷ []))) }
+        ensures fresh { IfOk result (λ tried. IfSome tried (λ conn. (L.Conn.faults conn ≡ 0)
+            × IfSome (L.Conn.told conn) (λ doings. doings ≡ []))) }
+        ensures failed { IfOk result (λ tried. tried ≡ None → (t : FailedTry)
+            × ((self.new.wait ≡ wait_after t self.old.wait)
+            × (IsTrue L.tells → L.did self.new.listener ≡ L.did self.old.listener
+            ++ failed_try self.old.wait t))) }
+        ensures lost { OnErr result (IsTrue L.tells →
+            (L.did self.new.listener ≡ L.did self.old.listener)
+            ⊎ (L.did self.new.listener ≡ L.did self.old.listener ++ ListenerDoing.ShortageError ∷
+            [])) }
+        ensures fault { OnErr result
+            (HasRisen (L.faults self.old.listener) (L.faults self.new.listener)) }
+    {
+        match self.listener.accept() {
+            Ok(conn) => {
+                self.wait = FIRST_WAIT;
+                Ok(Some(conn))
+            }
+            Err(AcceptError::Transient) => Ok(None),
+            Err(AcceptError::Shortage) => self.wait_out(),
+            Err(AcceptError::Broken) => Err(ListenerFault),
+        }
+    }
+
+    /// Waits for once where descriptors or memory are short, and makes the next wait longer.
+    fn wait_out<C>(&mut self) -> Result<Option<C>, ListenerFault>
+        ensures same { (self.new.faults ≡ self.old.faults) × (self.new.is_open ≡ self.old.is_open)
+            × (self.new.given ≡ self.old.given) × (self.new.most ≡ self.old.most)
+            × (self.new.splits ≡ self.old.splits) × (self.new.own ≡ self.old.own)
+            × (self.new.history ≡ self.old.history) }
+        ensures none { IfOk result (λ none. none ≡ None) }
+        ensures wait { OnOk result (self.new.wait ≡ longer_wait self.old.wait) }
+        ensures count { L.faults self.old.listener ≤ L.faults self.new.listener }
+        ensures waited { OnOk result (IsTrue L.tells →
+            L.did self.new.listener ≡ L.did self.old.listener ++ ListenerDoing.Waited self.old.wait
+            ∷ []) }
+        ensures lost { OnErr result (IsTrue L.tells →
+            L.did self.new.listener ≡ L.did self.old.listener) }
+        ensures fault { OnErr result
+            (HasRisen (L.faults self.old.listener) (L.faults self.new.listener)) }
+    {
+        match self.listener.wait(self.wait) {
+            Ok(()) => {
+                self.wait = self.wait.min(LONGEST_WAIT / 2) * 2;
+                Ok(None)
+            }
+            Err(fault) => Err(fault),
+        }
+    }
+
+    /// Accepts a connection. Lost connections are passed over, and shortages are waited out.
+    fn accept(&mut self) -> Result<L::Conn, ListenerFault>
+        ensures same { (self.new.faults ≡ self.old.faults) × (self.new.is_open ≡ self.old.is_open)
+            × (self.new.given ≡ self.old.given) × (self.new.most ≡ self.old.most)
+            × (self.new.splits ≡ self.old.splits) × (self.new.own ≡ self.old.own)
+            × (self.new.history ≡ self.old.history) }
+        ensures wait { OnOk result (self.new.wait ≡ first_wait) }
+        ensures accepted { OnOk result (IsTrue L.tells →
+            IsAcceptedAfter self.old.wait (L.did self.old.listener) (L.did self.new.listener)) }
+        ensures fresh { IfOk result (λ conn. (L.Conn.faults conn ≡ 0)
+            × IfSome (L.Conn.told conn) (λ doings. doings ≡ [])) }
+        ensures given_up { OnErr result
+            (IsGivenUp self.old.wait (L.faults self.old.listener) (L.faults self.new.listener)
+            L.tells (L.did self.old.listener) (L.did self.new.listener)) }
+    {
+        for _n in 0..u64::MAX {
+            match self.try_accept() {
+                Ok(Some(conn)) => return Ok(conn),
+                Ok(None) => {}
+                Err(fault) => return Err(fault),
+            }
+        }
+        Err(ListenerFault)
+    }
+}
+
+impl<L: Listener + Drop> Gate for ListenerGate<L> {
+    ghost use Rattle.listener_gate.specs.Histories.{told_if, content_with, shared_after};
+    ghost use Rattle.listener_gate.specs.Histories.{none_shared, part_after};
+    ghost use Rattle.vod_base.specs.Gates.{fresh_part};
+
+    type Conn = L::Conn;
+
+    ghost faults = { λ g. g.faults };
+
+    ghost told = { λ g. told_if L.tells (content_with
+        (shared_after (λ p. part_after L.Conn.faults L.Conn.told (fresh_part p.number)
+        p.notes.items)
+        none_shared g.history.items)
+        (part_after L.Conn.faults L.Conn.told (fresh_part g.own.number) g.own.notes.items)) };
+
+    fn open(&mut self, how: &Opening) -> Result<(), GateFault>
+        ensures count { self.old.faults ≤ self.new.faults }
+        ensures fault { OnErr result (HasRisen self.old.faults self.new.faults) }
+        ensures open { OnOk result (⟦<ListenerGate<L> as Gate>⟧.told self.new ≡
+            option_map (after_open (Some how.now)) (⟦<ListenerGate<L> as Gate>⟧.told self.old)) }
+        ensures lost { OnErr result (⟦<ListenerGate<L> as Gate>⟧.told self.new ≡
+            option_map (after_open None) (⟦<ListenerGate<L> as Gate>⟧.told self.old)) }
+        ensures bound { OnOk result (IsTrue L.tells →
+            L.did self.new.listener ≡ L.did self.old.listener
+            ++ ListenerDoing.Bound (address_of how.now) how.now.port how.now.slot_units ∷ []) }
+        ensures begun { OnOk result ((self.new.is_open ≡ true)
+            × (self.new.most ≡ how.now.connections) × (self.new.given ≡ 0)) }
+        ensures closed { OnErr result (self.new.is_open ≡ false) }
+        ensures cause { OnErr result
+            (HasRisen (L.faults self.old.listener) (L.faults self.new.listener)) }
+    {
+        self.is_open = false;
+        match self
+            .listener
+            .bind(address_of(how), how.port, how.slot_units)
+        {
+            Ok(()) => {
+                self.is_open = true;
+                self.most = how.connections;
+                self.given = 0;
+                self.splits = 0;
+                self.history = self.history.and(&None, &GateNote::Opened(*how));
+                Ok(())
+            }
+            Err(ListenerFault) => {
+                self.splits = 0;
+                self.faults = self.faults.saturating_add(1);
+                self.history = self.history.and(&None, &GateNote::NotOpened);
+                Err(GateFault)
+            }
+        }
+    }
+
+    fn split(&mut self) -> Result<ListenerGate<L>, GateFault>
+        requires may { IfSome (⟦<ListenerGate<L> as Gate>⟧.told self.old) MaySplit }
+        ensures count { self.old.faults ≤ self.new.faults }
+        ensures fault { OnErr result (HasRisen self.old.faults self.new.faults) }
+        ensures split { OnOk result (⟦<ListenerGate<L> as Gate>⟧.told self.new ≡ option_map
+            split_off (⟦<ListenerGate<L> as Gate>⟧.told self.old)) }
+        ensures part { IfOk result (λ part.
+            (⟦<ListenerGate<L> as Gate>⟧.told part ≡ option_map new_part (⟦<ListenerGate<L> as Gate>⟧.told self.old))
+            × (part.faults ≡ 0)) }
+        ensures lost { OnErr result (⟦<ListenerGate<L> as Gate>⟧.told self.new ≡ ⟦<ListenerGate<L> as Gate>⟧.told self.old) }
+        ensures copied { OnOk result (IsTrue L.tells →
+            L.did self.new.listener ≡ L.did self.old.listener ++ ListenerDoing.Copied ∷ []) }
+        ensures fresh { IfOk result (λ part. IsTrue L.tells → L.did part.listener ≡ []) }
+        ensures begun { IfOk result (λ part. (part.is_open ≡ true)
+            × (part.most ≡ self.old.most) × (part.given ≡ 0) × (part.wait ≡ first_wait)) }
+        ensures same { (self.new.is_open ≡ self.old.is_open) × (self.new.most ≡ self.old.most)
+            × (self.new.given ≡ self.old.given) }
+        ensures was_open { OnOk result (self.old.is_open ≡ true) }
+        ensures cause { OnErr result ((self.old.is_open ≡ false)
+            ⊎ HasRisen (L.faults self.old.listener) (L.faults self.new.listener)) }
+    {
+        if !self.is_open {
+            self.faults = self.faults.saturating_add(1);
+            return Err(GateFault);
+        }
+        match self.listener.copy() {
+            Ok(listener) => {
+                let number = self.splits;
+                self.splits = number.saturating_add(1);
+                self.history = self.history.and(&None, &GateNote::Split);
+                Ok(ListenerGate {
+                    listener,
+                    is_open: true,
+                    most: self.most,
+                    given: 0,
+                    wait: FIRST_WAIT,
+                    splits: 0,
+                    faults: 0,
+                    own: PartHistory::new(number),
+                    history: Log::new(),
+                })
+            }
+            Err(ListenerFault) => {
+                self.faults = self.faults.saturating_add(1);
+                Err(GateFault)
+            }
+        }
+    }
+
+    fn take(&mut self) -> Result<Option<L::Conn>, GateFault>
+        ensures count { self.old.faults ≤ self.new.faults }
+        ensures fault { OnErr result (HasRisen self.old.faults self.new.faults) }
+        ensures gave { IfOk result (λ taken. IfSome taken (λ conn.
+            ⟦<ListenerGate<L> as Gate>⟧.told self.new ≡ option_map after_take (⟦<ListenerGate<L> as Gate>⟧.told self.old))) }
+        ensures fresh { IfOk result (λ taken. IfSome taken (λ conn. (L.Conn.faults conn ≡ 0)
+            × IfSome (L.Conn.told conn) (λ doings. doings ≡ []))) }
+        ensures none { IfOk result (λ taken. taken ≡ None →
+            ⟦<ListenerGate<L> as Gate>⟧.told self.new ≡ option_map (after_empty_take NoMore)
+            (⟦<ListenerGate<L> as Gate>⟧.told self.old)) }
+        ensures lost { OnErr result (⟦<ListenerGate<L> as Gate>⟧.told self.new ≡
+            option_map (after_empty_take Failed) (⟦<ListenerGate<L> as Gate>⟧.told self.old)) }
+        // a connection is given where fewer than all were given, and accepted after the waits that
+        // are due
+        ensures may { IfOk result (λ taken. IfSome taken (λ conn.
+            MayGive self.old.most self.old.given)) }
+        ensures counted { IfOk result (λ taken. IfSome taken (λ conn.
+            self.new.given ≡ one_more self.old.given)) }
+        ensures accepted { IfOk result (λ taken. IfSome taken (λ conn. IsTrue L.tells →
+            IsAcceptedAfter self.old.wait (L.did self.old.listener) (L.did self.new.listener))) }
+        ensures wait { IfOk result (λ taken. IfSome taken (λ conn. self.new.wait ≡ first_wait)) }
+        // none is given where all were given, and the listener does nothing
+        ensures all { IfOk result (λ taken. taken ≡ None →
+            HasGivenAll self.old.most self.old.given) }
+        ensures idle { IfOk result (λ taken. taken ≡ None →
+            (self.new.listener ≡ self.old.listener) × (self.new.wait ≡ self.old.wait)) }
+        ensures same { (self.new.is_open ≡ self.old.is_open) × (self.new.most ≡ self.old.most) }
+        ensures was_open { OnOk result (self.old.is_open ≡ true) }
+        // a fault comes where the gate isn't open, or of the listener
+        ensures cause { OnErr result ((self.old.is_open ≡ false)
+            ⊎ IsGivenUp self.old.wait (L.faults self.old.listener) (L.faults self.new.listener)
+            L.tells (L.did self.old.listener) (L.did self.new.listener)) }
+    {
+        if !self.is_open {
+            self.faults = self.faults.saturating_add(1);
+            self.own.note(&None, PartNote::Failed);
+            return Err(GateFault);
+        }
+        if self.most > 0 && self.given >= self.most {
+            self.own.note(&None, PartNote::NoMore);
+            return Ok(None);
+        }
+        match self.accept() {
+            Ok(conn) => {
+                self.given = self.given.saturating_add(1);
+                self.own.note(&None, PartNote::Gave);
+                Ok(Some(conn))
+            }
+            Err(ListenerFault) => {
+                self.faults = self.faults.saturating_add(1);
+                self.own.note(&None, PartNote::Failed);
+                Err(GateFault)
+            }
+        }
+    }
+
+    fn give_back(&mut self, conn: L::Conn)
+        requires out { IfSome (⟦<ListenerGate<L> as Gate>⟧.told self.old) HasConnOut }
+        ensures count { self.old.faults ≤ self.new.faults }
+        ensures back { ⟦<ListenerGate<L> as Gate>⟧.told self.new ≡
+            option_map (after_return (record {
+              faults = L.Conn.faults conn;
+              told = L.Conn.told conn;
+            })) (⟦<ListenerGate<L> as Gate>⟧.told self.old) }
+        ensures ended { IsTrue L.tells →
+            (L.did self.new.listener ≡ L.did self.old.listener)
+            × (L.ended self.new.listener ≡ one_more (L.ended self.old.listener)) }
+    {
+        let back = Some(conn);
+        self.own.note(&back, PartNote::CameBack);
+        if let Some(conn) = back {
+            self.listener.end(conn);
+        }
+    }
+
+    fn rejoin(&mut self, part: ListenerGate<L>)
+        requires out { IfSome (⟦<ListenerGate<L> as Gate>⟧.told self.old) (λ c.
+            IfSome (⟦<ListenerGate<L> as Gate>⟧.told part) (λ p. IsPartOut p.own.number c)) }
+        ensures count { self.old.faults ≤ self.new.faults }
+        ensures risen { 0 < part.faults → HasRisen self.old.faults self.new.faults }
+        ensures joined { ⟦<ListenerGate<L> as Gate>⟧.told self.new ≡
+            told_rejoined (⟦<ListenerGate<L> as Gate>⟧.told part) (⟦<ListenerGate<L> as Gate>⟧.told
+            self.old) }
+        ensures same { (self.new.listener ≡ self.old.listener)
+            × (self.new.is_open ≡ self.old.is_open) × (self.new.most ≡ self.old.most)
+            × (self.new.given ≡ self.old.given) × (self.new.wait ≡ self.old.wait) }
+    {
+        let ListenerGate { own, faults, .. } = part;
+        self.faults = self.faults.saturating_add(faults);
+        self.history = self.history.and(&Some(own), &GateNote::CameBack);
+    }
+}
+
+/// The address that a gate listens at.
+fn address_of(how: &Opening) -> [u8; 4]
+    ensures { result ≡ address_of how.now }
+{
+    if how.all {
+        [0, 0, 0, 0]
+    } else {
+        [127, 0, 0, 1]
+    }
+}

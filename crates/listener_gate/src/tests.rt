@@ -1,0 +1,177 @@
+//! Over a listener in memory.
+
+use super::*;
+use std::alloc::{AllocError, Global};
+use std::test::Fail;
+use vod_base::{Gate, GateFault, Opening};
+
+const HOW: Opening = Opening {
+    port: 554,
+    all: false,
+    connections: 3,
+    slot_units: 14_400,
+};
+
+/// What an accept gives: a connection that says nothing, or an error.
+#[derive(Clone, Copy)]
+enum Give {
+    Conn,
+    Fails(AcceptError),
+}
+
+const LOST: Give = Give::Fails(AcceptError::Transient);
+
+const SHORT: Give = Give::Fails(AcceptError::Shortage);
+
+const BROKEN: Give = Give::Fails(AcceptError::Broken);
+
+/// A listener whose accepts give these, and of which one call fails, if any.
+fn listener_of(
+    alloc: Global,
+    gives: &[Give],
+    failing: Option<u64>,
+) -> Result<MemoryListener, AllocError> {
+    let mut accepts = Vec::new(alloc);
+    for give in gives {
+        accepts.push(match give {
+            Give::Conn => Ok(Vec::new(alloc)),
+            Give::Fails(error) => Err(*error),
+        })?;
+    }
+    let mut calls = Vec::new(alloc);
+    if let Some(call) = failing {
+        calls.push(call)?;
+    }
+    Ok(MemoryListener::new(alloc, accepts, Vec::new(alloc), calls))
+}
+
+/// An open gate over such a listener.
+fn open_gate(
+    alloc: Global,
+    gives: &[Give],
+    failing: Option<u64>,
+    how: &Opening,
+) -> Result<ListenerGate<MemoryListener>, Fail> {
+    let mut gate = ListenerGate::new(listener_of(alloc, gives, failing)?);
+    match gate.open(how) {
+        Ok(()) => Ok(gate),
+        Err(GateFault) => Err(Fail::from("not open")),
+    }
+}
+
+/// What a `take` answered: a connection, none, or a fault. A connection goes back.
+fn taken(gate: &mut ListenerGate<MemoryListener>) -> char {
+    match gate.take() {
+        Ok(Some(_conn)) => 'c',
+        Ok(None) => 'n',
+        Err(GateFault) => 'f',
+    }
+}
+
+#[test]
+fn takes_as_many_as_it_may(rt: HostRuntime) -> Result<(), Fail> {
+    let gives = [Give::Conn; 4];
+    for (connections, want) in [(0, "ccccff"), (1, "cnnnnn"), (3, "cccnnn")] {
+        let how = Opening { connections, ..HOW };
+        let mut gate = open_gate(rt.alloc(), &gives, None, &how)?;
+        for answer in want.chars() {
+            assert_eq!(rt; taken(&mut gate), answer, "of {connections}");
+        }
+    }
+    Ok(())
+}
+
+#[test]
+fn waits_out_shortages(rt: HostRuntime) -> Result<(), Fail> {
+    use ListenerDoing::{Accepted, ShortageError, TransientError, Waited};
+    let mut gives = [SHORT; 12];
+    gives[2] = LOST;
+    gives[9] = Give::Conn;
+    gives[11] = Give::Conn;
+    let mut gate = open_gate(rt.alloc(), &gives, None, &HOW)?;
+    assert_eq!(rt; taken(&mut gate), 'c');
+    assert_eq!(rt; taken(&mut gate), 'c');
+    let mut want = Vec::new(rt.alloc());
+    want.push(ListenerDoing::Bound([127, 0, 0, 1], 554, 14_400))?;
+    for (number, ms) in [10, 20, 40, 80, 160, 320, 640, 1_000]
+        .into_iter()
+        .enumerate()
+    {
+        if number == 2 {
+            want.push(TransientError)?;
+        }
+        want.push(ShortageError)?;
+        want.push(Waited(ms))?;
+    }
+    want.push(Accepted)?;
+    want.push(ShortageError)?;
+    want.push(Waited(10))?;
+    want.push(Accepted)?;
+    assert_eq!(rt; gate.listener().doings(), want.as_slice());
+    Ok(())
+}
+
+#[test]
+fn fails_where_the_listener_fails(rt: HostRuntime) -> Result<(), Fail> {
+    // the accept is broken; the wait of the second call fails; the script is at its end
+    for (gives, failing) in [
+        ([LOST, BROKEN].as_slice(), None),
+        ([SHORT, Give::Conn].as_slice(), Some(2)),
+        ([].as_slice(), None),
+    ] {
+        let mut gate = open_gate(rt.alloc(), gives, failing, &HOW)?;
+        assert_eq!(rt; taken(&mut gate), 'f');
+    }
+    let mut gate = ListenerGate::new(listener_of(rt.alloc(), &[Give::Conn], Some(1))?);
+    assert_eq!(rt; taken(&mut gate), 'f', "not open");
+    assert_eq!(rt; gate.open(&HOW), Err(GateFault));
+    assert_eq!(rt; taken(&mut gate), 'f', "not bound");
+    assert_eq!(rt; gate.open(&Opening { all: true, ..HOW }), Ok(()));
+    assert_eq!(rt; taken(&mut gate), 'c');
+    assert_eq!(rt;
+        gate.listener().doings(),
+        [
+            ListenerDoing::Bound([0, 0, 0, 0], 554, 14_400),
+            ListenerDoing::Accepted
+        ]
+        .as_slice()
+    );
+    Ok(())
+}
+
+/// A gate that gives one connection of each part, and whose one part gives two connections.
+fn gate_of_one_part(alloc: Global) -> Result<ListenerGate<MemoryListener>, AllocError> {
+    let mut script = Vec::new(alloc);
+    script.push(Ok(Vec::new(alloc)))?;
+    script.push(Ok(Vec::new(alloc)))?;
+    let mut scripts = Vec::new(alloc);
+    scripts.push(script)?;
+    Ok(ListenerGate::new(MemoryListener::new(alloc, Vec::new(alloc), scripts, Vec::new(alloc))))
+}
+
+#[test]
+fn parts_go_out_and_come_back(rt: HostRuntime) -> Result<(), Fail> {
+    let mut gate = gate_of_one_part(rt.alloc())?;
+    let how = Opening {
+        connections: 1,
+        ..HOW
+    };
+    let Ok(()) = gate.open(&how) else {
+        return Err(Fail::from("not open"));
+    };
+    let Ok(mut part) = gate.split() else {
+        return Err(Fail::from("no part"));
+    };
+    let Ok(Some(conn)) = part.take() else {
+        return Err(Fail::from("no connection"));
+    };
+    part.give_back(conn);
+    assert_eq!(rt; part.listener().ended(), 1);
+    assert_eq!(rt;
+        part.listener().doings(),
+        [ListenerDoing::Accepted].as_slice()
+    );
+    gate.rejoin(part);
+    assert_eq!(rt; gate.listener().doings().len(), 2);
+    Ok(())
+}

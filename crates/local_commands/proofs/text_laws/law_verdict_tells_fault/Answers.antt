@@ -1,8 +1,0 @@
-use Rattle.local_commands.proofs.TextReading.{fault_told, not_least}
-use Rattle.local_commands.proofs.text_laws.law_verdict_tells_fault.Goals as goal
-
-pub returns-clause-tells : goal.returns-clause-tells
-returns-clause-tells c = fault_told
-
-pub returns-clause-not_least : goal.returns-clause-not_least
-returns-clause-not_least c = not_least

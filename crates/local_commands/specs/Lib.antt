@@ -1,9 +1,0 @@
-pub mod Plans
-pub mod Pictures
-pub mod Carrying
-pub mod ScanText
-pub mod Texts
-pub mod Verdict
-pub mod Days
-pub mod TextLaws
-pub mod HelpLaws

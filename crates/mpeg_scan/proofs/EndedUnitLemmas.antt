@@ -1,0 +1,422 @@
+-- The units that have ended are those of the standard's words, over the codes that came.
+use Rattle.std.proofs.Common.{ℕ, zero, suc, Bool, true, false, cond, eqb, ltb, ◌&&◌, ◌||◌, ◌+◌, ◌-◌}
+use Rattle.std.proofs.Common.{◌<◌, ◌≤◌, ◌≡◌, ◌⊎◌, List, [], ◌∷◌, ◌++◌, Option, Some, None}
+use Rattle.std.proofs.Common.{slice_get, sym, ◌∙◌, ap, refl, subst, inl, inr, arith}
+use Rattle.std.specs.Prelude.{unwrap_or}
+use Rattle.std.proofs.lemmas.Bool.{cases_lt, eqb-true, ltb-true, false≢true}
+use Rattle.mpeg_scan.specs.declared.codes.Code.{Code}
+use Rattle.mpeg_scan.specs.declared.tallies.Header.{Header}
+use Rattle.mpeg_scan.specs.declared.units.Unit.{Unit as PictureUnit}
+use Rattle.mpeg_scan.specs.CodeFacts.{film_slice_count, has_sequence, head_end_of, header_of, is_head}
+use Rattle.mpeg_scan.specs.CodeFacts.{is_slice, kind_of, latest_picture, slice_count, starts_group, tally_of}
+use Rattle.mpeg_scan.specs.CodeFacts.{temporal_of, type_of, latest_unit, vectors_of}
+use Rattle.mpeg_scan.specs.FilmFaults.{end_fault, first_fault, last_fault, latest_fault}
+use Rattle.mpeg_scan.specs.Calls.{Call, head_call, slice_call, calls_at, no_header, calls_of}
+use Rattle.mpeg_scan.specs.Calls.{unit_at, unit_end}
+use Rattle.mpeg_scan.specs.Films.{units_in}
+use Rattle.mpeg_scan.specs.CodePlaces.{HasCode}
+use Rattle.mpeg_scan.specs.StandardUnits.{Counts, HasPicture, IsFirstCode, IsHeadValue, IsSliceValue}
+use Rattle.mpeg_scan.specs.StandardUnits.{NoneIn, StandsIn, StandsThere, UnitIs}
+use Rattle.mpeg_scan.proofs.ScanStepLemmas.{accepted-older, code-accepted, otherwise-second, positive}
+use Rattle.mpeg_scan.proofs.ScanStepLemmas.{calls-cons}
+use Rattle.mpeg_scan.proofs.PartTilingLemmas.{CodeEnds, ended-none, first-is, first_slice-accepted, raw_calls}
+use Rattle.mpeg_scan.proofs.PartTilingLemmas.{slice-apart, calls-nil, ends_at}
+use Rattle.mpeg_scan.proofs.CodeSpacingLemmas.{After, Spaced, all-below}
+use Rattle.mpeg_scan.proofs.UnitNumberingLemmas.{empty-count, first-some, second-accepted, second-none}
+use Rattle.mpeg_scan.proofs.FilmLemmas.{units_in-append}
+use Rattle.mpeg_scan.proofs.LatestUnitLemmas.{Below, Firsts, Latest, Member, Open, Pictured, first-code}
+use Rattle.mpeg_scan.proofs.LatestUnitLemmas.{member-has, step-open}
+use Rattle.mpeg_scan.proofs.CodeValueLemmas.{values-of}
+use Rattle.mpeg_scan.proofs.CodesBeforeLemmas.{Knows}
+use Rattle.mpeg_scan.proofs.CodeCountLemmas.{all-slices, counts-same, few-slices, own-slices}
+
+-- ---- the latest unit, code by code
+
+abbrev OpenOf : List Code → Type 0
+OpenOf past = Open past (record {
+  from = latest_unit past;
+  head_end = head_end_of past;
+  slices = slice_count past;
+  picture = latest_picture past;
+  sequence = has_sequence past;
+  group = starts_group past;
+})
+
+open-three : (c : Code) → c.value ≡ 0xb3 → OpenOf (c ∷ [])
+open-three c is =
+    subst (λ m. Open (c ∷ []) (record {
+      from = c.place;
+      head_end = cond (is_slice m && eqb 0 0) c.place (cond (is_head m) 0 0);
+      slices = cond (is_head m) 0 (cond (is_slice m) (0 + 1) 0);
+      picture = cond (eqb m 0) (Some (header_of c)) None;
+      sequence = cond (eqb m 0xb3) true false;
+      group = cond (eqb m 0xb8 || true) true false;
+    })) (sym is) (first-code c is)
+
+open-first : (c : Code) → first_fault (c ∷ []) ≡ None → OpenOf (c ∷ [])
+open-first c accepted = open-three c (first-is c accepted)
+
+open-codes : (c : Code) (past : List Code) → first_fault (c ∷ past) ≡ None → Spaced (c ∷ past) → OpenOf (c ∷ past)
+open-codes c [] accepted spaced = open-first c accepted
+open-codes c (d ∷ past) accepted spaced =
+    let older : List Code = d ∷ past in
+    let t = tally_of older in
+    let n = slice_count older in
+    let fault = code-accepted c older accepted in
+    step-open
+    (values-of c.value) (all-below older spaced.1 spaced.0)
+    (record { some = ltb-true 0 n; none = empty-count n; zero_is = eqb-true n 0; more = positive n })
+    (λ head none. second-none t c.value (second-accepted t c.place c.value fault) head none)
+    (λ slice none. first-some t c.place c.value (first_slice-accepted t c.place c.value fault) slice none)
+    (open-codes d past (accepted-older c older accepted) spaced.1)
+
+-- ---- a unit that has ended
+
+-- the fields of a picture, from its code
+pub record CodeFields (past : List Code) (place : ℕ) (unit : PictureUnit) : Type 0 where
+  pub code : Code
+  pub member : Member code past
+  pub zero_is : code.value ≡ 0
+  pub place_is : code.place ≡ place
+  pub temporal : unit.temporal ≡ temporal_of code
+  pub kind : unit.kind ≡ kind_of (type_of code)
+  pub vectors : unit.vectors ≡ vectors_of code
+
+abbrev pub Has : List Code → ℕ → ℕ → Type 0
+Has past place value = HasCode place value past
+
+pub record Closed (past : List Code) (unit : PictureUnit) : Type 0 where
+  pub unit_is : UnitIs (Has past) (CodeFields past) unit
+  pub head_some : unit.from < unit.head_end
+  pub rest_some : unit.head_end < unit.to
+
+-- a unit with what this header says of its picture
+record HasHeader (unit : PictureUnit) (h : Header) : Type 0 where
+  temporal : unit.temporal ≡ h.temporal
+  kind : unit.kind ≡ h.kind
+  vectors : unit.vectors ≡ h.vectors
+
+close-picture : {past : List Code} {unit : PictureUnit} {n : ℕ} {h : Header} → 0 < n → HasHeader unit h
+    → Pictured past unit.from unit.head_end n h → HasPicture (Has past) (CodeFields past) unit
+close-picture {past} {h} some header is = record {
+  place = is.code.place;
+  code = subst (λ k. HasCode is.code.place k past) is.value (member-has is.code past is.member);
+  after = is.after;
+  before = is.before some;
+  only = λ other has after before. is.only other has after;
+  last = λ place value has after before head. is.last place value has after head;
+  fields = record {
+    code = is.code;
+    member = is.member;
+    zero_is = is.value;
+    place_is = refl;
+    temporal = header.temporal ∙ ap (λ (v : Header). v.temporal) is.header;
+    kind = header.kind ∙ ap (λ (v : Header). v.kind) is.header;
+    vectors = header.vectors ∙ ap (λ (v : Header). v.vectors) is.header;
+  };
+}
+
+-- what a unit says of itself, with its picture's header
+abbrev latest_by : PictureUnit → ℕ → Option Header → Latest
+latest_by unit n o = record {
+  from = unit.from;
+  head_end = unit.head_end;
+  slices = n;
+  picture = o;
+  sequence = unit.has_sequence;
+  group = unit.starts_group;
+}
+
+in-head : {past : List Code} {n place value : ℕ} {o : Option Header} (unit : PictureUnit)
+    → Open past (latest_by unit n o) → 0 < n → HasCode place value past → IsHeadValue value → place < unit.head_end
+in-head {place} {value} unit open_ some has head = elim (cases_lt place unit.head_end) [
+  | inl before ↦ before
+  | inr after ↦ absurd (open_.sliced some place value has after head)
+]
+
+group-closed : {past : List Code} {n : ℕ} {o : Option Header} (unit : PictureUnit)
+    → Open past (latest_by unit n o) → 0 < n
+    → Firsts past unit.from ⊎ ((place : ℕ) × (HasCode place 0xb8 past × (unit.from ≤ place)))
+    → IsFirstCode (Has past) unit.from ⊎ StandsIn (Has past) unit.from unit.head_end 0xb8
+group-closed unit open_ some (inl firsts) = inl firsts
+group-closed unit open_ some (inr it) =
+    inr (record {
+      place = it.0;
+      code = it.1.0;
+      after = it.1.1;
+      before = in-head unit open_ some it.1.0 (inr (inr refl));
+    })
+
+group-open : (past : List Code) (unit : PictureUnit) (n : ℕ) (o : Option Header)
+    → Open past (latest_by unit n o)
+    → IsFirstCode (Has past) unit.from ⊎ StandsIn (Has past) unit.from unit.head_end 0xb8 → unit.starts_group ≡ true
+group-open past unit n o open_ (inl firsts) = open_.grp_first firsts
+group-open past unit n o open_ (inr it) = open_.grp_set it.place it.code it.after
+
+close-by : {past : List Code} {unit : PictureUnit} {n : ℕ} {o : Option Header}
+    → Open past (latest_by unit n o) → 0 < n
+    → HasHeader unit (unwrap_or o no_header)
+    → ((place value : ℕ) → HasCode place value past → place < unit.to)
+    → Counts (Has past) IsSliceValue unit.head_end unit.to unit.slices
+    → Counts (Has past) IsSliceValue 0 unit.to (unit.first_slice + unit.slices) → Closed past unit
+close-by {o = None} open_ some header below own all = absurd (false≢true (open_.some some))
+close-by {past} {unit} {n} {o = Some h} open_ some header below own all = record {
+  unit_is = record {
+    begins = open_.begins;
+    head = open_.head some;
+    head_ends = open_.head_ends some;
+    rest = below unit.head_end (open_.head_ends some).0 (open_.head_ends some).1.0;
+    own = own;
+    all = all;
+    slices = λ place k has after before is. open_.sliced some place k has after is;
+    picture = close-picture some header open_.picture_is;
+    sequence = (
+      λ e. let it =
+          open_.seq_there e in
+          record {
+            place = it.0;
+            code = it.1.0;
+            after = it.1.1;
+            before = in-head unit open_ some it.1.0 (inr (inl refl));
+          },
+      λ it. open_.seq_set it.place it.code it.after,
+    );
+    group = (
+      λ e. group-closed unit open_ some (open_.grp_there e),
+      λ it. group-open past unit n (Some h) open_ it,
+    );
+  };
+  head_some = open_.order some;
+  rest_some = below unit.head_end (open_.head_ends some).0 (open_.head_ends some).1.0;
+}
+
+-- the slices after the latest head are those from its first slice on
+own-first : {past : List Code} {to from place : ℕ} → OpenOf past → 0 < slice_count past
+    → ((place value : ℕ) → HasCode place value past → place < to) → NoneIn (Has past) from to IsHeadValue
+    → StandsThere (Has past) place IsSliceValue → from ≤ place → head_end_of past ≤ place
+own-first {past} {from} {place} open_ some below none slice far = elim (cases_lt place (head_end_of past)) [
+  | inl less ↦ elim (cases_lt (latest_unit past) from) [
+    | inl after ↦ absurd (open_.head some place slice.0 slice.1.0 (omega (arith, after, far)) less slice.1.1)
+    | inr before ↦
+        absurd (let head =
+        open_.begins in none (latest_unit past) head.0 head.1.0 before
+        (below (latest_unit past) head.0 head.1.0) head.1.1)
+  ]
+  | inr more ↦ more
+]
+
+close : (past : List Code) (to : ℕ) → OpenOf past → Spaced past → 0 < slice_count past
+    → ((place value : ℕ) → HasCode place value past → place < to) → Closed past (unit_at (tally_of past) to)
+close past to open_ spaced some below =
+    let k : Knows (Has past) past to =
+    record { there = λ place value has. has; below = below; back = λ place value has before. has } in
+    let count : film_slice_count past ≡ film_slice_count past - slice_count past + slice_count past =
+    omega (arith, few-slices past) in
+    let header : HasHeader (unit_at (tally_of past) to) (unwrap_or (latest_picture past) no_header) =
+    record { temporal = refl; kind = refl; vectors = refl } in
+    close-by open_ some header below
+    (own-slices k spaced (λ place value has after before is. open_.sliced some place value has after is)
+    (λ from none place slice far before. own-first open_ some below none slice far))
+    (subst (λ n. Counts (Has past) IsSliceValue 0 to n) count (all-slices (Has past) past to k spaced))
+
+-- ---- it stays so as codes come
+
+none-grows : {from to : ℕ} {OfValue : ℕ → Type 0} (c : Code) (past : List Code) → to ≤ c.place
+    → NoneIn (Has past) from to OfValue → NoneIn (Has (c ∷ past)) from to OfValue
+none-grows {from} c past far none place value (inl new) after before is = omega (arith, new.0, far, before)
+none-grows {from} c past far none place value (inr old) after before is = none place value old after before is
+
+stands-grows : (c : Code) (past : List Code) (from to value : ℕ) → StandsIn (Has past) from to value
+    → StandsIn (Has (c ∷ past)) from to value
+stands-grows c past from to value it =
+    record { place = it.place; code = inr it.code; after = it.after; before = it.before }
+
+shrinks-by : {from to value place : ℕ} (c : Code) (past : List Code) → to ≤ c.place
+    → HasCode place value (c ∷ past) → from ≤ place → place < to → StandsIn (Has past) from to value
+shrinks-by {from} {place} c past far (inl new) after before = absurd (omega (arith, new.0, far, before))
+shrinks-by {from} {place} c past far (inr old) after before =
+    record { place = place; code = old; after = after; before = before }
+
+stands-shrinks : {from to value : ℕ} (c : Code) (past : List Code) → to ≤ c.place
+    → StandsIn (Has (c ∷ past)) from to value → StandsIn (Has past) from to value
+stands-shrinks {from} c past far it = shrinks-by c past far it.code it.after it.before
+
+-- the only picture between these places
+abbrev IsOnlyIn : List Code → ℕ → ℕ → ℕ → Type 0
+IsOnlyIn past from to its = (other : ℕ) → HasCode other 0 past → from ≤ other → other < to → other ≡ its
+
+only-grows : {its : ℕ} (c : Code) (past : List Code) (from to : ℕ) → to ≤ c.place → IsOnlyIn past from to its
+    → IsOnlyIn (c ∷ past) from to its
+only-grows c past from to far only other (inl new) after before = absurd (omega (arith, new.0, far, before))
+only-grows c past from to far only other (inr old) after before = only other old after before
+
+firsts-grow : (c : Code) (past : List Code) (from : ℕ) → from ≤ c.place → IsFirstCode (Has past) from
+    → IsFirstCode (Has (c ∷ past)) from
+firsts-grow c past from far firsts place value (inl new) = omega (arith, new.0, far)
+firsts-grow c past from far firsts place value (inr old) = firsts place value old
+
+group-grows : (c : Code) (past : List Code) (from to : ℕ) → from ≤ c.place
+    → IsFirstCode (Has past) from ⊎ StandsIn (Has past) from to 0xb8
+    → IsFirstCode (Has (c ∷ past)) from ⊎ StandsIn (Has (c ∷ past)) from to 0xb8
+group-grows c past from to far (inl firsts) = inl (firsts-grow c past from far firsts)
+group-grows c past from to far (inr it) = inr (stands-grows c past from to 0xb8 it)
+
+group-shrinks : (c : Code) (past : List Code) (from to : ℕ) → to ≤ c.place
+    → IsFirstCode (Has (c ∷ past)) from ⊎ StandsIn (Has (c ∷ past)) from to 0xb8
+    → IsFirstCode (Has past) from ⊎ StandsIn (Has past) from to 0xb8
+group-shrinks c past from to far (inl firsts) = inl (λ place value has. firsts place value (inr has))
+group-shrinks c past from to far (inr it) = inr (stands-shrinks c past far it)
+
+counts-back : {place value : ℕ} (c : Code) (past : List Code) (to : ℕ) → to ≤ c.place → place < to
+    → HasCode place value (c ∷ past) → HasCode place value past
+counts-back {place} c past to far before (inl new) = absurd (omega (arith, new.0, far, before))
+counts-back {place} c past to far before (inr old) = old
+
+counts-grow : {from to count : ℕ} (c : Code) (past : List Code) → to ≤ c.place
+    → Counts (Has past) IsSliceValue from to count → Counts (Has (c ∷ past)) IsSliceValue from to count
+counts-grow {from} {to} c past far =
+    counts-same (λ place value before has. inr has) (λ place value before has. counts-back c past to far before has)
+
+closed-grows : (c : Code) (past : List Code) (unit : PictureUnit) → unit.to ≤ c.place → Closed past unit
+    → Closed (c ∷ past) unit
+closed-grows c past unit far closed =
+    let u = closed.unit_is in
+    let p = u.picture in
+    let head_far : unit.head_end ≤ c.place = omega (arith, far, closed.rest_some) in
+    let from_far : unit.from ≤ c.place = omega (arith, head_far, closed.head_some) in
+    record {
+      unit_is = record {
+        begins = (u.begins.0, (inr u.begins.1.0, u.begins.1.1));
+        head = none-grows c past head_far u.head;
+        head_ends = (u.head_ends.0, (inr u.head_ends.1.0, u.head_ends.1.1));
+        rest = u.rest;
+        own = counts-grow c past far u.own;
+        all = counts-grow c past far u.all;
+        slices = none-grows c past far u.slices;
+        picture = record {
+          place = p.place;
+          code = inr p.code;
+          after = p.after;
+          before = p.before;
+          only = only-grows c past unit.from unit.head_end head_far p.only;
+          last = none-grows c past head_far p.last;
+          fields = record {
+            code = p.fields.code;
+            member = inr p.fields.member;
+            zero_is = p.fields.zero_is;
+            place_is = p.fields.place_is;
+            temporal = p.fields.temporal;
+            kind = p.fields.kind;
+            vectors = p.fields.vectors;
+          };
+        };
+        sequence = (
+          λ e. stands-grows c past unit.from unit.head_end 0xb3 (u.sequence.0 e),
+          λ it. u.sequence.1 (stands-shrinks c past head_far it),
+        );
+        group = (
+          λ e. group-grows c past unit.from unit.head_end from_far (u.group.0 e),
+          λ it. u.group.1 (group-shrinks c past unit.from unit.head_end head_far it),
+        );
+      };
+      head_some = closed.head_some;
+      rest_some = closed.rest_some;
+    }
+
+-- ---- all units
+
+abbrev pub AllClosed : List Code → ℕ → List PictureUnit → Type 0
+AllClosed past at [] = Unit {0}
+AllClosed past at (unit ∷ units) = (Closed past unit × (unit.to ≤ at)) × AllClosed past at units
+
+all-grow : (c : Code) (past : List Code) (at : ℕ) (units : List PictureUnit) → at ≤ c.place
+    → AllClosed past at units → AllClosed (c ∷ past) c.place units
+all-grow c past at [] far all = tt
+all-grow c past at (unit ∷ units) far all = (
+  (closed-grows c past unit (omega (arith, far, all.0.1)) all.0.0, omega (arith, far, all.0.1)),
+  all-grow c past at units far all.1,
+)
+
+all-append : (past : List Code) (at : ℕ) (xs ys : List PictureUnit) → AllClosed past at xs
+    → AllClosed past at ys → AllClosed past at (xs ++ ys)
+all-append past at [] ys one other = other
+all-append past at (x ∷ xs) ys one other = (one.0, all-append past at xs ys one.1 other)
+
+all-later : (past : List Code) (at to : ℕ) (units : List PictureUnit) → at ≤ to → AllClosed past at units
+    → AllClosed past to units
+all-later past at to [] far all = tt
+all-later past at to (unit ∷ units) far all =
+    ((all.0.0, omega (arith, far, all.0.1)), all-later past at to units far all.1)
+
+pub all-at : {past : List Code} {unit : PictureUnit} (at : ℕ) (units : List PictureUnit) (k : ℕ)
+    → slice_get units k ≡ Some unit → AllClosed past at units → Closed past unit
+all-at at [] k is all = cc
+all-at {past} {unit} at (u ∷ units) zero is all = let same : u ≡ unit =
+    cc in subst (λ (v : PictureUnit). Closed past v) same all.0.0
+all-at {past} {unit} at (u ∷ units) (suc k) is all = all-at {past = past} {unit = unit} at units k is all.1
+
+-- the unit that ends at a code, by tests: s, h: it is a slice, a head code; q, e: there were slices, there were none
+closed-call : {s h q : Bool} {c : Code} {past : List Code} (e : Bool) (here : CodeEnds) → (s ≡ true → h ≡ false)
+    → (h ≡ true → q ≡ true → Closed (c ∷ past) here.ended × (here.ended.to ≤ c.place))
+    → AllClosed (c ∷ past) c.place (units_in (raw_calls s h q e here))
+closed-call {s = true} {h} {c} true here apart closed = tt
+closed-call {s = true} {h} {c} false here apart closed = tt
+closed-call {s = false} {h = true} {q = true} {c} e here apart closed = (closed refl refl, tt)
+closed-call {s = false} {h = true} {q = false} {c} e here apart closed = tt
+closed-call {s = false} {h = false} {c} e here apart closed = tt
+
+closed-step : (c d : Code) (past : List Code) → OpenOf (d ∷ past) → Spaced (d ∷ past) → Below c (d ∷ past)
+    → AllClosed (c ∷ (d ∷ past)) c.place (units_in (calls_at (tally_of (d ∷ past)) c.place c.value))
+unfolding calls_at
+closed-step c d past open_ spaced below =
+    let older : List Code = d ∷ past in
+    let t = tally_of older in
+    let unit = unit_at t c.place in
+    closed-call (eqb (slice_count older) 0) (ends_at t c.place) (slice-apart c.value)
+    (λ head some. (
+      closed-grows c older unit (omega arith)
+          (close older c.place open_ spaced (ltb-true 0 (slice_count older) some) below),
+      omega arith,
+    ))
+
+closed-first : (c : Code) → c.value ≡ 0xb3
+    → AllClosed (c ∷ []) c.place (units_in (calls_at (tally_of []) c.place c.value))
+unfolding calls_at
+closed-first c is =
+    subst (λ m. AllClosed (c ∷ []) c.place
+    (units_in (cond (is_slice m) (cond (eqb 0 0) (head_call 0 c.place ∷ []) (slice_call 0 c.place ∷ []))
+    (cond (is_head m && ltb 0 0) (unit_end (tally_of []) c.place) [])))) (sym is) tt
+
+calls-closed : (c : Code) (past : List Code) → first_fault (c ∷ past) ≡ None → Spaced (c ∷ past)
+    → AllClosed (c ∷ past) c.place (units_in (calls_of (c ∷ past)))
+calls-closed c [] accepted spaced =
+    subst (λ (l : List Call). AllClosed (c ∷ []) c.place (units_in l))
+    (sym (calls-cons c [] ∙ ap (λ (l : List Call). l ++ calls_at (tally_of []) c.place c.value) calls-nil))
+    (closed-first c (first-is c accepted))
+calls-closed c (d ∷ past) accepted spaced =
+    let older : List Code = d ∷ past in
+    let calls = calls_at (tally_of older) c.place c.value in
+    let below = all-below older spaced.1 spaced.0 in
+    let before = calls-closed d past (accepted-older c older accepted) spaced.1 in
+    subst (λ (l : List PictureUnit). AllClosed (c ∷ older) c.place l)
+    (sym (ap units_in (calls-cons c older) ∙ units_in-append (calls_of older) calls))
+    (all-append (c ∷ older) c.place (units_in (calls_of older)) (units_in calls)
+    (all-grow c older d.place (units_in (calls_of older))
+    (omega (arith, below d.place d.value (inl (refl, refl)))) before)
+    (closed-step c d past (open-codes d past (accepted-older c older accepted) spaced.1) spaced.1 below))
+
+pub whole-closed : (past : List Code) (n : ℕ) → first_fault past ≡ None → end_fault past n ≡ None → Spaced past
+    → After n past → AllClosed past n (units_in (calls_of past ++ unit_end (tally_of past) n))
+unfolding end_fault
+whole-closed [] n accepted ended spaced after = absurd (omega (arith, ended-none (tally_of []) ended))
+whole-closed (c ∷ past) n accepted ended spaced after =
+    let all : List Code = c ∷ past in
+    let some = ended-none (tally_of all) (otherwise-second (latest_fault all n) (last_fault (tally_of all)) ended) in
+    let below = all-below all spaced after in
+    let last : AllClosed all n (units_in (unit_end (tally_of all) n)) =
+    ((close all n (open-codes c past accepted spaced) spaced some below, omega arith), tt) in
+    subst (λ (l : List PictureUnit). AllClosed all n l)
+    (sym (units_in-append (calls_of all) (unit_end (tally_of all) n)))
+    (all-append all n (units_in (calls_of all)) (units_in (unit_end (tally_of all) n))
+    (all-later all c.place n (units_in (calls_of all))
+    (omega (arith, below c.place c.value (inl (refl, refl)))) (calls-closed c past accepted spaced)) last)

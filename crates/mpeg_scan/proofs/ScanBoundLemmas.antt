@@ -1,0 +1,296 @@
+-- The scanner's latest unit and slice begin well before the next code.
+use Rattle.std.proofs.Common.{Result, Ok, Err, OnOk, ℕ, Bool, true, false, not, cond, eqb, ltb}
+use Rattle.std.proofs.Common.{◌&&◌, ◌||◌, ◌+◌, ◌-◌, ◌<◌, ◌≤◌, ◌≡◌, [], Option, Some, None, sym, ◌∙◌}
+use Rattle.std.proofs.Common.{ap, refl, subst, arith}
+use Rattle.std.specs.Option.{IsSome, option_map}
+use Rattle.std.proofs.lemmas.Option.{same_Some}
+use Rattle.std.proofs.lemmas.Bool.{true≢false, false≢true, ne_eqb}
+use Rattle.mpeg_scan.specs.declared.codes.Code.{Code}
+use Rattle.mpeg_scan.specs.declared.codes.Prefix.{Prefix}
+use Rattle.mpeg_scan.specs.declared.codes.Prefix.TheVariants.{Nothing, Zero, Zeros, Whole}
+use Rattle.mpeg_scan.specs.declared.faults.FilmFault.{FilmFault}
+use Rattle.mpeg_scan.specs.declared.faults.FilmFault.TheVariants.{NoSequence}
+use Rattle.mpeg_scan.specs.declared.progress.Progress.{Progress}
+use Rattle.mpeg_scan.specs.Tallies.{Tally}
+use Rattle.mpeg_scan.specs.StartCodes.{after_one, after_zero, is_whole, next_prefix, note}
+use Rattle.mpeg_scan.specs.CodeFacts.{is_head, is_slice}
+use Rattle.mpeg_scan.specs.FilmFaults.{last_fault, open_fault, code_fault}
+use Rattle.mpeg_scan.specs.ScanBounds.{AwaitsSlice, AwaitsSliceAfter, HasRoom, HasRoomWith, IsAhead}
+use Rattle.mpeg_scan.specs.ScanBounds.{prefix_length}
+use Rattle.mpeg_scan.specs.ScannerState.{scan_with_code, scan_with_byte}
+use Rattle.mpeg_scan.specs.CodeSteps.{end_judgement, code_judgement, latest_header_fault, next}
+use Rattle.mpeg_scan.specs.CodeSteps.{next_begins, tally_now, tally_with}
+use Rattle.mpeg_scan.proofs.NextCodeLemmas.{code-begun, counts-more, counts-next, picture-next}
+use Rattle.mpeg_scan.proofs.NextCodeLemmas.{rate-next, with-more, with-noted}
+use Rattle.mpeg_scan.proofs.CodesBeforeLemmas.{slice-value}
+use Rattle.mpeg_scan.proofs.CodeSpacingLemmas.{whole-is}
+use Rattle.mpeg_scan.proofs.ScanStepLemmas.{otherwise-second}
+use Rattle.mpeg_scan.proofs.PartTilingLemmas.{ended-none, first_slice-accepted, first_slice-head}
+
+-- ---- a byte more of a header changes none of it
+record SamePlaces (t u : Tally) : Type 0 where
+  begun : t.begun ≡ u.begun
+  unit : t.unit ≡ u.unit
+  slices : t.slices ≡ u.slices
+  slice : t.slice ≡ u.slice
+
+same-noted : (o : Option Code) (t : Tally) (x : ℕ)
+    → SamePlaces (tally_with o t) (tally_with (option_map (λ c. note c x) o) t)
+unfolding next
+same-noted None t x = record { begun = refl; unit = refl; slices = refl; slice = refl }
+same-noted (Some c) t x = record { begun = refl; unit = refl; slices = refl; slice = refl }
+
+length-one : (p : Prefix) → prefix_length (after_one p) ≤ prefix_length p + 1
+length-one Nothing = omega arith
+length-one Zero = omega arith
+length-one Zeros = omega arith
+length-one Whole = omega arith
+
+length-zero : (p : Prefix) → prefix_length (after_zero p) ≤ prefix_length p + 1
+length-zero Nothing = omega arith
+length-zero Zero = omega arith
+length-zero Zeros = omega arith
+length-zero Whole = omega arith
+
+length-by : (a b : Bool) (p : Prefix) → prefix_length
+    (cond a (after_one p) (cond b (after_zero p) Nothing)) ≤ prefix_length p + 1
+length-by true b p = length-one p
+length-by false true p = length-zero p
+length-by false false p = omega arith
+
+length-next : (p : Prefix) (x : ℕ) → prefix_length (next_prefix p x) ≤ prefix_length p + 1
+length-next p x = length-by (eqb x 1) (eqb x 0) p
+
+-- a byte that isn't the value of a code
+pub noted-ahead : (s n : Progress) (x : ℕ) → n ≡ scan_with_byte s x → IsAhead s → IsAhead n
+noted-ahead s n x is room =
+    let more = length-next s.prefix x in
+    subst (λ (v : Progress). IsAhead v) (sym is) (record {
+      read = omega (arith, more, room.read);
+      room = with-more (with-noted s.latest x room.room) (omega (arith, more));
+    })
+
+awaits-same : (Ready : ℕ → Type 0) (t u : Tally) → SamePlaces t u → AwaitsSlice Ready t → AwaitsSlice Ready u
+awaits-same Ready t u same awaits = λ some. subst (λ p. Ready p) same.slice (awaits (omega (arith, same.slices)))
+
+pub noted-awaits : (Ready : ℕ → Type 0) (s n : Progress) (x : ℕ) → n ≡ scan_with_byte s x
+    → AwaitsSlice Ready (tally_now s) → AwaitsSlice Ready (tally_now n)
+noted-awaits Ready s n x is awaits =
+    subst (λ (v : Progress). AwaitsSlice Ready (tally_now v)) (sym is)
+    (awaits-same Ready (tally_now s) (tally_now (scan_with_byte s x)) (same-noted s.latest s.tally x) awaits)
+
+whole-length : (p : Prefix) → is_whole p ≡ true → prefix_length p ≡ 3
+whole-length Nothing e = absurd (false≢true e)
+whole-length Zero e = absurd (false≢true e)
+whole-length Zeros e = absurd (false≢true e)
+whole-length Whole e = refl
+
+-- before a code there is room
+pub room-before : {s n : Progress} (x : ℕ) → is_whole s.prefix ≡ true → n ≡ scan_with_byte s x
+    → IsAhead s → HasRoomWith n.latest n.tally (s.fed - 3)
+room-before {s} x whole is room =
+    subst (λ (v : Progress). HasRoomWith v.latest v.tally (s.fed - 3)) (sym is)
+    (with-more (with-noted s.latest x room.room) (omega (arith, whole-length s.prefix whole)))
+
+-- ---- what a code that isn't refused says
+
+pub code_judgement-code : (latest : Option Code) (tally : Tally) (place value : ℕ)
+    → code_judgement latest tally place value ≡ None → code_fault (tally_with latest tally) place value ≡ None
+unfolding code_judgement
+code_judgement-code latest tally place value e =
+    otherwise-second (latest_header_fault latest tally.rate place) (code_fault (tally_with latest tally) place value) e
+
+-- a slice's code that isn't refused, and the tally with the code before it
+pub record SliceTaken (t : Tally) (latest : Option Code) (tally : Tally) (place value : ℕ) : Type 0 where
+  pub judged : code_judgement latest tally place value ≡ None
+  pub tally_is : t ≡ tally_with latest tally
+  pub slice : is_slice value ≡ true
+
+pub slice-taken : {t tally : Tally} {latest : Option Code} {place value : ℕ}
+    → (code_judgement latest tally place value ≡ None) × (t ≡ tally_with latest tally) → is_slice value ≡ true
+    → SliceTaken t latest tally place value
+slice-taken taken slice = record { judged = taken.0; tally_is = taken.1; slice = slice }
+
+-- it isn't the film's first code
+pub slice-begun : {t tally : Tally} {latest : Option Code} {place value : ℕ} → SliceTaken t latest tally place value
+    → t.begun ≡ true
+slice-begun {t} {tally} {latest} {place} {value} taken =
+    let other = ne_eqb value 0xb3 (λ is. absurd (omega (arith, (slice-value value taken.slice).1))) in
+    ap (λ (v : Tally). v.begun) taken.tally_is
+    ∙ code-begun (tally_with latest tally) place value (code_judgement-code latest tally place value taken.judged) other
+
+-- a unit's first slice: the head before it has 1 to 1,380 bytes
+pub head-some : {t tally : Tally} {latest : Option Code} {place value : ℕ} → SliceTaken t latest tally place value
+    → HasRoom (tally_with latest tally) place → t.unit < place
+head-some {t} {tally} {latest} {place} {value} taken room =
+    let now = tally_with latest tally in
+    let unit : t.unit ≡ now.unit = ap (λ (v : Tally). v.unit) taken.tally_is in
+    let begun : t.begun ≡ now.begun = ap (λ (v : Tally). v.begun) taken.tally_is in
+    omega (arith, unit, room.unit (sym begun ∙ slice-begun taken))
+
+pub head-short : {t tally : Tally} {latest : Option Code} {place value : ℕ}
+    → SliceTaken t latest tally place value → t.slices ≡ 0 → place ≤ t.unit + 1380
+head-short {t} {tally} {latest} {place} {value} taken none =
+    let now = tally_with latest tally in
+    let unit : t.unit ≡ now.unit = ap (λ (v : Tally). v.unit) taken.tally_is in
+    let slices : t.slices ≡ now.slices = ap (λ (v : Tally). v.slices) taken.tally_is in
+    omega (
+      arith,
+      unit,
+      first_slice-head now place value
+          (first_slice-accepted now place value (code_judgement-code latest tally place value taken.judged))
+          taken.slice (sym slices ∙ none),
+    )
+
+-- ---- after a code
+
+length-of : (a b : Bool) → prefix_length (cond a Nothing (cond b Zero Nothing)) ≤ 1
+length-of true b = omega arith
+length-of false true = omega arith
+length-of false false = omega arith
+
+length-value : (value : ℕ) → prefix_length (next_prefix Whole value) ≤ 1
+length-value value = length-of (eqb value 1) (eqb value 0)
+
+length-no_zero : (a b : Bool) → b ≡ false → prefix_length (cond a Nothing (cond b Zero Nothing)) ≡ 0
+length-no_zero true b e = refl
+length-no_zero false true e = absurd (true≢false e)
+length-no_zero false false e = refl
+
+length-slice : (value : ℕ) → is_slice value ≡ true → prefix_length (next_prefix Whole value) ≡ 0
+length-slice value slice =
+    let other = ne_eqb value 0 (λ none. absurd (omega (arith, (slice-value value slice).0))) in
+    length-no_zero (eqb value 1) (eqb value 0) other
+
+-- the prefix that a code's value begins: at most a byte, and none where it is a slice
+record PrefixAfter (s : Bool) (l : ℕ) : Type 0 where
+  short : l ≤ 1
+  none : s ≡ true → l ≡ 0
+
+prefix-after : (value : ℕ) → PrefixAfter (is_slice value) (prefix_length (next_prefix Whole value))
+prefix-after value = record { short = length-value value; none = length-slice value }
+
+from-by : {place l fed : ℕ} (b : Bool) (unit : ℕ) → l ≤ 1 → place + 3 ≤ fed → unit ≤ place
+    → cond b place unit ≤ fed + 1 - l
+from-by true unit short at before = omega (arith, short, at)
+from-by false unit short at before = omega (arith, short, at, before)
+
+unit-by : {q : Bool} {place l fed : ℕ} (h : Bool) (unit : ℕ) → l ≤ 1 → place + 3 ≤ fed
+    → (q ≡ true → unit + 3 ≤ place) → cond (not q || h) place unit + 3 ≤ fed + 1 - l
+unit-by {q = true} true unit short at before = omega (arith, short, at)
+unit-by {q = true} false unit short at before = omega (arith, short, at, before refl)
+unit-by {q = false} h unit short at before = omega (arith, short, at)
+
+slice-by : {s : Bool} {place n l fed : ℕ} (h : Bool) (slice : ℕ) → PrefixAfter s l → place + 3 ≤ fed
+    → (0 < n → slice + 4 ≤ place) → 0 < cond h 0 (cond s (n + 1) n) → cond s place (cond h 0 slice) + 4 ≤ fed + 1 - l
+slice-by {s = true} h slice prefix at before some = omega (arith, prefix.none refl, at)
+slice-by {s = false} true slice prefix at before some = absurd (omega (arith, some))
+slice-by {s = false} false slice prefix at before some = omega (arith, prefix.short, at, before some)
+
+code-room : {t : Tally} {place fed : ℕ} (value : ℕ) → place + 3 ≤ fed → HasRoom t place
+    → code_fault t place value ≡ None
+    → HasRoomWith (Some (record { place = place; value = value; header = [] })) t
+    (fed + 1 - prefix_length (next_prefix Whole value))
+unfolding next
+code-room {t} {place} {fed} value at room e =
+    let c : Code = record { place = place; value = value; header = [] } in
+    let short = length-value value in
+    let far : place + 1 ≤ fed + 1 - prefix_length (next_prefix Whole value) = omega (arith, short, at) in record {
+      code = λ d is. omega (arith, far, ap (λ (v : Code). v.place) (same_Some c d is));
+      older = counts-more room.counts (omega (arith, far));
+      now = record {
+        from = from-by (next_begins t value) t.unit short at room.from;
+        unit = λ begun. unit-by (is_head value && ltb 0 t.slices) t.unit short at room.unit;
+        slice = λ some. slice-by {n = t.slices} (is_head value) t.slice (prefix-after value) at room.slice some;
+        picture = λ some. picture-next t c e room.picture some;
+        rate = λ begun. rate-next t c e room.rate;
+        counts = counts-next t c e room.counts far;
+      };
+    }
+
+pub coded-ahead : {s n m : Progress} (x : ℕ) → is_whole s.prefix ≡ true → n ≡ scan_with_byte s x
+    → code_judgement n.latest n.tally (s.fed - 3) x ≡ None → m ≡ scan_with_code n (s.fed - 3) x → IsAhead s → IsAhead m
+coded-ahead {s} {n} {m} x whole noted judged is room =
+    let place = s.fed - 3 in
+    let three = whole-length s.prefix whole in
+    let fed : n.fed ≡ s.fed + 1 = ap (λ (v : Progress). v.fed) noted in
+    let prefix : n.prefix ≡ next_prefix Whole x =
+    ap (λ (v : Progress). v.prefix) noted ∙ ap (λ p. next_prefix p x) (whole-is s.prefix whole) in
+    let length : prefix_length n.prefix ≡ prefix_length (next_prefix Whole x) = ap prefix_length prefix in
+    let made = code-room {t = tally_now n} {place = place} {fed = s.fed} x (omega (arith, three, room.read))
+    (room-before x whole noted room).now (code_judgement-code n.latest n.tally place x judged) in
+    subst (λ (v : Progress). IsAhead v) (sym is) (record {
+      read = omega (arith, fed, length, length-value x);
+      room = with-more made (omega (arith, fed, length));
+    })
+
+pub coded-awaits : {m : Progress} (Ready : ℕ → Type 0) (n : Progress) (x place : ℕ)
+    → m ≡ scan_with_code n place x → AwaitsSliceAfter Ready (tally_now n) place x → AwaitsSlice Ready (tally_now m)
+unfolding next
+coded-awaits Ready n x place is awaits =
+    subst (λ (v : Progress). AwaitsSlice Ready (tally_now v)) (sym is) awaits
+
+-- ---- as a run is passed over
+
+pub skipped-ahead : {s n : Progress} (count : ℕ) → n.fed ≡ s.fed + count → n.prefix ≡ s.prefix
+    → n.latest ≡ s.latest → n.tally ≡ s.tally → IsAhead s → IsAhead n
+skipped-ahead {s} {n} count fed prefix latest tally room =
+    let length : prefix_length n.prefix ≡ prefix_length s.prefix = ap prefix_length prefix in
+    let end = n.fed - prefix_length n.prefix in
+    let L : Option Code → Type 0 = λ o. HasRoomWith o n.tally end in
+    let T : Tally → Type 0 = λ t. HasRoomWith s.latest t end in
+    record {
+      read = omega (arith, room.read, fed, length);
+      room = subst L (sym latest) (subst T (sym tally) (with-more room.room (omega (arith, fed, length))));
+    }
+
+pub skipped-awaits : (Ready : ℕ → Type 0) (s n : Progress) → n.latest ≡ s.latest → n.tally ≡ s.tally
+    → AwaitsSlice Ready (tally_now s) → AwaitsSlice Ready (tally_now n)
+skipped-awaits Ready s n latest tally awaits =
+    let L : Option Code → Type 0 = λ o. AwaitsSlice Ready (tally_with o n.tally) in
+    let T : Tally → Type 0 = λ t. AwaitsSlice Ready (tally_with s.latest t) in
+    subst L (sym latest) (subst T (sym tally) awaits)
+
+-- two facts of an answer that is Ok
+pub both-ok : {T E P Q R : Type 0} (r : Result T E) → (P → Q → R) → OnOk r P → OnOk r Q → OnOk r R
+both-ok (Ok x) f p q = f p q
+both-ok (Err e) f p q = tt
+
+-- ---- the film's end
+
+pub end_judgement-sliced : (latest : Option Code) (tally t : Tally) (end : ℕ)
+    → end_judgement latest tally end ≡ None → t ≡ tally_with latest tally → 0 < t.slices
+unfolding end_judgement
+end_judgement-sliced latest tally t end e is =
+    let slices : t.slices ≡ (tally_with latest tally).slices = ap (λ (v : Tally). v.slices) is in
+    let some = ended-none (tally_with latest tally)
+    (otherwise-second (latest_header_fault latest tally.rate end) (last_fault (tally_with latest tally)) e) in
+    omega (arith, slices, some)
+
+-- what was read has room before the end
+pub ahead-room : (s : Progress) → IsAhead s → HasRoomWith s.latest s.tally s.fed
+ahead-room s room = with-more room.room (omega arith)
+
+-- an accepted film has begun
+ended-begun : (q b : Bool) (f : FilmFault) → cond (not q) (Some NoSequence) (cond b None (Some f)) ≡ None → q ≡ true
+ended-begun true b f e = refl
+ended-begun false b f e = absurd (cc)
+
+pub end-rated : (s : Progress) (t : Tally) → end_judgement s.latest s.tally s.fed ≡ None → t ≡ tally_now s → IsAhead s
+    → IsSome t.rate
+unfolding end_judgement
+end-rated s t e is room =
+    let now = tally_now s in
+    let last = otherwise-second (latest_header_fault s.latest s.tally.rate s.fed) (last_fault now) e in
+    subst (λ (v : Tally). IsSome v.rate) (sym is)
+    (room.room.now.rate (ended-begun now.begun (ltb 0 now.slices) (open_fault now now.picture) last))
+
+pub end-room : (s : Progress) (t : Tally) → t ≡ tally_now s → IsAhead s → HasRoom t s.fed
+end-room s t is room = subst (λ (v : Tally). HasRoom v s.fed) (sym is) (ahead-room s room).now
+
+pub end-ready : (Ready : ℕ → Type 0) (s : Progress) (t : Tally) → t ≡ tally_now s → 0 < t.slices
+    → AwaitsSlice Ready (tally_now s) → Ready t.slice
+end-ready Ready s t is some awaits =
+    let slices : t.slices ≡ (tally_now s).slices = ap (λ (v : Tally). v.slices) is in
+    let slice : t.slice ≡ (tally_now s).slice = ap (λ (v : Tally). v.slice) is in
+    subst (λ p. Ready p) (sym slice) (awaits (omega (arith, slices, some)))

@@ -1,0 +1,299 @@
+-- The units of an accepted film lie one after another, and have their slices in order.
+use Rattle.std.proofs.Common.{◌≡◌, ℕ, zero, suc, ◌+◌, ◌-◌, ◌<◌, ◌≤◌, Bool, true, false, cond, eqb}
+use Rattle.std.proofs.Common.{ltb, leb, ◌&&◌, List, [], ◌∷◌, ◌++◌, append_assoc, Some, None, IsSome}
+use Rattle.std.proofs.Common.{length, take, drop, slice_get, refl, sym, ap, subst, ◌∙◌, arith}
+use Rattle.std.proofs.Common.{length-append}
+use Rattle.std.proofs.lemmas.List.{append-nil}
+use Rattle.std.proofs.Math.Seq.{drop-append_seam, take-append_seam}
+use Rattle.std.proofs.lemmas.Bool.{and_parts, false≢true, eqb-true, ltb-true, leb-true}
+use Rattle.mpeg_scan.specs.declared.units.Unit.{Unit as PictureUnit}
+use Rattle.mpeg_scan.specs.Calls.{Call, head_call, slice_call, unit_call, all_calls}
+use Rattle.mpeg_scan.specs.StartCodes.{read_after, codes_of}
+use Rattle.mpeg_scan.specs.UnitNumbering.{Count, counts_after, group_of, no_count}
+use Rattle.mpeg_scan.specs.Films.{IsFilm, slices_in, units_in}
+use Rattle.mpeg_scan.specs.PartTiling.{Part, between, within, first_of, parts_after}
+use Rattle.mpeg_scan.proofs.FilmLemmas.{length-read}
+use Rattle.mpeg_scan.proofs.UnitNumberingLemmas.{film-numbered}
+use Rattle.mpeg_scan.proofs.PartTilingLemmas.{film-tiles}
+use Rattle.mpeg_scan.specs.Layout.{AreChained, AreInOrder, IsLaid, AreLaid, unit_starts}
+
+pub laid-at : {unit : PictureUnit} (end : ℕ) (starts : List ℕ) (units : List PictureUnit) (k : ℕ)
+    → slice_get units k ≡ Some unit → AreLaid end starts units → (unit.to ≤ end) × IsLaid starts unit
+laid-at end starts [] k is laid = cc
+laid-at {unit} end starts (first ∷ units) zero is laid =
+    let P : PictureUnit → Type 0 = λ u. (u.to ≤ end) × IsLaid starts u in
+    let same : first ≡ unit = cc in subst P same laid.0
+laid-at end starts (first ∷ units) (suc k) is laid = laid-at end starts units k is laid.1
+
+-- one slice more
+in_order-more : (cur : List ℕ) (head at b : ℕ) → AreInOrder head cur at → at + 4 ≤ b
+    → AreInOrder head (cur ++ at ∷ []) b
+in_order-more [] head at b order least = (sym order, (omega (arith, order, least), refl))
+in_order-more (s ∷ []) head at b order least = (order.0, (order.1.0, (refl, (least, refl))))
+in_order-more (s ∷ (next ∷ cur)) head at b order least =
+    (order.0, (order.1.0, in_order-more (next ∷ cur) next at b order.1.1 least))
+
+-- the slices of a unit, after those before it
+pub own-slices : {cur : List ℕ} {first n : ℕ} (before rest : List ℕ) → first ≡ length before → n ≡ length cur
+    → take n (drop first ((before ++ cur) ++ rest)) ≡ cur
+own-slices {cur} {first} {n} before rest f m =
+    ap (λ (l : List ℕ). take n (drop first l)) (append_assoc before cur rest)
+    ∙ ap (λ i. take n (drop i (before ++ (cur ++ rest)))) f
+    ∙ ap (λ (l : List ℕ). take n l) (drop-append_seam before (cur ++ rest))
+    ∙ ap (λ i. take i (cur ++ rest)) m
+    ∙ take-append_seam cur rest
+
+-- what the parts so far say: `past` are the places of all slices so far
+pub record Inside (from head_end at n : ℕ) (past : List ℕ) : Type 0 where
+  pub before : List ℕ
+  pub cur : List ℕ
+  pub past_is : past ≡ before ++ cur
+  pub count : n ≡ length cur
+  pub head : from < head_end
+  pub short : head_end ≤ from + 1380
+  pub in_order : AreInOrder head_end cur at
+
+abbrev pub Stands : Part → List ℕ → Type 0
+Stands (between at) past = Unit {0}
+Stands (within from head_end at n) past = Inside from head_end at n past
+
+-- where the parts go on to an end, the next one fits
+pub part-fits : (b : Bool) (p : Part) (calls : List Call) (to : ℕ)
+    → parts_after (cond b (Some p) None) calls ≡ Some (between to)
+    → (b ≡ true) × (parts_after (Some p) calls ≡ Some (between to))
+part-fits true p calls to e = (refl, e)
+part-fits false p [] to e = cc
+part-fits false p (call ∷ calls) to e = cc
+
+-- the parts come to their end from the front
+place_of : Part → ℕ
+place_of (between at) = at
+place_of (within from head_end at n) = at
+
+part-below : (calls : List Call) (part : Part) (to : ℕ) → parts_after (Some part) calls ≡ Some (between to)
+    → place_of part ≤ to
+unfolding place_of
+part-below [] (between at) to parts = let same : at ≡ to = cc in omega (arith, same)
+part-below [] (within from head_end at n) to parts = cc
+part-below (head_call a b ∷ calls) (between at) to parts =
+    let fits = part-fits (eqb a at && (ltb a b && leb (b - a) 1380)) (within a b b 0) calls to parts in
+    let first = and_parts (eqb a at) (ltb a b && leb (b - a) 1380) fits.0 in
+    omega (
+      arith,
+      eqb-true a at first.0,
+      ltb-true a b (and_parts (ltb a b) (leb (b - a) 1380) first.1).0,
+      part-below calls (within a b b 0) to fits.1,
+    )
+part-below (slice_call a b ∷ calls) (between at) to parts =
+    absurd (false≢true (part-fits false (between at) calls to parts).0)
+part-below (unit_call unit ∷ calls) (between at) to parts =
+    absurd (false≢true (part-fits false (between at) calls to parts).0)
+part-below (head_call a b ∷ calls) (within from head_end at n) to parts =
+    absurd (false≢true (part-fits false (between at) calls to parts).0)
+part-below (slice_call a b ∷ calls) (within from head_end at n) to parts =
+    let fits = part-fits (eqb a at && leb (a + 4) b) (within from head_end b (n + 1)) calls to parts in
+    let first = and_parts (eqb a at) (leb (a + 4) b) fits.0 in
+    omega (
+      arith,
+      eqb-true a at first.0,
+      leb-true (a + 4) b first.1,
+      part-below calls
+          (within from head_end b (n + 1)) to fits.1,
+    )
+part-below (unit_call unit ∷ calls) (within from head_end at n) to parts =
+    let fits = part-fits
+    ((eqb unit.from from && (eqb unit.head_end head_end && eqb unit.to at))
+    && (eqb unit.slices n && ltb 0 n)) (between at) calls to parts in
+    part-below calls (between at) to fits.1
+
+pub count-fits : (b : Bool) (k : Count) (calls : List Call) → IsSome (counts_after (cond b (Some k) None) calls)
+    → (b ≡ true) × IsSome (counts_after (Some k) calls)
+count-fits true k calls e = (refl, e)
+count-fits false k [] e = cc
+count-fits false k (call ∷ calls) e = cc
+
+pub record UnitFits (unit : PictureUnit) (from head_end at n : ℕ) : Type 0 where
+  pub begin : unit.from ≡ from
+  pub head : unit.head_end ≡ head_end
+  pub end : unit.to ≡ at
+  pub slices : unit.slices ≡ n
+  pub some : 0 < n
+
+pub unit-fits : (unit : PictureUnit) (from head_end at n : ℕ)
+    → ((eqb unit.from from && (eqb unit.head_end head_end && eqb unit.to at)) && (eqb unit.slices n && ltb 0 n))
+    ≡ true → UnitFits unit from head_end at n
+unit-fits unit from head_end at n e =
+    let both = and_parts (eqb unit.from from && (eqb unit.head_end head_end && eqb unit.to at))
+    (eqb unit.slices n && ltb 0 n) e in
+    let first = and_parts (eqb unit.from from) (eqb unit.head_end head_end && eqb unit.to at) both.0 in
+    let places = and_parts (eqb unit.head_end head_end) (eqb unit.to at) first.1 in
+    let counts = and_parts (eqb unit.slices n) (ltb 0 n) both.1 in
+    record {
+      begin = eqb-true unit.from from first.0;
+      head = eqb-true unit.head_end head_end places.0;
+      end = eqb-true unit.to at places.1;
+      slices = eqb-true unit.slices n counts.0;
+      some = ltb-true 0 n counts.1;
+    }
+
+unit-laid : {unit : PictureUnit} {from head_end at n : ℕ} {past : List ℕ} (rest : List ℕ)
+    → UnitFits unit from head_end at n → unit.first_slice + unit.slices ≡ length past
+    → Inside from head_end at n past → IsLaid (past ++ rest) unit
+unit-laid {unit} {from} {head_end} {at} {past} rest fits count inside =
+    let all : length past ≡ length inside.before + length inside.cur =
+    ap length inside.past_is ∙ length-append inside.before inside.cur in
+    let cur : unit.slices ≡ length inside.cur = fits.slices ∙ inside.count in
+    let first : unit.first_slice ≡ length inside.before = omega (arith, all, cur, count) in
+    let starts : inside.cur ≡ unit_starts (past ++ rest) unit =
+    sym (ap (λ (l : List ℕ). take unit.slices (drop unit.first_slice (l ++ rest))) inside.past_is
+    ∙ own-slices inside.before rest first cur) in
+    let order : AreInOrder unit.head_end inside.cur unit.to =
+    subst (λ h. AreInOrder h inside.cur unit.to) (sym fits.head)
+    (subst (λ t. AreInOrder head_end inside.cur t) (sym fits.end) inside.in_order) in
+    record {
+      fits = omega (arith, count, length-append past rest);
+      head = omega (arith, fits.begin, fits.head, inside.head);
+      short = omega (arith, fits.begin, fits.head, inside.short);
+      some = omega (arith, fits.slices, fits.some);
+      in_order = subst (λ (l : List ℕ). AreInOrder unit.head_end l unit.to) starts order;
+    }
+
+-- the places of all slices so far, where the parts so far come to this one
+record SoFar (part : Part) (k : Count) (past : List ℕ) : Type 0 where
+  slices : k.slices ≡ length past
+  stands : Stands part past
+
+part-laid : (calls : List Call) {part : Part} {k : Count} {to : ℕ} {past : List ℕ} →
+    parts_after (Some part) calls ≡ Some (between to) → IsSome (counts_after (Some k) calls) → SoFar part k past →
+    AreLaid to (past ++ slices_in calls) (units_in calls)
+unfolding place_of
+part-laid [] parts counts so_far = tt
+part-laid (head_call a b ∷ calls) {part = between at} {k} {to} {past} parts counts so_far =
+    let fits = part-fits (eqb a at && (ltb a b && leb (b - a) 1380)) (within a b b 0) calls to parts in
+    let head = and_parts (ltb a b) (leb (b - a) 1380) (and_parts (eqb a at) (ltb a b && leb (b - a) 1380) fits.0).1 in
+    let less = ltb-true a b head.0 in
+    let short = leb-true (b - a) 1380 head.1 in
+    let next : SoFar (within a b b 0) k past = record {
+      slices = so_far.slices;
+      stands = record {
+        before = past;
+        cur = [];
+        past_is = sym (append-nil past);
+        count = refl;
+        head = less;
+        short = omega (arith, less, short);
+        in_order = refl;
+      };
+    } in
+    part-laid calls fits.1 counts next
+part-laid (slice_call a b ∷ calls) {part = between at} {to} parts counts so_far =
+    absurd (false≢true (part-fits false (between at) calls to parts).0)
+part-laid (unit_call unit ∷ calls) {part = between at} {to} parts counts so_far =
+    absurd (false≢true (part-fits false (between at) calls to parts).0)
+part-laid (head_call a b ∷ calls) {part = within from head_end at n} {to} parts counts so_far =
+    absurd (false≢true (part-fits false (between at) calls to parts).0)
+part-laid (slice_call a b ∷ calls) {part = within from head_end at n} {k} {to} {past} parts counts so_far =
+    let stands : Inside from head_end at n past = so_far.stands in
+    let fits = part-fits (eqb a at && leb (a + 4) b) (within from head_end b (n + 1)) calls to parts in
+    let slice = and_parts (eqb a at) (leb (a + 4) b) fits.0 in
+    let here = eqb-true a at slice.0 in
+    let least = leb-true (a + 4) b slice.1 in
+    let next : SoFar (within from head_end b (n + 1)) (record k { slices = k.slices + 1 }) (past ++ a ∷ []) = record {
+      slices = omega (arith, so_far.slices, length-append past (a ∷ []));
+      stands = record {
+        before = stands.before;
+        cur = stands.cur ++ a ∷ [];
+        past_is = ap (λ (l : List ℕ). l ++ a ∷ []) stands.past_is ∙ append_assoc stands.before stands.cur (a ∷ []);
+        count = omega (arith, stands.count, length-append stands.cur (a ∷ []));
+        head = stands.head;
+        short = stands.short;
+        in_order = subst (λ s. AreInOrder head_end (stands.cur ++ s ∷ []) b) (sym here)
+            (in_order-more stands.cur head_end at b stands.in_order (omega (arith, here, least)));
+      };
+    } in
+    subst (λ (l : List ℕ). AreLaid to l (units_in calls)) (append_assoc past (a ∷ []) (slices_in calls))
+    (part-laid calls fits.1 counts next)
+part-laid (unit_call unit ∷ calls) {part = within from head_end at n} {k} {to} {past} parts counts so_far =
+    let fits = part-fits
+    ((eqb unit.from from && (eqb unit.head_end head_end && eqb unit.to at))
+    && (eqb unit.slices n && ltb 0 n)) (between at) calls to parts in
+    let agrees =
+    count-fits (eqb (unit.first_slice + unit.slices) k.slices && eqb unit.presentation
+    (group_of k unit + unit.temporal))
+    (record { units = k.units + 1; slices = k.slices; before_group = group_of k unit }) calls counts in
+    let count = eqb-true (unit.first_slice + unit.slices) k.slices
+    (and_parts (eqb (unit.first_slice + unit.slices) k.slices)
+    (eqb unit.presentation (group_of k unit + unit.temporal)) agrees.0).0 in
+    let next : SoFar (between at)
+    (record { units = k.units + 1; slices = k.slices; before_group = group_of k unit }) past =
+    record { slices = so_far.slices; stands = tt } in (
+      (
+        subst (λ p. p ≤ to) (sym (unit-fits unit from head_end at n fits.0).end)
+            (part-below calls (between at) to fits.1),
+        unit-laid (slices_in calls) (unit-fits unit from head_end at n fits.0) (count ∙ so_far.slices) so_far.stands,
+      ),
+      part-laid calls fits.1 agrees.1 next,
+    )
+
+pub film-laid : (bytes : List ℕ) (rate : ℕ) (units : List PictureUnit) (starts : List ℕ)
+    → IsFilm bytes rate units starts → AreLaid (length bytes) starts units
+film-laid bytes rate units starts film =
+    let calls = all_calls (read_after [] bytes) in
+    let end : length (read_after [] bytes) ≡ length bytes = length-read bytes [] ∙ omega arith in
+    let start : SoFar (between (first_of (codes_of (read_after [] bytes)))) no_count [] =
+    record { slices = refl; stands = tt } in
+    let laid =
+    part-laid calls (film-tiles (read_after [] bytes) film.accepted)
+    (film-numbered (read_after [] bytes) film.accepted) start in
+    subst (λ e. AreLaid e starts units) end
+    (subst (λ (l : List ℕ). AreLaid (length (read_after [] bytes)) l units) (sym film.slices)
+    (subst (λ (l : List PictureUnit). AreLaid (length (read_after [] bytes)) (slices_in calls) l)
+    (sym film.units) laid))
+
+-- ---- units lie one after another
+
+begin_of_part : Part → ℕ
+begin_of_part (between at) = at
+begin_of_part (within from head_end at n) = from
+
+parts-chained : (calls : List Call) (part : Part) (to : ℕ) → parts_after (Some part) calls ≡ Some (between to)
+    → AreChained (begin_of_part part) (units_in calls) to
+unfolding begin_of_part
+parts-chained [] (between at) to parts = cc
+parts-chained [] (within from head_end at n) to parts = cc
+parts-chained (head_call a b ∷ calls) (between at) to parts =
+    let fits = part-fits (eqb a at && (ltb a b && leb (b - a) 1380)) (within a b b 0) calls to parts in
+    let here = eqb-true a at (and_parts (eqb a at) (ltb a b && leb (b - a) 1380) fits.0).0 in
+    subst (λ f. AreChained f (units_in calls) to) here (parts-chained calls (within a b b 0) to fits.1)
+parts-chained (slice_call a b ∷ calls) (between at) to parts =
+    absurd (false≢true (part-fits false (between at) calls to parts).0)
+parts-chained (unit_call unit ∷ calls) (between at) to parts =
+    absurd (false≢true (part-fits false (between at) calls to parts).0)
+parts-chained (head_call a b ∷ calls) (within from head_end at n) to parts =
+    absurd (false≢true (part-fits false (between at) calls to parts).0)
+parts-chained (slice_call a b ∷ calls) (within from head_end at n) to parts =
+    let fits = part-fits (eqb a at && leb (a + 4) b) (within from head_end b (n + 1)) calls to parts in
+    parts-chained calls (within from head_end b (n + 1)) to fits.1
+parts-chained (unit_call unit ∷ calls) (within from head_end at n) to parts =
+    let fits = part-fits
+    ((eqb unit.from from && (eqb unit.head_end head_end && eqb unit.to at))
+    && (eqb unit.slices n && ltb 0 n)) (between at) calls to parts in
+    let places =
+    (and_parts (eqb unit.from from && (eqb unit.head_end head_end && eqb unit.to at))
+    (eqb unit.slices n && ltb 0 n) fits.0).0 in
+    let first = and_parts (eqb unit.from from) (eqb unit.head_end head_end && eqb unit.to at) places in
+    let end = eqb-true unit.to at (and_parts (eqb unit.head_end head_end) (eqb unit.to at) first.1).1 in (
+      eqb-true unit.from from first.0,
+      subst (λ f. AreChained f (units_in calls) to) (sym end) (parts-chained calls (between at) to fits.1),
+    )
+
+pub film-chained : (bytes : List ℕ) (rate : ℕ) (units : List PictureUnit) (starts : List ℕ)
+    → IsFilm bytes rate units starts → AreChained (first_of (codes_of (read_after [] bytes))) units (length bytes)
+unfolding begin_of_part
+film-chained bytes rate units starts film =
+    let r = read_after [] bytes in
+    let end : length r ≡ length bytes = length-read bytes [] ∙ omega arith in
+    let chained =
+    parts-chained (all_calls r) (between (first_of (codes_of r))) (length r) (film-tiles r film.accepted) in
+    let P : List PictureUnit → Type 0 = λ l. AreChained (first_of (codes_of r)) l (length bytes) in
+    subst P (sym film.units) (subst (λ e. AreChained (first_of (codes_of r)) (units_in (all_calls r)) e) end chained)

@@ -1,5 +1,0 @@
-use Rattle.mpeg_scan.proofs.RateLemmas.{time-bounds}
-use Rattle.mpeg_scan.proofs.laws.law_picture_rates.Goals as goal
-
-pub returns-clause-bounds : goal.returns-clause-bounds
-returns-clause-bounds c = time-bounds

@@ -1,5 +1,0 @@
-use Rattle.mpeg_scan.proofs.RefusedLemmas.{film-refused, film-accepted}
-use Rattle.mpeg_scan.proofs.laws.law_refusals.Goals as goal
-
-pub returns : goal.returns
-returns c = record { refused = λ bytes f. film-refused bytes f; accepted = λ bytes. film-accepted bytes }

@@ -1,0 +1,9 @@
+pub mod Plans
+pub mod Pictures
+pub mod OfflineCommands
+pub mod ScanText
+pub mod HelpText
+pub mod VerdictText
+pub mod Days
+pub mod TextLaws
+pub mod HelpLaws

@@ -1,8 +1,0 @@
-use Rattle.plan_cert.proofs.TextLaws.{text_lines, one_list}
-use Rattle.plan_cert.proofs.laws.law_text.Goals as goal
-
-pub returns-clause-lines : goal.returns-clause-lines
-returns-clause-lines c = text_lines
-
-pub returns-clause-one : goal.returns-clause-one
-returns-clause-one c = one_list

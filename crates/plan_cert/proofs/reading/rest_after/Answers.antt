@@ -1,5 +1,0 @@
-use Rattle.plan_cert.proofs.Decimals.{after_from}
-use Rattle.plan_cert.proofs.reading.rest_after.Goals as goal
-
-pub returns : goal.returns
-returns c = after_from (λ x. x.now) c.strip_prefix.result c.args.line.now c.args.word.now c.strip_prefix.ensures.cases

@@ -1,5 +1,0 @@
-use Rattle.report.proofs.JournalLemmas.{journal_told}
-use Rattle.report.proofs.laws.law_journal_text.Goals as goal
-
-pub returns : goal.returns
-returns c = journal_told

@@ -1,0 +1,421 @@
+-- Exactly one list of cut points meets the rules, and it is the packer's.
+use Rattle.std.proofs.Common.{◌≡◌, ℕ, zero, suc, ◌+◌, ◌*◌, ◌<◌, ◌≤◌, ◌⊎◌, Bool, true, false, cond}
+use Rattle.std.proofs.Common.{eqb, leb, ◌||◌, List, [], ◌∷◌, ◌++◌, sum, refl, sym, ap, subst, ◌∙◌}
+use Rattle.std.proofs.Common.{arith, inl, inr}
+use Rattle.std.proofs.lemmas.Bool.{both_ways, cases_lt, cases_order, eq-eqb, ne_eqb, le-leb, lt-leb, leb-false}
+use Rattle.std.proofs.lemmas.Bool.{le-ltb, ltb-false, or_right}
+use Rattle.mpeg_scan.specs.declared.units.Kind.TheVariants.{I}
+use Rattle.mpeg_scan.specs.declared.units.Unit.{Unit as PictureUnit}
+use Rattle.rtp_pack.specs.declared.open_packet.OpenPacket.{OpenPacket}
+use Rattle.rtp_pack.specs.declared.open_packet.PacketContents.{PacketContents}
+use Rattle.rtp_pack.specs.declared.open_packet.PacketContents.TheVariants.{HeadersAlone, Slices, LastFragment}
+use Rattle.rtp_pack.specs.Packetization.{Cuts, AreCutPoints, filling_after, first_portion, full_ends, goes_in}
+use Rattle.rtp_pack.specs.Packetization.{goes_in_cut, goes_in_whole, holds_after}
+use Rattle.rtp_pack.specs.Laws.{ArePortions, AreShortUncut, DoLongEndPortions, IsUncut}
+use Rattle.rtp_pack.specs.Packets.{is_among, packets_from}
+use Rattle.rtp_pack.specs.PacketizationRules.{HaveBytes, IsCutPlace, MayAllEnd, MayEnd, MeetsRules, SliceAt}
+use Rattle.rtp_pack.proofs.CutPointLemmas.{AreSome, ends, packets-cut}
+use Rattle.rtp_pack.proofs.PacketizationLemmas.{among-full, cuts-from, headers-uncut, long-ends, portions-cover}
+use Rattle.rtp_pack.proofs.PacketizationLemmas.{short-uncut}
+
+-- ---- one list
+
+-- what two lists are compared by, from the place on where a portion begins
+record Rest (Must : ℕ → Type 0) (Fits : ℕ → ℕ → Type 0) (May : ℕ → ℕ → Type 0) (start end : ℕ)
+    (cuts : List ℕ) : Type 0 where
+  portions : ArePortions start cuts end
+  short : (place length : ℕ) → Fits place length → IsUncut place (place + length) cuts
+  must : (place : ℕ) → start < place → Must place → is_among place cuts ≡ true
+  ends : MayAllEnd May start cuts
+
+-- the reasons of an end
+abbrev Reasons : (ℕ → Type 0) → (ℕ → ℕ → Type 0) → (ℕ → ℕ → Type 0) → Type 0
+Reasons Must Fits May =
+    (start cut : ℕ) → May start cut
+    → (cut ≡ start + 1380) ⊎ (Must cut ⊎ ((length : ℕ) × (Fits cut length × (start + 1380 < cut + length))))
+
+portions-rise : {start : ℕ} (end first : ℕ) (cuts : List ℕ) → ArePortions start cuts end → first < start
+    → is_among first cuts ≡ true → ⊥
+portions-rise {start} end first [] portions less e = cc
+portions-rise {start} end first (cut ∷ cuts) portions less e =
+    let other : eqb first cut ≡ false = ne_eqb first cut (λ is. absurd (omega (arith, is, portions.0, less))) in
+    portions-rise {start = cut} end first cuts portions.1.1 (omega (arith, less, portions.0))
+    (sym (ap (λ b. b || is_among first cuts) other) ∙ e)
+
+portions-end : (start end : ℕ) (cuts : List ℕ) → ArePortions start cuts end → start ≤ end
+portions-end start end [] portions = omega (arith, portions)
+portions-end start end (cut ∷ cuts) portions = omega (arith, portions.0, portions-end cut end cuts portions.1.1)
+
+among-rest : (place cut : ℕ) (cuts : List ℕ) → cut < place → is_among place (cut ∷ cuts) ≡ true
+    → is_among place cuts ≡ true
+among-rest place cut cuts less e =
+    let other : eqb place cut ≡ false = ne_eqb place cut (λ is. absurd (omega (arith, is, less))) in
+    sym (ap (λ b. b || is_among place cuts) other) ∙ e
+
+ends-next : (May : ℕ → ℕ → Type 0) (start cut : ℕ) (cuts : List ℕ) → MayAllEnd May start (cut ∷ cuts)
+    → MayAllEnd May cut cuts
+ends-next May start cut [] ends_ = tt
+ends-next May start cut (next ∷ cuts) ends_ = ends_.1
+
+rest-next : {Must : ℕ → Type 0} {Fits May : ℕ → ℕ → Type 0} {start end cut : ℕ} {cuts : List ℕ}
+    → Rest Must Fits May start end (cut ∷ cuts) → Rest Must Fits May cut end cuts
+rest-next {Fits} {May} {start} {end} {cut} {cuts} rest = record {
+  portions = rest.portions.1.1;
+  short = λ place length fits. (rest.short place length fits).1;
+  must = λ place after is. among-rest place cut cuts after (rest.must place (omega (arith, after, rest.portions.0)) is);
+  ends = ends-next May start cut cuts rest.ends;
+}
+
+cut-inside : (c d length : ℕ) → (d ≤ c) ⊎ (c + length ≤ d) → c < d → d < c + length → ⊥
+cut-inside c d length (inl low) less inside = omega (arith, low, less)
+cut-inside c d length (inr high) less inside = omega (arith, high, inside)
+
+-- a cut of one list is no place that the other passes over
+passed-by : {Must : ℕ → Type 0} {Fits May : ℕ → ℕ → Type 0} {start end c d : ℕ} {bs : List ℕ}
+    → Rest Must Fits May start end (d ∷ bs) → start < c → c < d
+    → (c ≡ start + 1380) ⊎ (Must c ⊎ ((length : ℕ) × (Fits c length × (start + 1380 < c + length)))) → ⊥
+passed-by {Fits} {May} {start} {end} {c} b some less (inl full) = omega (arith, full, less, b.portions.1.0)
+passed-by {Fits} {May} {start} {end} {c} {d} {bs} b some less (inr (inl must)) =
+    let there = b.must c some must in
+    let other : eqb c d ≡ false = ne_eqb c d (λ is. absurd (omega (arith, is, less))) in
+    portions-rise end c bs b.portions.1.1 less (sym (ap (λ e. e || is_among c bs) other) ∙ there)
+passed-by {Fits} {May} {start} {end} {c} {d} b some less (inr (inr fit)) =
+    cut-inside c d fit.0 (b.short c fit.0 fit.1.0).0 less (omega (arith, fit.1.1, b.portions.1.0))
+
+passed : {Must : ℕ → Type 0} {Fits May : ℕ → ℕ → Type 0} {start end c d : ℕ} {cs bs : List ℕ}
+    → Reasons Must Fits May → Rest Must Fits May start end (c ∷ cs) → Rest Must Fits May start end (d ∷ bs) → c < d → ⊥
+passed {Fits} {May} {start} {end} {c} {d} {cs = []} {bs} reasons a b less =
+    omega (arith, a.portions.1.1, less, portions-end d end bs b.portions.1.1)
+passed {Must} {Fits} {May} {start} {end} {c} {cs = next ∷ cs} reasons a b less =
+    passed-by b (omega (arith, a.portions.0)) less (reasons start c a.ends.0)
+
+one-rest : {Must : ℕ → Type 0} {Fits May : ℕ → ℕ → Type 0} {start end : ℕ} {cs bs : List ℕ}
+    → Reasons Must Fits May → Rest Must Fits May start end cs → Rest Must Fits May start end bs → cs ≡ bs
+one-rest {Fits} {May} {start} {end} {cs = []} {bs = []} reasons a b = refl
+one-rest {Fits} {May} {start} {end} {cs = []} {bs = d ∷ bs} reasons a b =
+    absurd (omega (arith, a.portions, b.portions.0, portions-end d end bs b.portions.1.1))
+one-rest {Fits} {May} {start} {end} {cs = c ∷ cs} {bs = []} reasons a b =
+    absurd (omega (arith, b.portions, a.portions.0, portions-end c end cs a.portions.1.1))
+one-rest {Must} {Fits} {May} {start} {end} {cs = c ∷ cs} {bs = d ∷ bs} reasons a b = elim (cases_order c d) [
+  | inl same ↦ (let P : ℕ → Type 0 = λ s. Rest Must Fits May s end bs in
+      let rest = one-rest reasons (rest-next a) (subst P (sym same) (rest-next b)) in
+      ap (λ n. n ∷ cs) same ∙ ap (λ (l : List ℕ). d ∷ l) rest)
+  | inr (inl less) ↦ absurd (passed reasons a b less)
+  | inr (inr more) ↦ absurd (passed reasons b a more)
+]
+
+-- a slice that is short
+abbrev Short : ℕ → List ℕ → ℕ → ℕ → Type 0
+Short headers_end slices place length = SliceAt headers_end slices place length × (length ≤ 1380)
+
+the-reasons : (from headers_end : ℕ) (slices : List ℕ)
+    → Reasons (IsCutPlace from headers_end slices) (Short headers_end slices) (MayEnd from headers_end slices)
+the-reasons from headers_end slices start cut (inl full) = inl full
+the-reasons from headers_end slices start cut (inr (inl place)) = inr (inl place)
+the-reasons from headers_end slices start cut (inr (inr over)) =
+    inr (inr (over.length, ((over.slice, over.short), over.over)))
+
+the-rest : (from headers_end : ℕ) (slices cuts : List ℕ) → MeetsRules from headers_end slices cuts
+    → Rest (IsCutPlace from headers_end slices) (Short headers_end slices) (MayEnd from headers_end slices) from
+    (headers_end + sum slices) cuts
+the-rest from headers_end slices cuts meets = record {
+  portions = meets.portions;
+  short = λ place length is. meets.short place length is.0 is.1;
+  must = λ place after is. meets.long place is;
+  ends = meets.ends;
+}
+
+pub one-meets : {from headers_end : ℕ} {slices one other : List ℕ} → MeetsRules from headers_end slices one
+    → MeetsRules from headers_end slices other → one ≡ other
+one-meets {from} {headers_end} {slices} {one} {other} a b =
+    one-rest (the-reasons from headers_end slices) (the-rest from headers_end slices one a)
+    (the-rest from headers_end slices other b)
+
+-- ---- the packer's list meets them
+
+pub some-bytes : (slices : List ℕ) → HaveBytes slices → AreSome slices
+some-bytes [] have = tt
+some-bytes (n ∷ slices) have = (have.0, some-bytes slices have.1)
+
+slice-after : (slices : List ℕ) (at place length : ℕ) → SliceAt at slices place length → at ≤ place
+slice-after [] at place length is = absurd is
+slice-after (n ∷ slices) at place length (inl here) = omega (arith, here.0)
+slice-after (n ∷ slices) at place length (inr later) = omega (arith, slice-after slices (at + n) place length later)
+
+-- the same, of each of them
+abbrev AreUncutWhereShort : ℕ → List ℕ → List ℕ → Type 0
+AreUncutWhereShort at slices cuts =
+    (place length : ℕ) → SliceAt at slices place length → length ≤ 1380 → IsUncut place (place + length) cuts
+
+short-at : (slices : List ℕ) (at : ℕ) (cuts : List ℕ) → AreShortUncut at slices cuts → AreUncutWhereShort at slices cuts
+short-at [] at cuts uncut place length is short = absurd is
+short-at (n ∷ slices) at cuts uncut place length (inl here) short =
+    let P : ℕ → Type 0 = λ p. IsUncut p (p + length) cuts in
+    let Q : ℕ → Type 0 = λ m. IsUncut at (at + m) cuts in
+    subst P here.0 (subst Q here.1 (uncut.0 (omega (arith, here.1, short))))
+short-at (n ∷ slices) at cuts uncut place length (inr later) short =
+    short-at slices (at + n) cuts uncut.1 place length later short
+
+leb-not : (n : ℕ) → 1380 < n → leb n 1380 ≡ false
+leb-not n long = lt-leb n 1380 long
+
+-- a long slice that isn't first in a unit doesn't go in
+long-not : (f : OpenPacket) (n : ℕ) → 1380 < n → f.holds ≡ Slices ⊎ f.holds ≡ LastFragment → goes_in f n ≡ false
+long-not f n long (inl e) =
+    ap (λ b. cond b (goes_in_whole f.from f.at f.holds n) (goes_in_cut f.from f.at f.holds)) (leb-not n long)
+    ∙ ap (λ (h : PacketContents). goes_in_cut f.from f.at h) e
+long-not f n long (inr e) =
+    ap (λ b. cond b (goes_in_whole f.from f.at f.holds n) (goes_in_cut f.from f.at f.holds)) (leb-not n long)
+    ∙ ap (λ (h : PacketContents). goes_in_cut f.from f.at h) e
+
+held-by : (b : Bool) → (cond b Slices LastFragment ≡ Slices) ⊎ (cond b Slices LastFragment ≡ LastFragment)
+held-by true = inl refl
+held-by false = inr refl
+
+held-is : (n : ℕ) → (holds_after n ≡ Slices) ⊎ (holds_after n ≡ LastFragment)
+held-is n = held-by (leb n 1380)
+
+first-there : (place at : ℕ) (cuts : List ℕ) → at ≡ place → is_among place (at ∷ cuts) ≡ true
+first-there place at cuts here = ap (λ b. b || is_among place cuts) (eq-eqb place at (sym here))
+
+-- a long slice begins with a portion where it doesn't go in
+abbrev DoLongBegin : OpenPacket → List ℕ → List ℕ → Type 0
+DoLongBegin f slices cuts =
+    (place length : ℕ) → SliceAt f.at slices place length → 1380 < length
+    → (place ≡ f.at → goes_in f length ≡ false) → is_among place cuts ≡ true
+
+begin-cut : (slices : List ℕ) (f : OpenPacket) (cuts : List ℕ) → Cuts f slices cuts → DoLongBegin f slices cuts
+begin-cut [] f cuts e place length is long goes = absurd is
+begin-cut (n ∷ slices) f cuts (inl x) place length (inl here) long goes =
+    absurd (both_ways (goes_in f n) (ap (λ m. goes_in f m) here.1 ∙ goes (sym here.0)) x.0)
+begin-cut (n ∷ slices) f cuts (inl x) place length (inr later) long goes =
+    let g = filling_after f n (f.from + 1380 * x.1.full) in
+    ap (λ (l : List ℕ). is_among place l) x.1.filled
+    ∙ among-full place f.from x.1.full x.1.rest
+    (begin-cut slices g x.1.rest x.1.goes_on place length later long (λ _. long-not g length long (held-is n)))
+begin-cut (n ∷ slices) f cuts (inr x) place length (inl here) long goes =
+    ap (λ (l : List ℕ). is_among place l) x.1.1.0 ∙ first-there place f.at x.1.0 here.0
+begin-cut (n ∷ slices) f cuts (inr x) place length (inr later) long goes =
+    let fills = x.1.1.1 in
+    let g = filling_after f n (f.at + 1380 * fills.full) in
+    let there =
+    begin-cut slices g fills.rest fills.goes_on place length later long (λ _. long-not g length long (held-is n)) in
+    ap (λ (l : List ℕ). is_among place l) x.1.1.0
+    ∙ or_right (eqb place f.at) (is_among place x.1.0)
+    (ap (λ (l : List ℕ). is_among place l) fills.filled ∙ among-full place f.at fills.full fills.rest there)
+
+-- a long slice ends with a portion
+abbrev DoLongEnd : ℕ → List ℕ → List ℕ → Type 0
+DoLongEnd at slices cuts =
+    (start length : ℕ) → SliceAt at slices start length → 1380 < length → is_among (start + length) cuts ≡ true
+
+end-by : (slices : List ℕ) (at : ℕ) (cuts : List ℕ) → DoLongEndPortions at slices cuts → DoLongEnd at slices cuts
+end-by [] at cuts ends_ start length is long = absurd is
+end-by (n ∷ slices) at cuts ends_ start length (inl here) long =
+    ap (λ p. is_among p cuts) (omega (arith, here.0, here.1)) ∙ ends_.0 (omega (arith, here.1, long))
+end-by (n ∷ slices) at cuts ends_ start length (inr later) long =
+    end-by slices (at + n) cuts ends_.1 start length later long
+
+end-cut : (slices : List ℕ) (f : OpenPacket) (cuts : List ℕ) → Cuts f slices cuts → DoLongEnd f.at slices cuts
+end-cut slices f cuts cutting = end-by slices f.at cuts (long-ends slices f cuts cutting)
+
+-- each portion ends where it may
+record Reads (Must : ℕ → Type 0) (Begins : ℕ → ℕ → Type 0) (f : OpenPacket) (slices : List ℕ) : Type 0 where
+  begins : (place length : ℕ) → SliceAt f.at slices place length → Begins place length
+  long : (place length : ℕ) → SliceAt f.at slices place length → 1380 < length
+      → (place ≡ f.at → goes_in f length ≡ false) → Must place
+  long_end : (start length : ℕ) → SliceAt f.at slices start length → 1380 < length → Must (start + length)
+  last : f.holds ≡ LastFragment → Must f.at
+
+abbrev MayBy : (ℕ → Type 0) → (ℕ → ℕ → Type 0) → ℕ → ℕ → Type 0
+MayBy Must Begins start cut =
+    (cut ≡ start + 1380)
+    ⊎ (Must cut ⊎ ((length : ℕ) × (Begins cut length × ((length ≤ 1380) × (start + 1380 < cut + length)))))
+
+may-cons : (May : ℕ → ℕ → Type 0) (start cut : ℕ) (cuts : List ℕ) → May start cut → MayAllEnd May cut cuts
+    → MayAllEnd May start (cut ∷ cuts)
+may-cons May start cut [] one rest = tt
+may-cons May start cut (next ∷ cuts) one rest = (one, rest)
+
+full-may : (Must : ℕ → Type 0) (Begins : ℕ → ℕ → Type 0) (start count : ℕ) (rest : List ℕ)
+    → MayAllEnd (MayBy Must Begins) (start + 1380 * count) rest
+    → MayAllEnd (MayBy Must Begins) start (full_ends start count ++ rest)
+full-may Must Begins start zero rest may = subst (λ s. MayAllEnd (MayBy Must Begins) s rest) (omega arith) may
+full-may Must Begins start (suc count) rest may =
+    may-cons (MayBy Must Begins) start (start + 1380) (full_ends (start + 1380) count ++ rest) (inl refl)
+    (full-may Must Begins (start + 1380) count rest
+    (subst (λ s. MayAllEnd (MayBy Must Begins) s rest) (omega arith) may))
+
+-- why a slice doesn't go in
+record BeginsShort (Begins : ℕ → ℕ → Type 0) (at n : ℕ) : Type 0 where
+  begins : Begins at n
+  short : n ≤ 1380
+
+why-short : {at n : ℕ} {holds : PacketContents} {Begins : ℕ → ℕ → Type 0} (Must : ℕ → Type 0) (from : ℕ) →
+    BeginsShort Begins at n → (holds ≡ LastFragment → Must at) → goes_in_whole from at holds n ≡ false →
+    MayBy Must Begins from at
+why-short {at} {n} {holds = HeadersAlone} Must from slice last goes =
+    inr (inr (n, (slice.begins, (slice.short, leb-false (at + n) (from + 1380) goes))))
+why-short {at} {n} {holds = Slices} Must from slice last goes =
+    inr (inr (n, (slice.begins, (slice.short, leb-false (at + n) (from + 1380) goes))))
+why-short {at} {holds = LastFragment} Must from slice last goes = inr (inl (last refl))
+
+why : {Must : ℕ → Type 0} {Begins : ℕ → ℕ → Type 0} {f : OpenPacket} {n : ℕ} {slices : List ℕ}
+    → Reads Must Begins f (n ∷ slices) → goes_in f n ≡ false → MayBy Must Begins f.from f.at
+why {Must} {Begins} {f} {n} reads goes = elim (cases_lt 1380 n) [
+  | inl long ↦ inr (inl (reads.long f.at n (inl (refl, refl)) long (λ _. goes)))
+  | inr short ↦ let slice : BeginsShort Begins f.at n =
+      record { begins = reads.begins f.at n (inl (refl, refl)); short = short } in
+      why-short Must f.from slice reads.last
+      (sym (ap (λ b. cond b (goes_in_whole f.from f.at f.holds n) (goes_in_cut f.from f.at f.holds))
+      (le-leb n 1380 short)) ∙ goes)
+]
+
+last-by : (b : Bool) (n : ℕ) → leb n 1380 ≡ b → cond b Slices LastFragment ≡ LastFragment → 1380 < n
+last-by true n e is = cc
+last-by false n e is = leb-false n 1380 e
+
+last-long : (n : ℕ) → holds_after n ≡ LastFragment → 1380 < n
+last-long n is = last-by (leb n 1380) n refl is
+
+reads-next : {Must : ℕ → Type 0} {Begins : ℕ → ℕ → Type 0} {f : OpenPacket} {n : ℕ} {slices : List ℕ} (last : ℕ)
+    → 0 < n → Reads Must Begins f (n ∷ slices) → Reads Must Begins (filling_after f n last) slices
+reads-next {Begins} {f} {n} {slices} last some reads = record {
+  begins = λ place length is. reads.begins place length (inr is);
+  long = λ place length is long goes. reads.long place length (inr is) long
+      (λ here. absurd (omega (arith, here, some, slice-after slices (f.at + n) place length is)));
+  long_end = λ start length is long. reads.long_end start length (inr is) long;
+  last = λ is. reads.long_end f.at n (inl (refl, refl)) (last-long n is);
+}
+
+may-end : {Must : ℕ → Type 0} {Begins : ℕ → ℕ → Type 0} {slices : List ℕ} {f : OpenPacket} (cuts : List ℕ)
+    → AreSome slices → Reads Must Begins f slices → Cuts f slices cuts → MayAllEnd (MayBy Must Begins) f.from cuts
+may-end {Must} {Begins} {slices = []} {f} cuts some reads e =
+    subst (λ (l : List ℕ). MayAllEnd (MayBy Must Begins) f.from l) (sym e) tt
+may-end {Must} {Begins} {slices = n ∷ slices} {f} cuts some reads (inl x) =
+    let last = f.from + 1380 * x.1.full in
+    let rest = may-end {Must = Must} {Begins = Begins} {slices = slices} {f = filling_after f n last} x.1.rest
+    some.1 (reads-next {Must = Must} {Begins = Begins} {f = f} {n = n} {slices = slices} last some.0 reads)
+    x.1.goes_on in
+    subst (λ (l : List ℕ). MayAllEnd (MayBy Must Begins) f.from l) (sym x.1.filled)
+    (full-may Must Begins f.from x.1.full x.1.rest rest)
+may-end {Must} {Begins} {slices = n ∷ slices} {f} cuts some reads (inr x) =
+    let fills = x.1.1.1 in
+    let last = f.at + 1380 * fills.full in
+    let rest = may-end {Must = Must} {Begins = Begins} {slices = slices} {f = filling_after f n last} fills.rest
+    some.1 (reads-next {Must = Must} {Begins = Begins} {f = f} {n = n} {slices = slices} last some.0 reads)
+    fills.goes_on in
+    let tail : MayAllEnd (MayBy Must Begins) f.at x.1.0 =
+    subst (λ (l : List ℕ). MayAllEnd (MayBy Must Begins) f.at l) (sym fills.filled)
+    (full-may Must Begins f.at fills.full fills.rest rest) in
+    subst (λ (l : List ℕ). MayAllEnd (MayBy Must Begins) f.from l) (sym x.1.1.0)
+    (may-cons (MayBy Must Begins) f.from f.at x.1.0 (why reads x.0) tail)
+
+may-cs : (from headers_end : ℕ) (slices : List ℕ) (start cut : ℕ)
+    → MayBy (IsCutPlace from headers_end slices) (SliceAt headers_end slices) start cut
+    → MayEnd from headers_end slices start cut
+may-cs from headers_end slices start cut (inl full) = inl full
+may-cs from headers_end slices start cut (inr (inl place)) = inr (inl place)
+may-cs from headers_end slices start cut (inr (inr (length, over))) =
+    inr (inr (record { length = length; slice = over.0; short = over.1.0; over = over.1.1 }))
+
+may-map : (May Other : ℕ → ℕ → Type 0) (start : ℕ) (cuts : List ℕ) → ((s c : ℕ) → May s c → Other s c)
+    → MayAllEnd May start cuts → MayAllEnd Other start cuts
+may-map May Other start [] cs may = tt
+may-map May Other start (cut ∷ []) cs may = tt
+may-map May Other start (cut ∷ (next ∷ cuts)) cs may =
+    (cs start cut may.0, may-map May Other cut (next ∷ cuts) cs may.1)
+
+-- in the first portion a long slice goes in where the headers leave room
+headers-go : (from headers_end n : ℕ) → 1380 < n → goes_in (first_portion from headers_end) n ≡ false
+    → from + 1380 ≤ headers_end
+headers-go from headers_end n long goes =
+    ltb-false headers_end (from + 1380)
+    (sym (ap (λ b. cond b (goes_in_whole from headers_end HeadersAlone n) (goes_in_cut from headers_end HeadersAlone))
+    (leb-not n long)) ∙ goes)
+
+goes-headers : (from headers_end n : ℕ) → 1380 < n → from + 1380 ≤ headers_end
+    → goes_in (first_portion from headers_end) n ≡ false
+goes-headers from headers_end n long full =
+    ap (λ b. cond b (goes_in_whole from headers_end HeadersAlone n) (goes_in_cut from headers_end HeadersAlone))
+    (leb-not n long) ∙ le-ltb headers_end (from + 1380) full
+
+first-reads : (from headers_end : ℕ) (slices : List ℕ)
+    → Reads (IsCutPlace from headers_end slices) (SliceAt headers_end slices) (first_portion from headers_end) slices
+first-reads from headers_end slices = record {
+  begins = λ place length is. is;
+  long = λ place length is long goes. inl
+      (record {
+        length = length;
+        slice = is;
+        long = long;
+        apart = λ here. headers-go from headers_end length long (goes here);
+      });
+  long_end = λ start length is long.
+      inr (record { start = start; length = length; slice = is; long = long; place_is = refl });
+  last = λ is. cc;
+}
+
+long-cut : {from headers_end : ℕ} {slices : List ℕ} (cuts : List ℕ) → AreCutPoints from headers_end slices cuts
+    → (place : ℕ) → IsCutPlace from headers_end slices place → is_among place cuts ≡ true
+long-cut {from} {headers_end} {slices} cuts cutting place (inl b) =
+    begin-cut slices (first_portion from headers_end) cuts cutting place b.length b.slice b.long
+    (λ here. goes-headers from headers_end b.length b.long (b.apart here))
+long-cut {from} {headers_end} {slices} cuts cutting place (inr e) =
+    ap (λ p. is_among p cuts) e.place_is
+    ∙ end-cut slices (first_portion from headers_end) cuts cutting e.start e.length e.slice e.long
+
+-- a unit's headers of 1 to 1,380 bytes, and its slices
+pub record HeadersAndSlices (from headers_end : ℕ) (slices : List ℕ) : Type 0 where
+  pub some : from < headers_end
+  pub short : headers_end ≤ from + 1380
+  pub have : HaveBytes slices
+
+pub cutting-meets : {from headers_end : ℕ} {slices : List ℕ} (cuts : List ℕ) → HeadersAndSlices from headers_end slices
+    → AreCutPoints from headers_end slices cuts → MeetsRules from headers_end slices cuts
+cutting-meets {from} {headers_end} {slices} cuts unit cutting =
+    let f = first_portion from headers_end in
+    let order : from ≤ headers_end = omega (arith, unit.some) in record {
+      portions = portions-cover slices f cuts (unit.some, unit.short) cutting;
+      headers = headers-uncut from headers_end cuts (cuts-from slices f cuts order cutting);
+      short = short-at slices headers_end cuts (short-uncut slices f cuts order cutting);
+      long = long-cut cuts cutting;
+      ends = may-map (MayBy (IsCutPlace from headers_end slices) (SliceAt headers_end slices))
+          (MayEnd from headers_end slices) from cuts (may-cs from headers_end slices)
+          (may-end cuts (some-bytes slices unit.have) (first-reads from headers_end slices) cutting);
+    }
+
+no_unit : PictureUnit
+no_unit = record {
+  from = 0;
+  head_end = 0;
+  to = 0;
+  first_slice = 0;
+  slices = 0;
+  temporal = 0;
+  presentation = 0;
+  kind = I;
+  vectors = 0;
+  has_sequence = false;
+  starts_group = false;
+}
+
+-- there is such a list
+pub some-meets : {from headers_end : ℕ} {slices : List ℕ} → HeadersAndSlices from headers_end slices
+    → (cuts : List ℕ) × MeetsRules from headers_end slices cuts
+some-meets {from} {headers_end} {slices} unit =
+    let f = first_portion from headers_end in
+    let cuts = ends (packets_from no_unit f slices) in (
+      cuts,
+      cutting-meets cuts unit (packets-cut no_unit slices f (omega (arith, unit.some)) (some-bytes slices unit.have)),
+    )
+
+-- and it is the packer's
+pub meets-cutting : {from headers_end : ℕ} {slices : List ℕ} (cuts : List ℕ) → HeadersAndSlices from headers_end slices
+    → MeetsRules from headers_end slices cuts → AreCutPoints from headers_end slices cuts
+meets-cutting {from} {headers_end} {slices} cuts unit meets =
+    let f = first_portion from headers_end in
+    let made = ends (packets_from no_unit f slices) in
+    let cutting = packets-cut no_unit slices f (omega (arith, unit.some)) (some-bytes slices unit.have) in
+    let same = one-meets (cutting-meets made unit cutting) meets in
+    subst (λ (l : List ℕ). AreCutPoints from headers_end slices l) same cutting

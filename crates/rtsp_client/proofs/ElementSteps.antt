@@ -1,0 +1,309 @@
+-- Elements and events, one after another.
+use Rattle.std.proofs.Common.{◌≡◌, ℕ, suc, ◌<◌, ◌≤◌, ◌==◌, true, false, cond, List, [], ◌∷◌, ◌++◌}
+use Rattle.std.proofs.Common.{length, take, drop, map, get_or, Ok, Err, refl, sym, ap, subst, ◌∙◌}
+use Rattle.std.proofs.Common.{append_assoc, arith, inl, inr}
+use Rattle.std.proofs.lemmas.Bool.{cond-true, cond-false}
+use Rattle.std.proofs.lemmas.List.{append-nil, get_or-take, length-take-le}
+use Rattle.std.proofs.lemmas.List.Concat.{flat_map-append}
+use Rattle.interleave.specs.Heads.{is_line_end}
+use Rattle.interleave.specs.Elements.{AreLineEnds, IsFirst}
+use Rattle.interleave.specs.Streams.{AreInputElements, IsElementLength, WholeBlock, WholeMessage}
+use Rattle.interleave.specs.declared.elements.Step.TheVariants.{Block, Request, Skip}
+use Rattle.interleave.specs.declared.elements.DemuxFault.{DemuxFault}
+use Rattle.interleave.proofs.StreamElements.{next_elements}
+use Rattle.rtsp_client.specs.declared.clients.Client.{Client}
+use Rattle.rtsp_client.specs.declared.watch_request.Wish.{Wish}
+use Rattle.rtsp_client.specs.declared.watch_request.WatchEnd.{WatchEnd}
+use Rattle.rtsp_client.specs.declared.watch_request.WatchEnd.TheVariants.{Fault}
+use Rattle.rtsp_client.specs.declared.watch_request.WatchFault.TheVariants.{Framing}
+use Rattle.rtsp_client.specs.ClientHistory.{History, ClientEvent, Frame, Reply}
+use Rattle.rtsp_client.specs.Answers.{GoOn, history_after, block_events, events_of_elements, element_events}
+use Rattle.rtsp_client.specs.Answers.{payload_of, payloads_of, request_after, requests_after}
+use Rattle.rtsp_client.specs.WatchCourses.{Stops, stage}
+use Rattle.rtsp_client.specs.HistoryInvariant.{HistoryInvariant, StateInvariant}
+use Rattle.rtsp_client.specs.ClientState.{replies_in, session_of}
+use Rattle.rtsp_client.specs.ClientSteps.{HasEndedAt, HasTakenEvents, HasStopped, HasTaken, Observed, observed_more}
+use Rattle.rtsp_client.proofs.ObservedSteps.{observed-none, observed-on}
+
+-- ---- lists of moments
+
+pub after-on : (h : History) (a b : List ClientEvent) → history_after h (a ++ b) ≡ history_after (history_after h a) b
+after-on h [] b = refl
+after-on h (m ∷ a) b = after-on (m ∷ h) a b
+
+good-on : (h : History) (a b : List ClientEvent) → GoOn h a → GoOn (history_after h a) b → GoOn h (a ++ b)
+good-on h [] b first second = second
+good-on h (m ∷ a) b first second = (first.0, good-on (m ∷ h) a b first.1 second)
+
+requests-on : (wish : Wish) (h : History) (a b : List ClientEvent)
+    → requests_after wish h (a ++ b) ≡ requests_after wish h a ++ requests_after wish (history_after h a) b
+requests-on wish h [] b = refl
+requests-on wish h (m ∷ a) b =
+    ap (λ t. request_after wish h m ++ t) (requests-on wish (m ∷ h) a b)
+    ∙ sym (append_assoc (request_after wish h m) (requests_after wish (m ∷ h) a)
+    (requests_after wish (history_after (m ∷ h) a) b))
+
+-- bytes were cut, and then their rest
+record CutsInTurn (bytes mid end : List ℕ) (p q : List (List ℕ)) : Type 0 where
+  first : AreInputElements bytes p mid
+  next : AreInputElements mid q end
+
+cut-on : {bytes mid end : List ℕ} {p q : List (List ℕ)} → CutsInTurn bytes mid end p q → AreInputElements bytes (p ++ q)
+    end
+cut-on {end} {p = []} {q} cuts = subst (λ b. AreInputElements b q end) (sym cuts.first) cuts.next
+cut-on {bytes} {mid} {end} {p = element ∷ p} {q} cuts =
+    let cut = cuts.first.1 in
+    let later : CutsInTurn (drop cuts.first.0 bytes) mid end p q = record { first = cut.2; next = cuts.next } in
+    (cuts.first.0, (cut.0, cut.1, cut-on later))
+
+-- ---- the elements in front
+
+element-start : (rest : List ℕ) (n : ℕ) → 0 < n → get_or (take n rest) 0 0 ≡ get_or rest 0 0
+element-start rest n some = get_or-take n rest 0 0 some
+
+block-of : (rest : List ℕ) (n : ℕ) → 4 ≤ n → get_or rest 0 0 ≡ 36
+    → element_events (take n rest) ≡ block_events (get_or rest 1 0) (take n rest)
+block-of rest n long starts =
+    let front : get_or (take n rest) 0 0 ≡ 36 = element-start rest n (omega (arith, long)) ∙ starts in
+    let second : get_or (take n rest) 1 0 ≡ get_or rest 1 0 = get_or-take n rest 1 0 (omega (arith, long)) in
+    let inside : ℕ → List ClientEvent = λ b.
+    cond (is_line_end b) []
+    (cond (b == 36) (block_events (get_or (take n rest) 1 0) (take n rest)) (Reply (take n rest) ∷ [])) in
+    ap inside front ∙ ap (λ c. block_events c (take n rest)) second
+
+reply-of : (rest : List ℕ) (n : ℕ) → 0 < n → is_line_end (get_or rest 0 0) ≡ false → (get_or rest 0 0 == 36) ≡ false
+    → element_events (take n rest) ≡ Reply (take n rest) ∷ []
+reply-of rest n some no_end no_block =
+    let inside : ℕ → List ClientEvent = λ b.
+    cond (is_line_end b) []
+    (cond (b == 36) (block_events (get_or (take n rest) 1 0) (take n rest)) (Reply (take n rest) ∷ [])) in
+    ap inside (element-start rest n some)
+    ∙ (cond-false (is_line_end (get_or rest 0 0)) _ _ no_end ∙ cond-false (get_or rest 0 0 == 36) _ _ no_block)
+
+ends-none : (bytes : List ℕ) → ((k : ℕ) → k < length bytes → is_line_end (get_or bytes k 0) ≡ true)
+    → events_of_elements (map (λ c. c ∷ []) bytes) ≡ []
+ends-none [] all = refl
+ends-none (b ∷ bytes) all =
+    let first : is_line_end b ≡ true = all 0 (omega arith) in
+    ap (λ t. t ++ events_of_elements (map (λ c. c ∷ []) bytes)) (cond-true (is_line_end b) [] _ first)
+    ∙ ends-none bytes (λ k few. all (suc k) (omega (arith, few)))
+
+-- ---- elements were taken up
+
+-- the same client, but for its input
+pub record IsSameClient (c new : Client) : Type 0 where
+  pub replies : replies_in new ≡ replies_in c
+  pub session : session_of new ≡ session_of c
+  pub watching : new.watching ≡ c.watching
+
+pub keeps-moved : {wish : Wish} {h : History} {c new : Client} → HistoryInvariant wish h c → IsSameClient c new →
+    HistoryInvariant wish h new
+keeps-moved {wish} {h} k same = record {
+  replies_are = same.replies ∙ k.replies_are;
+  session_is = same.session ∙ k.session_is;
+  state = subst (λ w. StateInvariant wish h w) (sym same.watching) k.state;
+}
+
+pub passed-none : {wish : Wish} {h : History} {c new : Client} {s : Observed} → HistoryInvariant wish h c → IsSameClient
+    c new
+    → HasTakenEvents wish h [] new s s
+passed-none {s} k same = record {
+  good = tt;
+  keeps = keeps-moved k same;
+  sight_is = observed-none s;
+}
+
+passed-on : {wish : Wish} {h : History} {a b : List ClientEvent} {mid new : Client} {s t u : Observed}
+    → HasTakenEvents wish h a mid s t
+    → HasTakenEvents wish (history_after h a) b new t u → HasTakenEvents wish h (a ++ b) new s u
+passed-on {wish} {h} {a} {b} {new} {s} first second = record {
+  good = good-on h a b first.good second.good;
+  keeps = subst (λ x. HistoryInvariant wish x new) (sym (after-on h a b)) second.keeps;
+  sight_is = second.sight_is
+      ∙ (ap (λ x. observed_more x (requests_after wish (history_after h a) b) (payloads_of b)) first.sight_is
+      ∙ (observed-on s (requests_after wish h a) (requests_after wish (history_after h a) b) (payloads_of a)
+      (payloads_of b)
+      ∙ (ap (λ x. observed_more s x (payloads_of a ++ payloads_of b)) (sym (requests-on wish h a b))
+      ∙ ap (λ x. observed_more s (requests_after wish h (a ++ b)) x) (sym (flat_map-append payload_of a b)))));
+}
+
+-- the client with another input
+moved : {wish : Wish} {h : History} {moments : List ClientEvent} {c new : Client} {s t : Observed}
+    → HasTakenEvents wish h moments c s t
+    → IsSameClient c new → HasTakenEvents wish h moments new s t
+moved p same = record { good = p.good; keeps = keeps-moved p.keeps same; sight_is = p.sight_is }
+
+-- the same input, named otherwise
+pub taken-same : {wish : Wish} {h : History} {w rest : List ℕ} {new : Client} {s t : Observed} → w ≡ rest
+    → HasTaken wish h w new s t → HasTaken wish h rest new s t
+taken-same {wish} {h} {new} {s} {t} same taken = subst (λ (i : List ℕ). HasTaken wish h i new s t) same taken
+
+-- the element in front, of so many bytes, was taken up and dropped
+taken-element : {wish : Wish} {h : History} {rest : List ℕ} {n : ℕ} {moments : List ClientEvent} {c new : Client}
+    {s t : Observed}
+    → IsElementLength rest n → element_events (take n rest) ≡ moments → HasTakenEvents wish h moments c s t
+    → IsSameClient c new → new.input ≡ drop n rest
+    → HasTaken wish h rest new s t
+taken-element {wish} {h} {rest} {n} {new} {s} {t} element are passed same dropped = record {
+  elements = take n rest ∷ [];
+  cut = (n, (element, refl, sym dropped));
+  passed = subst (λ ms. HasTakenEvents wish h ms new s t) (sym (append-nil (element_events (take n rest)) ∙ are))
+      (moved passed same);
+}
+
+pub taken-block : {wish : Wish} {h : History} {rest : List ℕ} {channel n : ℕ} {c new : Client} {s t : Observed}
+    → IsFirst rest (Ok (Block channel n)) → HasTakenEvents wish h (block_events channel (take n rest)) c s t
+    → IsSameClient c new → new.input ≡ drop n rest
+    → HasTaken wish h rest new s t
+taken-block {h} {rest} {n} {c} {new} {s} first passed same dropped =
+    taken-element (WholeBlock first.0 first.1 first.3 first.4)
+    (block-of rest n (omega (arith, first.3)) first.0.1 ∙ ap (λ k. block_events k (take n rest)) (sym first.2))
+    passed same dropped
+
+request-some : (rest : List ℕ) (n : ℕ) → IsFirst rest (Ok (Request n)) → 0 < n
+request-some rest n first = omega (arith, first.1.is_head.some, first.1.total_is)
+
+pub taken-reply : {wish : Wish} {h : History} {rest : List ℕ} {n : ℕ} {c new : Client} {s t : Observed}
+    → IsFirst rest (Ok (Request n)) → HasTakenEvents wish h (Reply (take n rest) ∷ []) c s t
+    → IsSameClient c new → new.input ≡ drop n rest
+    → HasTaken wish h rest new s t
+taken-reply {h} {rest} {n} {c} {new} {s} first passed same dropped =
+    taken-element (WholeMessage first.0 first.1 first.2)
+    (reply-of rest n (request-some rest n first) first.0.1 first.0.2) passed same dropped
+
+pub taken-ends : {wish : Wish} {h : History} {rest : List ℕ} {n : ℕ} {c new : Client} {s : Observed}
+    → IsFirst rest (Ok (Skip n)) → HistoryInvariant wish h c
+    → IsSameClient c new → new.input ≡ drop n rest
+    → HasTaken wish h rest new s s
+taken-ends {wish} {h} {rest} {n} {c} {new} {s} first k same dropped =
+    let ends : AreLineEnds rest n = first.1 in
+    let long : length (take n rest) ≡ n = length-take-le n rest ends.within in
+    let none : events_of_elements (map (λ c. c ∷ []) (take n rest)) ≡ [] =
+    ends-none (take n rest) (λ k few.
+    let few' : k < n = omega (arith, few, long) in
+    ap is_line_end (get_or-take n rest k 0 few') ∙ ends.line_ends k few') in
+    record {
+      elements = map (λ c. c ∷ []) (take n rest);
+      cut = subst (λ r. AreInputElements rest (map (λ c. c ∷ []) (take n rest)) r) (sym dropped)
+          (next_elements rest (Ok (Skip n)) first rest [] refl);
+      passed = subst (λ ms. HasTakenEvents wish h ms new s s) (sym none) (passed-none k same);
+    }
+
+pub taken-none : {wish : Wish} {h : History} {c new : Client} {s : Observed} → HistoryInvariant wish h c → IsSameClient
+    c new
+    → new.input ≡ c.input
+    → HasTaken wish h c.input new s s
+taken-none k same input_same = record {
+  elements = [];
+  cut = sym input_same;
+  passed = passed-none k same;
+}
+
+pub taken-on : {wish : Wish} {h : History} {rest : List ℕ} {mid new : Client} {s t u : Observed}
+    → HasTaken wish h rest mid s t
+    → ((g : History) → HistoryInvariant wish g mid → HasTaken wish g mid.input new t u) → HasTaken wish h rest new s u
+taken-on {wish} {h} {rest} {mid} {new} {s} {u} first next =
+    let second = next (history_after h (events_of_elements first.elements)) first.passed.keeps in
+    let cuts : CutsInTurn rest mid.input new.input first.elements second.elements =
+    record { first = first.cut; next = second.cut } in
+    record {
+      elements = first.elements ++ second.elements;
+      cut = cut-on cuts;
+      passed =
+          subst (λ ms. HasTakenEvents wish h ms new s u) (sym (flat_map-append element_events first.elements
+          second.elements))
+          (passed-on first.passed second.passed);
+    }
+
+-- ---- nothing more was taken up
+
+stops-now : {wish : Wish} {h : History} {rest : List ℕ} {end : WatchEnd} {sent out : List ℕ} {s t : Observed}
+    → Stops wish (stage h rest) end sent out → t ≡ observed_more s sent out → HasStopped wish h rest end s t
+stops-now {h} {rest} {end} {sent} {out} {s} stops is = record {
+  sent = sent;
+  out = out;
+  stops = record {
+    elements = [];
+    mid = rest;
+    cut = refl;
+    good = tt;
+    more_sent = sent;
+    more_out = out;
+    stops = stops;
+    sent_is = refl;
+    out_is = refl;
+  };
+  sight_is = is;
+}
+
+stops-at : {wish : Wish} {h : History} {rest : List ℕ} {n : ℕ} {moment : ClientEvent} {end : WatchEnd} {s t : Observed}
+    → IsElementLength rest n → element_events (take n rest) ≡ moment ∷ [] → HasEndedAt wish h moment end s t
+    → HasStopped wish h rest end s t
+stops-at {h} {n} {moment} {end} {s} element is ended =
+    stops-now (inr (moment, ((n, (element, is)), ended.comes))) ended.sight_is
+
+pub stopped-framing : {wish : Wish} {h : History} {rest : List ℕ} {end : WatchEnd} {s : Observed} (fault : DemuxFault)
+    → IsFirst rest (Err fault) → end ≡ Fault Framing → HasStopped wish h rest end s s
+stopped-framing {h} {end} {s} fault first is =
+    stops-now (inl (is, (fault, first), refl, refl)) (observed-none s)
+
+pub stopped-block : {wish : Wish} {h : History} {rest : List ℕ} {channel n : ℕ} {end : WatchEnd} {s t : Observed}
+    → IsFirst rest (Ok (Block channel n)) → (channel ≡ 0) × HasEndedAt wish h (Frame (take n rest)) end s t
+    → HasStopped wish h rest end s t
+stopped-block {h} {rest} {n} {end} {s} first ended =
+    stops-at (WholeBlock first.0 first.1 first.3 first.4)
+    (block-of rest n (omega (arith, first.3)) first.0.1
+    ∙ ap (λ k. block_events k (take n rest)) (sym first.2 ∙ ended.0)) ended.1
+
+pub stopped-reply : {wish : Wish} {h : History} {rest : List ℕ} {n : ℕ} {end : WatchEnd} {s t : Observed}
+    → IsFirst rest (Ok (Request n)) → HasEndedAt wish h (Reply (take n rest)) end s t → HasStopped wish h rest end s t
+stopped-reply {h} {rest} {n} {end} {s} first ended =
+    stops-at (WholeMessage first.0 first.1 first.2)
+    (reply-of rest n (request-some rest n first) first.0.1 first.0.2) ended
+
+pub stopped-on : {wish : Wish} {h : History} {rest : List ℕ} {mid : Client} {end : WatchEnd} {s t u : Observed}
+    → HasTaken wish h rest mid s t
+    → ((g : History) → HistoryInvariant wish g mid → HasStopped wish g mid.input end t u) → HasStopped wish h rest end s
+    u
+stopped-on {wish} {h} {rest} {mid} {end} {s} first next =
+    let g = history_after h (events_of_elements first.elements) in
+    let second = next g first.passed.keeps in
+    let st = second.stops in
+    let a = events_of_elements first.elements in
+    let b = events_of_elements st.elements in
+    let sent_on : requests_after wish h a ++ second.sent
+    ≡ requests_after wish h (events_of_elements (first.elements ++ st.elements)) ++ st.more_sent =
+    ap (λ x. requests_after wish h a ++ x) st.sent_is
+    ∙ (sym (append_assoc (requests_after wish h a) (requests_after wish g b) st.more_sent)
+    ∙ ap (λ x. x ++ st.more_sent)
+    (sym (requests-on wish h a b)
+    ∙ ap (requests_after wish h) (sym (flat_map-append element_events first.elements st.elements)))) in
+    let out_on : payloads_of a ++ second.out ≡ payloads_of (events_of_elements (first.elements ++ st.elements)) ++
+    st.more_out =
+    ap (λ x. payloads_of a ++ x) st.out_is
+    ∙ (sym (append_assoc (payloads_of a) (payloads_of b) st.more_out)
+    ∙ ap (λ x. x ++ st.more_out) (sym (flat_map-append payload_of a b)
+    ∙ ap payloads_of (sym (flat_map-append element_events first.elements st.elements)))) in
+    let there : history_after g b ≡ history_after h (events_of_elements (first.elements ++ st.elements)) =
+    sym (after-on h a b) ∙ ap (history_after h) (sym (flat_map-append element_events first.elements st.elements)) in
+    let cuts : CutsInTurn rest mid.input st.mid first.elements st.elements =
+    record { first = first.cut; next = st.cut } in
+    record {
+      sent = requests_after wish h a ++ second.sent;
+      out = payloads_of a ++ second.out;
+      stops = record {
+        elements = first.elements ++ st.elements;
+        mid = st.mid;
+        cut = cut-on cuts;
+        good = subst (GoOn h) (sym (flat_map-append element_events first.elements st.elements))
+            (good-on h a b first.passed.good st.good);
+        more_sent = st.more_sent;
+        more_out = st.more_out;
+        stops = subst (λ x. Stops wish (stage x st.mid) end st.more_sent st.more_out) there st.stops;
+        sent_is = sent_on;
+        out_is = out_on;
+      };
+      sight_is = second.sight_is
+          ∙ (ap (λ x. observed_more x second.sent second.out) first.passed.sight_is
+          ∙ observed-on s (requests_after wish h a) second.sent (payloads_of a) second.out);
+    }

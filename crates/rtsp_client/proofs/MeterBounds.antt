@@ -1,0 +1,184 @@
+-- A meter between empty and the buffer.
+use Rattle.std.proofs.Common.{◌≡◌, ℕ, zero, suc, ◌+◌, ◌-◌, ◌*◌, ◌/◌, ◌<◌, ◌≤◌, ◌==◌, ◌&&◌, Bool}
+use Rattle.std.proofs.Common.{true, false, not, nat_lt, nat_le, cond, List, [], ◌∷◌, length, take}
+use Rattle.std.proofs.Common.{sum, max, refl, sym, ap, subst, ◌∙◌, arith, inl, inr}
+use Rattle.std.proofs.lemmas.Bool.{cases_lt, eq-eqb, lt-ltb, le-ltb, lt-leb}
+use Rattle.std.proofs.lemmas.List.{take_all, take-take}
+use Rattle.std.proofs.Math.Nat.{div-eq_of_lt}
+use Rattle.std.specs.Int.{div_ceil}
+use Rattle.vod_base.proofs.PrefixSums.{sum-take-rises}
+use Rattle.rtsp_client.specs.declared.watch_request.Wish.{Wish}
+use Rattle.rtsp_client.specs.ClientHistory.{History, Frame, Reply, Report, Slot, frames, bytes_received, sizes}
+use Rattle.rtsp_client.specs.Films.{is_complete, units}
+use Rattle.rtsp_client.specs.Meters.{is_read, lacks_picture, most_waiting, count_over, place_in}
+use Rattle.rtsp_client.specs.Meters.{played_before, time, count_under, use_slot, used_before}
+use Rattle.rtsp_client.specs.Meters.{bytes_waiting}
+use Rattle.rtsp_client.specs.MeterGuarantee.{IsBetween, IsBetweenAlways, IsFilmHeard}
+use Rattle.rtsp_client.proofs.MeterReadings.{Durations, no-units, used-early, used-late, used-sum}
+
+-- the next unit isn't used yet
+not-yet : {wish : Wish} {all : List ℕ} {p j came : ℕ} (n : ℕ) → Durations wish.slot_units p
+    → IsBetween wish all p j came
+    → came < sum (take (n + 1) all) → j < use_slot wish p n
+not-yet {wish} {all} {p} {j} n lasts between next =
+    elim (cases_lt j (use_slot wish p n)) [
+      | inl early ↦ early
+      | inr due ↦
+          let c = div_ceil ((j + 1 - wish.startup) * wish.slot_units) p in
+          let used : used_before wish p (j + 1) 0 all ≡ sum (take (c - 0) all) = used-sum wish (j + 1) 0 all lasts in
+          let many : n < c = elim (cases_lt n c) [
+            | inl more ↦ more
+            | inr few ↦ absurd (omega (arith, due, used-late wish.startup (j + 1) n lasts few))
+          ] in
+          absurd (omega (arith, used, between.low, next, sum-take-rises all (n + 1) (c - 0) (omega (arith, many))))
+    ]
+
+-- what is used of the whole units is what is used of the film
+pub same-used : {p : ℕ} (wish : Wish) (all : List ℕ) (j n : ℕ) → Durations wish.slot_units p
+    → (n < length all → j ≤ use_slot wish p n)
+    → used_before wish p j 0 (take n all) ≡ used_before wish p j 0 all
+same-used {p} wish all j n lasts early =
+    let c = div_ceil ((j - wish.startup) * wish.slot_units) p in
+    elim (cases_lt n (length all)) [
+      | inl fewer ↦ let few : c - 0 ≤ n = elim (cases_lt n c) [
+        | inl more ↦ absurd (omega (arith, early fewer, used-early wish.startup j n lasts more))
+        | inr less ↦ omega (arith, less)
+      ] in
+          used-sum wish j 0 (take n all) lasts
+          ∙ (ap sum (take-take (c - 0) n all few) ∙ sym (used-sum wish j 0 all lasts))
+      | inr whole ↦ ap (used_before wish p j 0) (take_all n all whole)
+    ]
+
+-- before the first frame any time will do
+pub used-time : (wish : Wish) (h : History) (p j : ℕ) → (0 < frames h → time h ≡ p)
+    → played_before wish h j ≡ used_before wish p j 0 (sizes h)
+used-time wish h p j is =
+    elim (cases_lt 0 (frames h)) [
+      | inl some ↦ ap (λ t. used_before wish t j 0 (sizes h)) (is some)
+      | inr none ↦
+          let empty : sizes h ≡ [] = no-units h (omega (arith, none)) in
+          ap (used_before wish (time h) j 0) empty ∙ sym (ap (used_before wish p j 0) empty)
+    ]
+
+played-is : {wish : Wish} {all : List ℕ} {p : ℕ} {h : History} {j cut : ℕ} → Durations wish.slot_units p
+    → IsFilmHeard all p h cut
+    → IsBetween wish all p j (bytes_received h + cut) → played_before wish h j ≡ used_before wish p j 0 all
+played-is {wish} {all} {p} {h} {j} {cut} lasts heard between =
+    let n = length (sizes h) in
+    used-time wish h p j heard.time_is
+    ∙ (ap (used_before wish p j 0) heard.sizes_are
+    ∙ same-used wish all j n lasts (λ fewer. omega (arith, not-yet n lasts between (heard.next fewer))))
+
+-- the buffer holds what waits
+fits : {wish : Wish} {all : List ℕ} {p : ℕ} {h : History} {cut : ℕ} (slot : ℕ) → Durations wish.slot_units p
+    → IsFilmHeard all p h cut
+    → IsBetween wish all p (place_in h slot) (bytes_received h + cut) → bytes_waiting wish h slot cut ≤ wish.buffer
+fits {all} {p} {h} {cut} slot lasts heard between =
+    omega (arith, played-is lasts heard between, between.up)
+
+-- no unit lacks_picture
+zero-times : (t : ℕ) → 0 * t ≡ 0
+zero-times t = omega arith
+
+zero-over : (n : ℕ) → 0 / n ≡ 0
+zero-over zero = refl
+zero-over (suc n) = div-eq_of_lt (omega arith)
+
+and-none : (a : Bool) → (a && false) ≡ false
+and-none true = refl
+and-none false = refl
+
+pub use-first : (wish : Wish) (t : ℕ) → use_slot wish t 0 ≡ wish.startup
+use-first wish t = omega (arith, ap (λ n. n / wish.slot_units) (zero-times t), zero-over wish.slot_units)
+
+enough : {wish : Wish} {all : List ℕ} {p : ℕ} {h : History} {j cut : ℕ} → Durations wish.slot_units p
+    → 0 < length all → IsFilmHeard all p h cut
+    → IsBetween wish all p j (bytes_received h + cut) → lacks_picture wish h j ≡ false
+enough {wish} {all} {p} {h} {j} {cut} lasts units_some heard between =
+    let n = length (sizes h) in
+    elim (cases_lt n (length all)) [
+      | inl fewer ↦
+          let early : j < use_slot wish p n = not-yet n lasts between (heard.next fewer) in
+          let late : j < use_slot wish (time h) n = elim (cases_lt 0 (frames h)) [
+            | inl begun ↦ subst (λ t. j < use_slot wish t n) (sym (heard.time_is begun)) early
+            | inr none ↦
+                let empty : n ≡ 0 = ap length (no-units h (omega (arith, none))) in
+                let here : j < use_slot wish p 0 = subst (λ k. j < use_slot wish p k) empty early in
+                let there : j < use_slot wish (time h) 0 =
+                omega (arith, here, use-first wish p, use-first wish (time h)) in
+                subst (λ k. j < use_slot wish (time h) k) (sym empty) there
+          ] in
+          ap (λ b. not (is_complete h) && b) (lt-leb (use_slot wish (time h) n) j late) ∙ and-none (not (is_complete h))
+      | inr whole ↦ let begun : 0 < frames h = elim (cases_lt 0 (frames h)) [
+        | inl yes_ ↦ yes_
+        | inr none ↦ absurd (omega (arith, whole, units_some, ap length (no-units h (omega (arith, none)))))
+      ] in
+          let all_whole : (n == units h) ≡ true =
+          eq-eqb n (units h) (omega (arith, whole, heard.among, heard.units_are begun)) in
+          let complete : is_complete h ≡ true =
+          ap (λ b. b && (n == units h)) (lt-ltb 0 (frames h) begun) ∙ all_whole in
+          ap (λ b. not b && nat_le (use_slot wish (time h) n) j) complete
+    ]
+
+pub record IsQuiet (wish : Wish) (h : History) : Type 0 where
+  pub over_none : count_over wish h ≡ 0
+  pub under_none : count_under wish h ≡ 0
+  pub most_fits : most_waiting wish h ≤ wish.buffer
+
+read-quiet : {r : Bool} {wish : Wish} {all : List ℕ} {p : ℕ} {h : History} {slot cut : ℕ}
+    → Durations wish.slot_units p → 0 < length all
+    → IsQuiet wish h → is_read h slot ≡ r
+    → (is_read h slot ≡ true → IsFilmHeard all p h cut × IsBetween wish all p (place_in h slot) (bytes_received h +
+    cut))
+    → IsQuiet wish (Slot slot cut ∷ h)
+read-quiet {r = false} {wish} {all} {p} {h} {slot} {cut} lasts units_some quiet is met = record {
+  over_none = ap
+      (λ r. cond (r && nat_lt wish.buffer (bytes_waiting wish h slot cut)) (count_over wish h + 1)
+      (count_over wish h)) is ∙ quiet.over_none;
+  under_none =
+      ap (λ r. cond (r && lacks_picture wish h (place_in h slot)) (count_under wish h + 1) (count_under wish h))
+      is ∙ quiet.under_none;
+  most_fits = omega (
+    arith,
+    ap (λ r. cond r (max (most_waiting wish h) (bytes_waiting wish h slot cut)) (most_waiting wish h)) is,
+    quiet.most_fits,
+  );
+}
+read-quiet {r = true} {wish} {all} {p} {h} {slot} {cut} lasts units_some quiet is met =
+    let now = met is in
+    let holds : bytes_waiting wish h slot cut ≤ wish.buffer = fits slot lasts now.0 now.1 in
+    let not_over : nat_lt wish.buffer (bytes_waiting wish h slot cut) ≡ false =
+    le-ltb wish.buffer (bytes_waiting wish h slot cut) holds in
+    let not_under : lacks_picture wish h (place_in h slot) ≡ false =
+    enough lasts units_some now.0 now.1 in
+    record {
+      over_none = ap
+          (λ r. cond (r && nat_lt wish.buffer (bytes_waiting wish h slot cut)) (count_over wish h + 1)
+          (count_over wish h)) is
+          ∙ (ap (λ b. cond (true && b) (count_over wish h + 1) (count_over wish h)) not_over ∙ quiet.over_none);
+      under_none =
+          ap (λ r. cond (r && lacks_picture wish h (place_in h slot)) (count_under wish h + 1) (count_under wish h)) is
+          ∙ (ap (λ b. cond (true && b) (count_under wish h + 1) (count_under wish h)) not_under ∙ quiet.under_none);
+      most_fits = omega (
+        arith,
+        ap (λ r. cond r (max (most_waiting wish h) (bytes_waiting wish h slot cut))
+            (most_waiting wish h)) is,
+        quiet.most_fits,
+        holds,
+      );
+    }
+
+pub quiet-always : {p : ℕ} (wish : Wish) (all : List ℕ) (h : History) → Durations wish.slot_units p → 0 < length all
+    → IsBetweenAlways wish all p h → IsQuiet wish h
+quiet-always wish all [] lasts units_some met = record { over_none = refl; under_none = refl; most_fits = omega arith }
+quiet-always wish all (Reply m ∷ h) lasts units_some met =
+    let q = quiet-always wish all h lasts units_some met in
+    record { over_none = q.over_none; under_none = q.under_none; most_fits = q.most_fits }
+quiet-always wish all (Frame b ∷ h) lasts units_some met =
+    let q = quiet-always wish all h lasts units_some met in
+    record { over_none = q.over_none; under_none = q.under_none; most_fits = q.most_fits }
+quiet-always wish all (Report b ∷ h) lasts units_some met =
+    let q = quiet-always wish all h lasts units_some met in
+    record { over_none = q.over_none; under_none = q.under_none; most_fits = q.most_fits }
+quiet-always wish all (Slot slot cut ∷ h) lasts units_some met =
+    read-quiet lasts units_some (quiet-always wish all h lasts units_some met.0) refl met.1

@@ -1,0 +1,312 @@
+-- What the meter reads of what a client keeps.
+use Rattle.std.proofs.Common.{◌≡◌, ℕ, suc, ◌+◌, ◌-◌, ◌*◌, ◌/◌, ◌<◌, ◌≤◌, ◌==◌, ◌&&◌, Bool, true}
+use Rattle.std.proofs.Common.{false, not, nat_lt, nat_le, cond, List, [], ◌∷◌, length, take, sum}
+use Rattle.std.proofs.Common.{get_or, max, min, Option, Some, None, refl, sym, ap, subst, ◌∙◌}
+use Rattle.std.proofs.Common.{arith, inl, inr}
+use Rattle.std.proofs.lemmas.Bool.{cases_lt, cases_eq, cond-true, cond-false, cond_both, eq-eqb}
+use Rattle.std.proofs.lemmas.Bool.{ne_eqb, lt-ltb, le-ltb, le-leb, lt-leb}
+use Rattle.std.proofs.lemmas.List.{take_all}
+use Rattle.std.proofs.lemmas.List.Sums.{sum_by-cons}
+use Rattle.std.proofs.lemmas.Nat.{le-div, div_below}
+use Rattle.std.proofs.Math.Nat.{mul-le-mul_right}
+use Rattle.std.proofs.lemmas.Grind.{div_ceil_times}
+use Rattle.std.specs.Int.{div_ceil}
+use Rattle.rtsp_client.specs.declared.frames.RtpSource.{RtpSource}
+use Rattle.rtsp_client.specs.declared.play_reply.Play.{Play}
+use Rattle.rtsp_client.specs.declared.watch_request.Wish.{Wish}
+use Rattle.rtsp_client.specs.declared.watch_request.Watched.{Watched}
+use Rattle.rtsp_client.specs.ClientHistory.{History, Frame, Reply, Report, Slot, first_frame, frames}
+use Rattle.rtsp_client.specs.ClientHistory.{is_playing, last_slot, bytes_received, replies, sizes}
+use Rattle.rtsp_client.specs.ClientHistory.{slot_before, start}
+use Rattle.rtsp_client.specs.Films.{is_complete, time_in}
+use Rattle.rtsp_client.specs.Meters.{is_read, lacks_picture, place_in, played_before, time}
+use Rattle.rtsp_client.specs.Meters.{use_slot, used_before, bytes_waiting, watched_in}
+use Rattle.rtsp_client.specs.States.{State, after_reading, after_slot, is_lacking, place_of}
+use Rattle.rtsp_client.specs.States.{played_of, reading_at, time_of, used_bytes}
+use Rattle.rtsp_client.specs.HistoryInvariant.{AreSumsOf, IsPlayOf, IsSourceOf, StateInvariant}
+use Rattle.rtsp_client.proofs.HistorySteps.{complete-is}
+
+-- a slot and a picture last
+pub record Durations (slot_units picture_time : ℕ) : Type 0 where
+  pub slot_lasts : 0 < slot_units
+  pub picture_lasts : 0 < picture_time
+
+-- a unit is used before a slot exactly where its number is below that count
+pub used-early : {s p : ℕ} (d j k : ℕ) → Durations s p → k < div_ceil ((j - d) * s) p → k * p / s + d < j
+used-early {s} {p} d j k lasts few =
+    let c = div_ceil ((j - d) * s) p in
+    let top = (div_ceil_times ((j - d) * s) p lasts.picture_lasts).1 in
+    let rows : (k + 1) * p ≤ c * p = mul-le-mul_right p (omega (arith, few)) in
+    let small : k * p < (j - d) * s = omega (arith, top, rows) in
+    let below : k * p / s < j - d = div_below (k * p) s (j - d) lasts.slot_lasts small in
+    omega (arith, below)
+
+pub used-late : {s p : ℕ} (d j k : ℕ) → Durations s p → div_ceil ((j - d) * s) p ≤ k → j ≤ k * p / s + d
+used-late {s} {p} d j k lasts many =
+    let c = div_ceil ((j - d) * s) p in
+    let least = (div_ceil_times ((j - d) * s) p lasts.picture_lasts).0 in
+    let rows : c * p ≤ k * p = mul-le-mul_right p many in
+    let above : (j - d) * s ≤ k * p = omega (arith, least, rows) in
+    let slots : j - d ≤ k * p / s = le-div (j - d) (k * p) s lasts.slot_lasts above in
+    omega (arith, slots)
+
+sum-cons : (x : ℕ) (xs : List ℕ) → sum (x ∷ xs) ≡ x + sum xs
+sum-cons x xs = sum_by-cons (λ (y : ℕ). y) x xs
+
+pub used-sum : {p : ℕ} (wish : Wish) (j unit : ℕ) (sizes : List ℕ) → Durations wish.slot_units p
+    → used_before wish p j unit sizes ≡ sum (take (div_ceil ((j - wish.startup) * wish.slot_units) p - unit) sizes)
+used-sum {p} wish j unit [] lasts =
+    sym (ap sum (take_all (div_ceil ((j - wish.startup) * wish.slot_units) p - unit) [] (omega arith)))
+used-sum {p} wish j unit (size ∷ sizes) lasts =
+    let c = div_ceil ((j - wish.startup) * wish.slot_units) p in
+    let rest = used-sum wish j (unit + 1) sizes lasts in
+    elim (cases_lt unit c) [
+      | inl few ↦
+          let one : c - unit ≡ suc (c - (unit + 1)) = omega (arith, few) in
+          let used = cond-true (nat_lt (use_slot wish p unit) j) size 0
+          (lt-ltb (use_slot wish p unit) j (used-early wish.startup j unit lasts few)) in
+          omega (
+            arith,
+            used,
+            rest,
+            ap (λ n. sum (take n (size ∷ sizes))) one,
+            sum-cons size (take (c - (unit + 1)) sizes),
+          )
+      | inr many ↦
+          let none : c - unit ≡ 0 = omega (arith, many) in
+          let after : c - (unit + 1) ≡ 0 = omega (arith, many) in
+          let unused = cond-false (nat_lt (use_slot wish p unit) j) size 0
+          (le-ltb (use_slot wish p unit) j (used-late wish.startup j unit lasts many)) in
+          omega (arith, unused, rest, ap (λ n. sum (take n (size ∷ sizes))) none, ap (λ n. sum (take n sizes)) after)
+    ]
+
+no-items : (xs : List ℕ) → length xs ≤ 0 → xs ≡ []
+no-items [] none = refl
+no-items (x ∷ xs) none = absurd (omega (arith, none))
+
+none-is : (n : ℕ) → n ≤ 0 → n ≡ 0
+none-is n none = omega (arith, none)
+
+ends-sum : (ends sizes : List ℕ) (count : ℕ) → AreSumsOf ends sizes
+    → used_bytes ends (min count (length ends)) ≡ sum (take count sizes)
+ends-sum ends sizes count are =
+    elim (cases_eq (min count (length ends)) 0) [
+      | inl none ↦
+          cond-true (min count (length ends) == 0) 0 (get_or ends (min count (length ends) - 1) 0) (eq-eqb _ 0 none)
+          ∙ elim (cases_lt 0 count) [
+            | inl some ↦
+                let empty : length sizes ≤ 0 = omega (arith, none, some, are.count) in
+                sym (ap sum (take_all count sizes (omega (arith, empty))) ∙ ap sum (no-items sizes empty))
+            | inr zero_ ↦ sym (ap (λ n. sum (take n sizes)) (none-is count zero_))
+          ]
+      | inr some ↦
+          let m = min count (length ends) in
+          let below : m - 1 < length ends = omega (arith, some) in
+          cond-false (m == 0) 0 (get_or ends (m - 1) 0) (ne_eqb m 0 some)
+          ∙ (are.each (m - 1) below
+          ∙ elim (cases_lt count (length ends)) [
+            | inl few ↦ ap (λ n. sum (take n sizes)) (omega (arith, some, few))
+            | inr many ↦
+                ap sum (take_all (m - 1 + 1) sizes (omega (arith, some, many, are.count))
+                ∙ sym (take_all count sizes (omega (arith, many, are.count))))
+          ])
+    ]
+
+pub no-units : (h : History) → frames h ≡ 0 → sizes h ≡ []
+no-units [] none = refl
+no-units (Reply m ∷ h) none = no-units h none
+no-units (Frame b ∷ h) none = absurd (omega (arith, none))
+no-units (Report b ∷ h) none = no-units h none
+no-units (Slot t cut ∷ h) none = no-units h none
+
+less-none : (n : ℕ) → n ≡ n - 0
+less-none n = omega arith
+
+-- a slot lasts, and so do the pictures of a source, where there is one
+pub record HasDurations (wish : Wish) (source : Option RtpSource) : Type 0 where
+  pub slot_lasts : 0 < wish.slot_units
+  pub picture_lasts : (src : RtpSource) → source ≡ Some src → 0 < src.picture_time
+
+played-in : {source : Option RtpSource} {ends : List ℕ} (wish : Wish) (h : History) (j : ℕ)
+    → HasDurations wish source → IsSourceOf source h
+    → AreSumsOf ends (sizes h)
+    → played_of wish source ends j ≡ played_before wish h j
+played-in {source = None} wish h j lasts is are = sym (ap (used_before wish (time h) j 0) (no-units h is))
+played-in {source = Some source} {ends} wish h j lasts is are =
+    let p = source.picture_time in
+    let t : time h ≡ p =
+    cond-false (frames h == 0) 0 (time_in (first_frame h))
+    (ne_eqb (frames h) 0 (λ none. absurd (omega (arith, is.some, none)))) ∙ sym is.time_is in
+    ends-sum ends (sizes h) (div_ceil ((j - wish.startup) * wish.slot_units) p) are
+    ∙ (ap (λ n. sum (take n (sizes h))) (less-none (div_ceil ((j - wish.startup) * wish.slot_units) p))
+    ∙ (sym (used-sum wish j 0 (sizes h)
+    (record { slot_lasts = lasts.slot_lasts; picture_lasts = lasts.picture_lasts source refl }))
+    ∙ sym (ap (λ n. used_before wish n j 0 (sizes h)) t)))
+
+time-in : (h : History) (source : Option RtpSource) → IsSourceOf source h → time_of source ≡ time h
+time-in h None is = sym (cond-true (frames h == 0) 0 (time_in (first_frame h)) (eq-eqb (frames h) 0 is))
+time-in h (Some source) is =
+    is.time_is ∙ sym
+    (cond-false (frames h == 0) 0 (time_in (first_frame h))
+    (ne_eqb (frames h) 0 (λ none. absurd (omega (arith, is.some, none)))))
+
+lacks-in : (wish : Wish) (h : History) (s : State) (j : ℕ) → StateInvariant wish h s
+    → is_lacking wish s j ≡ lacks_picture wish h j
+lacks-in wish h s j k =
+    ap (λ c. not c && nat_le (s.watched.units * time_of s.source / wish.slot_units + wish.startup) j)
+    (complete-is wish h s k)
+    ∙ (ap (λ n. not (is_complete h) && nat_le (n * time_of s.source / wish.slot_units + wish.startup) j)
+    (ap (λ (w : Watched). w.units) k.watched_is)
+    ∙ ap (λ n. not (is_complete h) && nat_le (length (sizes h) * n / wish.slot_units + wish.startup) j)
+    (time-in h s.source k.source_is))
+
+-- ---- a slot
+
+slot-late : (h : History) → slot_before h ≤ last_slot h
+slot-late [] = omega arith
+slot-late (Reply m ∷ h) =
+    cond_both (replies h == 1) (last_slot h) (slot_before h) (λ n. n ≤ last_slot h) (λ e. omega arith)
+    (λ e. slot-late h)
+slot-late (Frame b ∷ h) = slot-late h
+slot-late (Report b ∷ h) = slot-late h
+slot-late (Slot t cut ∷ h) = omega (arith, slot-late h)
+
+play-slot : (play : Option Play) (h : History) (t cut : ℕ) → IsPlayOf play h → IsPlayOf play (Slot t cut ∷ h)
+play-slot None h t cut is = is
+play-slot (Some play) h t cut is =
+    record { playing = is.playing; start_is = is.start_is; slot_is = is.slot_is; end_is = is.end_is }
+
+source-slot : (source : Option RtpSource) (h : History) (t cut : ℕ) → IsSourceOf source h
+    → IsSourceOf source (Slot t cut ∷ h)
+source-slot None h t cut is = is
+source-slot (Some source) h t cut is = record {
+  some = is.some;
+  ssrc_is = is.ssrc_is;
+  sequence_is = is.sequence_is;
+  marker_is = is.marker_is;
+  time_is = is.time_is;
+  units_are = is.units_are;
+}
+
+-- a slot at which the meter isn't read
+unread : (wish : Wish) (h : History) (t cut : ℕ) → is_read h t ≡ false
+    → watched_in wish h ≡ watched_in wish (Slot t cut ∷ h)
+unread wish h t cut missed =
+    let step : Bool → Watched = λ (r : Bool). record (watched_in wish h) {
+      most = cond r (max (watched_in wish h).most (bytes_waiting wish h t cut)) (watched_in wish h).most;
+      over = cond (r && nat_lt wish.buffer (bytes_waiting wish h t cut)) ((watched_in wish h).over + 1)
+          (watched_in wish h).over;
+      under = cond (r && lacks_picture wish h (place_in h t)) ((watched_in wish h).under + 1) (watched_in wish h).under;
+    } in
+    sym (ap step missed)
+
+slot-with : {wish : Wish} {h : History} {s : State} {t cut last : ℕ} {w : Watched} → StateInvariant wish h s
+    → last ≡ max t (last_slot h)
+    → w ≡ watched_in wish (Slot t cut ∷ h)
+    → StateInvariant wish (Slot t cut ∷ h) (record s { last_slot = last; watched = w })
+slot-with {h} {s} {t} {cut} {last} {w} k greatest is = record {
+  last_slot_is = greatest;
+  play_is = play-slot s.play h t cut k.play_is;
+  source_is = source-slot s.source h t cut k.source_is;
+  begun = k.begun;
+  inside = k.inside;
+  ends_are = k.ends_are;
+  received_is = k.received_is;
+  taken_is = k.taken_is;
+  watched_is = is;
+}
+
+read-at : {wish : Wish} {h : History} {s : State} (t cut : ℕ) → StateInvariant wish h s → HasDurations wish s.source
+    → is_read h t ≡ true
+    → (after_reading wish s (place_in h t) cut).watched ≡ watched_in wish (Slot t cut ∷ h)
+read-at {wish} {h} {s} t cut k lasts reads =
+    let j = place_in h t in
+    let amount : (s.received + cut) - played_of wish s.source s.ends j ≡ bytes_waiting wish h t cut =
+    ap (λ n. (n + cut) - played_of wish s.source s.ends j) k.received_is
+    ∙ ap (λ n. (bytes_received h + cut) - n) (played-in wish h j lasts k.source_is k.ends_are) in
+    let step : Watched → ℕ → Bool → Watched = λ (w : Watched) (n : ℕ) (l : Bool). record w {
+      most = max w.most n;
+      over = cond (nat_lt wish.buffer n) (w.over + 1) w.over;
+      under = cond l (w.under + 1) w.under;
+    } in
+    let whole : Bool → Watched = λ (r : Bool). record (watched_in wish h) {
+      most = cond r (max (watched_in wish h).most (bytes_waiting wish h t cut)) (watched_in wish h).most;
+      over = cond (r && nat_lt wish.buffer (bytes_waiting wish h t cut)) ((watched_in wish h).over + 1)
+          (watched_in wish h).over;
+      under = cond (r && lacks_picture wish h j) ((watched_in wish h).under + 1) (watched_in wish h).under;
+    } in
+    ap (λ (w : Watched). step w ((s.received + cut) - played_of wish s.source s.ends j) (is_lacking wish s j))
+    k.watched_is
+    ∙ (ap (λ n. step (watched_in wish h) n (is_lacking wish s j)) amount
+    ∙ (ap (λ b. step (watched_in wish h) (bytes_waiting wish h t cut) b) (lacks-in wish h s j k)
+    ∙ sym (ap whole reads)))
+
+and-middle : (a c : Bool) → (a && (false && c)) ≡ false
+and-middle true c = refl
+and-middle false c = refl
+
+and-end : (a b : Bool) → (a && (b && false)) ≡ false
+and-end true true = refl
+and-end true false = refl
+and-end false b = refl
+
+keeps-later : {wish : Wish} {h : History} {s : State} {t cut : ℕ} (play : Option Play) → StateInvariant wish h s
+    → HasDurations wish s.source
+    → last_slot h < t → IsPlayOf play h
+    → StateInvariant wish (Slot t cut ∷ h) (reading_at wish (record s { last_slot = t }) (place_of play t) cut)
+keeps-later {wish} {h} {s} {t} {cut} None k lasts later is =
+    slot-with k (omega (arith, later))
+    (k.watched_is ∙ unread wish h t cut
+    (ap (λ b. b && (nat_le (start h + slot_before h) t && nat_lt (last_slot h) t)) is))
+keeps-later {wish} {h} {s} {t} {cut} (Some play) k lasts later is =
+    let late = slot-late h in
+    let P : Option ℕ → Type 0 =
+    λ place. StateInvariant wish (Slot t cut ∷ h) (reading_at wish (record s { last_slot = t }) place cut) in
+    let j = (t - play.slot_before) - play.start in
+    elim (cases_lt (t - play.slot_before) play.start) [
+      | inl early ↦
+          let unmet : nat_le (start h + slot_before h) t ≡ false =
+          lt-leb (start h + slot_before h) t (omega (arith, early, is.start_is, is.slot_is, late, later)) in
+          subst P (sym
+          (cond-false (nat_le play.start (t - play.slot_before)) (Some j) None
+          (lt-leb play.start (t - play.slot_before) early)))
+          (slot-with k (omega (arith, later))
+          (k.watched_is
+          ∙ unread wish h t cut
+          (ap (λ b. is_playing h && (b && nat_lt (last_slot h) t)) unmet
+          ∙ and-middle (is_playing h) (nat_lt (last_slot h) t))))
+      | inr due ↦
+          let le : nat_le (start h + slot_before h) t ≡ true =
+          le-leb (start h + slot_before h) t (omega (arith, due, is.start_is, is.slot_is, late, later)) in
+          let reads : is_read h t ≡ true =
+          ap (λ b. b && (nat_le (start h + slot_before h) t && nat_lt (last_slot h) t)) is.playing
+          ∙ (ap (λ b. b && nat_lt (last_slot h) t) le ∙ lt-ltb (last_slot h) t later) in
+          let place : j ≡ place_in h t = omega (arith, due, is.start_is, is.slot_is) in
+          subst P (sym
+          (cond-true (nat_le play.start (t - play.slot_before)) (Some j) None
+          (le-leb play.start (t - play.slot_before) due)))
+          (subst P (ap (λ n. Some n) (sym place))
+          (slot-with k (omega (arith, later)) (read-at t cut k lasts reads)))
+    ]
+
+pub keeps-slot : {wish : Wish} {h : History} {s : State} {t cut : ℕ} → StateInvariant wish h s → HasDurations wish
+    s.source
+    → StateInvariant wish (Slot t cut ∷ h) (after_slot wish s t cut)
+keeps-slot {wish} {h} {s} {t} {cut} k lasts =
+    let P : State → Type 0 = λ x. StateInvariant wish (Slot t cut ∷ h) x in
+    elim (cases_lt (last_slot h) t) [
+      | inl later ↦
+          subst P (sym (cond-false (nat_le t s.last_slot) s
+          (reading_at wish (record s { last_slot = t }) (place_of s.play t) cut)
+          (lt-leb t s.last_slot (omega (arith, later, k.last_slot_is)))))
+          (keeps-later s.play k lasts later k.play_is)
+      | inr old ↦
+          subst P (sym (cond-true (nat_le t s.last_slot) s
+          (reading_at wish (record s { last_slot = t }) (place_of s.play t) cut)
+          (le-leb t s.last_slot (omega (arith, old, k.last_slot_is)))))
+          (slot-with k (omega (arith, old, k.last_slot_is))
+          (k.watched_is
+          ∙ unread wish h t cut
+          (ap (λ b. is_playing h && (nat_le (start h + slot_before h) t && b)) (le-ltb (last_slot h) t old)
+          ∙ and-end (is_playing h) (nat_le (start h + slot_before h) t))))
+    ]

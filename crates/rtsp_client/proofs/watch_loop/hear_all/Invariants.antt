@@ -1,0 +1,16 @@
+use Rattle.std.proofs.Common.{◌≤◌, ◌*◌, length, Ok}
+use Rattle.interleave.specs.Elements.{IsFirst}
+use Rattle.interleave.specs.declared.elements.Step.TheVariants.{More}
+use Rattle.rtsp_client.specs.ClientState.{bytes_in}
+use Rattle.rtsp_client.specs.ClientSteps.{HasRun, observed}
+use Rattle.rtsp_client.proofs.watch_loop.hear_all.Given as goal
+
+abbrev pub invariant-events : goal.invariant-events
+invariant-events g l =
+    (bytes_in l.client ≤ 16384 * l._event)
+    × (length l.client.input ≤ 81920)
+    × IsFirst l.client.input (Ok More)
+    × HasRun l.wish l._event l.client (observed (g.K.Link.told l.initial.link) (g.O.Sink.written l.initial.out))
+    (observed (g.K.Link.told l.link) (g.O.Sink.written l.out))
+    × (g.K.Link.faults l.initial.link ≤ g.K.Link.faults l.link)
+    × (g.O.Sink.faults l.initial.out ≤ g.O.Sink.faults l.out)

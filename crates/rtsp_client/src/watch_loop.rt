@@ -1,0 +1,73 @@
+//! A film watched from the first request to the last reply.
+
+ghost use Rattle.std.specs.Prelude.{◌≡◌, ◌≤◌, List, [], Option, None};
+ghost use Rattle.vod_base.specs.Links.{IoEvent, sends, told_more};
+ghost use Rattle.vod_base.specs.IoState.{HasRisen};
+ghost use Rattle.rtsp_client.specs.Causes.{HasCause};
+ghost use Rattle.rtsp_client.specs.WatchCourses.{HasWatched};
+ghost use Rattle.rtsp_client.specs.Requests.{setup_text};
+ghost use Rattle.rtsp_client.specs.States.{new_state};
+ghost use Rattle.rtsp_client.specs.WatchRequests.{IsWish};
+ghost use Rattle.rtsp_client.specs.declared.watch_request.WatchEnd.TheVariants.{LinkFault};
+ghost use Rattle.rtsp_client.specs.declared.watch_request.WatchEnd.TheVariants.{SinkFault};
+
+use crate::clients::Client;
+use crate::watch_request::{WatchEnd, WatchFault, Wish};
+use std::alloc::Global;
+use std::ops::ControlFlow;
+use vod_base::{Link, MAX_EVENTS, MAX_READ_BYTES, Sink};
+
+/// Watches a film over a link and hands its bytes on to `out`.
+///
+/// The client asks for SETUP, PLAY and TEARDOWN (RFC 2326 section 10), each after the reply before
+/// it, and for TEARDOWN once all pictures are whole. The payload of each frame goes to `out` as the
+/// frame is whole. At each new slot from the play's first one on the meter of the client's buffer
+/// is read.
+pub fn watch<K: Link, O: Sink>(alloc: Global, wish: &Wish, link: &mut K, out: &mut O) -> WatchEnd
+    requires wish { IsWish wish.now }
+    ensures count { K.faults link.old ≤ K.faults link.new }
+    ensures count_out { O.faults out.old ≤ O.faults out.new }
+    ensures link { result ≡ LinkFault → HasRisen (K.faults link.old) (K.faults link.new) }
+    ensures out { result ≡ SinkFault → HasRisen (O.faults out.old) (O.faults out.new) }
+    ensures watched { HasWatched wish.now result
+        (K.told link.old) (K.told link.new) (O.written out.old) (O.written out.new) }
+{
+    let Ok(mut client) = Client::new(alloc) else {
+        return WatchEnd::NoMemory;
+    };
+    match client.start(wish, link) {
+        Err(end) => end,
+        Ok(()) => hear_all(wish, &mut client, link, out),
+    }
+}
+
+/// Hears events until one of them ends the watching.
+fn hear_all<K: Link, O: Sink>(
+    wish: &Wish,
+    client: &mut Client,
+    link: &mut K,
+    out: &mut O,
+) -> WatchEnd
+    requires wish { IsWish wish.now }
+    requires new { client.old.watching ≡ new_state }
+    requires empty { client.old.input ≡ [] }
+    requires session { client.old.session ≡ None }
+    ensures count { K.faults link.old ≤ K.faults link.new }
+    ensures count_out { O.faults out.old ≤ O.faults out.new }
+    ensures watched { (told : Option (List IoEvent)) →
+        K.told link.old ≡ told_more told (sends (setup_text wish.now)) →
+        HasWatched wish.now result told (K.told link.new) (O.written out.old) (O.written out.new) }
+    ensures cause { HasCause result (K.faults link.old) (K.faults link.new) (O.faults out.old)
+        (O.faults out.new) }
+{
+    let mut bytes = [0; MAX_READ_BYTES];
+    'events: for _event in 0..MAX_EVENTS {
+        let Ok(heard) = link.next(&mut bytes) else {
+            return WatchEnd::LinkFault;
+        };
+        if let ControlFlow::Break(end) = client.hear(wish, heard, &bytes, link, out) {
+            return end;
+        }
+    }
+    WatchEnd::Fault(WatchFault::TurnsSpent)
+}

@@ -1,5 +1,0 @@
-use Rattle.rtsp_fields.proofs.ClockTexts.{clock_read}
-use Rattle.rtsp_fields.proofs.laws.law_clock_read.Goals as goal
-
-pub returns : goal.returns
-returns c = clock_read

@@ -1,9 +1,0 @@
-use Rattle.std.proofs.Common.{sym, ◌∙◌}
-use Rattle.rtsp_fields.proofs.Digits.{fraction_read}
-use Rattle.rtsp_fields.proofs.times.read_fraction.Goals as goal
-
-pub returns : goal.returns
-returns c =
-    rw c.unwrap_or-value.ensures
-    (fraction_read c.read_digits.result (sym c.are_digits.ensures ∙ c.if-not-are_digits.false) c.min.ensures
-    c.read_digits.ensures c.pow.ensures)

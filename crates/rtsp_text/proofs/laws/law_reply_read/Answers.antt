@@ -1,6 +1,0 @@
-use Rattle.rtsp_text.proofs.ReadBack.{read_back}
-use Rattle.rtsp_text.proofs.laws.law_reply_read.Goals as goal
-
-pub returns : goal.returns
-returns c = λ message code sequence fields body whole is plain text. read_back
-    (record { code = code; sequence = sequence; fields = fields; body = body }) whole is plain text

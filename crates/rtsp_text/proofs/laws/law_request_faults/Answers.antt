@@ -1,5 +1,0 @@
-use Rattle.rtsp_text.proofs.FaultTexts.{fault_wrong}
-use Rattle.rtsp_text.proofs.laws.law_request_faults.Goals as goal
-
-pub returns : goal.returns
-returns c = fault_wrong

@@ -1,8 +1,0 @@
-use Rattle.rtsp_text.proofs.SpelledTexts.{body_refused, head_refused}
-use Rattle.rtsp_text.proofs.laws.law_request_refused.Goals as goal
-
-pub returns-clause-head : goal.returns-clause-head
-returns-clause-head c = head_refused
-
-pub returns-clause-body : goal.returns-clause-body
-returns-clause-body c = body_refused

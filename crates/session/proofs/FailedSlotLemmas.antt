@@ -1,0 +1,84 @@
+-- Lemmas on what a failed sending of a slot leaves.
+use Rattle.std.proofs.Common.{◌≡◌, ℕ, ◌+◌, ◌-◌, ◌≤◌, ◌++◌, Bool, true, false, if◌then◌else◌, List}
+use Rattle.std.proofs.Common.{[], length, take, drop, Option, Result, Ok, Err, OnErr, refl, ap, sym}
+use Rattle.std.proofs.Common.{◌∙◌, arith, inl, inr}
+use Rattle.std.proofs.lemmas.Bool.{cases_lt, true≢false}
+use Rattle.std.proofs.lemmas.List.{length-append, map-append, take-take, take_all}
+use Rattle.std.proofs.Math.Seq.{take-append-add}
+use Rattle.film_frames.specs.Tracks.{framed_bytes}
+use Rattle.vod_base.specs.Links.{IoEvent, Sent, IsSentPrefix, sends, told_more}
+use Rattle.vod_base.proofs.HistoryLemmas.{told_more-append}
+use Rattle.pacer.specs.PacerStates.{PacerState, due_by, plan_bytes, at_slot, step_end}
+use Rattle.pacer.specs.Steps.{HasFailed}
+
+-- a fact that holds, also where there is no fault
+pub on_err : {T E P : Type 0} (r : Result T E) → P → OnErr r P
+on_err (Ok t) p = tt
+on_err (Err e) p = p
+
+-- the first bytes, however many are asked for
+any_front : (bytes : List ℕ) (k : ℕ) → (n : ℕ) × ((n ≤ length bytes) × (take n bytes ≡ take k bytes))
+any_front bytes k =
+    elim (cases_lt (length bytes) k) [
+      | inl long ↦ (
+        length bytes,
+        (omega (arith), take_all (length bytes) bytes (omega (arith)) ∙ sym (take_all k bytes (omega (arith, long)))),
+      )
+      | inr short ↦ (k, (short, refl))
+    ]
+
+pub front_of : (old new : Option (List IoEvent)) (bytes : List ℕ) (k : ℕ)
+    → new ≡ told_more old (sends (take k bytes)) → IsSentPrefix old new bytes
+front_of old new bytes k told =
+    let front = any_front bytes k in (front.0, (front.1.0, told ∙ ap (λ bs. told_more old (sends bs)) (sym front.1.1)))
+
+-- all of what comes first, and a front of the rest
+pub front_right : {mid new : Option (List IoEvent)} (old : Option (List IoEvent)) (bytes more : List ℕ) →
+    mid ≡ told_more old (sends bytes) → IsSentPrefix mid new more →
+    IsSentPrefix old new (bytes ++ more)
+front_right {new} old bytes more whole front = (
+  length bytes + front.0,
+  (
+    omega (arith, front.1.0, length-append bytes more),
+    front.1.1 ∙ ap (λ t. told_more t (sends (take front.0 more))) whole
+        ∙ told_more-append old (sends bytes) (sends (take front.0 more))
+        ∙ ap (told_more old) (sym (map-append Sent bytes (take front.0 more)))
+        ∙ ap (λ bs. told_more old (sends bs)) (sym (take-append-add bytes more front.0)),
+  ),
+)
+
+-- a step that failed
+pub failed_front : {stop : Bool} {slot : ℕ} {p new : PacerState} {told next : Option (List IoEvent)} →
+    HasFailed stop slot p new told next →
+    IsSentPrefix told next (plan_bytes p p.sent (step_end stop (at_slot slot p)))
+failed_front {stop} {slot} {p} {new} {told} {next} failed =
+    let end : ℕ = step_end stop (at_slot slot p) in
+    let part : ℕ = (p.before + failed.out) - (p.before + p.sent) in
+    let whole : ℕ = (p.before + end) - (p.before + p.sent) in
+    let within : part ≤ whole = omega (arith, failed.out_most) in
+    front_of told next (plan_bytes p p.sent end) part
+    (failed.told
+    ∙ ap (λ bs. told_more told (sends bs))
+    (sym (take-take part whole (drop (p.before + p.sent) (framed_bytes p.pieces)) within)))
+
+pub failed_due : {stop : Bool} {slot : ℕ} {p new : PacerState} {told next : Option (List IoEvent)}
+    → HasFailed stop slot p new told next → new.due ≡ due_by p slot
+failed_due {stop} {slot} {p} {new} {next} failed = ap (λ (q : PacerState). q.due) failed.state
+
+-- what a slot sends: what comes before a reply, the reply, what comes after it, and all where no reply waits
+pub record SlotSends : Type 0 where
+  pub one : List ℕ
+  pub text : List ℕ
+  pub after : List ℕ
+  pub plain : List ℕ
+
+-- both sends of a slot: a front of what comes after the first
+pub front_both : {waits between : Bool} {mid new : Option (List IoEvent)} (old : Option (List IoEvent))
+    (sent : SlotSends) → waits ≡ true → between ≡ true → mid ≡ told_more old (sends sent.one)
+    → IsSentPrefix mid new (sent.text ++ sent.after)
+    → IsSentPrefix old new (if waits then sent.one ++ (if between then sent.text ++ sent.after else []) else sent.plain)
+front_both {waits = true} {between = true} {new} old sent waiting between told front =
+    front_right old sent.one (sent.text ++ sent.after) told front
+front_both {waits = true} {between = false} {new} old sent waiting between told front =
+    absurd (true≢false (sym between))
+front_both {waits = false} {between} {new} old sent waiting is told front = absurd (true≢false (sym waiting))

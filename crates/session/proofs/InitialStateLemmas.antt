@@ -1,0 +1,51 @@
+-- What a session begins with, what it hears, and a play that it has in hand.
+use Rattle.std.proofs.Common.{◌≡◌, ℕ, List}
+use Rattle.film_frames.specs.declared.stored_films.Stored.{Stored}
+use Rattle.rtsp_text.specs.declared.requests.Request.{Request}
+use Rattle.session.specs.RequestSteps.{Hears}
+use Rattle.session.specs.SettingRanges.{AreFilms}
+use Rattle.session.specs.SessionStates.{SessionState}
+use Rattle.session.specs.declared.commands.Ask.{Ask}
+use Rattle.session.specs.declared.settings.Settings.{Settings}
+use Rattle.session.specs.declared.states.Play.{Play as Played}
+use Rattle.session.specs.declared.states.Setup.{Setup}
+use Rattle.session.specs.declared.states.State.TheVariants.{Playing}
+
+-- what a session begins with: the server's films and settings, and the connection's words
+pub record Beginning : Type 0 where
+  pub films : List Stored
+  pub settings : Settings
+  pub words : List ℕ
+
+-- a message that was heard, what it asks of the station, and the session before and after it
+pub record HeardMessage : Type 0 where
+  pub old : SessionState
+  pub new : SessionState
+  pub message : List ℕ
+  pub ask : Ask
+  pub hears : Hears old message ask new
+
+-- a message that the same session heard twice
+pub record TwoHearings : Type 0 where
+  pub old : SessionState
+  pub one : SessionState
+  pub other : SessionState
+  pub message : List ℕ
+  pub ask : Ask
+  pub again : Ask
+  pub films : AreFilms old.films
+  pub is : Hears old message ask one
+  pub its : Hears old message again other
+
+-- a request that was taken up, what it asks of the station, and the session before and after it
+pub record TakenRequest : Type 0 where
+  pub old : SessionState
+  pub new : SessionState
+  pub request : Request
+  pub ask : Ask
+
+-- a play that a session has in hand
+pub record PlayInHand (old : SessionState) : Type 0 where
+  pub setup : Setup
+  pub play : Played
+  pub playing : old.state ≡ Playing setup play

@@ -1,0 +1,245 @@
+-- What each request changes of a session.
+use Rattle.std.proofs.Common.{◌≡◌, ℕ, Bool, true, false, List, [], Option, Some, codes, Result, Ok, Err, refl, sym, ap}
+use Rattle.std.proofs.Common.{subst, inl, inr}
+use Rattle.rtsp_text.specs.Fields.{header_value}
+use Rattle.rtsp_text.specs.declared.requests.Request.{Request}
+use Rattle.film_frames.specs.declared.stored_films.Stored.{Stored}
+use Rattle.film_run.specs.declared.runs.Run.{Run}
+use Rattle.session.specs.declared.commands.Ask.{Ask}
+use Rattle.session.specs.declared.commands.Ask.TheVariants.{Play as AskPlay}
+use Rattle.session.specs.declared.plans.Planned.{Planned}
+use Rattle.session.specs.declared.refusals.Refusal.{Refusal}
+use Rattle.session.specs.declared.refusals.Task.{Task}
+use Rattle.session.specs.declared.refusals.Task.TheVariants.{Options as ToOptions}
+use Rattle.session.specs.declared.refusals.Task.TheVariants.{Describe as ToDescribe}
+use Rattle.session.specs.declared.refusals.Task.TheVariants.{Setup as ToSetup, Play as ToPlay}
+use Rattle.session.specs.declared.refusals.Task.TheVariants.{Pause as ToPause}
+use Rattle.session.specs.declared.refusals.Task.TheVariants.{Teardown as ToTeardown}
+use Rattle.session.specs.declared.refusals.Task.TheVariants.{GetParameter as ToGetParameter}
+use Rattle.session.specs.declared.states.Awaited.TheVariants.{Play}
+use Rattle.session.specs.declared.states.Setup.{Setup}
+use Rattle.session.specs.declared.states.State.{State}
+use Rattle.session.specs.declared.states.State.TheVariants.{Ready}
+use Rattle.session.specs.RequestEffects.{AsksOrLacks, AwaitsNoStop, CanBePlayed, ChangesState, IsGoodPlay}
+use Rattle.session.specs.RequestEffects.{IsPlayAskedFor}
+use Rattle.session.specs.RequestEffects.{IsSameContext}
+use Rattle.session.specs.RequestSteps.{Hears, HearsOn}
+use Rattle.session.specs.RefusalOrder.{IsJudged}
+use Rattle.session.specs.Laws.{AsksNoHalt}
+use Rattle.session.specs.Methods.{AsksPlayOr, IsRefused, IsReplied, Plays, Takes, play_call, play_front, prepared_of}
+use Rattle.session.specs.RequestedPlans.{IsPlanned, IsPlannedRun}
+use Rattle.session.specs.SessionStates.{SessionState}
+use Rattle.session.proofs.ResumedPlayLemmas.{of_film}
+use Rattle.session.proofs.RequestCaseAnalysis.{ComesTo, Lacks, Refuses, Says, SettlesSetup, AsksForPlay, AsksForHalt}
+use Rattle.session.proofs.RequestCaseAnalysis.{AsksForLook}
+use Rattle.session.proofs.RequestCaseAnalysis.{AsksForOffer, comes_to, is_memory}
+
+abbrev pub Changes : Ask → SessionState → SessionState → Type 0
+Changes ask old new = IsSameContext old new × ChangesState ask old new
+
+replied_changes : (old : SessionState) (text : List ℕ) (ask : Ask) (new : SessionState) → IsReplied old text ask new
+    → Changes ask old new
+replied_changes old text ask new is =
+    subst (λ a. Changes a old new) (sym is.0) (
+      subst (IsSameContext old) (sym is.1) (record {
+        films = refl;
+        settings = refl;
+        source = refl;
+        counts = refl;
+        heard = refl;
+        plays = refl;
+      }),
+      inl (ap (λ (s : SessionState). s.state) is.1),
+    )
+
+play_asked : {old new : SessionState} {stored : Stored} {setup : Setup} {paused : Option Run} {range : Option (List ℕ)}
+    {planned : Planned} (sequence : ℕ) (authority : List ℕ) → old.state ≡ Ready setup paused
+    → IsPlannedRun old stored setup paused range planned
+    → new ≡ record old {
+      awaited = Play (prepared_of old stored setup planned sequence);
+      text = play_front old stored setup planned sequence authority;
+    } → IsPlayAskedFor old (AskPlay planned.plan) new
+play_asked {new} {stored} {setup} {paused} {range} {planned} sequence authority ready planned_is is = record {
+  play = record {
+    setup = setup;
+    paused = paused;
+    range = range;
+    stored = stored;
+    planned = planned;
+    sequence = sequence;
+    authority = authority;
+    ready = ready;
+    planned_is = planned_is;
+    awaited = ap (λ (s : SessionState). s.awaited) is;
+    text = ap (λ (s : SessionState). s.text) is;
+  };
+  command = refl;
+}
+
+comes_changes : (old new : SessionState) (message : List ℕ) (ask : Ask) → ComesTo old message ask new → Changes ask old
+    new
+comes_changes old new message ask (Lacks may is) = replied_changes old _ ask new is
+comes_changes old new message ask (Refuses sequence refusal option other is) = replied_changes old _ ask new is
+comes_changes old new message ask (Says sequence fields body tearing by command is) =
+    subst (λ a. Changes a old new) (sym command) (
+      subst (IsSameContext old) (sym is) (record {
+        films = refl;
+        settings = refl;
+        source = refl;
+        counts = refl;
+        heard = refl;
+        plays = refl;
+      }),
+      inl (ap (λ (s : SessionState). s.state) is),
+    )
+comes_changes old new message ask (SettlesSetup sequence setup init ranges command is) =
+    subst (λ a. Changes a old new) (sym command) (
+      subst (IsSameContext old) (sym is) (record {
+        films = refl;
+        settings = refl;
+        source = refl;
+        counts = refl;
+        heard = refl;
+        plays = refl;
+      }),
+      inr (record { setup = setup; state = ap (λ (s : SessionState). s.state) is; ranges = ranges }),
+    )
+comes_changes old new message ask
+    (AsksForPlay stored setup paused range planned sequence authority ready planned_is command is) =
+    subst (λ a. Changes a old new) (sym command) (
+      subst (IsSameContext old) (sym is) (record {
+        films = refl;
+        settings = refl;
+        source = refl;
+        counts = refl;
+        heard = refl;
+        plays = refl;
+      }),
+      (
+        ap (λ (s : SessionState). s.state) is,
+        play_asked sequence authority ready planned_is is,
+      ),
+    )
+comes_changes old new message ask (AsksForHalt sequence setup play next playing told by halts) =
+    subst (λ a. Changes a old new) (sym halts.command) (
+      subst (IsSameContext old) (sym halts.state)
+          (record { films = refl; settings = refl; source = refl; counts = refl; heard = refl; plays = refl }),
+      record {
+        setup = setup;
+        play = play;
+        keep = halts.keep;
+        next = next;
+        was = playing;
+        keep_is = halts.keep_is;
+        now = ap (λ (s : SessionState). s.state) halts.state;
+        awaited = ap (λ (s : SessionState). s.awaited) halts.state;
+      },
+    )
+comes_changes old new message ask (AsksForLook sequence look) =
+    subst (λ a. Changes a old new) (sym look.command) (
+      subst (IsSameContext old) (sym look.state)
+          (record { films = refl; settings = refl; source = refl; counts = refl; heard = refl; plays = refl }),
+      ap (λ (s : SessionState). s.state) look.state,
+    )
+comes_changes old new message ask (AsksForOffer sequence wait planned asks) =
+    subst (λ a. Changes a old new) (sym asks.command) (
+      subst (IsSameContext old) (sym asks.state)
+          (record { films = refl; settings = refl; source = refl; counts = refl; heard = refl; plays = refl }),
+      ap (λ (s : SessionState). s.state) asks.state,
+    )
+
+pub hears_ground : (old new : SessionState) (message : List ℕ) (ask : Ask) → Hears old message ask new
+    → IsSameContext old new
+hears_ground old new message ask hears = (comes_changes old new message ask (comes_to old message ask new hears)).0
+
+pub hears_state : (old new : SessionState) (message : List ℕ) (ask : Ask) → Hears old message ask new
+    → ChangesState ask old new
+hears_state old new message ask hears = (comes_changes old new message ask (comes_to old message ask new hears)).1
+
+-- a PAUSE or a TEARDOWN waits for no halt but the one that it asks for
+comes_unstopped : {old new : SessionState} {message : List ℕ} {ask : Ask} → AsksNoHalt ask → AwaitsNoStop old
+    → ComesTo old message ask new → AwaitsNoStop new
+comes_unstopped free none (Lacks may is) = subst AwaitsNoStop (sym is.1) none
+comes_unstopped free none (Refuses sequence refusal option other is) = subst AwaitsNoStop (sym is.1) none
+comes_unstopped free none (Says sequence fields body tearing by command is) = subst AwaitsNoStop (sym is) none
+comes_unstopped free none (SettlesSetup sequence setup init ranges command is) = subst AwaitsNoStop (sym is) none
+comes_unstopped free none
+    (AsksForPlay stored setup paused range planned sequence authority ready planned_is command is) =
+    subst AwaitsNoStop (sym is) refl
+comes_unstopped free none (AsksForHalt sequence setup play next playing told by halts) =
+    absurd (subst AsksNoHalt halts.command free)
+comes_unstopped free none (AsksForLook sequence look) = subst AwaitsNoStop (sym look.state) refl
+comes_unstopped free none (AsksForOffer sequence wait planned asks) = subst AwaitsNoStop (sym asks.state) refl
+
+pub hears_unstopped : (old new : SessionState) (message : List ℕ) (ask : Ask) → Hears old message ask new → AsksNoHalt
+    ask
+    → AwaitsNoStop old → AwaitsNoStop new
+hears_unstopped old new message ask hears free none = comes_unstopped free none (comes_to old message ask new hears)
+
+-- a PLAY to which no refusal applies
+no_refusal : {old : SessionState} {request : Request} {setup : Setup} {paused : Option Run} {ask : Ask} {new :
+    SessionState}
+    (authority : List ℕ) (planned : Result Planned Refusal) → old.state ≡ Ready setup paused
+    → IsGoodPlay old setup paused request
+    → IsPlanned old setup paused (header_value request.head.now (codes "Range")) planned
+    → AsksPlayOr old (play_call request.sequence authority setup) planned ask new → AsksOrLacks old ask new
+no_refusal {old} {request} {setup} {paused} {ask} {new} authority (Ok planned) ready good is (inl asks) =
+    let range = header_value request.head.now (codes "Range") in
+    let own = of_film old.films setup.film is.0 (λ s. IsPlannedRun old s setup paused range planned) is.1.at
+    is.1 asks.stored asks.at in
+    inl (subst (λ a. IsPlayAskedFor old a new) (sym asks.command)
+    (play_asked request.sequence authority ready own asks.state))
+no_refusal {request} {ask} {new} authority (Ok planned) ready good is (inr refused) =
+    inr (record { sequence = request.sequence; refused = refused })
+no_refusal {old} {request} {ask} {new} authority (Err refusal) ready good is refused =
+    elim (is_memory refusal) [
+      | inl memory ↦ inr (record {
+        sequence = request.sequence;
+        refused = subst (λ r. IsRefused old (Some request.sequence) r [] ask new) memory refused;
+      })
+      | inr other ↦ absurd (good.plan refusal other is)
+    ]
+
+good_plays : {old : SessionState} {request : Request} {setup : Setup} {paused : Option Run} {ask : Ask} {new :
+    SessionState}
+    (authority : List ℕ)
+    → old.state ≡ Ready setup paused → IsGoodPlay old setup paused request
+    → Plays old.state old request authority ask new → AsksOrLacks old ask new
+good_plays {old} {request} {ask} {new} authority ready good plays =
+    let is = subst (λ (s : State). Plays s old request authority ask new) ready plays in
+    no_refusal authority is.planned ready good is.is_planned is.asks
+
+good_takes : {old : SessionState} {request : Request} {setup : Setup} {paused : Option Run} {ask : Ask} {new :
+    SessionState}
+    (judgement : Result Task Refusal) → old.state ≡ Ready setup paused → IsGoodPlay old setup paused request
+    → IsJudged old.films old.id old.state request judgement → Takes old request judgement ask new
+    → AsksOrLacks old ask new
+good_takes {ask} {new} (Ok (ToPlay asked)) ready good judged takes =
+    good_plays asked.authority.now ready good takes
+good_takes {ask} {new} (Err refusal) ready good judged takes = absurd (good.taken refusal judged)
+good_takes {ask} {new} (Ok ToOptions) ready good judged takes =
+    absurd (let no : ⊥ = cc (judged.talk.spoken.named, good.method) in no)
+good_takes {ask} {new} (Ok (ToDescribe asked)) ready good judged takes =
+    absurd (let no : ⊥ = cc (judged.talk.spoken.named, good.method) in no)
+good_takes {ask} {new} (Ok (ToSetup film)) ready good judged takes =
+    absurd (let no : ⊥ = cc (judged.talk.spoken.named, good.method) in no)
+good_takes {ask} {new} (Ok ToPause) ready good judged takes =
+    absurd (let no : ⊥ = cc (judged.talk.spoken.named, good.method) in no)
+good_takes {ask} {new} (Ok ToTeardown) ready good judged takes =
+    absurd (let no : ⊥ = cc (judged.talk.spoken.named, good.method) in no)
+good_takes {ask} {new} (Ok ToGetParameter) ready good judged takes =
+    absurd (let no : ⊥ = cc (judged.talk.spoken.named, good.method) in no)
+
+hears_on_good : {lost : Bool} {old : SessionState} {message : List ℕ} {ask : Ask} {new : SessionState} → lost ≡ false
+    → CanBePlayed old message
+    → HearsOn lost old message ask new → AsksOrLacks old ask new
+hears_on_good {lost = true} {ask} {new} linked can hears = absurd (let no : ⊥ = cc in no)
+hears_on_good {lost = false} {ask} {new} linked can (inl fault) = absurd (can.sound fault.fault fault.is_fault)
+hears_on_good {lost = false} {ask} {new} linked can (inr whole) =
+    good_takes whole.hears.judgement can.ready (can.good whole.request whole.is_request)
+    whole.hears.judged whole.hears.takes
+
+pub hears_good : (old new : SessionState) (message : List ℕ) (ask : Ask) → Hears old message ask new
+    → CanBePlayed old message
+    → AsksOrLacks old ask new
+hears_good old new message ask hears can = hears_on_good can.linked can hears

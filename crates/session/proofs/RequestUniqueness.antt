@@ -1,0 +1,176 @@
+-- What a request says is read in one way.
+use Rattle.std.proofs.Common.{◌≡◌, ℕ, ◌^◌, List, [], ◌∷◌, get_or, slice_get, slice_range}
+use Rattle.std.proofs.Common.{filter_map, option_and_then, Option, Some, None, Result, Ok, Err}
+use Rattle.std.proofs.Common.{codes, refl, sym, ap, ◌∙◌, inl, inr, arith}
+use Rattle.vod_base.specs.Numbers.{number_of}
+use Rattle.film_frames.specs.declared.stored_films.Stored.{Stored}
+use Rattle.rtsp_fields.specs.declared.transports.Channels.{Channels}
+use Rattle.rtsp_fields.proofs.FieldUniqueness.{transport_once}
+use Rattle.rtsp_fields.proofs.PartLemmas.{within_once}
+use Rattle.rtsp_fields.proofs.PartPlaces.{end_once}
+use Rattle.rtsp_text.specs.Fields.{first_number, first_sequence, first_value, header_value, sequence_number, value_in}
+use Rattle.rtsp_text.specs.Lines.{header_lines}
+use Rattle.session.specs.declared.methods.Topic.{Topic}
+use Rattle.session.specs.declared.methods.Topic.TheVariants.{Nothing as NoTopic, Booked, Offer as OfferTopic, Unknown}
+use Rattle.session.specs.declared.refusals.Refusal.{Refusal}
+use Rattle.session.specs.declared.refusals.Refusal.TheVariants.{BadRequest, Version}
+use Rattle.session.specs.declared.refusals.Refusal.TheVariants.{Method as UnknownMethod}
+use Rattle.session.specs.declared.refusals.Refusal.TheVariants.{Option as Required, Session, Film}
+use Rattle.session.specs.declared.refusals.Refusal.TheVariants.{State as NotNow, Transport}
+use Rattle.session.specs.declared.refusals.Refusal.TheVariants.{Parameter, Buffer, Range, Memory}
+use Rattle.session.specs.declared.states.Setup.{Setup}
+use Rattle.session.specs.declared.settings.Settings.{Settings}
+use Rattle.session.specs.Films.{Names}
+use Rattle.session.specs.RefusalOrder.{IsTopic, IsWord}
+use Rattle.session.specs.Methods.{IsWaitOf}
+use Rattle.session.specs.SettingRanges.{AreFilms}
+use Rattle.session.specs.Setups.{AreChannelsOf, AsksForSetup, HasChannels, IsChosen, HasNoMeaning, IsSetupRead}
+use Rattle.session.proofs.FilmUrlLemmas.{film_once, named_once}
+
+-- what a SETUP asks for
+chosen_once : {a b : ℕ} (value : Option (List ℕ)) (own least most : ℕ) → IsChosen value own least most a
+    → IsChosen value own least most b → b ≡ a
+chosen_once {a} None own least most is its = its ∙ sym is
+chosen_once {a} {b} (Some value) own least most is its = within_once its is
+
+channels_once : (value : Option (List ℕ)) (a b : Channels) → AreChannelsOf value a → AreChannelsOf value b → b ≡ a
+channels_once None a b is its = absurd is
+channels_once (Some value) a b is its = transport_once value b a its is
+
+setup_once : {settings : Settings} {head : List ℕ} {film : ℕ} {one other : Setup} → AsksForSetup settings head film one
+    → AsksForSetup settings head film other → other ≡ one
+setup_once {settings} {head} {film} {one} {other} is its =
+    let S : ℕ → Channels → ℕ → ℕ → Setup =
+    λ f c b d. record { film = f; media = c.media; control = c.control; buffer = b; delay = d } in
+    let C : Setup → Channels = λ s. record { media = s.media; control = s.control } in
+    let film_is = its.film_is ∙ sym is.film_is in
+    let channels = channels_once (header_value head (codes "Transport")) (C one) (C other) is.channels its.channels in
+    let buffer = chosen_once (header_value head (codes "x-Buffer")) settings.buffer 1 (2 ^ 42) is.buffer its.buffer in
+    let delay = chosen_once (header_value head (codes "x-Startup")) settings.startup 0 10000 is.delay its.delay in
+    ap (λ f. S f (C other) other.buffer other.delay) film_is ∙ ap (λ c. S one.film c other.buffer other.delay) channels
+    ∙ ap (λ b. S one.film (C one) b other.delay) buffer ∙ ap (λ d. S one.film (C one) one.buffer d) delay
+
+-- a SETUP that is refused
+data Unread (settings : Settings) (head : List ℕ) (refusal : Refusal) : Type 0 where
+  NoChannels : refusal ≡ Transport → ((channels : Channels) → ¬ HasChannels head channels)
+      → Unread settings head refusal
+  NoMeaning : refusal ≡ Parameter → HasNoMeaning settings head → Unread settings head refusal
+
+unread : (settings : Settings) (head : List ℕ) (film : ℕ) (refusal : Refusal) → IsSetupRead settings head film
+    (Err refusal)
+    → Unread settings head refusal
+unread settings head film BadRequest is = absurd is
+unread settings head film Version is = absurd is
+unread settings head film UnknownMethod is = absurd is
+unread settings head film Required is = absurd is
+unread settings head film Session is = absurd is
+unread settings head film Film is = absurd is
+unread settings head film NotNow is = absurd is
+unread settings head film Transport is = NoChannels refl is
+unread settings head film Parameter is = NoMeaning refl is
+unread settings head film (Buffer least) is = absurd is
+unread settings head film Range is = absurd is
+unread settings head film Memory is = absurd is
+
+unread_once : (settings : Settings) (head : List ℕ) (one other : Refusal) → Unread settings head one
+    → Unread settings head other → other ≡ one
+unread_once settings head one other (NoChannels is none) (NoChannels its free) = its ∙ sym is
+unread_once settings head one other (NoChannels is none) (NoMeaning its bad) =
+    absurd (none bad.channels.0 bad.channels.1)
+unread_once settings head one other (NoMeaning is bad) (NoChannels its none) =
+    absurd (none bad.channels.0 bad.channels.1)
+unread_once settings head one other (NoMeaning is bad) (NoMeaning its worse) = its ∙ sym is
+
+not_unread : {settings : Settings} {head : List ℕ} {film : ℕ} {setup : Setup} {refusal : Refusal}
+    → AsksForSetup settings head film setup
+    → Unread settings head refusal → ⊥
+not_unread {head} {setup} is (NoChannels its none) =
+    none (record { media = setup.media; control = setup.control }) is.channels
+not_unread {head} {setup} is (NoMeaning its none) =
+    elim none.none [ inl buffer ↦ buffer setup.buffer is.buffer | inr delay ↦ delay setup.delay is.delay ]
+
+pub read_once : {one other : Result Setup Refusal} (settings : Settings) (head : List ℕ) (film : ℕ)
+    → IsSetupRead settings head film one
+    → IsSetupRead settings head film other → other ≡ one
+read_once {one = Ok one} {other = Ok other} settings head film is its = ap (λ s. Ok s) (setup_once is its)
+read_once {one = Ok one} {other = Err other} settings head film is its =
+    absurd (not_unread is (unread settings head film other its))
+read_once {one = Err one} {other = Ok other} settings head film is its =
+    absurd (not_unread its (unread settings head film one is))
+read_once {one = Err one} {other = Err other} settings head film is its =
+    ap (λ r. Err r) (unread_once settings head one other (unread settings head film one is)
+    (unread settings head film other its))
+
+-- what a body asks for
+abbrev third : List ℕ → ℕ
+third body = get_or body 2 0
+
+booked_third : (body : List ℕ) → IsWord (codes "x-Booked") body → third body ≡ 66
+booked_third body (inl is) = ap third is
+booked_third body (inr (inl is)) = ap third is
+booked_third body (inr (inr is)) = ap third is
+
+offer_third : (body : List ℕ) → IsWord (codes "x-Offer") body → third body ≡ 79
+offer_third body (inl is) = ap third is
+offer_third body (inr (inl is)) = ap third is
+offer_third body (inr (inr is)) = ap third is
+
+differ : (body : List ℕ) (n m : ℕ) → third body ≡ n → third body ≡ m → (n ≡ m → ⊥) → ⊥
+differ body n m is its other = other (sym is ∙ its)
+
+pub topic_once : (body : List ℕ) (one other : Topic) → IsTopic body one → IsTopic body other → other ≡ one
+topic_once body NoTopic NoTopic is its = refl
+topic_once body NoTopic Booked is its =
+    absurd (differ body 0 66 (ap third is) (booked_third body its) (λ same. omega (arith, same)))
+topic_once body NoTopic OfferTopic is its =
+    absurd (differ body 0 79 (ap third is) (offer_third body its) (λ same. omega (arith, same)))
+topic_once body NoTopic Unknown is its = absurd (its.0 is)
+topic_once body Booked NoTopic is its =
+    absurd (differ body 0 66 (ap third its) (booked_third body is) (λ same. omega (arith, same)))
+topic_once body Booked Booked is its = refl
+topic_once body Booked OfferTopic is its =
+    absurd (differ body 66 79 (booked_third body is) (offer_third body its) (λ same. omega (arith, same)))
+topic_once body Booked Unknown is its = absurd (its.1 is)
+topic_once body OfferTopic NoTopic is its =
+    absurd (differ body 0 79 (ap third its) (offer_third body is) (λ same. omega (arith, same)))
+topic_once body OfferTopic Booked is its =
+    absurd (differ body 66 79 (booked_third body its) (offer_third body is) (λ same. omega (arith, same)))
+topic_once body OfferTopic OfferTopic is its = refl
+topic_once body OfferTopic Unknown is its = absurd (its.2 is)
+topic_once body Unknown NoTopic is its = absurd (is.0 its)
+topic_once body Unknown Booked is its = absurd (is.1 its)
+topic_once body Unknown OfferTopic is its = absurd (is.2 its)
+topic_once body Unknown Unknown is its = refl
+
+-- which film a URL names, and under which authority
+pub record AreSameNames (one other : List ℕ) (film number : ℕ) : Type 0 where
+  pub authority : other ≡ one
+  pub film_is : number ≡ film
+
+pub names_once : {films : List Stored} {url one other : List ℕ} {film number : ℕ} → AreFilms films
+    → Names films url one film
+    → Names films url other number → AreSameNames one other film number
+names_once {url} {one} {other} {number} are is its =
+    let path = end_once its.read.is_url.end is.read.is_url.end in
+    record {
+      authority = its.read.authority_is ∙ ap (λ n. slice_range url 7 n) path ∙ sym is.read.authority_is;
+      film_is = film_once are (named_once is.read its) is.film;
+    }
+
+-- the number of a request is the first of its head
+first_of_values : (values : List (List ℕ)) (sequence : ℕ) → option_and_then number_of
+    (slice_get values 0) ≡ Some sequence
+    → slice_get (filter_map number_of values) 0 ≡ Some sequence
+first_of_values [] sequence is = is
+first_of_values (value ∷ values) sequence is = rw is refl
+
+pub first_sequence_is : (message : List ℕ) (sequence : ℕ) → sequence_number message ≡ Some sequence
+    → first_sequence message ≡ Some sequence
+unfolding first_number first_value
+first_sequence_is message sequence is =
+    first_of_values (filter_map (value_in (codes "CSeq")) (header_lines message)) sequence is
+
+-- how many slots may be waited
+pub wait_once : (value : Option (List ℕ)) (one other : ℕ) → IsWaitOf value one → IsWaitOf value other → other ≡ one
+wait_once None one other is its = absurd is
+wait_once (Some value) one other is its = within_once its is

@@ -1,0 +1,85 @@
+-- What can be sent on.
+use Rattle.std.proofs.Common.{◌≡◌, ℕ, List, Option, Some, None, IfSome, MatchOption, sym, subst, ◌∙◌, arith}
+use Rattle.film_frames.specs.declared.stored_films.Stored.{Stored}
+use Rattle.film_run.specs.declared.runs.Run.{Run}
+use Rattle.film_run.specs.Seeks.{IsRequestedRange}
+use Rattle.film_run.proofs.NewRunLemmas.{none-at-boundary}
+use Rattle.mpeg_scan.specs.declared.films.Film.{Film}
+use Rattle.rtsp_fields.proofs.FieldUniqueness.{span_once}
+use Rattle.rtsp_fields.specs.declared.ranges.Span.{Span}
+use Rattle.rtsp_fields.specs.declared.ranges.Origin.{Origin}
+use Rattle.rtsp_fields.specs.declared.ranges.Origin.TheVariants.{Now, At}
+use Rattle.session.specs.Films.{IsFilmAt, OfFilm, identity_of}
+use Rattle.session.specs.RunRequests.{IsAskedRun, IsNoRange, IsRunOf, IsSpanOf, IsRequestFor, RequestsNothing}
+use Rattle.session.specs.RunRequests.{counts_for, run_of}
+use Rattle.session.specs.declared.states.Counts.{Counts}
+use Rattle.session.specs.declared.states.Setup.{Setup}
+use Rattle.session.specs.declared.states.StreamSource.{StreamSource}
+use Rattle.session.specs.declared.play_requests.PlayRequest.{PlayRequest}
+use Rattle.session.specs.declared.play_requests.PlayRequest.TheVariants.{Resumed, New}
+
+-- one film has one number
+pub of_film : (films : List Stored) (number : ℕ) (stored : Stored) (P : Stored → Type 0) → IsFilmAt films number stored
+    → P stored
+    → OfFilm films number P
+of_film films number stored P at holds other is =
+    let same : stored ≡ other = cc in
+    subst P same holds
+
+new_goes_on : {stored : Stored} {source : StreamSource} {setup : Setup} {counts : Counts} {from : ℕ} {to : Option ℕ}
+    {run : Run}
+    → IsRequestedRange stored.film from to run → IsRunOf stored source setup counts run
+new_goes_on {stored} {source} {setup} {counts} {from} {run} asked = record {
+  run_is = asked.new.run_is;
+  fits = let none : run.sent ≡ 0 = asked.new.sent_is in omega arith;
+  boundary = none-at-boundary stored.film run asked.new.sent_is (identity_of source setup counts);
+}
+
+-- what was sent before, and a paused run can be sent on after it
+record SentBefore (stored : Stored) (source : StreamSource) (setup : Setup) (paused : Option Run) : Type 0 where
+  pub counts : Counts
+  pub kept : IfSome paused (λ run. IsRunOf stored source setup counts run)
+
+wanted_goes_on : {stored : Stored} {source : StreamSource} {setup : Setup} (paused : Option Run)
+    (before : SentBefore stored source setup paused) (from : Origin) (to : Option ℕ) (wanted : PlayRequest)
+    → IsRequestFor stored.film paused from to wanted
+    → IsRunOf stored source setup (counts_for stored.film source setup before.counts paused wanted) (run_of wanted)
+wanted_goes_on None before Now to (Resumed run) is = absurd is
+wanted_goes_on None before Now to (New run) is =
+    new_goes_on is
+wanted_goes_on {stored} {source} {setup} (Some paused) before Now to (Resumed run) is =
+    subst (λ (r : Run). IsRunOf stored source setup before.counts r) (sym is) before.kept
+wanted_goes_on (Some paused) before Now to (New run) is = absurd is
+wanted_goes_on None before (At time) to (Resumed run) is = absurd is
+wanted_goes_on None before (At time) to (New run) is =
+    new_goes_on is
+wanted_goes_on (Some paused) before (At time) to (Resumed run) is = absurd is
+wanted_goes_on (Some paused) before (At time) to (New run) is =
+    new_goes_on is
+
+pub goes_on : {stored : Stored} {source : StreamSource} {setup : Setup} {paused : Option Run} {range : Option (List ℕ)}
+    {wanted : PlayRequest} (counts : Counts) → IfSome paused (λ run. IsRunOf stored source setup counts run)
+    → IsAskedRun stored.film paused range wanted
+    → IsRunOf stored source setup (counts_for stored.film source setup counts paused wanted) (run_of wanted)
+goes_on {paused} {wanted} counts kept asked =
+    wanted_goes_on paused (record { counts = counts; kept = kept }) asked.span.from asked.span.to wanted asked.is_wanted
+
+-- a Range gives one span
+pub span_of_once : (range : Option (List ℕ)) (a b : Span) → IsSpanOf range a → IsSpanOf range b → a ≡ b
+span_of_once None a b one other = one ∙ sym other
+span_of_once (Some value) a b one other = span_once value a b one other
+
+-- a Range, and the span that it means
+pub record ReadRange : Type 0 where
+  pub range : Option (List ℕ)
+  pub span : Span
+  pub is_span : IsSpanOf range span
+
+pub asked_in : (film : Film) (paused : Option Run) → (read : ReadRange) (wanted : Option PlayRequest)
+    → MatchOption wanted (RequestsNothing film paused read.span.from read.span.to)
+    (IsRequestFor film paused read.span.from read.span.to)
+    → MatchOption wanted (IsNoRange film paused read.range) (IsAskedRun film paused read.range)
+asked_in film paused read None none = λ other same.
+    subst (λ (s : Span). RequestsNothing film paused s.from s.to)
+    (span_of_once read.range read.span other read.is_span same) none
+asked_in film paused read (Some wanted) asked = record { span = read.span; is_span = read.is_span; is_wanted = asked }

@@ -1,0 +1,45 @@
+-- A step with a stop that leaves something ends at a boundary.
+use Rattle.std.proofs.Common.{◌≡◌, ℕ, ◌+◌, ◌-◌, ◌<◌, ◌≤◌, min, true, List, length, sym, ap, subst, ◌∙◌, eq-eqb, arith}
+use Rattle.film_frames.specs.Tracks.{framed_bytes, IsBoundary, IsBoundaryAfter}
+use Rattle.pacer.specs.Boundaries.{boundary_from}
+use Rattle.pacer.specs.PacerStates.{IsPacerState, PacerState, due_by, next_boundary, stands_at_boundary, after_step}
+use Rattle.pacer.proofs.PacerStateLemmas.{boundary-from, boundary-is}
+
+-- what was sent of a run ends before a boundary inside of it
+record SentWithin (pieces : List (List ℕ)) (end before sent : ℕ) : Type 0 where
+  pub ends : IsBoundary pieces end
+  pub within : before + sent ≤ end
+  pub most : end ≤ length (framed_bytes pieces)
+
+stops_at : {pieces : List (List ℕ)} {end : ℕ} (before sent due : ℕ) → SentWithin pieces end before sent
+    → 0 < due - min due (boundary_from pieces (before + sent) - before)
+    → boundary_from pieces (before + min due (boundary_from pieces (before + sent) - before)) - before
+    ≡ min due (boundary_from pieces (before + sent) - before)
+stops_at {pieces} {end} before sent due given left =
+    let inside : before + sent ≤ length (framed_bytes pieces) = omega arith in
+    let next : IsBoundaryAfter pieces (before + sent) (boundary_from pieces (before + sent)) =
+    boundary-from pieces (before + sent) inside in
+    let place = boundary_from pieces (before + sent) in
+    let below : place ≤ end = next.least end given.ends given.within in
+    let above : before + sent ≤ place = next.after in
+    let reached : before + min due (place - before) ≡ place = omega arith in
+    let fits : place ≤ length (framed_bytes pieces) = omega arith in
+    let itself : IsBoundaryAfter pieces place place =
+    record { boundary = next.boundary; after = omega arith; least = λ other boundary order. order } in
+    let stays : place ≡ boundary_from pieces place = boundary-is pieces place place fits itself in
+    let moved : boundary_from pieces (before + min due (place - before)) ≡ place =
+    ap (boundary_from pieces) reached ∙ sym stays in
+    omega arith
+
+pub stop_between : (slot : ℕ) (old new : PacerState) → IsPacerState old → new ≡ after_step true slot old
+    → 0 < new.due - new.sent
+    → stands_at_boundary new ≡ true
+stop_between slot old new is_old is left =
+    let within : old.before + old.sent ≤ old.before + old.keep = omega (arith, is_old.sent, is_old.due) in
+    let most : old.before + old.keep ≤ length (framed_bytes old.pieces) = omega (arith, is_old.whole, is_old.most) in
+    let Stands : PacerState → Type 0 = λ p. 0 < p.due - p.sent → stands_at_boundary p ≡ true in
+    subst Stands (sym is)
+    (λ more. eq-eqb (boundary_from old.pieces (old.before + min (due_by old slot) (next_boundary old)) - old.before)
+    (min (due_by old slot) (next_boundary old))
+    (stops_at old.before old.sent (due_by old slot)
+    (record { ends = is_old.ends; within = within; most = most }) more)) left

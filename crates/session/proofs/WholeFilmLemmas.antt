@@ -1,0 +1,84 @@
+-- A PLAY from a film's beginning, without an end, asks for the whole film.
+use Rattle.std.proofs.Common.{◌≡◌, ◌*◌, ◌≤◌, Some, None, length, get_or, codes, refl, sym, ap, subst, ◌∙◌, arith, inl}
+use Rattle.std.proofs.Math.Nat.{mul-le-mul_left}
+use Rattle.mpeg_scan.specs.PictureRates.{picture_time}
+use Rattle.film_frames.specs.declared.stored_films.Stored.{Stored}
+use Rattle.film_run.proofs.RemainingRunLemmas.{run-same}
+use Rattle.film_run.specs.declared.runs.Run.{Run}
+use Rattle.film_run.specs.Seeks.{IsRequestedRange as IsRunAsked}
+use Rattle.rtsp_fields.specs.declared.ranges.Origin.TheVariants.{At}
+use Rattle.rtsp_fields.specs.declared.ranges.Span.{Span}
+use Rattle.rtsp_fields.specs.Ranges.{IsSpan}
+use Rattle.rtsp_fields.specs.NptTimes.{IsTime}
+use Rattle.rtsp_fields.proofs.FieldUniqueness.{span_once}
+use Rattle.session.specs.declared.play_requests.PlayRequest.{PlayRequest}
+use Rattle.session.specs.declared.play_requests.PlayRequest.TheVariants.{New, Resumed}
+use Rattle.session.specs.RunRequests.{IsAskedRun, IsRequestFor, run_of}
+
+-- the run of all units of a film, of which nothing was sent
+abbrev pub whole_of : Stored → Run
+whole_of stored = record {
+  first_unit = 0;
+  end_unit = length stored.film.units.items;
+  from_unit = 0;
+  sent = 0;
+  played = 0;
+}
+
+zero-time : IsTime (codes "0") 0
+zero-time = record {
+  point = 1;
+  point_is = record {
+    after = omega arith;
+    within = omega arith;
+    none = λ k from below same.
+        let here : k ≡ 0 = omega (arith, below) in
+        let byte : 48 ≡ 46 = ap (λ n. get_or (codes "0") n 0) (sym here) ∙ same in
+        omega (arith, byte);
+    ends = λ inside. absurd (omega (arith, inside));
+  };
+  seconds = 0;
+  fraction = 0;
+  whole = inl (record { decimal = refl; short = omega arith; value = refl });
+  part = inl (refl, refl);
+  nanoseconds_are = refl;
+}
+
+from-zero : IsSpan (codes "npt=0-") (record { from = At 0; to = None })
+from-zero = record {
+  unit = refl;
+  dash = 5;
+  is_dash = record {
+    after = omega arith;
+    within = omega arith;
+    none = λ k from below same.
+        let here : k ≡ 4 = omega (arith, from, below) in
+        let byte : 48 ≡ 45 = ap (λ n. get_or (codes "npt=0-") n 0) (sym here) ∙ same in
+        omega (arith, byte);
+    ends = λ inside. refl;
+  };
+  inside = omega arith;
+  from = zero-time;
+  to = refl;
+}
+
+whole-asked : (stored : Stored) (run : Run) → 1 ≤ picture_time stored.film.rate → IsRunAsked stored.film 0 None run
+    → run ≡ whole_of stored
+whole-asked stored run some is =
+    let time = picture_time stored.film.rate in
+    let by : run.first_unit * time * 1000000000 ≤ 0 * 360000 = is.begins.by_then in
+    let least : run.first_unit * 1 ≤ run.first_unit * time = mul-le-mul_left run.first_unit some in
+    let first : run.first_unit ≡ 0 = omega (arith, by, least) in
+    run-same first is.ends (is.new.from_is ∙ first) is.new.sent_is is.new.played_is
+
+wanted-whole : (stored : Stored) (wanted : PlayRequest) → 1 ≤ picture_time stored.film.rate
+    → IsRequestFor stored.film None (At 0) None wanted → run_of wanted ≡ whole_of stored
+wanted-whole stored (New run) some is = whole-asked stored run some is
+wanted-whole stored (Resumed run) some is = absurd is
+
+pub asked-whole : (stored : Stored) (wanted : PlayRequest) → 1 ≤ picture_time stored.film.rate
+    → IsAskedRun stored.film None (Some (codes "npt=0-")) wanted → run_of wanted ≡ whole_of stored
+asked-whole stored wanted some asked =
+    let W : Span → Type 0 = λ s. IsRequestFor stored.film None s.from s.to wanted in
+    let span = span_once (codes "npt=0-") asked.span (record { from = At 0; to = None }) asked.is_span from-zero in
+    wanted-whole stored wanted some (subst W span asked.is_wanted)

@@ -1,0 +1,8 @@
+use Rattle.session.proofs.SlotCountLemmas.{play_done, play_goes}
+use Rattle.session.proofs.play_laws.law_done_play_is_halted_in_full.Goals as goal
+
+pub returns-clause-done : goal.returns-clause-done
+returns-clause-done c = play_done
+
+pub returns-clause-going : goal.returns-clause-going
+returns-clause-going c = play_goes

@@ -1,9 +1,0 @@
-use Rattle.std.proofs.Common.{refl}
-use Rattle.session.specs.declared.asks.Ask.TheVariants.{Halt as AskHalt}
-use Rattle.session.proofs.PlayEnds.{halts_at_boundary}
-use Rattle.session.proofs.play_laws.law_halt_at_boundary.Goals as goal
-
-pub returns : goal.returns
-returns c = λ old new message keep setup play hears playing pacing.
-    halts_at_boundary (record { old = old; new = new; message = message; ask = AskHalt keep; hears = hears }) keep refl
-    (record { setup = setup; play = play; playing = playing }) pacing

@@ -1,6 +1,0 @@
-use Rattle.session.proofs.PlayEnds.{run_counted}
-use Rattle.session.proofs.play_laws.law_run_counted.Goals as goal
-
-pub returns : goal.returns
-returns c = λ old place stored setup play playing none at all.
-    run_counted old place (record { setup = setup; play = play; playing = playing }) none at all

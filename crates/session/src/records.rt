@@ -1,0 +1,162 @@
+//! What a session keeps for the connection's report: the station's answers, the plays and the
+//! offers.
+
+ghost use Rattle.std.specs.Prelude.{◌≡◌, ◌+◌, ◌-◌, ◌≤◌, ◌++◌, [], ◌∷◌, IfOk, OnOk, IsOk};
+ghost use Rattle.session.specs.RecordLists.{IsSameLists};
+
+use crate::notes::{Notes, OfferNote, PlayNote, Receipt};
+use std::alloc::Global;
+use std::marker::Model;
+use vod_base::NoMemory;
+
+/// Receipts and notes, with the room that is reserved for more. Contracts see the three lists and
+/// how many more each has room for.
+#[derive(Drop)]
+pub(crate) struct Records {
+    /// The station's answers.
+    pub(crate) receipts: Vec<Receipt>,
+    /// The plays that were admitted and are halted.
+    pub(crate) plays: Vec<PlayNote>,
+    /// The offers that were made.
+    pub(crate) offers: Vec<OfferNote>,
+}
+
+impl Model for Records {
+    ghost use Rattle.std.specs.Prelude.{◌-◌, vec_capacity, vec_len};
+    ghost use Rattle.session.specs.RecordLists.{SessionRecords};
+
+    ghost Value = { SessionRecords };
+
+    ghost view = { λ log. record {
+      receipts = log.receipts.items;
+      plays = log.plays.items;
+      offers = log.offers.items;
+      receipt_room = vec_capacity log.receipts - vec_len log.receipts;
+      play_room = vec_capacity log.plays - vec_len log.plays;
+      offer_room = vec_capacity log.offers - vec_len log.offers;
+    } };
+}
+
+/// For so many looks there is room from the beginning.
+pub(crate) const RESERVED_LOOKS: usize = 1024;
+
+impl Records {
+    /// Empty lists, with room for [`RESERVED_LOOKS`] receipts.
+    pub(crate) fn new(alloc: Global) -> Result<Records, NoMemory>
+        ensures { IfOk result (λ log. log ≡ record {
+          receipts = [];
+          plays = [];
+          offers = [];
+          receipt_room = 1024;
+          play_room = log.play_room;
+          offer_room = log.offer_room;
+        }) }
+    {
+        let receipts = Vec::with_capacity(alloc, RESERVED_LOOKS)?;
+        Ok(Records {
+            receipts,
+            plays: Vec::new(alloc),
+            offers: Vec::new(alloc),
+        })
+    }
+
+    /// Makes room for so many more receipts; it can't fail where there is room.
+    pub(crate) fn reserve_receipts(&mut self, count: usize) -> Result<(), NoMemory>
+        ensures lists { IsSameLists self.old self.new }
+        ensures room { OnOk result (count ≤ self.new.receipt_room) }
+        ensures more { self.old.receipt_room ≤ self.new.receipt_room }
+        ensures enough { count ≤ self.old.receipt_room → IsOk result }
+        ensures others { (self.new.play_room ≡ self.old.play_room)
+            × (self.new.offer_room ≡ self.old.offer_room) }
+    {
+        self.receipts.reserve(count)?;
+        Ok(())
+    }
+
+    /// Makes room for one more play.
+    pub(crate) fn reserve_play(&mut self) -> Result<(), NoMemory>
+        ensures lists { IsSameLists self.old self.new }
+        ensures room { OnOk result (1 ≤ self.new.play_room) }
+        ensures more { self.old.play_room ≤ self.new.play_room }
+        ensures others { (self.new.receipt_room ≡ self.old.receipt_room)
+            × (self.new.offer_room ≡ self.old.offer_room) }
+    {
+        self.plays.reserve(1)?;
+        Ok(())
+    }
+
+    /// Makes room for the receipts of so many looks, and for the two receipts and the note of a
+    /// play.
+    pub(crate) fn reserve_for_play(&mut self, looks: usize) -> Result<(), NoMemory>
+        requires { looks ≤ 1024 }
+        ensures lists { IsSameLists self.old self.new }
+        ensures room { OnOk result (looks + 2 ≤ self.new.receipt_room) }
+        ensures plays { OnOk result (1 ≤ self.new.play_room) }
+        ensures more { (self.old.receipt_room ≤ self.new.receipt_room)
+            × (self.old.play_room ≤ self.new.play_room) }
+        ensures others { self.new.offer_room ≡ self.old.offer_room }
+    {
+        self.reserve_receipts(looks + 2)?;
+        self.reserve_play()
+    }
+
+    /// Makes room for one more offer.
+    pub(crate) fn reserve_offer(&mut self) -> Result<(), NoMemory>
+        ensures lists { IsSameLists self.old self.new }
+        ensures room { OnOk result (1 ≤ self.new.offer_room) }
+        ensures more { self.old.offer_room ≤ self.new.offer_room }
+        ensures others { (self.new.receipt_room ≡ self.old.receipt_room)
+            × (self.new.play_room ≡ self.old.play_room) }
+    {
+        self.offers.reserve(1)?;
+        Ok(())
+    }
+
+    /// Notes a receipt, for which there is room.
+    pub(crate) fn note(&mut self, receipt: Receipt)
+        requires { 1 ≤ self.old.receipt_room }
+        ensures { self.new ≡ record self.old {
+          receipts = self.old.receipts ++ receipt ∷ [];
+          receipt_room = self.old.receipt_room - 1;
+        } }
+    {
+        self.receipts.push_reserved(receipt);
+    }
+
+    /// Notes a play, for which there is room.
+    pub(crate) fn note_play(&mut self, play: PlayNote)
+        requires { 1 ≤ self.old.play_room }
+        ensures { self.new ≡ record self.old {
+          plays = self.old.plays ++ play ∷ [];
+          play_room = self.old.play_room - 1;
+        } }
+    {
+        self.plays.push_reserved(play);
+    }
+
+    /// Notes an offer, for which there is room.
+    pub(crate) fn note_offer(&mut self, offer: OfferNote)
+        requires { 1 ≤ self.old.offer_room }
+        ensures { self.new ≡ record self.old {
+          offers = self.old.offers ++ offer ∷ [];
+          offer_room = self.old.offer_room - 1;
+        } }
+    {
+        self.offers.push_reserved(offer);
+    }
+
+    /// The lists, with the slots that were missed.
+    pub(crate) fn into_notes(self, late: u64) -> Notes
+        ensures receipts { result.receipts.items ≡ self.receipts }
+        ensures plays { result.plays.items ≡ self.plays }
+        ensures offers { result.offers.items ≡ self.offers }
+        ensures late { result.late ≡ late }
+    {
+        Notes {
+            receipts: self.receipts,
+            plays: self.plays,
+            late,
+            offers: self.offers,
+        }
+    }
+}

@@ -1,0 +1,58 @@
+//! Laws of the refusals that all methods share, in their order, of the CSeq of replies, and of a
+//! PLAY without a Range.
+
+ghost use Rattle.std.specs.Prelude.{◌≡◌, ℕ, List, None, false};
+ghost use Rattle.film_frames.specs.declared.stored_films.Stored.{Stored};
+ghost use Rattle.rtsp_text.specs.declared.requests.Request.{Request};
+ghost use Rattle.session.specs.declared.commands.Ask.{Ask};
+ghost use Rattle.session.specs.declared.methods.Method.{Method};
+ghost use Rattle.session.specs.declared.plans.Planned.{Planned};
+ghost use Rattle.session.specs.declared.states.Setup.{Setup};
+ghost use Rattle.session.specs.PlayLaws.{PassesEarlierChecks};
+ghost use Rattle.session.specs.RefusalLaws.{IsInvalidMethod, IsKnownMethod, IsOfNoFilm};
+ghost use Rattle.session.specs.RefusalLaws.{IsOfNoSession, IsRefusedBy, IsWholeFilm};
+ghost use Rattle.session.specs.RefusalLaws.{RequiresSomeOption};
+ghost use Rattle.session.specs.RefusalOrder.{IsReadAs};
+ghost use Rattle.session.specs.ReplyNumbers.{RepliesHaveNumber};
+ghost use Rattle.session.specs.RequestedPlans.{IsPlannedRun};
+ghost use Rattle.session.specs.RequestSteps.{Hears};
+ghost use Rattle.session.specs.SessionStates.{SessionState};
+
+/// The refusals that all methods share come in this order, each by the CSeq of its request: 501
+/// for an unknown method, 551 for a request that has Require or Proxy-Require, 454 for one that
+/// names another session or none that it needs, 404 for a URL that names no film, and 455 for a
+/// method that isn't valid in the state (RFC 2326 sections 7.1.1, 12.27, 12.32 and 12.37).
+pub fn law_refusals_come_in_order()
+    ensures method { (old new : SessionState) (message : List ℕ) (ask : Ask) (request : Request) →
+        Hears old message ask new → old.lost ≡ false → IsReadAs message request →
+        ¬ IsKnownMethod request → IsRefusedBy old 501 request.sequence ask new }
+    ensures option { (old new : SessionState) (message : List ℕ) (ask : Ask) (request : Request) →
+        Hears old message ask new → old.lost ≡ false → IsReadAs message request →
+        IsKnownMethod request → RequiresSomeOption request →
+        IsRefusedBy old 551 request.sequence ask new }
+    ensures session { (old new : SessionState) (message : List ℕ) (ask : Ask) (request : Request) →
+        Hears old message ask new → old.lost ≡ false → IsReadAs message request →
+        IsOfNoSession old request → IsRefusedBy old 454 request.sequence ask new }
+    ensures film { (old new : SessionState) (message : List ℕ) (ask : Ask) (request : Request) →
+        Hears old message ask new → old.lost ≡ false → IsReadAs message request →
+        IsOfNoFilm old request → IsRefusedBy old 404 request.sequence ask new }
+    ensures state { (old new : SessionState) (message : List ℕ) (ask : Ask) (request : Request)
+        (method : Method) → Hears old message ask new → IsReadAs message request →
+        PassesEarlierChecks method old request → IsInvalidMethod method old →
+        IsRefusedBy old 455 request.sequence ask new }
+{}
+
+/// A PLAY without a Range plays the film from its beginning to its end, where no run is paused (RFC
+/// 2326 section 10.5).
+pub fn law_play_without_range_plays_whole_film()
+    ensures { (old : SessionState) (stored : Stored) (setup : Setup) (planned : Planned) →
+        IsPlannedRun old stored setup None None planned → IsWholeFilm stored.film planned.run }
+{}
+
+/// Each reply has the CSeq of its request, whether the session answers by itself or with what the
+/// station answered (RFC 2326 section 12.17).
+pub fn law_replies_have_the_request_cseq()
+    ensures { (old new : SessionState) (message : List ℕ) (ask : Ask) (request : Request) →
+        Hears old message ask new → old.lost ≡ false → IsReadAs message request →
+        RepliesHaveNumber request.sequence ask new }
+{}

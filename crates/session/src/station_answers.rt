@@ -1,0 +1,368 @@
+//! The station's answers.
+
+ghost use Rattle.std.specs.Prelude.{◌≡◌, ◌<◌, ◌^◌, ◌++◌, [], ◌∷◌, true, None, ◌-◌, List, Some};
+ghost use Rattle.std.specs.Prelude.{◌+◌, length, slice_get};
+ghost use Rattle.film_frames.specs.FramedRuns.{run_pieces};
+ghost use Rattle.film_run.specs.Runs.{IsRun};
+ghost use Rattle.film_run.specs.Units.{stored_sizes};
+ghost use Rattle.pacer.specs.PacerStates.{IsPacerState, new_pacer_state};
+ghost use Rattle.rtsp_text.specs.Replies.{Field, reply_front};
+ghost use Rattle.session.specs.Films.{OfFilm};
+ghost use Rattle.session.specs.ResumedPlays.{IsPrepared};
+ghost use Rattle.session.specs.SettingRanges.{AreFilms};
+ghost use Rattle.session.specs.SlotSteps.{halted_in, halted_notes, kept_of, next_of, note_of};
+ghost use Rattle.session.specs.SlotSteps.{state_once_halted};
+ghost use Rattle.admission.specs.declared.entries.Answer.{Answer};
+ghost use Rattle.session.specs.declared.notes.Receipt.{Receipt};
+ghost use Rattle.session.specs.SessionStates.{AreNotesUnchanged, AwaitsNoAnswer, IsHalt};
+ghost use Rattle.session.specs.SessionStates.{IsAnswerRecorded, IsLook};
+ghost use Rattle.session.specs.SessionStates.{IsOffer, IsPlay, IsPlayOrLook};
+ghost use Rattle.session.specs.SessionStates.{awaited_answer, booking_of, open_of, sequence_of};
+ghost use Rattle.session.specs.RequestSteps.{Halts, after_admission, after_full, after_look};
+ghost use Rattle.session.specs.RequestSteps.{after_offer, after_overflow, counts_done, counts_next};
+ghost use Rattle.session.specs.RequestSteps.{is_answered};
+ghost use Rattle.session.specs.Replies.{play_text};
+ghost use Rattle.session.specs.SlotTransitions.{IsPlayIn};
+
+use crate::films::{counts_after, frames_of, stored_at};
+use crate::notes::{OfferNote, PlayNote, Receipt};
+use crate::parameter_bodies::{put_look, put_offer};
+use crate::replies::{put_full, put_overflow, put_parameters, put_start};
+use crate::sessions::Session;
+use crate::states::{AfterHalt, Awaited, Counts, Play, Prepared, Setup, State, Stop, StreamSource};
+use admission::Answer;
+use early_start::Offers;
+use film_frames::{Frames, Stored};
+use film_run::Run;
+use pacer::Pacer;
+use plan_cert::Plan;
+use std::mem;
+
+impl<'a> Session<'a> {
+    /// The station admitted the play that was asked for.
+    pub fn admitted(&mut self, place: u64, start: u64)
+        requires asked { IsPlay (awaited_answer self.old) }
+        requires start { self.old.heard < start }
+        ensures exact { self.new ≡ after_admission self.old place start }
+        ensures text { (fields : List Field) →
+            self.old.text ≡ reply_front 200 (Some (sequence_of self.old.awaited)) fields
+            → self.new.text
+            ≡ play_text (sequence_of self.old.awaited) fields (start - self.old.heard) }
+        ensures handed { IsAnswerRecorded self.old
+            (Receipt.Entry place (Answer.Admitted start)) self.new }
+        ensures replies { self.new.waits ≡ true }
+        ensures open { open_of self.new ≡ booking_of (awaited_answer self.old) start }
+        ensures play { IsPlayIn self.new.state }
+        ensures notes { AreNotesUnchanged self.old self.new }
+    {
+        let Awaited::Play(prepared) = mem::replace(&mut self.awaited, Awaited::Nothing) else {
+            unreachable!()
+        };
+        let State::Ready(setup, _) = self.state else {
+            unreachable!()
+        };
+        self.counts = prepared.counts;
+        self.log.note(Receipt::Entry {
+            place,
+            answer: Answer::Admitted { start },
+        });
+        put_start(&mut self.reply, start - self.heard);
+        let play = play_of(prepared, place, start);
+        self.state.enter(State::Playing(setup, play));
+        self.waits = true;
+    }
+
+    /// The link has no room for the play that was asked for: the first slot without room, what is
+    /// booked in it and what the plan asks for there.
+    pub fn overflowed(&mut self, place: u64, slot: u64, booked: u64, asked: u64)
+        requires asked { IsPlay (awaited_answer self.old) }
+        ensures exact { self.new ≡ after_overflow self.old place slot booked asked }
+        ensures handed { IsAnswerRecorded self.old
+            (Receipt.Entry place (Answer.Overflow slot booked asked)) self.new }
+        ensures replies { self.new.waits ≡ true }
+        ensures open { open_of self.new ≡ None }
+        ensures notes { AreNotesUnchanged self.old self.new }
+    {
+        let Awaited::Play(prepared) = mem::replace(&mut self.awaited, Awaited::Nothing) else {
+            unreachable!()
+        };
+        self.log.note(Receipt::Entry {
+            place,
+            answer: Answer::Overflow {
+                slot,
+                booked,
+                asked,
+            },
+        });
+        put_overflow(&mut self.reply, prepared.sequence, slot, booked, asked);
+        self.waits = true;
+    }
+
+    /// The journal had no room for the play or the look that was asked for: its entries and the
+    /// open plays.
+    pub fn full(&mut self, entries: u64, live: u64)
+        requires asked { IsPlayOrLook (awaited_answer self.old) }
+        ensures exact { self.new ≡ after_full self.old entries live }
+        ensures handed { IsAnswerRecorded self.old (Receipt.Full entries live) self.new }
+        ensures replies { self.new.waits ≡ true }
+        ensures open { open_of self.new ≡ open_of self.old }
+        ensures notes { AreNotesUnchanged self.old self.new }
+    {
+        let sequence = match mem::replace(&mut self.awaited, Awaited::Nothing) {
+            Awaited::Play(prepared) => prepared.sequence,
+            Awaited::Look(sequence) => sequence,
+            _ => unreachable!(),
+        };
+        self.log.note(Receipt::Full { entries, live });
+        put_full(&mut self.reply, sequence, entries, live);
+        self.waits = true;
+    }
+
+    /// The booking was halted: the one for which that was asked, or the open one as the connection
+    /// ends, which keeps what is due.
+    pub fn halted(&mut self, place: u64)
+        requires asked { IsHalt (awaited_answer self.old) (open_of self.old) }
+        ensures halts { Halts self.old place self.new }
+        ensures state { self.new.state ≡ halted_in self.old.state self.old.awaited }
+        ensures plays { self.new.plays ≡
+            self.old.plays ++ halted_notes self.old.state self.old.awaited }
+        ensures text { self.new.text ≡ self.old.text }
+        ensures late { self.new.late ≡ self.old.late }
+        ensures looks { self.new.looks_left ≡ self.old.looks_left }
+        ensures offers { self.new.offers ≡ self.old.offers }
+        ensures handed { IsAnswerRecorded self.old (Receipt.Entry place Answer.Halted) self.new }
+        ensures open { open_of self.new ≡ None }
+    {
+        let asked = mem::replace(&mut self.awaited, Awaited::Nothing);
+        let State::Playing(setup, play) = mem::replace(&mut self.state, State::Init) else {
+            unreachable!()
+        };
+        let (keep, next) = kept_and_next(&asked, play.pacer.due());
+        let (films, source, counts) = (self.films, self.source, self.counts);
+        self.counts = counts_next(films, source, counts, &setup, &play.run, keep, next);
+        self.log.note(Receipt::Entry {
+            place,
+            answer: Answer::Halted,
+        });
+        let (state, note) = state_and_note(setup, play, keep, next);
+        self.log.note_play(note);
+        self.state.enter(state);
+        self.waits |= is_answered(next);
+        self.teardown = self.teardown.after_halt(next);
+    }
+
+    /// What the station saw: the slot up to which its book has come, the slot that was looked at
+    /// and what is booked in it.
+    pub fn looked(&mut self, place: u64, now: u64, at: u64, booked: u64)
+        requires asked { IsLook (awaited_answer self.old) }
+        ensures exact { self.new ≡ after_look self.old place now at booked }
+        ensures handed { IsAnswerRecorded self.old
+            (Receipt.Entry place (Answer.Looked now at booked)) self.new }
+        ensures replies { self.new.waits ≡ true }
+        ensures open { open_of self.new ≡ open_of self.old }
+        ensures notes { AreNotesUnchanged self.old self.new }
+    {
+        let Awaited::Look(sequence) = mem::replace(&mut self.awaited, Awaited::Nothing) else {
+            unreachable!()
+        };
+        self.log.note(Receipt::Entry {
+            place,
+            answer: Answer::Looked { now, at, booked },
+        });
+        put_look(&mut self.body, now, at, booked);
+        put_parameters(&mut self.reply, sequence, self.body.bytes());
+        self.waits = true;
+    }
+
+    /// What the station offers: how many entries the journal had, the first slot that was tried,
+    /// and the plan and the offers that were handed out.
+    pub fn offered(&mut self, seen: u64, first: u64, plan: Plan, offers: Offers)
+        requires asked { IsOffer (awaited_answer self.old) }
+        ensures exact { self.new ≡
+            after_offer self.old (record {
+              seen = seen;
+              first = first;
+              plan = plan;
+              offers = offers;
+            }) }
+        ensures rest { AwaitsNoAnswer self.new }
+        ensures replies { self.new.waits ≡ true }
+        ensures open { open_of self.new ≡ open_of self.old }
+        ensures receipts { self.new.receipts ≡ self.old.receipts }
+        ensures plays { self.new.plays ≡ self.old.plays }
+        ensures offers { self.new.offers ≡ self.old.offers
+            ++ record { seen = seen; first = first; plan = plan; offers = offers } ∷ [] }
+        ensures heard { self.new.heard ≡ self.old.heard }
+        ensures tearing { self.new.tearing ≡ self.old.tearing }
+        ensures torn { self.new.torn ≡ self.old.torn }
+        ensures lost { self.new.lost ≡ self.old.lost }
+    {
+        let Awaited::Offer(sequence) = mem::replace(&mut self.awaited, Awaited::Nothing) else {
+            unreachable!()
+        };
+        put_offer(&mut self.body, &offers);
+        put_parameters(&mut self.reply, sequence, self.body.bytes());
+        self.log.note_offer(OfferNote {
+            seen,
+            first,
+            plan,
+            offers,
+        });
+        self.waits = true;
+    }
+}
+
+/// The play that is sent as it was prepared, once it was admitted.
+fn play_of<'a>(prepared: Prepared<'a>, place: u64, start: u64) -> Play<'a>
+    requires { IsPrepared prepared }
+    ensures play { result ≡ record {
+      run = prepared.entry.run;
+      place = place;
+      start = start;
+      plan = prepared.entry.plan;
+      pacer = new_pacer_state (run_pieces prepared.entry.frames)
+          prepared.entry.run.sent prepared.entry.paced start;
+    } }
+    ensures pacing { IsPacerState result.pacer }
+{
+    let Prepared {
+        run,
+        frames,
+        plan,
+        paced,
+        ..
+    } = prepared;
+    let pacer = Pacer::new(frames, run.sent, paced, start);
+    Play {
+        run,
+        place,
+        start,
+        plan,
+        pacer,
+    }
+}
+
+/// Whether a reply waits for what a halt leads to.
+fn is_answered(next: AfterHalt) -> bool
+    ensures { result ≡ is_answered next }
+{
+    match next {
+        AfterHalt::Done => false,
+        AfterHalt::Paused(_) | AfterHalt::Torn => true,
+    }
+}
+
+/// What the session has sent in all after a halt that keeps so many bytes of a run: a run that is
+/// done is counted.
+fn counts_next(
+    films: &[Stored],
+    source: StreamSource,
+    counts: Counts,
+    setup: &Setup,
+    run: &Run,
+    keep: u64,
+    next: AfterHalt,
+) -> Counts
+    requires films { AreFilms films.now }
+    requires within { setup.now.film < length films.now }
+    requires run { OfFilm films.now setup.now.film
+        (λ stored. IsRun (stored_sizes stored) run.now) }
+    requires fits { run.now.sent + keep < 2 ^ 64 }
+    ensures { result ≡ counts_next counts (counts_done source counts setup.now run.now keep
+        (slice_get films.now setup.now.film)) next }
+{
+    match next {
+        AfterHalt::Done => {
+            let stored = stored_at(films, setup.film);
+            let frames = frames_of(stored, source, setup, counts, run);
+            counts_after(counts, &frames, run.sent + keep)
+        }
+        AfterHalt::Paused(_) | AfterHalt::Torn => counts,
+    }
+}
+
+/// The state after a halt, and the note of the play, whose booking keeps so many bytes.
+fn state_and_note<'a>(
+    setup: Setup,
+    play: Play<'a>,
+    keep: u64,
+    next: AfterHalt,
+) -> (State<'a>, PlayNote)
+    requires { setup.film < 2 ^ 32 }
+    ensures state { result.0 ≡ state_once_halted setup play.entry next }
+    ensures note { result.1 ≡ note_of setup play.entry keep }
+{
+    let Play {
+        run,
+        place,
+        start,
+        plan,
+        pacer,
+    } = play;
+    let note = note_of(&setup, &run, place, start, plan, keep);
+    let state = match next {
+        AfterHalt::Done => State::Ready(setup, None),
+        AfterHalt::Paused(rest) => State::Stopping(setup, stop_of(Some(rest), start, pacer)),
+        AfterHalt::Torn => State::Stopping(setup, stop_of(None, start, pacer)),
+    };
+    (state, note)
+}
+
+/// What is left of a play that was halted.
+fn stop_of<'a>(paused: Option<Run>, start: u64, pacer: Pacer<Frames<'a>>) -> Stop<'a>
+    ensures { result ≡ record { paused = paused; start = start; pacer = pacer.entry } }
+{
+    Stop {
+        paused,
+        start,
+        pacer,
+    }
+}
+
+/// The note of a play whose booking keeps so many bytes.
+fn note_of(setup: &Setup, run: &Run, place: u64, start: u64, plan: Plan, keep: u64) -> PlayNote
+    requires { setup.now.film < 2 ^ 32 }
+    ensures { result ≡ record {
+      place = place;
+      film = setup.now.film;
+      first_unit = run.now.first_unit;
+      end_unit = run.now.end_unit;
+      from_unit = run.now.from_unit;
+      buffer = setup.now.buffer;
+      delay = setup.now.delay;
+      played = run.now.played;
+      sent_before = run.now.sent;
+      plan = plan;
+      start = start;
+      keep = keep;
+    } }
+{
+    PlayNote {
+        place,
+        film: setup.film as u32,
+        first_unit: run.first_unit as u64,
+        end_unit: run.end_unit as u64,
+        from_unit: run.from_unit as u64,
+        buffer: setup.buffer,
+        delay: setup.delay,
+        played: run.played,
+        sent_before: run.sent,
+        plan,
+        start,
+        keep,
+    }
+}
+
+/// What a halt keeps, and what it leads to: what was asked for, or what is due as the connection
+/// ends.
+fn kept_and_next(asked: &Awaited<'_>, due: u64) -> (u64, AfterHalt)
+    ensures keep { result.0 ≡ kept_of asked.now due }
+    ensures next { result.1 ≡ next_of asked.now }
+{
+    match asked {
+        Awaited::Halt(keep, next) => (*keep, *next),
+        Awaited::Nothing | Awaited::Play(_) | Awaited::Look(_) | Awaited::Offer(_) => {
+            (due, AfterHalt::Done)
+        }
+    }
+}

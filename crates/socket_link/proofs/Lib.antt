@@ -1,0 +1,6 @@
+pub mod Appends
+pub mod Ends
+pub mod Orders
+pub mod Parts
+pub mod Steps
+mod Walks

@@ -1,0 +1,12 @@
+pub mod Calls
+pub mod Flushes
+pub mod Histories
+pub mod Limits
+pub mod Notes
+pub mod Purposes
+pub mod Reads
+pub mod Scripts
+pub mod Slots
+pub mod Steps
+pub mod Waits
+pub mod Writes

@@ -1,0 +1,24 @@
+//! Slots by the clock.
+
+ghost use Rattle.std.specs.Prelude.{◌≡◌, ◌≤◌};
+ghost use Rattle.socket_link.specs.Slots.{slot_of, IsRest};
+
+use vod_base::LATEST_SLOT;
+
+/// The slot at a time, in nanoseconds since slot 0 began.
+pub(crate) fn slot_at(time: u64, slot_units: u32) -> u64
+    requires { 1 ≤ slot_units }
+    ensures { result ≡ slot_of slot_units time }
+{
+    (time as u128 * 9 / (25_000 * slot_units as u128)).min(LATEST_SLOT as u128) as u64
+}
+
+/// In how many nanoseconds the next slot begins.
+pub(crate) fn rest_of_slot(time: u64, slot_units: u32) -> u64
+    requires { 1 ≤ slot_units }
+    ensures { IsRest slot_units time result }
+{
+    let length = 25_000 * slot_units as u64;
+    let passed = (time as u128 * 9 % length as u128) as u64;
+    (length - passed).div_ceil(9)
+}

@@ -1,0 +1,626 @@
+//! A link over a socket.
+
+ghost use Rattle.std.specs.Prelude.{◌≡◌, ℕ, ◌+◌, ◌-◌, ◌<◌, ◌≤◌, ◌++◌, ◌∷◌, ◌⊎◌, [], Some, None};
+ghost use Rattle.std.specs.Prelude.{false};
+ghost use Rattle.std.specs.Prelude.{IsTrue, IsSome, length, take, min, max, slice_get};
+ghost use Rattle.std.specs.Prelude.{IfOk, OnOk, OnErr, IfSome};
+ghost use Rattle.std.proofs.Props.{props};
+ghost use Rattle.vod_base.specs.IoState.{HasRisen};
+ghost use Rattle.vod_base.specs.Links.{io_event_of, IsWithin, sends, told_more, IsSentPrefix};
+ghost use Rattle.vod_base.specs.MemoryLinks.{sent_of};
+ghost use Rattle.socket_link.specs.Calls.{ReadClock, ShutDown};
+ghost use Rattle.socket_link.specs.Limits.{clocked};
+ghost use Rattle.socket_link.specs.Slots.{is_for_slots, is_newer};
+ghost use Rattle.socket_link.specs.Histories.{Follows, slots_heard, IsCause, told_if};
+ghost use Rattle.socket_link.specs.Steps.{HasServed, HasCalled, HasLooked, HasLasted, HasFoundEnd};
+ghost use Rattle.socket_link.specs.Steps.{HasClosed};
+ghost use Rattle.socket_link.specs.Waits.{last_from, FitsAfter};
+ghost use Rattle.socket_link.specs.Flushes.{IsLeft};
+ghost use Rattle.socket_link.specs.Steps.{doings_read, doings_looked, IsInOrder, IsNoSlot};
+
+use crate::buffers::WriteBuffer;
+use crate::clocks::{rest_of_slot, slot_at};
+use crate::histories::{History, Note};
+use crate::limits::{LINGER, RETRY, STUCK_LIMIT, Watch};
+use crate::sockets::{Purpose, ReadOutcome, Socket, WriteOutcome};
+use std::alloc::Global;
+use thiserror::Error;
+use vod_base::{Heard, Link, LinkFault};
+
+/// A link could not be made.
+#[derive(Clone, Copy, Debug, PartialEq, Eq, Error)]
+pub enum NewLinkError {
+    /// There is no memory for its buffer.
+    #[error("out of memory")]
+    NoMemory,
+    /// The clock could not be read.
+    #[error("the clock could not be read")]
+    Clock,
+}
+
+/// What a flush of the buffer left.
+#[derive(Clone, Copy)]
+enum Flushed {
+    /// Everything was written.
+    Everything,
+    /// The peer takes nothing now.
+    Stuck,
+}
+
+/// A link over a socket. What is sent waits in a buffer of 16,384 bytes. It is written out when the
+/// buffer is full, and before each wait.
+#[derive(Drop)]
+pub struct SocketLink<S: Socket> {
+    pub(crate) socket: S,
+    buffer: WriteBuffer,
+    slot_units: u32,
+    /// The slot that was reported last.
+    slot: Option<u64>,
+    /// Whether there may be something to read.
+    readable: bool,
+    watch: Watch,
+    history: History,
+    faults: u64,
+    ghost follows: { IsTrue S.tells →
+        Follows slot_units watch (S.did socket) buffer history.doings } by { Prim.hlevel props },
+    ghost newest: { slot ≡ slice_get (slots_heard [] history.doings) 0 } by { Prim.hlevel props },
+    ghost some_units: { 1 ≤ slot_units },
+}
+
+impl<S: Socket + Drop> SocketLink<S> {
+    /// A link over a connection that was just accepted. A slot lasts `slot_units` / 360,000 s.
+    ///
+    /// # Errors
+    ///
+    /// [`NewLinkError`] where there is no memory for the buffer, or where the clock can't be read.
+    pub fn new(alloc: Global, mut socket: S, slot_units: u32) -> Result<SocketLink<S>, NewLinkError>
+        requires { IsTrue S.tells → S.did socket ≡ [] }
+        ensures fresh { IfOk result (λ link. (link.faults ≡ 0) × (link.history.doings ≡ [])) }
+        ensures units { IfOk result (λ link. link.slot_units ≡ max slot_units 1) }
+    {
+        let Ok(buffer) = WriteBuffer::new(alloc) else {
+            return Err(NewLinkError::NoMemory);
+        };
+        let Ok(accept) = socket.time(Purpose::Accept) else {
+            return Err(NewLinkError::Clock);
+        };
+        Ok(SocketLink {
+            socket,
+            buffer,
+            slot_units: slot_units.max(1),
+            slot: None,
+            readable: true,
+            watch: Watch::NEW.at(Purpose::Accept, accept),
+            history: History::new(),
+            faults: 0,
+        })
+    }
+
+    /// Ends a connection that was given back: closes it if no call failed ([`SocketLink::close`]).
+    pub fn end(mut self) {
+        if self.faults == 0 {
+            let _ = self.close();
+        }
+    }
+}
+
+impl<S: Socket> SocketLink<S> {
+    /// How the link's history follows from the calls of its socket.
+    pub fn law(&self)
+        ensures { IsTrue S.tells → Follows self.now.slot_units self.now.watch
+            (S.did self.now.socket) self.now.buffer self.now.history.doings }
+    {}
+
+    /// Waits until something may be read or written, at most so many nanoseconds.
+    fn wait(&mut self, most: u64) -> Result<(), LinkFault>
+        requires { IsTrue S.tells → FitsAfter self.old.slot_units
+            (last_from None (S.did self.old.socket)) most }
+        ensures same { (self.new.history.doings ≡ self.old.history.doings)
+            × (self.new.faults ≡ self.old.faults) × (self.new.slot_units ≡ self.old.slot_units)
+            × (self.new.slot ≡ self.old.slot) }
+        ensures count { S.faults self.old.socket ≤ S.faults self.new.socket }
+        ensures served { OnOk result (IsTrue S.tells →
+            HasServed self.old.slot_units (S.did self.old.socket) (S.did self.new.socket)) }
+        ensures longer { OnOk result (IsTrue S.tells →
+            length (S.did self.old.socket) < length (S.did self.new.socket)) }
+        ensures cause { OnErr result (IsTrue S.tells → IsCause
+            (S.faults self.old.socket) (S.faults self.new.socket) (S.did self.new.socket)) }
+        ensures called { OnOk result (IsTrue S.tells →
+            HasCalled (S.did self.old.socket) (S.did self.new.socket)) }
+        ensures waiting { (self.new.buffer ≡ self.old.buffer)
+            × (self.new.watch.stuck ≡ self.old.watch.stuck) }
+    {
+        match self.socket.wait(most) {
+            Ok(ready) => {
+                self.readable |= ready;
+                Ok(())
+            }
+            Err(_) => Err(LinkFault),
+        }
+    }
+
+    /// Reads the clock, and fails where the reading shows that a limit is reached.
+    fn check(&mut self, purpose: Purpose) -> Result<(), LinkFault>
+        requires { is_for_slots purpose ≡ false }
+        ensures same { (self.new.history.doings ≡ self.old.history.doings)
+            × (self.new.faults ≡ self.old.faults) × (self.new.slot_units ≡ self.old.slot_units)
+            × (self.new.slot ≡ self.old.slot) }
+        ensures count { S.faults self.old.socket ≤ S.faults self.new.socket }
+        ensures served { OnOk result (IsTrue S.tells →
+            HasServed self.old.slot_units (S.did self.old.socket) (S.did self.new.socket)) }
+        ensures longer { OnOk result (IsTrue S.tells →
+            length (S.did self.old.socket) < length (S.did self.new.socket)) }
+        ensures cause { OnErr result (IsTrue S.tells → IsCause
+            (S.faults self.old.socket) (S.faults self.new.socket) (S.did self.new.socket)) }
+        ensures read { OnOk result (IsTrue S.tells → S.did self.new.socket
+            ≡ S.did self.old.socket ++ ReadClock purpose self.new.watch.latest ∷ []) }
+        ensures watch { OnOk result
+            (self.new.watch ≡ clocked self.old.watch purpose self.new.watch.latest) }
+        ensures buffer { self.new.buffer ≡ self.old.buffer }
+    {
+        match self.socket.time(purpose) {
+            Ok(time) => {
+                let overdue = self.watch.is_overdue(purpose, time);
+                self.watch = self.watch.at(purpose, time);
+                if overdue { Err(LinkFault) } else { Ok(()) }
+            }
+            Err(_) => Err(LinkFault),
+        }
+    }
+
+    /// Reads the clock, and answers the slot if it is newer than the last one.
+    fn new_slot(&mut self) -> Result<Option<u64>, LinkFault>
+        ensures same { (self.new.faults ≡ self.old.faults)
+            × (self.new.slot_units ≡ self.old.slot_units) }
+        ensures count { S.faults self.old.socket ≤ S.faults self.new.socket }
+        ensures served { OnOk result (IsTrue S.tells →
+            HasServed self.old.slot_units (S.did self.old.socket) (S.did self.new.socket)) }
+        ensures longer { OnOk result (IsTrue S.tells →
+            length (S.did self.old.socket) < length (S.did self.new.socket)) }
+        ensures looked { IfOk result (λ slot. IsTrue S.tells → HasLooked self.old.slot_units
+            self.old.slot slot self.new.watch.latest
+            (S.did self.old.socket) (S.did self.new.socket)) }
+        ensures waiting { (self.new.buffer ≡ self.old.buffer)
+            × (self.new.watch.stuck ≡ self.old.watch.stuck) }
+        ensures told { IfOk result (λ slot. self.new.history.doings
+            ≡ self.old.history.doings ++ doings_looked slot) }
+        ensures none { IfOk result (λ slot. slot ≡ None →
+            (self.new.history.doings ≡ self.old.history.doings)
+            × (self.new.slot ≡ self.old.slot)) }
+        ensures lost { OnErr result (self.new.history.doings ≡ self.old.history.doings) }
+        ensures cause { OnErr result (IsTrue S.tells → IsCause
+            (S.faults self.old.socket) (S.faults self.new.socket) (S.did self.new.socket)) }
+    {
+        match self.socket.time(Purpose::Slot) {
+            Ok(time) => {
+                let slot = slot_at(time, self.slot_units);
+                self.watch = self.watch.at(Purpose::Slot, time);
+                if !is_newer(self.slot, slot) {
+                    return Ok(None);
+                }
+                self.slot = Some(slot);
+                self.history = self.history.then(&Note::Came(Heard::Slot(slot), &[]));
+                Ok(Some(slot))
+            }
+            Err(_) => Err(LinkFault),
+        }
+    }
+
+    /// Writes as many of the waiting bytes as the socket takes in one call.
+    fn write(&mut self) -> Result<WriteOutcome, LinkFault>
+        requires { 0 < length self.old.buffer }
+        ensures same { (self.new.history.doings ≡ self.old.history.doings)
+            × (self.new.faults ≡ self.old.faults) × (self.new.slot_units ≡ self.old.slot_units)
+            × (self.new.slot ≡ self.old.slot) }
+        ensures count { S.faults self.old.socket ≤ S.faults self.new.socket }
+        ensures served { OnOk result (IsTrue S.tells →
+            HasServed self.old.slot_units (S.did self.old.socket) (S.did self.new.socket)) }
+        ensures longer { OnOk result (IsTrue S.tells →
+            length (S.did self.old.socket) < length (S.did self.new.socket)) }
+        ensures cause { OnErr result (IsTrue S.tells → IsCause
+            (S.faults self.old.socket) (S.faults self.new.socket) (S.did self.new.socket)) }
+    {
+        match self.socket.write(self.buffer.waiting_bytes()) {
+            Ok(WriteOutcome::Bytes(count)) => {
+                self.buffer.drop_front(count);
+                self.watch = self.watch.sent();
+                Ok(WriteOutcome::Bytes(count))
+            }
+            Ok(WriteOutcome::Nothing) => Ok(WriteOutcome::Nothing),
+            Ok(WriteOutcome::Interrupted) => Ok(WriteOutcome::Interrupted),
+            Err(_) => Err(LinkFault),
+        }
+    }
+
+    /// Writes the waiting bytes until all are written, or the socket takes nothing now.
+    fn flush(&mut self) -> Result<Flushed, LinkFault>
+        requires { 0 < length self.old.buffer }
+        ensures same { (self.new.history.doings ≡ self.old.history.doings)
+            × (self.new.faults ≡ self.old.faults) × (self.new.slot_units ≡ self.old.slot_units)
+            × (self.new.slot ≡ self.old.slot) }
+        ensures count { S.faults self.old.socket ≤ S.faults self.new.socket }
+        ensures served { OnOk result (IsTrue S.tells →
+            HasServed self.old.slot_units (S.did self.old.socket) (S.did self.new.socket)) }
+        ensures longer { OnOk result (IsTrue S.tells →
+            length (S.did self.old.socket) < length (S.did self.new.socket)) }
+        ensures cause { OnErr result (IsTrue S.tells → IsCause
+            (S.faults self.old.socket) (S.faults self.new.socket) (S.did self.new.socket)) }
+        ensures left { IfOk result (λ flushed.
+            IsLeft flushed self.new.buffer self.new.watch.stuck) }
+        ensures stuck { IfOk result (λ flushed. flushed ≡ Flushed.Stuck → IsTrue S.tells →
+            last_from None (S.did self.new.socket)
+            ≡ Some (ReadClock Purpose.Patience self.new.watch.latest)) }
+    {
+        for _ in 0..u64::MAX {
+            if let WriteOutcome::Nothing = self.write()? {
+                self.check(Purpose::Patience)?;
+                return Ok(Flushed::Stuck);
+            }
+            if self.buffer.waiting_bytes().is_empty() {
+                return Ok(Flushed::Everything);
+            }
+        }
+        Err(LinkFault)
+    }
+
+    /// Writes the waiting bytes, if there are any, as far as the socket takes them now.
+    fn write_out(&mut self) -> Result<(), LinkFault>
+        ensures same { (self.new.history.doings ≡ self.old.history.doings)
+            × (self.new.faults ≡ self.old.faults) × (self.new.slot_units ≡ self.old.slot_units)
+            × (self.new.slot ≡ self.old.slot) }
+        ensures count { S.faults self.old.socket ≤ S.faults self.new.socket }
+        ensures served { OnOk result (IsTrue S.tells →
+            HasServed self.old.slot_units (S.did self.old.socket) (S.did self.new.socket)) }
+        ensures left { OnOk result
+            ((length self.new.buffer ≡ 0) ⊎ IsSome self.new.watch.stuck) }
+        ensures cause { OnErr result (IsTrue S.tells → IsCause
+            (S.faults self.old.socket) (S.faults self.new.socket) (S.did self.new.socket)) }
+    {
+        if !self.buffer.waiting_bytes().is_empty() {
+            self.flush()?;
+        }
+        Ok(())
+    }
+
+    /// Takes as many of the bytes as the buffer has room for, and answers how many.
+    fn put(&mut self, bytes: &[u8]) -> usize
+        ensures same { (self.new.faults ≡ self.old.faults)
+            × (self.new.slot_units ≡ self.old.slot_units) }
+        ensures faults { S.faults self.new.socket ≡ S.faults self.old.socket }
+        ensures calls { S.did self.new.socket ≡ S.did self.old.socket }
+        ensures within { result ≤ length bytes.now }
+        ensures told { self.new.history.doings
+            ≡ self.old.history.doings ++ sends (take result bytes.now) }
+        ensures full { result < length bytes.now → 0 < length self.new.buffer }
+    {
+        let count = self.buffer.put(bytes);
+        self.history = self.history.then(&Note::Sent(&bytes[..count]));
+        count
+    }
+
+    /// Writes the waiting bytes, and waits for a while if the peer takes nothing now.
+    fn make_room(&mut self) -> Result<(), LinkFault>
+        requires { 0 < length self.old.buffer }
+        ensures same { (self.new.history.doings ≡ self.old.history.doings)
+            × (self.new.faults ≡ self.old.faults) × (self.new.slot_units ≡ self.old.slot_units)
+            × (self.new.slot ≡ self.old.slot) }
+        ensures count { S.faults self.old.socket ≤ S.faults self.new.socket }
+        ensures served { OnOk result (IsTrue S.tells →
+            HasServed self.old.slot_units (S.did self.old.socket) (S.did self.new.socket)) }
+        ensures longer { OnOk result (IsTrue S.tells →
+            length (S.did self.old.socket) < length (S.did self.new.socket)) }
+        ensures cause { OnErr result (IsTrue S.tells → IsCause
+            (S.faults self.old.socket) (S.faults self.new.socket) (S.did self.new.socket)) }
+    {
+        match self.flush()? {
+            Flushed::Everything => Ok(()),
+            Flushed::Stuck => self.wait(RETRY),
+        }
+    }
+
+    /// Takes all the bytes. Where the buffer is full it is written out.
+    fn gather(&mut self, bytes: &[u8]) -> Result<(), LinkFault>
+        ensures same { (self.new.faults ≡ self.old.faults)
+            × (self.new.slot_units ≡ self.old.slot_units) }
+        ensures count { S.faults self.old.socket ≤ S.faults self.new.socket }
+        ensures whole { OnOk result (self.new.history.doings
+            ≡ self.old.history.doings ++ sends bytes.now) }
+        ensures front { OnErr result ((count : ℕ) × ((count ≤ length bytes.now)
+            × (self.new.history.doings
+            ≡ self.old.history.doings ++ sends (take count bytes.now)))) }
+        ensures served { OnOk result (IsTrue S.tells →
+            HasServed self.old.slot_units (S.did self.old.socket) (S.did self.new.socket)) }
+        ensures cause { OnErr result (IsTrue S.tells → IsCause
+            (S.faults self.old.socket) (S.faults self.new.socket) (S.did self.new.socket)) }
+    {
+        let mut rest = bytes;
+        for _ in 0..u64::MAX {
+            let count = self.put(rest);
+            rest = &rest[count..];
+            if rest.is_empty() {
+                return Ok(());
+            }
+            self.make_room()?;
+        }
+        Err(LinkFault)
+    }
+
+    /// Reads what came, in one call; None where nothing came.
+    fn read(&mut self, into: &mut [u8]) -> Result<Option<Heard>, LinkFault>
+        requires some { 0 < length into.now }
+        ensures same { (self.new.faults ≡ self.old.faults)
+            × (self.new.slot_units ≡ self.old.slot_units) }
+        ensures count { S.faults self.old.socket ≤ S.faults self.new.socket }
+        ensures served { OnOk result (IsTrue S.tells →
+            HasServed self.old.slot_units (S.did self.old.socket) (S.did self.new.socket)) }
+        ensures longer { OnOk result (IsTrue S.tells →
+            length (S.did self.old.socket) < length (S.did self.new.socket)) }
+        ensures called { OnOk result (IsTrue S.tells →
+            HasCalled (S.did self.old.socket) (S.did self.new.socket)) }
+        ensures slot { self.new.slot ≡ self.old.slot }
+        ensures waiting { (self.new.buffer ≡ self.old.buffer)
+            × (self.new.watch.stuck ≡ self.old.watch.stuck) }
+        ensures within { IfOk result (λ read. IfSome read (λ heard.
+            IsWithin heard (length into.new))) }
+        ensures event { IfOk result (λ read. IfSome read (λ heard. IsNoSlot heard)) }
+        ensures told { IfOk result (λ read. self.new.history.doings
+            ≡ self.old.history.doings ++ doings_read read into.new) }
+        ensures none { IfOk result (λ read. read ≡ None →
+            self.new.history.doings ≡ self.old.history.doings) }
+        ensures ended { IfOk result (λ read. read ≡ Some Heard.End → IsTrue S.tells →
+            HasFoundEnd (S.did self.new.socket)) }
+        ensures lost { OnErr result (self.new.history.doings ≡ self.old.history.doings) }
+        ensures cause { OnErr result (IsTrue S.tells → IsCause
+            (S.faults self.old.socket) (S.faults self.new.socket) (S.did self.new.socket)) }
+    {
+        match self.socket.read(into) {
+            Ok(ReadOutcome::Bytes(count)) => {
+                let heard = Heard::Bytes(count);
+                self.watch = self.watch.received();
+                self.history = self.history.then(&Note::Came(heard, into));
+                Ok(Some(heard))
+            }
+            Ok(ReadOutcome::End) => {
+                self.history = self.history.then(&Note::Came(Heard::End, into));
+                Ok(Some(Heard::End))
+            }
+            Ok(ReadOutcome::Nothing) => {
+                self.readable = false;
+                Ok(None)
+            }
+            Ok(ReadOutcome::Interrupted) => Ok(None),
+            Err(_) => Err(LinkFault),
+        }
+    }
+
+    /// Reads what came. If nothing can have come, waits at most so many nanoseconds.
+    fn read_or_wait(&mut self, into: &mut [u8], most: u64) -> Result<Option<Heard>, LinkFault>
+        requires some { 0 < length into.now }
+        requires fits { IsTrue S.tells → FitsAfter self.old.slot_units
+            (last_from None (S.did self.old.socket)) most }
+        ensures same { (self.new.faults ≡ self.old.faults)
+            × (self.new.slot_units ≡ self.old.slot_units) }
+        ensures count { S.faults self.old.socket ≤ S.faults self.new.socket }
+        ensures served { OnOk result (IsTrue S.tells →
+            HasServed self.old.slot_units (S.did self.old.socket) (S.did self.new.socket)) }
+        ensures longer { OnOk result (IsTrue S.tells →
+            length (S.did self.old.socket) < length (S.did self.new.socket)) }
+        ensures called { OnOk result (IsTrue S.tells →
+            HasCalled (S.did self.old.socket) (S.did self.new.socket)) }
+        ensures slot { self.new.slot ≡ self.old.slot }
+        ensures waiting { (self.new.buffer ≡ self.old.buffer)
+            × (self.new.watch.stuck ≡ self.old.watch.stuck) }
+        ensures within { IfOk result (λ read. IfSome read (λ heard.
+            IsWithin heard (length into.new))) }
+        ensures event { IfOk result (λ read. IfSome read (λ heard. IsNoSlot heard)) }
+        ensures told { IfOk result (λ read. self.new.history.doings
+            ≡ self.old.history.doings ++ doings_read read into.new) }
+        ensures none { IfOk result (λ read. read ≡ None →
+            self.new.history.doings ≡ self.old.history.doings) }
+        ensures ended { IfOk result (λ read. read ≡ Some Heard.End → IsTrue S.tells →
+            HasFoundEnd (S.did self.new.socket)) }
+        ensures lost { OnErr result (self.new.history.doings ≡ self.old.history.doings) }
+        ensures cause { OnErr result (IsTrue S.tells → IsCause
+            (S.faults self.old.socket) (S.faults self.new.socket) (S.did self.new.socket)) }
+    {
+        if self.readable {
+            return self.read(into);
+        }
+        self.wait(most)?;
+        Ok(None)
+    }
+
+    /// Waits for the next event. First what waits is written out, then a new slot is reported, and
+    /// then what came.
+    fn hear(&mut self, into: &mut [u8]) -> Result<Heard, LinkFault>
+        requires some { 0 < length into.now }
+        ensures same { (self.new.faults ≡ self.old.faults)
+            × (self.new.slot_units ≡ self.old.slot_units) }
+        ensures count { S.faults self.old.socket ≤ S.faults self.new.socket }
+        ensures within { IfOk result (λ heard. IsWithin heard (length into.new)) }
+        ensures heard { IfOk result (λ heard. self.new.history.doings
+            ≡ self.old.history.doings ++ io_event_of heard into.new ∷ []) }
+        ensures lost { OnErr result (self.new.history.doings ≡ self.old.history.doings) }
+        ensures left { OnOk result
+            ((length self.new.buffer ≡ 0) ⊎ IsSome self.new.watch.stuck) }
+        ensures order { IfOk result (λ heard. IsTrue S.tells → IsInOrder self.old.slot_units
+            self.old.slot heard (S.did self.new.socket)) }
+        ensures served { OnOk result (IsTrue S.tells →
+            HasServed self.old.slot_units (S.did self.old.socket) (S.did self.new.socket)) }
+        ensures cause { OnErr result (IsTrue S.tells → IsCause
+            (S.faults self.old.socket) (S.faults self.new.socket) (S.did self.new.socket)) }
+    {
+        for _ in 0..u64::MAX {
+            self.write_out()?;
+            self.check(Purpose::Idle)?;
+            if let Some(slot) = self.new_slot()? {
+                return Ok(Heard::Slot(slot));
+            }
+            let rest = rest_of_slot(self.watch.latest, self.slot_units);
+            if let Some(heard) = self.read_or_wait(into, rest)? {
+                return Ok(heard);
+            }
+        }
+        Err(LinkFault)
+    }
+
+    /// Writes all waiting bytes, for as long as a peer has for them: 60 s.
+    fn write_everything(&mut self) -> Result<(), LinkFault>
+        ensures same { (self.new.history.doings ≡ self.old.history.doings)
+            × (self.new.faults ≡ self.old.faults) × (self.new.slot_units ≡ self.old.slot_units)
+            × (self.new.slot ≡ self.old.slot) }
+        ensures count { S.faults self.old.socket ≤ S.faults self.new.socket }
+        ensures served { OnOk result (IsTrue S.tells →
+            HasServed self.old.slot_units (S.did self.old.socket) (S.did self.new.socket)) }
+        ensures written { OnOk result (IsTrue S.tells → (length self.new.buffer ≡ 0)
+            ⊎ HasLasted STUCK_LIMIT (S.did self.old.socket) (S.did self.new.socket)) }
+        ensures cause { OnErr result (IsTrue S.tells → IsCause
+            (S.faults self.old.socket) (S.faults self.new.socket) (S.did self.new.socket)) }
+    {
+        self.check(Purpose::End)?;
+        let begun = self.watch.latest;
+        for _ in 0..u64::MAX {
+            self.write_out()?;
+            self.check(Purpose::End)?;
+            let waited = self.watch.latest.saturating_sub(begun);
+            if self.buffer.waiting_bytes().is_empty() {
+                return Ok(());
+            }
+            if waited >= STUCK_LIMIT {
+                return Ok(());
+            }
+            self.wait(STUCK_LIMIT - waited)?;
+        }
+        Err(LinkFault)
+    }
+
+    /// Shuts the sending half down.
+    fn shut_down(&mut self) -> Result<(), LinkFault>
+        ensures same { (self.new.history.doings ≡ self.old.history.doings)
+            × (self.new.faults ≡ self.old.faults) × (self.new.slot_units ≡ self.old.slot_units)
+            × (self.new.slot ≡ self.old.slot) }
+        ensures count { S.faults self.old.socket ≤ S.faults self.new.socket }
+        ensures served { OnOk result (IsTrue S.tells →
+            HasServed self.old.slot_units (S.did self.old.socket) (S.did self.new.socket)) }
+        ensures longer { OnOk result (IsTrue S.tells →
+            length (S.did self.old.socket) < length (S.did self.new.socket)) }
+        ensures cause { OnErr result (IsTrue S.tells → IsCause
+            (S.faults self.old.socket) (S.faults self.new.socket) (S.did self.new.socket)) }
+        ensures shut { OnOk result (IsTrue S.tells →
+            S.did self.new.socket ≡ S.did self.old.socket ++ ShutDown ∷ []) }
+    {
+        match self.socket.shut_down() {
+            Ok(()) => {
+                // what came meanwhile is read
+                self.readable = true;
+                Ok(())
+            }
+            Err(_) => Err(LinkFault),
+        }
+    }
+
+    /// Reads and drops what the peer still sends, until it ends, for 1 s at most.
+    fn linger(&mut self) -> Result<(), LinkFault>
+        ensures same { (self.new.faults ≡ self.old.faults)
+            × (self.new.slot_units ≡ self.old.slot_units) }
+        ensures count { S.faults self.old.socket ≤ S.faults self.new.socket }
+        ensures served { OnOk result (IsTrue S.tells →
+            HasServed self.old.slot_units (S.did self.old.socket) (S.did self.new.socket)) }
+        ensures ended { OnOk result (IsTrue S.tells → HasFoundEnd (S.did self.new.socket)
+            ⊎ HasLasted LINGER (S.did self.old.socket) (S.did self.new.socket)) }
+        ensures cause { OnErr result (IsTrue S.tells → IsCause
+            (S.faults self.old.socket) (S.faults self.new.socket) (S.did self.new.socket)) }
+    {
+        self.check(Purpose::End)?;
+        let begun = self.watch.latest;
+        let mut dropped = [0; 1024];
+        for _ in 0..u64::MAX {
+            self.check(Purpose::End)?;
+            let waited = self.watch.latest.saturating_sub(begun);
+            if waited >= LINGER {
+                return Ok(());
+            }
+            if let Some(Heard::End) = self.read_or_wait(&mut dropped, LINGER - waited)? {
+                return Ok(());
+            }
+        }
+        Err(LinkFault)
+    }
+
+    /// Closes the connection: what waits is written out, for 60 s at most; the sending half is shut
+    /// down; and what the peer still sends is read and dropped until it ends, for 1 s at most. A
+    /// socket that is closed with bytes unread is reset, and a last reply that is on its way is
+    /// lost.
+    pub fn close(&mut self) -> Result<(), LinkFault>
+        ensures count { S.faults self.old.socket ≤ S.faults self.new.socket }
+        ensures served { OnOk result (IsTrue S.tells →
+            HasServed self.old.slot_units (S.did self.old.socket) (S.did self.new.socket)) }
+        ensures closed { OnOk result (IsTrue S.tells → HasClosed
+            (sent_of self.old.history.doings) (S.did self.old.socket) (S.did self.new.socket)) }
+        ensures cause { OnErr result (IsTrue S.tells → IsCause
+            (S.faults self.old.socket) (S.faults self.new.socket) (S.did self.new.socket)) }
+    {
+        self.write_everything()?;
+        self.shut_down()?;
+        self.linger()
+    }
+}
+
+/// Whether a slot comes after the one that was reported last, if any.
+fn is_newer(last: Option<u64>, slot: u64) -> bool
+    ensures { result ≡ is_newer last slot }
+{
+    !last.is_some_and(|last| slot <= last)
+}
+
+impl<S: Socket> Link for SocketLink<S> {
+    ghost faults = { λ l. l.faults };
+
+    ghost told = { λ l. told_if S.tells l.history.doings };
+
+    fn next(&mut self, into: &mut [u8]) -> Result<Heard, LinkFault>
+        requires some { 0 < length into.now }
+        ensures count { self.old.faults ≤ self.new.faults }
+        ensures fault { OnErr result (HasRisen self.old.faults self.new.faults) }
+        ensures within { IfOk result (λ heard. IsWithin heard (length into.new)) }
+        ensures heard { IfOk result (λ heard. told_if S.tells self.new.history.doings ≡
+            told_more (told_if S.tells self.old.history.doings) (io_event_of heard into.new ∷ [])) }
+        ensures lost { OnErr result (told_if S.tells self.new.history.doings
+            ≡ told_if S.tells self.old.history.doings) }
+        ensures units { self.new.slot_units ≡ self.old.slot_units }
+        ensures left { OnOk result
+            ((length self.new.buffer ≡ 0) ⊎ IsSome self.new.watch.stuck) }
+        ensures order { IfOk result (λ heard. IsTrue S.tells → IsInOrder self.old.slot_units
+            self.old.slot heard (S.did self.new.socket)) }
+        ensures served { OnOk result (IsTrue S.tells →
+            HasServed self.old.slot_units (S.did self.old.socket) (S.did self.new.socket)) }
+        ensures cause { OnErr result (IsTrue S.tells → IsCause
+            (S.faults self.old.socket) (S.faults self.new.socket) (S.did self.new.socket)) }
+    {
+        let heard = self.hear(into);
+        if heard.is_err() {
+            self.faults = self.faults.saturating_add(1);
+        }
+        heard
+    }
+
+    fn send(&mut self, bytes: &[u8]) -> Result<(), LinkFault>
+        ensures count { self.old.faults ≤ self.new.faults }
+        ensures fault { OnErr result (HasRisen self.old.faults self.new.faults) }
+        ensures whole { OnOk result (told_if S.tells self.new.history.doings
+            ≡ told_more (told_if S.tells self.old.history.doings) (sends bytes.now)) }
+        ensures front { OnErr result (IsSentPrefix (told_if S.tells self.old.history.doings)
+            (told_if S.tells self.new.history.doings) bytes.now) }
+        ensures units { self.new.slot_units ≡ self.old.slot_units }
+        ensures served { OnOk result (IsTrue S.tells →
+            HasServed self.old.slot_units (S.did self.old.socket) (S.did self.new.socket)) }
+        ensures cause { OnErr result (IsTrue S.tells → IsCause
+            (S.faults self.old.socket) (S.faults self.new.socket) (S.did self.new.socket)) }
+    {
+        let gathered = self.gather(bytes);
+        if gathered.is_err() {
+            self.faults = self.faults.saturating_add(1);
+        }
+        gathered
+    }
+}

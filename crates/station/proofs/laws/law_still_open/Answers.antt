@@ -1,5 +1,0 @@
-use Rattle.station.proofs.Halts.{open_push}
-use Rattle.station.proofs.laws.law_still_open.Goals as goal
-
-pub returns : goal.returns
-returns c = λ mine made number keep open_ other. open_push mine made number keep other open_

@@ -1,0 +1,460 @@
+-- A stream is read in one way.
+use Rattle.std.proofs.Common.{◌≡◌, ◌≢◌, ℕ, ◌+◌, ◌*◌, ◌/◌, ◌<◌, ◌≤◌, true, false, zero, suc, List}
+use Rattle.std.proofs.Common.{[], ◌∷◌, ◌++◌, length, take, drop, Option, None, refl, sym, ap, subst}
+use Rattle.std.proofs.Common.{◌∙◌, arith, inl, inr}
+use Rattle.std.specs.Prelude.{IsSome, replicate}
+use Rattle.std.proofs.lemmas.List.{append_assoc, append-nil, length-append, take_at, drop_at}
+use Rattle.std.proofs.lemmas.List.{take-append-drop, length-take-le, length-drop}
+use Rattle.sys_demux.specs.PacketContents.{video_in}
+use Rattle.sys_demux.specs.StreamItems.{Item, with_prefix, item_bytes, zeros_of, choose, is_chosen}
+use Rattle.sys_demux.specs.StreamItems.{chosen_next, chosen_after, IsItem, AreItems, video_of, bytes_of}
+use Rattle.sys_demux.specs.StreamItems.Item.{Pack, Packet}
+use Rattle.sys_demux.specs.SystemStreams.{IsEnd, IsTruncatedItem, IsFault, IsSystem, IsBadStream}
+use Rattle.sys_demux.specs.SystemStreams.{IsBadByte, IsBadPacket}
+use Rattle.sys_demux.specs.ParserStates.{IsShown}
+use Rattle.sys_demux.specs.declared.faults.SystemFault.{SystemFault}
+use Rattle.sys_demux.specs.declared.faults.SystemFault.TheVariants.{NotPack, BadCode, BadPacket}
+use Rattle.sys_demux.specs.declared.faults.SystemFault.TheVariants.{Truncated}
+use Rattle.sys_demux.proofs.ItemPartLemmas.{prefixed_more, length_prefixed}
+use Rattle.sys_demux.proofs.FedBytesLemmas.{fault_stays}
+
+-- heads and tails of lists
+head_same : (a b : ℕ) (x y : List ℕ) → a ∷ x ≡ b ∷ y → a ≡ b
+head_same a b x y e = cc
+
+tail_same : (a b : ℕ) (x y : List ℕ) → a ∷ x ≡ b ∷ y → x ≡ y
+tail_same a b x y e = cc
+
+one_zero : (x y : List ℕ) → 1 ∷ x ≡ 0 ∷ y → ⊥
+one_zero x y e = omega (arith, head_same 1 0 x y e)
+
+zero_one : (x y : List ℕ) → 0 ∷ x ≡ 1 ∷ y → ⊥
+zero_one x y e = omega (arith, head_same 0 1 x y e)
+
+-- bytes 00 and a prefix have one length
+record AreSamePrefix (n m : ℕ) (r s : List ℕ) : Type 0 where
+  zeros : n ≡ m
+  rest : r ≡ s
+
+prefix_once : (n m : ℕ) (r s : List ℕ) → with_prefix n r ≡ with_prefix m s → AreSamePrefix n m r s
+prefix_once zero zero r s e = record {
+  zeros = refl;
+  rest = tail_same 1 1 r s (tail_same 0 0 (1 ∷ r) (1 ∷ s) (tail_same 0 0 (0 ∷ 1 ∷ r) (0 ∷ 1 ∷ s) e));
+}
+prefix_once zero (suc zero) r s e =
+    absurd (one_zero r (1 ∷ s) (tail_same 0 0 (1 ∷ r) (0 ∷ 1 ∷ s) (tail_same 0 0 (0 ∷ 1 ∷ r) (0 ∷ 0 ∷ 1 ∷ s) e)))
+prefix_once zero (suc (suc m)) r s e =
+    absurd (first_zero m r s (tail_same 0 0 (1 ∷ r) (with_prefix m s)
+    (tail_same 0 0 (0 ∷ 1 ∷ r) (0 ∷ with_prefix m s) e)))
+  where
+    first_zero : (m : ℕ) (r s : List ℕ) → 1 ∷ r ≡ with_prefix m s → ⊥
+    first_zero zero r s e = one_zero r (0 ∷ 1 ∷ s) e
+    first_zero (suc m) r s e = one_zero r (with_prefix m s) e
+prefix_once (suc zero) zero r s e =
+    absurd (zero_one (1 ∷ r) s (tail_same 0 0 (0 ∷ 1 ∷ r) (1 ∷ s) (tail_same 0 0 (0 ∷ 0 ∷ 1 ∷ r) (0 ∷ 1 ∷ s) e)))
+prefix_once (suc (suc n)) zero r s e =
+    absurd (first_one n r s (tail_same 0 0 (with_prefix n r) (1 ∷ s)
+    (tail_same 0 0 (0 ∷ with_prefix n r) (0 ∷ 1 ∷ s) e)))
+  where
+    first_one : (n : ℕ) (r s : List ℕ) → with_prefix n r ≡ 1 ∷ s → ⊥
+    first_one zero r s e = zero_one (0 ∷ 1 ∷ r) s e
+    first_one (suc n) r s e = zero_one (with_prefix n r) s e
+prefix_once (suc n) (suc m) r s e =
+    let more = prefix_once n m r s (tail_same 0 0 (with_prefix n r) (with_prefix m s) e) in
+    record { zeros = omega (arith, more.zeros); rest = more.rest }
+
+-- bytes 00 alone have no prefix
+zeros_no_prefix : (n m : ℕ) (s : List ℕ) → replicate n 0 ≡ with_prefix m s → ⊥
+zeros_no_prefix zero zero s e = let bad : 0 ≡ length (with_prefix 0 s) = ap length e in omega (arith, bad)
+zeros_no_prefix (suc zero) zero s e = let bad : 1 ≡ length (with_prefix 0 s) = ap length e in omega (arith, bad)
+zeros_no_prefix (suc (suc zero)) zero s e = let bad : 2 ≡ length (with_prefix 0 s) = ap length e in omega (arith, bad)
+zeros_no_prefix (suc (suc (suc n))) zero s e =
+    zero_one (replicate n 0) s (tail_same 0 0 (0 ∷ replicate n 0) (1 ∷ s)
+    (tail_same 0 0 (0 ∷ 0 ∷ replicate n 0) (0 ∷ 1 ∷ s) e))
+zeros_no_prefix zero (suc m) s e = let bad : 0 ≡ length (0 ∷ with_prefix m s) = ap length e in omega (arith, bad)
+zeros_no_prefix (suc n) (suc m) s e = zeros_no_prefix n m s (tail_same 0 0 (replicate n 0) (with_prefix m s) e)
+
+-- the front of bytes 00 and a prefix that is bytes 00 lacks a part of it
+zeros_front : (n m : ℕ) (l s : List ℕ) → replicate n 0 ++ l ≡ with_prefix m s → n ≤ m + 2
+zeros_front zero m l s e = omega arith
+zeros_front (suc zero) m l s e = omega arith
+zeros_front (suc (suc zero)) m l s e = omega arith
+zeros_front (suc (suc (suc n))) zero l s e =
+    absurd (zero_one (replicate n 0 ++ l) s
+    (tail_same 0 0 (0 ∷ (replicate n 0 ++ l)) (1 ∷ s) (tail_same 0 0 (0 ∷ 0 ∷ (replicate n 0 ++ l)) (0 ∷ 1 ∷ s) e)))
+zeros_front (suc (suc (suc n))) (suc m) l s e =
+    omega (arith, zeros_front (suc (suc n)) m l s (tail_same 0 0 (0 ∷ 0 ∷ (replicate n 0 ++ l)) (with_prefix m s) e))
+
+-- a byte that no bytes 00 and prefix have after so many bytes 00
+record IsOutside (count byte : ℕ) : Type 0 where
+  some : byte ≢ 0
+  early : byte ≡ 1 → count < 2
+
+bad_no_prefix : {byte : ℕ} (n m : ℕ) (l s : List ℕ) → replicate n 0 ++ byte ∷ l ≡ with_prefix m s → IsOutside n byte → ⊥
+bad_no_prefix {byte} zero zero l s e bad = bad.some (head_same byte 0 l (0 ∷ 1 ∷ s) e)
+bad_no_prefix {byte} zero (suc m) l s e bad = bad.some (head_same byte 0 l (with_prefix m s) e)
+bad_no_prefix {byte} (suc zero) zero l s e bad =
+    bad.some (head_same byte 0 l (1 ∷ s) (tail_same 0 0 (byte ∷ l) (0 ∷ 1 ∷ s) e))
+bad_no_prefix {byte} (suc (suc zero)) zero l s e bad =
+    let one : byte ≡ 1 =
+    head_same byte 1 l s (tail_same 0 0 (byte ∷ l) (1 ∷ s) (tail_same 0 0 (0 ∷ byte ∷ l) (0 ∷ 1 ∷ s) e)) in
+    omega (arith, bad.early one)
+bad_no_prefix {byte} (suc (suc (suc n))) zero l s e bad =
+    zero_one (replicate n 0 ++ byte ∷ l) s
+    (tail_same 0 0 (0 ∷ (replicate n 0 ++ byte ∷ l)) (1 ∷ s)
+    (tail_same 0 0 (0 ∷ 0 ∷ (replicate n 0 ++ byte ∷ l)) (0 ∷ 1 ∷ s) e))
+bad_no_prefix {byte} (suc n) (suc m) l s e bad =
+    bad_no_prefix n m l s (tail_same 0 0 (replicate n 0 ++ byte ∷ l) (with_prefix m s) e)
+    (record { some = bad.some; early = λ one. omega (arith, bad.early one) })
+
+-- a byte other than 00 after bytes 00 isn't where a prefix can have it
+byte_no_prefix : {start place : ℕ} {t : List ℕ} (m : ℕ) (s : List ℕ) → IsBadByte start t place → t ≡ with_prefix m s → ⊥
+byte_no_prefix m s f e = bad_no_prefix f.count m f.rest s (sym f.is ∙ e) (record { some = f.some; early = f.early })
+
+-- bytes 00 and another byte
+zeros_no_bad : (n m byte : ℕ) (l : List ℕ) → replicate n 0 ≡ replicate m 0 ++ byte ∷ l → byte ≢ 0 → ⊥
+zeros_no_bad zero zero byte l e some = let bad : 0 ≡ length (byte ∷ l) = ap length e in omega (arith, bad)
+zeros_no_bad zero (suc m) byte l e some = let bad : 0 ≡ length (0 ∷ (replicate m 0 ++ byte ∷ l)) =
+    ap length e in omega (arith, bad)
+zeros_no_bad (suc n) zero byte l e some = some (sym (head_same 0 byte (replicate n 0) l e))
+zeros_no_bad (suc n) (suc m) byte l e some =
+    zeros_no_bad n m byte l (tail_same 0 0 (replicate n 0) (replicate m 0 ++ byte ∷ l) e) some
+
+bad_once : {n m a b : ℕ} (r s : List ℕ) → replicate n 0 ++ a ∷ r ≡ replicate m 0 ++ b ∷ s → a ≢ 0 → b ≢ 0 → n ≡ m
+bad_once {n = zero} {m = zero} r s e x y = refl
+bad_once {n = zero} {m = suc m} {a} {b} r s e x y = absurd (x (head_same a 0 r (replicate m 0 ++ b ∷ s) e))
+bad_once {n = suc n} {m = zero} {a} {b} r s e x y = absurd (y (sym (head_same 0 b (replicate n 0 ++ a ∷ r) s e)))
+bad_once {n = suc n} {m = suc m} {a} {b} r s e x y =
+    let more = bad_once {n = n} {m = m} r s (tail_same 0 0 (replicate n 0 ++ a ∷ r) (replicate m 0 ++ b ∷ s) e)
+    x y in omega (arith, more)
+
+-- the bytes after an item's prefix
+abbrev rest_of : Item → List ℕ
+rest_of (Pack _ rest) = 186 ∷ rest
+rest_of (Packet _ value high low content) = value ∷ high ∷ low ∷ content
+
+item_prefixed : (a : Item) → item_bytes a ≡ with_prefix (zeros_of a) (rest_of a)
+item_prefixed (Pack _ rest) = refl
+item_prefixed (Packet _ value high low content) = refl
+
+-- lists of one length in front
+front_once : (a b x y : List ℕ) → a ++ x ≡ b ++ y → length a ≡ length b → (a ≡ b) × (x ≡ y)
+front_once a b x y e long = (
+  sym (take_at a x (length a) refl) ∙ ap (take (length a)) e ∙ ap (λ n. take n (b ++ y)) long
+      ∙ take_at b y (length b) refl,
+  sym (drop_at a x (length a) refl) ∙ ap (drop (length a)) e ∙ ap (λ n. drop n (b ++ y)) long
+      ∙ drop_at b y (length b) refl,
+)
+
+-- one item stands in front
+pub record IsSameItem (a b : Item) (x y : List ℕ) : Type 0 where
+  pub item : a ≡ b
+  pub rest : x ≡ y
+
+rests_once : {a b : Item} {x y : List ℕ} (chosen : Option ℕ) → IsItem chosen a → IsItem chosen b
+    → zeros_of a ≡ zeros_of b → rest_of a ++ x ≡ rest_of b ++ y → IsSameItem a b x y
+rests_once {a = Pack n r} {b = Pack m s} {x} {y} chosen p q zeros e =
+    let same = front_once r s x y (tail_same 186 186 (r ++ x) (s ++ y) e) (p.eight ∙ sym q.eight) in
+    record { item = ap (λ k. Pack k r) zeros ∙ ap (λ (l : List ℕ). Pack m l) same.0; rest = same.1 }
+rests_once {a = Pack n r} {b = Packet m value high low s} {x} {y} chosen p q zeros e =
+    absurd (let bad : 186 ≡ value =
+    head_same 186 value (r ++ x) (high ∷ low ∷ (s ++ y)) e in omega (arith, bad, q.value_is))
+rests_once {a = Packet n value high low r} {b = Pack m s} {x} {y} chosen p q zeros e =
+    absurd (let bad : value ≡ 186 =
+    head_same value 186 (high ∷ low ∷ (r ++ x)) (s ++ y) e in omega (arith, bad, p.value_is))
+rests_once {a = Packet n k h l r} {b = Packet m k' h' l' s} {x} {y} chosen p q zeros e =
+    let value : k ≡ k' = head_same k k' (h ∷ l ∷ (r ++ x)) (h' ∷ l' ∷ (s ++ y)) e in
+    let e1 : h ∷ l ∷ (r ++ x) ≡ h' ∷ l' ∷ (s ++ y) = tail_same k k' (h ∷ l ∷ (r ++ x)) (h' ∷ l' ∷ (s ++ y)) e in
+    let high : h ≡ h' = head_same h h' (l ∷ (r ++ x)) (l' ∷ (s ++ y)) e1 in
+    let e2 : l ∷ (r ++ x) ≡ l' ∷ (s ++ y) = tail_same h h' (l ∷ (r ++ x)) (l' ∷ (s ++ y)) e1 in
+    let low : l ≡ l' = head_same l l' (r ++ x) (s ++ y) e2 in
+    let same =
+    front_once r s x y (tail_same l l' (r ++ x) (s ++ y) e2) (omega (arith, p.length_is, q.length_is, high, low)) in
+    record {
+      item = ap (λ z. Packet z k h l r) zeros ∙ ap (λ z. Packet m z h l r) value
+          ∙ ap (λ z. Packet m k' z l r) high ∙ ap (λ z. Packet m k' h' z r) low
+          ∙ ap (λ (z : List ℕ). Packet m k' h' l' z) same.0;
+      rest = same.1;
+    }
+
+pub item_once : {a b : Item} {x y : List ℕ} (chosen : Option ℕ) → IsItem chosen a → IsItem chosen b
+    → item_bytes a ++ x ≡ item_bytes b ++ y → IsSameItem a b x y
+item_once {a} {b} {x} {y} chosen p q e =
+    let both : with_prefix (zeros_of a) (rest_of a ++ x) ≡ with_prefix (zeros_of b) (rest_of b ++ y) =
+    sym (ap (λ (l : List ℕ). l ++ x) (item_prefixed a) ∙ prefixed_more (zeros_of a) (rest_of a) x) ∙ e
+    ∙ ap (λ (l : List ℕ). l ++ y) (item_prefixed b) ∙ prefixed_more (zeros_of b) (rest_of b) y in
+    let same = prefix_once (zeros_of a) (zeros_of b) (rest_of a ++ x) (rest_of b ++ y) both in
+    rests_once chosen p q same.zeros same.rest
+
+-- an item, from its prefix
+from_prefix : {t : List ℕ} {m : ℕ} {s : List ℕ} (a : Item) (x : List ℕ) → item_bytes a ++ x ≡ t
+    → t ≡ with_prefix m s → AreSamePrefix (zeros_of a) m (rest_of a ++ x) s
+from_prefix {m} {s} a x e is =
+    prefix_once (zeros_of a) m (rest_of a ++ x) s
+    (sym (ap (λ (l : List ℕ). l ++ x) (item_prefixed a) ∙ prefixed_more (zeros_of a) (rest_of a) x) ∙ e ∙ is)
+
+as_prefixed : (a : Item) (x t : List ℕ) → item_bytes a ++ x ≡ t → t ≡ with_prefix (zeros_of a) (rest_of a ++ x)
+as_prefixed a x t e = sym e ∙ ap (λ (l : List ℕ). l ++ x) (item_prefixed a) ∙ prefixed_more (zeros_of a) (rest_of a) x
+
+-- an item's start code value is BA or above
+value_of_item : {s : List ℕ} {value : ℕ} (chosen : Option ℕ) (a : Item) (x : List ℕ) → IsItem chosen a
+    → rest_of a ++ x ≡ value ∷ s → 186 ≤ value
+value_of_item {s} {value} chosen (Pack n r) x p e = omega (arith, head_same 186 value (r ++ x) s e)
+value_of_item {s} {value} chosen (Packet n k h l r) x p e =
+    omega (arith, p.value_is, head_same k value (h ∷ l ∷ (r ++ x)) s e)
+
+-- no item stands where the stream ends
+pub item_no_end : {t : List ℕ} (chosen : Option ℕ) (a : Item) (x : List ℕ) → IsItem chosen a → item_bytes a ++ x ≡ t
+    → IsEnd t → ⊥
+item_no_end {t} chosen a x p e (inl z) =
+    zeros_no_prefix z.count (zeros_of a) (rest_of a ++ x) (sym z.are ∙ as_prefixed a x t e)
+item_no_end chosen a x p e (inr c) =
+    let value = value_of_item chosen a x p (from_prefix a x e c.is).rest in omega (arith, value)
+
+-- nor where a fault does
+mark_other : {rest : List ℕ} {mark : ℕ} (chosen : Option ℕ) (a : Item) (x : List ℕ) → IsItem chosen a
+    → rest_of a ++ x ≡ 186 ∷ mark ∷ rest → mark / 16 ≢ 2 → ⊥
+mark_other chosen (Pack n []) x p e other = omega (arith, p.eight)
+mark_other {rest} {mark} chosen (Pack n (b ∷ r)) x p e other =
+    other (ap (λ k. k / 16) (sym (head_same b mark (r ++ x) rest (tail_same 186 186 (b ∷ (r ++ x)) (mark ∷ rest) e)))
+    ∙ p.mark)
+mark_other {rest} {mark} chosen (Packet n k h l r) x p e other =
+    omega (arith, p.value_is, head_same k 186 (h ∷ l ∷ (r ++ x)) (mark ∷ rest) e)
+
+-- a content that stands whole has a header
+content_bad : {chosen : Option ℕ} {start place : ℕ} {t : List ℕ} (a : Item) (x : List ℕ) →
+    (f : IsBadPacket chosen start t place) → IsItem chosen a →
+    rest_of a ++ x ≡ f.value ∷ f.high ∷ f.low ∷ (f.front ++ f.rest) → ⊥
+content_bad (Pack n r) x f p e =
+    omega (arith, f.value_is, head_same 186 f.value (r ++ x) (f.high ∷ f.low ∷ (f.front ++ f.rest)) e)
+content_bad {chosen} (Packet n k h l r) x f p e =
+    let values : k ≡ value = head_same k value (h ∷ l ∷ (r ++ x)) (high ∷ low ∷ (front ++ rest)) e in
+    let e1 : h ∷ l ∷ (r ++ x) ≡ high ∷ low ∷ (front ++ rest) =
+    tail_same k value (h ∷ l ∷ (r ++ x)) (high ∷ low ∷ (front ++ rest)) e in
+    let highs : h ≡ high = head_same h high (l ∷ (r ++ x)) (low ∷ (front ++ rest)) e1 in
+    let e2 : l ∷ (r ++ x) ≡ low ∷ (front ++ rest) = tail_same h high (l ∷ (r ++ x)) (low ∷ (front ++ rest)) e1 in
+    let lows : l ≡ low = head_same l low (r ++ x) (front ++ rest) e2 in
+    let whole : r ++ x ≡ front ++ rest = tail_same l low (r ++ x) (front ++ rest) e2 in
+    let size : length r ≡ high * 256 + low = omega (arith, p.length_is, highs, lows) in
+    let cut : length (take (length front) r) ≡ length front =
+    length-take-le (length front) r (omega (arith, size, within)) in
+    let fronts = front_once (take (length front) r) front (drop (length front) r ++ x) rest
+    (sym (append_assoc (take (length front) r) (drop (length front) r) x)
+    ∙ ap (λ (t : List ℕ). t ++ x) (take-append-drop (length front) r) ∙ whole) cut in
+    let split : r ≡ front ++ drop (length front) r =
+    sym (take-append-drop (length front) r) ∙ ap (λ (t : List ℕ). t ++ drop (length front) r) fronts.0 in
+    let nothing : video_in r ≡ None =
+    ap video_in split ∙ none (drop (length front) r) (omega (arith, size, within, length-drop (length front) r)) in
+    let some = p.header (subst (λ z. is_chosen (choose chosen z) z ≡ true) (sym values) chosen_is) in
+    let bad : IsSome {T = List ℕ} None = subst (λ (o : Option (List ℕ)). IsSome o) nothing some in
+    let wrong : false ≡ true = bad in
+    cc
+  where
+    open f use {value, high, low, front, rest, chosen_is, within, none}
+
+-- what no item stands in front of
+Stops : Option ℕ → List ℕ → Type 0
+Stops chosen t = (a : Item) (x : List ℕ) → IsItem chosen a → item_bytes a ++ x ≡ t → ⊥
+
+fault_stops : (chosen : Option ℕ) (start : ℕ) (t : List ℕ) (fault : SystemFault) → IsFault chosen start t fault
+    → Stops chosen t
+unfolding Stops
+fault_stops chosen start t (NotPack place) f = λ a x p e. mark_other chosen a x p (from_prefix a x e f.is).rest f.other
+fault_stops chosen start t (BadCode place) (inl f) =
+    λ a x p e. byte_no_prefix (zeros_of a) (rest_of a ++ x) f (as_prefixed a x t e)
+fault_stops chosen start t (BadCode place) (inr f) = λ a x p e.
+    let value = value_of_item chosen a x p (from_prefix a x e f.is).rest in omega (arith, value, f.low)
+fault_stops chosen start t (BadPacket place) f = λ a x p e. content_bad a x f p (from_prefix a x e f.is).rest
+fault_stops chosen start t (Truncated place) f = λ a x p e.
+    let same = item_once chosen p f.is_item
+    (sym (append_assoc (item_bytes a) x f.lacking) ∙ ap (λ (l : List ℕ). l ++ f.lacking) e ∙ sym f.is
+    ∙ sym (append-nil (item_bytes f.item))) in
+    omega (arith, ap length same.rest, length-append x f.lacking, f.some)
+
+-- where the stream ends or a fault stands
+values_once : {t : List ℕ} {z w k j : ℕ} (r s : List ℕ) → t ≡ with_prefix z (k ∷ r) → t ≡ with_prefix w (j ∷ s)
+    → (z ≡ w) × (k ≡ j)
+values_once {z} {w} {k} {j} r s a b =
+    let same = prefix_once z w (k ∷ r) (j ∷ s) (sym a ∙ b) in
+    (same.zeros, head_same k j r s same.rest)
+
+-- the front of an item with its whole prefix
+front_prefixed : (t l r : List ℕ) (z : ℕ) → t ++ l ≡ with_prefix z r → z + 3 ≤ length t
+    → t ≡ with_prefix z (drop (z + 3) t)
+front_prefixed t l r z e long =
+    let size : length (take (z + 3) t) ≡ length (with_prefix z []) =
+    length-take-le (z + 3) t long ∙ sym (length_prefixed z [] ∙ omega arith) in
+    let fronts = front_once (take (z + 3) t) (with_prefix z []) (drop (z + 3) t ++ l) r
+    (sym (append_assoc (take (z + 3) t) (drop (z + 3) t) l)
+    ∙ ap (λ (x : List ℕ). x ++ l) (take-append-drop (z + 3) t) ∙ e ∙ sym (prefixed_more z [] r)) size in
+    sym (take-append-drop (z + 3) t) ∙ ap (λ (x : List ℕ). x ++ drop (z + 3) t) fronts.0
+    ∙ prefixed_more z [] (drop (z + 3) t)
+
+cut_prefixed : (chosen : Option ℕ) (start : ℕ) (t : List ℕ) (place : ℕ) (f : IsTruncatedItem chosen start t place)
+    → t ≡ with_prefix (zeros_of f.item) (drop (zeros_of f.item + 3) t)
+cut_prefixed chosen start t place f =
+    front_prefixed t f.lacking (rest_of f.item) (zeros_of f.item) (sym f.is ∙ item_prefixed f.item) f.begun
+
+-- a fault that bytes show stands in no front of an item
+cut_shows_none : {chosen : Option ℕ} {start : ℕ} {t : List ℕ} {place : ℕ} (fault : SystemFault)
+    → IsTruncatedItem chosen start t place → IsShown fault → IsFault chosen start t fault → ⊥
+unfolding Stops
+cut_shows_none {chosen} {start} {t} {place} fault cut shown f =
+    fault_stops chosen start (t ++ cut.lacking) fault
+    (fault_stays {chosen = chosen} {start = start} {tail = t} {fault = fault} cut.lacking
+    (record { shown = shown; fault_is = f }))
+    cut.item [] cut.is_item (append-nil (item_bytes cut.item) ∙ cut.is)
+
+-- an end is no fault
+pub end_no_fault : (chosen : Option ℕ) (start : ℕ) (t : List ℕ) (fault : SystemFault) → IsEnd t
+    → IsFault chosen start t fault → ⊥
+end_no_fault chosen start t (NotPack place) (inl z) f =
+    zeros_no_prefix z.count f.zeros (186 ∷ f.mark ∷ f.rest) (sym z.are ∙ f.is)
+end_no_fault chosen start t (NotPack place) (inr c) f = let bad =
+    (values_once c.rest (f.mark ∷ f.rest) c.is f.is).1 in omega (arith, bad)
+end_no_fault chosen start t (BadCode place) (inl z) (inl f) =
+    zeros_no_bad z.count f.count f.byte f.rest (sym z.are ∙ f.is) f.some
+end_no_fault chosen start t (BadCode place) (inl z) (inr f) =
+    zeros_no_prefix z.count f.zeros (f.value ∷ f.rest) (sym z.are ∙ f.is)
+end_no_fault chosen start t (BadCode place) (inr c) (inl f) = byte_no_prefix c.zeros (185 ∷ c.rest) f c.is
+end_no_fault chosen start t (BadCode place) (inr c) (inr f) = let bad =
+    (values_once c.rest f.rest c.is f.is).1 in omega (arith, bad, f.low)
+end_no_fault chosen start t (BadPacket place) (inl z) f =
+    zeros_no_prefix z.count f.zeros (f.value ∷ f.high ∷ f.low ∷ (f.front ++ f.rest)) (sym z.are ∙ f.is)
+end_no_fault chosen start t (BadPacket place) (inr c) f =
+    let bad = (values_once c.rest (f.high ∷ f.low ∷ (f.front ++ f.rest)) c.is f.is).1 in omega (arith, bad, f.value_is)
+end_no_fault chosen start t (Truncated place) (inl z) f =
+    zeros_no_prefix z.count (zeros_of f.item) (drop (zeros_of f.item + 3) t)
+    (sym z.are ∙ cut_prefixed chosen start t place f)
+end_no_fault chosen start t (Truncated place) (inr c) f =
+    item_no_end chosen f.item [] f.is_item (append-nil (item_bytes f.item) ∙ f.is)
+    (inr (record {
+      zeros = c.zeros;
+      rest = c.rest ++ f.lacking;
+      is = ap (λ (l : List ℕ). l ++ f.lacking) c.is ∙ prefixed_more c.zeros (185 ∷ c.rest) f.lacking;
+    }))
+
+-- one fault stands there
+places_same : {place place' n m : ℕ} (start : ℕ) → place ≡ start + n → place' ≡ start + m → n ≡ m → place ≡ place'
+places_same {place} {m} start a b e = omega (arith, a, b, e)
+
+fault_once : {one other : SystemFault} (chosen : Option ℕ) (start : ℕ) (t : List ℕ) → IsFault chosen start t one
+    → IsFault chosen start t other → one ≡ other
+fault_once {one = NotPack p} {other = NotPack q} chosen start t f g =
+    ap NotPack (places_same start f.place_is g.place_is (values_once (f.mark ∷ f.rest) (g.mark ∷ g.rest) f.is g.is).0)
+fault_once {one = NotPack p} {other = BadCode q} chosen start t f (inl g) =
+    absurd (byte_no_prefix f.zeros (186 ∷ f.mark ∷ f.rest) g f.is)
+fault_once {one = NotPack p} {other = BadCode q} chosen start t f (inr g) =
+    absurd (let bad = (values_once (f.mark ∷ f.rest) g.rest f.is g.is).1 in omega (arith, bad, g.low))
+fault_once {one = NotPack p} {other = BadPacket q} chosen start t f g =
+    absurd (let bad =
+    (values_once (f.mark ∷ f.rest) (g.high ∷ g.low ∷ (g.front ++ g.rest)) f.is g.is).1 in
+    omega (arith, bad, g.value_is))
+fault_once {one = NotPack p} {other = Truncated q} chosen start t f g = absurd (cut_shows_none (NotPack p) g tt f)
+fault_once {one = BadCode p} {other = NotPack q} chosen start t (inl f) g =
+    absurd (byte_no_prefix g.zeros (186 ∷ g.mark ∷ g.rest) f g.is)
+fault_once {one = BadCode p} {other = NotPack q} chosen start t (inr f) g =
+    absurd (let bad = (values_once f.rest (g.mark ∷ g.rest) f.is g.is).1 in omega (arith, bad, f.low))
+fault_once {one = BadCode p} {other = BadCode q} chosen start t (inl f) (inl g) =
+    ap BadCode (places_same start f.place_is g.place_is (bad_once f.rest g.rest (sym f.is ∙ g.is) f.some g.some))
+fault_once {one = BadCode p} {other = BadCode q} chosen start t (inl f) (inr g) =
+    absurd (byte_no_prefix g.zeros (g.value ∷ g.rest) f g.is)
+fault_once {one = BadCode p} {other = BadCode q} chosen start t (inr f) (inl g) =
+    absurd (byte_no_prefix f.zeros (f.value ∷ f.rest) g f.is)
+fault_once {one = BadCode p} {other = BadCode q} chosen start t (inr f) (inr g) =
+    ap BadCode (places_same start f.place_is g.place_is (values_once f.rest g.rest f.is g.is).0)
+fault_once {one = BadCode p} {other = BadPacket q} chosen start t (inl f) g =
+    absurd (byte_no_prefix g.zeros (g.value ∷ g.high ∷ g.low ∷ (g.front ++ g.rest)) f g.is)
+fault_once {one = BadCode p} {other = BadPacket q} chosen start t (inr f) g =
+    absurd (let bad =
+    (values_once f.rest (g.high ∷ g.low ∷ (g.front ++ g.rest)) f.is g.is).1 in omega (arith, bad, f.low, g.value_is))
+fault_once {one = BadCode p} {other = Truncated q} chosen start t f g = absurd (cut_shows_none (BadCode p) g tt f)
+fault_once {one = BadPacket p} {other = NotPack q} chosen start t f g =
+    absurd (let bad =
+    (values_once (f.high ∷ f.low ∷ (f.front ++ f.rest)) (g.mark ∷ g.rest) f.is g.is).1 in
+    omega (arith, bad, f.value_is))
+fault_once {one = BadPacket p} {other = BadCode q} chosen start t f (inl g) =
+    absurd (byte_no_prefix f.zeros (f.value ∷ f.high ∷ f.low ∷ (f.front ++ f.rest)) g f.is)
+fault_once {one = BadPacket p} {other = BadCode q} chosen start t f (inr g) =
+    absurd (let bad =
+    (values_once (f.high ∷ f.low ∷ (f.front ++ f.rest)) g.rest f.is g.is).1 in omega (arith, bad, g.low, f.value_is))
+fault_once {one = BadPacket p} {other = BadPacket q} chosen start t f g =
+    ap BadPacket (places_same start f.place_is g.place_is
+    (values_once (f.high ∷ f.low ∷ (f.front ++ f.rest)) (g.high ∷ g.low ∷ (g.front ++ g.rest)) f.is g.is).0)
+fault_once {one = BadPacket p} {other = Truncated q} chosen start t f g = absurd (cut_shows_none (BadPacket p) g tt f)
+fault_once {one = Truncated p} {other = NotPack q} chosen start t f g = absurd (cut_shows_none (NotPack q) f tt g)
+fault_once {one = Truncated p} {other = BadCode q} chosen start t f g = absurd (cut_shows_none (BadCode q) f tt g)
+fault_once {one = Truncated p} {other = BadPacket q} chosen start t f g = absurd (cut_shows_none (BadPacket q) f tt g)
+fault_once {one = Truncated p} {other = Truncated q} chosen start t f g =
+    ap Truncated (places_same start f.place_is g.place_is
+    (prefix_once (zeros_of f.item) (zeros_of g.item) (drop (zeros_of f.item + 3) t)
+    (drop (zeros_of g.item + 3) t) (sym (cut_prefixed chosen start t p f) ∙ cut_prefixed chosen start t q g)).zeros)
+
+-- nothing stands in front of an end
+end_stops : (chosen : Option ℕ) (t : List ℕ) → IsEnd t → Stops chosen t
+unfolding Stops
+end_stops chosen t end = λ a x p e. item_no_end chosen a x p e end
+
+-- one list of items
+record AreSame (items items' : List Item) (t t' : List ℕ) : Type 0 where
+  items_are : items ≡ items'
+  tail_is : t ≡ t'
+
+-- items, and what no item stands in front of
+record AreRead (chosen : Option ℕ) (items : List Item) (t : List ℕ) : Type 0 where
+  are : AreItems chosen items
+  stops : Stops (chosen_after chosen items) t
+
+items_once : {chosen : Option ℕ} {items items' : List Item} {t t' : List ℕ} → AreRead chosen items t →
+    AreRead chosen items' t' → bytes_of items ++ t ≡ bytes_of items' ++ t' →
+    AreSame items items' t t'
+unfolding Stops
+items_once {items = []} {items' = []} one other e = record { items_are = refl; tail_is = e }
+items_once {items = []} {items' = y ∷ ys} {t'} one other e =
+    absurd (one.stops y (bytes_of ys ++ t') other.are.0 (sym (append_assoc (item_bytes y) (bytes_of ys) t') ∙ sym e))
+items_once {items = x ∷ xs} {items' = []} {t} one other e =
+    absurd (other.stops x (bytes_of xs ++ t) one.are.0 (sym (append_assoc (item_bytes x) (bytes_of xs) t) ∙ e))
+items_once {chosen} {items = x ∷ xs} {items' = y ∷ ys} {t} {t'} one other e =
+    let same = item_once chosen one.are.0 other.are.0
+    (sym (append_assoc (item_bytes x) (bytes_of xs) t) ∙ e ∙ append_assoc (item_bytes y) (bytes_of ys) t') in
+    let next : chosen_next chosen y ≡ chosen_next chosen x = ap (chosen_next chosen) (sym same.item) in
+    let later : AreRead (chosen_next chosen y) ys t' = record { are = other.are.1; stops = other.stops } in
+    let more = items_once {chosen = chosen_next chosen x} {items = xs} {items' = ys} {t = t} {t' = t'}
+    (record { are = one.are.1; stops = one.stops }) (subst (λ c. AreRead c ys t') next later) same.rest in
+    record { items_are = ap (λ z. z ∷ xs) same.item ∙ ap (λ zs. y ∷ zs) more.items_are; tail_is = more.tail_is }
+
+system_read : {bytes video : List ℕ} (s : IsSystem bytes video) → AreRead None s.items s.tail
+system_read s = record { are = s.are; stops = end_stops (chosen_after None s.items) s.tail s.end }
+
+refused_read : {bytes : List ℕ} {fault : SystemFault} (s : IsBadStream bytes fault) → AreRead None s.items s.tail
+refused_read {fault} s = record {
+  are = s.are;
+  stops = fault_stops (chosen_after None s.items) (length (bytes_of s.items)) s.tail fault s.fault_is;
+}
+
+-- a stream has one list of items
+pub system_once : (bytes one other : List ℕ) (a : IsSystem bytes one) (b : IsSystem bytes other)
+    → (a.items ≡ b.items) × (a.tail ≡ b.tail)
+system_once bytes one other a b =
+    let same = items_once (system_read a) (system_read b) (sym a.bytes_are ∙ b.bytes_are) in
+    (same.items_are, same.tail_is)
+
+pub video_once : (bytes one other : List ℕ) → IsSystem bytes one → IsSystem bytes other → one ≡ other
+video_once bytes one other a b =
+    let same = items_once (system_read a) (system_read b) (sym a.bytes_are ∙ b.bytes_are) in
+    a.video_is ∙ ap (video_of None) same.items_are ∙ sym b.video_is
+
+pub not_both : (bytes video : List ℕ) (fault : SystemFault) → IsSystem bytes video → IsBadStream bytes fault → ⊥
+not_both bytes video fault a b =
+    let same = items_once (system_read a) (refused_read b) (sym a.bytes_are ∙ b.bytes_are) in
+    end_no_fault (chosen_after None b.items) (length (bytes_of b.items)) b.tail fault
+    (subst IsEnd same.tail_is a.end) b.fault_is
+
+pub refused_once : (bytes : List ℕ) (one other : SystemFault) → IsBadStream bytes one → IsBadStream bytes other
+    → one ≡ other
+refused_once bytes one other a b =
+    let same = items_once (refused_read a) (refused_read b) (sym a.bytes_are ∙ b.bytes_are) in
+    fault_once (chosen_after None b.items) (length (bytes_of b.items)) b.tail
+    (subst (λ (zs : List Item). IsFault (chosen_after None zs) (length (bytes_of zs)) b.tail one) same.items_are
+    (subst (λ (l : List ℕ). IsFault (chosen_after None a.items) (length (bytes_of a.items)) l one) same.tail_is
+    a.fault_is)) b.fault_is

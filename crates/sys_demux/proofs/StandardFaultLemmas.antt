@@ -1,0 +1,123 @@
+-- What is refused after a stream in the fields of the standard.
+use Rattle.std.proofs.Common.{◌≡◌, ◌≢◌, ℕ, ◌+◌, ◌/◌, ◌%◌, ◌<◌, ◌⊎◌, true}
+use Rattle.std.proofs.Common.{List, [], ◌∷◌, ◌++◌, length, Option, Some, None, refl, sym, ap, subst}
+use Rattle.std.proofs.Common.{◌∙◌}
+use Rattle.std.proofs.Common.{arith, inl, inr, eq-eqb}
+use Rattle.std.proofs.lemmas.List.{append-nil, nil_from_length}
+use Rattle.sys_demux.specs.PacketContents.{video_in}
+use Rattle.sys_demux.specs.StreamItems.{chosen_after, choose, is_chosen, with_prefix}
+use Rattle.sys_demux.specs.StandardFields.{Element, HasHeader, AreElements, first_stream, packet_bytes}
+use Rattle.sys_demux.specs.StandardFields.{stream_bytes, video_stream_id, with_code}
+use Rattle.sys_demux.specs.StandardFields.Element.{PackHeader, VideoPacket, OtherPacket}
+use Rattle.sys_demux.specs.SystemStreams.{IsFault, IsBadStream}
+use Rattle.sys_demux.specs.declared.faults.SystemFault.{SystemFault}
+use Rattle.sys_demux.specs.declared.faults.SystemFault.TheVariants.{BadCode, BadPacket, NotPack}
+use Rattle.sys_demux.proofs.PacketHeaderLemmas.{header_is}
+use Rattle.sys_demux.proofs.StandardStreamLemmas.{Fits, element_read, elements_read, items_bytes}
+use Rattle.sys_demux.proofs.StandardStreamLemmas.{items_of, value_by}
+use Rattle.sys_demux.proofs.StandardStreamLemmas.{next, video_chosen}
+
+-- the first stream of video, where one was known before
+abbrev first_of : Option ℕ → Option ℕ → Option ℕ
+first_of None later = later
+first_of (Some number) later = Some number
+
+first_more : (first : Option ℕ) (element : Element) (elements : List Element)
+    → first_of (next first element) (first_stream elements) ≡ first_of first (first_stream (element ∷ elements))
+first_more None (PackHeader _ clock_reference mux_rate) elements = refl
+first_more (Some number) (PackHeader _ clock_reference mux_rate) elements = refl
+first_more None (VideoPacket _ stream stuffing buffer stamps video) elements = refl
+first_more (Some number) (VideoPacket _ stream stuffing buffer stamps video) elements = refl
+first_more None (OtherPacket _ value content) elements = refl
+first_more (Some number) (OtherPacket _ value content) elements = refl
+
+first_none : (first : Option ℕ) → first ≡ first_of first None
+first_none None = refl
+first_none (Some number) = refl
+
+chosen_all : (first : Option ℕ) (elements : List Element) → Fits first → AreElements elements
+    → chosen_after (value_by first) (items_of elements) ≡ value_by (first_of first (first_stream elements))
+chosen_all first [] fits are = ap value_by (first_none first)
+chosen_all first (element ∷ elements) fits are =
+    let read = element_read first element fits are.0 in
+    ap (λ c. chosen_after c (items_of elements)) read.next_is
+    ∙ chosen_all (next first element) elements read.fits are.1
+    ∙ ap value_by (first_more first element elements)
+
+-- a fault after elements is one of the stream
+refused : (elements : List Element) (tail : List ℕ) (fault : SystemFault) → AreElements elements
+    → IsFault (value_by (first_stream elements)) (length (stream_bytes elements)) tail fault
+    → IsBadStream (stream_bytes elements ++ tail) fault
+refused elements tail fault are is =
+    let start = ap (λ (l : List ℕ). length l) (sym (items_bytes elements)) in
+    let chosen = sym (chosen_all None elements tt are) in
+    record {
+      items = items_of elements;
+      tail = tail;
+      are = (elements_read None elements tt are).items;
+      bytes_are = ap (λ (l : List ℕ). l ++ tail) (sym (items_bytes elements));
+      fault_is = subst (λ n. IsFault (chosen_after None (items_of elements)) n tail fault) start
+          (subst (λ c. IsFault c (length (stream_bytes elements)) tail fault) chosen is);
+    }
+
+pub pack_refused : (elements : List Element) (front mark : ℕ) (rest : List ℕ) → AreElements elements → mark / 16 ≢ 2 →
+    IsBadStream (stream_bytes elements ++ with_code front 0xba (mark ∷ rest))
+    (NotPack (length (stream_bytes elements) + front))
+pack_refused elements front mark rest are other =
+    refused elements (with_code front 0xba (mark ∷ rest)) (NotPack (length (stream_bytes elements) + front)) are
+    (record { zeros = front; mark = mark; rest = rest; is = refl; other = other; place_is = refl })
+
+pub code_refused : (elements : List Element) (front value : ℕ) (rest : List ℕ) → AreElements elements → value < 0xb9 →
+    IsBadStream (stream_bytes elements ++ with_code front value rest) (BadCode (length (stream_bytes elements) + front))
+code_refused elements front value rest are low =
+    refused elements (with_code front value rest) (BadCode (length (stream_bytes elements) + front)) are
+    (inr (record { zeros = front; value = value; rest = rest; is = refl; low = low; place_is = refl }))
+
+none_of : (o : Option (List ℕ)) → ((video : List ℕ) → o ≡ Some video → ⊥) → o ≡ None
+none_of None never = refl
+none_of (Some video) never = absurd (never video refl)
+
+its_value : (first : Option ℕ) (stream : ℕ) → stream < 16 → ((first ≡ None) ⊎ (first ≡ Some stream))
+    → is_chosen (choose (value_by first) (video_stream_id stream)) (video_stream_id stream) ≡ true
+its_value first stream fits (inl none) =
+    ap (λ o. is_chosen (choose (value_by o) (video_stream_id stream)) (video_stream_id stream)) none
+    ∙ ap (λ o. is_chosen o (video_stream_id stream)) (video_chosen stream fits)
+    ∙ eq-eqb (video_stream_id stream) (video_stream_id stream) refl
+its_value first stream fits (inr same) =
+    ap (λ o. is_chosen (choose (value_by o) (video_stream_id stream)) (video_stream_id stream)) same
+    ∙ eq-eqb (video_stream_id stream) (video_stream_id stream) refl
+
+-- a packet of the first stream of video, and a content that has no header
+pub record HasNoHeader (first : Option ℕ) (stream : ℕ) (content : List ℕ) : Type 0 where
+  pub fits : stream < 16
+  pub first_is : (first ≡ None) ⊎ (first ≡ Some stream)
+  pub never : (video : List ℕ) → HasHeader content video → ⊥
+
+pub packet_refused : {stream : ℕ} {content : List ℕ} (elements : List Element) (front : ℕ) →
+    AreElements elements → HasNoHeader (first_stream elements) stream content →
+    IsBadStream (stream_bytes elements ++ packet_bytes front (video_stream_id stream) content)
+    (BadPacket (length (stream_bytes elements) + front))
+packet_refused {stream} {content} elements front are bad =
+    let value = video_stream_id stream in
+    let high = length content / 256 in
+    let low = length content % 256 in
+    let none : video_in content ≡ None =
+    none_of (video_in content) (λ video e. never video ((header_is content video).0 e)) in
+    refused elements (packet_bytes front value content) (BadPacket (length (stream_bytes elements) + front)) are
+    (record {
+      zeros = front;
+      value = value;
+      high = high;
+      low = low;
+      front = content;
+      rest = [];
+      is = ap (λ (l : List ℕ). with_prefix front (value ∷ high ∷ low ∷ l)) (sym (append-nil content));
+      value_is = omega arith;
+      chosen_is = its_value (first_stream elements) stream fits first_is;
+      within = omega arith;
+      none = λ more long. ap (λ (l : List ℕ). video_in (content ++ l))
+          (nil_from_length more (omega (arith, long))) ∙ ap video_in (append-nil content) ∙ none;
+      place_is = refl;
+    })
+  where
+    open bad use {fits, first_is, never}

@@ -1,0 +1,188 @@
+//! Where in a system stream the next byte stands, and where a byte leads.
+
+ghost use Rattle.std.specs.Prelude.{◌≡◌, ℕ, ◌+◌, ◌-◌, ◌≤◌, ◌<◌, ◌==◌, if◌then◌else◌, IsTrue, List};
+ghost use Rattle.std.specs.Prelude.{[], ◌∷◌, ◌++◌, length, Option};
+ghost use Rattle.sys_demux.specs.StreamItems.{choose, is_chosen};
+ghost use Rattle.sys_demux.specs.ValidStates.{least_rest, is_sound};
+ghost use Rattle.sys_demux.specs.ParserStates.{IsAtZeros, IsAtPrefix, IsAtHeader, IsPart, LeadsTo};
+ghost use Rattle.sys_demux.specs.ParserStates.{begins_at, place_in, end_fault};
+
+use crate::faults::SystemFault;
+use crate::headers::{Header, header_next};
+
+/// The start code value of a stream's end (ISO/IEC 11172-1, section 2.4.3).
+const END_VALUE: u8 = 0xb9;
+
+/// The start code value of a pack header (ISO/IEC 11172-1, section 2.4.3); packets have greater
+/// ones.
+const PACK_VALUE: u8 = 0xba;
+
+/// The bytes of a pack header after its fifth.
+const PACK_REST_BYTES: u16 = 7;
+
+/// Where in a stream the next byte stands.
+#[derive(Clone, Copy)]
+pub(crate) enum ParserState {
+    /// Where an item must stand, after bytes 00: none, one, or two or more.
+    Zeros(u8),
+    /// After a prefix 00 00 01.
+    Value,
+    /// At the fifth byte of a pack header.
+    Mark,
+    /// At the first byte of the length of a packet of this stream_id.
+    High(u8),
+    /// At the second byte of the length, after the first.
+    Low(u8, u8),
+    /// In the header of a packet of the chosen stream, with this many bytes of the packet to come.
+    InHeader(Header, u16),
+    /// In an item, of which this many bytes are to come and to be passed over.
+    Pass(u16),
+    /// In a packet of the chosen stream, of which this many bytes are to come and are video.
+    Video(u16),
+    /// After the code of the end.
+    End,
+    /// After a fault.
+    Failed(SystemFault),
+}
+
+/// The place after a byte where an item must stand; `at` is the byte's own place.
+pub(crate) fn zeros_next(zeros: u8, byte: u8, at: u64) -> ParserState
+    ensures sound { IsTrue (is_sound result) }
+    ensures next { (chosen now : Option ℕ) (start : ℕ) (part kept : List ℕ) →
+        IsAtZeros chosen zeros now part kept →
+        at ≡ start + length part →
+        IsPart (begins_at chosen start) (at - 2) now (part ++ byte ∷ []) kept result }
+{
+    match byte {
+        0 => ParserState::Zeros((zeros.min(1)) + 1),
+        1 if zeros >= 2 => ParserState::Value,
+        _ => ParserState::Failed(SystemFault::BadCode(at)),
+    }
+}
+
+/// The place after the start code value of the item at `item`.
+pub(crate) fn value_next(value: u8, item: u64) -> ParserState
+    ensures sound { IsTrue (is_sound result) }
+    ensures next { (chosen now : Option ℕ) (start : ℕ) (part kept : List ℕ) →
+        IsAtPrefix start item [] now chosen part kept →
+        IsPart (begins_at chosen start) item (choose now value) (part ++ value ∷ []) kept result }
+{
+    if value == END_VALUE {
+        ParserState::End
+    } else if value == PACK_VALUE {
+        ParserState::Mark
+    } else if value > PACK_VALUE {
+        ParserState::High(value)
+    } else {
+        ParserState::Failed(SystemFault::BadCode(item))
+    }
+}
+
+/// The place after the fifth byte of the pack header at `item`.
+pub(crate) fn mark_next(mark: u8, item: u64) -> ParserState
+    ensures sound { IsTrue (is_sound result) }
+    ensures next { (chosen now : Option ℕ) (start : ℕ) (part kept : List ℕ) →
+        IsAtPrefix start item (186 ∷ []) now chosen part kept →
+        IsPart (begins_at chosen start) item now (part ++ mark ∷ []) kept result }
+{
+    if mark / 16 == 2 {
+        ParserState::Pass(PACK_REST_BYTES)
+    } else {
+        ParserState::Failed(SystemFault::NotPack(item))
+    }
+}
+
+/// The place where this many bytes of an item are to come and to be passed over.
+pub(crate) fn pass(left: u16) -> ParserState
+    ensures { result ≡ (if left == 0 then ParserState.Zeros 0 else ParserState.Pass left) }
+{
+    if left == 0 {
+        ParserState::Zeros(0)
+    } else {
+        ParserState::Pass(left)
+    }
+}
+
+/// The place where this many bytes of a packet are to come and are video.
+pub(crate) fn video(left: u16) -> ParserState
+    ensures { result ≡ (if left == 0 then ParserState.Zeros 0 else ParserState.Video left) }
+{
+    if left == 0 {
+        ParserState::Zeros(0)
+    } else {
+        ParserState::Video(left)
+    }
+}
+
+/// The place after the length of the packet of this stream_id at `item`.
+pub(crate) fn length_next(
+    chosen: Option<u8>,
+    value: u8,
+    high: u8,
+    low: u8,
+    item: u64,
+) -> ParserState
+    ensures sound { IsTrue (is_sound result) }
+    ensures next { (before : Option ℕ) (start : ℕ) (part kept : List ℕ) →
+        IsAtPrefix start item (value ∷ high ∷ []) chosen (choose before value) part kept →
+        187 ≤ value →
+        LeadsTo (begins_at before start) item chosen (part ++ low ∷ []) kept result }
+{
+    let length = u16::from(high) * 256 + u16::from(low);
+    if !is_chosen(chosen, value) {
+        pass(length)
+    } else if length == 0 {
+        ParserState::Failed(SystemFault::BadPacket(item))
+    } else {
+        ParserState::InHeader(Header::Stuffing(0), length)
+    }
+}
+
+/// The place after a byte of the header of the packet at `item`, with `left` bytes of the packet
+/// after it.
+pub(crate) fn header_place(header: Header, byte: u8, left: u16, item: u64) -> ParserState
+    requires some { 0 < least_rest header }
+    requires enough { least_rest header ≤ left + 1 }
+    ensures sound { IsTrue (is_sound result) }
+    ensures next { (chosen now : Option ℕ) (start : ℕ) (part kept : List ℕ) →
+        IsAtHeader chosen start item now part kept header (left + 1) →
+        LeadsTo (begins_at chosen start) item now (part ++ byte ∷ []) kept result }
+{
+    match header_next(header, byte, left) {
+        None => ParserState::Failed(SystemFault::BadPacket(item)),
+        Some(next) => header_goes_on(next, left),
+    }
+}
+
+/// Why a stream that ends at this place, in the item at `item`, is none.
+pub(crate) fn end_fault(place: ParserState, item: u64) -> Option<SystemFault>
+    ensures { result ≡ end_fault place item }
+{
+    match place {
+        ParserState::Zeros(_) | ParserState::End => None,
+        ParserState::Failed(fault) => Some(fault),
+        _ => Some(SystemFault::Truncated(item)),
+    }
+}
+
+/// Whether a packet of this stream_id is one of the chosen stream.
+fn is_chosen(chosen: Option<u8>, value: u8) -> bool
+    ensures { result ≡ is_chosen chosen value }
+{
+    match chosen {
+        Some(first) => first == value,
+        None => false,
+    }
+}
+
+/// The place where the header of a packet goes on so, with `left` bytes of the packet to come.
+fn header_goes_on(next: Header, left: u16) -> ParserState
+    requires { least_rest next ≤ left }
+    ensures sound { IsTrue (is_sound result) }
+    ensures place { result ≡ place_in next left }
+{
+    match next {
+        Header::Rest(0) => video(left),
+        _ => ParserState::InHeader(next, left),
+    }
+}

@@ -1,0 +1,192 @@
+-- How the corner moves along the other chain, and when the two chains stand apart again.
+use Rattle.std.proofs.Common.{◌≡◌, ℕ, ◌+◌, ◌-◌, ◌*◌, ◌<◌, ◌≤◌, List, [], ◌∷◌, arith, sym, subst, ap, ◌∙◌, inl, inr}
+use Rattle.std.proofs.Math.Nat.{mul-le-mul_left}
+use Rattle.std.proofs.lemmas.Bool.{cases_lt}
+use Rattle.taut_plan.specs.declared.points.Point.{Point}
+use Rattle.taut_plan.specs.declared.points.Side.{Side}
+use Rattle.taut_plan.specs.declared.points.Side.TheVariants.{Lower, Upper}
+use Rattle.taut_plan.specs.Slopes.{IsWithin, IsInside, other_side}
+use Rattle.taut_plan.specs.Chain.{on_curve, IsChain}
+use Rattle.taut_plan.specs.Funnel.{FunnelReach, funnel_reach, KeepsApart, IsCrossing, IsUncrossed}
+use Rattle.taut_plan.proofs.SlopeLemmas.{Seen, SeenCorner, within_within, inside_within, within_itself, inside_weaker}
+use Rattle.taut_plan.proofs.SlopeLemmas.{inside_not_within, turns_apart}
+
+-- on the other side the order is turned
+pub other_within : (side : Side) (o a b : Point) → IsWithin (other_side side) o a b → IsWithin side o b a
+other_within Lower o a b h = h
+other_within Upper o a b h = h
+
+pub other_inside : (side : Side) (o a b : Point) → IsInside (other_side side) o a b → IsInside side o b a
+other_inside Lower o a b h = h
+other_inside Upper o a b h = h
+
+pub is_on_curve : (curve : ℕ → ℕ) (p : Point) → p.height ≡ curve p.place → p ≡ on_curve curve p.place
+is_on_curve curve p on = ap (λ (h : ℕ). let q : Point = record { place = p.place; height = h } in q) on
+
+-- the heights at one place are in order: the one curve's number isn't past the other's
+abbrev pub IsOrdered : Side → ℕ → ℕ → Type 0
+IsOrdered Lower a b = a ≤ b
+IsOrdered Upper a b = b ≤ a
+
+pub ordered_within : (side : Side) (o a b : Point) → a.place ≡ b.place → IsOrdered side a.height b.height
+    → IsWithin side o a b
+ordered_within Lower o a b same le =
+    let e : b.place - o.place ≡ a.place - o.place = omega (arith, same) in
+    let up : (a.place - o.place) * a.height ≤ (a.place - o.place) * b.height = mul-le-mul_left (a.place - o.place) le in
+    rw e (omega (arith, up))
+ordered_within Upper o a b same le =
+    let e : b.place - o.place ≡ a.place - o.place = omega (arith, same) in
+    let up : (a.place - o.place) * b.height ≤ (a.place - o.place) * a.height = mul-le-mul_left (a.place - o.place) le in
+    rw e (omega (arith, up))
+
+-- What a crossing says of the corner b, the front of the other chain.
+pub record IsCorner (side : Side) (curve other : ℕ → ℕ) (sight : FunnelReach) (b : Point) : Type 0 where
+  pub later : sight.apex.place < b.place
+  pub near : b.place ≤ sight.other_reach
+  pub before_new : b.place < sight.reach
+  pub on : b.height ≡ other b.place
+  pub own_within : (i : ℕ) → sight.apex.place < i → i < sight.reach → IsWithin side sight.apex (on_curve curve i) b
+  pub others_beyond : (j : ℕ) → sight.apex.place < j → j ≤ b.place → IsWithin side sight.apex b (on_curve other j)
+  pub others_after : (j : ℕ) → b.place < j → j ≤ sight.other_reach → IsInside side sight.apex b (on_curve other j)
+  pub crossed : IsInside side sight.apex b (on_curve curve sight.reach)
+
+pub corner_of : {side : Side} {curve other : ℕ → ℕ} {t s : ℕ} {o : Point} {own : List Point} {b : Point}
+    {rest : List Point}
+    → IsCrossing side curve other (funnel_reach t s o) own (b ∷ rest) → IsOrdered side (curve t) (other t)
+    → IsInside side o b (on_curve curve t)
+    → IsCorner side curve other (funnel_reach t s o) b
+corner_of {side} {curve} {other} {t} {s} {o} {b} state ordered crossed =
+    let edge = state.others.0 in
+    let later = edge.later in
+    let near = edge.near in
+    let on = edge.on in
+    let most = state.not_past in
+    record {
+      later = later;
+      near = near;
+      before_new = elim (cases_lt b.place t) [
+        | inl lt ↦ lt
+        | inr ge ↦ (let at : b.place ≡ t = omega (arith, ge, near, most) in
+            let height : b.height ≡ other t = on ∙ ap other at in
+            let level = ordered_within side o (on_curve curve t) b (sym at)
+            (subst (λ h. IsOrdered side (curve t) h) (sym height) ordered) in
+            absurd (inside_not_within side o b (on_curve curve t) crossed level))
+      ];
+      on = on;
+      own_within =
+          λ i after before.
+          subst (λ h. IsWithin side o (on_curve curve i) (record { place = b.place; height = h })) (sym on)
+          (state.apart.apart i b.place after before later near);
+      others_beyond = λ j after upto. other_within side o (on_curve other j) b (edge.before j after upto);
+      others_after = λ j past upto. other_inside side o (on_curve other j) b (edge.beyond j past upto);
+      crossed = crossed;
+    }
+
+-- the chain with the new point is that point alone, and stays so
+own_moves : {side : Side} {curve other : ℕ → ℕ} {t s : ℕ} {o b : Point} (own : List Point)
+    → IsChain side curve t o own → IsCorner side curve other (funnel_reach t s o) b → IsChain side curve t b own
+own_moves {other} {s} [] at_end corner = let one = corner.later in let two =
+    corner.before_new in absurd (omega (arith, at_end, one, two))
+own_moves {side} {curve} {other} {t} {s} {o} {b} (p ∷ rest) chain corner =
+    let edge = chain.0 in
+    let later = edge.later in
+    let near = edge.near in
+    let on = edge.on in
+    let gone = corner.before_new in
+    elim (cases_lt p.place t) [
+      | inl lt ↦ (let within_p : IsWithin side o p b =
+          subst (λ h. IsWithin side o (record { place = p.place; height = h }) b) (sym on)
+          (corner.own_within p.place later lt) in
+          let seen : Seen = record { from = o; first = on_curve curve t; second = p; third = b } in
+          let new = inside_within side seen corner.later (edge.beyond t lt (omega arith)) within_p in
+          absurd (inside_not_within side o b (on_curve curve t) corner.crossed
+          (inside_weaker side o (on_curve curve t) b new)))
+      | inr ge ↦ (let at : p.place ≡ t = omega (arith, ge, near) in
+          let is : p ≡ on_curve curve t = is_on_curve curve p on ∙ ap (on_curve curve) at in
+          let out : IsWithin side o b p =
+          subst (λ q. IsWithin side o b q) (sym is) (inside_weaker side o b (on_curve curve t) corner.crossed) in (
+            record {
+              later = omega (arith, at, gone);
+              near = near;
+              on = on;
+              before = λ j past upto. elim (cases_lt j t) [
+                | inl old ↦ (let first = corner.later in
+                    let seen : SeenCorner = record {
+                      from = o;
+                      corner = b;
+                      one = on_curve curve j;
+                      other = p;
+                      ahead = first;
+                      one_beyond = omega (arith, past);
+                      other_beyond = omega (arith, at, gone);
+                    } in
+                    turns_apart side seen (corner.own_within j (omega (arith, past, first)) old) out)
+                | inr new ↦ (let same : j ≡ t = omega (arith, new, upto, at) in
+                    let e : p ≡ on_curve curve j = is ∙ ap (on_curve curve) (sym same) in
+                    subst (λ q. IsWithin side b (on_curve curve j) q) (sym e) (within_itself side b (on_curve curve j)))
+              ];
+              beyond = λ j past upto. absurd (omega (arith, past, upto, at));
+            },
+            chain.1,
+          ))
+    ]
+
+-- the corner becomes the point that the chains begin at
+pub crossing_moves : {side : Side} {curve other : ℕ → ℕ} {t s : ℕ} {o : Point} {own : List Point} {b : Point}
+    {rest : List Point}
+    → IsCrossing side curve other (funnel_reach t s o) own (b ∷ rest) → IsCorner side curve other (funnel_reach t s o) b
+    → IsCrossing side curve other (funnel_reach t s b) own rest
+crossing_moves {side} {curve} {other} {s} {o} {own} {b} state corner =
+    let first = corner.later in
+    record {
+      newest = state.newest;
+      beyond = corner.before_new;
+      not_past = state.not_past;
+      own = own_moves own state.own corner;
+      others = state.others.1;
+      apart = record {
+        apart = λ i j i_past i_before j_past j_upto.
+            let seen : SeenCorner = record {
+              from = o;
+              corner = b;
+              one = on_curve curve i;
+              other = on_curve other j;
+              ahead = first;
+              one_beyond = omega (arith, i_past);
+              other_beyond = omega (arith, j_past);
+            } in
+            turns_apart side seen (corner.own_within i (omega (arith, i_past, first)) i_before)
+            (inside_weaker side o b (on_curve other j) (corner.others_after j j_past j_upto));
+      };
+    }
+
+-- The new point stands within the other chain: so the curves stand apart with it.
+uncrossed_within : {side : Side} {curve other : ℕ → ℕ} {t s : ℕ} {o : Point} {own others : List Point}
+    → IsCrossing side curve other (funnel_reach t s o) own others
+    → IsUncrossed side o others (on_curve curve t) → (j : ℕ) → o.place < j → j ≤ s
+    → IsWithin side o (on_curve curve t) (on_curve other j)
+uncrossed_within {s} {others = []} state un j after upto = absurd (omega (arith, state.others, after, upto))
+uncrossed_within {side} {curve} {other} {t} {o} {others = b ∷ rest} state un j after upto =
+    let edge = state.others.0 in
+    let later = edge.later in
+    let seen : Seen = record { from = o; first = on_curve curve t; second = b; third = on_curve other j } in
+    within_within side seen later un
+    (elim (cases_lt b.place j) [
+      | inl beyond ↦
+          inside_weaker side o b (on_curve other j)
+          (other_inside side o (on_curve other j) b (edge.beyond j beyond upto))
+      | inr before ↦ other_within side o (on_curve other j) b (edge.before j after before)
+    ])
+
+pub apart_again : {side : Side} {curve other : ℕ → ℕ} {t s : ℕ} {o : Point} {own others : List Point}
+    → IsCrossing side curve other (funnel_reach t s o) own others
+    → IsUncrossed side o others (on_curve curve t) → KeepsApart side curve other (funnel_reach (t + 1) s o)
+apart_again {side} {curve} {other} {t} {s} {o} {own} state un = record {
+  apart = λ i j i_after i_before j_after j_upto.
+      elim (cases_lt i t) [
+        | inl old ↦ state.apart.apart i j i_after old j_after j_upto
+        | inr new ↦ (let e : t ≡ i = omega (arith, new, i_before) in
+            subst (λ k. IsWithin side o (on_curve curve k) (on_curve other j)) e
+            (uncrossed_within {own = own} state un j j_after j_upto))
+      ];
+}

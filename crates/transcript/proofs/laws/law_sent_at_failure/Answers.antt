@@ -1,9 +1,0 @@
-use Rattle.transcript.proofs.Failing.{failed_reply, failed_slot}
-use Rattle.transcript.proofs.laws.law_sent_at_failure.Goals as goal
-
-pub returns-clause-slot : goal.returns-clause-slot
-returns-clause-slot c = failed_slot
-
-pub returns-clause-reply : goal.returns-clause-reply
-returns-clause-reply c = λ course round message outcome front new ends.
-    failed_reply course ends

@@ -1,6 +1,0 @@
-pub mod SaidLemmas
-pub mod CauseLemmas
-pub mod CauseOfStatus
-pub mod FaultReading
-pub mod WordLemmas
-pub mod LineReading

@@ -1,0 +1,466 @@
+-- Each kind of step keeps the rule.
+use Rattle.std.proofs.Common.{◌≡◌, ◌≢◌, ◌⊎◌, ℕ, ◌+◌, ◌%◌, ◌^◌, ◌<◌, ◌≤◌, List, [], ◌∷◌, ◌++◌, length, set, get_or}
+use Rattle.std.proofs.Common.{Option, Some, false, refl, ap, sym, ◌∙◌}
+use Rattle.std.proofs.Common.{subst, ⊎_elim, inl, inr, arith, length-append}
+use mathlib.Core.Logic.{dite}
+use mathlib.Core.List.{IsPrefix}
+use mathlib.Core.Option.{some, none}
+use mathlib.Core.Option as maybe
+use native.Mathlib.Decide.{ℕ_discrete}
+use lib.ListN.{get_elem?}
+use lib.Seq.{set-get_or}
+use Rattle.atomic_table.specs.Table.{State, Me, put_back, rest, keeps, takes, gives, Allows}
+use Rattle.atomic_table.proofs.Lists.{set_here, set_else, set_again, one_turn}
+use Rattle.admission.specs.declared.entries.Entry.{Entry}
+use Rattle.turnstile.specs.declared.view.Stage.{Stage}
+use Rattle.turnstile.specs.declared.view.Stage.TheVariants.{Idle, Waits, Holds}
+use Rattle.turnstile.specs.declared.view.Terms.{Terms}
+use Rattle.turnstile.specs.declared.view.View.{View}
+use Rattle.admission.specs.Makers.{entries_by}
+use Rattle.turnstile.specs.TurnRule.{total, pass_count, ticket_count, has_ticket, IsLive, IsTicket, InTurn, Fits}
+use Rattle.turnstile.specs.TurnRule.{Apart, IsAway, IsHome, IsRuled}
+use Rattle.turnstile.specs.TableSeats.{IsFree}
+use Rattle.turnstile.specs.Steps.{HasTaken, IsTurn, Knows, slot_list}
+use Rattle.turnstile.proofs.Prefixes.{prefix_self, prefix_trans, prefix_longer, made_other}
+use Rattle.turnstile.proofs.PassSums.{total_set, tickets_total}
+use Rattle.turnstile.proofs.LivePasses.{lives, waits_in, ticket_or, Free, idle_free, waits_free, ticket_low, turn_more}
+use Rattle.turnstile.proofs.LivePasses.{turn_next, at_inside, apart_both, one_at, restage, refit}
+use Rattle.turnstile.proofs.LivePasses.{live_set, FreeChange, Waiter, Holder, EmptyWaiter, GrownHolder, longer_list}
+
+module _ {B : Type 0} (entries : B → List Entry) (terms_of : B → Terms) (terms : Terms) where
+  abbrev pub St : Type 0
+  St = State (Option B) View
+
+  abbrev pub Homes : Type 0
+  Homes = List (maybe.Option (Option B))
+
+  abbrev pub Rule : St → Type 0
+  Rule = IsRuled entries terms_of terms
+
+  abbrev pub Place : List Entry → St → Type 0
+  Place log s = IsHome entries terms_of terms log s ⊎ IsAway log s
+
+  -- one pass has changed, and with it the words, the homes and the list
+  pub record Change (s : St) (r : Rule s) : Type 0 where
+    pub id : ℕ
+    pub old : View
+    pub new : View
+    pub live : IsLive s.views id old
+    pub left : new.spent ≡ false
+    pub log : List Entry
+    pub drawn : ℕ
+    pub served : ℕ
+    pub words : List ℕ
+    pub homes : Homes
+    pub words_are : words ≡ drawn % 2 ^ 64 ∷ served % 2 ^ 64 ∷ length log % 2 ^ 64 ∷ []
+    pub queue : served + total ticket_count (set s.views id new) ≡ drawn
+    pub makers : (m : ℕ) → r.count < m → entries_by m log ≡ []
+    pub fits : Fits terms log r.count served drawn new
+    pub others : (j : ℕ) (u : View) → j ≢ id → IsLive s.views j u
+        → Fits terms log r.count served drawn u × Apart new u × Apart u new
+    pub place : Place log record { words = words; homes = homes; views = set s.views id new }
+
+  pub changes : (s : St) (r : Rule s) (c : Change s r)
+      → Rule record { words = c.words; homes = c.homes; views = set s.views c.id c.new }
+  changes s r c = record {
+    log = log;
+    count = r.count;
+    drawn = drawn;
+    served = served;
+    words = words_are;
+    few = r.few;
+    queue = queue;
+    passes =
+        (let e = total_set pass_count s.views id v w live.0 in let a = lives v live.1 in let b =
+        lives w left in let p = r.passes in omega arith);
+    makers = makers;
+    each = live_set (λ _ u. Fits terms log r.count served drawn u) s.views id w fits
+        (λ j u other l. (others j u other l).0);
+    apart = λ i j x y ne lx ly. live_set (λ i x. i ≢ j → Apart x y) s.views id w
+        (λ ne. live_set (λ j y. id ≢ j → Apart w y) s.views id w (λ same. absurd (same refl))
+        (λ j y other l _. (others j y other l).1) j y ly ne)
+        (λ i x other l ne. live_set (λ j y. i ≢ j → Apart x y) s.views id w (λ _. (others i x other l).2)
+        (λ j y _ k ne. r.apart i j x y ne l k) j y ly ne)
+        i x lx ne;
+    where_is = place;
+  }
+    where
+      open c use {id, old as v, new as w, live, left, log, drawn, served, words_are, queue, makers, fits, others, place}
+
+  pub place_other : (log : List Entry) (s : St) (c : FreeChange s.views) (words : List ℕ) → Place log s
+      → Place log record { words = words; homes = s.homes; views = set s.views c.id c.new }
+  place_other log s c words (inl h) = inl record {
+    value = h.value;
+    home = h.home;
+    log_is = h.log_is;
+    terms_are = h.terms_are;
+    free = live_set (λ _ u. Free u.stage) s.views id w next (λ j u _ l. h.free j u l);
+  }
+    where
+      open c use {id, new as w, new_free as next}
+  place_other log s c words (inr a) =
+      let other : a.place ≢ id =
+      λ e. idle a.ticket (ap (λ (u : View). u.stage) (one_at s.views live.0 a.live.0 e) ∙ a.holds) in inr record {
+        home = a.home;
+        place = a.place;
+        holder = a.holder;
+        ticket = a.ticket;
+        live = (set_else s.views id a.place w other ∙ a.live.0, a.live.1);
+        holds = a.holds;
+        all = a.all;
+      }
+    where
+      open c use {id, old as v, new as w, live, old_free as idle}
+
+  pub unmoved : (s : St) → Rule s → (i id : ℕ) (v : View) → get_elem? s.views id ≡ some v
+      → Rule record { words = set s.words i (get_or s.words i 0); homes = s.homes; views = set s.views id v }
+  unmoved s r i id v at = subst (λ (x : List ℕ × List View). Rule record { words = x.0; homes = s.homes; views = x.1 })
+      (λ k. (sym (set-get_or s.words i 0) k, sym (set_again s.views id v at) k)) r
+
+  pub reads : (id slots : ℕ) (me : Me (Option B) View) → me.0.spent ≡ false
+      → Allows Rule slots id me 0 (λ n. n) (λ n next. (next ≡ me) × Knows me.0)
+  reads id slots me left s r deep at low = let f = r.each id me.0 (at, left) in (
+    me.0,
+    keeps,
+    tt,
+    unmoved s r 0 id me.0 at,
+    (refl, record { own = f.own; told = f.told; terms = f.told_terms ∙ sym f.terms_are }),
+  )
+
+  pub draws : (id slots : ℕ) (me : Me (Option B) View) → IsFree me
+      → Allows Rule slots id me 0 (λ n. (n + 1) % 2 ^ 64)
+      (λ n next. (t : ℕ) × (n ≡ t % 2 ^ 64) × (next.0 ≡ record me.0 { stage = Waits t }) × (next.1 ≡ []))
+  draws id slots me it s r deep at low =
+      let v = me.0 in let w : View = record v { stage = Waits r.drawn } in let f = r.each id v (at, left) in
+      let q0 : ticket_count v ≡ 0 = waits_in v left ∙ ap has_ticket idle in
+      let q1 : ticket_count w ≡ 1 = waits_in w left in
+      let sums = total_set ticket_count s.views id v w at in
+      let queue = r.queue in (
+        w,
+        keeps,
+        tt,
+        changes s r (record {
+          id = id;
+          old = v;
+          new = w;
+          live = (at, left);
+          left = left;
+          log = r.log;
+          drawn = r.drawn + 1;
+          served = r.served;
+          words = set s.words 0 ((get_or s.words 0 0 + 1) % 2 ^ 64);
+          homes = s.homes;
+          words_are = ap (λ (ws : List ℕ). set ws 0 ((get_or ws 0 0 + 1) % 2 ^ 64)) r.words
+              ∙ ap (λ (k : ℕ). k ∷ r.served % 2 ^ 64 ∷ length r.log % 2 ^ 64 ∷ []) (omega arith);
+          queue = omega arith;
+          makers = r.makers;
+          fits = restage f (omega arith, omega arith);
+          others = λ j u other l. let g = r.each j u l in let a =
+              r.apart id j v u (λ e. other (sym e)) (at, left) l in
+              let b = r.apart j id u v other l (at, left) in let both =
+              apart_both {w = w} {u = u} a.numbers (λ t here there. let h =
+              ticket_low r.served r.drawn t u.stage g.turn there in let e : r.drawn ≡ t = here in let z =
+              h.1 in omega arith) a.past b.past in
+              (refit g (turn_more r.served r.drawn u.stage g.turn), both.0, both.1);
+          place = place_other r.log s
+              (record {
+                id = id;
+                old = v;
+                new = w;
+                live = (at, left);
+                old_free = idle_free v.stage idle;
+                new_free = waits_free w.stage r.drawn refl;
+              })
+              (set s.words 0 ((get_or s.words 0 0 + 1) % 2 ^ 64)) r.where_is;
+        }),
+        (r.drawn, ap (λ (ws : List ℕ). get_or ws 0 0) r.words, refl, free),
+      )
+    where
+      open it use {left, idle, empty as free}
+
+  -- who holds a ticket that is served finds the value at home, while nobody has the turn
+  at_home : (s : St) (r : Rule s) (waiter : Waiter s.views) → waiter.ticket ≡ r.served
+      → IsHome entries terms_of terms r.log s
+  at_home s r waiter now = ⊎_elim (λ (h : IsHome entries terms_of terms r.log s). h)
+      (λ (a : IsAway r.log s).
+      let other : id ≢ a.place =
+      λ e. waits_free v.stage t is a.ticket (ap (λ (u : View). u.stage) (one_at s.views live.0 a.live.0 (sym e))
+      ∙ a.holds) in
+      let apart = r.apart id a.place v a.holder other live a.live in
+      let turn : InTurn r.served r.drawn (Holds a.ticket) =
+      subst (InTurn r.served r.drawn) a.holds (r.each a.place a.holder a.live).turn in
+      absurd (apart.tickets r.served (subst (λ (st : Stage). IsTicket st r.served) (sym is) now)
+      (subst (λ (st : Stage). IsTicket st r.served) (sym a.holds) turn.0)))
+      r.where_is
+    where
+      open waiter use {id, view as v, live, ticket as t, waits as is}
+
+  took : (s : St) (r : Rule s) (waiter : Waiter s.views) (h : IsHome entries terms_of terms r.log s)
+      → waiter.ticket ≡ r.served
+      → Rule record {
+        words = set s.words 1 (get_or s.words 1 0);
+        homes = set s.homes 0 none;
+        views = set s.views waiter.id (record waiter.view { stage = Holds waiter.ticket; seen = entries h.value });
+      }
+  took s r waiter h now =
+      let at = waiter.live.0 in let left = waiter.live.1 in
+      let w : View = record v { stage = Holds t; seen = entries h.value } in let f = r.each id v (at, left) in
+      let low : (r.served ≤ t) × (t < r.drawn) =
+      ticket_low r.served r.drawn t v.stage f.turn (subst (λ (st : Stage). IsTicket st t) (sym is) refl) in
+      let q0 : ticket_count v ≡ 1 = waits_in v left ∙ ap has_ticket is in
+      let q1 : ticket_count w ≡ 1 = waits_in w left in
+      let sums = total_set ticket_count s.views id v w at in
+      let queue = r.queue in
+      let drawn = low.1 in
+      changes s r (record {
+        id = id;
+        old = v;
+        new = w;
+        live = (at, left);
+        left = left;
+        log = r.log;
+        drawn = r.drawn;
+        served = r.served;
+        words = set s.words 1 (get_or s.words 1 0);
+        homes = set s.homes 0 none;
+        words_are = set-get_or s.words 1 0 ∙ r.words;
+        queue = omega arith;
+        makers = r.makers;
+        fits = record {
+          terms_are = f.terms_are;
+          told_terms = f.told_terms;
+          seen = subst (λ (l : List Entry). IsPrefix l r.log) (sym h.log_is) (prefix_self r.log);
+          told = subst (IsPrefix v.told) (sym h.log_is) (prefix_trans v.told v.seen r.log f.told f.seen);
+          mine = f.mine;
+          own = f.mine ∙ ap (entries_by v.number) (sym h.log_is);
+          past = f.past;
+          few = f.few;
+          first = f.first;
+          turn = (now, drawn);
+        };
+        others = λ j u other l. let g = r.each j u l in let a =
+            r.apart id j v u (λ e. other (sym e)) (at, left) l in
+            let b = r.apart j id u v other l (at, left) in let both =
+            apart_both {w = w} {u = u} a.numbers
+            (λ x here there. a.tickets x (subst (λ (st : Stage). IsTicket st x) (sym is) here) there) a.past b.past in
+            (g, both.0, both.1);
+        place = inr record {
+          home = ap (λ (hs : Homes). set hs 0 none) h.home;
+          place = id;
+          holder = w;
+          ticket = t;
+          live = (set_here s.views id w (at_inside s.views id v at), left);
+          holds = refl;
+          all = h.log_is;
+        };
+      })
+    where
+      open waiter use {id, view as v, ticket as t, waits as is}
+
+  pub looks : (id slots : ℕ) (me : Me (Option B) View) → EmptyWaiter me
+      → Allows Rule slots id me 1 (λ n. n) (λ n next. (u : ℕ) → me.0.stage ≡ Waits u
+      → (n ≡ u % 2 ^ 64 → HasTaken entries terms_of u me next) × (n ≢ u % 2 ^ 64 → next ≡ me))
+  looks id slots me it s r deep at low =
+      let v = me.0 in let f = r.each id v (at, left) in
+      let word : get_or s.words 1 0 ≡ r.served % 2 ^ 64 = ap (λ (ws : List ℕ). get_or ws 1 0) r.words in
+      let here : (r.served ≤ t) × (t < r.drawn) =
+      ticket_low r.served r.drawn t v.stage f.turn (subst (λ (st : Stage). IsTicket st t) (sym is) refl) in
+      let queue = r.queue in let few = r.few in let passes = r.passes in let less = tickets_total s.views in
+      let first = here.0 in let drawn = here.1 in
+      dite (ℕ_discrete (get_or s.words 1 0) (t % 2 ^ 64))
+      (λ (hit : get_or s.words 1 0 ≡ t % 2 ^ 64).
+      let same : r.served ≡ t = one_turn r.served t (2 ^ 64) first (omega arith) (sym word ∙ hit) in
+      let waiter : Waiter s.views = record { id = id; view = v; live = (at, left); ticket = t; waits = is } in
+      let h = at_home s r waiter (sym same) in
+      let w : View = record v { stage = Holds t; seen = entries h.value } in (
+        w,
+        takes 0 (Some h.value),
+        ap (λ (hs : Homes). get_elem? hs 0) h.home,
+        took s r waiter h (sym same),
+        λ u is'. let e : t ≡ u = ap ticket_or (sym is ∙ is') in (
+          (λ _. subst (λ (x : ℕ). HasTaken entries terms_of x me (w, (0, Some h.value) ∷ me.1)) e record {
+            value = h.value;
+            view = refl;
+            slot = ap (λ (cs : List (ℕ × Option B)). (0, Some h.value) ∷ cs) free;
+            terms = h.terms_are ∙ sym f.terms_are;
+            longer = subst (IsPrefix v.seen) (sym h.log_is) f.seen;
+            own = f.mine ∙ ap (entries_by v.number) (sym h.log_is);
+          }),
+          (λ miss. absurd {A = (w, (0, Some h.value) ∷ me.1) ≡ me} (miss (hit ∙ ap (λ (x : ℕ). x % 2 ^ 64) e))),
+        ),
+      ))
+      (λ (miss : get_or s.words 1 0 ≢ t % 2 ^ 64). (
+        v,
+        keeps,
+        tt,
+        unmoved s r 1 id v at,
+        λ u is'. let e : t ≡ u = ap ticket_or (sym is ∙ is') in (
+          (λ hit. absurd (miss (hit ∙ ap (λ (x : ℕ). x % 2 ^ 64) (sym e)))),
+          (λ _. refl),
+        ),
+      ))
+    where
+      open it use {ticket as t, left, waits as is, empty as free}
+
+  -- who has the turn is the holder of the value that is away
+  pub holder_here : (s : St) (r : Rule s) (holder : Holder s.views)
+      → (s.homes ≡ none ∷ []) × (holder.view.seen ≡ r.log) × (holder.ticket ≡ r.served) × (holder.ticket < r.drawn)
+  holder_here s r holder =
+      let turn : InTurn r.served r.drawn (Holds t) = subst (InTurn r.served r.drawn) is (r.each id v live).turn in
+      ⊎_elim
+      (λ (h : IsHome entries terms_of terms r.log s). absurd (h.free id v live t is))
+      (λ (a : IsAway r.log s).
+      let theirs : InTurn r.served r.drawn (Holds a.ticket) =
+      subst (InTurn r.served r.drawn) a.holds (r.each a.place a.holder a.live).turn in
+      let same : a.place ≡ id =
+      dite (ℕ_discrete a.place id) (λ e. e)
+      (λ (ne : a.place ≢ id). absurd ((r.apart a.place id a.holder v ne a.live live).tickets r.served
+      (subst (λ (st : Stage). IsTicket st r.served) (sym a.holds) theirs.0)
+      (subst (λ (st : Stage). IsTicket st r.served) (sym is) turn.0))) in
+      (a.home, ap (λ (u : View). u.seen) (one_at s.views live.0 a.live.0 same) ∙ a.all, turn.0, turn.1))
+      r.where_is
+    where
+      open holder use {id, view as v, live, ticket as t, holds as is}
+
+  counted : (s : St) (r : Rule s) (holder : Holder s.views) (e : Entry) → e.maker ≡ holder.view.number
+      → Rule record {
+        words = set s.words 2 ((get_or s.words 2 0 + 1) % 2 ^ 64);
+        homes = s.homes;
+        views = set s.views holder.id
+            (record holder.view
+            { seen = holder.view.seen ++ e ∷ []; mine = entries_by holder.view.number (holder.view.seen ++ e ∷ []) });
+      }
+  counted s r holder e own =
+      let w : View = record v { seen = v.seen ++ e ∷ []; mine = entries_by v.number (v.seen ++ e ∷ []) } in
+      let f = r.each id v live in let h = holder_here s r holder in
+      let log : List Entry = r.log ++ e ∷ [] in
+      let all : v.seen ++ e ∷ [] ≡ log = ap (λ (l : List Entry). l ++ e ∷ []) h.1 in
+      let queue = r.queue in
+      let q0 : ticket_count v ≡ ticket_count w = refl in
+      let sums = total_set ticket_count s.views id v w live.0 in
+      changes s r (record {
+        id = id;
+        old = v;
+        new = w;
+        live = live;
+        left = live.1;
+        log = log;
+        drawn = r.drawn;
+        served = r.served;
+        words = set s.words 2 ((get_or s.words 2 0 + 1) % 2 ^ 64);
+        homes = s.homes;
+        words_are = ap (λ (ws : List ℕ). set ws 2 ((get_or ws 2 0 + 1) % 2 ^ 64)) r.words
+            ∙ ap (λ (k : ℕ). r.drawn % 2 ^ 64 ∷ r.served % 2 ^ 64 ∷ k ∷ []) (let n = length-append r.log (e ∷ []) in
+            omega arith);
+        queue = omega arith;
+        makers = λ m more. made_other m r.log e (λ same. let few = f.few in omega arith) ∙ r.makers m more;
+        fits = record {
+          terms_are = f.terms_are;
+          told_terms = f.told_terms;
+          seen = subst (λ (l : List Entry). IsPrefix l log) (sym all) (prefix_self log);
+          told = prefix_longer v.told v.seen (e ∷ []) f.told;
+          mine = ap (entries_by v.number) all;
+          own = refl;
+          past = λ k j at. let p =
+              f.past k j at in
+              record {
+                mine = p.mine ∙ sym (made_other j.number r.log e (λ same. p.other (sym same ∙ own)));
+                few = p.few;
+                other = p.other;
+              };
+          few = f.few;
+          first = f.first;
+          turn = f.turn;
+        };
+        others = λ j u other l. let g = r.each j u l in let a =
+            r.apart id j v u (λ z. other (sym z)) live l in let b = r.apart j id u v other l live in let both =
+            apart_both {w = w} {u = u} a.numbers a.tickets a.past b.past in (
+              longer_list e g (λ same. a.numbers (sym own ∙ same)) (λ k j' at same. b.past k j' at (sym same ∙ own)),
+              both.0,
+              both.1,
+            );
+        place = inr record {
+          home = h.0;
+          place = id;
+          holder = w;
+          ticket = t;
+          live = (set_here s.views id w (at_inside s.views id v live.0), live.1);
+          holds = is;
+          all = all;
+        };
+      })
+    where
+      open holder use {id, view as v, live, ticket as t, holds as is}
+
+  pub counts_entry : (id slots : ℕ) (me : Me (Option B) View) → GrownHolder entries me
+      → Allows Rule slots id me 2 (λ n. (n + 1) % 2 ^ 64)
+      (λ n next. (next.0
+      ≡ record me.0 { seen = slot_list entries me.1; mine = entries_by me.0.number (slot_list entries me.1) })
+      × (next.1 ≡ me.1))
+  counts_entry id slots me it s r deep at low = (
+    record me.0 { seen = me.0.seen ++ e ∷ []; mine = entries_by me.0.number (me.0.seen ++ e ∷ []) },
+    keeps,
+    tt,
+    counted s r (record { id = id; view = me.0; live = (at, left); ticket = t; holds = is }) e own,
+    (
+      ap (λ (l : List Entry). let w : View = record me.0 { seen = l; mine = entries_by me.0.number l } in w)
+          (sym list),
+      refl,
+    ),
+  )
+    where
+      open it use {ticket as t, entry as e, left, holds as is, own, list_is as list}
+
+  pub leaves : (id slots : ℕ) (me : Me (Option B) View) {value : B} → IsTurn me (Some value)
+      → entries value ≡ me.0.seen → terms_of value ≡ me.0.terms
+      → Allows Rule slots id me 1 (λ n. (n + 1) % 2 ^ 64) (λ n next. (next.0 ≡ record me.0 { stage = Idle })
+      × (next.1 ≡ []))
+  leaves id slots me {value} it list same s r deep at low =
+      let v = me.0 in let w : View = record v { stage = Idle } in let f = r.each id v (at, left) in let h =
+      holder_here s r (record { id = id; view = v; live = (at, left); ticket = number; holds = is }) in
+      let q0 : ticket_count v ≡ 1 = waits_in v left ∙ ap has_ticket is in
+      let q1 : ticket_count w ≡ 0 = waits_in w left in
+      let sums = total_set ticket_count s.views id v w at in
+      let queue = r.queue in
+      let not_now : (j : ℕ) (u : View) → j ≢ id → IsLive s.views j u → IsTicket u.stage r.served → ⊥ =
+      λ j u other l there. (r.apart j id u v other l (at, left)).tickets r.served there
+      (subst (λ (st : Stage). IsTicket st r.served) (sym is) h.2) in (
+        w,
+        gives,
+        tt,
+        changes s r (record {
+          id = id;
+          old = v;
+          new = w;
+          live = (at, left);
+          left = left;
+          log = r.log;
+          drawn = r.drawn;
+          served = r.served + 1;
+          words = set s.words 1 ((get_or s.words 1 0 + 1) % 2 ^ 64);
+          homes = put_back s.homes me.1;
+          words_are = ap (λ (ws : List ℕ). set ws 1 ((get_or ws 1 0 + 1) % 2 ^ 64)) r.words
+              ∙ ap (λ (k : ℕ). r.drawn % 2 ^ 64 ∷ k ∷ length r.log % 2 ^ 64 ∷ []) (omega arith);
+          queue = omega arith;
+          makers = r.makers;
+          fits = restage f tt;
+          others = λ j u other l. let g = r.each j u l in let a =
+              r.apart id j v u (λ e. other (sym e)) (at, left) l in
+              let b = r.apart j id u v other l (at, left) in let both =
+              apart_both {w = w} {u = u} a.numbers (λ x here there. absurd here) a.past b.past in
+              (refit g (turn_next r.served r.drawn u.stage g.turn (not_now j u other l)), both.0, both.1);
+          place = inl record {
+            value = value;
+            home = ap (put_back s.homes) slot ∙ ap (λ (hs : Homes). set hs 0 (some (Some value))) h.0;
+            log_is = list ∙ h.1;
+            terms_are = same ∙ f.terms_are;
+            free = live_set (λ _ u. Free u.stage) s.views id w (idle_free Idle refl)
+                (λ j u other l x holds. let theirs : InTurn r.served r.drawn (Holds x) =
+                subst (InTurn r.served r.drawn) holds (r.each j u l).turn in
+                not_now j u other l (subst (λ (st : Stage). IsTicket st r.served) (sym holds) theirs.0));
+          };
+        }),
+        (refl, ap rest slot),
+      )
+    where
+      open it use {number, left, stage as is, held as slot}

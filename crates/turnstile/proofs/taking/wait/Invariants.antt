@@ -1,6 +1,0 @@
-use Rattle.std.proofs.Common.{◌≡◌, ◌≤◌}
-use Rattle.turnstile.specs.Sized.{IsSame}
-use Rattle.turnstile.proofs.taking.wait.Given as goal
-
-abbrev pub invariant-loop : goal.invariant-loop
-invariant-loop g l = IsSame l.initial.place l.place × (l.place.me ≡ l.initial.place.me) × (l.tries ≤ 64)

@@ -1,5 +1,0 @@
-use Rattle.vod_base.proofs.LineText.{blank_is, is_blank_of}
-use Rattle.vod_base.proofs.laws.law_blanks.Goals as goal
-
-pub returns : goal.returns
-returns c = λ byte. (λ blank. blank_is byte blank, λ at. is_blank_of byte at)

@@ -1,8 +1,0 @@
-use Rattle.vod_base.proofs.LineText.{first_found, none_found}
-use Rattle.vod_base.proofs.laws.law_first_file.Goals as goal
-
-pub returns-clause-first : goal.returns-clause-first
-returns-clause-first c = first_found
-
-pub returns-clause-none : goal.returns-clause-none
-returns-clause-none c = none_found

@@ -1,0 +1,49 @@
+use Rattle.std.proofs.Common.{rules, ◌∙◌, ◌<◌, ◌≤◌, length}
+use Rattle.vod_base.specs.declared.memory_links.Event.TheVariants.{Bytes, Slot, End}
+use Rattle.vod_base.proofs.EventDelivery.{IsAt, IsPassed, IsInFront, IsFrontOut, empty_passed, slot_out, end_out}
+use Rattle.vod_base.proofs.EventDelivery.{bytes_out, none_out}
+use Rattle.vod_base.proofs.memory_links.next_event.Goals as goal
+
+pub loop-bytes-preserved : goal.loop-bytes-preserved
+loop-bytes-preserved c =
+    let at : IsAt c.args.events.now c.loop-bytes.front.event (Bytes c.in-Some-Bytes.bytes) =
+    record { inside = search rules; is = search rules } in
+    let none : length c.in-Some-Bytes.bytes.items ≤ c.loop-bytes.front.offset = search rules in
+    let passed : IsPassed c.loop-bytes.front c.pass.new.self =
+    record { event = c.pass.ensures.event; offset = c.pass.ensures.offset } in
+    empty_passed at none passed ∙ c.loop-bytes.invariant
+
+pub returns-in-Some-Bytes-get-clause-front : goal.returns-in-Some-Bytes-get-clause-front
+returns-in-Some-Bytes-get-clause-front c =
+    let at : IsInFront c.args.events.now c.args.front.now c.loop-bytes.front (Bytes c.in-Some-Bytes-get.bytes) =
+    record { passed = c.loop-bytes.invariant; is = record { inside = search rules; is = search rules } } in
+    let some : c.loop-bytes.front.offset < length c.in-Some-Bytes-get.bytes.items = search rules in
+    let out : IsFrontOut c.in-Some-Bytes-get.bytes.items c.copy_from-count.new.into c.loop-bytes.front.offset
+    c.copy_from-count.result =
+    record {
+      some = some;
+      most = rw (← c.deref.ensures.value) c.copy_from-count.ensures.most;
+      front = rw (← c.deref.ensures.value) c.copy_from-count.ensures.read.front;
+    } in
+    bytes_out at out
+
+pub returns-in-Some-Slot-clause-front : goal.returns-in-Some-Slot-clause-front
+returns-in-Some-Slot-clause-front c =
+    let at : IsInFront c.args.events.now c.args.front.now c.loop-bytes.front (Slot c.in-Some-Slot.slot) =
+    record { passed = c.loop-bytes.invariant; is = record { inside = search rules; is = search rules } } in
+    let passed : IsPassed c.loop-bytes.front c.pass-in-Some-Slot.new.self =
+    record { event = c.pass-in-Some-Slot.ensures.event; offset = c.pass-in-Some-Slot.ensures.offset } in
+    slot_out (length c.args.into.now) at passed
+
+pub returns-in-Some-End-clause-front : goal.returns-in-Some-End-clause-front
+returns-in-Some-End-clause-front c =
+    let at : IsInFront c.args.events.now c.args.front.now c.loop-bytes.front End =
+    record { passed = c.loop-bytes.invariant; is = record { inside = search rules; is = search rules } } in
+    let passed : IsPassed c.loop-bytes.front c.pass-in-Some-End.new.self =
+    record { event = c.pass-in-Some-End.ensures.event; offset = c.pass-in-Some-End.ensures.offset } in
+    end_out (length c.args.into.now) at passed
+
+pub returns-in-None-clause-front : goal.returns-in-None-clause-front
+returns-in-None-clause-front c =
+    let past : length c.args.events.now ≤ c.loop-bytes.front.event = search rules in
+    none_out c.args.events.now c.args.front.now c.loop-bytes.front (length c.args.into.now) c.loop-bytes.invariant past

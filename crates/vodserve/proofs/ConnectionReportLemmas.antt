@@ -1,0 +1,292 @@
+-- Each connection of a server, and what its report tells of the journal.
+use Rattle.std.proofs.Common.{◌≡◌, ◌≢◌, ◌∙◌, ◌+◌, ◌<◌, ℕ, List, [], ◌∷◌, ◌++◌, length, Option, Some}
+use Rattle.std.proofs.Common.{None, inl, inr, sym, ap, subst, refl, suc, zero, arith, get_or}
+use Rattle.std.specs.Prelude.{All, IfSome, map, slice_index_or}
+use mathlib.Core.List.{IsPrefix}
+use Rattle.std.proofs.lemmas.List.Elements.{All-append, All-cons, All-head, All-map, All-nil, All-tail}
+use Rattle.vod_base.specs.Gates.{Content, Part, ReturnedConn}
+use Rattle.film_frames.specs.declared.stored_films.Stored.{Stored}
+use Rattle.admission.specs.declared.entries.Entry.{Entry}
+use Rattle.admission.specs.Histories.{IsLegal}
+use Rattle.admission.specs.Makers.{PlacedEntry, entries_by}
+use Rattle.session.specs.declared.notes.Receipt.{Receipt}
+use Rattle.session.specs.declared.notes.Receipt.TheVariants.{Entry as EntryReceipt, Full as FullReceipt}
+use Rattle.session.specs.declared.settings.Settings.{Settings}
+use Rattle.station.specs.Seats.{SeatState}
+use Rattle.station.proofs.Makers.{IsAt, all_at}
+use Rattle.turnstile.proofs.Prefixes.{prefix_self, prefix_trans}
+use Rattle.conn.specs.Agreement.{Agrees, AgreesIfObserved, Visit, visit}
+use Rattle.conn.specs.Journals.{Terms, terms_of}
+use Rattle.conn.specs.ReservationInvariant.{Closed, entry_receipts, open_play_from, receipt_for}
+use Rattle.conn.specs.Parts.{AreServed, AreReported, HasServed, HasServedOne, WorkerGate, entries_reported}
+use Rattle.conn.specs.declared.reports.ConnReport.{ConnReport}
+use Rattle.conn.specs.declared.reports.PartEnd.TheVariants.{NoMemory as PartNoMemory}
+use Rattle.conn.specs.declared.reports.PartReport.{PartReport}
+use Rattle.conn.proofs.Journals.{terms_same}
+use Rattle.conn.proofs.Visits.{agrees_longer, one_agrees}
+use Rattle.cli_args.specs.Invocations.{ServeArgs}
+use Rattle.vodserve.specs.Laws.{IsReceiptIn, IsReportIn, IsServedPart, EveryConnectionIsCorrect, ReportsMatchJournal}
+use Rattle.vodserve.specs.Run.{HasServed as HasServedFilms}
+use Rattle.vodserve.specs.IoStates.{World}
+use Rattle.vodserve.specs.declared.run_results.Ended.{Ended}
+use Rattle.vodserve.specs.WorkerResults.{AreWorkerResults, IsPartBack, IsWorkerResult, IsOpenedOnce, ServerRun}
+use Rattle.vodserve.specs.WorkerResults.{all_reports, settings_of}
+use Rattle.vodserve.proofs.ServeSpecLemmas.{HasRunAll, ended_whole, given_back, run_all, work_of, worker_of}
+
+all_left : {A : Type 0} (P : A → Type 0) (xs ys : List A) → All P (xs ++ ys) → All P xs
+all_left P [] ys all = All-nil P
+all_left P (x ∷ xs) ys all =
+    All-cons P x xs (All-head P x (xs ++ ys) all) (all_left P xs ys (All-tail P x (xs ++ ys) all))
+
+all_right : {A : Type 0} (P : A → Type 0) (xs ys : List A) → All P (xs ++ ys) → All P ys
+all_right P [] ys all = all
+all_right P (x ∷ xs) ys all = all_right P xs ys (All-tail P x (xs ++ ys) all)
+
+-- ---- receipts
+
+-- what holds of the receipts of entries holds of all, where it says nothing of the others
+all_receipts : (journal : List Entry) (seat : ℕ) (receipts : List Receipt)
+    → All (IsReceiptIn journal seat) (entry_receipts receipts) → All (IsReceiptIn journal seat) receipts
+all_receipts journal seat [] all = all
+all_receipts journal seat (EntryReceipt place answer ∷ rest) all =
+    All-cons (IsReceiptIn journal seat) (EntryReceipt place answer) rest
+    (All-head (IsReceiptIn journal seat) (EntryReceipt place answer) (entry_receipts rest) all)
+    (all_receipts journal seat rest
+    (All-tail (IsReceiptIn journal seat) (EntryReceipt place answer) (entry_receipts rest) all))
+all_receipts journal seat (FullReceipt entries live ∷ rest) all =
+    All-cons (IsReceiptIn journal seat) (FullReceipt entries live) rest tt (all_receipts journal seat rest all)
+
+-- the receipt for an entry of a seat tells that entry
+receipt_in : (journal : List Entry) (seat : ℕ) (placed : PlacedEntry)
+    → ((none : Entry) → IsAt 0 seat none journal placed) → IsReceiptIn journal seat (receipt_for placed)
+receipt_in journal seat placed at =
+    let here : IsAt 0 seat placed.entry journal placed = at placed.entry in (
+      omega (arith, here.place_is, here.inside),
+      λ none.
+          let own : IsAt 0 seat none journal placed = at none in
+          let place : placed.place ≡ own.at = omega (arith, own.place_is) in (
+            ap (λ (k : ℕ). (get_or journal k none).maker) place ∙ own.maker_is,
+            ap (λ (k : ℕ). (get_or journal k none).answer) place ∙ ap (λ (e : Entry). e.answer) (sym own.entry_is),
+          ),
+    )
+
+made_receipts : (journal : List Entry) (seat : ℕ) →
+    All (IsReceiptIn journal seat) (map receipt_for (entries_by seat journal))
+made_receipts journal seat =
+    All-map (IsReceiptIn journal seat) receipt_for (entries_by seat journal)
+    (λ i d inside. receipt_in journal seat (slice_index_or (entries_by seat journal) i d)
+    (λ none. all_at 0 seat none journal i d inside))
+
+-- all receipts of reports
+told_receipts : (journal : List Entry) (seat : ℕ) (reports : List ConnReport) →
+    All (IsReceiptIn journal seat) (entries_reported reports) →
+    All (λ (report : ConnReport). All (IsReceiptIn journal seat) report.receipts.items) reports
+told_receipts journal seat [] all =
+    All-nil (λ (report : ConnReport). All (IsReceiptIn journal seat) report.receipts.items)
+told_receipts journal seat (report ∷ reports) all =
+    let own : List Receipt = entry_receipts report.receipts.items in
+    All-cons (λ (r : ConnReport). All (IsReceiptIn journal seat) r.receipts.items) report reports
+    (all_receipts journal seat report.receipts.items
+    (all_left (IsReceiptIn journal seat) own (entries_reported reports) all))
+    (told_receipts journal seat reports (all_right (IsReceiptIn journal seat) own (entries_reported reports) all))
+
+-- all that a worker's seat made was made by its connections
+made_all : {work : ServerRun} {worker : ℕ} {gate gate' : WorkerGate} {report : PartReport}
+    (worked : IsWorkerResult work gate gate' worker report) →
+    worked.served.entries.made ≡ entries_by (worker + 1) work.journal
+made_all worked =
+    ap (λ (m : List PlacedEntry). m ++ worked.served.entries.made) (sym worked.mine) ∙ sym worked.served.entries.mine_is
+    ∙ worked.made
+
+-- the reports of a worker
+part_told : {work : ServerRun} {worker : ℕ} {gate gate' : WorkerGate} {report : PartReport} →
+    IsWorkerResult work gate gate' worker report → All (IsReportIn work.journal) report.reports.items
+part_told {work} {worker = k} {report} worked =
+    let journal = work.journal in
+    let reports = report.reports.items in
+    let entries : HasServed worked.seat.mine reports worked.left.mine = worked.served.entries in
+    let made : entries.made ≡ entries_by (k + 1) journal = made_all worked in
+    let receipts : All (IsReceiptIn journal (k + 1)) (entries_reported reports) =
+    subst (All (IsReceiptIn journal (k + 1))) (ap (map receipt_for) (sym made) ∙ sym entries.receipts_are)
+    (made_receipts journal (k + 1)) in
+    let all = told_receipts journal (k + 1) reports receipts in
+    λ i none inside.
+    subst (λ (n : ℕ). All (IsReceiptIn journal (n + 1)) (slice_index_or reports i none).receipts.items)
+    (sym (worked.served.reports.worker_is i none inside)) (all i none inside)
+
+parts_told : (work : ServerRun) (gate gate' : WorkerGate) (from : ℕ) (parts : List PartReport) →
+    AreWorkerResults work gate gate' from parts → All (IsReportIn work.journal) (all_reports parts)
+parts_told work gate gate' from [] all = All-nil (IsReportIn work.journal)
+parts_told work gate gate' from (part ∷ parts) all =
+    All-append (IsReportIn work.journal) part.reports.items (all_reports parts) (part_told all.0)
+    (parts_told work gate gate' (from + 1) parts all.1)
+
+-- the reports are those of the workers
+reports_whole : {before after : World} {seed : List ℕ} {serving : ServeArgs} {ended : Ended}
+    (served : HasServedFilms before after seed serving ended) → served.end ≢ PartNoMemory →
+    ended.reports.items ≡ all_reports served.worked.parts
+reports_whole served found = elim served.worked.left.whole [
+  | inl memory ↦ absurd (found memory)
+  | inr whole ↦ whole
+]
+
+pub tells_its_journal : ReportsMatchJournal
+tells_its_journal before after seed serving ended (inl kept) status =
+    subst (All (IsReportIn ended.journal.items)) (sym kept.1.2.1) (All-nil (IsReportIn ended.journal.items))
+tells_its_journal before after seed serving ended (inr served) status =
+    subst (All (IsReportIn ended.journal.items))
+    (sym (reports_whole served (ended_whole before after _ served.ends status)))
+    (parts_told (work_of served) before.gate _ 0 served.worked.parts served.worked.each)
+
+-- ---- connections
+
+-- a connection adds to what its seat made and to what it has seen, under the same terms
+pub record GoesOn (old new : SeatState) : Type 0 where
+  pub terms : terms_of new ≡ terms_of old
+  pub mine : IsPrefix old.mine new.mine
+  pub seen : IsPrefix old.seen new.seen
+
+same_on : (old new : SeatState) → new ≡ old → GoesOn old new
+same_on old new same =
+    subst (GoesOn old) (sym same) (record { terms = refl; mine = prefix_self old.mine; seen = prefix_self old.seen })
+
+one_on : {films : List Stored} {settings : Settings} {returned : ReturnedConn} {report : ConnReport}
+    {old new : SeatState} → HasServedOne films settings returned report old new →
+    GoesOn old new
+one_on {returned} {old} {new} one = elim one.served [
+  | inl from ↦ record {
+    terms = terms_same from.ended.seat new from.closes.noted.seat
+        ∙ terms_same old from.ended.seat from.course.noted.seat;
+    mine = prefix_trans old.mine from.ended.seat.mine new.mine (_, sym from.course.noted.mine)
+        (_, sym from.closes.noted.mine);
+    seen = prefix_trans old.seen from.ended.seat.seen new.seen from.course.noted.seat.longer
+        from.closes.noted.seat.longer;
+  }
+  | inr nothing ↦ same_on old new nothing.seat
+]
+
+all_on : {old new : SeatState} (films : List Stored) (settings : Settings) (back : List ReturnedConn)
+    (reports : List ConnReport) →
+    AreServed films settings old back reports new → GoesOn old new
+all_on {old} {new} films settings [] [] served = same_on old new served
+all_on {new} films settings [] (report ∷ reports) served = absurd served
+all_on {new} films settings (returned ∷ back) [] served = absurd served
+all_on {old} {new} films settings (returned ∷ back) (report ∷ reports) served =
+    let one = one_on served.1.0 in
+    let rest = all_on films settings back reports served.1.1 in
+    record {
+      terms = rest.terms ∙ one.terms;
+      mine = prefix_trans old.mine served.0.mine new.mine one.mine rest.mine;
+      seen = prefix_trans old.seen served.0.seen new.seen one.seen rest.seen;
+    }
+
+-- one of the connections that came back, with the report at its place
+record IsOne (films : List Stored) (settings : Settings) (returned : ReturnedConn) (report : ConnReport)
+    (first left : SeatState) : Type 0 where
+  old : SeatState
+  new : SeatState
+  terms : terms_of new ≡ terms_of first
+  served : HasServedOne films settings returned report old new
+  on : GoesOn new left
+
+-- a place among the connections that were given back
+record InsideBack (back : List ReturnedConn) (k : ℕ) : Type 0 where
+  none : ReturnedConn
+  no_report : ConnReport
+  inside : k < length back
+
+one_at : {films : List Stored} {settings : Settings} {old new : SeatState} (back : List ReturnedConn)
+    (reports : List ConnReport) → AreServed films settings old back reports new → (k : ℕ) (here : InsideBack back k) →
+    IsOne films settings (slice_index_or back k here.none) (slice_index_or reports k here.no_report) old new
+one_at {new} [] reports served k here = absurd (omega (arith, here.inside))
+one_at {new} (returned ∷ back) [] served k here = absurd served
+one_at {films} {settings} {old} {new} (returned ∷ back) (report ∷ reports) served zero here = record {
+  old = old;
+  new = served.0;
+  terms = (one_on served.1.0).terms;
+  served = served.1.0;
+  on = all_on films settings back reports served.1.1;
+}
+one_at {old} {new} (returned ∷ back) (report ∷ reports) served (suc k) here =
+    let rest = one_at back reports served.1.1 k
+    (record { none = none; no_report = no_report; inside = omega (arith, inside) }) in
+    record {
+      old = rest.old;
+      new = rest.new;
+      terms = rest.terms ∙ (one_on served.1.0).terms;
+      served = rest.served;
+      on = rest.on;
+    }
+  where
+    open here use {none, no_report, inside}
+
+-- it agrees with the journal in which its seat's worker left what it had seen
+one_agrees_in : {films : List Stored} {settings : Settings} {returned : ReturnedConn} {report : ConnReport}
+    {first left : SeatState} {terms : Terms} {journal : List Entry} →
+    (one : IsOne films settings returned report first left) → terms_of first ≡ terms → IsPrefix left.seen journal →
+    IsLegal terms.steps journal → AgreesIfObserved (visit films settings returned report) terms journal
+one_agrees_in {films} {settings} {returned} {report} {left} {journal} one terms_is seen legal = λ told tells found.
+    let served : Visit = visit films settings returned report in
+    agrees_longer
+    (subst (λ t. Agrees served t one.new.seen) (one.terms ∙ terms_is) (one_agrees served one.served told tells found))
+    (prefix_trans one.new.seen left.seen journal one.on.seen seen) legal
+
+part_served : {work : ServerRun} {gate gate' : WorkerGate} {content : Content} {worker : ℕ} {report : PartReport} →
+    IsLegal work.serving.capacity work.journal → IsWorkerResult work gate gate' worker report → gate'.told ≡ Some
+    content →
+    (part : Part)
+    × ((slice_index_or content.parts worker None ≡ Some part) × IsServedPart work worker part report.reports.items)
+part_served {work} {content} {worker} {report} legal worked told =
+    let settings = settings_of work.serving in
+    let reports = report.reports.items in
+    let back : IsPartBack worker worked.after.told content =
+    subst (λ (t : Option Content). IfSome t (IsPartBack worker worked.after.told)) told worked.back in
+    let served : AreServed work.films settings worked.seat back.0.own.back reports worked.left =
+    subst (λ (t : Option Content). AreReported work.films settings t reports worked.seat worked.left) back.1.0
+    worked.served.connections in
+    let long : length back.0.own.back ≡ length reports =
+    (given_back worked.part back.0 worked.after.told (length reports) worked.served.served back.1.0).1 in (
+      back.0.own,
+      (
+        back.1.1,
+        record {
+          count = sym long;
+          each = λ k none no_report inside.
+              let one : IsOne work.films settings (slice_index_or back.0.own.back k none)
+              (slice_index_or reports k no_report) worked.seat worked.left =
+              one_at back.0.own.back reports served k
+              (record { none = none; no_report = no_report; inside = inside }) in
+              record {
+                worker_is = worked.served.reports.worker_is k no_report (omega (arith, inside, long));
+                words_are = worked.served.reports.words_are k no_report (omega (arith, inside, long));
+                old = one.old;
+                new = one.new;
+                served = one.served;
+                terms = one.terms ∙ worked.terms;
+                entries = subst (λ (m : List PlacedEntry). IsPrefix one.new.mine m) worked.made one.on.mine;
+                seen = prefix_trans one.new.seen worked.left.seen work.journal one.on.seen worked.seen;
+                agrees = one_agrees_in one worked.terms worked.seen legal;
+              };
+          entries = worked.served.entries.receipts_are ∙ ap (map receipt_for) (made_all worked);
+          halts = ap (open_play_from Closed) (sym (made_all worked)) ∙ worked.served.entries.open_is;
+        },
+      ),
+    )
+
+pub serves_each : EveryConnectionIsCorrect
+serves_each before after seed serving ended gate serves told have_run =
+    let run : HasRunAll before after seed serving ended = run_all serves told have_run in
+    let worked = run.served.worked in
+    record {
+      films = run.served.films;
+      loaded = run.served.loaded;
+      journal = run.served.journal;
+      once = subst (λ (g : Option Content). IfSome g (IsOpenedOnce before.gate.told)) told run.served.once;
+      parts = worked.parts;
+      count = worked.count;
+      reports = reports_whole run.served run.found;
+      each = λ worker none inside.
+          part_served run.served.journal.legal
+          (worker_of {gate = before.gate} (work_of run.served) worked.parts worked.each worker none
+          (omega (arith, inside, worked.count))) told;
+    }

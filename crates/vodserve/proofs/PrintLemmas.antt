@@ -1,0 +1,127 @@
+-- What was printed of what was done.
+use Rattle.std.proofs.Common.{◌≡◌, ◌∙◌, ◌≤◌, ℕ, ap, List, Option, Some, None, Result, Ok, Err, Vec}
+use Rattle.std.proofs.Common.{Global, inl, inr, sym, subst}
+use Rattle.std.specs.Prelude.{IfOk, IfErr}
+use Rattle.cli_args.specs.InvocationViews.{invocation_view}
+use Rattle.cli_args.specs.declared.invocations.MediaKind.{MediaKind}
+use Rattle.cli_args.specs.declared.invocations.Invocation.{Invocation as OrderRead}
+use Rattle.cli_args.specs.Invocations.{Invocation, help, make_of, version}
+use Rattle.plan_cert.specs.declared.Segment.{Segment}
+use Rattle.cli_errors.specs.ReadErrors.{IsLibraryUnchanged, IsReadError}
+use Rattle.cli_errors.specs.declared.errors.CliError.{CliError}
+use Rattle.cli_errors.specs.declared.errors.CliError.TheVariants.{Usage, Refused, StoreFault}
+use Rattle.cli_errors.specs.declared.errors.CliError.TheVariants.{SinkFault, NoMemory, GateFault, LinkFault}
+use Rattle.vod_base.specs.IoState.{File}
+use Rattle.offline_commands.specs.OfflineCommands.{IsOutputOf, IsInputRefused, IsRead, generated_text}
+use Rattle.offline_commands.specs.HelpText.{help_text, version_text}
+use Rattle.offline_commands.proofs.CommandOutputLemmas.{text_of}
+use Rattle.vodserve.specs.Run.{CommandSpec, HasServedNothing, IsPrintedOrFailed, IsCause, IsReadInputError}
+use Rattle.vodserve.specs.Run.{IsWritten, PrintResult, PrintSpec, RunSpec}
+use Rattle.vodserve.specs.IoStates.{World, streams_of}
+use Rattle.offline_commands.specs.declared.command_output.CommandOutput.{CommandOutput}
+use Rattle.vodserve.specs.declared.run_results.Ended.{Ended}
+
+written : {order : Invocation} {ended : Ended} (before after : World) (done : CommandOutput) →
+    IsOutputOf before.store.told order done.status done.text.items done.plan →
+    IsWritten (streams_of before after) done.text.items done.status done.plan ended →
+    IsPrintedOrFailed before after order ended
+written {order} {ended} before after done is (inl whole) = inl (record {
+  text = done.text.items;
+  done = subst (λ (status : ℕ). IsOutputOf before.store.told order status done.text.items ended.plan) (sym whole.0)
+      (subst (λ (plan : Option (List Segment)). IsOutputOf before.store.told order done.status done.text.items plan)
+      (sym whole.1) is);
+  wrote = whole.2;
+  quiet = whole.3;
+})
+written {ended} before after done is (inr cut) = inr (
+  SinkFault,
+  (
+    record { status = done.status; text = done.text.items; plan = done.plan; done = is; risen = cut.0; front = cut.1 },
+    cut.2,
+  ),
+)
+
+caused : (before after : World) (order : Invocation) (error : CliError) → after.out ≡ before.out →
+    IsReadInputError order before.store after.store error → IsCause before after order error
+caused before after order Usage same cause = absurd cause
+caused before after order (Refused name fault) same cause = (cause, same)
+caused before after order (StoreFault name) same cause = (cause, same)
+caused before after order SinkFault same cause = absurd cause
+caused before after order NoMemory same cause = same
+caused before after order GateFault same cause = absurd cause
+caused before after order LinkFault same cause = absurd cause
+
+-- an order's result: what it did, or the trouble that it met
+record OrderResult (before after : World) (order : Invocation) (result : Result CommandOutput CliError) : Type 0 where
+  ok : IfOk result (λ done. IsOutputOf before.store.told order done.status done.text.items done.plan)
+  err : IfErr result (IsReadInputError order before.store after.store)
+
+carried_out : {before after : World} {order : Invocation} (result : Result CommandOutput CliError) (ended : Ended) →
+    OrderResult before after order result → PrintResult (streams_of before after) result ended →
+    IsPrintedOrFailed before after order ended
+carried_out {before} {after} (Ok done) ended given is = written before after done given.ok is
+carried_out {before} {after} {order} (Err error) ended given is =
+    inr (error, (caused before after order error is.0 given.err, is.1))
+
+-- a command was carried out, and its text printed
+pub printed : {before after : World} {order : Invocation} {ended : Ended} (result : Result CommandOutput CliError) →
+    after.gate ≡ before.gate → HasServedNothing ended →
+    IfOk result (λ done. IsOutputOf before.store.told order done.status done.text.items done.plan) →
+    IfErr result (IsReadInputError order before.store after.store) →
+    PrintResult (streams_of before after) result ended → PrintSpec before after order ended
+printed {before} {after} {order} {ended} result gate nothing ok err is =
+    record { gate = gate; nothing = nothing; out = carried_out result ended (record { ok = ok; err = err }) is }
+
+-- what the words ask for was done
+pub ran_as : {before after : World} {seed : List ℕ} {asked : Option Invocation} {ended : Ended} {read order : OrderRead}
+    →
+    Some (invocation_view read) ≡ asked → read ≡ order →
+    IsLibraryUnchanged before.store.told after.store.told before.store.faults after.store.faults →
+    before.out.faults ≤ after.out.faults → before.gate.faults ≤ after.gate.faults →
+    CommandSpec before after seed (invocation_view order) ended → RunSpec before after seed asked ended
+ran_as {order = order} is same library output gate does = record {
+  library = library;
+  output = output;
+  gate = gate;
+  does = inl (invocation_view order, (sym is ∙ ap (λ (o : OrderRead). Some (invocation_view o)) same, does));
+}
+
+-- which film is made, with its seed and its pictures
+pub record MadeFilm : Type 0 where
+  pub kind : MediaKind
+  pub seed : ℕ
+  pub pictures : ℕ
+
+pub made_done : {E : Type 0} (told : Option (List File)) (film : MadeFilm) (made : Result (Vec ℕ Global) E) →
+    IfOk made (λ text. text.items ≡ generated_text film.kind film.seed film.pictures) → (result : Result CommandOutput
+    CliError) →
+    IfOk result (λ done. (done.status ≡ 0) × (made ≡ Ok done.text) × (done.plan ≡ None)) →
+    IfOk result (λ done. IsOutputOf told (make_of film.kind film.seed film.pictures) done.status done.text.items
+    done.plan)
+made_done told film made text (Err error) is = tt
+made_done told film made text (Ok done) is =
+    (is.0, is.2, text_of (generated_text film.kind film.seed film.pictures) made done.text text is.1)
+
+pub help_done : {E : Type 0} (told : Option (List File)) (made : Result (Vec ℕ Global) E) →
+    IfOk made (λ text. text.items ≡ help_text) →
+    (result : Result CommandOutput CliError) →
+    IfOk result (λ done. (done.status ≡ 0) × (made ≡ Ok done.text) × (done.plan ≡ None)) →
+    IfOk result (λ done. IsOutputOf told help done.status done.text.items done.plan)
+help_done told made text (Err error) is = tt
+help_done told made text (Ok done) is = (is.0, is.2, text_of help_text made done.text text is.1)
+
+pub version_done : {E : Type 0} (told : Option (List File)) (made : Result (Vec ℕ Global) E) →
+    IfOk made (λ text. text.items ≡ version_text) →
+    (result : Result CommandOutput CliError) →
+    IfOk result (λ done. (done.status ≡ 0) × (made ≡ Ok done.text) × (done.plan ≡ None)) →
+    IfOk result (λ done. IsOutputOf told version done.status done.text.items done.plan)
+version_done told made text (Err error) is = tt
+version_done told made text (Ok done) is = (is.0, is.2, text_of version_text made done.text text is.1)
+
+-- want of memory keeps from each order
+pub no_memory : (told : Option (List File)) (faults faults' : ℕ) (order : Invocation)
+    (result : Result CommandOutput CliError) → IfErr result (λ error. error ≡ NoMemory) →
+    IfErr result (IsReadError (IsRead order) (IsInputRefused order) told faults faults')
+no_memory told faults faults' order (Ok done) is = tt
+no_memory told faults faults' order (Err error) is =
+    subst (IsReadError (IsRead order) (IsInputRefused order) told faults faults') (sym is) tt

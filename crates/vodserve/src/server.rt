@@ -1,0 +1,220 @@
+//! A server: its films are loaded, its gate is opened, and its workers are run.
+
+ghost use Rattle.std.specs.Prelude.{◌≡◌, ◌≤◌, ◌++◌, Some, true, codes, All, IfSome, IfOk, IfErr};
+ghost use Rattle.std.specs.Prelude.{OnOk};
+ghost use Rattle.std.specs.List.{Contains};
+ghost use Rattle.std.specs.Option.{option_to_list};
+ghost use Rattle.vod_base.specs.IoState.{HasRisen};
+ghost use Rattle.slot_calendar.specs.Profiles.{IsProfile};
+ghost use Rattle.session.specs.SettingRanges.{AreFilms, names_of};
+ghost use Rattle.station.specs.Seats.{first_seat};
+ghost use Rattle.cli_args.specs.Settings.{setting_value, texts, values_of};
+ghost use Rattle.cli_args.specs.Invocations.{are_films};
+ghost use Rattle.cli_args.specs.InvocationViews.{serve_args_of};
+ghost use Rattle.cli_args.specs.Ranges.{AreServeArgsInRange};
+ghost use Rattle.cli_errors.specs.ReadErrors.{IsReadOnly, IsReadError};
+ghost use Rattle.inputs.specs.LoadErrors.{IsServedFilmRefused};
+ghost use Rattle.vodserve.specs.ServerOutput.{IsFirstRefused, IsJournal, IsNewlyOpen};
+ghost use Rattle.vodserve.specs.ServerOutput.{IsServeError, IsWordNamed};
+ghost use Rattle.vodserve.specs.WorkerResults.{AreLoaded, HasTooFewParts, IsWorkersResult, IsHeld};
+ghost use Rattle.vodserve.specs.WorkerResults.{IsOpenedOnce};
+ghost use Rattle.vodserve.specs.WorkerResults.{opening_of, server_run};
+ghost use Rattle.vodserve.specs.IoStates.{gate_state_of, io_state_of};
+ghost use Rattle.vodserve.specs.Workers.{IsMakeWorkersError, IsNotOpened};
+
+use crate::workers::{Service, join_workers, make_workers, run_workers};
+use admission::Book;
+use cli_args::{ServeArgs, film_named, profile_of};
+use cli_errors::CliError;
+use conn::{ConnReport, PartEnd};
+use film_frames::Stored;
+use inputs::load_film;
+use session::Settings;
+use slot_calendar::{CapStep, Profile};
+use station::{Seat, Station};
+use std::alloc::Global;
+use std::sync::Wait;
+use std::thread::Threads;
+use vod_base::{Gate, Library, NoMemory, Opening};
+
+/// A server before its workers: its films, and its station with the first seat.
+#[derive(Drop)]
+pub(crate) struct ServerSetup {
+    pub(crate) films: Vec<Stored>,
+    pub(crate) station: Station,
+    pub(crate) seat: Seat,
+}
+
+/// A server after its workers: its book, what is left of its connections, and the worst end of a
+/// worker.
+#[derive(Drop)]
+pub(crate) struct Closed {
+    pub(crate) book: Book,
+    pub(crate) reports: Vec<ConnReport>,
+    pub(crate) end: PartEnd,
+}
+
+/// Loads the films, opens the gate and makes the station, in this order.
+pub(crate) fn prepare<'a, L: Library, G: Gate>(
+    alloc: Global,
+    library: &mut L,
+    gate: &mut G,
+    serving: &ServeArgs<'a>,
+) -> Result<ServerSetup, CliError<'a>>
+    requires { AreServeArgsInRange serving.now }
+    ensures library { IsReadOnly L.files L.faults library.old library.new }
+    ensures count { G.faults gate.old ≤ G.faults gate.new }
+    ensures films { IfOk result (λ prepared. AreFilms prepared.films.items) }
+    ensures loaded { IfOk result (λ prepared. AreLoaded (L.files library.old)
+        (serve_args_of serving.entry.now).films prepared.films.items) }
+    ensures steps { IfOk result (λ prepared.
+        prepared.station.steps ≡ serving.entry.now.capacity) }
+    ensures limit { IfOk result (λ prepared.
+        prepared.station.limit ≡ serving.entry.now.journal) }
+    ensures seat { IfOk result (λ prepared. prepared.seat ≡ first_seat prepared.station) }
+    ensures opened { IfOk result (λ prepared.
+        IsNewlyOpen (opening_of (serve_args_of serving.entry.now)) (G.told gate.new)) }
+    ensures once { IfOk result (λ prepared.
+        IfSome (G.told gate.new) (IsOpenedOnce (G.told gate.old))) }
+    ensures error { IfErr result (IsServeError (serve_args_of serving.entry.now)
+        (io_state_of L.faults L.files library.old) (io_state_of L.faults L.files library.new)
+        (gate_state_of G.faults G.told gate.old) (gate_state_of G.faults G.told gate.new)) }
+{
+    let films = load_films(alloc, library, serving.words)?;
+    let opening = Opening {
+        port: serving.listening.port,
+        all: serving.listening.all,
+        connections: serving.listening.connections,
+        slot_units: serving.planning.slot,
+    };
+    gate.open(&opening)?;
+    let (station, seat) = make_station(alloc, serving.capacity.as_slice(), serving.journal)?;
+    Ok(ServerSetup {
+        films,
+        station,
+        seat,
+    })
+}
+
+/// Runs the workers over the open gate and closes the station. Where a seat or a part can't be made
+/// no worker runs, and the parts go back into the gate.
+pub(crate) fn run_server<R: Threads + Wait + Sync, G: Gate + Send + Drop>(
+    rt: &R,
+    alloc: Global,
+    gate: &mut G,
+    seed: [u8; 32],
+    serving: &ServeArgs<'_>,
+    prepared: ServerSetup,
+) -> Result<Closed, CliError<'static>>
+where
+    G::Conn: Send,
+    requires range { AreServeArgsInRange serving.now }
+    requires films { AreFilms prepared.films.items }
+    requires steps { prepared.station.steps ≡ serving.now.capacity }
+    requires limit { prepared.station.limit ≡ serving.now.journal }
+    requires seat { prepared.seat ≡ first_seat prepared.station }
+    requires opened { IsNewlyOpen (opening_of (serve_args_of serving.now)) (G.told gate.old) }
+    ensures count { G.faults gate.old ≤ G.faults gate.new }
+    ensures closed { IfOk result (λ closed.
+        IsJournal (serve_args_of serving.entry.now) closed.book.entries) }
+    ensures worked { IfOk result (λ closed. IsWorkersResult
+        (server_run prepared.films.items (serve_args_of serving.entry.now) seed closed.book.entries)
+        (gate_state_of G.faults G.told gate.old) (gate_state_of G.faults G.told gate.new)
+        closed.end closed.reports.items) }
+    ensures error { IfErr result (IsMakeWorkersError (G.faults gate.old) (G.faults gate.new)) }
+    ensures since { IfSome (G.told gate.new) (IsNotOpened (G.told gate.old)) }
+    ensures few { IfErr result (λ error. IfSome (G.told gate.new)
+        (HasTooFewParts (serve_args_of serving.entry.now).listening.workers)) }
+{
+    let ServerSetup {
+        films,
+        station,
+        mut seat,
+    } = prepared;
+    let settings = Settings {
+        slot_units: serving.planning.slot,
+        buffer: serving.planning.buffer,
+        startup: serving.planning.delay,
+    };
+    let mut workers = Vec::new(alloc);
+    let mut reports = Vec::new(alloc);
+    let count = serving.listening.workers;
+    if let Err(error) = make_workers(alloc, &station, &mut seat, gate, count, &mut workers) {
+        // what was made goes back to its station and its gate before the error is answered
+        let _ = join_workers(&station, &mut seat, gate, workers, &mut reports);
+        return Err(error);
+    }
+    let service = Service {
+        station: &station,
+        films: films.as_slice(),
+        settings: &settings,
+        seed,
+    };
+    run_workers(rt, alloc, service, &mut workers);
+    let end = join_workers(&station, &mut seat, gate, workers, &mut reports);
+    let book = station.close(seat);
+    // a book's own invariant isn't seen from outside: only `entries` tells that the entries, with
+    // the halts to come, are within its limit
+    let _within = book.entries();
+    Ok(Closed { book, reports, end })
+}
+
+/// Loads the film that a word names, if it names one.
+fn add_film<'a, L: Library>(
+    alloc: Global,
+    library: &mut L,
+    films: &mut Vec<Stored>,
+    word: &'a str,
+) -> Result<(), CliError<'a>>
+    ensures library { IsReadOnly L.files L.faults library.old library.new }
+    ensures added { OnOk result (names_of films.new.items
+        ≡ names_of films.old.items
+        ++ option_to_list (setting_value (codes "film") word.entry.now)) }
+    ensures held { All (IsHeld (L.files library.old)) films.old.items →
+        OnOk result (All (IsHeld (L.files library.old)) films.new.items) }
+    ensures error { IfErr result (IsReadError (IsWordNamed word.entry.now) IsServedFilmRefused
+        (L.files library.old) (L.faults library.old) (L.faults library.new)) }
+{
+    let Some(name) = film_named(word) else {
+        return Ok(());
+    };
+    let film = load_film(alloc, library, name)?;
+    films.push(film)?;
+    Ok(())
+}
+
+/// Loads the films that the words name, one by one: the first that is refused is named.
+fn load_films<'a, L: Library>(
+    alloc: Global,
+    library: &mut L,
+    words: &'a [String],
+) -> Result<Vec<Stored>, CliError<'a>>
+    requires { are_films (values_of (codes "film") (texts words.now)) ≡ true }
+    ensures library { IsReadOnly L.files L.faults library.old library.new }
+    ensures films { IfOk result (λ films. AreFilms films.items) }
+    ensures loaded { IfOk result (λ films. AreLoaded (L.files library.old)
+        (values_of (codes "film") (texts words.entry.now)) films.items) }
+    ensures error { IfErr result (IsReadError
+        (Contains (values_of (codes "film") (texts words.entry.now)))
+        (IsFirstRefused (values_of (codes "film") (texts words.entry.now)))
+        (L.files library.old) (L.faults library.old) (L.faults library.new)) }
+{
+    let mut films = Vec::new(alloc);
+    for word in words {
+        add_film(alloc, library, &mut films, word.as_str())?;
+    }
+    Ok(films)
+}
+
+/// A station of that capacity, and its first seat.
+fn make_station(alloc: Global, steps: &[CapStep], limit: u64) -> Result<(Station, Seat), NoMemory>
+    requires profile { IsProfile steps.now }
+    requires some { 2 ≤ limit }
+    requires few { limit ≤ 1048576 }
+    ensures steps { IfOk result (λ made. made.0.steps ≡ steps.now) }
+    ensures limit { IfOk result (λ made. made.0.limit ≡ limit) }
+    ensures seat { IfOk result (λ made. made.1 ≡ first_seat made.0) }
+{
+    let profile = profile_of(alloc, steps)?;
+    Station::new(alloc, profile, limit)
+}

@@ -1,0 +1,50 @@
+use Rattle.std.proofs.lemmas.Grind.{common_steps}
+use Rattle.std.proofs.Common.{◌<◌, arith, length, ◌∙◌}
+use Rattle.std.proofs.lemmas.List.{length-set, get_or_default}
+use Rattle.std.proofs.lemmas.List.Sums.{sum_by_more, sum_by_more_le}
+use Rattle.wire_curve.proofs.SlotUsageLemmas.{due_in_range, first_used_in_fits, first_uses_more}
+use Rattle.wire_curve.proofs.film.sum_slot_uses.Goals as goal
+
+pub overflow_add-index_mut : goal.overflow_add-index_mut
+overflow_add-index_mut c =
+    let n = c.loop-picture.picture in
+    let sizes = c.args.sizes.now in
+    let uses = c.loop-picture.in_slot.items in
+    let slot = c.due_slot-slot.result in
+    let in' = due_in_range sizes c.args.timing.now n c.requires.limits.some_slot_units c.loop-picture-test.true in
+    let lt : slot < c.args.slots = omega (arith, in', c.due_slot-slot.ensures, c.requires.slots) in
+    let inside : slot < length uses = omega (arith, c.loop-picture.invariant.uses.slots_are) in
+    let here = c.loop-picture.invariant.uses.each slot lt in
+    let fits = first_used_in_fits sizes c.args.timing.now n slot (omega arith) in
+    let within = sum_by_more_le (λ x. x) sizes n 0 c.loop-picture-test.true in
+    let read = c.index_mut.ensures.value ∙ get_or_default uses slot c.index_mut.result.now 0 inside in
+    omega (arith, here, fits, within, read, c.requires.limits.total_fits)
+
+pub loop-picture-preserved : goal.loop-picture-preserved
+loop-picture-preserved c =
+    let n = c.loop-picture.picture in
+    let sizes = c.args.sizes.now in
+    let uses = c.loop-picture.in_slot.items in
+    let slot = c.due_slot-slot.result in
+    let in' = due_in_range sizes c.args.timing.now n c.requires.limits.some_slot_units c.loop-picture-test.true in
+    let lt : slot < c.args.slots = omega (arith, in', c.due_slot-slot.ensures, c.requires.slots) in
+    let inside : slot < length uses = omega (arith, c.loop-picture.invariant.uses.slots_are) in
+    let read = c.index_mut.ensures.value ∙ get_or_default uses slot c.index_mut.result.now 0 inside in
+    let more = sum_by_more (λ x. x) sizes n 0 c.loop-picture-test.true in
+    let so_far = c.loop-picture.invariant.uses in
+    rw read record {
+      uses = record {
+        slots_are = length-set uses slot _ ∙ so_far.slots_are;
+        each = first_uses_more so_far c.due_slot-slot.ensures lt;
+      };
+      total = omega (arith, more);
+    }
+
+pub loop-picture-init : goal.loop-picture-init
+loop-picture-init c = grind (arith, common_steps)
+
+pub overflow_add-total : goal.overflow_add-total
+overflow_add-total c = grind (arith, common_steps)
+
+pub returns-clause-total : goal.returns-clause-total
+returns-clause-total c = grind (arith, common_steps)

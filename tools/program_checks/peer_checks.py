@@ -1,0 +1,246 @@
+"""Peers that keep a server waiting, a moment without file descriptors, and 250 sessions at once.
+
+A connection to which nothing was sent within 15 s of its accept is given up. One that was answered
+may be silent for long. All of this takes its time, and is to run side by side.
+"""
+
+import os
+import resource
+import time
+
+from lab import PATIENCE, Check, Failed, ended, must, until
+from rtsp import Ended, TooLate
+from serving import is_established
+from sessions import Sessions
+from viewer import Viewer, Wire, want
+
+# Seconds that a connection has until something was sent to it.
+FIRST_REPLY = 15
+# Seconds that a client which was answered is silent here.
+SILENCE = 65
+# Seconds that a peer has which takes nothing: a minute from the last byte that its system took. Its
+# system may find some more room after a while, and then the minute begins anew.
+TAKES_NOTHING = 300
+HALF_REQUEST = b"DESCRIBE rtsp://h/small.mpg RTSP/1.0\r\nCSe"
+CROWD = 250
+
+
+def answered(port):
+    """Whether OPTIONS is answered on a new connection, which is then ended."""
+    with Wire(port) as wire:
+        return wire.ask("OPTIONS", "*").startswith("RTSP/1.0 200 OK")
+
+
+def all_answer(port, count):
+    """Whether so many workers are there: that many connections are answered side by side."""
+    wires = []
+    try:
+        for number in range(count):
+            wires.append(Wire(port))
+            try:
+                reply = wires[-1].ask("OPTIONS", "*")
+            except (TooLate, Ended) as error:
+                raise Failed(
+                    f"wanted {count} workers that answer, number {number + 1} doesn't"
+                    f" ({type(error).__name__})") from None
+            want("OPTIONS", "RTSP/1.0 200 OK", reply[:15])
+    finally:
+        for wire in wires:
+            wire.socket.close()
+
+
+def until_ended(wire, begun, each_second=b""):
+    """Waits for the server to end the connection, and sends some bytes each second; the seconds
+    from `begun` on."""
+    while time.monotonic() < begun + PATIENCE:
+        try:
+            if each_second:
+                wire.socket.sendall(each_second)
+            wire.receive(1)
+        except TooLate:
+            continue
+        except (Ended, ConnectionError):
+            return time.monotonic() - begun
+        raise Failed(f"wanted nothing from the server, came {bytes(wire.came)!r}")
+    raise Failed(
+        f"wanted the connection given up {FIRST_REPLY} s after its accept,"
+        f" it is open after {PATIENCE} s")
+
+
+def in_its_time(what, seconds):
+    # The accept comes after the connection is made, and a second is left for the clocks.
+    must(f"{what} given up {FIRST_REPLY} s after its accept", seconds >= FIRST_REPLY - 1,
+         f"{seconds:.1f} s")
+
+
+def silent(lab):
+    """A silent peer doesn't keep its worker, and another client is served meanwhile."""
+    film = lab.models["colours.mpg"]
+    with lab.serving([film.name, "small.mpg"], workers=2) as server:
+        begun = time.monotonic()
+        with Wire(server.port) as wire:
+            with Viewer(server.port, film) as viewer:
+                viewer.start(units=(0, 250))
+                viewer.play()
+            in_its_time("a silent peer", until_ended(wire, begun))
+        all_answer(server.port, 2)
+
+
+def dripping(lab):
+    """A peer that sends a byte each second, and no request, is given up likewise."""
+    with lab.serving(["small.mpg"], workers=1) as server:
+        begun = time.monotonic()
+        with Wire(server.port) as wire:
+            in_its_time("a dripping peer", until_ended(wire, begun, b"O"))
+        want("the next client is answered", True, answered(server.port))
+
+
+def blank_lines(lab):
+    """So is one that sends line ends, which mean nothing between requests."""
+    with lab.serving(["small.mpg"], workers=1) as server:
+        begun = time.monotonic()
+        with Wire(server.port) as wire:
+            in_its_time("a peer that sends line ends", until_ended(wire, begun, b"\r\n"))
+
+
+def vanished(lab):
+    """A peer that is gone without a word after half a request leaves its worker to the next one."""
+    with lab.serving(["small.mpg"], workers=1) as server:
+        # Its system says nothing of it: no byte comes any more, and no end.
+        with Wire(server.port) as gone:
+            gone.socket.sendall(HALF_REQUEST)
+            try:
+                want("the next client is answered", True, answered(server.port))
+            except TooLate:
+                raise Failed(
+                    f"wanted the worker of a peer that vanished free after {FIRST_REPLY} s,"
+                    f" another client isn't answered in {PATIENCE} s") from None
+
+
+def four_silent(lab):
+    """Four silent connections don't stop a server of four workers."""
+    with lab.serving(["small.mpg"], workers=4) as server:
+        wires = [Wire(server.port) for _ in range(4)]
+        try:
+            want("a fifth client is answered", True, answered(server.port))
+        except TooLate:
+            raise Failed(
+                f"wanted a fifth client answered after {FIRST_REPLY} s, it isn't in {PATIENCE} s"
+            ) from None
+        finally:
+            for wire in wires:
+                wire.socket.close()
+        all_answer(server.port, 4)
+
+
+def broken_play(lab):
+    """A client that resets its connection in the middle of a play gives its bandwidth back."""
+    film = lab.models["colours.mpg"]
+    with lab.serving([film.name], workers=1, capacity=2000) as server:
+        with Viewer(server.port, film) as viewer:
+            viewer.start(units=(0, 250))
+            viewer.play(20_000)
+            viewer.reset()
+        with Viewer(server.port, film) as viewer:
+            viewer.start(units=(0, 250))
+            viewer.play(20_000)
+
+
+def quiet_after(lab, *steps):
+    """A client that was answered and is silent for a minute is still served."""
+    film = lab.models["colours.mpg"]
+    with lab.serving([film.name], workers=1) as server:
+        with Viewer(server.port, film, "x-Startup: 100") as viewer:
+            if "PLAY" in steps:
+                viewer.start(units=(0, 250))
+                viewer.play(20_000)
+                viewer.pause()
+            try:
+                viewer.quiet(SILENCE)
+                viewer.start(units=None if "PLAY" in steps else (0, 250))
+            except Ended:
+                raise Failed(
+                    f"wanted a client that was answered still served after {SILENCE} s of silence,"
+                    " its connection was ended") from None
+            viewer.play()
+
+
+def takes_nothing(lab):
+    """A client that plays and takes nothing is given up, and its worker is free."""
+    film = lab.models["large.mpg"]
+    with lab.serving([film.name], workers=1, capacity=10 ** 9) as server:
+        with Viewer(server.port, film, "x-Startup: 0", room=4096) as viewer:
+            viewer.start(units=(0, len(film.units)))
+            own = viewer.socket.getsockname()[1]
+            until("a client that takes nothing given up",
+                  lambda: not is_established(server.port, own), TAKES_NOTHING)
+        all_answer(server.port, 1)
+
+
+def lowest_free(pid):
+    """The least number that a new file descriptor of the process could have."""
+    taken = {int(name) for name in os.listdir(f"/proc/{pid}/fd")}
+    return next(number for number in range(len(taken) + 1) if number not in taken)
+
+
+def outcome(wire):
+    """Whether a connection that asked was answered, or ended."""
+    try:
+        return wire.reply().startswith("RTSP/1.0 200 OK")
+    except Ended:
+        return False
+    except TooLate:
+        raise Failed(f"wanted each client answered or ended, one waits {PATIENCE} s") from None
+
+
+def short_of_descriptors(lab):
+    """A moment without file descriptors doesn't end a server of eight workers.
+
+    A worker that waits in accept may have a number for its next connection already; that one can't
+    be set up, and is ended. All others have to wait, and are answered."""
+    with lab.serving(["small.mpg"], workers=8) as server:
+        pid = server.child.pid
+        soft, hard = resource.prlimit(pid, resource.RLIMIT_NOFILE)
+        resource.prlimit(pid, resource.RLIMIT_NOFILE, (lowest_free(pid), hard))
+        wires = [Wire(server.port) for _ in range(24)]
+        try:
+            for wire in wires:
+                wire.send("OPTIONS", "*")
+            time.sleep(4)
+            if not server.is_running():
+                raise Failed(f"{ended(server)}, after a moment without file descriptors")
+            resource.prlimit(pid, resource.RLIMIT_NOFILE, (soft, hard))
+            # One after another: with each that is done a worker is free for the next.
+            served = 0
+            for wire in wires:
+                served += outcome(wire)
+                wire.socket.close()
+        finally:
+            for wire in wires:
+                wire.socket.close()
+        must("16 of 24 clients answered at least", served >= 16, served)
+        all_answer(server.port, 8)
+
+
+def crowd(lab):
+    """250 sessions at once, each of which gets its film."""
+    film = lab.models["colours.mpg"]
+    with lab.serving([film.name], workers=CROWD, capacity=10 ** 9) as server:
+        sessions = Sessions(server.port, film.name, film.data, CROWD)
+        try:
+            faults = sessions.play(PATIENCE, lambda: None)
+        finally:
+            sessions.close()
+        want(f"faults of {CROWD} sessions", [], faults)
+
+
+def checks():
+    calls = [
+        ("250 sessions at once", crowd), ("a silent peer", silent), ("a dripping peer", dripping),
+        ("a peer that sends line ends", blank_lines), ("a peer that vanishes", vanished),
+        ("four silent connections", four_silent), ("a reset in a play", broken_play),
+        ("a minute of silence after SETUP", lambda lab: quiet_after(lab, "SETUP")),
+        ("a minute of silence in a pause", lambda lab: quiet_after(lab, "SETUP", "PLAY")),
+        ("a peer that takes nothing", takes_nothing),
+        ("a moment without file descriptors", short_of_descriptors)]
+    return [Check(name, call) for name, call in calls]
