@@ -22,6 +22,10 @@ assert drawn == [(peak, 50000 // peak) for peak in wanted], (drawn, wanted)
 PYTHON
 draw capacity film=colours.mpg >film.svg
 try "capacity: a film, in three buffers" test "$(grep -c '<rect id="bar' film.svg)" = 4
+draw capacity film=colours.mpg buffers=100,65536 >small.svg
+try "capacity: a buffer that is too small" \
+    grep -q 'id="bar1" data-values="0 0".*' small.svg
+try "capacity: it is named" grep -q "too small for this film" small.svg
 
 # two plays, of which one has no room, and a look; then the server ends
 port=$(free_port)

@@ -16,22 +16,24 @@ from vodtools.program import (
     segments_of,
 )
 
-BUFFERS = "65536,262144,1048576"
+BUFFERS = "16384,65536,1048576"
 WIDTH, LEFT, RIGHT, TOP, ROW, BAR = 900, 226, 196, 92, 54, 32
 FACE = 'font-family="sans-serif"'
 GREY, BLUE, INK, SOFT = "#9aa3ad", "#2f6fb5", "#1d2733", "#5b6775"
 
 
-def unsmoothed_peak(program, args):
-    """Returns the most bytes that one slot of the unsmoothed film needs."""
+def peak_with(program, args, buffer):
+    """Returns the most bytes that a slot of the plan needs, and whether the buffer is large enough.
+
+    If it isn't, the bytes are those of the least buffer that is.
+    """
     try:
-        segments = segments_of(run(program, "plan", {**args, "buffer": 1}))
+        return peak_of(segments_of(run(program, "plan", {**args, "buffer": buffer}))), True
     except ProgramError as error:
         parts = str(error).split()
         if len(parts) == 6 and parts[2] == "BufferTooSmall":
-            return int(parts[5])
+            return int(parts[5]), False
         raise
-    return peak_of(segments)
 
 
 def size_of(count):
@@ -43,12 +45,16 @@ def size_of(count):
 
 
 def rows_of(program, args, capacity, buffers):
-    """Returns for each bar its name, the peak of a slot in bytes, and the number of streams."""
-    peak = unsmoothed_peak(program, args)
+    """Returns for each bar its name, the peak of a slot in bytes, and the number of streams.
+
+    A buffer that is too small for the film has no peak and no streams.
+    """
+    peak, _ = peak_with(program, args, 1)
     rows = [("unsmoothed", peak, capacity // max(1, peak))]
     for buffer in buffers:
-        peak = peak_of(segments_of(run(program, "plan", {**args, "buffer": buffer})))
-        rows.append((f"{size_of(buffer)} buffer", peak, capacity // max(1, peak)))
+        peak, is_enough = peak_with(program, args, buffer)
+        name = f"{size_of(buffer)} buffer"
+        rows.append((name, peak, capacity // max(1, peak)) if is_enough else (name, 0, 0))
     return rows
 
 
@@ -64,6 +70,8 @@ def bar(place, row, most, slot):
     middle = top + BAR / 2
     count = f"{streams:,} stream" + ("" if streams == 1 else "s")
     rate = f"at most {mbit_per_second(peak, slot):.2f} Mbit/s each"
+    if not peak:
+        count, rate = "no stream", "too small for this film"
     return [
         text(LEFT - 12, middle + 6, 17, INK, name, 'text-anchor="end"'),
         f'<rect id="bar{place}" data-values="{peak} {streams}" x="{LEFT}" y="{top}"'
