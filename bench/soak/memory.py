@@ -15,10 +15,10 @@ own takes PIECE more of the C library, and a multiple of 16 bytes, at least 32. 
 grows by doubling, and so is half as long again on average.
 """
 
-ENTRY = 80
+ENTRY = 96
 RECEIPT = 48
 PLAY = 128
-OFFER = 96
+OFFER = 104
 TRIED = 32
 CONNECTION = 112 * 3 // 2
 SEGMENT = 16
