@@ -57,7 +57,8 @@ pub enum InputError {
     TurnsSpent,
 }
 
-/// Why the words weren't carried out. [`write_error`](crate::say) writes it on the error stream as
+/// Why the words weren't carried out. [`write_error`](crate::write_error) writes it on the error
+/// stream as
 /// a line of names and numbers; its `Display` is prose.
 #[derive(Clone, Copy, Debug, Error)]
 pub enum CliError<'a> {

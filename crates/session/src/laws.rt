@@ -156,7 +156,7 @@ pub fn law_one_answer_per_request()
 /// Each refusal has the phrase for its cause, in this project's spelling of those of RFC 2326
 /// section
 /// 7.1.1.
-pub fn law_refusals_have_rfc_phrases()
+pub fn law_refusals_have_their_phrases()
     ensures { (refusal : Refusal) → phrase (code_of refusal) ≡ phrase_of refusal }
 {}
 

@@ -3,7 +3,8 @@
 //! There are eight kinds of step: a pass draws a ticket; it looks whose turn it is; it takes the
 //! value out of its slot or puts it back; it counts the entry that the value has more; it hands the
 //! turn on; a pass is split in two; two passes are joined; and after a split or a join a pass reads
-//! the word of the tickets. The last kind changes nothing: it exposes what the rule says of the pass.
+//! the word of the tickets. The last kind changes nothing: it exposes what the rule says of the
+//! pass.
 
 ghost use Rattle.std.specs.Prelude.{◌≡◌, ◌++◌, [], ◌∷◌, Some, false, true};
 ghost use Rattle.admission.specs.declared.entries.Entry.{Entry};

@@ -27,6 +27,7 @@ invariant_of-self c =
     record {
       maxima = c.self.invariant.maxima;
       empty = λ u since late.
-          total-next d.first u (record { some = omega arith; length_is = c.self.invariant.maxima.places_are }) none since
+          total-next d.first u (record { some = omega arith; length_is = c.self.invariant.maxima.places_are }) none
+          since
           ∙ c.self.invariant.empty u (omega (arith, since)) late;
     }
