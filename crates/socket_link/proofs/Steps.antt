@@ -357,24 +357,27 @@ some_left buffer waiting empty is tested isnt =
     let P : List ℕ → Type 0 = λ l. 0 < length l in subst P is some
 
 -- a slot that is due, by the last call
-pub in_order_slot : (units : ℕ) (last : Option ℕ) (slot time : ℕ) (was now : List SocketCall) →
-    HasLooked units last (Some slot) time was now → IsDue units last slot now
-in_order_slot units last slot time was now l = record {
+pub in_order_slot : (units : ℕ) (last : Option ℕ) (slot idle time : ℕ) (was now : List SocketCall) →
+    last_from None was ≡ Some (ReadClock Idle idle) → HasLooked units last (Some slot) time was now →
+    IsDue units last slot now
+in_order_slot units last slot idle time was now checked l = record {
   before = was;
   time = time;
   calls_are = l.now_is;
-  due_is =
-      l.due_is;
+  checked = record { idle = idle; last_is = checked };
+  due_is = l.due_is;
 }
 
 -- no slot is due, and one more call was made
-pub in_order_call : (units : ℕ) (last : Option ℕ) (time : ℕ) (was mid now : List SocketCall) →
-    HasLooked units last None time was mid → HasCalled mid now → NoneIsDue units last now
-in_order_call units last time was mid now l called = record {
+pub in_order_call : (units : ℕ) (last : Option ℕ) (idle time : ℕ) (was mid now : List SocketCall) →
+    last_from None was ≡ Some (ReadClock Idle idle) → HasLooked units last None time was mid → HasCalled mid now →
+    NoneIsDue units last now
+in_order_call units last idle time was mid now checked l called = record {
   before = was;
   time = time;
   call = called.call;
   calls_are = called.now_is ∙ ap (λ (c : List SocketCall). c ++ called.call ∷ []) l.now_is;
+  checked = record { idle = idle; last_is = checked };
   due_is = l.due_is;
 }
 

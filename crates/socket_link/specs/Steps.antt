@@ -9,7 +9,7 @@ use Rattle.socket_link.specs.declared.limits.TheConstants.{STUCK_LIMIT, LINGER}
 use Rattle.socket_link.specs.Limits.{no_watch, reached_limit}
 use Rattle.socket_link.specs.Slots.{slot_of, is_newer}
 use Rattle.socket_link.specs.Waits.{last_from, WaitsFit}
-use Rattle.socket_link.specs.Purposes.{slot_reading, end_reading}
+use Rattle.socket_link.specs.Purposes.{slot_reading, idle_reading, end_reading}
 
 -- Further calls of the socket were made. No reading among them shows that a limit is reached, and
 -- each
@@ -45,19 +45,27 @@ pub record HasCalled (was now : List SocketCall) : Type 0 where
   pub call : SocketCall
   pub now_is : now ≡ was ++ call ∷ []
 
--- the last call was a reading of the clock, by which this slot is due
+-- the call before these was an idle reading, which would show that a limit is reached
+pub record IsChecked (before : List SocketCall) : Type 0 where
+  pub idle : ℕ
+  pub last_is : last_from None before ≡ Some (idle_reading idle)
+
+-- the last call was a reading of the clock, by which this slot is due, directly after an idle
+-- reading
 pub record IsDue (units : ℕ) (last : Option ℕ) (slot : ℕ) (calls : List SocketCall) : Type 0 where
   pub before : List SocketCall
   pub time : ℕ
   pub calls_are : calls ≡ before ++ slot_reading time ∷ []
+  pub checked : IsChecked before
   pub due_is : Some slot ≡ if_newer last (slot_of units time)
 
--- the last call came directly after a reading of the clock, by which no slot is due
+-- the last call came directly after such a reading, by which no slot is due
 pub record NoneIsDue (units : ℕ) (last : Option ℕ) (calls : List SocketCall) : Type 0 where
   pub before : List SocketCall
   pub time : ℕ
   pub call : SocketCall
   pub calls_are : calls ≡ (before ++ slot_reading time ∷ []) ++ call ∷ []
+  pub checked : IsChecked before
   pub due_is : None ≡ if_newer last (slot_of units time)
 
 -- A slot comes before bytes and before the end: an event of the latter kind is reported only if no

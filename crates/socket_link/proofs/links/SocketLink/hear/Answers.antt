@@ -1,5 +1,7 @@
 use Rattle.std.proofs.Common.{refl, ◌∙◌}
-use Rattle.socket_link.proofs.Steps.{round_first, round_on, round_more, round_served, last_looked}
+use Rattle.socket_link.proofs.Orders.{in_order}
+use Rattle.socket_link.proofs.Steps.{round_first, round_on, round_more, round_served, last_looked, last_call}
+use Rattle.socket_link.proofs.Steps.{in_order_slot, in_order_call}
 use Rattle.socket_link.proofs.links.SocketLink.hear.Goals as goal
 
 pub loop-init : goal.loop-init
@@ -57,3 +59,20 @@ loop-preserved g c =
       slot = c.read_or_wait.ensures.slot ∙ none.1 ∙ c.check.ensures.same.3
           ∙ c.write_out.ensures.same.3 ∙ c.loop.invariant.slot;
     }
+
+pub returns-in-Some-clause-order : goal.returns-in-Some-clause-order
+returns-in-Some-clause-order g c =
+    let units = c.check.ensures.same.2 ∙ c.write_out.ensures.same.2 ∙ c.loop.invariant.units in
+    let slot = c.check.ensures.same.3 ∙ c.write_out.ensures.same.3 ∙ c.loop.invariant.slot in
+    let looked = rw (units, slot, c.in-Some.is) at c.in_ok-slot.ensures.looked in
+    λ tells. in_order_slot _ _ _ _ _ _ _ (last_call _ _ _ (c.in_ok-check.ensures.read tells)) (looked tells)
+
+pub returns-in-Some-2-clause-order : goal.returns-in-Some-2-clause-order
+returns-in-Some-2-clause-order g c =
+    let units = c.check.ensures.same.2 ∙ c.write_out.ensures.same.2 ∙ c.loop.invariant.units in
+    let slot = c.check.ensures.same.3 ∙ c.write_out.ensures.same.3 ∙ c.loop.invariant.slot in
+    let looked = rw (units, slot, c.in_default.is) at c.in_ok-slot.ensures.looked in
+    let event = rw c.in-Some-2.is at c.in_ok-heard.ensures.event in
+    λ tells. in_order _ _ _ _ event
+    (in_order_call _ _ _ _ _ _ _ (last_call _ _ _ (c.in_ok-check.ensures.read tells)) (looked tells)
+    (c.in_ok-heard.ensures.called tells))
