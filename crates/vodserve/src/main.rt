@@ -19,6 +19,7 @@ use crate::run_results::end_with;
 use cli_args::{Subcommand, subcommand_named};
 use cli_errors::CliError;
 use net_edge::{DialGate, FileLibrary, OutSink, TcpGate, TcpPort};
+use startup::{NoRandomBytes, SystemBytes, draw_seed, exit_code};
 use std::alloc::AllocError;
 use std::env;
 use std::io::ErrorKind;
@@ -45,6 +46,18 @@ fn command_of(words: &[String]) -> Option<Subcommand> {
         .and_then(|word| subcommand_named(word.as_str()))
 }
 
+/// The seed of a server's identities, drawn from the system. Other commands need none.
+fn seed_for(
+    rt: &impl RandomSource,
+    command: Option<Subcommand>,
+) -> Result<[u8; 32], NoRandomBytes> {
+    if command == Some(Subcommand::Serve) {
+        draw_seed(&mut SystemBytes::new(rt))
+    } else {
+        Ok([0; 32])
+    }
+}
+
 /// Carries out the words over the files of the current folder and a gate; answers the exit status.
 fn run_over_gate<R, O: Sink, E: Sink, G: Gate + Send + Drop>(
     rt: &R,
@@ -69,13 +82,12 @@ fn main(rt: HostRuntime) -> ExitCode {
     let mut out = OutSink::new(rt.stdout());
     let mut err = OutSink::new(rt.stderr());
     let Ok(words) = program_args(&rt) else {
-        return ExitCode::from(end_with(rt.alloc(), &mut err, CliError::NoMemory).status);
+        return exit_code(end_with(rt.alloc(), &mut err, CliError::NoMemory).status);
     };
     let command = command_of(&words);
-    let mut seed = [0; 32];
-    if command == Some(Subcommand::Serve) && rt.fill_bytes(&mut seed).is_err() {
-        return ExitCode::from(end_with(rt.alloc(), &mut err, CliError::GateFault).status);
-    }
+    let Ok(seed) = seed_for(&rt, command) else {
+        return exit_code(end_with(rt.alloc(), &mut err, CliError::GateFault).status);
+    };
     let status = if command == Some(Subcommand::Watch) {
         let mut gate = DialGate::new(&rt, rt.alloc());
         run_over_gate(&rt, &words, &mut out, &mut err, &mut gate, seed)
@@ -83,5 +95,5 @@ fn main(rt: HostRuntime) -> ExitCode {
         let mut gate = TcpGate::new(TcpPort::new(&rt, rt.alloc()));
         run_over_gate(&rt, &words, &mut out, &mut err, &mut gate, seed)
     };
-    ExitCode::from(status)
+    exit_code(status)
 }

@@ -1,0 +1,67 @@
+//! The seed that the identities of a server's connections are drawn from.
+
+ghost use Rattle.std.specs.Prelude.{◌≡◌, ◌++◌, ℕ, Bool, List, [], false, OnOk, IfOk, IsTrue};
+
+use std::random::RandomSource;
+
+/// No random bytes could be drawn.
+#[derive(Clone, Copy, Debug, PartialEq, Eq)]
+pub struct NoRandomBytes;
+
+/// A source of random bytes. What it gave may be told to contracts: `tells` says whether `drawn` is
+/// all bytes that it gave, in order.
+pub trait ByteSource {
+    ghost tells: { Bool };
+
+    ghost drawn: { Self → List ℕ };
+
+    /// Fills `into` with the next bytes.
+    ///
+    /// # Errors
+    ///
+    /// After a fault `into` may hold anything.
+    fn fill(&mut self, into: &mut [u8]) -> Result<(), NoRandomBytes>
+        ensures { OnOk result (IsTrue tells → drawn self.new ≡ drawn self.old ++ into.new) };
+}
+
+/// Draws a seed: each of its bytes is one of the source.
+///
+/// # Errors
+///
+/// The source gave none.
+pub fn draw_seed<S: ByteSource>(source: &mut S) -> Result<[u8; 32], NoRandomBytes>
+    ensures { IfOk result (λ seed. IsTrue S.tells →
+        S.drawn source.new ≡ S.drawn source.old ++ seed) }
+{
+    let mut seed = [0; 32];
+    match source.fill(&mut seed) {
+        Ok(()) => Ok(seed),
+        Err(NoRandomBytes) => Err(NoRandomBytes),
+    }
+}
+
+/// The random bytes of the system. They tell contracts nothing.
+#[derive(Drop)]
+pub struct SystemBytes<'a, R: RandomSource> {
+    rt: &'a R,
+}
+
+impl<'a, R: RandomSource> SystemBytes<'a, R> {
+    /// The bytes of the system that this runtime stands for.
+    pub fn new(rt: &'a R) -> SystemBytes<'a, R> {
+        SystemBytes { rt }
+    }
+}
+
+impl<R: RandomSource> ByteSource for SystemBytes<'_, R> {
+    ghost tells = { false };
+
+    ghost drawn = { λ _. [] };
+
+    fn fill(&mut self, into: &mut [u8]) -> Result<(), NoRandomBytes> {
+        match self.rt.fill_bytes(into) {
+            Ok(()) => Ok(()),
+            Err(_) => Err(NoRandomBytes),
+        }
+    }
+}
