@@ -228,11 +228,9 @@ impl<L: Listener + Drop> Gate for ListenerGate<L> {
         ensures split { OnOk result (⟦<ListenerGate<L> as Gate>⟧.told self.new ≡ option_map
             split_off (⟦<ListenerGate<L> as Gate>⟧.told self.old)) }
         ensures part { IfOk result (λ part.
-            (⟦<ListenerGate<L> as Gate>⟧.told part ≡ option_map new_part (⟦<ListenerGate<L> as
-                Gate>⟧.told self.old))
+            (⟦<ListenerGate<L> as Gate>⟧.told part ≡ option_map new_part (⟦<ListenerGate<L> as Gate>⟧.told self.old))
             × (part.faults ≡ 0)) }
-        ensures lost { OnErr result (⟦<ListenerGate<L> as Gate>⟧.told self.new ≡ ⟦<ListenerGate<L>
-            as Gate>⟧.told self.old) }
+        ensures lost { OnErr result (⟦<ListenerGate<L> as Gate>⟧.told self.new ≡ ⟦<ListenerGate<L> as Gate>⟧.told self.old) }
         ensures copied { OnOk result (IsTrue L.tells →
             L.did self.new.listener ≡ L.did self.old.listener ++ ListenerDoing.Copied ∷ []) }
         ensures fresh { IfOk result (λ part. IsTrue L.tells → L.did part.listener ≡ []) }
@@ -276,8 +274,7 @@ impl<L: Listener + Drop> Gate for ListenerGate<L> {
         ensures count { self.old.faults ≤ self.new.faults }
         ensures fault { OnErr result (HasRisen self.old.faults self.new.faults) }
         ensures gave { IfOk result (λ taken. IfSome taken (λ conn.
-            ⟦<ListenerGate<L> as Gate>⟧.told self.new ≡ option_map after_take (⟦<ListenerGate<L> as
-                Gate>⟧.told self.old))) }
+            ⟦<ListenerGate<L> as Gate>⟧.told self.new ≡ option_map after_take (⟦<ListenerGate<L> as Gate>⟧.told self.old))) }
         ensures fresh { IfOk result (λ taken. IfSome taken (λ conn. (L.Conn.faults conn ≡ 0)
             × IfSome (L.Conn.told conn) (λ doings. doings ≡ []))) }
         ensures none { IfOk result (λ taken. taken ≡ None →
