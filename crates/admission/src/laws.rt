@@ -55,8 +55,7 @@ pub fn law_plays_follow_from_entries()
         (segments : List Segment) → IsLegal steps entries →
         IsAdmission entries number start segments →
         IsUnhalted entries number →
-        play_numbered number (state_after entries).held ≡ Some (admitted_play number start segments)
-            }
+        play_numbered number (state_after entries).held ≡ Some (admitted_play number start segments) }
     ensures cut { (steps : List CapStep) (entries : List Entry) (number start keep i : ℕ)
         (segments : List Segment) → IsLegal steps entries →
         IsAdmission entries number start segments →

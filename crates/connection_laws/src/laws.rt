@@ -88,8 +88,7 @@ pub fn law_replies_at_next_boundary()
 /// The requests in a connection's input are processed in order. After each event so were all that
 /// are whole, unless an earlier reply waits or the 200 of a TEARDOWN was sent.
 pub fn law_requests_processed_in_order()
-    ensures { (beginning : Beginning) (cutting : InputSplit beginning) → AreTaken beginning cutting
-        }
+    ensures { (beginning : Beginning) (cutting : InputSplit beginning) → AreTaken beginning cutting }
 {}
 
 /// A connection's course is one of those of which the laws on cuttings speak, with the last event

@@ -150,8 +150,7 @@ fn push_start(out: &mut Vec<u8>, start: Option<u64>) -> Result<(), NoMemory>
 }
 
 /// Appends how many entries of a fair have each answer.
-#[tactic(auto, using(crate::proofs::AppendedTextLemmas::joins),
-    unfolding(crate::specs::LineTexts::entry_words))]
+#[tactic(auto, using(crate::proofs::AppendedTextLemmas::joins), unfolding(crate::specs::LineTexts::entry_words))]
 fn push_entries(out: &mut Vec<u8>, entries: &EntryCounts) -> Result<(), NoMemory>
     ensures { OnOk result (out.new.items ≡ out.old.items ++ entry_words entries.now) }
 {
@@ -161,8 +160,7 @@ fn push_entries(out: &mut Vec<u8>, entries: &EntryCounts) -> Result<(), NoMemory
 }
 
 /// Appends what a fair's slots brought.
-#[tactic(auto, using(crate::proofs::AppendedTextLemmas::joins),
-    unfolding(crate::specs::LineTexts::sum_words))]
+#[tactic(auto, using(crate::proofs::AppendedTextLemmas::joins), unfolding(crate::specs::LineTexts::sum_words))]
 fn push_sums(out: &mut Vec<u8>, counts: &FairTotals) -> Result<(), NoMemory>
     ensures { OnOk result (out.new.items ≡ out.old.items ++ sum_words counts.now) }
 {
@@ -172,8 +170,7 @@ fn push_sums(out: &mut Vec<u8>, counts: &FairTotals) -> Result<(), NoMemory>
 }
 
 /// Appends the turns of a fair and how many entries have each answer.
-#[tactic(auto, using(crate::proofs::AppendedTextLemmas::joins),
-    unfolding(crate::specs::LineTexts::turn_words))]
+#[tactic(auto, using(crate::proofs::AppendedTextLemmas::joins), unfolding(crate::specs::LineTexts::turn_words))]
 fn push_turns(out: &mut Vec<u8>, counts: &FairTotals, entries: &EntryCounts) -> Result<(), NoMemory>
     ensures { OnOk result (out.new.items ≡ out.old.items ++ turn_words counts.now entries.now) }
 {
@@ -182,8 +179,7 @@ fn push_turns(out: &mut Vec<u8>, counts: &FairTotals, entries: &EntryCounts) -> 
 }
 
 /// Appends how often the journal was full, the last slot, and what the slots brought.
-#[tactic(auto, using(crate::proofs::AppendedTextLemmas::joins),
-    unfolding(crate::specs::LineTexts::slot_words))]
+#[tactic(auto, using(crate::proofs::AppendedTextLemmas::joins), unfolding(crate::specs::LineTexts::slot_words))]
 fn push_slots(out: &mut Vec<u8>, counts: &FairTotals) -> Result<(), NoMemory>
     ensures { OnOk result (out.new.items ≡ out.old.items ++ slot_words counts.now) }
 {

@@ -118,8 +118,7 @@ impl<'r> DayMachine<'r> {
         ensures heard { OnOk result (self.new.heard ≡ self.old.heard) }
         ensures line { IfOk result (λ told.
             IsPlayLine (link_on self.old) client (rest_at (link_on self.old) source buffer delay)
-            (day_state_of self.old) (day_state_of self.new) (reply_text self.new.book.entries told))
-                }
+            (day_state_of self.old) (day_state_of self.new) (reply_text self.new.book.entries told)) }
     {
         if self.clients[client as usize].is_busy() {
             return Ok(LineAnswer::State);
@@ -143,8 +142,7 @@ impl<'r> DayMachine<'r> {
         ensures heard { OnOk result (self.new.heard ≡ self.old.heard) }
         ensures line { IfOk result (λ told.
             IsResumeLine (link_on self.old) client (state_at (day_state_of self.old) client)
-            (day_state_of self.old) (day_state_of self.new) (reply_text self.new.book.entries told))
-                }
+            (day_state_of self.old) (day_state_of self.new) (reply_text self.new.book.entries told)) }
     {
         match self.clients[client as usize].rest_left() {
             Some(rest) => self.ask(alloc, client, rest),
@@ -161,8 +159,7 @@ impl<'r> DayMachine<'r> {
         ensures heard { OnOk result (self.new.heard ≡ self.old.heard) }
         ensures asked { IfOk result (λ told.
             IsAsked (link_on self.old) client (rest_of rest.entry)
-            (day_state_of self.old) (day_state_of self.new) (reply_text self.new.book.entries told))
-                }
+            (day_state_of self.old) (day_state_of self.new) (reply_text self.new.book.entries told)) }
     {
         match plan_of(alloc, rest.medium, &rest.playback, &rest.run) {
             Ok(plan) => {

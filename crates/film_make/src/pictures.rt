@@ -134,8 +134,7 @@ fn write_fields(kind: CodingType, shown: u32, out: &mut Vec<u8>) -> Result<(), N
 }
 
 /// Appends the header of a picture of a group.
-#[tactic(auto, using(crate::proofs::Appends::appends),
-    unfolding(crate::specs::Film::picture_header))]
+#[tactic(auto, using(crate::proofs::Appends::appends), unfolding(crate::specs::Film::picture_header))]
 fn write_picture_header(place: u32, out: &mut Vec<u8>) -> Result<(), NoMemory>
     requires { place < 12 }
     ensures { OnOk result (out.new.items ≡ out.old.items ++ picture_header place) }

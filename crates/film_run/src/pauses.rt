@@ -36,8 +36,7 @@ pub fn run_after<U: Units>(
     requires fits { Fits playback.now.buffer run.now }
     requires plan { IsPlanOf (U.sizes units.now) playback.now run.now plan.now }
     requires halt { IsHalt plan.now last keep }
-    ensures left { IsRemainingRun (U.sizes units.now) playback.now run.now plan.now last keep result
-        }
+    ensures left { IsRemainingRun (U.sizes units.now) playback.now run.now plan.now last keep result }
     ensures run { IsRun (U.sizes units.now) result }
     ensures fits { Fits playback.now.buffer result }
 {

@@ -131,8 +131,7 @@ fn start_of(state: &State<'_>) -> Option<u64>
 
 /// Sends what is due in a slot, with a stop up to the end of the piece in hand alone. It tells how
 /// many bytes are left.
-#[tactic(auto, using(crate::proofs::FailedSlotLemmas::failed_front,
-    crate::proofs::FailedSlotLemmas::failed_due))]
+#[tactic(auto, using(crate::proofs::FailedSlotLemmas::failed_front, crate::proofs::FailedSlotLemmas::failed_due))]
 fn step<K: Link>(
     state: &mut State<'_>,
     slot: u64,

@@ -165,8 +165,7 @@ impl Calendar {
         ensures now { self.new.first ≡ now }
         ensures profile { self.new.steps ≡ self.old.steps }
         ensures totals { (t : ℕ) → now ≤ t → booked_at self.new t ≡ booked_at self.old t }
-        ensures stands { (plays : List Play) → Represents self.old plays → Represents self.new plays
-            }
+        ensures stands { (plays : List Play) → Represents self.old plays → Represents self.new plays }
     {
         self.ring.advance(now);
     }

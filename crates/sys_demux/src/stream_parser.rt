@@ -111,8 +111,7 @@ impl Unwrapper {
             IfOk result (λ fed.
             WasFed self.new (seen ++ take fed.taken chunk.now) (video ++ fed.video.now)) }
         ensures fault { (seen video : List ℕ) → WasFed self.old seen video →
-            IfErr result (λ fault. (more : List ℕ) → IsBadStream (seen ++ chunk.now ++ more) fault)
-                }
+            IfErr result (λ fault. (more : List ℕ) → IsBadStream (seen ++ chunk.now ++ more) fault) }
         ensures shown { (seen video : List ℕ) → WasFed self.old seen video → IfErr result IsShown }
         ensures kept { IfErr result (λ fault. fault_of self.new ≡ Some fault) }
         ensures again { (fault : SystemFault) → fault_of self.old ≡ Some fault →

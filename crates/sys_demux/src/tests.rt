@@ -26,8 +26,7 @@ fn unwrapped(
 ) -> Result<(Vec<u8>, Result<(), SystemFault>), Fail>
     requires { length bytes.now ≤ 2 ^ 40 }
     ensures { IfOk result (λ r.
-        MatchResult r.1 (λ _. IsSystem bytes.now r.0.items) (λ fault. IsBadStream bytes.now fault))
-            }
+        MatchResult r.1 (λ _. IsSystem bytes.now r.0.items) (λ fault. IsBadStream bytes.now fault)) }
 {
     let mut unwrapper = Unwrapper::new();
     let mut video = Vec::new(alloc);

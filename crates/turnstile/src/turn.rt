@@ -32,8 +32,7 @@ impl<B: Kept> Model for Turn<B> {
 
     ghost use Rattle.turnstile.specs.PassSeats.{IsTurnTaken, state_of_view};
 
-    ghost view = { λ t. record { pass = state_of_view t.seat.table_id t.seat.me.0; value = t.value }
-        };
+    ghost view = { λ t. record { pass = state_of_view t.seat.table_id t.seat.me.0; value = t.value } };
 
     ghost invariant = { λ t. IsTurnTaken t.seat t.before };
 }
