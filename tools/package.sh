@@ -105,6 +105,15 @@ CHANGELOG
     chmod 644 "$doc"/*.gz "$doc/copyright"
 }
 
+# write_overrides: tells lintian why the program keeps its symbols.
+write_overrides() {
+    install -d -m 755 "$root/usr/share/lintian/overrides"
+    cat >"$root/usr/share/lintian/overrides/vodserve" <<'OVERRIDES'
+# the program is packaged byte for byte as it was proved, built and run
+vodserve: unstripped-binary-or-object [usr/bin/vodserve]
+OVERRIDES
+}
+
 wrong=$(DESTDIR=$root "$tools/install.sh" /usr --program "$program" 2>&1 >/dev/null) ||
     fail "${wrong#install.sh: }"
 version=$("$root/usr/bin/vodserve" --version | cut -d ' ' -f 2)
@@ -112,6 +121,7 @@ version=$("$root/usr/bin/vodserve" --version | cut -d ' ' -f 2)
 rm "$root/usr/lib/vodserve/installed"
 install -d -m 755 "$root/var/lib/vodserve"
 write_documents
+write_overrides
 write_control
 (cd "$root" && find . -path ./DEBIAN -prune -o -type f -printf '%P\n' | LC_ALL=C sort |
     tr '\n' '\0' | xargs -0 md5sum >DEBIAN/md5sums)
