@@ -8,6 +8,7 @@ The films are names in `folder`, in which the server runs. Whether it listens is
 connection that only asks would be one of those that the server counts.
 """
 
+import contextlib
 import os
 import re
 import socket
@@ -36,6 +37,27 @@ def is_listening(port):
         next(lines)
         words = (line.split() for line in lines)
         return any(word[3] == LISTENS and int(word[1].split(":")[1], 16) == port for word in words)
+
+
+def listening_inode(port):
+    """The number of the socket that listens at the port, as /proc/PID/fd names it."""
+    with open("/proc/net/tcp", encoding="ascii") as lines:
+        next(lines)
+        for line in lines:
+            word = line.split()
+            if word[3] == LISTENS and int(word[1].split(":")[1], 16) == port:
+                return int(word[9])
+    raise NotServed(f"nothing listens at port {port}")
+
+
+def descriptors(pid):
+    """What each open file descriptor of a process is, by its number."""
+    found = {}
+    for path in Path(f"/proc/{pid}/fd").iterdir():
+        # One may be closed while they are listed.
+        with contextlib.suppress(FileNotFoundError):
+            found[int(path.name)] = os.readlink(path)
+    return found
 
 
 def is_established(port, peer):

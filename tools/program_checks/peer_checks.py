@@ -4,13 +4,14 @@ A connection to which nothing was sent within 15 s of its accept is given up. On
 may be silent for long. All of this takes its time, and is to run side by side.
 """
 
-import os
+import contextlib
 import resource
+import select
 import time
 
 from lab import PATIENCE, Check, Failed, ended, must, until
 from rtsp import Ended, TooLate
-from serving import is_established
+from serving import descriptors, is_established, listening_inode
 from sessions import Sessions
 from viewer import Viewer, Wire, want
 
@@ -23,6 +24,9 @@ SILENCE = 65
 TAKES_NOTHING = 300
 HALF_REQUEST = b"DESCRIBE rtsp://h/small.mpg RTSP/1.0\r\nCSe"
 CROWD = 250
+# The server that is short of file descriptors: its workers, the clients that wait, and for how many
+# seconds. A worker tries again after 10 ms, 20 ms and so on, at most a second.
+WORKERS, WAITING, SHORT = 8, 24, 4
 
 
 def answered(port):
@@ -39,7 +43,7 @@ def all_answer(port, count):
             wires.append(Wire(port))
             try:
                 reply = wires[-1].ask("OPTIONS", "*")
-            except (TooLate, Ended) as error:
+            except (TooLate, Ended, OSError) as error:
                 raise Failed(
                     f"wanted {count} workers that answer, number {number + 1} doesn't"
                     f" ({type(error).__name__})") from None
@@ -177,49 +181,112 @@ def takes_nothing(lab):
         all_answer(server.port, 1)
 
 
-def lowest_free(pid):
-    """The least number that a new file descriptor of the process could have."""
-    taken = {int(name) for name in os.listdir(f"/proc/{pid}/fd")}
-    return next(number for number in range(len(taken) + 1) if number not in taken)
+def short_of_descriptors(lab):
+    """A moment without file descriptors keeps clients waiting, and then each of them is served.
+
+    All workers hold a connection as the limit falls, so none of them waits in accept, where the
+    system has set a number aside for the next connection already."""
+    with lab.serving(["small.mpg"], workers=WORKERS) as server:
+        busy = connected_workers(server)
+        with shortage(server):
+            for wire in busy:
+                wire.socket.close()
+            until_idle(server)
+            wires = ask_at_once(server)
+            early = [number for number, wire in enumerate(wires) if has_news(wire)]
+            want("clients answered or ended without a file descriptor", [], early)
+        want("clients served after it", WAITING, sum(outcome(wire) for wire in wires))
+        all_answer(server.port, WORKERS)
+
+
+def short_while_idle(lab):
+    """The same with workers that wait for a connection. Each of them has a number for its next one,
+    which can't be set up and is ended. All others are answered."""
+    with lab.serving(["small.mpg"], workers=WORKERS) as server:
+        for wire in connected_workers(server):
+            wire.socket.close()
+        until_idle(server)
+        with shortage(server):
+            wires = ask_at_once(server)
+        served = sum(outcome(wire) for wire in wires)
+        must(f"{WAITING - WORKERS} of {WAITING} clients answered at least",
+             served >= WAITING - WORKERS, served)
+        all_answer(server.port, WORKERS)
+
+
+def connected_workers(server):
+    """A connection to each worker, all of them answered. So all workers are there: while the server
+    still starts, a shortage ends it, since it can't open what it needs."""
+    wires = [Wire(server.port) for _ in range(WORKERS)]
+    for wire in wires:
+        want("OPTIONS", "RTSP/1.0 200 OK", wire.ask("OPTIONS", "*")[:15])
+    return wires
+
+
+def of_connections(server):
+    """The server's file descriptors that belong to connections: their sockets, and the event poll
+    that each connection has."""
+    listening = f"socket:[{listening_inode(server.port)}]"
+    return {
+        number for number, what in descriptors(server.child.pid).items()
+        if what == "anon_inode:[eventpoll]" or what.startswith("socket:") and what != listening}
+
+
+def until_idle(server):
+    until("a server that has closed its connections", lambda: not of_connections(server))
+
+
+@contextlib.contextmanager
+def shortage(server):
+    """Lets the server open no file descriptor any more, until it ends. Those that its connections
+    have by now, and close, it can't open again either."""
+    pid = server.child.pid
+    taken = set(descriptors(pid)) - of_connections(server)
+    lowest = next(number for number in range(len(taken) + 1) if number not in taken)
+    soft, hard = resource.prlimit(pid, resource.RLIMIT_NOFILE)
+    resource.prlimit(pid, resource.RLIMIT_NOFILE, (lowest, hard))
+    try:
+        yield
+    finally:
+        if server.is_running():
+            resource.prlimit(pid, resource.RLIMIT_NOFILE, (soft, hard))
+
+
+def has_news(wire):
+    """Whether bytes or an end came on a connection that waits."""
+    return bool(select.select([wire.socket], [], [], 0)[0])
+
+
+def ask_at_once(server):
+    """Clients that ask during a shortage, and some time later; the server must not have ended."""
+    try:
+        wires = [Wire(server.port) for _ in range(WAITING)]
+        for wire in wires:
+            wire.send("OPTIONS", "*")
+        time.sleep(SHORT)
+        running = server.is_running()
+    except OSError:
+        # Where the server ends, its clients are reset.
+        time.sleep(1)
+        running = server.is_running()
+        if running:
+            raise
+    if not running:
+        raise Failed(f"{ended(server)}, after a moment without file descriptors")
+    return wires
 
 
 def outcome(wire):
-    """Whether a connection that asked was answered, or ended."""
+    """Whether a connection that asked was answered, or ended. Ends it, so that its worker is free
+    for the next one."""
     try:
         return wire.reply().startswith("RTSP/1.0 200 OK")
     except Ended:
         return False
     except TooLate:
         raise Failed(f"wanted each client answered or ended, one waits {PATIENCE} s") from None
-
-
-def short_of_descriptors(lab):
-    """A moment without file descriptors doesn't end a server of eight workers.
-
-    A worker that waits in accept may have a number for its next connection already; that one can't
-    be set up, and is ended. All others have to wait, and are answered."""
-    with lab.serving(["small.mpg"], workers=8) as server:
-        pid = server.child.pid
-        soft, hard = resource.prlimit(pid, resource.RLIMIT_NOFILE)
-        resource.prlimit(pid, resource.RLIMIT_NOFILE, (lowest_free(pid), hard))
-        wires = [Wire(server.port) for _ in range(24)]
-        try:
-            for wire in wires:
-                wire.send("OPTIONS", "*")
-            time.sleep(4)
-            if not server.is_running():
-                raise Failed(f"{ended(server)}, after a moment without file descriptors")
-            resource.prlimit(pid, resource.RLIMIT_NOFILE, (soft, hard))
-            # One after another: with each that is done a worker is free for the next.
-            served = 0
-            for wire in wires:
-                served += outcome(wire)
-                wire.socket.close()
-        finally:
-            for wire in wires:
-                wire.socket.close()
-        must("16 of 24 clients answered at least", served >= 16, served)
-        all_answer(server.port, 8)
+    finally:
+        wire.socket.close()
 
 
 def crowd(lab):
@@ -242,5 +309,6 @@ def checks():
         ("a minute of silence after SETUP", lambda lab: quiet_after(lab, "SETUP")),
         ("a minute of silence in a pause", lambda lab: quiet_after(lab, "SETUP", "PLAY")),
         ("a peer that takes nothing", takes_nothing),
-        ("a moment without file descriptors", short_of_descriptors)]
+        ("a moment without file descriptors", short_of_descriptors),
+        ("idle workers and no file descriptors", short_while_idle)]
     return [Check(name, call) for name, call in calls]
