@@ -3,8 +3,9 @@
 
 A first part of the time, a fifth but at least half a minute, is for the server to come to its usual
 size. Then all clients leave, and its memory is taken. The same clients go on for the rest. What the
-memory has grown by is compared with what they asked (memory.py). The sessions are drawn from SEED
-(default 1), so the same ones come again, though not at the same times.
+memory has grown by is compared with what they asked (memory.py). At last the connections that the
+server has left are used up, so that it ends and prints its journal. The sessions are drawn from
+SEED (default 1), so the same ones come again, though not at the same times.
 """
 
 import math
@@ -23,7 +24,7 @@ from clients import LOOKED, PATIENCE, Client, Soak
 from films import Film
 from rtsp import Ended, TooLate, Wrong
 from samples import generated_film, plain_film
-from serving import Server
+from serving import Journal, NotServed, Server, descriptors
 from viewer import OK, Wire, want
 
 CLIENTS = 60
@@ -39,6 +40,9 @@ LAST_SESSIONS = 200
 # Seconds in which nothing may be booked at the end, longer than any film and its start delay.
 EMPTY_FOR = 14
 MOST_OFF = 0.05
+# The server ends after so many connections of each worker: about twice as many as are used, and for
+# a short time some more. Seconds to use up the others.
+MINUTE_OF_WORKER, MORE_OF_WORKER, LAST_CONNECTIONS = 16, 40, 400
 
 
 def make_films(folder):
@@ -51,11 +55,6 @@ def make_films(folder):
     for name, data in films.items():
         (folder / name).write_bytes(data)
     return {name: Film(name, data) for name, data in films.items()}
-
-
-def descriptors(pid):
-    """The numbers of the file descriptors that a process has open."""
-    return {int(path.name) for path in Path(f"/proc/{pid}/fd").iterdir()}
 
 
 def shortages(soak):
@@ -122,18 +121,41 @@ def is_empty(soak):
 
 
 def answer_all(soak):
-    """Connections to all workers side by side, each of which is answered."""
+    """Connections to all workers side by side, each of which must be answered; how many are."""
     wires = []
     try:
         for _ in range(WORKERS):
             wires.append(Wire(soak.server.port, patience=PATIENCE))
             want("OPTIONS", OK[:-2], wires[-1].ask("OPTIONS", "*").split("\r\n")[0])
     except (Wrong, TooLate, Ended, OSError) as error:
-        soak.fault(f"of {WORKERS} workers {len(wires) - 1} answer at the end: {error}")
+        soak.fault(f"of {WORKERS} workers {len(wires) - 1} answer: {error}")
     finally:
         for wire in wires:
             wire.socket.close()
     return len(wires)
+
+
+def judge_journal(soak, clients, looks):
+    """Whether the server ends once its connections are used up, and its journal has a halt for each
+    play that was admitted, and an entry for each answer that the clients had."""
+    try:
+        text, knocks = soak.server.finish(LAST_CONNECTIONS)
+        journal = Journal(text)
+    except NotServed as error:
+        soak.fault(f"wanted the server's journal: {error}")
+        return
+    counts, _ = memory.sum_of([client.account for client in clients])
+    reckoned = memory.entries(counts) + looks
+    print(
+        f"journal: {journal.entries:,} entries, {reckoned:,} reckoned; {len(journal.admitted):,}"
+        f" plays admitted, {len(set(journal.halts)):,} of them halted, {journal.refused:,} refused;"
+        f" {journal.connections:,} connections, the last {knocks:,} of them unused")
+    for fault in journal.faults():
+        soak.fault(f"journal: {fault}")
+    came = journal.entries, len(journal.admitted), journal.refused
+    if came != (reckoned, counts["admitted"], counts["refused"]):
+        soak.fault(f"the journal has {came} entries, plays and refusals, the clients had"
+                   f" {(reckoned, counts['admitted'], counts['refused'])}")
 
 
 def told(counts):
@@ -158,6 +180,9 @@ def judge_memory(soak, before, after, clients):
 
 def soak_for(soak, clients, minutes):
     """The two parts, and what has to hold at the end."""
+    # All workers are there once so many connections are answered side by side.
+    answer_all(soak)
+    time.sleep(2)
     idle = len(descriptors(soak.server.child.pid))
     first = max(60 * minutes / 5, 30)
     go_on(soak, clients, first)
@@ -171,26 +196,37 @@ def soak_for(soak, clients, minutes):
     after = settle(soak, idle)
     judge_memory(soak, before, after, clients)
     print(f"{answer_all(soak)} connections side by side answered, of {WORKERS} workers")
-    print(f"nothing booked in {is_empty(soak)} looks over {EMPTY_FOR} s")
+    looks = is_empty(soak)
+    print(f"nothing booked in {looks:,} looks over {EMPTY_FOR} s", flush=True)
+    used = soak.server.processor_seconds()
+    judge_journal(soak, clients, looks)
+    print(f"server {used:.0f} s of processor time")
 
 
 def main():
     program, folder, minutes = sys.argv[1], Path(sys.argv[2]), float(sys.argv[3])
     seed = int(sys.argv[4]) if len(sys.argv) > 4 else 1
     films = make_films(folder)
-    words = {"capacity": CAPACITY, "journal": JOURNAL, "workers": WORKERS}
+    connections = MORE_OF_WORKER + math.ceil(MINUTE_OF_WORKER * minutes)
+    words = {
+        "capacity": CAPACITY, "journal": JOURNAL, "workers": WORKERS, "connections": connections}
     begun = time.monotonic()
     with Server(program, folder, films, **words) as server:
         soak = Soak(server, films)
         clients = [Client(soak, number, seed) for number in range(CLIENTS)]
-        soak_for(soak, clients, minutes)
-        used = server.processor_seconds() if server.is_running() else 0
+        try:
+            soak_for(soak, clients, minutes)
+        finally:
+            print_total(soak, begun)
+    return 1 if soak.faults else 0
+
+
+def print_total(soak, begun):
     print(f"{soak.sessions:,} sessions: " + told(soak.kinds))
     print(
         f"{soak.media:,} bytes of media compared, {soak.shortages} shortages of descriptors,"
-        f" {time.monotonic() - begun:.0f} s, server {used:.0f} s of processor time")
+        f" {time.monotonic() - begun:.0f} s")
     print("all as it should be" if not soak.faults else f"{len(soak.faults)} faults")
-    return 1 if soak.faults else 0
 
 
 if __name__ == "__main__":
