@@ -15,10 +15,7 @@ find_program "${1:-}"
 [ $# -gt 0 ] || set -- 1 25 100 250
 need python3 ffmpeg
 enter_folder
-ffmpeg -v error -f lavfi -i testsrc2=size=352x288:rate=25 -t 25 -c:v mpeg1video -bf 2 -b:v 1500k -maxrate 1800k \
-    -bufsize 1000k film.mkv || exit 2
-ffmpeg -v error -i film.mkv -c copy -f mpeg1video film.mpg 2>/dev/null || exit 2
-echo "film: $(wc -c <film.mpg) bytes in 25 seconds, $(nproc) processors"
+"$here/load/make_film.sh" 25 || exit 2
 
 bad=0
 python3 "$here/load/play.py" "$program" "$folder" film.mpg "$@" || bad=1

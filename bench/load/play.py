@@ -171,4 +171,5 @@ def main():
     sys.exit(by_vodserve(program, Path(folder), name, counts) > 0)
 
 
-main()
+if __name__ == "__main__":
+    main()
