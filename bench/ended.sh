@@ -1,0 +1,15 @@
+#!/bin/sh
+# The memory that an ended connection with one PLAY leaves: bench/ended.sh [PROGRAM] [COUNT]
+#
+# PROGRAM is the built vodserve (default: ../crates/vodserve/out/vodserve), COUNT how many
+# connections come before memory is taken, and again after it (default: 3000). Needs python3. Prints
+# the bytes of each connection beside what its parts hold. All files are made in a folder that is
+# removed again.
+set -u
+here=$(cd "$(dirname "$0")" && pwd)
+. "$here/setup.sh"
+find_program "${1:-}"
+need python3
+enter_folder
+cp "$here/../examples/colours.mpg" . || exit 2
+python3 "$here/memory/ended.py" "$program" "$folder" "${2:-3000}"
