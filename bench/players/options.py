@@ -1,8 +1,8 @@
 #!/usr/bin/env python3
 """Plays one film by each player, with the option that the README has for it: options.py PROGRAM
-FOLDER DISPLAY
+FOLDER DISPLAY..
 
-FOLDER has film.mpg. DISPLAY is an X display for ffplay. Prints a line for each player: how it was
+FOLDER has film.mpg. Each DISPLAY is an X display for one ffplay. All play at once. Prints a line for each player: how it was
 called, its status, after how many seconds it ended or how it had to be ended, and how much of the
 film it had. Only says what it saw; ends with status 1 if a player saw nothing at all.
 """
@@ -14,6 +14,7 @@ import signal
 import subprocess
 import sys
 import time
+from concurrent.futures import ThreadPoolExecutor
 from pathlib import Path
 
 sys.dont_write_bytecode = True
@@ -21,7 +22,7 @@ sys.path.insert(0, str(Path(__file__).resolve().parent.parent))
 import serving
 
 # Seconds after the film's end in which a player may end by itself, before it is told to.
-AFTER = 25
+AFTER = 40
 # The user that VLC runs as, which refuses to run as root.
 VLC_USER = "nobody"
 
@@ -29,23 +30,34 @@ VLC_USER = "nobody"
 class Player:
     """A player, how it is called, and how it is told to end: by keys, or by signals."""
 
-    def __init__(self, name, words, stops=(signal.SIGINT, signal.SIGTERM, signal.SIGKILL), seen=None):
+    SIGNALS = (signal.SIGINT, signal.SIGTERM, signal.SIGKILL)
+
+    def __init__(self, name, words, stops=SIGNALS, seen=None, display=""):
         self.name, self.words, self.stops, self.seen = name, words, stops, seen
+        self.display = display
+
+    def tried(self, folder, seconds, kind):
+        """The line of this player."""
+        tool = "cvlc" if "cvlc" in self.words else self.words[0]
+        if not shutil.which(tool):
+            return f"{self.name}: {tool} is missing"
+        status, ended, text = run(self, folder, seconds)
+        return f"{self.name} ({kind}): status {status}, {ended}; {self.seen(text)}"
 
 
-def run(player, folder, seconds, display):
-    """Runs a player until it ends, or tells it to; how it ended, and what it printed."""
+def run(player, folder, seconds):
+    """Runs a player until it ends, or tells it to; its status, how it ended, what it printed."""
     told = folder / f"{player.name}.txt".replace(" ", "-")
     begun = time.monotonic()
     with open(told, "wb") as out:
         child = subprocess.Popen(
             player.words, cwd=folder, stdin=subprocess.DEVNULL, stdout=out, stderr=out,
-            start_new_session=True, env={**os.environ, "DISPLAY": display})
+            start_new_session=True, env={**os.environ, "DISPLAY": player.display})
     try:
         child.wait(seconds + AFTER)
         ended = f"ended by itself after {time.monotonic() - begun:.1f} s"
     except subprocess.TimeoutExpired:
-        ended = f"still ran {AFTER} s after the film, " + stop(child, player.stops, display)
+        ended = f"still ran {AFTER} s after the film, " + stop(child, player.stops, player.display)
     return child.returncode, ended, told.read_text(errors="replace").replace("\r", "\n")
 
 
@@ -86,14 +98,12 @@ def last_time(pattern):
     return seen
 
 
-def scenes_seen(path):
-    def seen(_):
-        count = len(list(path.glob("*.png")))
-        return f"{count} pictures shown" if count else "nothing shown"
-    return seen
+def what_it_says(text):
+    said = [line for line in text.split("\n") if re.search("rtsp|MRL|unknown option", line)]
+    return "it says: " + (said[-1].partition("] ")[2] or said[-1])[:120] if said else "no word of it"
 
 
-def players(url, folder, film, kind):
+def players(url, folder, film, kind, displays):
     def out(name):
         return folder / f"{name}.out"
 
@@ -109,37 +119,30 @@ def players(url, folder, film, kind):
     ffplay = ["ffplay", "-hide_banner", "-v", "info", "-rtsp_transport", "tcp", "-vf", "showinfo"]
     mpv = ["mpv", "--no-config", "--vo=null", "--ao=null", "--rtsp-transport=tcp"]
     status = "--term-status-msg=at ${=time-pos}s"
-    scenes = folder / "scenes"
-    scenes.mkdir(mode=0o777, exist_ok=True)
-    scenes.chmod(0o777)
-    vlc = ["setpriv", f"--reuid={VLC_USER}", "--clear-groups", "env", "HOME=/tmp", "cvlc", "-v"]
-    vlc += ["--rtsp-tcp", "--no-audio"]
+    vlc = ["setpriv", f"--reuid={VLC_USER}", "--clear-groups", "env", "HOME=/tmp", "cvlc"]
+    vlc += ["--no-audio", "--vout=dummy", "--play-and-exit"]
     return [
         Player("ffmpeg", [*ffmpeg, "-timeout", "10000000", *copy, str(out("ffmpeg"))],
                seen=file_seen(out("ffmpeg"), film)),
         Player("ffmpeg-without-options", [*ffmpeg, *copy, str(out("ffmpeg-plain"))],
                seen=file_seen(out("ffmpeg-plain"), film)),
         Player("ffplay", [*ffplay, url], ("q", signal.SIGTERM, signal.SIGKILL),
-               last_time(r" n: *(\d+) pts")),
+               last_time(r"pts_time:([\d.]+)"), displays[0]),
         Player("ffplay-autoexit-timeout",
                [*ffplay, "-autoexit", "-timeout", "10000000", url], ("q", signal.SIGKILL),
-               last_time(r" n: *(\d+) pts")),
+               last_time(r"pts_time:([\d.]+)"), displays[1]),
         Player("mpv", [*mpv, "--cache=yes", status, url], seen=last_time(r"at ([\d.]+)s")),
-        Player("mpv-timeout", [*mpv, "--cache=yes", "--network-timeout=10", status, url],
+        Player("mpv-timeout", [*mpv, "--network-timeout=10", status, url],
                seen=last_time(r"at ([\d.]+)s")),
         Player("mplayer", ["mplayer", "-noconfig", "all", "-vo", "null", "-nosound", url],
                (signal.SIGTERM, signal.SIGKILL), last_time(r"V: *([\d.]+)")),
         gst("gstreamer"), gst("gstreamer-buffer-mode-none", "buffer-mode=none"),
-        Player("vlc", [*vlc, "--vout=dummy", "--video-filter=scene", "--scene-format=png",
-                       "--scene-ratio=1", f"--scene-path={scenes}", url, "vlc://quit"],
-               seen=scenes_seen(scenes)),
-        Player("vlc-without-options",
-               [*(word for word in vlc if word != "--rtsp-tcp"), "--vout=dummy", url, "vlc://quit"],
-               seen=lambda text: "; ".join(text.strip().split("\n")[-2:])[:200])]
+        Player("vlc", [*vlc, "--rtsp-tcp", url], seen=what_it_says),
+        Player("vlc-without-options", [*vlc, url], seen=what_it_says)]
 
 
 def main():
-    program, folder, display = sys.argv[1], Path(sys.argv[2]), sys.argv[3]
+    program, folder, displays = sys.argv[1], Path(sys.argv[2]), sys.argv[3:]
     folder.chmod(0o755)
     film = (folder / "film.mpg").read_bytes()
     seconds = film.count(b"\0\0\1\0") / 25
@@ -147,13 +150,10 @@ def main():
         words = {"startup": kind.partition("=")[2], "capacity": 10 ** 8}
         with serving.Server(program, folder, ["film.mpg"], **words) as server:
             url = f"rtsp://127.0.0.1:{server.port}/film.mpg"
-            for player in players(url, folder, film, kind):
-                tool = "cvlc" if "vlc" in player.name else player.words[0]
-                if not shutil.which(tool):
-                    print(f"{player.name}: {tool} is missing")
-                    continue
-                status, ended, text = run(player, folder, seconds, display)
-                print(f"{player.name} ({kind}): status {status}, {ended}; {player.seen(text)}", flush=True)
+            chosen = players(url, folder, film, kind, displays)
+            with ThreadPoolExecutor(len(chosen)) as pool:
+                for line in pool.map(lambda player: player.tried(folder, seconds, kind), chosen):
+                    print(line, flush=True)
 
 
 main()

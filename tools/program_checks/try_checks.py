@@ -23,9 +23,9 @@ FAULTS = [
     ("status is 1", "plan trace", "all"), ("status is 1", "no meaning", "all"),
     ("nothing said of errors", "no meaning", "all"),
     ("nothing said of errors", "folder", "all"),
-    ("a byte of the output differs", "make kind", "all"),
+    ("a byte of the output differs", "make kind", 3),
     ("a byte of the output differs", "`scan film=small", "all"),
-    ("failed writes pass", "can't be written", 1),
+    ("failed writes pass", "can't be written", 2),
     ("a byte of the media differs", "a pause and a part", 1),
     ("a byte of the media differs", "watch: a film of the server", 1),
     ("a byte of the media differs", "250 sessions", 1),
@@ -57,7 +57,7 @@ def tried(program, fault, word):
 def main():
     program = str(Path(sys.argv[1] if sys.argv[1:] else TOP / "crates/vodserve/out/vodserve").resolve())
     missed = 0
-    with ThreadPoolExecutor(6) as pool:
+    with ThreadPoolExecutor(4) as pool:
         jobs = [(row, pool.submit(tried, program, *row[:2])) for row in FAULTS]
         for (fault, word, wanted), job in jobs:
             passed, failed, status, first = job.result()

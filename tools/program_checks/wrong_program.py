@@ -6,13 +6,20 @@ right program, and their status or output is changed. `serve` runs it behind a r
 the bytes that go by. For a shortage of file descriptors `serve` is a small server of its own.
 """
 
+import ctypes
 import os
 import re
+import signal
 import socket
 import subprocess
 import sys
 import threading
 import time
+from pathlib import Path
+
+sys.dont_write_bytecode = True
+sys.path.insert(0, str(Path(__file__).resolve().parent.parent.parent / "bench"))
+import serving
 
 WRONG, RIGHT = os.environ["WRONG"], os.environ["RIGHT"]
 OK = b"RTSP/1.0 200 OK\r\nCSeq: 1\r\n\r\n"
@@ -91,6 +98,12 @@ def relay(client, port):
 LOST = threading.Semaphore(1)
 
 
+def end_with_parent():
+    """Lets the system end this process where its parent is ended, by whatever."""
+    PR_SET_PDEATHSIG = 1
+    ctypes.CDLL(None).prctl(PR_SET_PDEATHSIG, signal.SIGKILL)
+
+
 def serve(words):
     """The right server at a port of its own, and a relay at the port that was asked for."""
     given = dict(word.split("=", 1) for word in words if not word.startswith("film="))
@@ -98,14 +111,11 @@ def serve(words):
         asked.bind(("127.0.0.1", 0))
         port = asked.getsockname()[1]
     inner = [f"port={port}" if word.startswith("port=") else word for word in words]
-    child = subprocess.Popen([RIGHT, "serve", *inner])
+    child = subprocess.Popen([RIGHT, "serve", *inner], preexec_fn=end_with_parent)
     threading.Thread(target=lambda: os._exit(child.wait()), daemon=True).start()
-    while True:
-        try:
-            socket.create_connection(("127.0.0.1", port)).close()
-            break
-        except OSError:
-            time.sleep(0.01)
+    # A connection that only asks would be one of those that the server counts.
+    while not serving.is_listening(port):
+        time.sleep(0.01)
     everywhere = given.get("bind") == "all" or WRONG == "it listens everywhere"
     with socket.create_server(
             ("0.0.0.0" if everywhere else "127.0.0.1", int(given["port"])), backlog=512) as listener:
@@ -142,11 +152,13 @@ def serve_options(words):
     time.sleep(1000)
 
 
+COMMAND_FAULTS = (
+    "status is 1", "nothing said of errors", "a byte of the output differs", "failed writes pass")
+
+
 def main():
     words = sys.argv[1:]
-    if words[:1] != ["serve"]:
-        sys.exit(run_command(words))
-    if not any(word.startswith("port=") for word in words):
+    if words[:1] != ["serve"] or WRONG in COMMAND_FAULTS:
         sys.exit(run_command(words))
     (serve_options if "shortage" in WRONG else serve)(words[1:])
 
