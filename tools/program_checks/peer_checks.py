@@ -233,7 +233,14 @@ def of_connections(server):
 
 
 def until_idle(server):
-    until("a server that has closed its connections", lambda: not of_connections(server))
+    until("a server that has closed its connections",
+          lambda: not server.is_running() or not of_connections(server))
+    must_run(server)
+
+
+def must_run(server):
+    if not server.is_running():
+        raise Failed(f"{ended(server)}, after a moment without file descriptors")
 
 
 @contextlib.contextmanager
@@ -264,15 +271,12 @@ def ask_at_once(server):
         for wire in wires:
             wire.send("OPTIONS", "*")
         time.sleep(SHORT)
-        running = server.is_running()
     except OSError:
         # Where the server ends, its clients are reset.
         time.sleep(1)
-        running = server.is_running()
-        if running:
-            raise
-    if not running:
-        raise Failed(f"{ended(server)}, after a moment without file descriptors")
+        must_run(server)
+        raise
+    must_run(server)
     return wires
 
 
