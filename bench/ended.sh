@@ -1,10 +1,9 @@
 #!/bin/sh
-# The memory that an ended connection with one PLAY leaves: bench/ended.sh [PROGRAM] [COUNT]
+# The memory that an ended connection with one PLAY leaves: bench/ended.sh [PROGRAM]
 #
-# PROGRAM is the built vodserve (default: ../crates/vodserve/out/vodserve), COUNT how many
-# connections come before memory is taken, and again after it (default: 3000). Needs python3. Prints
-# the bytes of each connection beside what its parts hold. All files are made in a folder that is
-# removed again.
+# PROGRAM is the built vodserve (default: ../crates/vodserve/out/vodserve). Needs python3. Takes one
+# to five minutes. Prints the bytes of each connection beside what its parts hold. All files are
+# made in a folder that is removed again.
 set -u
 here=$(cd "$(dirname "$0")" && pwd)
 . "$here/setup.sh"
@@ -12,4 +11,4 @@ find_program "${1:-}"
 need python3
 enter_folder
 cp "$here/../examples/colours.mpg" . || exit 2
-python3 "$here/memory/ended.py" "$program" "$folder" "${2:-3000}"
+python3 "$here/memory/ended.py" "$program" "$folder"

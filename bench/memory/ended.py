@@ -1,10 +1,11 @@
 #!/usr/bin/env python3
-"""What an ended connection with one PLAY leaves in the server: ended.py PROGRAM FOLDER COUNT
+"""What an ended connection with one PLAY leaves in the server: ended.py PROGRAM FOLDER
 
-Connections come one after another: SETUP, PLAY, TEARDOWN. After COUNT of them the server's own
-memory (RssAnon) is taken, and again after COUNT more. The difference is compared with what the
-connections' parts hold (soak/memory.py), for a plan of one segment and one of many, and for one
-worker and for 32.
+Connections come one after another: SETUP, PLAY, TEARDOWN. After FIRST of them the server's own
+memory (RssAnon) is taken, and again after MORE. The difference is compared with what the
+connections' parts hold (soak/memory.py), for two buffers, and for one worker and for 32. A worker's
+list of reports doubles at 4,096 and 8,192 connections (one worker), or at 128 and 256 (32 of them):
+none of that falls between the two moments, so a report counts as it is.
 """
 
 import subprocess
@@ -21,6 +22,8 @@ from films import Film
 from serving import Server
 from viewer import Viewer
 
+FIRST, MORE = 4_200, 3_800
+REPORT = 112
 # Buffers in bytes: one for a plan of one segment or few, and a small one.
 BUFFERS = (1_048_576, 16_384)
 DELAY = 25
@@ -44,24 +47,24 @@ def parts(segments):
     """The bytes of each part that a connection with one play leaves."""
     return {
         "journal": 2 * memory.ENTRY, "plan in the journal": memory.piece(memory.SEGMENT * segments),
-        "report": memory.CONNECTION, "receipts": memory.piece(2 * memory.RECEIPT),
+        "report": REPORT, "receipts": memory.piece(2 * memory.RECEIPT),
         "note of the play": memory.piece(memory.PLAY),
         "plan in the note": memory.piece(memory.SEGMENT * segments)}
 
 
 def main():
-    program, folder, count = sys.argv[1], Path(sys.argv[2]), int(sys.argv[3])
+    program, folder = sys.argv[1], Path(sys.argv[2])
     film = Film("colours.mpg", (folder / "colours.mpg").read_bytes())
     for workers in (1, 32):
         for buffer in BUFFERS:
             words = {"capacity": 10 ** 9, "workers": workers}
             with Server(program, folder, [film.name], **words) as server:
-                play(server, film, buffer, count)
+                play(server, film, buffer, FIRST)
                 time.sleep(0.5)
                 before = memory.resident(server.child.pid)
-                play(server, film, buffer, count)
+                play(server, film, buffer, MORE)
                 time.sleep(0.5)
-                grown = (memory.resident(server.child.pid) - before) / count
+                grown = (memory.resident(server.child.pid) - before) / MORE
             held = parts(segments_of(program, folder, film, buffer))
             told = ", ".join(f"{what} {size}" for what, size in held.items())
             print(
