@@ -7,8 +7,9 @@
 # nothing, and sends bytes that were put together before. Needs python3, ffmpeg and cc; leaves
 # gst-rtsp-server out where it is missing (Debian packages python3-gi, gir1.2-gst-rtsp-server-1.0
 # and gstreamer1.0-plugins-bad). Prints the processor time of each, and its ratio to the bare
-# server. Ends with status 1 if a session didn't get the film, and 2 if nothing could be tried. All
-# files are made in a folder that is removed again, and the servers are stopped in any case.
+# server; and where valgrind is there, how many instructions of its own `serve` takes for a wake.
+# Ends with status 1 if a session didn't get the film, and 2 if nothing could be tried. All files are
+# made in a folder that is removed again, and the servers are stopped in any case.
 set -u
 here=$(cd "$(dirname "$0")" && pwd)
 . "$here/setup.sh"
@@ -24,4 +25,7 @@ for python in python3 /usr/bin/python3; do
 done
 [ -n "$GST_PYTHON" ] || echo "serve.sh: gst-rtsp-server is missing; it is left out"
 export GST_PYTHON
+if command -v valgrind >/dev/null; then
+    python3 "$here/serve/count.py" "$program" "$folder" || exit 1
+fi
 python3 "$here/serve/turns.py" "$program" "$folder/bare" "$folder" "${2:-100}" "${3:-3}"
