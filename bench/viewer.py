@@ -249,6 +249,8 @@ def units_between(film, start, stop):
     """The units that are played for a range of seconds: from the last start of a group that isn't
     after it, to the next one that isn't before its end."""
     groups = [k for k, unit in enumerate(film.units) if unit.starts_group]
-    first = max(k for k in groups if k * film.time <= start * 360_000)
-    later = [k for k in groups if k > first and k * film.time >= stop * 360_000]
+    # In whole milliseconds, as the request has them: 9.12 * 360,000 is below 3,283,200 otherwise.
+    begin, end = (round(seconds * 1000) * 360 for seconds in (start, stop))
+    first = max(k for k in groups if k * film.time <= begin)
+    later = [k for k in groups if k > first and k * film.time >= end]
     return first, later[0] if later else len(film.units)
