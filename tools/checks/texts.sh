@@ -33,6 +33,7 @@ print("\n".join(wrong))
 sys.exit(bool(wrong))
 PYTHON
 }
+try "documents: names, clauses, links, files, widths" "$tools/claims.py" --check
 try "Python: lengths of functions and lines" python_style "$tools"/vodtools/*.py \
     "$tools"/{draw,monitor,start,protocol_page,build,claims}.py
 
