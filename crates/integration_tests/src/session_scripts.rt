@@ -19,8 +19,8 @@ use std::alloc::Global;
 use std::process::Abort;
 use vod_base::{MemoryLink, NoMemory};
 
-/// The random numbers of the connections: the session's id, the SSRC, the first sequence number and the
-/// first timestamp.
+/// The random numbers of the connections: the session's id, the SSRC, the first sequence number and
+/// the first timestamp.
 pub(crate) const WORDS: [u32; 5] = [0x0123_4567, 0x89ab_cdef, 0x0102_0304, 1, 0];
 
 /// The server's settings: slots of 40 ms, and the defaults.

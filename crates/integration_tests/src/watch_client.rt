@@ -70,8 +70,8 @@ fn after<'a>(bytes: &'a [u8], front: usize) -> &'a [u8] {
     bytes.get(front..).unwrap_or(&[])
 }
 
-/// What the client receives: the server's replies to the first two requests; in each of so many slots
-/// what the server had sent by its step of that slot; and the rest.
+/// What the client receives: the server's replies to the first two requests; in each of so many
+/// slots what the server had sent by its step of that slot; and the rest.
 fn client_events<R: Wait + Abort>(
     rt: &R,
     alloc: Global,
