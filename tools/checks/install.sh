@@ -72,6 +72,9 @@ touch -d 2001-01-01 small/crates.txt
 touch "$own"
 refuses "sources.sh: another source, though it is older" 1 "was built from other sources" \
     sources check "$own"
+cp -r "$tools/draw.py" "$tools/vodtools" small/tools/
+refuses "a tool builds nothing by itself" 1 "was built from other sources: './vodserve --version'" \
+    small/tools/draw.py capacity trace=none
 cp "$own" elsewhere
 refuses "sources.sh: a program from elsewhere" 1 "elsewhere.sources doesn't say from which" \
     sources check elsewhere
