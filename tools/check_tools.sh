@@ -2,19 +2,18 @@
 # Tries the operator's tools with the built program: tools/check_tools.sh [PROGRAM [PART..]]
 #
 # PROGRAM is the built vodserve (default: crates/vodserve/out/vodserve). PART names files of
-# tools/checks (default: all of them). Prints a line for each check, and at the end how many passed,
-# failed, and were skipped because a program or a right is missing. The status is 0 if none failed.
-# All files are in a temporary folder. Only the part `package` needs root: it
-# installs the package into a copy of this system that is thrown away.
+# tools/checks (default: all of them), which run side by side. Prints a line for each check, and at
+# the end how many passed, failed, and were skipped because a program or a right is missing. The
+# status is 0 if none failed. All files are in a temporary folder. Only the part `package` needs
+# root: it installs the package into a copy of this system that is thrown away.
 set -u
 tools=$(dirname -- "$(readlink -f -- "$0")")
 top=$(dirname -- "$tools")
-passed=0 failed=0 skipped=0
 
-# pass NAME, miss NAME WHY, skip NAME WHY: count a check and print its line.
-pass() { passed=$((passed + 1)) && echo "passed   $1"; }
-miss() { failed=$((failed + 1)) && echo "FAILED   $1: ${2:-}"; }
-skip() { skipped=$((skipped + 1)) && echo "skipped  $1: $2"; }
+# pass NAME, miss NAME WHY, skip NAME WHY: print the line of a check.
+pass() { echo "passed   $1"; }
+miss() { echo "FAILED   $1: ${2:-}"; }
+skip() { echo "skipped  $1: $2"; }
 
 # have TOOL: whether a program is there.
 have() { command -v "$1" >/dev/null 2>&1; }
@@ -75,17 +74,36 @@ program=$(readlink -f -- "${1:-$top/crates/vodserve/out/vodserve}")
 [ $# -eq 0 ] || shift
 [ $# -gt 0 ] || set -- "$tools"/checks/*.sh
 work=$(mktemp -d)
-trap 'rm -rf "$work"' EXIT
+jobs=()
+trap 'kill "${jobs[@]}" 2>/dev/null; rm -rf "$work"' EXIT
 trap 'exit 130' INT TERM
 begin=$SECONDS
+
+# run_part PART: runs a part in its folder; a part that stops early has failed.
+run_part() {
+    mkdir "$work/$1" && cd "$work/$1" || exit 2
+    # shellcheck disable=SC1090
+    . "$tools/checks/$1.sh"
+    echo "ended"
+}
+
+parts=()
 for part; do
     part=$(basename "$part" .sh)
-    file=$tools/checks/$part.sh
-    [ -f "$file" ] || { echo "check_tools.sh: there is no part $part" >&2 && exit 2; }
-    mkdir "$work/$part"
-    cd "$work/$part" || exit 2
-    # shellcheck disable=SC1090
-    . "$file"
+    [ -f "$tools/checks/$part.sh" ] ||
+        { echo "check_tools.sh: there is no part $part" >&2 && exit 2; }
+    parts+=("$part")
 done
-echo "$passed passed, $failed failed, $skipped skipped, $((SECONDS - begin)) s"
-[ "$failed" -eq 0 ]
+for part in "${parts[@]}"; do
+    (run_part "$part") >"$work/$part.txt" 2>&1 &
+    jobs+=($!)
+done
+wait "${jobs[@]}"
+for part in "${parts[@]}"; do
+    [ "$(tail -n 1 "$work/$part.txt")" = ended ] || miss "$part ran to its end" "see above"
+    grep -v '^ended$' "$work/$part.txt"
+done | tee "$work/all.txt"
+count() { grep -c "^$1 " "$work/all.txt"; }
+echo "$(count passed) passed, $(count FAILED) failed, $(count skipped) skipped," \
+    "$((SECONDS - begin)) s"
+[ "$(count FAILED)" -eq 0 ]

@@ -2,10 +2,11 @@
 """Lists what is proved, and checks the names that the documents cite.
 
     tools/claims.py            writes docs/CLAIMS.md: each public law, what it says, and who uses
-                               it; and each public call with the names of its clauses
-    tools/claims.py --check    changes nothing; ends with 1 where docs/CLAIMS.md is out of date, or
-                               where README.md or a document in docs/ cites a name or a file that
-                               is not in the repository
+                               it; each public call with the names of its clauses; and each file of
+                               definitions with the laws that cite it
+    tools/claims.py --check    changes nothing; ends with 1 if docs/CLAIMS.md is out of date, or if
+                               README.md, a crate's README.md or a document in docs/ cites a law, a
+                               call, a clause or a file that is not in the repository
 
 A law is a public function `law_..` without a body: its contract is the theorem.
 """
@@ -25,9 +26,12 @@ This page is written by `tools/claims.py` from the sources: do not edit it. For 
 - its **laws**: public functions without a body, whose contract is the theorem. They stand in the
   module `laws` of the crate, as `crate::laws::name`;
 - its **calls**: public functions and methods, each with the names of its clauses. A clause says
-  what the call answers or leaves; the definitions that it cites are in the crate's `specs/`.
+  what the call answers or leaves;
+- its **definitions**: the files of its `specs/`, each with the laws that cite it, of this crate
+  and of others.
 
-What these promise together is in [GUARANTEES](GUARANTEES.md).
+What these promise together is in [GUARANTEES](GUARANTEES.md), and which definitions have to be
+compared with their source in [DEFINITIONS](DEFINITIONS.md).
 """
 
 
@@ -101,6 +105,44 @@ def calls_of(crate):
     return found
 
 
+def heading_of(path):
+    """Returns the first sentence of the comment that begins a file of definitions."""
+    lines = []
+    for line in read(path).splitlines():
+        if not line.startswith("--"):
+            break
+        lines.append(line.removeprefix("--").strip())
+    return first_sentence(lines)
+
+
+def citations_of(crate):
+    """Yields each law of a crate with each file of definitions that its contract cites."""
+    for path in files_of(crate, "src", ".rt"):
+        text = read(path)
+        imports = re.findall(r"ghost use Rattle\.(\w+)\.specs\.(\w+)\.\{([^}]*)\}", text)
+        names = [
+            (of, file, {it.split(" as ")[-1].strip() for it in listed.split(",")})
+            for of, file, listed in imports
+        ]
+        for law, contract in re.findall(r"pub fn (law_\w+)\(\)(.*?)\n\{", text, re.S):
+            words = set(re.findall(r"[^\s(){},.]+", contract))
+            for of, file, listed in names:
+                if words & listed:
+                    yield law, crate, of, file
+
+
+def definitions_of(citations, crate):
+    """Returns each file of a crate's definitions: its heading, and the laws that cite it."""
+    found = {}
+    for path in files_of(crate, "specs", ".antt"):
+        name = os.path.basename(path).removesuffix(".antt")
+        cited = [it for it in citations if it[2:] == (crate, name)]
+        laws = [law if of == crate else f"{of}::{law}" for law, of, _, _ in cited]
+        if name != "Lib":
+            found[name] = heading_of(path), sorted(dict.fromkeys(laws))
+    return found
+
+
 def users_of(laws, texts):
     """Returns for each law the crates, other than its own, whose sources name it."""
     return {
@@ -135,6 +177,13 @@ def call_lines(calls):
         yield f"- `{call}`: {sentence}{named}"
 
 
+def definition_lines(definitions):
+    """Returns the lines of a crate's definitions."""
+    for name, (sentence, laws) in sorted(definitions.items()):
+        cited = f" Laws: {', '.join(f'`{it}`' for it in laws)}." if laws else ""
+        yield f"- `{name}`: {sentence}{cited}"
+
+
 def page():
     """Returns the text of docs/CLAIMS.md."""
     laws = {crate: laws_of(crate) for crate in crates()}
@@ -143,10 +192,15 @@ def page():
         for crate in laws
     }
     users = users_of(laws, words)
+    citations = [it for crate in laws for it in citations_of(crate)]
     parts = [HEAD]
     for crate, names in sorted(laws.items()):
-        calls = calls_of(crate)
-        for title, lines in (("laws", law_lines(names, users)), ("calls", call_lines(calls))):
+        lists = {
+            "laws": law_lines(names, users),
+            "calls": call_lines(calls_of(crate)),
+            "definitions": definition_lines(definitions_of(citations, crate)),
+        }
+        for title, lines in lists.items():
             text = "".join(f"{wrapped(line, 2)}\n" for line in lines)
             parts += [f"\n## {crate}: {title}\n\n", text] if text else []
     return "".join(parts)
@@ -161,35 +215,66 @@ def declared():
     return known
 
 
-def faults_in(path, known):
-    """Returns what a document cites that is not there, each with its line."""
-    faults = []
-    for number, line in enumerate(read(path).splitlines(), 1):
-        for cited in re.findall(r"`([^`\n]+)`", line):
-            for crate, name in re.findall(r"\b([a-z_]+)::((?:\w+::)*\w+)", cited):
-                words = name.split("::") if crate in known else []
-                missing = [it for it in words if it not in known[crate]]
-                faults += [f"{path}:{number}: `{crate}::{name}`: no {it}" for it in missing]
-            for law in re.findall(r"\blaw_\w+", cited):
-                if not any(law in words for words in known.values()):
-                    faults.append(f"{path}:{number}: `{law}`: no such law")
-            for crate, spec in re.findall(r"\b([a-z_]+)/(?:specs/)?([A-Z]\w+)(?:\.antt)?\b", cited):
-                if crate in known and not os.path.exists(f"{TOP}/crates/{crate}/specs/{spec}.antt"):
-                    faults.append(f"{path}:{number}: `{crate}/{spec}`: no such file of definitions")
+def clauses_by_name():
+    """Returns for each public call and law, by its last name, the names of its clauses."""
+    clauses = {}
+    for crate in crates():
+        for call, (_, named) in calls_of(crate).items():
+            clauses.setdefault(call.rpartition("::")[2], set()).update(named)
+        for path in files_of(crate, "src", ".rt"):
+            for name, contract in re.findall(r"\bfn (\w+)(.*?)\n *[{}]", read(path), re.S):
+                clauses.setdefault(name, set()).update(re.findall(r"ensures (\w+) ", contract))
+    return clauses
+
+
+def names_missing(line, known):
+    """Yields what a line cites of crates, laws and definitions that is not there."""
+    for cited in re.findall(r"`([^`\n]+)`", line):
+        for crate, name in re.findall(r"\b([a-z_]+)::((?:\w+::)*\w+)", cited):
+            words = name.split("::") if crate in known else []
+            yield from (f"`{crate}::{name}`: no {it}" for it in words if it not in known[crate])
+        for law in re.findall(r"\blaw_\w+", cited):
+            if not any(law in words for words in known.values()):
+                yield f"`{law}`: no such law"
+        for crate, spec in re.findall(r"\b([a-z_]+)/(?:specs/)?([A-Z]\w+)(?:\.antt)?\b", cited):
+            if crate in known and not os.path.exists(f"{TOP}/crates/{crate}/specs/{spec}.antt"):
+                yield f"`{crate}/{spec}`: no such file of definitions"
+        for file in re.findall(r"^(?:crates|docs|tools|bench|examples)/[\w./-]+$", cited):
+            if not os.path.exists(f"{TOP}/{file}") and "NAME" not in file and "/out/" not in file:
+                yield f"`{file}`: no such file"
+
+
+def clauses_missing(text, clauses):
+    """Yields the clauses that a document cites of a call which has no such clause."""
+    named = r"`(?:\w+::)*(\w+)`(?: \(|, clauses? )((?:`\w+`(?:, | and )?)+)"
+    for call, cited in re.findall(named, " ".join(text.split())):
+        for clause in re.findall(r"\w+", cited.replace(" and ", " ")):
+            if call in clauses and clause not in clauses[call] | clauses.keys():
+                yield f"`{call}` has no clause `{clause}`"
+
+
+def faults_in(path, known, clauses):
+    """Returns what a document cites that is not there, and its lines that are too wide."""
+    text = read(path)
+    faults = [f"{path}: {it}" for it in clauses_missing(text, clauses)]
+    for number, line in enumerate(text.splitlines(), 1):
+        faults += [f"{path}:{number}: {it}" for it in names_missing(line, known)]
         for link in re.findall(r"\]\(([^)#:]+)(?:#[^)]*)?\)", line):
             if not os.path.exists(os.path.join(os.path.dirname(path), link)):
                 faults.append(f"{path}:{number}: link to {link}: no such file")
+        if len(line) > WIDTH:
+            faults.append(f"{path}:{number}: over {WIDTH} columns")
     return faults
 
 
 def check():
     """Returns the faults of the documents."""
-    known = declared()
-    # RENAMED.md names what is gone
+    known, clauses = declared(), clauses_by_name()
     pages = [it for it in sorted(os.listdir(f"{TOP}/docs")) if it.endswith(".md")]
-    pages = [it for it in pages if it != "RENAMED.md"]
-    documents = [f"{TOP}/README.md", *(f"{TOP}/docs/{it}" for it in pages)]
-    faults = [fault for it in documents for fault in faults_in(it, known)]
+    documents = [f"{TOP}/{it}/README.md" for it in ("tools", "examples")]
+    documents += [f"{TOP}/README.md", *(f"{TOP}/docs/{it}" for it in pages)]
+    documents += [f"{TOP}/crates/{it}/README.md" for it in crates()]
+    faults = [fault for it in documents for fault in faults_in(it, known, clauses)]
     if not os.path.exists(CLAIMS) or read(CLAIMS) != page():
         faults.append(f"{CLAIMS}: out of date; run tools/claims.py")
     return faults

@@ -1,54 +1,74 @@
 #!/bin/sh
 # Says whether a program is built from the sources of this checkout:
 #
-#   tools/sources.sh check PROGRAM    ends with 0 if it is, else with 1 and a sentence
-#   tools/sources.sh record PROGRAM   notes beside a program just built that these are its sources
+#   tools/sources.sh check PROGRAM          ends with 0 if it is, else with 1 and a sentence
+#   tools/sources.sh sum                    prints the checksum of the sources
+#   tools/sources.sh record PROGRAM [SUM]   notes of which sources a program was just built: these,
+#                                           or those of SUM, which `sum` printed before the build
 #
-# A source that is newer than the program refuses it. Where PROGRAM.sources exists, which `record`
-# writes, the checksums of the program and of all sources must also be those that stand there.
+# The note stands in PROGRAM.sources: the checksums of the program and of crates.txt, HANDLES and
+# crates/*/{src,specs,proofs}. The build writes it. If `rt ci` built crates/vodserve/out/vodserve,
+# there is no note of it: then `check` asks that no source is newer, and writes the note.
 set -eu
-top=$(dirname -- "$(readlink -f -- "$0")")/..
+top=$(readlink -f -- "$(dirname -- "$(readlink -f -- "$0")")/..")
+own=$top/crates/vodserve/out/vodserve
 
 usage() {
-    sed -n '2,/^set/s/^# \{0,1\}//p' "$0"
+    sed -n '2,/^set/{/^set/d;s/^# \{0,1\}//p}' "$0"
 }
 
-# list_sources: prints the names of all sources, in an order that is the same everywhere.
-list_sources() {
-    cd "$top" && find crates.txt HANDLES crates/*/src crates/*/specs crates/*/proofs -type f |
-        LC_ALL=C sort
+# find_sources EXPRESSION..: prints the names of the sources that fit, in one order everywhere.
+find_sources() {
+    (cd "$top" && find crates.txt HANDLES crates/*/src crates/*/specs crates/*/proofs \
+        -type f "$@" | LC_ALL=C sort)
 }
 
-# checksums PROGRAM: prints the checksum of the program and that of all sources with their names.
-checksums() {
-    echo "program $(sha256sum <"$1" | cut -d ' ' -f 1)"
-    sources=$(list_sources | (cd "$top" && tr '\n' '\0' | xargs -0 sha256sum) | sha256sum)
-    echo "sources ${sources%% *}"
+# sum_sources: prints the checksum of all sources with their names.
+sum_sources() {
+    find_sources | (cd "$top" && tr '\n' '\0' | xargs -0 sha256sum) | sha256sum | cut -d ' ' -f 1
+}
+
+# sum_program PROGRAM: prints the checksum of a program.
+sum_program() {
+    sha256sum <"$1" | cut -d ' ' -f 1
+}
+
+# record PROGRAM SUM: notes of which sources a program is; by a rename, so never in part.
+record() {
+    printf 'program %s\nsources %s\n' "$(sum_program "$1")" "$2" >"$1.sources.$$"
+    mv "$1.sources.$$" "$1.sources"
 }
 
 # check PROGRAM: prints what is wrong, if anything is.
 check() {
     if ! [ -f "$1" ] || ! [ -x "$1" ]; then
         echo "$1 isn't there: './vodserve --version' proves and builds it"
-        return
-    fi
-    newer=$(cd "$top" && find crates.txt HANDLES crates/*/src crates/*/specs crates/*/proofs \
-        -newer "$1" -print | LC_ALL=C sort | head -n 1)
-    if [ -n "$newer" ]; then
-        echo "$1 is older than $newer: './vodserve --version' proves and builds it again"
-    elif [ -f "$1.sources" ] && [ "$(checksums "$1")" != "$(cat "$1.sources")" ]; then
-        echo "$1 isn't the program that was built from these sources (see $1.sources)"
+    elif [ -f "$1.sources" ] &&
+        [ "$(sed -n 's/^program //p' "$1.sources")" = "$(sum_program "$1")" ]; then
+        [ "$(sed -n 's/^sources //p' "$1.sources")" = "$(sum_sources)" ] ||
+            echo "$1 was built from other sources: './vodserve --version' builds it from these"
+    elif [ "$1" != "$own" ]; then
+        echo "$1.sources doesn't say from which sources it is: './vodserve --version' builds $own"
+    else
+        newer=$(find_sources -newer "$1" | head -n 1)
+        if [ -n "$newer" ]; then
+            echo "$1 is older than $newer: './vodserve --version' proves and builds it again"
+        else
+            record "$1" "$(sum_sources)" 2>/dev/null || true
+        fi
     fi
 }
 
-case ${1-} in
-    -h | --help) usage && exit 0 ;;
-    check | record) [ $# -eq 2 ] || { usage >&2 && exit 2; } ;;
+case ${1-}:$# in
+    -h:1 | --help:1) usage && exit 0 ;;
+    sum:1) sum_sources && exit 0 ;;
+    check:2 | record:2 | record:3) ;;
     *) usage >&2 && exit 2 ;;
 esac
 program=$(readlink -f -- "$2") || program=$2
 if [ "$1" = record ]; then
-    checksums "$program" >"$program.sources"
+    [ -f "$program" ] || { echo "sources.sh: $program isn't there" >&2 && exit 1; }
+    record "$program" "${3:-$(sum_sources)}"
     exit 0
 fi
 wrong=$(check "$program")

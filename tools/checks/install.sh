@@ -50,19 +50,44 @@ refuses "refused: an unknown option" 1 "there is no option --purge" run_install 
 refuses "refused: nothing to remove" 1 "nothing is installed in /nowhere" \
     "$tools/install.sh" --remove /nowhere
 
-# which programs are of these sources
-cp "$program" old
-touch -d 2001-01-01 old
-refuses "refused: a source is newer" 1 "old is older than " \
-    "$tools/install.sh" --program old "$prefix"
+# which programs are of these sources: tried in a small checkout
+mkdir -p small/tools small/crates/vodserve/out small/crates/vodserve/src
+cp "$tools/sources.sh" small/tools/
+echo 'vodserve:' | tee small/crates.txt small/HANDLES >small/crates/vodserve/src/main.rt
+mkdir small/crates/vodserve/specs small/crates/vodserve/proofs
+own=$PWD/small/crates/vodserve/out/vodserve
+sources() { small/tools/sources.sh "$@"; }
+refuses "sources.sh: no program" 1 "$own isn't there: './vodserve --version' proves" \
+    sources check "$own"
+cp /bin/true "$own"
+touch -d 2001-01-01 "$own"
+refuses "sources.sh: a source is newer" 1 "$own is older than HANDLES: './vodserve --version'" \
+    sources check "$own"
+touch "$own"
+try "sources.sh: no source is newer, as after rt ci" sources check "$own"
+touch -d 2001-01-01 "$own"
+try "sources.sh: that was noted, and counts more than times" sources check "$own"
+echo 'vodserve: vod_base' >small/crates.txt
+touch -d 2001-01-01 small/crates.txt
+touch "$own"
+refuses "sources.sh: another source, though it is older" 1 "was built from other sources" \
+    sources check "$own"
+cp -r "$tools/draw.py" "$tools/vodtools" small/tools/
+refuses "a tool builds nothing by itself" 1 "was built from other sources: './vodserve --version'" \
+    small/tools/draw.py capacity trace=none
+cp "$own" elsewhere
+refuses "sources.sh: a program from elsewhere" 1 "elsewhere.sources doesn't say from which" \
+    sources check elsewhere
+sum=$(sources sum)
+try "sources.sh: a build notes its sources" sources record elsewhere "$sum"
+try "sources.sh: the noted program" sources check elsewhere
+echo more >>elsewhere
+refuses "sources.sh: not the noted program" 1 "elsewhere.sources doesn't say from which" \
+    sources check elsewhere
+refuses "refused: a program of other sources" 1 "elsewhere.sources doesn't say from which" \
+    "$tools/install.sh" --program elsewhere "$prefix"
 refuses "refused: no program" 1 "none isn't there: './vodserve --version' proves and builds it" \
     "$tools/install.sh" --program "$PWD/none" "$prefix"
-cp "$program" recorded
-"$tools/sources.sh" record recorded
-try "sources.sh: the recorded program" "$tools/sources.sh" check recorded
-echo more >>recorded
-refuses "refused: not the recorded program" 1 "isn't the program that was built from these" \
-    "$tools/sources.sh" check recorded
 
 sed -e "s|@PREFIX@|$prefix|g" -e "s|@SETTINGS@|/dev/null|" "$tools/vodserve.service" \
     >vodserve.service

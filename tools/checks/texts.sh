@@ -12,7 +12,7 @@ done
 
 if have shellcheck; then
     try "scripts: shellcheck" shellcheck "$tools"/*.sh "$tools"/checks/*.sh "$tools"/package/p* \
-        "$tools/vodserve.bash" "$top/examples/ask.sh" --exclude=SC1008
+        "$tools/vodserve.bash" "$top/vodserve" "$top"/examples/*.sh --exclude=SC1008
 else
     skip "scripts: shellcheck" "it isn't installed"
 fi
@@ -33,8 +33,9 @@ print("\n".join(wrong))
 sys.exit(bool(wrong))
 PYTHON
 }
+try "documents: names, clauses, links, files, widths" "$tools/claims.py" --check
 try "Python: lengths of functions and lines" python_style "$tools"/vodtools/*.py \
-    "$tools/draw.py" "$tools/monitor.py" "$tools/start.py" "$tools/protocol_page.py"
+    "$tools"/{draw,monitor,start,protocol_page,build,claims}.py
 
 # manual_has: the page names each command, key and status of --help.
 manual_has() {

@@ -15,15 +15,22 @@ class ProgramError(Exception):
 
 
 def find_program(given=None):
-    """Returns the path of the program: the given one, the checkout's, or the installed one."""
-    if given:
-        places = [Path(given)]
+    """Returns the path of the program: the given one, the checkout's, or the installed one.
+
+    A checkout's program that isn't built from its sources is refused: to build it takes too long
+    for a tool that prints nothing meanwhile.
+    """
+    if given is None and (TOOLS / "sources.sh").is_file():
+        place = TOOLS.parent / "crates" / "vodserve" / "out" / "vodserve"
+        call = [TOOLS / "sources.sh", "check", place]
+        done = subprocess.run(call, capture_output=True, text=True, check=False)
+        if done.returncode != 0:
+            raise ProgramError(done.stderr.strip().removeprefix("sources.sh: "))
     else:
-        places = [TOOLS.parent / "vodserve", TOOLS.parent.parent / "bin" / "vodserve"]
-    for place in places:
-        if place.is_file() and os.access(place, os.X_OK):
-            return str(place.resolve() if given else place)
-    raise ProgramError(f"there is no program at {' or '.join(map(str, places))}")
+        place = Path(given) if given else TOOLS.parent.parent / "bin" / "vodserve"
+    if not place.is_file() or not os.access(place, os.X_OK):
+        raise ProgramError(f"there is no program at {place}")
+    return str(place.resolve() if given else place)
 
 
 def run(program, command, args, folder=None):

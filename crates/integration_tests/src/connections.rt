@@ -1,4 +1,4 @@
-//! Whole connections: every byte that is sent, how each ends, and the journal and calendar that
+//! Complete connections: every byte that is sent, how each ends, and the journal and calendar that
 //! they leave.
 
 ghost use Rattle.session.specs.SettingRanges.{AreFilms};
@@ -17,7 +17,7 @@ use std::sync::Wait;
 use std::test::Fail;
 use vod_base::NoMemory;
 
-/// Lines that stand for others: a session set up for `b.mpg` with a start delay of two slots and
+/// Abbreviations of lines: a session set up for `b.mpg` with a start delay of two slots and
 /// its play from the first picture, the replies to these requests, and the film's report and
 /// pictures.
 const PHRASES: [(&str, &str); 5] = [
@@ -50,7 +50,7 @@ const PHRASES: [(&str, &str); 5] = [
     ),
 ];
 
-/// What a line stands for.
+/// Returns the lines that an abbreviation means.
 fn phrase_of(line: &'static str) -> &'static str {
     for (short, long) in PHRASES {
         if line == short {
@@ -342,7 +342,7 @@ slot 2
 slot 5
 hears TEARDOWN rtsp://h/b.mpg RTSP/1.0|CSeq: 3|Session: 0123456789abcdef||";
 
-/// What stays of an ended connection: its report, with a receipt for each answer of the station and
+/// What an ended connection leaves: its report, with a receipt for each answer of the station and
 /// a note, with a plan, for each play. A connection that set up, played and tore down leaves a
 /// report, two receipts, a note and the segments of its plan.
 const _: () = prove!(size_of::<ConnReport>() == 112);
@@ -353,15 +353,15 @@ const _: () = prove!(size_of::<PlayNote>() == 128);
 
 const _: () = prove!(size_of::<Segment>() == 16);
 
-/// The slot that was heard before each send, from the first: two replies, a send in slot 1, two in
+/// The last slot before each send, from the first: two replies, a send in slot 1, two in
 /// slot 2, four in slot 5, a reply.
 const SENDS: [u64; 10] = [0, 0, 1, 2, 2, 5, 5, 5, 5, 5];
 
-/// The slot that was heard before each event.
+/// The last slot before each event.
 const NEXTS: [u64; 5] = [0, 0, 1, 2, 5];
 
-/// Serves a connection whose send or event of that number fails, after that slot was heard, or
-/// where none fails.
+/// Serves a connection whose send or event of that number fails, after that slot, or in which
+/// none fails.
 fn fail_at<R: Wait + Abort>(
     rt: &R,
     alloc: Global,
@@ -424,7 +424,7 @@ fn fail_everywhere<R: Wait + Abort>(rt: &R, alloc: Global) -> Result<(), NoMemor
     Ok(())
 }
 
-/// Runs a script. Where memory is refused, that is said by its name, and the script runs once more.
+/// Runs a script. If memory is refused, that is answered by its name, and the script runs again.
 fn passes<R: Wait + Abort>(rt: &R, alloc: Global, script: &'static str) -> Result<(), Fail> {
     if serve_script(rt, alloc, script).is_err() {
         serve_script(rt, alloc, script)?;

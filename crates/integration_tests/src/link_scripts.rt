@@ -17,7 +17,7 @@ use std::process::Abort;
 use std::sync::Wait;
 use vod_base::{Event, MemoryLink, NoMemory};
 
-/// What a connection hears, and what came of it.
+/// The events of a connection, and its outcome.
 #[derive(Drop)]
 pub(crate) struct Visit {
     pub(crate) events: Vec<Event>,
@@ -27,14 +27,14 @@ pub(crate) struct Visit {
     read: usize,
 }
 
-/// The calls of a link that are to fail, by their numbers from 1.
+/// The calls of a link that fail, by their numbers from 1.
 #[derive(Clone, Copy)]
 pub(crate) struct Failing<'a> {
     pub(crate) sends: &'a [u64],
     pub(crate) nexts: &'a [u64],
 }
 
-/// Whether a reply tells out of memory.
+/// Whether a reply means out of memory.
 fn has_refusal(sent: &[u8]) -> bool {
     sent.windows(13)
         .any(|part| part == b"RTSP/1.0 500 ".as_slice())
@@ -51,7 +51,7 @@ impl Visit {
         }
     }
 
-    /// Serves the connection that hears the events. Want of memory is its end, or a reply 500.
+    /// Serves the connection with these events. Out of memory is its end, or a reply 500.
     pub(crate) fn serve<R: Wait + Abort>(
         &mut self,
         rt: &R,
@@ -86,14 +86,14 @@ impl Visit {
         self.sent.get(self.read..).unwrap_or(&[])
     }
 
-    /// Reads what was sent next, which is to be this.
+    /// Reads what was sent next, which must be this.
     fn read<R: Abort>(&mut self, rt: &R, alloc: Global, want: &[u8]) -> Result<(), NoMemory> {
         compare_front(rt, alloc, self.unread(), want)?;
         self.read = self.read.saturating_add(want.len());
         Ok(())
     }
 
-    /// Reads the blocks that were sent next, of which those of channel 0 are to hold these bytes.
+    /// Reads the blocks that were sent next, of which those of channel 0 must hold these bytes.
     fn read_film<R: Abort>(&mut self, rt: &R, alloc: Global, film: &[u8]) -> Result<(), NoMemory> {
         let mut payloads = Vec::new(alloc);
         for _ in 0..self.sent.len() {
@@ -110,7 +110,7 @@ impl Visit {
         Ok(())
     }
 
-    /// Adds what is heard: a text, in which `|` stands for CR LF, bytes, a byte so many times, or
+    /// Adds events: a text, in which `|` means CR LF, bytes, a byte so many times, or
     /// slots.
     pub(crate) fn push<R: Abort>(
         &mut self,
@@ -307,7 +307,7 @@ fn visit_all<R: Wait + Abort>(
 }
 
 /// Runs scenes, which empty lines part. A scene has a line with the station's capacity and the room
-/// of its journal; for each connection what it hears (`hears TEXT`, `gets BYTES`, `fill NUMBER`,
+/// of its journal; for each connection its events (`hears TEXT`, `gets BYTES`, `fill NUMBER`,
 /// `slot NUMBER`, `slots FIRST LAST`), `serve`, or `serve NUMBER` where the send of that number
 /// fails, and what was sent (`says REPLY`, `sends BYTES`, `film`), up to `ends END LATE`; and after
 /// a line `journal`, if it has one, the journal and the calendar.

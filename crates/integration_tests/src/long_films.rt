@@ -48,7 +48,7 @@ impl Found for Listener {
     }
 }
 
-/// What a film tells when it is fed in chunks of that length.
+/// What the scanner reports of a film that is fed in chunks of that length.
 fn told_in_chunks(alloc: Global, film: &[u8], chunk: usize) -> Result<Vec<Told>, ScanRefused> {
     if film.len() > 1 << 30 {
         return Err(ScanRefused::NoMemory);
@@ -97,7 +97,7 @@ fn sizes_of_held(alloc: Global, film: Vec<u8>) -> Result<Vec<u64>, NoMemory> {
     Ok(sizes)
 }
 
-/// Compares what one film tells in chunks, and what its units take on the wire.
+/// Compares the reports on one film in chunks, and what its units take on the wire.
 fn compare<R: Abort>(rt: &R, alloc: Global, number: u64, pictures: u32) -> Result<(), Fail> {
     let film = make_film(alloc, number, pictures)?;
     let large = told_in_chunks(alloc, &film, 65_536)?;

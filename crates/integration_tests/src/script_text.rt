@@ -1,4 +1,4 @@
-//! What stands in a script's lines.
+//! The parts of a script's lines.
 
 use hex::FromHexError;
 use std::alloc::Global;
@@ -10,7 +10,7 @@ pub(crate) fn word_and_rest(line: &str) -> (&str, &str) {
     line.split_once(' ').unwrap_or((line, ""))
 }
 
-/// A message, in which `|` stands for CR LF.
+/// A message, in which `|` means CR LF.
 pub(crate) fn message_of(alloc: Global, text: &str) -> Result<Vec<u8>, NoMemory> {
     let mut bytes = Vec::new(alloc);
     for byte in text.as_bytes() {
@@ -35,7 +35,7 @@ pub(crate) fn bytes_of<R: Abort>(rt: &R, alloc: Global, digits: &str) -> Result<
     Ok(bytes)
 }
 
-/// The first numbers of a line, and 0 for those that it lacks.
+/// The first numbers of a line, and 0 for those that are missing.
 pub(crate) fn numbers_of(text: &str) -> [u64; 4] {
     let mut numbers = [0; 4];
     for (place, word) in text.split_whitespace().enumerate() {
@@ -46,7 +46,7 @@ pub(crate) fn numbers_of(text: &str) -> [u64; 4] {
     numbers
 }
 
-/// Compares what was sent next, which is to begin so.
+/// Compares what was sent next, which must begin so.
 pub(crate) fn compare_front<R: Abort>(
     rt: &R,
     alloc: Global,

@@ -19,8 +19,8 @@ use std::alloc::Global;
 use std::process::Abort;
 use vod_base::{MemoryLink, NoMemory};
 
-/// The words of the connections: the session's id, the SSRC, the first sequence number and the
-/// first timestamp.
+/// The random numbers of the connections: the session's id, the SSRC, the first sequence number and
+/// the first timestamp.
 pub(crate) const WORDS: [u32; 5] = [0x0123_4567, 0x89ab_cdef, 0x0102_0304, 1, 0];
 
 /// The server's settings: slots of 40 ms, and the defaults.
@@ -38,7 +38,7 @@ const OFFERED: u64 = 34;
 /// slot takes.
 const SHARED: u64 = 36;
 
-/// What the station is to answer: `admitted PLACE START SLOTS BYTES`, `overflow PLACE SLOT BOOKED
+/// What the station answers: `admitted PLACE START SLOTS BYTES`, `overflow PLACE SLOT BOOKED
 /// ASKED`, `full ENTRIES OPEN`, `halted PLACE KEEP`, `looked PLACE NOW AT BOOKED`, `offered SEEN
 /// FIRST` or, where another client's play by the same plan begins in that first slot, `beside SEEN
 /// FIRST`. The slots and bytes of the plan that was asked for, if they are named, and the bytes
@@ -59,7 +59,7 @@ struct Talk<'a> {
     read: usize,
 }
 
-/// Whether a message is one whole request.
+/// Whether a message is one complete request.
 fn is_request(alloc: Global, message: &[u8]) -> Result<bool, NoMemory>
     ensures { IfOk result (λ whole. whole ≡ true →
         IsMessageLength message.now (length message.now)) }
@@ -200,7 +200,7 @@ impl<'a> Talk<'a> {
         Ok(())
     }
 
-    /// Hears a request. Where it is answered 500 because memory ran out it is heard once more: the
+    /// Hands a request in. If it is answered 500 because memory ran out it is handed in again: the
     /// answer is what it would have been.
     fn hear<R: Abort>(
         &mut self,
@@ -237,7 +237,7 @@ impl<'a> Talk<'a> {
         }
     }
 
-    /// Reads what was sent next, which is to be this.
+    /// Reads what was sent next, which must be this.
     fn read<R: Abort>(&mut self, rt: &R, alloc: Global, want: &[u8]) -> Result<(), NoMemory>
         ensures { self.new.session ≡ self.old.session }
     {
@@ -305,7 +305,7 @@ const SETUP: &[u8] = b"SETUP rtsp://h/b.mpg RTSP/1.0\r\nCSeq: 1\r\n\
 const PLAY: &[u8] = b"PLAY rtsp://h/b.mpg RTSP/1.0\r\nCSeq: 2\r\nSession: 0123456789abcdef\r\n\r\n";
 
 /// Talks to one session: `in STATE`, `told ANSWER` of the next request or slot, `hears REQUEST`,
-/// `slot NUMBER`, `says REPLY`, `sends BYTES`. All that it sends is to be read.
+/// `slot NUMBER`, `says REPLY`, `sends BYTES`. All that it sends must be read.
 fn run_scene<R: Abort>(rt: &R, alloc: Global, films: &[Stored], scene: &str) -> Result<(), NoMemory>
     requires { AreFilms films.now }
 {

@@ -14,7 +14,7 @@ pub(crate) fn passes<R: Abort>(rt: &R, alloc: Global, script: &str) -> Result<()
     Ok(())
 }
 
-/// Each method in each state: the whole reply.
+/// Each method in each state: the complete reply.
 const METHODS: &str = "\
 in Init
 hears OPTIONS * RTSP/1.0|CSeq: 7||
@@ -256,7 +256,7 @@ says RTSP/1.0 454 Session Not Found|CSeq: 37||
 hears PLAY rtsp://h/news.mpg RTSP/2.0|CSeq: 38|Session: 0123456789abcdef||
 says RTSP/1.0 505 RTSP Version Not Supported|CSeq: 38||";
 
-/// An ordinary session, with the whole texts of its replies.
+/// An ordinary session, with the complete texts of its replies.
 const ORDINARY: &str = "\
 in Init
 hears OPTIONS * RTSP/1.0|CSeq: 1||

@@ -1,5 +1,5 @@
-//! A film served and watched over links in memory, slot by slot: what the law on a film that is
-//! watched asks of both ends' links is met.
+//! A film served and watched over links in memory, slot by slot: the premises of the law on a
+//! watched film are met by both ends' links.
 
 ghost use Rattle.std.specs.Prelude.{◌≤◌};
 ghost use Rattle.session.specs.SettingRanges.{AreFilms};
@@ -18,7 +18,7 @@ use std::sync::Wait;
 use std::test::Fail;
 use vod_base::{Event, MemoryLink, MemorySink, NoMemory, good_name};
 
-/// The client's slot when it hears the reply to PLAY.
+/// The client's slot when the reply to PLAY arrives.
 const BEFORE: u64 = 70;
 
 const PLAY: &str =
@@ -28,7 +28,7 @@ const PLAY: &str =
 const TEARDOWN: &str = "TEARDOWN rtsp://127.0.0.1:8554/film.mpg RTSP/1.0\r\nCSeq: 3\r\n\
     Session: 0123456789abcdef\r\n\r\n";
 
-/// What a connection sends that hears these events.
+/// What a connection with these events sends.
 fn sent_after<R: Wait + Abort>(
     rt: &R,
     alloc: Global,
@@ -46,7 +46,7 @@ fn sent_after<R: Wait + Abort>(
     Ok(Vec::from_slice(alloc, link.sent())?)
 }
 
-/// What the server hears: requests, slots from 1 on between the second and the third.
+/// What the server receives: requests, slots from 1 on between the second and the third.
 fn server_events(alloc: Global, requests: &[&str], slots: u64) -> Result<Vec<Event>, NoMemory> {
     let mut events = Vec::new(alloc);
     for (number, request) in requests.iter().enumerate() {
@@ -65,13 +65,13 @@ fn server_events(alloc: Global, requests: &[&str], slots: u64) -> Result<Vec<Eve
     Ok(events)
 }
 
-/// The bytes after a front.
+/// The bytes after a prefix.
 fn after<'a>(bytes: &'a [u8], front: usize) -> &'a [u8] {
     bytes.get(front..).unwrap_or(&[])
 }
 
-/// What the client hears: the server's replies to the first two requests; in each of so many slots
-/// what the server had sent by its step of that slot; and the rest.
+/// What the client receives: the server's replies to the first two requests; in each of so many
+/// slots what the server had sent by its step of that slot; and the rest.
 fn client_events<R: Wait + Abort>(
     rt: &R,
     alloc: Global,
@@ -115,7 +115,7 @@ fn setup_request(alloc: Global, buffer: u64, delay: u64) -> Result<String, NoMem
     Ok(text)
 }
 
-/// What a client wishes for.
+/// The film that a client asks for.
 fn wish_for(alloc: Global, buffer: u64, delay: u64) -> Result<Wish, NoMemory> {
     Ok(Wish {
         name: String::from_str(alloc, "film.mpg")?,

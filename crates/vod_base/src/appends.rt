@@ -1,4 +1,4 @@
-//! Texts and numbers that are appended.
+//! Appending texts and numbers.
 
 ghost use Rattle.vod_base.specs.Appends.{IsAppended};
 ghost use Rattle.vod_base.specs.Fields.{field};

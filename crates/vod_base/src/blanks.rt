@@ -3,21 +3,21 @@
 ghost use Rattle.std.specs.Prelude.{◌≡◌, reverse};
 ghost use Rattle.vod_base.specs.Blanks.{is_blank, without_leading_blanks, without_blanks};
 
-/// Whether a byte is a blank: a space or a tab.
+/// Answers whether a byte is a blank: a space or a tab.
 pub fn is_blank(byte: u8) -> bool
     ensures { result ≡ is_blank byte }
 {
     byte == b' ' || byte == b'\t'
 }
 
-/// The text without the blanks (spaces and tabs) around it.
+/// Returns the text without the blanks (spaces and tabs) around it.
 pub fn trim(text: &[u8]) -> &[u8]
     ensures { result.now ≡ without_blanks text.now }
 {
     trim_end(trim_start(text))
 }
 
-/// The text without the blanks in front.
+/// Returns the text without its leading blanks.
 fn trim_start(text: &[u8]) -> &[u8]
     ensures { result.now ≡ without_leading_blanks text.now }
 {
@@ -28,7 +28,7 @@ fn trim_start(text: &[u8]) -> &[u8]
     rest
 }
 
-/// The text without the blanks at its end.
+/// Returns the text without its trailing blanks.
 fn trim_end(text: &[u8]) -> &[u8]
     ensures { result.now ≡ reverse (without_leading_blanks (reverse text.now)) }
 {

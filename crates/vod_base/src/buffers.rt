@@ -2,7 +2,7 @@
 
 ghost use Rattle.std.specs.Prelude.{◌≡◌, ◌≤◌, length, drop, vec_capacity};
 
-/// Moves what stands from `start` on to the front, and leaves nothing else. It takes no memory.
+/// Moves the bytes from `start` on to the front, and drops all others. It takes no memory.
 pub fn move_to_front(bytes: &mut Vec<u8>, start: usize)
     requires { start ≤ length bytes.old.items }
     ensures items { bytes.new.items ≡ drop start bytes.old.items }

@@ -1,11 +1,11 @@
-//! What may go wrong outside of the program, by name.
+//! What may fail in the environment, by name.
 
 ghost use Rattle.std.specs.Prelude.{◌≡◌};
 
 use std::alloc::{AllocError, AllocFailed};
 use thiserror::Error;
 
-/// Want of memory: an allocation was refused.
+/// Out of memory: an allocation was refused.
 #[derive(Clone, Copy, Debug, PartialEq, Eq, Error)]
 #[error("out of memory")]
 pub struct NoMemory;
@@ -26,7 +26,7 @@ impl<T: Drop> From<AllocFailed<T>> for NoMemory {
     }
 }
 
-/// A library could not be looked into or read.
+/// A library could not be searched or read.
 #[derive(Clone, Copy, Debug, PartialEq, Eq, Error)]
 #[error("the library could not be read")]
 pub struct StoreFault;
@@ -41,7 +41,7 @@ pub struct SinkFault;
 #[error("the connection could not be read or written")]
 pub struct LinkFault;
 
-/// No connection could be waited for or made.
+/// The listener failed: no connection could be awaited or opened.
 #[derive(Clone, Copy, Debug, PartialEq, Eq, Error)]
 #[error("no connection could be made")]
 pub struct GateFault;

@@ -1,4 +1,4 @@
-//! What a library of files must give.
+//! Files by name, as a trait.
 
 ghost use Rattle.std.specs.Prelude.{◌≡◌, ◌≤◌, ℕ, List, Option, Some, length, option_map, IfOk};
 ghost use Rattle.std.specs.Prelude.{OnErr};
@@ -8,14 +8,18 @@ use crate::errors::StoreFault;
 
 /// Named files that can be read at places.
 ///
-/// A library counts its faults, and a call answers a fault only where the count rose in that call.
-/// What it holds may be exposed to contracts: in memory it is, over a real folder it isn't.
+/// A library counts its faults, and a call answers a fault only if the count rose in that call. An
+/// object in memory exposes its content to contracts; a folder of the machine doesn't.
 pub trait Library {
     ghost faults: { Self → ℕ };
 
     ghost files: { Self → Option (List File) };
 
-    /// The size in bytes of the file of that name, or None where there is none.
+    /// Returns the size in bytes of the file of that name, or None if there is no such file.
+    ///
+    /// # Errors
+    ///
+    /// [`StoreFault`] if the library could not be searched.
     fn find(&mut self, name: &str) -> Result<Option<u64>, StoreFault>
         ensures kept { files self.new ≡ files self.old }
         ensures count { faults self.old ≤ faults self.new }
@@ -23,9 +27,12 @@ pub trait Library {
         ensures found { (held : List File) → files self.old ≡ Some held →
             IfOk result (λ size. size ≡ option_map length (file_named held name.now)) };
 
-    /// Reads bytes of the file at `at` into the front of `into`, and answers how many.
+    /// Reads bytes of the file, from the place `at` on, into the front of `into`. Returns how many:
+    /// 0 only if `into` is empty or the file has no byte at `at`.
     ///
-    /// It answers 0 only where `into` is empty or nothing stands at `at`.
+    /// # Errors
+    ///
+    /// [`StoreFault`] if the file could not be read.
     fn read(&mut self, name: &str, at: u64, into: &mut [u8]) -> Result<usize, StoreFault>
         ensures kept { files self.new ≡ files self.old }
         ensures count { faults self.old ≤ faults self.new }

@@ -1,4 +1,4 @@
-//! What a gate must give: connections, part by part.
+//! Listeners, as a trait: connections, part by part.
 
 ghost use Rattle.std.specs.Prelude.{◌≡◌, ◌<◌, ◌≤◌, ℕ, Option, Some, None, [], option_map, IfSome};
 ghost use Rattle.std.specs.Prelude.{IfOk, OnOk, OnErr};
@@ -12,23 +12,23 @@ ghost use Rattle.vod_base.specs.Gates.{told_rejoined};
 use crate::errors::GateFault;
 use crate::links::Link;
 
-/// How a gate is to be opened.
+/// How a gate is opened.
 #[derive(Clone, Copy, Debug, PartialEq, Eq)]
 pub struct Opening {
     /// The TCP port.
     pub port: u16,
-    /// Whether connections from other machines are taken too.
+    /// Whether connections from other machines are accepted, too.
     pub all: bool,
-    /// The connections that each part gives, or 0 where there is no end.
+    /// The number of connections that each part gives; 0 means without end.
     pub connections: u64,
     /// The slot length in 1/360,000 second, 360 to 360,000.
     pub slot_units: u32,
 }
 
-/// Where connections come from. It is opened and split into parts, and each part gives connections.
+/// A listener. It is opened and split into parts, one for each worker; each part gives connections.
 ///
-/// A gate counts its faults as a library does; a part begins with the count 0. What it did may be
-/// exposed to contracts.
+/// A gate counts its faults as a library does; a part begins with the count 0. An object in memory
+/// exposes to contracts what it did.
 pub trait Gate: Sized {
     type Conn: Link;
 
@@ -36,11 +36,11 @@ pub trait Gate: Sized {
 
     ghost told: { Self → Option Content };
 
-    /// Opens the gate, and forgets the parts from before. Each call is counted.
+    /// Opens the gate, and forgets the earlier parts. Each call is counted.
     ///
     /// # Errors
     ///
-    /// After a fault the gate isn't open, and the parts from before are forgotten too.
+    /// [`GateFault`] if it can't listen. Then it isn't open, and the earlier parts are forgotten.
     fn open(&mut self, how: &Opening) -> Result<(), GateFault>
         ensures count { faults self.old ≤ faults self.new }
         ensures fault { OnErr result (HasRisen (faults self.old) (faults self.new)) }
@@ -49,11 +49,11 @@ pub trait Gate: Sized {
         ensures lost { OnErr result (told self.new ≡
             option_map (after_open None) (told self.old)) };
 
-    /// Makes a part, which gives connections of its own.
+    /// Returns a new part, which gives connections of its own.
     ///
     /// # Errors
     ///
-    /// After a fault no part was made.
+    /// [`GateFault`] if there is no new part.
     fn split(&mut self) -> Result<Self, GateFault>
         requires may { IfSome (told self.old) MaySplit }
         ensures count { faults self.old ≤ faults self.new }
@@ -63,12 +63,12 @@ pub trait Gate: Sized {
             × (faults part ≡ 0)) }
         ensures lost { OnErr result (told self.new ≡ told self.old) };
 
-    /// Waits for the next connection, or answers None where there are no more. A connection that it
-    /// gives did nothing yet.
+    /// Waits for the next connection, and returns it, or None if there are no more. A connection
+    /// that it returns did nothing yet.
     ///
     /// # Errors
     ///
-    /// After a fault no connection was given.
+    /// [`GateFault`] if none can be accepted any more.
     fn take(&mut self) -> Result<Option<Self::Conn>, GateFault>
         ensures count { faults self.old ≤ faults self.new }
         ensures fault { OnErr result (HasRisen (faults self.old) (faults self.new)) }
@@ -82,7 +82,7 @@ pub trait Gate: Sized {
         ensures lost { OnErr result (told self.new ≡
             option_map (after_empty_take Failed) (told self.old)) };
 
-    /// Takes back a connection that `take` gave.
+    /// Takes back a connection that `take` returned.
     fn give_back(&mut self, conn: Self::Conn)
         requires out { IfSome (told self.old) HasConnOut }
         ensures count { faults self.old ≤ faults self.new }
@@ -92,7 +92,7 @@ pub trait Gate: Sized {
               told = Self.Conn.told conn;
             })) (told self.old) };
 
-    /// Takes back a part that was split from this gate since it was opened last.
+    /// Takes back a part that was split from this gate since its last `open`.
     fn rejoin(&mut self, part: Self)
         requires out { IfSome (told self.old) (λ c.
             IfSome (told part) (λ p. IsPartOut p.own.number c)) }

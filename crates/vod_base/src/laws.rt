@@ -1,4 +1,4 @@
-//! Laws of the definitions, in their own words.
+//! Laws of the definitions, in the words of their subject.
 
 ghost use Rattle.std.specs.Prelude.{◌≡◌, ◌≢◌, ◌+◌, ◌-◌, ◌<◌, ◌^◌, ◌++◌, ◌∷◌, ◌↔◌, ℕ, true, List};
 ghost use Rattle.std.specs.Prelude.{All, Contains, None, Some, codes, decimal, length, replicate};
@@ -11,8 +11,8 @@ ghost use Rattle.vod_base.specs.Names.{good_name, IsPlainFileName};
 ghost use Rattle.vod_base.specs.Numbers.{number_of};
 ghost use Rattle.vod_base.specs.IoState.{File, file_named};
 
-/// A text is read as a number of 64 bits exactly where it is the number's decimal text, with zeros
-/// in front or none.
+/// A text is read as a number of 64 bits exactly if it is the number's decimal text. Leading zeros
+/// are allowed.
 pub fn law_decimal_text_is_read()
     ensures { (text : List ℕ) (number : ℕ) → number < 2 ^ 64 → (number_of text ≡ Some number)
         ↔ ((zeros : ℕ) × (text ≡ replicate zeros 48 ++ decimal number)) }
@@ -47,7 +47,7 @@ pub fn law_line_ends_at_lf_or_crlf()
         IsLine bytes at other after → (one ≡ other) × (next ≡ after) }
 {}
 
-/// A name stands for the first file that has it, and for none where no file has it.
+/// A name names the first file that has it, and no file if none has it.
 pub fn law_first_file_of_a_name_counts()
     ensures first { (before after : List File) (name bytes : List ℕ) →
         All (λ file. file.name ≢ name) before →
@@ -56,7 +56,7 @@ pub fn law_first_file_of_a_name_counts()
         file_named files name ≡ None }
 {}
 
-/// The bytes sent among what a link tells are those of its sends, in order.
+/// The sent bytes in the history that a link exposes are those of its sends, in order.
 pub fn law_sent_bytes_are_in_order()
     ensures bytes { (bytes : List ℕ) → sent_of (sends bytes) ≡ bytes }
     ensures order { (one other : List IoEvent) →

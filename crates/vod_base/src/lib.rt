@@ -1,5 +1,5 @@
-//! What `vodserve` stands on: the environment as traits with a written meaning, objects in memory
-//! that keep it, and the few words and numbers that every input is read by.
+//! The base of `vodserve`: I/O as traits with a written meaning, objects in memory that satisfy it,
+//! and the numbers, names and lines by which every input is read.
 #![tactic(auto)]
 
 mod appends;

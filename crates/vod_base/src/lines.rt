@@ -12,10 +12,9 @@ pub struct Line {
     pub next: usize,
 }
 
-/// Finds the end of the line that begins at `at`. A line ends with LF or CR LF; a lone CR ends
-/// none.
+/// Finds the end of the line that begins at `at`: its LF or CR LF. A lone CR ends no line.
 ///
-/// None exactly where no LF stands at or after `at`.
+/// Returns None exactly if there is no LF at or after `at`.
 pub fn line_end(bytes: &[u8], at: usize) -> Option<Line>
     requires { at ≤ length bytes.now }
     ensures found { IfSome result (λ line. IsLine bytes.now at line.text_end line.next) }

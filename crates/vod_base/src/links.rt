@@ -1,4 +1,4 @@
-//! What a link must do: hear and send.
+//! Connections, as a trait: events arrive, bytes are sent.
 
 ghost use Rattle.std.specs.Prelude.{◌≡◌, ◌<◌, ◌≤◌, ℕ, List, [], ◌∷◌, Option, length, IfOk, OnOk};
 ghost use Rattle.std.specs.Prelude.{OnErr};
@@ -8,7 +8,7 @@ ghost use Rattle.vod_base.specs.Links.{IsSentPrefix};
 
 use crate::errors::LinkFault;
 
-/// The last slot that a link may tell, 2^62.
+/// The last slot that counts, 2^62.
 pub const LATEST_SLOT: u64 = 1 << 62;
 
 /// The most bytes that a connection takes from its link in one call.
@@ -17,31 +17,31 @@ pub const MAX_READ_BYTES: usize = 16_384;
 /// The most events of a link, 2^40: after so many a connection ends.
 pub const MAX_EVENTS: u64 = 1 << 40;
 
-/// What a connection waited for and heard.
+/// An event of a connection.
 #[derive(Clone, Copy, Debug, PartialEq, Eq)]
 pub enum Heard {
-    /// So many bytes came, at least one.
+    /// So many bytes arrived, at least one.
     Bytes(usize),
-    /// The slot of that number has begun.
+    /// A tick: the slot of that number has begun.
     Slot(u64),
-    /// The peer ended.
+    /// The peer closed its side.
     End,
 }
 
-/// A connection: bytes come and go, and slots begin.
+/// A connection: bytes arrive, bytes are sent, and slots begin.
 ///
-/// A link counts its faults as a library does. What it did may be exposed to contracts, as one list
-/// in order: the events that were heard, and each byte that was sent.
+/// A link counts its faults as a library does. An object in memory exposes its history to
+/// contracts: one list, in order, of the events that arrived and of each byte that was sent.
 pub trait Link {
     ghost faults: { Self → ℕ };
 
     ghost told: { Self → Option (List IoEvent) };
 
-    /// Waits for the next event. Bytes that came stand in front of `into`.
+    /// Waits for the next event. Bytes that arrived are in front of `into`.
     ///
     /// # Errors
     ///
-    /// A fault heard nothing and sent nothing.
+    /// [`LinkFault`] if the connection failed. Then nothing arrived and nothing was sent.
     fn next(&mut self, into: &mut [u8]) -> Result<Heard, LinkFault>
         requires some { 0 < length into.now }
         ensures count { faults self.old ≤ faults self.new }
@@ -51,7 +51,11 @@ pub trait Link {
             told_more (told self.old) (io_event_of heard into.new ∷ [])) }
         ensures lost { OnErr result (told self.new ≡ told self.old) };
 
-    /// Sends all bytes; after a fault, a front part of them was sent.
+    /// Sends all bytes.
+    ///
+    /// # Errors
+    ///
+    /// [`LinkFault`] if the connection failed. Then a prefix of the bytes was sent.
     fn send(&mut self, bytes: &[u8]) -> Result<(), LinkFault>
         ensures count { faults self.old ≤ faults self.new }
         ensures fault { OnErr result (HasRisen (faults self.old) (faults self.new)) }

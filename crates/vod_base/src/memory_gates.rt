@@ -21,13 +21,13 @@ use crate::part_links::{PartLinks, TakeResult};
 use std::alloc::Global;
 use std::marker::Model;
 
-/// What one part of a gate in memory gives: links, which are begun anew when they are given. Its
-/// calls of `take` fail at the given numbers, from 1.
+/// What one part of a gate in memory gives: links, which begin anew when they are given. Its calls
+/// of `take` fail at the given numbers, from 1.
 #[derive(Drop)]
 pub struct MemoryPart {
     /// The links, in order.
     pub links: Vec<MemoryLink>,
-    /// The numbers of the calls that are to fail.
+    /// The numbers of the calls that fail.
     pub failing: Vec<u64>,
 }
 
@@ -83,9 +83,9 @@ impl Model for MemoryGate {
 }
 
 impl MemoryGate {
-    /// Makes a gate, which isn't open, from what each of its parts is to give, in the order of the
+    /// Returns a gate that isn't open, from what each of its parts gives, in the order of the
     /// splits. A part past the last of them gives no link. `failing` has the numbers, from 1, of
-    /// the calls of `open` and `split` that are to fail. Room for 256 parts is reserved here.
+    /// the calls of `open` and `split` that fail. Room for 256 parts is reserved here.
     pub fn new(
         alloc: Global,
         parts: Vec<MemoryPart>,
@@ -117,7 +117,7 @@ impl MemoryGate {
         })
     }
 
-    /// A part, which gives what its script says.
+    /// Returns a part, which gives what its script has.
     fn part(alloc: Global, number: usize, script: MemoryPart) -> MemoryGate
         ensures { result ≡ record {
           content = record { openings = 0; opening = None; parts = []; own = fresh_part number };
@@ -143,7 +143,8 @@ impl MemoryGate {
         }
     }
 
-    /// The links that the part of that number, from 0, got back, in order; none while it is out.
+    /// Returns the links that the part of that number, from 0, got back, in order; none while the
+    /// part is split off.
     pub fn given_back(&self, part: usize) -> &[MemoryLink]
         ensures { map returned_conn_of result.now ≡ back_of self.now.content part }
     {
@@ -153,7 +154,7 @@ impl MemoryGate {
         }
     }
 
-    /// Counts a call, and tells whether it fails.
+    /// Counts a call, and answers whether it fails.
     fn call(&mut self) -> bool
         ensures fails { result ≡ call_fails self.old.failing self.old.calls }
         ensures called { self.new ≡
@@ -284,7 +285,7 @@ impl Gate for MemoryGate {
     }
 }
 
-/// What the next part is to give: the first script that is left, or no link.
+/// Returns what the next part gives: the first script that is left, or no link.
 fn next_script(alloc: Global, scripts: &mut Vec<MemoryPart>) -> MemoryPart
     ensures first { script_of result ≡ first_script (map script_of scripts.old.items) }
     ensures rest { map script_of scripts.new.items ≡ drop 1 (map script_of scripts.old.items) }
@@ -299,7 +300,7 @@ fn next_script(alloc: Global, scripts: &mut Vec<MemoryPart>) -> MemoryPart
     }
 }
 
-/// A share of these links, of which none was given.
+/// Returns a part's links, of which none was given yet.
 fn new_part_links(number: usize, links: Vec<MemoryLink>) -> PartLinks
     ensures part { part_of result ≡ fresh_part number }
     ensures links { result.links ≡ links }
@@ -315,7 +316,7 @@ fn new_part_links(number: usize, links: Vec<MemoryLink>) -> PartLinks
     }
 }
 
-/// A count of faults, which rises where a part's count had risen.
+/// Returns a count of faults, raised if a part's count had risen.
 fn count_with(count: u64, part: u64) -> u64
     ensures { result ≡ (if nat_lt 0 part then one_more count else count) }
 {

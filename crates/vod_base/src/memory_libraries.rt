@@ -37,8 +37,8 @@ impl Model for MemoryLibrary {
 }
 
 impl MemoryLibrary {
-    /// Makes a library of these files, of which the first of a name counts. `failing` has the
-    /// numbers, from 1, of the calls that are to fail.
+    /// Returns a library of these files, of which the first of a name counts. `failing` has the
+    /// numbers, from 1, of the calls that fail.
     pub fn new(files: Vec<(String, Vec<u8>)>, failing: Vec<u64>) -> MemoryLibrary
         ensures { result ≡ record {
           files = map (λ f.
@@ -56,7 +56,7 @@ impl MemoryLibrary {
         }
     }
 
-    /// Counts a call, and tells whether it fails.
+    /// Counts a call, and answers whether it fails.
     fn call(&mut self) -> bool
         ensures fails { result ≡ call_fails self.old.failing self.old.calls }
         ensures called { self.new ≡ library_called self.old }
@@ -68,7 +68,7 @@ impl MemoryLibrary {
         failed
     }
 
-    /// The bytes of the first file of that name.
+    /// Returns the bytes of the first file of that name.
     fn file(&self, name: &str) -> Option<&[u8]>
         ensures { option_map (λ bytes. bytes.now) result ≡ file_named self.now.files name.now }
     {
@@ -76,7 +76,7 @@ impl MemoryLibrary {
     }
 }
 
-/// The bytes of the first of these files that has the name.
+/// Returns the bytes of the first of these files that has the name.
 fn first_named<'a>(files: &'a [(String, Vec<u8>)], name: &str) -> Option<&'a [u8]>
     ensures { option_map (λ bytes. bytes.now) result ≡
         file_named (map (λ f. record { name = string_bytes f.0; bytes = f.1.items }) files.now)

@@ -16,20 +16,20 @@ use crate::reads::copy_from;
 use std::alloc::Global;
 use std::marker::Model;
 
-/// An event that a link in memory is to hand out.
+/// An event that a link in memory hands out.
 #[derive(Debug, Drop)]
 pub enum Event {
-    /// Bytes come. Those that are longer than a call can take come in several calls; no bytes are
-    /// no event.
+    /// Bytes arrive, in several calls if they are longer than a call can take. An empty list is no
+    /// event.
     Bytes(Vec<u8>),
     /// The slot of that number begins.
     Slot(u64),
-    /// The peer ends.
+    /// The peer closes its side.
     End,
 }
 
-/// What a link noted: bytes of the event at a place came, a slot began, the peer ended, or a byte
-/// was sent.
+/// An item of a link's history: bytes of the event at a place arrived, a slot began, the peer
+/// closed its side, or a byte was sent.
 #[derive(Clone, Copy)]
 pub(crate) enum LinkLogEntry {
     Came(usize, usize, usize),
@@ -38,10 +38,10 @@ pub(crate) enum LinkLogEntry {
     Gone(u8),
 }
 
-/// A connection in memory, which hands out given events and keeps what is sent.
+/// A connection in memory, which hands out given events and holds the bytes that are sent.
 ///
-/// Calls of `send` and of `next` fail at given numbers, from 1, and where the room would be passed.
-/// After the last event it answers that the peer ended.
+/// Calls of `send` and of `next` fail at given numbers, from 1, and if the room would be passed.
+/// After the last event it answers that the peer closed its side.
 #[derive(Drop)]
 pub struct MemoryLink {
     events: Vec<Event>,
@@ -86,13 +86,13 @@ impl Model for MemoryLink {
 }
 
 impl MemoryLink {
-    /// Makes a link that hands out these events, up to `room` of them, and keeps up to `room` sent
-    /// bytes. All room is reserved here. `failing_sends` and `failing_nexts` have the numbers of
-    /// the calls that are to fail.
+    /// Returns a link that hands out these events, up to `room` of them, and holds up to `room`
+    /// sent bytes. All room is reserved here. `failing_sends` and `failing_nexts` have the numbers
+    /// of the calls that fail.
     ///
     /// # Errors
     ///
-    /// [`NoMemory`] where there is none for the room.
+    /// [`NoMemory`] if there is none for the room.
     pub fn new(
         alloc: Global,
         events: Vec<Event>,
@@ -134,14 +134,14 @@ impl MemoryLink {
         })
     }
 
-    /// The bytes that were sent.
+    /// Returns the bytes that were sent.
     pub fn sent(&self) -> &[u8]
         ensures { result.now ≡ sent_of self.now.told }
     {
         self.sent.as_slice()
     }
 
-    /// Begins anew: all events are still to be handed out, and nothing was done yet.
+    /// Begins anew: no event was handed out, and nothing was done yet.
     pub(crate) fn begin(&mut self)
         ensures { self.new ≡ link_begun self.old }
     {
@@ -232,7 +232,7 @@ struct EventCursor {
 }
 
 impl EventCursor {
-    /// Where the first event stands.
+    /// Returns the place of the first event.
     const FIRST: EventCursor = EventCursor {
         event: 0,
         offset: 0,

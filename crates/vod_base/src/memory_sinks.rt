@@ -11,7 +11,7 @@ use crate::output::Sink;
 use std::alloc::Global;
 use std::marker::Model;
 
-/// A sink in memory, whose calls fail at given numbers and where its room would be passed.
+/// A sink in memory, whose calls fail at given numbers and if its room would be passed.
 #[derive(Drop)]
 pub struct MemorySink {
     kept: Vec<u8>,
@@ -40,12 +40,12 @@ impl Model for MemorySink {
 }
 
 impl MemorySink {
-    /// Makes a sink that keeps up to `room` bytes, all reserved here. `failing` has the numbers,
-    /// from 1, of the calls that are to fail.
+    /// Returns a sink that holds up to `room` bytes, all reserved here. `failing` has the numbers,
+    /// from 1, of the calls that fail.
     ///
     /// # Errors
     ///
-    /// [`NoMemory`] where there is none for the room.
+    /// [`NoMemory`] if there is none for the room.
     pub fn new(alloc: Global, room: usize, failing: Vec<u64>) -> Result<MemorySink, NoMemory>
         ensures { IfOk result (λ sink. sink ≡
             record { bytes = []; room = room; failing = failing.items; calls = 0; faults = 0 }) }
@@ -60,7 +60,7 @@ impl MemorySink {
         })
     }
 
-    /// The bytes that were written.
+    /// Returns the bytes that were written.
     pub fn bytes(&self) -> &[u8]
         ensures { result.now ≡ self.now.bytes }
     {

@@ -12,7 +12,7 @@ use crate::errors::NoMemory;
 use itoa::Buffer;
 use thiserror::Error;
 
-/// Why a text is no number that fits 64 bits.
+/// Why a text is not a number of 64 bits.
 #[derive(Clone, Copy, Debug, PartialEq, Eq, Error)]
 pub enum NumberFault {
     /// The text has no byte.

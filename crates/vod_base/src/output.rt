@@ -1,4 +1,4 @@
-//! What a sink must keep.
+//! Output, as a trait.
 
 ghost use Rattle.std.specs.Prelude.{◌≡◌, ◌≤◌, ℕ, List, Option, OnOk, OnErr};
 ghost use Rattle.vod_base.specs.IoState.{HasRisen, told_more, IsWrittenPrefix};
@@ -11,7 +11,11 @@ pub trait Sink {
 
     ghost written: { Self → Option (List ℕ) };
 
-    /// Appends all bytes; after a fault, a front part of them was appended.
+    /// Appends all bytes.
+    ///
+    /// # Errors
+    ///
+    /// [`SinkFault`] if the output failed. Then a prefix of the bytes was appended.
     fn write_all(&mut self, bytes: &[u8]) -> Result<(), SinkFault>
         ensures count { faults self.old ≤ faults self.new }
         ensures fault { OnErr result (HasRisen (faults self.old) (faults self.new)) }

@@ -13,7 +13,7 @@ pub(crate) enum TakeResult {
     Fault,
 }
 
-/// What a part gave: first the links that are still to give, then those that came back.
+/// A part's links: first those that it hasn't given yet, then those that came back.
 #[derive(Drop)]
 pub(crate) struct PartLinks {
     pub(crate) number: usize,
