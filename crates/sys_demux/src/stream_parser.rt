@@ -65,10 +65,11 @@ impl Unwrapper {
             ParserState::High(value) => ParserState::Low(value, byte),
             ParserState::Low(value, high) => length_next(chosen, value, high, byte, item),
             ParserState::InHeader(header, left) => header_place(header, byte, left - 1, item),
-            ParserState::Pass(_)
-            | ParserState::Video(_)
-            | ParserState::End
-            | ParserState::Failed(_) => unreachable!(),
+            // `feed` takes no single byte in these states
+            ParserState::Pass(left) => ParserState::Pass(left),
+            ParserState::Video(left) => ParserState::Video(left),
+            ParserState::End => ParserState::End,
+            ParserState::Failed(fault) => ParserState::Failed(fault),
         };
         *self = Unwrapper {
             place,
