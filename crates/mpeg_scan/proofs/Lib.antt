@@ -27,3 +27,4 @@ mod HeaderLemmas
 mod RefusalLemmas
 mod FilmRefusalLemmas
 pub mod RateLemmas
+pub mod FirstHeadLemmas

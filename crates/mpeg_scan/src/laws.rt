@@ -39,13 +39,14 @@ pub fn law_film_is_well_formed(film: &Film)
 }
 
 /// The units of a film: there is at least one, and the first starts a group and begins with the
-/// sequence header of the film's rate. They lie one after another to the film's end, and have their
-/// slices in order.
+/// sequence header of the film's rate, all 12 bytes of which are in its head. They lie one after
+/// another to the film's end, and have their slices in order.
 pub fn law_units_tile_the_film(film: &Film)
     ensures some { 0 < length film.now.units.items }
     ensures group { OfUnit film.now.units.items 0 (λ u. u.starts_group ≡ true) }
     ensures begins { OfUnit film.now.units.items 0
         (λ u. BeginsSequence film.now.bytes.items film.now.rate u.from) }
+    ensures header { OfUnit film.now.units.items 0 (λ u. u.from + 12 ≤ u.head_end) }
     ensures chained { AreInFilm film.now.bytes.items film.now.units.items }
     ensures within { (k : ℕ)
         → OfUnit film.now.units.items k (λ u. u.to ≤ length film.now.bytes.items) }
