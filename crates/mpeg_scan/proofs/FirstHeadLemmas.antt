@@ -1,6 +1,6 @@
 -- The head of a film's first unit holds all of its sequence header.
-use Rattle.std.proofs.Common.{◌≡◌, ℕ, Bool, true, false, cond, eqb, ltb, ◌+◌, ◌-◌, ◌%◌, ◌<◌, ◌≤◌, ◌⊎◌}
-use Rattle.std.proofs.Common.{List, [], ◌∷◌, Option, Some, None, length, slice_get, sym, subst, inl}
+use Rattle.std.proofs.Common.{◌≡◌, ℕ, true, cond, eqb, ltb, ◌+◌, ◌-◌, ◌≤◌, ◌⊎◌}
+use Rattle.std.proofs.Common.{List, [], ◌∷◌, Option, Some, None, length, slice_get, sym, inl}
 use Rattle.std.proofs.Common.{inr, refl, ap, ◌∙◌, arith}
 use Rattle.std.proofs.lemmas.Bool.{eq-eqb, ltb-false}
 use Rattle.mpeg_scan.specs.declared.codes.Code.{Code}
@@ -9,7 +9,7 @@ use Rattle.mpeg_scan.specs.declared.units.Unit.{Unit as PictureUnit}
 use Rattle.mpeg_scan.specs.declared.films.Film.{Film}
 use Rattle.mpeg_scan.specs.StartCodes.{read_after, codes_of}
 use Rattle.mpeg_scan.specs.CodePlaces.{HasCode}
-use Rattle.mpeg_scan.specs.FilmFaults.{end_fault, first_fault, header_fault, latest_fault, picture_fault, rate_fault}
+use Rattle.mpeg_scan.specs.FilmFaults.{end_fault, first_fault, header_fault, picture_fault, rate_fault}
 use Rattle.mpeg_scan.specs.PartTiling.{first_of}
 use Rattle.mpeg_scan.proofs.CodePlaceLemmas.{codes-stand}
 use Rattle.mpeg_scan.proofs.CodeSpacingLemmas.{Spaced, all-below, placed-codes}

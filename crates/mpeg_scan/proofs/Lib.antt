@@ -1,5 +1,6 @@
 pub mod CodeLemmas
 pub mod ScanStepLemmas
+mod HeaderRunLemmas
 pub mod ByteReadLemmas
 pub mod FilmLemmas
 mod CodeSpacingLemmas
