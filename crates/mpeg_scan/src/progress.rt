@@ -117,7 +117,7 @@ impl Progress {
         }
     }
 
-    /// Takes a code, and tells of what ends at it.
+    /// Processes a code, and reports what ends at it.
     fn take_code<F: Found>(
         &mut self,
         place: u64,
@@ -188,7 +188,7 @@ impl Progress {
         }
     }
 
-    /// Reads the bytes in front of `rest` that are before its first zero byte, and answers how many:
+    /// Reads the first bytes of `rest`, up to its first zero byte, and answers how many:
     /// none where a part of a prefix stands at the end. No code ends in them, so they are of the
     /// latest header or are passed over.
     fn skip(&mut self, rest: &[u8]) -> usize
@@ -269,7 +269,7 @@ impl Progress {
         }
     }
 
-    /// Judges the whole film.
+    /// Judges the complete film.
     pub(crate) fn judge_film(&self) -> Result<Tally, FilmFault>
         requires { IsAhead self.now }
         ensures tally { IfOk result (λ t. t ≡ tally_now self.now) }

@@ -41,7 +41,8 @@ pub fn law_events_decide_watch_result()
 {}
 
 /// Where at each reading the bytes that came lie between the two curves of a film's units, the
-/// meter stays between empty and the buffer: no picture lacks when it is used, and what waits fits.
+/// meter stays between empty and the buffer: no picture is missing when it is used, and what waits
+/// fits.
 pub fn law_meter_stays_within_buffer()
     ensures { (wish : Wish) (sizes : List ℕ) (picture_time : ℕ) (h : History) → IsWish wish →
         0 < picture_time → 0 < length sizes → IsBetweenAlways wish sizes picture_time h →
@@ -49,8 +50,8 @@ pub fn law_meter_stays_within_buffer()
         × (most_waiting wish h ≤ wish.buffer) }
 {}
 
-/// The meter tells when the bytes that came leave the space between the two curves: where a film's
-/// first units were heard and no reading was over or under, what came lay between the curves at
+/// The meter shows when the bytes that came leave the space between the two curves: where a film's
+/// first units were received and no reading was over or under, what came lay between the curves at
 /// each reading; and the most that waited is above the buffer exactly where a reading was over.
 pub fn law_meter_detects_curve_violations()
     ensures between { (wish : Wish) (sizes : List ℕ) (picture_time : ℕ) (h : History) →
@@ -139,10 +140,10 @@ pub fn law_output_is_film_bytes()
     law_payloads_are_film_bytes();
 }
 
-/// The texts that a client sends are whole requests of RTSP 1.0, whatever comes after them, and are
-/// read as what it asks for: their method, URL and sequence number, and each name has the value of
-/// the client's first field of that name: Transport, `x-Buffer` and `x-Startup` in SETUP, Session
-/// and Range in PLAY, Session in TEARDOWN (RFC 2326 sections 6, 10 and 12).
+/// The texts that a client sends are complete requests of RTSP 1.0, whatever comes after them, and
+/// are read as what it asks for: their method, URL and sequence number, and each name has the value
+/// of the client's first field of that name: Transport, `x-Buffer` and `x-Startup` in SETUP,
+/// Session and Range in PLAY, Session in TEARDOWN (RFC 2326 sections 6, 10 and 12).
 pub fn law_requests_are_valid_rtsp()
     ensures setup { (wish : Wish) → IsWish wish → wish.port < 2 ^ 16 →
         IsRequestText (setup_text wish) (setup_parts wish) 1 }

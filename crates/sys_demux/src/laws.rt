@@ -71,7 +71,7 @@ pub fn law_stream_has_one_reading()
         ¬ IsBadStream bytes fault }
 {}
 
-/// What was lent so far is the front of the whole stream's video.
+/// What was lent so far is a prefix of the complete stream's video.
 pub fn law_lent_video_is_a_prefix(unwrapper: &Unwrapper)
     ensures { (seen video more whole : List ℕ) → WasFed unwrapper.now seen video →
         IsSystem (seen ++ more) whole →
