@@ -1,4 +1,4 @@
-//! What holds of every made trace, film and system stream.
+//! What is true of every generated trace, film and system stream.
 
 ghost use Rattle.std.specs.Prelude.{◌≡◌, ◌≢◌, ℕ, ◌+◌, ◌*◌, ◌%◌, ◌<◌, ◌≤◌, ◌++◌, [], ◌∷◌, List};
 ghost use Rattle.std.specs.Prelude.{decimal};
@@ -69,13 +69,13 @@ pub fn law_picture_has_four_slices()
         EndsWithSlices 9 4 (picture_of words k) }
 {}
 
-/// A film of fewer pictures is the front of a film of more, but for its end.
+/// A film of fewer pictures is a prefix of a film of more, except its end.
 pub fn law_shorter_film_is_a_prefix()
     ensures { (words : ℕ → ℕ) (m n : ℕ) → m ≤ n →
         (rest : List ℕ) × (pictures_of words n ≡ pictures_of words m ++ rest) }
 {}
 
-/// A made system stream is one, and its video is the film that was wrapped.
+/// A generated system stream is one, and its video is the film that was wrapped.
 pub fn law_system_stream_unwraps_to_its_film()
     ensures { (video : List ℕ) → IsSystem (system_of video) video }
 {}

@@ -1,8 +1,10 @@
 -- Bytes read one after another, runs that change nothing but the place, and what stays refused.
-use Rattle.std.proofs.Common.{ℕ, suc, Bool, true, false, cond, eqb, ltb, ◌+◌, ◌-◌, ◌<◌, ◌≤◌, ◌≡◌}
-use Rattle.std.proofs.Common.{List, [], ◌∷◌, ◌++◌, Option, Some, length, take, drop, get_or, sym}
+use Rattle.std.proofs.Common.{ℕ, suc, Bool, true, false, cond, eqb, ◌+◌, ◌-◌, ◌<◌, ◌≤◌, ◌≡◌}
+use Rattle.std.proofs.Common.{List, [], ◌∷◌, ◌++◌, Option, None, Some, length, take, drop, get_or, sym}
+use Rattle.std.proofs.Common.{subst}
+use Rattle.std.specs.Option.{option_map}
 use Rattle.std.proofs.Common.{◌∙◌, ap, refl, inl, inr, arith}
-use Rattle.std.proofs.lemmas.Bool.{cases_Bool, ltb-false, not-true, ne_eqb}
+use Rattle.std.proofs.lemmas.Bool.{cases_Bool, ne_eqb}
 use Rattle.std.proofs.lemmas.List.{take_more, take_rest, get_or-take, length-take-le, length-drop}
 use Rattle.std.proofs.lemmas.List.{take-append-drop}
 use Rattle.std.proofs.Math.Seq.{take-add}
@@ -10,14 +12,11 @@ use Rattle.mpeg_scan.specs.declared.codes.Code.{Code}
 use Rattle.mpeg_scan.specs.declared.codes.Prefix.TheVariants.{Nothing, Zero}
 use Rattle.mpeg_scan.specs.declared.faults.FilmFault.{FilmFault}
 use Rattle.mpeg_scan.specs.declared.progress.Progress.{Progress}
-use Rattle.mpeg_scan.specs.StartCodes.{read_after, latest_prefix, next_prefix, is_whole, note_latest, codes_of}
+use Rattle.mpeg_scan.specs.StartCodes.{read_after, latest_prefix, next_prefix, is_whole, note, note_latest, codes_of}
 use Rattle.mpeg_scan.specs.FilmFaults.{first_refusal, fault_at, first_fault}
 use Rattle.mpeg_scan.specs.Calls.{Call, calls_of}
-use Rattle.mpeg_scan.specs.CodeSteps.{latest_of, older_of}
-use Rattle.mpeg_scan.specs.CodeFacts.{tally_of}
-use Rattle.mpeg_scan.specs.ScannerState.{HasReadBytes, is_header_full}
-use Rattle.mpeg_scan.proofs.CodeLemmas.{matched-more, noted-full}
-use Rattle.mpeg_scan.proofs.ScanStepLemmas.{codes-plain, codes-code, first_fault-note}
+use Rattle.mpeg_scan.specs.ScannerState.{HasReadBytes, note_all, scan_with_byte, with_header_bytes}
+use Rattle.mpeg_scan.proofs.ScanStepLemmas.{codes-plain, codes-code, first_fault-note, taken-none, taken-plain}
 
 pub read-append : (r xs ys : List ℕ) → read_after r (xs ++ ys) ≡ read_after (read_after r xs) ys
 read-append r [] ys = refl
@@ -42,69 +41,113 @@ read-rest r chunk a = sym (read-append r (take a chunk) (drop a chunk)) ∙ ap (
 
 -- ---- runs
 
-note-full : (past : List Code) (x : ℕ) → is_header_full (latest_of past) ≡ true → note_latest past x ≡ past
-note-full [] x full = refl
-note-full (c ∷ past) x full =
-    let room : 5 ≤ length c.header = ltb-false (length c.header) 5 (not-true (ltb (length c.header) 5) full) in
-    ap (λ (t : List ℕ). record c { header = t } ∷ past) (sym (noted-full c.header x room))
-
 next-other : (b : Bool) (x : ℕ) → (x ≡ 0 → ⊥) → eqb x 1 ≡ b → next_prefix Nothing x ≡ Nothing
 next-other true x other is = ap (λ t. cond t Nothing (cond (eqb x 0) Zero Nothing)) is
 next-other false x other is =
     ap (λ t. cond t Nothing (cond (eqb x 0) Zero Nothing)) is ∙ ap (λ t. cond t Zero Nothing) (ne_eqb x 0 other)
 
--- a run of bytes that change nothing but the place
-abbrev pub skipped_scan : Progress → ℕ → Progress
-skipped_scan s n = record s { fed = s.fed + n }
-
-record Quiet (r q : List ℕ) (n : ℕ) : Type 0 where
-  same : codes_of q ≡ codes_of r
-  none : latest_prefix q ≡ Nothing
-  more : length q ≡ length r + n
+-- bytes that aren't the value of a code, one after another
+abbrev pub scan_with_run : Progress → List ℕ → Progress
+scan_with_run s [] = s
+scan_with_run s (x ∷ xs) = scan_with_run (scan_with_byte s x) xs
 
 -- none of the first n bytes is 0
 abbrev AreNonzero : List ℕ → ℕ → Type 0
 AreNonzero xs n = (k : ℕ) → k < n → get_or xs k 0 ≡ 0 → ⊥
-
-quiet-run : (xs r : List ℕ) → AreNonzero xs (length xs) → latest_prefix r ≡ Nothing
-    → is_header_full (latest_of (codes_of r)) ≡ true → Quiet r (read_after r xs) (length xs)
-quiet-run [] r nonzero none full = record { same = refl; none = none; more = omega arith }
-quiet-run (x ∷ xs) r nonzero none full =
-    let same : codes_of (x ∷ r) ≡ codes_of r = codes-plain x r (ap is_whole none) ∙ note-full (codes_of r) x full in
-    let still : latest_prefix (x ∷ r) ≡ Nothing =
-    matched-more x r ∙ ap (λ p. next_prefix p x) none ∙ next-other (eqb x 1) x (nonzero 0 (omega arith)) refl in
-    let rest = quiet-run xs (x ∷ r) (λ k within. nonzero (suc k) (omega arith)) still
-    (ap (λ (l : List Code). is_header_full (latest_of l)) same ∙ full) in
-    record { same = rest.same ∙ same; none = rest.none; more = omega (arith, rest.more) }
 
 front-nonzero : (xs : List ℕ) (n : ℕ) → n ≤ length xs → AreNonzero xs n → AreNonzero (take n xs) (length (take n xs))
 front-nonzero xs n bound nonzero k within zero_there =
     let below : k < n = omega (arith, length-take-le n xs bound) in
     nonzero k below (sym (get_or-take n xs k 0 below) ∙ zero_there)
 
-skipped : {s : Progress} {r : List ℕ} (xs : List ℕ) (n : ℕ) → n ≤ length xs → AreNonzero xs n
-    → (s.prefix ≡ Nothing) × (is_header_full s.latest ≡ true) → HasReadBytes s r
-    → Quiet r (read_after r (take n xs)) (length (take n xs))
-skipped {s} {r} xs n bound nonzero quiet kept =
-    quiet-run (take n xs) r (front-nonzero xs n bound nonzero) (sym kept.prefix ∙ quiet.0)
-    (sym (ap is_header_full kept.latest) ∙ quiet.1)
+-- a run without zero bytes, where nothing of a prefix stands
+record IsRun (s : Progress) (xs : List ℕ) : Type 0 where
+  none : s.prefix ≡ Nothing
+  nonzero : AreNonzero xs (length xs)
 
-pub skipped-same : {s : Progress} {r : List ℕ} (xs : List ℕ) (n : ℕ) → n ≤ length xs → AreNonzero xs n
-    → (s.prefix ≡ Nothing) × (is_header_full s.latest ≡ true) → HasReadBytes s r
-    → codes_of (read_after r (take n xs)) ≡ codes_of r
-skipped-same {s} {r} xs n bound nonzero quiet kept = (skipped xs n bound nonzero quiet kept).same
+next-run : {s : Progress} {x : ℕ} {xs : List ℕ} → IsRun s (x ∷ xs) → IsRun (scan_with_byte s x) xs
+next-run {s} {x} run = record {
+  none = ap (λ p. next_prefix p x) run.none ∙ next-other (eqb x 1) x (run.nonzero 0 (omega arith)) refl;
+  nonzero = λ k within. run.nonzero (suc k) (omega arith);
+}
 
-pub skipped-kept : {s : Progress} {r : List ℕ} (xs : List ℕ) (n : ℕ) → n ≤ length xs → AreNonzero xs n
-    → (s.prefix ≡ Nothing) × (is_header_full s.latest ≡ true) → HasReadBytes s r
-    → HasReadBytes (skipped_scan s n) (read_after r (take n xs))
-skipped-kept {s} {r} xs n bound nonzero quiet kept =
-    let run = skipped xs n bound nonzero quiet kept in record {
-      fed = omega (arith, run.more, length-take-le n xs bound, kept.fed);
-      prefix = quiet.0 ∙ sym run.none;
-      latest = kept.latest ∙ ap latest_of (sym run.same);
-      tally = kept.tally ∙ ap (λ (l : List Code). tally_of (older_of l)) (sym run.same);
-      accepted = ap first_fault run.same ∙ kept.accepted;
+-- what it leaves: the bytes are counted, and added to the latest header
+header-run : (latest : Option Code) (x : ℕ) (xs : List ℕ)
+    → option_map (λ c. note_all c xs) (option_map (λ c. note c x) latest)
+    ≡ option_map (λ c. note_all c (x ∷ xs)) latest
+header-run None x xs = refl
+header-run (Some c) x xs = refl
+
+header-none : (latest : Option Code)
+    → latest ≡ option_map (λ c. note_all c []) latest
+header-none None = refl
+header-none (Some c) = refl
+
+run-is : {s : Progress} (xs : List ℕ) → IsRun s xs
+    → scan_with_run s xs ≡ record s {
+      fed = s.fed + length xs;
+      latest = option_map (λ c. note_all c xs) s.latest;
     }
+run-is {s} [] run =
+    let none : s.fed ≡ s.fed + 0 = omega arith in
+    ap (λ n. record s { fed = n }) none
+    ∙ ap (λ (o : Option Code). record s { fed = s.fed + 0; latest = o }) (header-none s.latest)
+run-is {s} (x ∷ xs) run =
+    let next = next-run run in
+    let count : s.fed + 1 + length xs ≡ s.fed + length (x ∷ xs) = omega arith in
+    let still : next_prefix s.prefix x ≡ s.prefix = next.none ∙ sym run.none in
+    let headers = option_map (λ c. note_all c xs)
+    (option_map (λ c. note c x) s.latest) in
+    run-is {s = scan_with_byte s x} xs next
+    ∙ (ap (λ n. record s { fed = n; prefix = next_prefix s.prefix x; latest = headers }) count
+    ∙ (ap (λ p. record s { fed = s.fed + length (x ∷ xs); prefix = p; latest = headers }) still
+    ∙ ap (λ (o : Option Code). record s { fed = s.fed + length (x ∷ xs); latest = o }) (header-run s.latest x xs)))
+
+run-kept : {s : Progress} {r : List ℕ} (xs : List ℕ) → IsRun s xs → HasReadBytes s r
+    → HasReadBytes (scan_with_run s xs) (read_after r xs)
+run-kept [] run kept = kept
+run-kept {s} {r} (x ∷ xs) run kept =
+    run-kept {s = scan_with_byte s x} {r = x ∷ r} xs (next-run run) (taken-plain (ap is_whole run.none) refl kept)
+
+run-calls : {s : Progress} {r : List ℕ} (xs : List ℕ) → IsRun s xs → HasReadBytes s r
+    → calls_of (codes_of (read_after r xs)) ≡ calls_of (codes_of r)
+run-calls [] run kept = refl
+run-calls {s} {r} (x ∷ xs) run kept =
+    run-calls {s = scan_with_byte s x} {r = x ∷ r} xs (next-run run) (taken-plain (ap is_whole run.none) refl kept)
+    ∙ sym (taken-none x (ap is_whole run.none) kept [])
+
+-- ---- the run in front of a chunk
+
+-- the bytes before the first zero byte were read, where nothing of a prefix stood
+pub record HasSkipped (old new : Progress) (rest : List ℕ) (count : ℕ) : Type 0 where
+  pub none : old.prefix ≡ Nothing
+  pub bound : count ≤ length rest
+  pub nonzero : (k : ℕ) → k < count → get_or rest k 0 ≡ 0 → ⊥
+  pub is : new ≡ record (with_header_bytes old (take count rest)) { fed = old.fed + count }
+
+run-of : {old new : Progress} {rest : List ℕ} {count : ℕ} → HasSkipped old new rest count → IsRun old (take count rest)
+run-of {rest} {count} skipped = record {
+  none = skipped.none;
+  nonzero = front-nonzero rest count skipped.bound skipped.nonzero;
+}
+
+pub skipped-is : {old new : Progress} {rest : List ℕ} {count : ℕ} → HasSkipped old new rest count
+    → new ≡ scan_with_run old (take count rest)
+skipped-is {old} {rest} {count} skipped =
+    let headers = option_map (λ c. note_all c (take count rest)) old.latest in
+    skipped.is
+    ∙ (ap (λ n. record old { fed = old.fed + n; latest = headers }) (sym (length-take-le count rest skipped.bound))
+    ∙ sym (run-is (take count rest) (run-of skipped)))
+
+pub skipped-kept : {old new : Progress} {rest : List ℕ} {count : ℕ} {r : List ℕ} → HasSkipped old new rest count
+    → HasReadBytes old r → HasReadBytes new (read_after r (take count rest))
+skipped-kept {rest} {count} {r} skipped kept =
+    subst (λ (s : Progress). HasReadBytes s (read_after r (take count rest))) (sym (skipped-is skipped))
+    (run-kept (take count rest) (run-of skipped) kept)
+
+pub skipped-calls : {old new : Progress} {rest : List ℕ} {count : ℕ} {r : List ℕ} → HasSkipped old new rest count
+    → HasReadBytes old r → calls_of (codes_of (read_after r (take count rest))) ≡ calls_of (codes_of r)
+skipped-calls {rest} {count} skipped kept = run-calls (take count rest) (run-of skipped) kept
 
 -- ---- what is refused stays refused
 
@@ -132,12 +175,13 @@ pub length-rest : (chunk : List ℕ) (a : ℕ) → length (take (length chunk - 
 length-rest chunk a = ap (λ (l : List ℕ). length l) (take_rest chunk a) ∙ length-drop a chunk
 
 pub calls-run : (r chunk : List ℕ) (a n : ℕ) (calls : List Call)
-    → codes_of (read_after (read_after r (take a chunk)) (take n (take (length chunk - a) (drop a chunk))))
-    ≡ codes_of (read_after r (take a chunk))
+    → calls_of (codes_of (read_after (read_after r (take a chunk)) (take n (take (length chunk - a) (drop a chunk)))))
+    ≡ calls_of (codes_of (read_after r (take a chunk)))
     → calls ++ calls_of (codes_of (read_after r (take a chunk))) ≡ calls ++ calls_of
     (codes_of (read_after r (take (a + n) chunk)))
 calls-run r chunk a n calls same =
-    ap (λ (l : List Code). calls ++ calls_of l) (sym same ∙ ap codes_of (read-run r chunk a n))
+    ap (λ (l : List Call). calls ++ l)
+    (sym same ∙ ap (λ (q : List ℕ). calls_of (codes_of q)) (read-run r chunk a n))
 
 pub fault-rest : (r chunk : List ℕ) (b : ℕ) (f : FilmFault) → b < length chunk
     → first_fault (codes_of (get_or chunk b 0 ∷ read_after r (take b chunk))) ≡ Some f

@@ -1,5 +1,6 @@
 pub mod CodeLemmas
 pub mod ScanStepLemmas
+mod HeaderRunLemmas
 pub mod ByteReadLemmas
 pub mod FilmLemmas
 mod CodeSpacingLemmas
@@ -27,3 +28,4 @@ mod HeaderLemmas
 mod RefusalLemmas
 mod FilmRefusalLemmas
 pub mod RateLemmas
+pub mod FirstHeadLemmas

@@ -1,6 +1,6 @@
 -- The scanner's latest unit and slice begin well before the next code.
 use Rattle.std.proofs.Common.{Result, Ok, Err, OnOk, ℕ, Bool, true, false, not, cond, eqb, ltb}
-use Rattle.std.proofs.Common.{◌&&◌, ◌||◌, ◌+◌, ◌-◌, ◌<◌, ◌≤◌, ◌≡◌, [], Option, Some, None, sym, ◌∙◌}
+use Rattle.std.proofs.Common.{◌&&◌, ◌||◌, ◌+◌, ◌-◌, ◌<◌, ◌≤◌, ◌≡◌, List, [], ◌∷◌, Option, Some, None, sym, ◌∙◌, take}
 use Rattle.std.proofs.Common.{ap, refl, subst, arith}
 use Rattle.std.specs.Option.{IsSome, option_map}
 use Rattle.std.proofs.lemmas.Option.{same_Some}
@@ -17,7 +17,8 @@ use Rattle.mpeg_scan.specs.CodeFacts.{is_head, is_slice}
 use Rattle.mpeg_scan.specs.FilmFaults.{last_fault, open_fault, code_fault}
 use Rattle.mpeg_scan.specs.ScanBounds.{AwaitsSlice, AwaitsSliceAfter, HasRoom, HasRoomWith, IsAhead}
 use Rattle.mpeg_scan.specs.ScanBounds.{prefix_length}
-use Rattle.mpeg_scan.specs.ScannerState.{scan_with_code, scan_with_byte}
+use Rattle.mpeg_scan.specs.ScannerState.{note_all, scan_with_code, scan_with_byte}
+use Rattle.mpeg_scan.proofs.ByteReadLemmas.{HasSkipped, scan_with_run, skipped-is}
 use Rattle.mpeg_scan.specs.CodeSteps.{end_judgement, code_judgement, latest_header_fault, next}
 use Rattle.mpeg_scan.specs.CodeSteps.{next_begins, tally_now, tally_with}
 use Rattle.mpeg_scan.proofs.NextCodeLemmas.{code-begun, counts-more, counts-next, picture-next}
@@ -232,24 +233,35 @@ coded-awaits Ready n x place is awaits =
 
 -- ---- as a run is passed over
 
-pub skipped-ahead : {s n : Progress} (count : ℕ) → n.fed ≡ s.fed + count → n.prefix ≡ s.prefix
-    → n.latest ≡ s.latest → n.tally ≡ s.tally → IsAhead s → IsAhead n
-skipped-ahead {s} {n} count fed prefix latest tally room =
-    let length : prefix_length n.prefix ≡ prefix_length s.prefix = ap prefix_length prefix in
-    let end = n.fed - prefix_length n.prefix in
-    let L : Option Code → Type 0 = λ o. HasRoomWith o n.tally end in
-    let T : Tally → Type 0 = λ t. HasRoomWith s.latest t end in
-    record {
-      read = omega (arith, room.read, fed, length);
-      room = subst L (sym latest) (subst T (sym tally) (with-more room.room (omega (arith, fed, length))));
-    }
+run-ahead : {s : Progress} (xs : List ℕ) → IsAhead s → IsAhead (scan_with_run s xs)
+run-ahead [] room = room
+run-ahead {s} (x ∷ xs) room = run-ahead {s = scan_with_byte s x} xs (noted-ahead s (scan_with_byte s x) x refl room)
 
-pub skipped-awaits : (Ready : ℕ → Type 0) (s n : Progress) → n.latest ≡ s.latest → n.tally ≡ s.tally
-    → AwaitsSlice Ready (tally_now s) → AwaitsSlice Ready (tally_now n)
-skipped-awaits Ready s n latest tally awaits =
-    let L : Option Code → Type 0 = λ o. AwaitsSlice Ready (tally_with o n.tally) in
-    let T : Tally → Type 0 = λ t. AwaitsSlice Ready (tally_with s.latest t) in
-    subst L (sym latest) (subst T (sym tally) awaits)
+pub skipped-ahead : {old new : Progress} {rest : List ℕ} {count : ℕ} → HasSkipped old new rest count → IsAhead old
+    → IsAhead new
+skipped-ahead {rest} {count} skipped room =
+    subst (λ (s : Progress). IsAhead s) (sym (skipped-is skipped)) (run-ahead (take count rest) room)
+
+-- a longer header changes no count and no place of slices
+header-places : (latest : Option Code) (t : Tally) (xs : List ℕ)
+    → let more = tally_with (option_map (λ c. note_all c xs) latest) t in
+    (more.slices ≡ (tally_with latest t).slices) × (more.slice ≡ (tally_with latest t).slice)
+unfolding next
+header-places None t xs = (refl, refl)
+header-places (Some c) t xs = (refl, refl)
+
+pub skipped-places : {old new : Progress} {rest : List ℕ} {count : ℕ} → HasSkipped old new rest count
+    → ((tally_now new).slices ≡ (tally_now old).slices) × ((tally_now new).slice ≡ (tally_now old).slice)
+skipped-places {old} {rest} {count} skipped =
+    let places = header-places old.latest old.tally (take count rest) in (
+      ap (λ (s : Progress). (tally_now s).slices) skipped.is ∙ places.0,
+      ap (λ (s : Progress). (tally_now s).slice) skipped.is ∙ places.1,
+    )
+
+pub same-awaits : (Ready : ℕ → Type 0) (t u : Tally) → u.slices ≡ t.slices → u.slice ≡ t.slice → AwaitsSlice Ready t
+    → AwaitsSlice Ready u
+same-awaits Ready t u slices slice awaits =
+    λ some. subst (λ p. Ready p) (sym slice) (awaits (omega (arith, slices, some)))
 
 -- two facts of an answer that is Ok
 pub both-ok : {T E P Q R : Type 0} (r : Result T E) → (P → Q → R) → OnOk r P → OnOk r Q → OnOk r R

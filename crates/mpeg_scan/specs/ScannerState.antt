@@ -1,12 +1,13 @@
 -- A scanner that was fed some bytes, which are given the latest first.
-use Rattle.std.specs.Prelude.{ℕ, ◌+◌, ◌<◌, ◌≡◌, Bool, true, List, [], ◌++◌, Option, Some, None}
-use Rattle.std.specs.Prelude.{length, not, nat_lt, option_map, take}
+use Rattle.std.specs.Prelude.{ℕ, ◌+◌, ◌<◌, ◌≡◌, List, [], ◌++◌, Option, Some, None}
+use Rattle.std.specs.Prelude.{length, option_map, take}
 use Rattle.mpeg_scan.specs.declared.codes.Code.{Code}
 use Rattle.mpeg_scan.specs.declared.faults.FilmFault.{FilmFault}
 use Rattle.mpeg_scan.specs.declared.faults.ScanRefused.{ScanRefused}
 use Rattle.mpeg_scan.specs.declared.progress.Progress.{Progress}
 use Rattle.mpeg_scan.specs.declared.scanner.Scanner.{Scanner}
 use Rattle.mpeg_scan.specs.Calls.{Call, calls_of}
+use Rattle.mpeg_scan.specs.HeaderBytes.{header_with_all}
 use Rattle.mpeg_scan.specs.StartCodes.{latest_prefix, next_prefix, note, codes_of, read_after}
 use Rattle.mpeg_scan.specs.CodeFacts.{tally_of}
 use Rattle.mpeg_scan.specs.FilmFaults.{first_fault}
@@ -70,7 +71,10 @@ pub record IsRefusedInChunk (Heard : List Call → Type 0) (r chunk : List ℕ) 
   pub fault : first_fault (codes_of (read_after r (take (count + 1) chunk))) ≡ Some f
   pub heard : Heard (calls ++ calls_of (codes_of (read_after r (take count chunk))))
 
--- whether a code takes no further byte as one of its header
-abbrev pub is_header_full : Option Code → Bool
-is_header_full None = true
-is_header_full (Some c) = not (nat_lt (length c.header) 5)
+-- bytes more of a code's header, one after another
+abbrev pub note_all : Code → List ℕ → Code
+note_all c bytes = record c { header = header_with_all c.header bytes }
+
+-- those of the latest code
+abbrev pub with_header_bytes : Progress → List ℕ → Progress
+with_header_bytes s bytes = record s { latest = option_map (λ c. note_all c bytes) s.latest }

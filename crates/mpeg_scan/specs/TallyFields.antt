@@ -4,7 +4,6 @@ use Rattle.std.specs.Prelude.{if◌then◌else◌, refl}
 use Rattle.std.proofs.Common.{ap}
 use Rattle.std.specs.Option.{is_some}
 use Rattle.mpeg_scan.specs.declared.codes.Code.{Code}
-use Rattle.mpeg_scan.specs.declared.tallies.Header.{Header}
 use Rattle.mpeg_scan.specs.declared.tallies.Slices.{Slices}
 use Rattle.mpeg_scan.specs.declared.tallies.Tally.TheInside.{Inside}
 use Rattle.mpeg_scan.specs.declared.tallies.UnitTally.{UnitTally}

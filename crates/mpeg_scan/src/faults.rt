@@ -63,7 +63,7 @@ pub enum ScanRefused {
     /// The film is refused.
     #[error("{0}")]
     Fault(FilmFault),
-    /// Want of memory.
+    /// Out of memory.
     #[error("out of memory")]
     NoMemory,
 }

@@ -1,4 +1,4 @@
-//! A film in memory, scanned whole.
+//! A film in memory, scanned in one call.
 
 ghost use Rattle.std.specs.Prelude.{◌≡◌, ◌≤◌, [], Some, Err, IfOk};
 ghost use Rattle.mpeg_scan.specs.Films.{IsFilm, refusal, film_calls};
@@ -42,12 +42,12 @@ impl Film {
     }
 }
 
-/// Scans a whole film.
+/// Scans all bytes of a film.
 ///
 /// # Errors
 ///
 /// [`ScanRefused::Fault`] with the film's refusal, the one that `law_refusals_match_the_standard`
-/// tells of; [`ScanRefused::NoMemory`] where there is none for its units and slices.
+/// names; [`ScanRefused::NoMemory`] where there is none for its units and slices.
 pub fn scan(alloc: Global, bytes: Vec<u8>) -> Result<Film, ScanRefused>
     ensures film { IfOk result (λ film. film.bytes.items ≡ bytes.items) }
     ensures grammatical { IfOk result (λ film. IsGrammatical (read_after [] film.bytes.items)) }

@@ -2,7 +2,7 @@
 
 ghost use Rattle.std.specs.Prelude.{◌≡◌, ℕ, ◌<◌, ◌≤◌, List, [], length, take, slice_index, not};
 ghost use Rattle.std.specs.Prelude.{nat_lt};
-ghost use Rattle.mpeg_scan.specs.HeaderBytes.{header_with};
+ghost use Rattle.mpeg_scan.specs.HeaderBytes.{header_with, header_with_all};
 
 use std::marker::Model;
 
@@ -50,6 +50,17 @@ impl HeaderBytes {
         if self.len < LONGEST {
             self.bytes[usize::from(self.len)] = byte;
             self.len += 1;
+        }
+    }
+
+    /// Adds bytes, as far as there is room.
+    pub(crate) fn note_all(&mut self, bytes: &[u8])
+        ensures { self.new ≡ header_with_all self.old bytes.now }
+    {
+        let mut at = 0;
+        while at < bytes.len() && !self.is_full() {
+            self.note(bytes[at]);
+            at += 1;
         }
     }
 

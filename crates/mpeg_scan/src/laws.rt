@@ -1,4 +1,4 @@
-//! What holds of every film and of every refusal, said of its bytes.
+//! What is true of every film and of every refusal, said of its bytes.
 
 ghost use Rattle.std.specs.Prelude.{◌≡◌, ◌↔◌, ℕ, ◌+◌, ◌^◌, ◌<◌, ◌≤◌, ◌++◌, [], List, None, Some};
 ghost use Rattle.std.specs.Prelude.{length, true};
@@ -21,9 +21,9 @@ ghost use Rattle.mpeg_scan.specs.CodeFacts.{picture_count};
 use crate::faults::FilmFault;
 use crate::films::Film;
 
-/// What holds of every film: its rate code is one of the eight of ISO/IEC 11172-2, 2.4.3.2; it has
-/// at most 2^40 bytes and 4,194,304 units, one for each of its pictures; its start codes stand in
-/// their order, and its units are numbered as they come and lie one after another to its end.
+/// What is true of every film: its rate code is one of the eight of ISO/IEC 11172-2, 2.4.3.2; it
+/// has at most 2^40 bytes and 4,194,304 units, one for each of its pictures; its start codes stand
+/// in their order, and its units are numbered as they come and lie one after another to its end.
 pub fn law_film_is_well_formed(film: &Film)
     ensures slowest { 1 ≤ film.now.rate }
     ensures fastest { film.now.rate ≤ 8 }
@@ -39,13 +39,14 @@ pub fn law_film_is_well_formed(film: &Film)
 }
 
 /// The units of a film: there is at least one, and the first starts a group and begins with the
-/// sequence header of the film's rate. They lie one after another to the film's end, and have their
-/// slices in order.
+/// sequence header of the film's rate, all 12 bytes of which are in its head. They lie one after
+/// another to the film's end, and have their slices in order.
 pub fn law_units_tile_the_film(film: &Film)
     ensures some { 0 < length film.now.units.items }
     ensures group { OfUnit film.now.units.items 0 (λ u. u.starts_group ≡ true) }
     ensures begins { OfUnit film.now.units.items 0
         (λ u. BeginsSequence film.now.bytes.items film.now.rate u.from) }
+    ensures header { OfUnit film.now.units.items 0 (λ u. u.from + 12 ≤ u.head_end) }
     ensures chained { AreInFilm film.now.bytes.items film.now.units.items }
     ensures within { (k : ℕ)
         → OfUnit film.now.units.items k (λ u. u.to ≤ length film.now.bytes.items) }
@@ -64,7 +65,7 @@ pub fn law_early_refusal_is_final()
         → refusal bytes ≡ Some FilmFault.TooLong }
 {}
 
-/// Each unit in the words of ISO/IEC 11172-2, over the start codes that stand in the film's bytes:
+/// Each unit in the terms of ISO/IEC 11172-2, over the start codes that stand in the film's bytes:
 /// where it begins and ends, that one picture stands in its head, that its fields are the bits of
 /// that picture's header, which other headers stand in the head, and its presentation number.
 pub fn law_units_match_the_standard(film: &Film)
@@ -114,7 +115,7 @@ pub fn law_slices_begin_at_slice_codes(film: &Film)
     let _read = film.bytes.len();
 }
 
-/// Each refusal comes exactly where its condition holds, in the words of ISO/IEC 11172-2 over the
+/// Each refusal comes exactly where its condition holds, in the terms of ISO/IEC 11172-2 over the
 /// start codes that stand in the film's bytes and over the bits of its headers: that of the film's
 /// size, else the first in the order of the codes, and of the conditions at one code, else that of
 /// the film's end. A film is accepted exactly where none holds.

@@ -13,8 +13,7 @@ ghost use Rattle.mpeg_scan.specs.CodeSteps.{judgement, last_judgement, latest_he
 ghost use Rattle.mpeg_scan.specs.CodeSteps.{tally_now};
 ghost use Rattle.mpeg_scan.specs.CodeFacts.{tally_of};
 ghost use Rattle.mpeg_scan.specs.ScannerState.{HasReadBytes, IsRefusedInChunk, scan_with_code};
-ghost use Rattle.mpeg_scan.specs.ScannerState.{is_header_full};
-ghost use Rattle.mpeg_scan.specs.ScannerState.{scan_with_byte};
+ghost use Rattle.mpeg_scan.specs.ScannerState.{scan_with_byte, with_header_bytes};
 
 use crate::codes::{Code, Prefix};
 use crate::faults::{FilmFault, ScanRefused, code_fault, header_fault, last_fault};
@@ -84,26 +83,41 @@ impl Progress {
         }
     }
 
-    /// Judges a code.
+    /// Adds the latest code to the tally of those before it.
+    fn add_latest(&mut self)
+        requires { HasCounts self.old.tally (2 ^ 41) }
+        ensures tally { self.new.tally ≡ tally_now self.old }
+        ensures fed { self.new.fed ≡ self.old.fed }
+        ensures prefix { self.new.prefix ≡ self.old.prefix }
+    {
+        if let Some(code) = &self.latest {
+            self.tally.add(code);
+        }
+    }
+
+    /// Judges a code, and adds the latest code to the tally of those before it.
     #[tactic(auto, unfolding(crate::specs::CodeSteps::code_judgement))]
-    fn judge(&self, place: u64, value: u8) -> Result<Tally, FilmFault>
-        requires room { HasRoomWith self.now.latest self.now.tally place }
+    fn judge(&mut self, place: u64, value: u8) -> Result<(), FilmFault>
+        requires room { HasRoomWith self.old.latest self.old.tally place }
         requires within { place ≤ 2 ^ 40 }
-        ensures { MatchResult result
-            (λ t. (judgement self.now place value ≡ None) × (t ≡ tally_now self.now))
-            (λ f. judgement self.now place value ≡ Some f) }
+        ensures judged { MatchResult result
+            (λ _. (judgement self.old place value ≡ None)
+            × (self.new.tally ≡ tally_now self.old))
+            (λ f. judgement self.old place value ≡ Some f) }
+        ensures fed { self.new.fed ≡ self.old.fed }
+        ensures prefix { self.new.prefix ≡ self.old.prefix }
     {
         if let Some(fault) = self.header_fault(place) {
             return Err(fault);
         }
-        let tally = self.tally_now();
-        match code_fault(&tally, place, value) {
-            None => Ok(tally),
+        self.add_latest();
+        match code_fault(&self.tally, place, value) {
+            None => Ok(()),
             Some(fault) => Err(fault),
         }
     }
 
-    /// Takes a code, and tells of what ends at it.
+    /// Processes a code, and reports what ends at it.
     fn take_code<F: Found>(
         &mut self,
         place: u64,
@@ -125,9 +139,8 @@ impl Progress {
         ensures ready { OnOk result
             (AwaitsSliceAfter (F.ready_at found.new) (tally_now self.old) place value) }
     {
-        let tally = self.judge(place, value)?;
-        tell(&tally, place, value, found)?;
-        self.tally = tally;
+        self.judge(place, value)?;
+        tell(&self.tally, place, value, found)?;
         self.latest = Some(Code {
             place,
             value,
@@ -166,36 +179,35 @@ impl Progress {
         self.take_code(place, byte, found)
     }
 
-    /// Whether nothing of a prefix stands at the end, and the latest header is full.
-    fn is_quiet(&self) -> bool
-        ensures { IsTrue result → (self.now.prefix ≡ Prefix.Nothing)
-            × (is_header_full self.now.latest ≡ true) }
+    /// Adds bytes to the header of the latest code, as far as they are read.
+    fn note_header(&mut self, bytes: &[u8])
+        ensures { self.new ≡ with_header_bytes self.old bytes.now }
     {
-        self.prefix.is_nothing()
-            && match &self.latest {
-                None => true,
-                Some(code) => code.header.is_full(),
-            }
+        if let Some(code) = &mut self.latest {
+            code.header.note_all(bytes);
+        }
     }
 
-    /// Passes over the bytes in front of `rest` that change nothing but the place, and says how
-    /// many: those before its first zero byte, where no prefix and no header takes them.
+    /// Reads the first bytes of `rest`, up to its first zero byte, and answers how many:
+    /// none where a part of a prefix stands at the end. No code ends in them, so they are of the
+    /// latest header or are passed over.
     fn skip(&mut self, rest: &[u8]) -> usize
         requires { self.old.fed + length rest.now < 2 ^ 41 }
         ensures bound { result ≤ length rest.now }
         ensures kept { (r : List ℕ) → HasReadBytes self.old r →
             HasReadBytes self.new (read_after r (take result rest.now)) }
         ensures quiet { (r : List ℕ) → HasReadBytes self.old r →
-            codes_of (read_after r (take result rest.now)) ≡ codes_of r }
+            calls_of (codes_of (read_after r (take result rest.now))) ≡ calls_of (codes_of r) }
         ensures fed { self.new.fed ≡ self.old.fed + result }
-        ensures prefix { self.new.prefix ≡ self.old.prefix }
-        ensures latest { self.new.latest ≡ self.old.latest }
-        ensures tally { self.new.tally ≡ self.old.tally }
+        ensures room { IsAhead self.old → IsAhead self.new }
+        ensures slices { (tally_now self.new).slices ≡ (tally_now self.old).slices }
+        ensures slice { (tally_now self.new).slice ≡ (tally_now self.old).slice }
     {
-        if !self.is_quiet() {
+        if !self.prefix.is_nothing() {
             return 0;
         }
         let count = run_before_zero(rest);
+        self.note_header(&rest[..count]);
         self.fed += count as u64;
         count
     }
@@ -257,7 +269,7 @@ impl Progress {
         }
     }
 
-    /// Judges the whole film.
+    /// Judges the complete film.
     pub(crate) fn judge_film(&self) -> Result<Tally, FilmFault>
         requires { IsAhead self.now }
         ensures tally { IfOk result (λ t. t ≡ tally_now self.now) }

@@ -8,8 +8,8 @@ use crate::faults::ScanRefused;
 use crate::progress::Progress;
 use crate::visitor::{Found, tell_unit};
 
-/// Reads a film once from the front, in chunks, and keeps none of it: it tells a `Found` of each
-/// part when it has ended.
+/// Reads a film once from its first byte, in chunks, and keeps none of it: it reports each part to
+/// a `Found` when that part has ended.
 #[derive(Drop)]
 pub struct Scanner {
     progress: Progress,
@@ -43,12 +43,12 @@ impl Scanner {
         }
     }
 
-    /// Takes the next bytes of the film, and tells of what has ended in them.
+    /// Processes the next bytes of the film, and reports what has ended in them.
     ///
     /// # Errors
     ///
     /// [`ScanRefused::Fault`] where a code is refused, once all that ends before that code was
-    /// told; [`ScanRefused::NoMemory`] where `found` runs out of memory. Once it has answered
+    /// reported; [`ScanRefused::NoMemory`] where `found` runs out of memory. Once it has answered
     /// either, it answers the same again.
     pub fn feed<F: Found>(&mut self, chunk: &[u8], found: &mut F) -> Result<(), ScanRefused>
         requires short { bytes_fed self.old + length chunk.now ≤ 2 ^ 40 }
@@ -83,12 +83,13 @@ impl Scanner {
         }
     }
 
-    /// Ends the film, and tells of its last slice and unit.
+    /// Ends the film, and reports its last slice and unit.
     ///
     /// # Errors
     ///
     /// What `feed` has answered before; else [`ScanRefused::Fault`] with the refusal of the film's
-    /// end, where nothing is told, or [`ScanRefused::NoMemory`] where `found` runs out of memory.
+    /// end, where nothing is reported, or [`ScanRefused::NoMemory`] where `found` runs out of
+    /// memory.
     pub fn finish<F: Found>(self, found: &mut F) -> Result<Ending, ScanRefused>
         requires { IsSliceReady (F.ready_at found.old) self }
         ensures ended { IfOk result (λ e. (r : List ℕ) → HasScannedBytes self r
@@ -121,7 +122,7 @@ impl Scanner {
     }
 }
 
-/// What a whole film has in addition to its units.
+/// What a complete film has in addition to its units.
 #[derive(Clone, Copy, Debug, PartialEq, Eq)]
 pub struct Ending {
     /// The rate code of its first sequence header, from 1 to 8.

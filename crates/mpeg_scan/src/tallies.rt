@@ -258,6 +258,22 @@ impl Tally {
         }
     }
 
+    /// Adds a code, whose header is complete.
+    #[tactic(auto, unfolding(crate::specs::CodeSteps::next))]
+    pub(crate) fn add(&mut self, code: &Code)
+        requires { HasCounts self.old (2 ^ 41) }
+        ensures { self.new ≡ next self.old code.now }
+    {
+        match &mut self.unit {
+            // Most codes are slices. Such a code changes the slices alone, in place.
+            Some(unit) if is_slice(code.value) => {
+                unit.slices = Some(Slices::with(unit.slices, code.place));
+                self.all_slices += 1;
+            }
+            _ => *self = self.next(code),
+        }
+    }
+
     /// The film's rate code with one code more.
     fn next_rate(&self, code: &Code) -> Option<u8>
         ensures { result ≡ next_rate self.now code.now }

@@ -22,10 +22,10 @@ use Rattle.plan_cert.proofs.DecimalLemmas.{not_in_decimal}
 use Rattle.plan_cert.proofs.GrammarLemmas.{lines-cut, head_text}
 
 -- ---- lines without LF
-number_clean : (n : ℕ) → n ≤ 2 ^ 42 → All (λ b. b ≢ 10) (decimal n)
+pub number_clean : (n : ℕ) → n ≤ 2 ^ 42 → All (λ b. b ≢ 10) (decimal n)
 number_clean n small = not_in_decimal 10 n (omega arith) (λ within. omega (arith, within.0))
 
-words_clean : (s : Segment) → s.slots ≤ 2 ^ 42 → s.bytes ≤ 2 ^ 42 → All (λ b. b ≢ 10) (segment_words s)
+pub words_clean : (s : Segment) → s.slots ≤ 2 ^ 42 → s.bytes ≤ 2 ^ 42 → All (λ b. b ≢ 10) (segment_words s)
 words_clean s few_slots few_bytes =
     All-append (λ b. b ≢ 10) (codes "segment " ++ decimal s.slots ++ codes " ") (decimal s.bytes)
     (All-append (λ b. b ≢ 10) (codes "segment " ++ decimal s.slots) (codes " ")
@@ -200,7 +200,7 @@ one_certificate one other = (one_text (contents_of one) (contents_of other)
     (sym one.text_is ∙ other.text_is)).segments_are
 
 -- ---- no bad line
-end_is_no_segment : (i : ℕ) (line : List ℕ) → 3 ≤ i → line ≡ codes "end" → MayStand i line → ⊥
+pub end_is_no_segment : (i : ℕ) (line : List ℕ) → 3 ≤ i → line ≡ codes "end" → MayStand i line → ⊥
 end_is_no_segment i line after words (Title at title) = omega (arith, at, after)
 end_is_no_segment i line after words (Slots n at number) = omega (arith, at, after)
 end_is_no_segment i line after words (Bytes n at number) = omega (arith, at, after)
@@ -239,7 +239,7 @@ ends slots bytes segments i is =
     let count : length front ≡ i = omega (arith, is, length-map segments segment_words) in
     get_or_at front (codes "end") [] [] i count
 
-no_break : {segments : List Segment} (slots bytes : ℕ) → slots ≤ 2 ^ 42 → bytes ≤ 2 ^ 42 → AreSmall segments
+pub no_break : {segments : List Segment} (slots bytes : ℕ) → slots ≤ 2 ^ 42 → bytes ≤ 2 ^ 42 → AreSmall segments
     → {i : ℕ} → BreaksAt (lines_are slots bytes segments) i → ⊥
 no_break {segments} slots bytes small_slots small_bytes small {i} breaks =
     let last = 3 + length segments in
@@ -257,7 +257,7 @@ no_break {segments} slots bytes small_slots small_bytes small {i} breaks =
       ]
     ]
 
-nothing_after : {segments : List Segment} (slots bytes : ℕ) → slots ≤ 2 ^ 42 → bytes ≤ 2 ^ 42
+pub nothing_after : {segments : List Segment} (slots bytes : ℕ) → slots ≤ 2 ^ 42 → bytes ≤ 2 ^ 42
     → AreSmall segments → {i : ℕ} → IsAfterEnd (lines_are slots bytes segments) i → ⊥
 nothing_after {segments} slots bytes small_slots small_bytes small after =
     elim (cases_lt after.last (3 + length segments)) [

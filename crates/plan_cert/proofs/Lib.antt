@@ -5,3 +5,4 @@ pub mod DecimalLemmas
 pub mod GrammarLemmas
 pub mod CertUniqueness
 mod CertTextLemmas
+pub mod BadLines

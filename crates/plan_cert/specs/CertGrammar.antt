@@ -1,7 +1,8 @@
 -- The grammar of certificates, line by line.
 use Rattle.std.specs.Prelude.{ℕ, ◌≡◌, ◌≢◌, ◌+◌, ◌<◌, ◌≤◌, ◌^◌, ◌⊎◌, List, [], ◌∷◌, ◌++◌, codes}
 use Rattle.std.specs.Prelude.{decimal, length, All, drop, flat_map, slice_index_or, if◌then◌else◌}
-use Rattle.std.specs.Prelude.{◌==◌}
+use Rattle.std.specs.Prelude.{◌==◌, true, not}
+use Rattle.std.specs.List.{list_all}
 use Rattle.plan_cert.specs.declared.Segment.{Segment}
 use Rattle.plan_cert.specs.declared.cert_reader.CertRead.{CertRead}
 use Rattle.plan_cert.specs.declared.cert_reader.CertRead.TheVariants.{BadCert, NoMemory}
@@ -115,6 +116,21 @@ IsBadLine text line =
 abbrev pub IsCertRefusal : List ℕ → CertRead → Type 0
 IsCertRefusal text (BadCert line) = IsBadLine text line
 IsCertRefusal text NoMemory = Unit {0}
+
+-- a line: none of its bytes is LF
+abbrev pub IsOneLine : List ℕ → Type 0
+IsOneLine line = list_all (λ byte. not (byte == 10)) line ≡ true
+
+-- the lines of a head and of segments that a certificate can name, and then this text
+abbrev pub begun_text : ℕ → ℕ → List Segment → List ℕ → List ℕ
+begun_text slots bytes segments rest =
+    cert_head slots bytes ++ (flat_map segment_line segments ++ rest)
+
+-- a fact of such lines: a head of two numbers and segments
+abbrev pub OfBegunTexts : (ℕ → ℕ → List Segment → Type 0) → Type 0
+OfBegunTexts Fact =
+    (slots bytes : ℕ) (segments : List Segment) → slots ≤ 2 ^ 42 → bytes ≤ 2 ^ 42
+    → AreSmall segments → Fact slots bytes segments
 
 -- k lines of the text are read and may stand there, and `rest` is left of it
 pub record HasReadLines (text : List ℕ) (k : ℕ) (rest : List ℕ) : Type 0 where

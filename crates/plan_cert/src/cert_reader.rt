@@ -34,7 +34,7 @@ pub enum CertRead {
     /// `bytes` that doesn't agree with the segments.
     #[error("line {line} of the certificate is bad")]
     BadCert { line: u64 },
-    /// Want of memory.
+    /// Out of memory.
     #[error("out of memory")]
     NoMemory,
 }
@@ -91,7 +91,7 @@ fn cert_number(digits: &[u8]) -> Option<u64>
     }
 }
 
-/// What stands after a word.
+/// Returns what follows a keyword of the line.
 fn rest_after<'a>(line: &'a [u8], word: &[u8]) -> Option<&'a [u8]>
     ensures { MatchOption result ((ds : List ℕ) → line.now ≢ word.now ++ ds)
         (λ ds. line.now ≡ word.now ++ ds.now) }
@@ -99,7 +99,7 @@ fn rest_after<'a>(line: &'a [u8], word: &[u8]) -> Option<&'a [u8]>
     line.strip_prefix(word)
 }
 
-/// The number after a word.
+/// Returns the number that follows a keyword of the line.
 fn number_after(line: &[u8], word: &[u8]) -> Option<u64>
     ensures { MatchOption result ((n : ℕ) → ¬ IsNumberLine word.now line.now n)
         (IsNumberLine word.now line.now) }

@@ -1,6 +1,7 @@
 //! Laws of slots, sums and texts.
 
 ghost use Rattle.std.specs.Prelude.{◌≡◌, ◌+◌, ◌-◌, ◌*◌, ◌/◌, ◌<◌, ◌≤◌, ◌⊎◌, ◌↔◌, ◌∷◌, ◌++◌, [], ℕ};
+ghost use Rattle.std.specs.Prelude.{◌≢◌, ◌^◌};
 ghost use Rattle.std.specs.Prelude.{All, List, codes, decimal, flat_map, length, map, min, take};
 ghost use Rattle.std.specs.Prelude.{sum, sum_by, slice_index, slice_index_or};
 ghost use Rattle.plan_cert.specs.declared.Segment.{Segment};
@@ -9,7 +10,9 @@ ghost use Rattle.plan_cert.specs.PlanSlots.{total_bytes};
 ghost use Rattle.plan_cert.specs.PlanSlots.{sum_through};
 ghost use Rattle.plan_cert.specs.Plan.{IsPlan};
 ghost use Rattle.plan_cert.specs.CertFormat.{cert_text};
-ghost use Rattle.plan_cert.specs.CertGrammar.{FitCertLimits};
+ghost use Rattle.plan_cert.specs.CertGrammar.{FitCertLimits, IsBadLine, IsCertificate, IsOneLine};
+ghost use Rattle.plan_cert.specs.CertGrammar.{OfBegunTexts, begun_text};
+ghost use Rattle.plan_cert.specs.CertFormat.{segment_words};
 ghost use Rattle.plan_cert.specs.Feasibility.{excess};
 
 /// A plan's slots are those of its segments and add up to its bytes. A slot of a segment sends the
@@ -57,6 +60,47 @@ pub fn law_certificate_text_is_unique()
         ++ codes "end" ∷ []) }
     ensures one { (segments others : List Segment) → FitCertLimits segments → FitCertLimits others →
         cert_text segments ≡ cert_text others → segments ≡ others }
+{}
+
+/// The text that is written of a plan is read back: it is the certificate of the plan's own
+/// segments, with their slots and bytes, and so [`crate::read_cert`] answers them, or that there is
+/// no memory.
+pub fn law_written_plan_is_read_back()
+    ensures { (segments : List Segment) → IsPlan segments →
+        IsCertificate (cert_text segments) (total_slots segments) (total_bytes segments) segments }
+{}
+
+/// The line that is named of a text that is no certificate is the first one that breaks the format:
+/// every line before it is that of a certificate, and it isn't, or the text ends in it, or it
+/// stands behind the end. Of a text whose lines are all well formed it is `slots` where the
+/// segments have another number of slots, else `bytes`. No other line is named.
+pub fn law_bad_line_is_the_first()
+    ensures title { (line rest : List ℕ) → IsOneLine line → line ≢ codes "smooth 1" →
+        IsBadLine (line ++ 10 ∷ rest) 1 }
+    ensures slots { (line rest : List ℕ) → IsOneLine line →
+        ((n : ℕ) → n ≤ 2 ^ 42 → line ≢ codes "slots " ++ decimal n) →
+        IsBadLine (codes "smooth 1" ++ 10 ∷ (line ++ 10 ∷ rest)) 2 }
+    ensures bytes { (slots : ℕ) (line rest : List ℕ) → slots ≤ 2 ^ 42 → IsOneLine line →
+        ((n : ℕ) → n ≤ 2 ^ 42 → line ≢ codes "bytes " ++ decimal n) →
+        IsBadLine
+        (codes "smooth 1" ++ 10 ∷ ((codes "slots " ++ decimal slots) ++ 10 ∷ (line ++ 10 ∷ rest)))
+        3 }
+    ensures segment { OfBegunTexts (λ slots bytes segments. (line rest : List ℕ) →
+        IsOneLine line → line ≢ codes "end" → (length segments ≡ 1000000)
+        ⊎ ((s : Segment) → s.slots ≤ 2 ^ 42 → s.bytes ≤ 2 ^ 42 → line ≢ segment_words s) →
+        IsBadLine (begun_text slots bytes segments (line ++ 10 ∷ rest)) (length segments + 4)) }
+    ensures short { OfBegunTexts (λ slots bytes segments. (line : List ℕ) → IsOneLine line →
+        IsBadLine (begun_text slots bytes segments line) (length segments + 4)) }
+    ensures after { OfBegunTexts (λ slots bytes segments. (rest : List ℕ) → rest ≢ [] →
+        IsBadLine (begun_text slots bytes segments (codes "end" ++ 10 ∷ rest))
+        (length segments + 5)) }
+    ensures sums { OfBegunTexts (λ slots bytes segments.
+        (total_slots segments ≢ slots →
+        IsBadLine (begun_text slots bytes segments (codes "end\n")) 2)
+        × (total_slots segments ≡ slots → total_bytes segments ≢ bytes →
+        IsBadLine (begun_text slots bytes segments (codes "end\n")) 3)) }
+    ensures one { (text : List ℕ) (line other : ℕ) → IsBadLine text line → IsBadLine text other →
+        line ≡ other }
 {}
 
 /// A law: what is sent above a rate and what is sent within it are together what is sent. Nothing

@@ -116,8 +116,8 @@ pub(crate) fn wrapped_sum(start: u32, more: u128) -> u32
 
 /// The timestamp of a unit's packets and report on a clock of 90,000 Hz, modulo 2^32.
 ///
-/// `picture_time` is the time of a picture in 1/360,000 second, as `mpeg_scan::picture_time` tells
-/// it.
+/// `picture_time` is the time of a picture in 1/360,000 second, as `mpeg_scan::picture_time`
+/// returns it.
 pub fn media_timestamp(identity: &Identity, picture_time: u32, unit: &Unit) -> u32
     ensures { result ≡ unit_timestamp identity.now picture_time unit.now }
 {

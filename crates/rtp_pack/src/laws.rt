@@ -1,4 +1,4 @@
-//! What holds of every cutting, of the headers and of the times in them.
+//! What is true of every cutting, of the headers and of the times in them.
 
 ghost use Rattle.std.specs.Prelude.{◌≡◌, ◌+◌, ◌*◌, ◌%◌, ◌^◌, ◌<◌, ◌≤◌, ◌++◌, ℕ, List, sum};
 ghost use Rattle.std.specs.Prelude.{Ok};

@@ -27,7 +27,7 @@ pub(crate) struct OpenPacket {
     pub holds: PacketContents,
 }
 
-/// The most bytes of a unit in one packet: a head always goes into one whole.
+/// The most bytes of a unit in one packet: a complete head always goes into one.
 pub(crate) const MAX_PAYLOAD_BYTES: u64 = MAX_UNIT_HEAD_BYTES;
 
 /// Whether a slice of `length` bytes begins in the portion that is being filled, or else begins the

@@ -22,3 +22,5 @@ pub mod ReadingCounts
 pub mod NextFrames
 pub mod SessionIds
 pub mod StartRanges
+pub mod RunFrames
+pub mod WholeFilms

@@ -1,5 +1,5 @@
 -- The frame whose sequence number is the next one is accepted.
-use Rattle.std.proofs.Common.{◌≡◌, ℕ, ◌+◌, ◌-◌, ◌%◌, ◌^◌, ◌<◌, ◌≤◌, ◌==◌, ◌&&◌, true, false, not, cond, List, []}
+use Rattle.std.proofs.Common.{◌≡◌, ℕ, ◌+◌, ◌-◌, ◌%◌, ◌^◌, ◌<◌, ◌==◌, true, false, not, cond, List, []}
 use Rattle.std.proofs.Common.{◌∷◌, ◌++◌, length, drop, get_or, is_ok, refl, sym, ap, ◌∙◌, arith}
 use Rattle.std.proofs.lemmas.Bool.{and_from, cond-false, eq-eqb, ne_eqb}
 use Rattle.std.proofs.lemmas.List.{get_or_append_left, get_or-append_right, length-append}
@@ -17,11 +17,11 @@ last-of all block =
     get_or-append_right all (block ∷ []) (length all) (length all) [] refl (omega arith)
     ∙ ap (λ k. get_or (block ∷ []) k []) none
 
-record AreHeard (h : History) (all : List (List ℕ)) : Type 0 where
-  count : frames h ≡ length all
-  latest : 0 < length all → latest_frame h ≡ get_or all (length all - 1) []
+pub record AreHeard (h : History) (all : List (List ℕ)) : Type 0 where
+  pub count : frames h ≡ length all
+  pub latest : 0 < length all → latest_frame h ≡ get_or all (length all - 1) []
 
-heard : (h : History) → AreHeard h (frames_heard h)
+pub heard : (h : History) → AreHeard h (frames_heard h)
 heard [] = record { count = refl; latest = λ some. absurd (omega (arith, some)) }
 heard (Reply m ∷ h) = let is = heard h in record { count = is.count; latest = is.latest }
 heard (Report b ∷ h) = let is = heard h in record { count = is.count; latest = is.latest }

@@ -17,3 +17,4 @@ pub mod ClientSteps
 pub mod MeterGuarantee
 pub mod RequestParts
 pub mod Outcomes
+pub mod WholeFilms

@@ -115,7 +115,7 @@ impl Client {
         }
     }
 
-    /// Processes the whole elements that wait.
+    /// Processes the complete elements that wait.
     fn process_input<K: Link, O: Sink>(
         &mut self,
         wish: &Wish,
@@ -145,7 +145,7 @@ impl Client {
         }
     }
 
-    /// Processes the element in front, and answers whether one was whole.
+    /// Processes the first element, and returns whether one was complete.
     fn process_next<K: Link, O: Sink>(
         &mut self,
         wish: &Wish,
@@ -277,7 +277,8 @@ impl Client {
         }
     }
 
-    /// The replies that were heard: the one to SETUP, which began the session, and the one to PLAY.
+    /// The replies that were received: the one to SETUP, which began the session, and the one to
+    /// PLAY.
     fn replies(&self) -> u64
         ensures count { result ≡ replies_in self.now }
         ensures most { result ≤ 2 }
@@ -399,7 +400,7 @@ fn flow_of(answer: Result<(), WatchEnd>) -> ControlFlow<WatchEnd>
     }
 }
 
-/// How many bytes wait of a block on channel 0 or 1 that isn't whole; of a block whose channel
+/// How many bytes wait of a block on channel 0 or 1 that isn't complete; of a block whose channel
 /// didn't come yet, one.
 fn cut_bytes(waiting: &[u8]) -> usize
     ensures cut { result ≡ cut_bytes waiting.now }

@@ -54,7 +54,7 @@ pub(crate) fn play_range(message: &[u8]) -> Option<u128>
     range_end(header_of(message, b"Range")?)
 }
 
-/// In how many slots the play starts that a reply tells: from 1 to 2^62 + 1.
+/// In how many slots the play starts, by the reply: from 1 to 2^62 + 1.
 pub(crate) fn play_start(message: &[u8]) -> Option<u64>
     ensures { result ≡ play_start message.now }
 {

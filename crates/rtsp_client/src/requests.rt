@@ -26,7 +26,7 @@ pub(crate) fn setup_request(alloc: Global, wish: &Wish) -> Result<Vec<u8>, NoMem
     Ok(text)
 }
 
-/// PLAY of the whole film, in this session.
+/// PLAY of the complete film, in this session.
 pub(crate) fn play_request(alloc: Global, wish: &Wish, session: &[u8]) -> Result<Vec<u8>, NoMemory>
     ensures { IfOk result (λ text. text.items ≡ play_text wish.now session.now) }
 {

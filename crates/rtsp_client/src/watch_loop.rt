@@ -20,9 +20,9 @@ use vod_base::{Link, MAX_EVENTS, MAX_READ_BYTES, Sink};
 /// Watches a film over a link and hands its bytes on to `out`.
 ///
 /// The client asks for SETUP, PLAY and TEARDOWN (RFC 2326 section 10), each after the reply before
-/// it, and for TEARDOWN once all pictures are whole. The payload of each frame goes to `out` as the
-/// frame is whole. At each new slot from the play's first one on the meter of the client's buffer
-/// is read.
+/// it, and for TEARDOWN once all pictures are complete. The payload of each frame goes to `out` as
+/// the frame is complete. At each new slot from the play's first one on the meter of the client's
+/// buffer is read.
 pub fn watch<K: Link, O: Sink>(alloc: Global, wish: &Wish, link: &mut K, out: &mut O) -> WatchEnd
     requires wish { IsWish wish.now }
     ensures count { K.faults link.old ≤ K.faults link.new }

@@ -19,24 +19,24 @@ pub struct Wish {
     pub slot_units: u32,
 }
 
-/// What was heard of a film, and what the buffer's meter read.
+/// What was received of a film, and what the buffer's meter read.
 ///
 /// The meter is read at each new slot from the play's first one on.
 #[derive(Clone, Copy, Debug, PartialEq, Eq)]
 pub struct Watched {
-    /// The pictures that came whole.
+    /// The pictures that are complete.
     pub units: u64,
     /// The bytes of the film that were handed on.
     pub bytes: u64,
-    /// The frames that came whole, which are the blocks on channel 0.
+    /// The complete frames: the blocks on channel 0.
     pub frames: u64,
-    /// The reports that came whole, which are the blocks on channel 1.
+    /// The complete reports: the blocks on channel 1.
     pub reports: u64,
     /// The most bytes that waited to be played.
     pub most: u64,
     /// In how many slots more bytes waited than the buffer holds.
     pub over: u64,
-    /// In how many slots a picture was to be played that wasn't whole.
+    /// In how many slots a picture was to be played that wasn't complete.
     pub under: u64,
 }
 
@@ -57,10 +57,10 @@ pub enum WatchFault {
     /// What came begins no reply and no block.
     #[error("what came begins no reply and no block")]
     Framing,
-    /// The server ended when so many pictures were whole.
+    /// The server ended when so many pictures were complete.
     #[error("the server ended after {0} pictures")]
     EndedEarly(u64),
-    /// So many events were heard as a client hears, 2^40.
+    /// The client received as many events as it processes, 2^40.
     #[error("too many events")]
     TurnsSpent,
 }
@@ -68,7 +68,7 @@ pub enum WatchFault {
 /// What came of watching a film.
 #[derive(Clone, Copy, Debug, PartialEq, Eq)]
 pub enum WatchEnd {
-    /// All pictures came whole, and the server took leave.
+    /// All pictures are complete, and the server answered TEARDOWN.
     Done(Watched),
     /// The server didn't do what was asked of it.
     Fault(WatchFault),
@@ -76,7 +76,7 @@ pub enum WatchEnd {
     LinkFault,
     /// The output failed.
     SinkFault,
-    /// There was no memory.
+    /// Out of memory.
     NoMemory,
 }
 

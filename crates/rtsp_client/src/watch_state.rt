@@ -1,4 +1,4 @@
-//! What is heard of a film, and the meter of the client's buffer.
+//! What is received of a film, and the meter of the client's buffer.
 
 ghost use Rattle.std.specs.Prelude.{◌≡◌, ◌+◌, ◌^◌, ◌<◌, ◌≤◌, ℕ, Option, Some, None, true, false};
 ghost use Rattle.std.specs.Prelude.{length, is_some, IfSome, OnOk};
@@ -15,18 +15,18 @@ use std::alloc::Global;
 use std::marker::Model;
 use vod_base::NoMemory;
 
-/// What was heard of a film so far.
+/// What was received of a film so far.
 #[derive(Drop)]
 pub(crate) struct WatchState {
-    /// The greatest slot that was heard, at first 0.
+    /// The greatest slot that was received, at first 0.
     last_slot: u64,
     play: Option<Play>,
     source: Option<RtpSource>,
-    /// For each whole picture the sum of its size and those before it.
+    /// For each complete picture the sum of its size and those before it.
     ends: Vec<u64>,
     /// The bytes of all frames and reports.
     received: u64,
-    /// The bytes of all pictures, with those of the one that isn't whole.
+    /// The bytes of all pictures, with those of the one that isn't complete.
     taken: u64,
     watched: Watched,
 }
@@ -52,7 +52,7 @@ impl Model for WatchState {
         IsSound w.last_slot w.play w.source w.ends.items w.received w.taken w.watched };
 }
 
-/// What was heard and read before anything came.
+/// What was received and read before anything came.
 const NOTHING: Watched = Watched {
     units: 0,
     bytes: 0,
@@ -64,7 +64,7 @@ const NOTHING: Watched = Watched {
 };
 
 impl WatchState {
-    /// Nothing was heard.
+    /// Nothing was received.
     pub(crate) fn new(alloc: Global) -> WatchState
         ensures { result ≡ new_state }
     {
@@ -79,21 +79,21 @@ impl WatchState {
         }
     }
 
-    /// What was heard and read.
+    /// What was received and read.
     pub(crate) fn tally(&self) -> Watched
         ensures { result ≡ self.now.watched }
     {
         self.watched
     }
 
-    /// Whether the reply to PLAY was heard.
+    /// Whether the reply to PLAY was received.
     pub(crate) fn is_playing(&self) -> bool
         ensures { result ≡ is_some self.now.play }
     {
         self.play.is_some()
     }
 
-    /// Whether all pictures are whole.
+    /// Whether all pictures are complete.
     pub(crate) fn is_complete(&self) -> bool
         ensures { result ≡ has_all self.now }
     {
@@ -103,7 +103,7 @@ impl WatchState {
         }
     }
 
-    /// The reply to PLAY was heard.
+    /// The reply to PLAY was received.
     pub(crate) fn begin(&mut self, start: u64, end_ms: u128)
         requires { end_ms < 2 ^ 100 }
         ensures { self.new ≡ after_play self.old start end_ms }
@@ -165,7 +165,7 @@ impl WatchState {
         Ok(())
     }
 
-    /// Whether no picture is begun that isn't whole.
+    /// Whether no picture is begun that isn't complete.
     fn is_between(&self) -> bool
         ensures { result ≡ is_between self.now.source }
     {
@@ -192,7 +192,7 @@ impl WatchState {
         self.received += length;
     }
 
-    /// The bytes of the whole pictures that are used before this slot of the play.
+    /// The bytes of the complete pictures that are used before this slot of the play.
     fn bytes_played(&self, wish: &Wish, slot: u64) -> u64
         ensures played { result ≡ played_of wish.now self.now.source self.now.ends slot }
         ensures most { result ≤ self.now.received }
@@ -206,7 +206,7 @@ impl WatchState {
         if count == 0 { 0 } else { self.ends[count - 1] }
     }
 
-    /// Whether a picture is used in this slot of the play, or before it, that isn't whole.
+    /// Whether a picture is used in this slot of the play, or before it, that isn't complete.
     fn is_lacking(&self, wish: &Wish, slot: u64) -> bool
         requires units { 1 ≤ wish.now.slot_units }
         requires startup { wish.now.startup ≤ 10000 }

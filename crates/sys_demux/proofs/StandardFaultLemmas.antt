@@ -1,21 +1,25 @@
 -- What is refused after a stream in the fields of the standard.
-use Rattle.std.proofs.Common.{◌≡◌, ◌≢◌, ℕ, ◌+◌, ◌/◌, ◌%◌, ◌<◌, ◌⊎◌, true}
+use Rattle.std.proofs.Common.{◌≡◌, ◌≢◌, ℕ, zero, suc, ◌+◌, ◌-◌, ◌/◌, ◌%◌, ◌<◌, ◌≤◌, ◌⊎◌, true}
+use Rattle.std.proofs.Common.{drop, get_or, replicate, take}
 use Rattle.std.proofs.Common.{List, [], ◌∷◌, ◌++◌, length, Option, Some, None, refl, sym, ap, subst}
 use Rattle.std.proofs.Common.{◌∙◌}
 use Rattle.std.proofs.Common.{arith, inl, inr, eq-eqb}
-use Rattle.std.proofs.lemmas.List.{append-nil, nil_from_length}
+use Rattle.std.proofs.lemmas.List.{append-nil, get_or-drop, length-drop, length-take-le, nil_from_length}
+use Rattle.std.proofs.lemmas.List.{take-append-drop}
 use Rattle.sys_demux.specs.PacketContents.{video_in}
-use Rattle.sys_demux.specs.StreamItems.{chosen_after, choose, is_chosen, with_prefix}
-use Rattle.sys_demux.specs.StandardFields.{Element, HasHeader, AreElements, first_stream, packet_bytes}
+use Rattle.sys_demux.specs.StreamItems.{chosen_after, choose, is_chosen, with_prefix, zeros_of}
+use Rattle.sys_demux.specs.StandardFields.{Element, HasHeader, AreElements, IsElement, IsStrayByte}
+use Rattle.sys_demux.specs.StandardFields.{element_bytes, first_stream, front_of, packet_bytes}
 use Rattle.sys_demux.specs.StandardFields.{stream_bytes, video_stream_id, with_code}
 use Rattle.sys_demux.specs.StandardFields.Element.{PackHeader, VideoPacket, OtherPacket}
 use Rattle.sys_demux.specs.SystemStreams.{IsFault, IsBadStream}
 use Rattle.sys_demux.specs.declared.faults.SystemFault.{SystemFault}
 use Rattle.sys_demux.specs.declared.faults.SystemFault.TheVariants.{BadCode, BadPacket, NotPack}
+use Rattle.sys_demux.specs.declared.faults.SystemFault.TheVariants.{Truncated}
 use Rattle.sys_demux.proofs.PacketHeaderLemmas.{header_is}
 use Rattle.sys_demux.proofs.StandardStreamLemmas.{Fits, element_read, elements_read, items_bytes}
-use Rattle.sys_demux.proofs.StandardStreamLemmas.{items_of, value_by}
-use Rattle.sys_demux.proofs.StandardStreamLemmas.{next, video_chosen}
+use Rattle.sys_demux.proofs.StandardStreamLemmas.{item_of, items_of, same_bytes}
+use Rattle.sys_demux.proofs.StandardStreamLemmas.{next, value_by, video_chosen}
 
 -- the first stream of video, where one was known before
 abbrev first_of : Option ℕ → Option ℕ → Option ℕ
@@ -121,3 +125,71 @@ packet_refused {stream} {content} elements front are bad =
     })
   where
     open bad use {fits, first_is, never}
+
+-- ---- a byte that no start code can have
+
+-- zeros at the first places of a list, and what stands behind them
+zeros_front : (count : ℕ) (xs : List ℕ) → count < length xs → ((k : ℕ) → k < count → get_or xs k 0 ≡ 0)
+    → xs ≡ replicate count 0 ++ (get_or xs count 0 ∷ drop (suc count) xs)
+zeros_front count [] inside zeros = absurd (omega (arith, inside))
+zeros_front zero (x ∷ xs) inside zeros = refl
+zeros_front (suc count) (x ∷ xs) inside zeros =
+    ap (λ n. n ∷ xs) (zeros 0 (omega arith))
+    ∙ ap (λ (l : List ℕ). 0 ∷ l)
+    (zeros_front count xs (omega (arith, inside)) (λ k few. zeros (suc k) (omega (arith, few))))
+
+pub byte_refused : (elements : List Element) (bytes : List ℕ) (at : ℕ) → AreElements elements →
+    IsStrayByte elements bytes at → IsBadStream bytes (BadCode at)
+byte_refused elements bytes at are stray =
+    let n = length (stream_bytes elements) in
+    let count = at - n in
+    let here : n + count ≡ at = omega (arith, stray.after) in
+    let tail = drop n bytes in
+    let byte = get_or tail count 0 in
+    let byte_is : byte ≡ get_or bytes at 0 = get_or-drop n bytes count 0 ∙ ap (λ i. get_or bytes i 0) here in
+    let inside : count < length tail = omega (arith, length-drop n bytes, stray.inside, stray.after) in
+    let tail_is : tail ≡ replicate count 0 ++ (byte ∷ drop (suc count) tail) =
+    zeros_front count tail inside (λ k few. get_or-drop n bytes k 0
+    ∙ stray.zeros (n + k) (omega arith) (omega (arith, few, here))) in
+    let whole : stream_bytes elements ++ tail ≡ bytes =
+    ap (λ (l : List ℕ). l ++ tail) (sym stray.begins) ∙ take-append-drop n bytes in
+    subst (λ (l : List ℕ). IsBadStream l (BadCode at)) whole
+    (refused elements tail (BadCode at) are (inl (record {
+      count = count;
+      byte = byte;
+      rest = drop (suc count) tail;
+      is = tail_is;
+      some = λ none. stray.some (sym byte_is ∙ none);
+      early = λ one. omega (arith, stray.early (sym byte_is ∙ one), here);
+      place_is = sym here;
+    })))
+
+-- ---- an element that the end of the stream stops early
+
+first_fits : (elements : List Element) → AreElements elements → Fits (first_stream elements)
+first_fits [] are = tt
+first_fits (PackHeader _ clock_reference mux_rate ∷ elements) are = first_fits elements are.1
+first_fits (VideoPacket _ stream stuffing buffer stamps video ∷ elements) are = are.0.stream_fits
+first_fits (OtherPacket _ value content ∷ elements) are = first_fits elements are.1
+
+zeros_are : (element : Element) → zeros_of (item_of element) ≡ front_of element
+zeros_are (PackHeader front clock_reference mux_rate) = refl
+zeros_are (VideoPacket front stream stuffing buffer stamps video) = refl
+zeros_are (OtherPacket front value content) = refl
+
+pub end_refused : (elements : List Element) (element : Element) (count : ℕ) → AreElements elements
+    → IsElement element → (front_of element + 3 ≤ count) × (count < length (element_bytes element))
+    → IsBadStream (stream_bytes elements ++ take count (element_bytes element))
+    (Truncated (length (stream_bytes elements) + front_of element))
+end_refused elements element count are is cut =
+    let bytes = element_bytes element in
+    let zeros = zeros_are element in
+    refused elements (take count bytes) (Truncated (length (stream_bytes elements) + front_of element)) are (record {
+      item = item_of element;
+      lacking = drop count bytes;
+      is_item = (element_read (first_stream elements) element (first_fits elements are) is).item;
+      is = same_bytes element ∙ sym (take-append-drop count bytes);
+      begun = omega (arith, zeros, length-take-le count bytes (omega (arith, cut.1)), cut.0);
+      some = omega (arith, length-drop count bytes, cut.1);
+      place_is = omega (arith, zeros);
+    })

@@ -40,7 +40,7 @@ abbrev pub items_of : List Element → List Item
 items_of [] = []
 items_of (element ∷ elements) = item_of element ∷ items_of elements
 
-same_bytes : (element : Element) → item_bytes (item_of element) ≡ element_bytes element
+pub same_bytes : (element : Element) → item_bytes (item_of element) ≡ element_bytes element
 same_bytes (PackHeader front clock_reference mux_rate) = refl
 same_bytes (VideoPacket front stream stuffing buffer stamps video) = refl
 same_bytes (OtherPacket front value content) = refl

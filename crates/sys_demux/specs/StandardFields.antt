@@ -2,8 +2,8 @@
 -- packets, each field a number of so many bits, the highest first, and each marker bit 1.
 use Rattle.std.specs.Prelude.{◌≡◌, ℕ, ◌+◌, ◌-◌, ◌*◌, ◌/◌, ◌%◌, ◌^◌, ◌<◌, ◌≤◌, ◌==◌, ◌⊎◌}
 use Rattle.std.specs.Prelude.{if◌then◌else◌}
-use Rattle.std.specs.Prelude.{List, [], ◌∷◌, ◌++◌, length, replicate, slice_index, Option, Some}
-use Rattle.std.specs.Prelude.{None}
+use Rattle.std.specs.Prelude.{◌≢◌, List, [], ◌∷◌, ◌++◌, length, replicate, slice_index, Option, Some}
+use Rattle.std.specs.Prelude.{None, take}
 
 -- 16 bits, and 24
 abbrev pub two_bytes : ℕ → List ℕ
@@ -87,6 +87,22 @@ element_bytes (OtherPacket front value content) = packet_bytes front value conte
 abbrev pub stream_bytes : List Element → List ℕ
 stream_bytes [] = []
 stream_bytes (element ∷ elements) = element_bytes element ++ stream_bytes elements
+
+-- the bytes 00 in front of an element's prefix
+abbrev pub front_of : Element → ℕ
+front_of (PackHeader front clock_reference mux_rate) = front
+front_of (VideoPacket front stream stuffing buffer stamps video) = front
+front_of (OtherPacket front value content) = front
+
+-- Bytes begin with elements, and after these stands a byte at a place that no start code can have:
+-- only bytes 00 come before it, and it is neither 00 nor, after two of them, 01.
+pub record IsStrayByte (elements : List Element) (bytes : List ℕ) (at : ℕ) : Type 0 where
+  pub begins : take (length (stream_bytes elements)) bytes ≡ stream_bytes elements
+  pub after : length (stream_bytes elements) ≤ at
+  pub inside : at < length bytes
+  pub zeros : (k : ℕ) → length (stream_bytes elements) ≤ k → k < at → slice_index bytes k ≡ 0
+  pub some : slice_index bytes at ≢ 0
+  pub early : slice_index bytes at ≡ 1 → at < length (stream_bytes elements) + 2
 
 -- fields that fit their bits
 abbrev pub FitsBuffer : Option Buffer → Type 0

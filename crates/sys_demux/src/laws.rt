@@ -1,10 +1,11 @@
 //! What a system stream is, said in the fields of ISO/IEC 11172-1.
 
 ghost use Rattle.std.specs.Prelude.{◌≡◌, ◌≢◌, ◌↔◌, ◌⊎◌, ◌+◌, ◌/◌, ◌<◌, ◌∷◌, ◌++◌, ℕ, List};
-ghost use Rattle.std.specs.Prelude.{length, None, Some};
+ghost use Rattle.std.specs.Prelude.{◌≤◌, length, None, Some, take};
 ghost use Rattle.sys_demux.specs.PacketContents.{video_in};
-ghost use Rattle.sys_demux.specs.StandardFields.{AreElements, Element, HasHeader, IsStreamEnd};
-ghost use Rattle.sys_demux.specs.StandardFields.{first_stream, first_video, packet_bytes};
+ghost use Rattle.sys_demux.specs.StandardFields.{AreElements, Element, HasHeader, IsElement};
+ghost use Rattle.sys_demux.specs.StandardFields.{IsStrayByte, IsStreamEnd, element_bytes};
+ghost use Rattle.sys_demux.specs.StandardFields.{first_stream, first_video, front_of, packet_bytes};
 ghost use Rattle.sys_demux.specs.StandardFields.{stream_bytes};
 ghost use Rattle.sys_demux.specs.StandardFields.{video_stream_id, with_code};
 ghost use Rattle.sys_demux.specs.SystemStreams.{IsSystem, IsBadStream};
@@ -30,8 +31,9 @@ pub fn law_video_packet_header_is_standard()
 {}
 
 /// What is refused after such a stream: a pack header whose first four bits aren't 0010, a packet
-/// of the first stream of video whose content has no header, and a code below B9; each with the
-/// place of its prefix.
+/// of the first stream of video whose content has no header, a code below B9, and an element that
+/// the stream's end stops early, each with the place of its prefix; and a byte that no start code
+/// can have there, with its own place.
 pub fn law_bad_items_are_refused_at_their_place()
     ensures pack { (elements : List Element) (front mark : ℕ) (rest : List ℕ) →
         AreElements elements → mark / 16 ≢ 2 →
@@ -47,6 +49,13 @@ pub fn law_bad_items_are_refused_at_their_place()
         AreElements elements → value < 0xb9 →
         IsBadStream (stream_bytes elements ++ with_code front value rest)
         (SystemFault.BadCode (length (stream_bytes elements) + front)) }
+    ensures byte { (elements : List Element) (bytes : List ℕ) (at : ℕ) → AreElements elements →
+        IsStrayByte elements bytes at → IsBadStream bytes (SystemFault.BadCode at) }
+    ensures end { (elements : List Element) (element : Element) (count : ℕ) →
+        AreElements elements → IsElement element → front_of element + 3 ≤ count →
+        count < length (element_bytes element) →
+        IsBadStream (stream_bytes elements ++ take count (element_bytes element))
+        (SystemFault.Truncated (length (stream_bytes elements) + front_of element)) }
 {}
 
 /// Bytes are read in one way: a system stream has one list of items and one video, bytes that are
@@ -62,7 +71,7 @@ pub fn law_stream_has_one_reading()
         ¬ IsBadStream bytes fault }
 {}
 
-/// What was lent so far is the front of the whole stream's video.
+/// What was lent so far is a prefix of the complete stream's video.
 pub fn law_lent_video_is_a_prefix(unwrapper: &Unwrapper)
     ensures { (seen video more whole : List ℕ) → WasFed unwrapper.now seen video →
         IsSystem (seen ++ more) whole →

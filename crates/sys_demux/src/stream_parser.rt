@@ -65,10 +65,11 @@ impl Unwrapper {
             ParserState::High(value) => ParserState::Low(value, byte),
             ParserState::Low(value, high) => length_next(chosen, value, high, byte, item),
             ParserState::InHeader(header, left) => header_place(header, byte, left - 1, item),
-            ParserState::Pass(_)
-            | ParserState::Video(_)
-            | ParserState::End
-            | ParserState::Failed(_) => unreachable!(),
+            // `feed` takes no single byte in these states
+            ParserState::Pass(left) => ParserState::Pass(left),
+            ParserState::Video(left) => ParserState::Video(left),
+            ParserState::End => ParserState::End,
+            ParserState::Failed(fault) => ParserState::Failed(fault),
         };
         *self = Unwrapper {
             place,
@@ -95,7 +96,7 @@ impl Unwrapper {
         };
     }
 
-    /// Takes bytes from the front of a chunk of the stream, at least one, and lends the video among
+    /// Processes the first bytes of a chunk of the stream, at least one, and lends the video among
     /// them.
     ///
     /// A fault comes as soon as the bytes show it, whatever follows them, and again in each later
@@ -155,8 +156,8 @@ impl Unwrapper {
         }
     }
 
-    /// Whether the bytes fed are a whole system stream, whose video is what was lent; or why they
-    /// are none.
+    /// Returns whether the bytes fed are a complete system stream, whose video is what was lent; or
+    /// why they are none.
     ///
     /// Another fault than `Truncated` comes only where [`Unwrapper::feed`] answered it.
     pub fn finish(&self) -> Result<(), SystemFault>

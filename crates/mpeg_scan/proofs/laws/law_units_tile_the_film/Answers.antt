@@ -1,5 +1,6 @@
 use Rattle.mpeg_scan.specs.StartCodes.{codes_of, read_after}
 use Rattle.mpeg_scan.specs.PartTiling.{first_of}
+use Rattle.mpeg_scan.proofs.FirstHeadLemmas.{first-head}
 use Rattle.mpeg_scan.proofs.FirstUnitLemmas.{film-begins, film-group, film-some}
 use Rattle.mpeg_scan.proofs.UnitLayoutLemmas.{film-chained, film-laid, laid-at}
 use Rattle.std.proofs.Common.{[], length}
@@ -15,6 +16,7 @@ returns c =
       some = film-some bytes film.rate units starts film.grammar;
       group = film-group film.grammar;
       begins = film-begins film.grammar;
+      header = first-head film;
       chained = (first_of (codes_of (read_after [] bytes)), film-chained bytes film.rate units starts film.grammar);
       within =
           λ k u is. (laid-at (length bytes) starts units k is (film-laid bytes film.rate units starts film.grammar)).0;

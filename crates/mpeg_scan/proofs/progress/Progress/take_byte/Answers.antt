@@ -1,4 +1,4 @@
-use Rattle.std.proofs.Common.{List, ◌-◌, refl, subst, sym}
+use Rattle.std.proofs.Common.{List, ◌-◌, subst, sym}
 use Rattle.std.proofs.lemmas.Result.{on_ok_weaker}
 use Rattle.mpeg_scan.specs.Calls.{Call}
 use Rattle.mpeg_scan.proofs.ScanBoundLemmas.{both-ok, coded-ahead, coded-awaits, noted-ahead}

@@ -5,7 +5,8 @@ use Rattle.mpeg_scan.specs.StartCodes.{codes_of, read_after}
 use Rattle.mpeg_scan.specs.FilmFaults.{first_fault}
 use Rattle.mpeg_scan.specs.ScannerState.{HasReadBytes}
 use Rattle.mpeg_scan.proofs.ByteReadLemmas.{read-run, read-byte, calls-run, fault-rest, length-rest}
-use Rattle.mpeg_scan.proofs.ScanBoundLemmas.{skipped-ahead, skipped-awaits}
+use Rattle.mpeg_scan.specs.CodeSteps.{tally_now}
+use Rattle.mpeg_scan.proofs.ScanBoundLemmas.{same-awaits}
 use Rattle.mpeg_scan.proofs.progress.Progress.take_bytes.Goals as goal
 
 pub loop-at-preserved : goal.loop-at-preserved
@@ -16,10 +17,9 @@ loop-at-preserved g c =
     let n = c.skip-at.result in record {
       within = omega (arith, i.within, c.skip-at.ensures.bound, length-rest chunk at);
       fed = omega (arith, i.fed, c.skip-at.ensures.fed);
-      room = skipped-ahead n c.skip-at.ensures.fed c.skip-at.ensures.prefix c.skip-at.ensures.latest
-          c.skip-at.ensures.tally i.room;
-      ready = skipped-awaits (g.F.Found.ready_at c.loop-at.found) c.loop-at.self c.skip-at.new.self
-          c.skip-at.ensures.latest c.skip-at.ensures.tally i.ready;
+      room = c.skip-at.ensures.room i.room;
+      ready = same-awaits (g.F.Found.ready_at c.loop-at.found) (tally_now c.loop-at.self)
+          (tally_now c.skip-at.new.self) c.skip-at.ensures.slices c.skip-at.ensures.slice i.ready;
       kept = λ r kept. subst (λ (q : List ℕ). HasReadBytes c.skip-at.new.self q) (read-run r chunk at n)
           (c.skip-at.ensures.kept (read_after r (take at chunk)) (i.kept r kept));
       heard = λ r calls kept heard. subst (λ (l : List Call). g.F.Found.heard c.loop-at.found l)
@@ -72,10 +72,9 @@ take_byte-requires g c =
     let i = c.loop-at.invariant in
     let n = c.skip-at.result in record {
       short = omega (arith, i.fed, c.skip-at.ensures.fed);
-      room = skipped-ahead n c.skip-at.ensures.fed c.skip-at.ensures.prefix c.skip-at.ensures.latest
-          c.skip-at.ensures.tally i.room;
-      ready = skipped-awaits (g.F.Found.ready_at c.loop-at.found) c.loop-at.self c.skip-at.new.self
-          c.skip-at.ensures.latest c.skip-at.ensures.tally i.ready;
+      room = c.skip-at.ensures.room i.room;
+      ready = same-awaits (g.F.Found.ready_at c.loop-at.found) (tally_now c.loop-at.self)
+          (tally_now c.skip-at.new.self) c.skip-at.ensures.slices c.skip-at.ensures.slice i.ready;
     }
 
 pub returns-in_err-take_byte-clause-heard_before : goal.returns-in_err-take_byte-clause-heard_before

@@ -1,13 +1,13 @@
 use Rattle.std.proofs.Common.{◌≡◌, ◌+◌, ◌-◌, ◌++◌, ◌∷◌, [], true, sym, subst, ◌∙◌, arith, inl}
 use Rattle.std.proofs.lemmas.List.{length-append}
 use Rattle.sys_demux.specs.ValidStates.{is_sound}
-use Rattle.sys_demux.specs.ParserStates.{IsReached, IsAtHeader}
+use Rattle.sys_demux.specs.ParserStates.{IsReached, IsAtHeader, IsByByte}
 use Rattle.sys_demux.specs.declared.parser_states.ParserState.TheVariants.{InHeader}
 use Rattle.sys_demux.proofs.ItemPartLemmas.{high_more}
 use Rattle.sys_demux.proofs.FedBytesLemmas.{step_byte, moved, sound_header}
 use Rattle.sys_demux.proofs.unwrapper.Unwrapper.take.Goals as goal
 use Rattle.sys_demux.proofs.unwrapper.Unwrapper.take.Goals.{in-Zeros, in-Value, in-Mark, in-High}
-use Rattle.sys_demux.proofs.unwrapper.Unwrapper.take.Goals.{in-Low, in-InHeader}
+use Rattle.sys_demux.proofs.unwrapper.Unwrapper.take.Goals.{in-End, in-Failed, in-InHeader, in-Low, in-Pass, in-Video}
 
 pub returns-clause-next : goal.returns-clause-next
 returns-clause-next c = λ seen video was.
@@ -45,5 +45,9 @@ returns-clause-next c = λ seen video was.
           (step_byte byte (subst (λ s. IsReached s u.item u.chosen seen video) w.in-InHeader.is was.reached)
           (λ chosen start part kept size is. w.header_place-place.ensures.next chosen u.chosen start part kept
           (subst (λ n. IsAtHeader chosen start u.item u.chosen part kept w.in-InHeader.header n) back is))))
+      | in-Pass w ↦ absurd (subst IsByByte w.in-Pass.is c.requires.place)
+      | in-Video w ↦ absurd (subst IsByByte w.in-Video.is c.requires.place)
+      | in-End w ↦ absurd (subst IsByByte w.in-End.is c.requires.place)
+      | in-Failed w ↦ absurd (subst IsByByte w.in-Failed.is c.requires.place)
     ] in
     record { count = omega (arith, was.count, length-append seen (byte ∷ [])); reached = reached }
