@@ -207,8 +207,8 @@ pub fn law_entries_have_their_makers()
         AreLineSteps link lines texts first_moment moment → AreHaltsOwn (last_journal moment) }
 {}
 
-/// A day's journal stays within its limit: its entries, and one more for the halt of each open play, are
-/// never more; so all halts of the day's end find room.
+/// A day's journal stays within its limit: its entries, and one more for the halt of each open
+/// play, are never more than that. So all halts of the day's end find room.
 pub fn law_day_journal_stays_within_limit()
     ensures lines { (link : Link) (sources : ℕ) (lines : List Line) (texts : List (List ℕ))
         (moment : DayState) → AreClients lines → AreLines sources lines →
