@@ -5,7 +5,6 @@ use Rattle.std.proofs.lemmas.Bool.{false≢true}
 use Rattle.std.proofs.lemmas.List.{map-append}
 use Rattle.std.proofs.lemmas.List.Sums.{fold_more}
 use Rattle.plan_cert.specs.declared.Segment.{Segment}
-use Rattle.plan_cert.specs.Plan.{IsPlan}
 use Rattle.slot_calendar.specs.declared.profiles.CapStep.{CapStep}
 use Rattle.slot_calendar.specs.Plays.{Play as Booked, asked_at, released_at, truncated_play, booked_by}
 use Rattle.slot_calendar.proofs.PlayShares.{booked-cut, booked-push}
@@ -31,21 +30,21 @@ after-entry : (xs : List Entry) (e : Entry) (t : ℕ)
     → booked_after (xs ++ e ∷ []) t ≡ booked_in (next_state (state_after xs) (length xs) e.command e.answer) t
 after-entry xs e t = ap (λ (s : State). booked_in s t) (state-push xs e)
 
-pub booked-admitted : {segments : List Segment} (xs : List Entry) (maker slot start t : ℕ) → IsPlan segments
+pub booked-admitted : (xs : List Entry) (maker slot start t : ℕ) (segments : List Segment)
     → booked_after (xs ++ entry_of maker (Play slot segments)
     (Admitted start) ∷ []) t ≡ booked_after xs t + asked_at segments start t
-booked-admitted {segments} xs maker slot start t plan =
+booked-admitted xs maker slot start t segments =
     let state = state_after xs in
     after-entry xs (entry_of maker (Play slot segments) (Admitted start)) t
     ∙ ap (λ (l : List Booked). booked_by l t)
     (map-append play_of state.held (admitted_play (length xs) start segments ∷ []))
-    ∙ booked-push (plays_of state) segments start t plan
+    ∙ booked-push (plays_of state) segments start t
 
-halted-state : {number start : ℕ} {segments : List Segment} (state : State) (keep t : ℕ) → IsPlan segments
+halted-state : {number start : ℕ} {segments : List Segment} (state : State) (keep t : ℕ)
     → play_numbered number state.held ≡ Some (admitted_play number start segments)
     → booked_by (map play_of (with_halted number keep state.held)) t + released_at segments start keep t ≡ booked_in
     state t
-halted-state {number} {start} {segments} state keep t plan is =
+halted-state {number} {start} {segments} state keep t is =
     let h = admitted_play number start segments in
     let parts = split number state.held h is in
     let front = map play_of parts.before in
@@ -54,19 +53,19 @@ halted-state {number} {start} {segments} state keep t plan is =
     =
     ap (map play_of) (parts.becomes keep) ∙ plays-split parts.before parts.after (halted_play keep h) in
     ap (λ (l : List Booked). booked_by l t + released_at segments start keep t) becomes
-    ∙ booked-cut front back (truncated_play start segments keep) t plan
+    ∙ booked-cut front back (truncated_play start segments keep) t
     ∙ ap (λ (l : List Booked). booked_by l t) (sym (plays-around state number start segments is refl))
 
 pub booked_halted : {steps : List CapStep} {xs : List Entry} {number start : ℕ} {segments : List Segment}
     (maker keep t : ℕ)
-    → IsPlan segments → PlayAdmitted steps xs number start segments → CanHalt (state_after xs) number keep
+    → PlayAdmitted steps xs number start segments → CanHalt (state_after xs) number keep
     → booked_after (xs ++ entry_of maker (Halt number keep) Halted ∷ []) t + released_at segments start keep t
     ≡ booked_after xs t
-booked_halted {steps} {xs} {number} {start} {segments} maker keep t plan admitted can =
+booked_halted {steps} {xs} {number} {start} {segments} maker keep t admitted can =
     let still = can-still steps xs number keep admitted.legal can in
     let is = whole-after admitted still.unhalted in
     ap (λ n. n + released_at segments start keep t) (after-entry xs (entry_of maker (Halt number keep) Halted) t)
-    ∙ halted-state (state_after xs) keep t plan is
+    ∙ halted-state (state_after xs) keep t is
 
 -- an entry that neither admits a play nor halts one
 record BooksNothing (command : Command) (answer : Answer) : Type 0 where

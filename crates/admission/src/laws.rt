@@ -4,7 +4,6 @@ ghost use Rattle.std.specs.Prelude.{◌≡◌, ◌+◌, ◌<◌, ◌≤◌, ◌+
 ghost use Rattle.std.specs.Prelude.{◌==◌, filter, count_by, false, length, map, max};
 ghost use Rattle.std.specs.Prelude.{slice_index_or, take, true};
 ghost use Rattle.plan_cert.specs.declared.Segment.{Segment};
-ghost use Rattle.plan_cert.specs.Plan.{IsPlan};
 ghost use Rattle.slot_calendar.specs.Plays.{asked_at, released_at};
 ghost use Rattle.slot_calendar.specs.declared.profiles.CapStep.{CapStep};
 ghost use Rattle.slot_calendar.specs.Profiles.{capacity_at};
@@ -129,7 +128,7 @@ pub fn law_own_open_play_can_be_halted()
 /// changes it.
 pub fn law_entry_changes_booked_bytes()
     ensures admitted { (entries : List Entry) (maker slot start t : ℕ) (segments : List Segment) →
-        IsPlan segments → booked_after (entries ++ record {
+        booked_after (entries ++ record {
           maker = maker;
           command = Command.Play slot segments;
           answer = Answer.Admitted start;
@@ -137,7 +136,7 @@ pub fn law_entry_changes_booked_bytes()
         t ≡ booked_after entries t + asked_at segments start t }
     ensures halted { (steps : List CapStep) (entries : List Entry)
         (maker number keep start t : ℕ) (segments : List Segment) → IsLegal steps entries →
-        IsPlan segments → IsAdmission entries number start segments →
+        IsAdmission entries number start segments →
         CanHalt (state_after entries) number keep → booked_after (entries ++ record {
           maker = maker;
           command = Command.Halt number keep;

@@ -20,10 +20,16 @@ mod SoundClients
 pub mod DayUniqueness
 pub mod FairUniqueness
 mod PastSlots
-mod FairLines
+pub mod FairLines
+mod OwnHalts
 mod SentBookedLemmas
 mod SlotBalance
 mod LineBalance
+pub mod JournalRoom
+mod JournalMakers
+mod HaltedPlays
+mod FullLineTexts
+mod FairCounts
 pub mod DayPrefixLemmas
 mod SourceMedia
 mod PlayableMedia

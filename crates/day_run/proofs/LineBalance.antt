@@ -23,8 +23,10 @@ use Rattle.day_run.specs.Scripts.{slot_after}
 use Rattle.day_run.specs.ClientStates.{Idle, Playing, Pausing, Paused, Play, Rest, ClientState}
 use Rattle.day_run.specs.ClientStates.{after_play, after_sending, sent_by}
 use Rattle.day_run.specs.BookingBalance.{AreHeldOf, IsBalanced, IsReady, share_of}
-use Rattle.day_run.proofs.SentBookedLemmas.{IsShut, balanced-halt, balanced-play, balanced-same, balanced-sent}
-use Rattle.day_run.proofs.SlotBalance.{balanced-slot, pausing-share}
+use Rattle.day_run.proofs.OwnHalts.{none-halted}
+use Rattle.day_run.proofs.SentBookedLemmas.{IsFree, IsShut, balanced-halt, balanced-play, balanced-same, balanced-sent}
+use Rattle.day_run.proofs.SentBookedLemmas.{idle-free, paused-free, playing_one}
+use Rattle.day_run.proofs.SlotBalance.{pausing-share, slot-halted}
 use Rattle.day_run.proofs.ScriptLineFacts.{ClientOf, IsPlayTaken, LineStep, LinesTaken, StandingLine}
 use Rattle.day_run.proofs.ScriptLineFacts.{StandingLines, first-standing, rest-standing, standing-of}
 
@@ -41,7 +43,7 @@ ready-made {new} old e is count balanced =
     subst R (sym is) (record { count = count; balanced = balanced })
 
 answered : {old new : DayState} (answer : Answer) (ask : AskedPlay) → ask.client < 256
-    → ((t : ℕ) → share_of t (get_or old.states ask.client Idle) ≡ 0)
+    → IsFree (get_or old.states ask.client Idle)
     → new ≡ record {
       entries = old.entries ++ entry_by ask.client (commands.Play old.heard ask.plan) answer ∷ [];
       states = with_play ask.client ask.rest ask.plan (length old.entries) answer old.states;
@@ -57,26 +59,27 @@ answered {old} {new} (Admitted start) ask client free is ready =
       e = e;
       number = refl;
       maker = refl;
+      no_halt = refl;
       is = ap (λ (s : State). s.held) (state-push old.entries e);
     }) (omega (arith, client, ready.count)) free ready.balanced)
 answered {old} {new} (Overflow over booked asked) ask client free is ready =
     let e = entry_by ask.client (commands.Play old.heard ask.plan) (Overflow over booked asked) in
     ready-made old e is ready.count
     (balanced-same old.entries old.states old.heard e
-    (ap (λ (s : State). s.held) (state-push old.entries e)) ready.balanced)
+    (ap (λ (s : State). s.held) (state-push old.entries e)) refl ready.balanced)
 answered {old} {new} Halted ask client free is ready =
     let e = entry_by ask.client (commands.Play old.heard ask.plan) Halted in
     ready-made old e is ready.count
     (balanced-same old.entries old.states old.heard e
-    (ap (λ (s : State). s.held) (state-push old.entries e)) ready.balanced)
+    (ap (λ (s : State). s.held) (state-push old.entries e)) refl ready.balanced)
 answered {old} {new} (Looked now at booked) ask client free is ready =
     let e = entry_by ask.client (commands.Play old.heard ask.plan) (Looked now at booked) in
     ready-made old e is ready.count
     (balanced-same old.entries old.states old.heard e
-    (ap (λ (s : State). s.held) (state-push old.entries e)) ready.balanced)
+    (ap (λ (s : State). s.held) (state-push old.entries e)) refl ready.balanced)
 
 asked : {link : Link} {c : ℕ} {rest : Rest} {old new : DayState} {text : List ℕ} → c < 256
-    → ((t : ℕ) → share_of t (get_or old.states c Idle) ≡ 0)
+    → IsFree (get_or old.states c Idle)
     → IsAsked link c rest old new text → IsReady old → IsReady new
 asked {c} {old} {new} {text} client free (inl faulty) ready = ready-kept old new faulty.told.kept ready
 asked {c} {rest} {old} {new} {text} client free (inr planned) ready = elim planned.done [
@@ -87,17 +90,17 @@ asked {c} {rest} {old} {new} {text} client free (inr planned) ready = elim plann
 
 pub play-ready : {c : ℕ} {state : ClientState} (step : LineStep) (rest : Rest) → ClientOf step.old c state
     → IsPlayTaken step c rest state → IsReady step.old → IsReady step.new
-play-ready {c} {state = Idle} step rest own is ready = asked own.client (λ t. ap (share_of t) own.at) is ready
+play-ready {c} {state = Idle} step rest own is ready = asked own.client (idle-free own.at) is ready
 play-ready {c} {state = Playing play} step rest own is ready = ready-kept step.old step.new is.kept ready
 play-ready {c} {state = Pausing stop left} step rest own is ready = ready-kept step.old step.new is.kept ready
-play-ready {c} {state = Paused left} step rest own is ready = asked own.client (λ t. ap (share_of t) own.at) is ready
+play-ready {c} {state = Paused left} step rest own is ready = asked own.client (paused-free own.at) is ready
 
 pub resume-ready : {c : ℕ} {state : ClientState} (step : LineStep) → ClientOf step.old c state
     → IsResumeLine step.link c state step.old step.new step.text → IsReady step.old → IsReady step.new
 resume-ready {c} {state = Idle} step own is ready = ready-kept step.old step.new is.kept ready
 resume-ready {c} {state = Playing play} step own is ready = ready-kept step.old step.new is.kept ready
 resume-ready {c} {state = Pausing stop rest} step own is ready = ready-kept step.old step.new is.kept ready
-resume-ready {c} {state = Paused rest} step own is ready = asked own.client (λ t. ap (share_of t) own.at) is ready
+resume-ready {c} {state = Paused rest} step own is ready = asked own.client (paused-free own.at) is ready
 
 shut-pause : (b : Bool) (stop : Booked) (rest : Rest) → IsShut (cond b (Paused rest) (Pausing stop rest))
 shut-pause true stop rest = tt
@@ -135,7 +138,7 @@ looked answer slot old new is ready =
     let e = entry_by 0 (commands.Look slot) answer in
     ready-made old e is ready.count
     (balanced-same old.entries old.states old.heard e
-    (ap (λ (s : State). s.held) (state-push old.entries e)) ready.balanced)
+    (ap (λ (s : State). s.held) (state-push old.entries e)) refl ready.balanced)
 
 look-ready : {link : Link} {slot : ℕ} {old new : DayState} {text : List ℕ} → IsLookLine link slot old new text
     → IsReady old → IsReady new
@@ -153,7 +156,7 @@ slot-ready old new slot le is ready =
     subst R (sym is) (record {
       count = length-map (map (after_sending slot) old.states) (after_play slot)
           ∙ length-map old.states (after_sending slot) ∙ ready.count;
-      balanced = balanced-slot old slot le ready.balanced;
+      balanced = (slot-halted old slot le ready.balanced).balanced;
     })
 
 pub line-ready : {n : ℕ} (step : LineStep) (line : Line) → StandingLine step.old.heard n line
@@ -174,6 +177,10 @@ idle-shares : (t n : ℕ) → sum_by (share_of t) (replicate n Idle) ≡ 0
 idle-shares t zero = refl
 idle-shares t (suc n) = omega (arith, idle-shares t n, sum_by-cons (share_of t) Idle (replicate n Idle))
 
+idle-plays : (n : ℕ) → sum_by playing_one (replicate n Idle) ≡ 0
+idle-plays zero = refl
+idle-plays (suc n) = omega (arith, idle-plays n, sum_by-cons playing_one Idle (replicate n Idle))
+
 idle-held : (c : ℕ) → c < 256 → AreHeldOf [] c (get_or (replicate 256 Idle) c Idle)
 idle-held c inside =
     let A : ClientState → Type 0 = λ s. AreHeldOf [] c s in
@@ -186,6 +193,8 @@ morning-ready = record {
     each = λ t later. sym (idle-shares t 256);
     held = λ c inside. idle-held c (omega (arith, inside, length-replicate 256 Idle));
     fresh = All-nil (λ (h : AdmittedPlay). h.number < 0);
+    playing = sym (idle-plays 256);
+    halts = none-halted;
   };
 }
 

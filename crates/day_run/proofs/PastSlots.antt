@@ -1,9 +1,10 @@
 -- What is booked in the slots that were heard stays.
 use Rattle.std.proofs.Common.{◌≡◌, ◌<◌, ◌≤◌, ◌+◌, ◌-◌, ◌%◌, ◌==◌, ℕ, zero, suc, max, true, false}
-use Rattle.std.proofs.Common.{Bool, cond, List, [], ◌∷◌, ◌++◌, length, map, get_or, arith}
+use Rattle.std.proofs.Common.{All, Bool, cond, List, [], ◌∷◌, ◌++◌, length, map, get_or, arith}
 use Rattle.std.proofs.Common.{refl, sym, ap, subst, ◌∙◌, inl, inr}
 use Rattle.std.specs.Prelude.{sum_by}
 use Rattle.std.specs.List.{fold, range_with_len}
+use Rattle.std.proofs.lemmas.List.Elements.{All-cons, All-nil}
 use Rattle.std.proofs.lemmas.List.Sums.{sum_by-cons}
 use Rattle.film_make.specs.Generator.{words_after}
 use Rattle.slot_calendar.specs.Plays.{booked_by}
@@ -21,13 +22,12 @@ use Rattle.day_run.specs.Clients.{after_open}
 use Rattle.day_run.specs.Days.{AskedPlay}
 use Rattle.day_run.specs.Days.{IsAsked, IsHaltedPlay, IsLine, IsLookLine, IsOfferLine, IsPauseLine}
 use Rattle.day_run.specs.Days.{IsResumeLine, Link, DayState, at_slot, entry_by}
-use Rattle.day_run.specs.Days.{last_journal, first_moment, rest_at, state_at, with_play}
+use Rattle.day_run.specs.Days.{last_journal, first_moment, rest_at, sent_up_to, state_at, with_play}
 use Rattle.day_run.specs.FairDays.{AreTurns, IsDone, IsTurn, Turn, after_turn, at_later, client_of}
 use Rattle.day_run.specs.FairDays.{line_drawn, turn_booked, turn_peak}
 use Rattle.day_run.specs.ClientStates.{Idle, Playing, Pausing, Paused, Play, Rest, ClientState, booking_of, sent_by}
-use Rattle.day_run.proofs.SlotBalance.{BegunPlay, its-held, last-later, last-stays, play-stays}
-use Rattle.day_run.proofs.SlotBalance.{slot-stays, stays-halt}
-use Rattle.day_run.proofs.LineBalance.{morning-ready, taken-ready}
+use Rattle.day_run.proofs.SlotBalance.{BegunPlay, its-held, last-halted, play-stays, slot-halted, stays-halt}
+use Rattle.day_run.proofs.LineBalance.{morning-ready, ready-sent, taken-ready}
 use Rattle.day_run.proofs.ScriptLineFacts.{ClientOf, IsPlayTaken, LineStep, LinesTaken, NextTaken, StandingLine}
 use Rattle.day_run.proofs.FairLaws.{done-heard, later-heard, turn-ready, later-ready}
 use Rattle.day_run.proofs.SoundClients.{kept-most}
@@ -144,8 +144,8 @@ line-past step (lines.Resume c) standing ready is = resume-past step c (state_at
 line-past step (lines.Look slot) standing ready is = look-past step.link _ step.old step.new step.text is
 line-past step (lines.Slot slot) standing ready is = λ t past.
     ap (λ (m : DayState). booked_after m.entries t) is.0
-    ∙ slot-stays step.old slot t (omega (arith, standing.stands.0))
-    (omega (arith, past, standing.stands.0)) ready.balanced
+    ∙ (slot-halted step.old slot (omega (arith, standing.stands.0)) ready.balanced).stays t
+    (omega (arith, past, standing.stands.0))
 line-past step (lines.Offer c source buffer delay wait) standing ready is =
     offer-past is
 
@@ -158,7 +158,7 @@ day-past {link} taken next t past =
 
 pub end-past : {link : Link} {n : ℕ} (taken : LinesTaken link n) (t : ℕ) → t ≤ taken.moment.heard
     → booked_after (last_journal taken.moment) t ≡ booked_after taken.moment.entries t
-end-past taken t past = last-stays taken.moment t past (taken-ready taken).balanced
+end-past taken t past = (last-halted taken.moment (taken-ready taken).balanced).stays t past
 
 -- ---- the same of turns
 done-past : {c : ℕ} {state : ClientState} (step : LineStep) (words : ℕ → ℕ) → ClientOf step.old c state
@@ -180,7 +180,7 @@ later-past old later t ready = past-if (later == 0)
     past-if : (b : Bool) → t ≤ (cond b old (at_slot old (old.heard + later))).heard
         → booked_after (cond b old (at_slot old (old.heard + later))).entries t ≡ booked_after old.entries t
     past-if true past = refl
-    past-if false past = slot-stays old (old.heard + later) t (omega arith) past ready.balanced
+    past-if false past = (slot-halted old (old.heard + later) (omega arith) ready.balanced).stays t past
 
 turn-past : {link : Link} {words : ℕ → ℕ} {turn : Turn} (t : ℕ) → IsTurn link words turn → IsReady turn.old
     → t ≤ turn.mid.heard
@@ -261,10 +261,15 @@ fold-top top [] = omega arith
 fold-top top (x ∷ xs) = omega (arith, fold-top (max top x) xs, fold-top (max 0 x) xs)
 
 -- ---- what the turns bring is what the journal books in their slots
+pub record IsTurnBooked (booked : ℕ → ℕ) (turn : Turn) : Type 0 where
+  pub sent : (slot : ℕ) → turn.old.heard ≤ slot → slot ≤ turn.mid.heard
+      → sent_up_to turn.old slot ≡ sum_by booked (range_with_len (turn.old.heard + 1) (slot - turn.old.heard))
+
 pub record AreBooked (booked : ℕ → ℕ) (turns : List Turn) (from to : ℕ) : Type 0 where
   pub order : from ≤ to
   pub sum_is : sum_by turn_booked turns ≡ sum_by booked (range_with_len (from + 1) (to - from))
   pub peak_is : fold max 0 (map turn_peak turns) ≡ fold max 0 (map booked (range_with_len (from + 1) (to - from)))
+  pub each : All (IsTurnBooked booked) turns
 
 pub turns-past : {turns : List Turn} {old : DayState} {booked : ℕ → ℕ} (link : Link) (words : ℕ → ℕ)
     (new : DayState) → AreTurns link words turns old new → IsReady old
@@ -277,6 +282,7 @@ turns-past {turns = []} {old} {booked} link words new run ready same =
         order = omega (arith, heard);
         sum_is = sym (ap (λ k. sum_by booked (range_with_len (old.heard + 1) k)) none);
         peak_is = sym (ap (λ k. fold max 0 (map booked (range_with_len (old.heard + 1) k))) none);
+        each = All-nil (IsTurnBooked booked);
       },
       λ t past. same t (omega (arith, past, heard)) ∙ ap (λ (m : DayState). booked_after m.entries t) run,
     )
@@ -326,6 +332,12 @@ turns-past {turns = turn ∷ turns} {old} {booked} link words new run ready same
               ap (λ k. fold max 0 (map booked (range_with_len k n))) at,
               ap (λ k. fold max 0 (map booked (range_with_len (turn.old.heard + 1) k))) whole,
             );
+        each = All-cons (IsTurnBooked booked) turn turns (record {
+          sent = λ slot after before.
+              ready-sent turn.old slot after begun
+              ∙ sym (sum-same booked f (turn.old.heard + 1) (slot - turn.old.heard)
+              (λ t less. here t (omega (arith, less, after, before))));
+        }) rest.0.each;
       }),
       λ t past. here t (omega (arith, past, from, later)) ∙ ap (λ (x : DayState). booked_after x.entries t) run.0,
     )
@@ -335,7 +347,7 @@ pub fair-past : {turns : List Turn} {evening : DayState} {journal : List Entry} 
     → journal ≡ last_journal evening → IsReady evening → AreBooked (booked_after journal) turns 0 evening.heard
 fair-past {evening} link words run is ready =
     (turns-past link words evening run morning-ready
-    (λ t past. ap (λ es. booked_after es t) is ∙ last-stays evening t past ready.balanced)).0
+    (λ t past. ap (λ es. booked_after es t) is ∙ (last-halted evening ready.balanced).stays t past)).0
 
 -- ---- looks and offers
 pub look-leaves : (link : Link) (slot : ℕ) (old new : DayState) (text : List ℕ)
@@ -360,4 +372,4 @@ offer-leaves client source buffer delay (inr offered) = offered.told.kept
 
 pub end-later : {link : Link} {n : ℕ} (taken : LinesTaken link n) (t : ℕ) → taken.moment.heard < t
     → booked_after (last_journal taken.moment) t ≡ sum_by (share_of t) (map after_open taken.moment.states)
-end-later taken t later = last-later taken.moment t later (taken-ready taken).balanced
+end-later taken t later = (last-halted taken.moment (taken-ready taken).balanced).balanced.each t later

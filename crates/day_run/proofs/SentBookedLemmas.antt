@@ -1,9 +1,9 @@
 -- What is sent in a day's slots is what is booked there.
 use Rattle.std.proofs.Common.{◌≡◌, ◌<◌, ◌≤◌, ◌+◌, ◌-◌, ◌==◌, ℕ, zero, suc, List, [], ◌∷◌, ◌++◌, All}
-use Rattle.std.proofs.Common.{length, map, set, get_or, Some, arith, refl, sym, ap}
+use Rattle.std.proofs.Common.{true, false, cond, length, map, set, get_or, Some, arith, refl, sym, ap}
 use Rattle.std.proofs.Common.{subst, ◌∙◌, inl, inr}
 use Rattle.slot_calendar.proofs.PlanSlots.{sent-rises}
-use Rattle.std.specs.Prelude.{sum_by}
+use Rattle.std.specs.Prelude.{count_by, sum_by}
 use Rattle.std.specs.List.{range_with_len}
 use Rattle.std.proofs.lemmas.Bool.{cases_Bool, cases_eq, cond-true, cond-false}
 use Rattle.std.proofs.lemmas.List.{get_or-set_other, get_or-set_same, get_or_append_left}
@@ -15,7 +15,8 @@ use Rattle.slot_calendar.specs.Plays.{Play as Booked, truncated_play, share_at, 
 use Rattle.admission.specs.declared.entries.Entry.{Entry}
 use Rattle.admission.specs.declared.entries.Answer.TheVariants.{Halted}
 use Rattle.admission.specs.declared.entries.Command.TheVariants as commands
-use Rattle.admission.specs.Histories.{state_after}
+use Rattle.admission.specs.declared.entries.Command.{Command}
+use Rattle.admission.specs.Histories.{is_halt, open_count, state_after}
 use Rattle.admission.specs.Machine.{AdmittedPlay, State, admitted_play, booked_in, halted_play, play_numbered}
 use Rattle.admission.specs.Machine.{with_halted}
 use Rattle.admission.proofs.PlayLookup.{found-new, found-other, found-push}
@@ -23,8 +24,9 @@ use Rattle.admission.proofs.Halts.{plays-split, split}
 use Rattle.admission.proofs.HistoryPrefixes.{state-push}
 use Rattle.day_run.specs.BookingBalance.{AreHeldOf, IsBalanced, IsHeld, share_of}
 use Rattle.day_run.specs.Days.{entry_by, halt_by}
-use Rattle.day_run.specs.ClientStates.{Idle, Playing, Pausing, Paused, Play, ClientState}
-use Rattle.day_run.specs.ClientStates.{booking_of, growth, sent_between, sent_by}
+use Rattle.day_run.specs.ClientStates.{Idle, Playing, Pausing, Paused, Play, ClientState, Rest}
+use Rattle.day_run.specs.ClientStates.{booking_of, growth, is_playing, sent_between, sent_by}
+use Rattle.day_run.proofs.OwnHalts.{halts-none, halts-push}
 use Rattle.day_run.proofs.SlotSums.{sum-slots}
 
 -- ---- plays slot by slot
@@ -121,6 +123,30 @@ IsShut (Playing play) = ⊥
 IsShut (Pausing stop rest) = Unit {0}
 IsShut (Paused rest) = Unit {0}
 
+shut-idle : (state : ClientState) → IsShut state → is_playing state ≡ false
+shut-idle Idle shut = refl
+shut-idle (Playing play) shut = absurd shut
+shut-idle (Pausing stop rest) shut = refl
+shut-idle (Paused rest) shut = refl
+
+-- a client books nothing, and plays nothing
+pub record IsFree (state : ClientState) : Type 0 where
+  pub shares : (t : ℕ) → share_of t state ≡ 0
+  pub shut : is_playing state ≡ false
+
+pub idle-free : {state : ClientState} → state ≡ Idle → IsFree state
+idle-free is = record { shares = λ t. ap (share_of t) is; shut = ap is_playing is }
+
+pub paused-free : {state : ClientState} {rest : Rest} → state ≡ Paused rest → IsFree state
+paused-free is = record { shares = λ t. ap (share_of t) is; shut = ap is_playing is }
+
+-- one play of the machine counts where it is open, and one client where it plays
+abbrev pub open_one : AdmittedPlay → ℕ
+open_one h = cond h.is_open 1 0
+
+abbrev pub playing_one : ClientState → ℕ
+playing_one state = cond (is_playing state) 1 0
+
 shut-held : (entries : List Entry) (c : ℕ) (state : ClientState) → IsShut state → AreHeldOf entries c state
 shut-held entries c Idle shut = tt
 shut-held entries c (Playing play) shut = absurd shut
@@ -172,6 +198,26 @@ booked-halted entries c play keep t =
     let old : F held ≡ F parts.before + (share_at t (whole_play start plan) + F parts.after) =
     ap F parts.was ∙ sum-split t parts.before parts.after (admitted_play number start plan) in
     omega (arith, s, new, old)
+  where
+    open play use {number, start, plan, held as is}
+
+-- one play fewer is open once a play was halted
+pub open-less : (entries : List Entry) (c : ℕ) (play : HeldPlay entries) (keep : ℕ)
+    → open_count (entries ++ halt_by c play.number keep) + 1 ≡ open_count entries
+open-less entries c play keep =
+    let held = (state_after entries).held in
+    let parts = split number held (admitted_play number start plan) is in
+    let h = admitted_play number start plan in
+    let new : open_count (entries ++ halt_by c number keep)
+    ≡ sum_by open_one parts.before + (0 + sum_by open_one parts.after) =
+    ap (λ (x : State). sum_by open_one x.held) (state-push entries (entry_by c (commands.Halt number keep) Halted))
+    ∙ ap (sum_by open_one) (parts.becomes keep)
+    ∙ sum_by-append open_one parts.before (halted_play keep h ∷ parts.after)
+    ∙ ap (λ k. sum_by open_one parts.before + k) (sum_by-cons open_one (halted_play keep h) parts.after) in
+    let old : open_count entries ≡ sum_by open_one parts.before + (1 + sum_by open_one parts.after) =
+    ap (sum_by open_one) parts.was ∙ sum_by-append open_one parts.before (h ∷ parts.after)
+    ∙ ap (λ k. sum_by open_one parts.before + k) (sum_by-cons open_one h parts.after) in
+    omega (arith, new, old)
   where
     open play use {number, start, plan, held as is}
 
@@ -274,6 +320,17 @@ balanced-halt {entries} {states} {play} c keep next own shut shares =
           (with_halted play.number keep (state_after entries).held)
           (omega (arith, length-append entries (e ∷ [])))
           (fresh-halted play.number keep (length entries) (state_after entries).held balanced.fresh));
+      playing =
+          let p = open-less entries c
+          (record { number = play.number; start = play.start; plan = play.plan; held = its.held }) keep in
+          let s : count_by is_playing (set states c next) + playing_one (get_or states c Idle)
+          ≡ count_by is_playing states + playing_one next =
+          sum_by-set playing_one states c next Idle inside in
+          let was : playing_one (get_or states c Idle) ≡ 1 = ap playing_one at in
+          let is : playing_one next ≡ 0 = ap (λ b. cond b 1 0) (shut-idle next shut) in
+          omega (arith, p, s, was, is, balanced.playing);
+      halts = halts-push entries c play.number keep
+          (record { inside = its.inside; maker = its.maker }) balanced.halts;
     }
   where
     open own use {inside, at, balanced}
@@ -289,9 +346,9 @@ same-held entries e c (Pausing stop rest) same its = tt
 same-held entries e c (Paused rest) same its = tt
 
 pub balanced-same : (entries : List Entry) (states : List ClientState) (heard : ℕ) (e : Entry)
-    → (state_after (entries ++ e ∷ [])).held ≡ (state_after entries).held
+    → (state_after (entries ++ e ∷ [])).held ≡ (state_after entries).held → is_halt e.command ≡ false
     → IsBalanced entries states heard → IsBalanced (entries ++ e ∷ []) states heard
-balanced-same entries states heard e same balanced = record {
+balanced-same entries states heard e same no_halt balanced = record {
   each = λ t later. ap (λ hs. sum_by (share_at t) (map (λ (x : AdmittedPlay). x.play) hs)) same ∙ balanced.each t later;
   held = λ c inside. same-held entries e c (get_or states c Idle) same (balanced.held c inside);
   fresh =
@@ -299,6 +356,8 @@ balanced-same entries states heard e same balanced = record {
       subst A (sym same)
       (fresh-more (length entries) (length (entries ++ e ∷ [])) (state_after entries).held
       (omega (arith, length-append entries (e ∷ []))) balanced.fresh);
+  playing = ap (sum_by open_one) same ∙ balanced.playing;
+  halts = halts-none entries e no_halt balanced.halts;
 }
 
 -- an entry by which the machine holds one play more
@@ -325,12 +384,13 @@ pub record ClientPlayed (entries : List Entry) (c : ℕ) : Type 0 where
   pub e : Entry
   pub number : play.number ≡ length entries
   pub maker : e.maker ≡ c
+  pub no_halt : is_halt e.command ≡ false
   pub is : (state_after (entries ++ e ∷ [])).held
       ≡ (state_after entries).held ++ admitted_play play.number play.start play.plan ∷ []
 
 -- a client's play was admitted, which booked nothing before
 pub balanced-play : {entries : List Entry} {states : List ClientState} {heard c : ℕ} (played : ClientPlayed entries c)
-    → c < length states → ((t : ℕ) → share_of t (get_or states c Idle) ≡ 0) → IsBalanced entries states heard
+    → c < length states → IsFree (get_or states c Idle) → IsBalanced entries states heard
     → IsBalanced (entries ++ played.e ∷ []) (set states c (Playing played.play)) heard
 balanced-play {entries} {states} {c} played inside free balanced =
     let new = admitted_play play.number play.start play.plan in
@@ -356,7 +416,7 @@ balanced-play {entries} {states} {c} played inside free balanced =
           ∙ ap (sum_by (share_at t)) (map-append (λ (x : AdmittedPlay). x.play) held (new ∷ []))
           ∙ sum_by_push (share_at t) (map (λ (x : AdmittedPlay). x.play) held) (whole_play play.start play.plan) in
           let s = sum_by-set (share_of t) states c (Playing play) Idle inside in
-          omega (arith, b, s, free t, balanced.each t later);
+          omega (arith, b, s, free.shares t, balanced.each t later);
       held = λ d within. elim (cases_eq d c) [
         | inl same ↦
             let B : ℕ → Type 0 = λ k. AreHeldOf (entries ++ e ∷ []) k (get_or (set states c (Playing play)) k Idle) in
@@ -375,6 +435,15 @@ balanced-play {entries} {states} {c} played inside free balanced =
           (All-push P held new
           (fresh-more (length entries) (length (entries ++ e ∷ [])) held (omega (arith, n)) balanced.fresh)
           (omega (arith, number, n)));
+      playing =
+          let p : open_count (entries ++ e ∷ []) ≡ open_count entries + 1 =
+          ap (sum_by open_one) is ∙ sum_by_push open_one held new in
+          let s : count_by is_playing (set states c (Playing play)) + playing_one (get_or states c Idle)
+          ≡ count_by is_playing states + 1 =
+          sum_by-set playing_one states c (Playing play) Idle inside in
+          let was : playing_one (get_or states c Idle) ≡ 0 = ap (λ b. cond b 1 0) free.shut in
+          omega (arith, p, s, was, balanced.playing);
+      halts = halts-none entries e no_halt balanced.halts;
     }
   where
-    open played use {play, e, number, maker, is}
+    open played use {play, e, number, maker, no_halt, is}

@@ -6,13 +6,14 @@ use Rattle.std.proofs.Common.{sum, Some, arith, refl, sym, ap, subst, ◌∙◌}
 use Rattle.slot_calendar.proofs.PlanSlots.{sent-rises}
 use Rattle.std.specs.Prelude.{sum_by}
 use Rattle.std.proofs.lemmas.Bool.{eqb-true, and_parts}
-use Rattle.std.proofs.lemmas.List.{append-nil, get_or-map, length-map, map-append, set-get_or, take_all}
+use Rattle.std.proofs.lemmas.List.{append-nil, get_or-map, length-append, length-map, map-append, set-get_or, take_all}
 use Rattle.std.proofs.lemmas.List.Sums.{sum_by-cons, sum_by_push}
 use Rattle.plan_cert.specs.declared.Segment.{Segment}
 use Rattle.plan_cert.specs.PlanSlots.{plan_slots, total_bytes}
 use Rattle.slot_calendar.specs.Plays.{Play as Booked, truncated_play, sent_before, share_at, whole_play}
 use Rattle.admission.specs.declared.entries.Entry.{Entry}
-use Rattle.admission.specs.Histories.{state_after}
+use Rattle.admission.specs.Books.{places_taken}
+use Rattle.admission.specs.Histories.{open_count, state_after}
 use Rattle.admission.specs.Machine.{AdmittedPlay, admitted_play, booked_in, play_numbered}
 use Rattle.day_run.specs.BookingBalance.{AreHeldOf, IsBalanced, IsHeld, share_of}
 use Rattle.day_run.specs.Days.{DayState, at_slot, done_halt, halt_by, halt_entries, last_journal, open_halt}
@@ -23,7 +24,8 @@ use Rattle.day_run.specs.ClientStates.{pausing_state}
 use Rattle.day_run.specs.ClientStates.{sent_by}
 use Rattle.day_run.proofs.LineStepLemmas.{halt_entries-sent}
 use Rattle.day_run.proofs.ClientSweepLemmas.{IsSwept, entries-more, swept-all, swept-none, swept-set}
-use Rattle.day_run.proofs.SentBookedLemmas.{BalancedClient, balanced-halt, booked-halted, share-done}
+use Rattle.day_run.proofs.SentBookedLemmas.{BalancedClient, HeldPlay, balanced-halt, booked-halted, open-less, playing_one}
+use Rattle.day_run.proofs.SentBookedLemmas.{share-done}
 
 -- ---- a slot comes
 pause-share : (b : Bool) (t : ℕ) (stop : Booked) (rest : Rest) → (b ≡ true → share_at t stop ≡ 0)
@@ -55,6 +57,28 @@ sending-shares t slot (state ∷ states) later =
       sum_by-cons (share_of t) (after_sending slot state) (map (after_sending slot) states),
     )
 
+pause-plays : (b : Bool) (stop : Booked) (rest : Rest) → playing_one (cond b (Paused rest) (Pausing stop rest)) ≡ 0
+pause-plays true stop rest = refl
+pause-plays false stop rest = refl
+
+sending-play : (slot : ℕ) (state : ClientState) → playing_one (after_sending slot state) ≡ playing_one state
+sending-play slot Idle = refl
+sending-play slot (Playing play) = refl
+sending-play slot (Pausing stop rest) = pause-plays (sent_by stop slot == stop.keep) stop rest
+sending-play slot (Paused rest) = refl
+
+sending-plays : (slot : ℕ) (states : List ClientState)
+    → sum_by playing_one (map (after_sending slot) states) ≡ sum_by playing_one states
+sending-plays slot [] = refl
+sending-plays slot (state ∷ states) =
+    omega (
+      arith,
+      sending-play slot state,
+      sending-plays slot states,
+      sum_by-cons playing_one state states,
+      sum_by-cons playing_one (after_sending slot state) (map (after_sending slot) states),
+    )
+
 pause-held : (b : Bool) (entries : List Entry) (c : ℕ) (stop : Booked) (rest : Rest)
     → AreHeldOf entries c (cond b (Paused rest) (Pausing stop rest))
 pause-held true entries c stop rest = tt
@@ -78,6 +102,8 @@ balanced-sending entries states heard slot le balanced = record {
       subst C (sym (get_or-map (after_sending slot) states c Idle Idle inside))
       (sending-held entries c slot (get_or states c Idle) (balanced.held c inside));
   fresh = balanced.fresh;
+  playing = balanced.playing ∙ sym (sending-plays slot states);
+  halts = balanced.halts;
 }
 
 -- a play that is done is halted
@@ -137,12 +163,32 @@ stays-halt entries c keep play held kept t past =
 record IsStep (slot : ℕ) (old new : List Entry) (states : List ClientState) : Type 0 where
   balanced : IsBalanced new states slot
   stays : Stays slot old new
+  places : places_taken new ≡ places_taken old
+
+-- a halt takes the place that was kept for it
+pub places-halt : (entries : List Entry) (c : ℕ) (play : HeldPlay entries) (keep : ℕ)
+    → places_taken (entries ++ halt_by c play.number keep) ≡ places_taken entries
+places-halt entries c play keep =
+    omega (
+      arith,
+      open-less entries c play keep,
+      length-append entries (halt_by c play.number keep),
+    )
 
 kept-step : {slot : ℕ} {entries : List Entry} {states : List ClientState} {state : ClientState} (c : ℕ)
     → get_or states c Idle ≡ state → IsBalanced entries states slot
     → IsStep slot entries (entries ++ []) (set states c state)
 kept-step {slot} {entries} c at balanced =
-    record { balanced = left-alone c at balanced; stays = stays-none slot entries }
+    record {
+      balanced = left-alone c at balanced;
+      stays = stays-none slot entries;
+      places = ap places_taken (append-nil entries);
+    }
+
+abbrev pub held-play : {entries : List Entry} (play : Play)
+    → play_numbered play.number (state_after entries).held ≡ Some (admitted_play play.number play.start play.plan)
+    → HeldPlay entries
+held-play play held = record { number = play.number; start = play.start; plan = play.plan; held = held }
 
 pub its-held : {entries : List Entry} {states : List ClientState} {heard : ℕ} {play : Play} (c : ℕ)
     → c < length states → get_or states c Idle ≡ Playing play → IsBalanced entries states heard
@@ -161,6 +207,7 @@ step-play {slot} {entries} {play} {done = true} c done own = record {
   balanced = balanced-halt c (total_bytes play.plan) Idle own tt (λ t later. done-shares t slot play later done);
   stays = stays-halt entries c (total_bytes play.plan) play (its-held c own.inside own.at own.balanced)
       (record { sent = omega arith; most = omega arith });
+  places = places-halt entries c (held-play play (its-held c own.inside own.at own.balanced)) (total_bytes play.plan);
 }
 step-play {slot} {done = false} c done own = kept-step c own.at own.balanced
 
@@ -184,6 +231,7 @@ open-state {slot} c entries states (Playing play) own =
           (λ t later. sym (share-done t slot (truncated_play play.start play.plan keep) later (omega arith)));
       stays = stays-halt entries c keep play (its-held c own.inside own.at own.balanced)
           (record { sent = omega arith; most = omega arith });
+      places = places-halt entries c (held-play play (its-held c own.inside own.at own.balanced)) keep;
     }
 open-state {slot} c entries states (Pausing stop rest) own = kept-step c own.at own.balanced
 open-state {slot} c entries states (Paused rest) own = kept-step c own.at own.balanced
@@ -202,6 +250,7 @@ record Ending (slot n : ℕ) (halt : ℕ → ClientState → List Entry) (after 
   entries_are : entries ≡ begun ++ halt_entries halt 0 (take n old)
   balanced : IsBalanced entries states slot
   stays : Stays slot begun entries
+  places : places_taken entries ≡ places_taken begun
 
 ending : {slot : ℕ} {halt : ℕ → ClientState → List Entry} {after : ClientState → ClientState}
     {begun : List Entry} {old : List ClientState}
@@ -214,6 +263,7 @@ ending {slot} {halt} {after} {begun} {old} {n = zero} step most balanced = recor
   entries_are = sym (append-nil begun);
   balanced = balanced;
   stays = λ t past. refl;
+  places = refl;
 }
 ending {slot} {halt} {after} {begun} {old} {n = suc n} step most balanced =
     let e = ending {slot = slot} {halt = halt} {after = after} {begun = begun} {old = old} {n = n} step
@@ -237,49 +287,65 @@ ending {slot} {halt} {after} {begun} {old} {n = suc n} step most balanced =
           (record { before_is = e.entries_are; after_is = refl; here = refl });
       balanced = next.balanced;
       stays = λ t past. next.stays t past ∙ e.stays t past;
+      places = next.places ∙ e.places;
     })
 
-pub balanced-slot : (old : DayState) (slot : ℕ) → old.heard ≤ slot → IsBalanced old.entries old.states old.heard
-    → IsBalanced (at_slot old slot).entries (at_slot old slot).states slot
-balanced-slot old slot le balanced =
-    let sent = map (after_sending slot) old.states in
-    let n = length sent in
-    let e = ending {slot = slot} {halt = done_halt slot} {after = after_play slot} {begun = old.entries}
-    {old = sent} {n = n} step-state (omega arith)
-    (balanced-sending old.entries old.states old.heard slot le balanced) in
-    let states : e.states ≡ map (after_play slot) sent =
-    swept-all (after_play slot) n sent e.states (omega arith) e.swept in
-    let entries : e.entries ≡ old.entries ++ halt_entries (done_halt slot) 0 old.states =
-    e.entries_are ∙ ap (λ l. old.entries ++ halt_entries (done_halt slot) 0 l) (take_all n sent (omega arith))
-    ∙ ap (λ es. old.entries ++ es) (halt_entries-sent slot 0 old.states) in
-    let E : List Entry → Type 0 = λ es. IsBalanced es (map (after_play slot) sent) slot in
-    let S : List ClientState → Type 0 = λ l. IsBalanced e.entries l slot in
-    subst E entries (subst S states e.balanced)
+-- what the halts of a slot, or of a day's end, leave: the balance, what is booked in past slots, and the places that
+-- are taken
+pub record IsHaltedAt (slot : ℕ) (old new : List Entry) (states : List ClientState) : Type 0 where
+  pub balanced : IsBalanced new states slot
+  pub stays : (t : ℕ) → t ≤ slot → booked_in (state_after new) t ≡ booked_in (state_after old) t
+  pub places : places_taken new ≡ places_taken old
 
-pub slot-stays : (old : DayState) (slot t : ℕ) → old.heard ≤ slot → t ≤ slot → IsBalanced old.entries old.states
-    old.heard
-    → booked_in (state_after (at_slot old slot).entries) t ≡ booked_in (state_after old.entries) t
-slot-stays old slot t le past balanced =
+all-ended : {slot : ℕ} (halt : ℕ → ClientState → List Entry) (after : ClientState → ClientState)
+    (begun : List Entry) (old : List ClientState) → IsStepOf slot halt after → IsBalanced begun old slot
+    → IsHaltedAt slot begun (begun ++ halt_entries halt 0 old) (map after old)
+all-ended {slot} halt after begun old step balanced =
+    let n = length old in
+    let e = ending {slot = slot} {halt = halt} {after = after} {begun = begun} {old = old} {n = n} step (omega arith)
+    balanced in
+    let states : e.states ≡ map after old = swept-all after n old e.states (omega arith) e.swept in
+    let entries : e.entries ≡ begun ++ halt_entries halt 0 old =
+    e.entries_are ∙ ap (λ l. begun ++ halt_entries halt 0 l) (take_all n old (omega arith)) in
+    let E : List Entry → Type 0 = λ es. IsHaltedAt slot begun es (map after old) in
+    let S : List ClientState → Type 0 = λ l. IsHaltedAt slot begun e.entries l in
+    subst E entries (subst S states (record { balanced = e.balanced; stays = e.stays; places = e.places }))
+
+-- a slot comes
+pub slot-halted : (old : DayState) (slot : ℕ) → old.heard ≤ slot → IsBalanced old.entries old.states old.heard
+    → IsHaltedAt slot old.entries (at_slot old slot).entries (at_slot old slot).states
+slot-halted old slot le balanced =
     let sent = map (after_sending slot) old.states in
-    let n = length sent in
-    let e = ending {slot = slot} {halt = done_halt slot} {after = after_play slot} {begun = old.entries}
-    {old = sent} {n = n} step-state (omega arith)
-    (balanced-sending old.entries old.states old.heard slot le balanced) in
-    let entries : e.entries ≡ old.entries ++ halt_entries (done_halt slot) 0 old.states =
-    e.entries_are ∙ ap (λ l. old.entries ++ halt_entries (done_halt slot) 0 l) (take_all n sent (omega arith))
-    ∙ ap (λ es. old.entries ++ es) (halt_entries-sent slot 0 old.states) in
-    sym (ap (λ es. booked_in (state_after es) t) entries) ∙ e.stays t past
+    let E : List Entry → Type 0 = λ halts. IsHaltedAt slot old.entries (old.entries ++ halts) (map (after_play slot)
+    sent) in
+    subst E (halt_entries-sent slot 0 old.states)
+    (all-ended {slot = slot} (done_halt slot) (after_play slot) old.entries sent step-state
+    (balanced-sending old.entries old.states old.heard slot le balanced))
 
 -- a day ends
-pub last-stays : (m : DayState) (t : ℕ) → t ≤ m.heard → IsBalanced m.entries m.states m.heard
-    → booked_in (state_after (last_journal m)) t ≡ booked_in (state_after m.entries) t
-last-stays m t past balanced =
-    let n = length m.states in
-    let e = ending {slot = m.heard} {halt = open_halt m.heard} {after = after_open} {begun = m.entries}
-    {old = m.states} {n = n} open-state (omega arith) balanced in
-    let entries : e.entries ≡ last_journal m =
-    e.entries_are ∙ ap (λ l. m.entries ++ halt_entries (open_halt m.heard) 0 l) (take_all n m.states (omega arith)) in
-    sym (ap (λ es. booked_in (state_after es) t) entries) ∙ e.stays t past
+pub last-halted : (m : DayState) → IsBalanced m.entries m.states m.heard
+    → IsHaltedAt m.heard m.entries (last_journal m) (map after_open m.states)
+last-halted m balanced =
+    all-ended {slot = m.heard} (open_halt m.heard) after_open m.entries m.states open-state balanced
+
+open-plays : (state : ClientState) → playing_one (after_open state) ≡ 0
+open-plays Idle = refl
+open-plays (Playing play) = refl
+open-plays (Pausing stop rest) = refl
+open-plays (Paused rest) = refl
+
+none-plays : (states : List ClientState) → sum_by playing_one (map after_open states) ≡ 0
+none-plays [] = refl
+none-plays (state ∷ states) =
+    omega (
+      arith,
+      open-plays state,
+      none-plays states,
+      sum_by-cons playing_one (after_open state) (map after_open states),
+    )
+
+pub last-open : (m : DayState) → IsBalanced m.entries m.states m.heard → open_count (last_journal m) ≡ 0
+last-open m balanced = (last-halted m balanced).balanced.playing ∙ none-plays m.states
 
 -- the entry of a play that begins
 pub record BegunPlay (entries : List Entry) : Type 0 where
@@ -304,14 +370,3 @@ play-stays entries heard t begun early past =
     omega (arith, b, sent)
   where
     open begun use {e, number, start, plan, is}
-
-pub last-later : (m : DayState) (t : ℕ) → m.heard < t → IsBalanced m.entries m.states m.heard
-    → booked_in (state_after (last_journal m)) t ≡ sum_by (share_of t) (map after_open m.states)
-last-later m t later balanced =
-    let n = length m.states in
-    let e = ending {slot = m.heard} {halt = open_halt m.heard} {after = after_open} {begun = m.entries}
-    {old = m.states} {n = n} open-state (omega arith) balanced in
-    let entries : e.entries ≡ last_journal m =
-    e.entries_are ∙ ap (λ l. m.entries ++ halt_entries (open_halt m.heard) 0 l) (take_all n m.states (omega arith)) in
-    let states : e.states ≡ map after_open m.states = swept-all after_open n m.states e.states (omega arith) e.swept in
-    sym (ap (λ es. booked_in (state_after es) t) entries) ∙ e.balanced.each t later ∙ ap (sum_by (share_of t)) states

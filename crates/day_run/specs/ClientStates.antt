@@ -93,6 +93,13 @@ is_busy (Playing play) = true
 is_busy (Pausing stop rest) = true
 is_busy (Paused rest) = false
 
+-- a client plays: its play isn't halted
+abbrev pub is_playing : ClientState → Bool
+is_playing Idle = false
+is_playing (Playing play) = true
+is_playing (Pausing stop rest) = false
+is_playing (Paused rest) = false
+
 -- one fact of a client that is busy, and another of one that isn't
 abbrev pub IfBusy : ClientState → Type 0 → Type 0 → Type 0
 IfBusy Idle Busy Free = Free

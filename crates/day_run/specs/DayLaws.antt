@@ -1,9 +1,10 @@
 -- What holds of every day.
 use Rattle.std.specs.Prelude.{ℕ, ◌≡◌, ◌+◌, ◌-◌, ◌*◌, ◌<◌, ◌≤◌, ◌⊎◌, ◌++◌, List, [], Option, Some}
-use Rattle.std.specs.Prelude.{None, codes, flat_map, fold, length, map, max, slice_index_or, sum_by}
-use Rattle.std.specs.Prelude.{take}
+use Rattle.std.specs.Prelude.{Bool, true, false, None, All, codes, count_by, flat_map, fold, length, map, max}
+use Rattle.std.specs.Prelude.{slice_index_or, sum_by, take}
 use Rattle.std.specs.List.{range_with_len}
-use Rattle.admission.specs.Histories.{booked_after, state_after}
+use Rattle.admission.specs.Histories.{booked_after, is_admission, is_halt, state_after}
+use Rattle.film_make.specs.Generator.{words_of}
 use Rattle.admission.specs.Machine.{start_after}
 use Rattle.early_start.specs.declared.Tried.{Tried}
 use Rattle.vod_base.specs.Fields.{field}
@@ -11,7 +12,10 @@ use Rattle.slot_calendar.specs.Calendars.{HasRoom, IsFirstOverflow}
 use Rattle.plan_cert.specs.declared.Segment.{Segment}
 use Rattle.slot_calendar.specs.declared.profiles.CapStep.{CapStep}
 use Rattle.slot_calendar.specs.Profiles.{capacity_at}
+use Rattle.admission.specs.declared.entries.Command.{Command}
+use Rattle.admission.specs.declared.entries.Command.TheVariants as commands
 use Rattle.admission.specs.declared.entries.Entry.{Entry}
+use Rattle.day_run.specs.declared.fair_totals.EntryCounts.{EntryCounts}
 use Rattle.day_run.specs.declared.fair_totals.FairTotals.{FairTotals}
 use Rattle.plan_cert.specs.PlanSlots.{sum_through, total_bytes}
 use Rattle.film_run.specs.Units.{AreUnitSizes}
@@ -23,7 +27,7 @@ use Rattle.film_run.specs.Plans.{CanPlay, IsPlanOf}
 use Rattle.day_run.specs.ClientStates.{ClientState, Idle, Playing, Pausing, Paused}
 use Rattle.day_run.specs.ClientStates.{Play as ClientPlay, Rest}
 use Rattle.day_run.specs.ClientStates.{MediaContent, source_content}
-use Rattle.day_run.specs.FairDays.{Turn, at_later, entry_counts_of}
+use Rattle.day_run.specs.FairDays.{AreTurns, Turn, after_traces, at_later, fair_link}
 use Rattle.day_run.specs.LineTexts.{fair_text, start_words, tried_text}
 use Rattle.day_run.specs.declared.media.Source.{Source}
 use Rattle.day_run.specs.declared.scripts.Line.{Line}
@@ -131,14 +135,53 @@ pub record IsOfferAnswer (link : Link) (rest : Rest) (wait : ℕ) (moment : DayS
   pub text_is : text ≡ flat_map tried_text tried
       ++ (start_words start ++ field (codes " tried=") (length tried) ++ codes "\n")
 
+-- The bytes that are sent in the slots of a turn, up to any of them, are those that the day's
+-- journal books there, and no more than the capacity of those slots.
+pub record IsTurnWithinCapacity (steps : List CapStep) (journal : List Entry) (turn : Turn)
+    : Type 0 where
+  pub sent : (slot : ℕ) → turn.old.heard ≤ slot → slot ≤ turn.mid.heard →
+      sent_up_to turn.old slot ≡ sum_by (booked_after journal)
+      (range_with_len (turn.old.heard + 1) (slot - turn.old.heard))
+  pub within : (slot : ℕ) → turn.old.heard ≤ slot → slot ≤ turn.mid.heard →
+      sent_up_to turn.old slot ≤ sum_by (capacity_at steps)
+      (range_with_len (turn.old.heard + 1) (slot - turn.old.heard))
+
+-- a number's turns, in each of which what is sent is what the journal books, within the capacity
+pub record SentIsBookedEachTurn (steps : List CapStep) (number plays : ℕ) (journal : List Entry)
+    : Type 0 where
+  pub turns : List Turn
+  pub evening : DayState
+  pub count : length turns ≡ plays
+  pub run : AreTurns (fair_link steps (words_of number)) (after_traces 16 (words_of number)) turns
+      first_moment evening
+  pub each : All (IsTurnWithinCapacity steps journal) turns
+
+-- a command asks for a play
+abbrev pub is_play : Command → Bool
+is_play (commands.Play slot segments) = true
+is_play _ = false
+
+-- How many entries of a large day's journal have each answer: each play that was asked for is
+-- admitted or overflows a slot, and each one that was admitted is halted.
+pub record AreEntryCounts (entries : EntryCounts) (journal : List Entry) : Type 0 where
+  pub admitted_is : entries.admitted ≡ count_by (λ (e : Entry). is_admission e.answer) journal
+  pub halted_is : entries.halted ≡ count_by (λ (e : Entry). is_halt e.command) journal
+  pub plays_are : entries.admitted + entries.overflows ≡
+      count_by (λ (e : Entry). is_play e.command) journal
+  pub all_halted : entries.halted ≡ entries.admitted
+
 -- what the line of a large day says: a turn brings at most three slots; as many bytes were sent as
 -- the journal books in all slots up to the last; the peak is the most that it books in one of them,
--- which is no more than the greatest capacity
+-- which is no more than the greatest capacity. Where the journal has two places for each turn, it is
+-- never full.
 pub record IsFairLine (steps : List CapStep) (plays : ℕ) (text : List ℕ) (journal : List Entry)
     : Type 0 where
   pub counts : FairTotals
-  pub text_is : text ≡ fair_text counts (entry_counts_of journal)
+  pub entries : EntryCounts
+  pub text_is : text ≡ fair_text counts entries
+  pub entries_are : AreEntryCounts entries journal
   pub turns_are : counts.turns ≡ plays
+  pub never_full : 2 * plays ≤ 1048576 → counts.full ≡ 0
   pub last : counts.last ≤ 3 * plays
   pub balanced : counts.sent ≡ counts.booked
   pub booked_is : counts.booked ≡ sum_by (booked_after journal) (range_with_len 1 counts.last)

@@ -9,6 +9,7 @@ pub mod ClientStates
 pub mod MediaContents
 pub mod Days
 pub mod DayLaws
+pub mod JournalLaws
 pub mod Clients
 pub mod MachineState
 pub mod LineTexts

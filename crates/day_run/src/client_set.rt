@@ -27,7 +27,7 @@ pub(crate) fn idle_clients<'r>(alloc: Global) -> Result<Vec<Client<'r>>, NoMemor
     Ok(clients)
 }
 
-/// Comes to a slot with each client, and tells how many bytes were sent.
+/// Comes to a slot with each client, and returns how many bytes were sent.
 pub(crate) fn step_clients(clients: &mut [Client<'_>], slot: u64) -> u64
     requires few { length clients.old ≤ 256 }
     requires going { AreGoing clients.old }

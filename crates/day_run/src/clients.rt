@@ -61,7 +61,7 @@ pub(crate) enum Client<'r> {
     Idle,
     /// Its play is open.
     Playing(Play<'r>),
-    /// Its play was halted, and the frame or report in hand isn't sent whole.
+    /// Its play was halted, and the frame or report in hand isn't sent to its end.
     Pausing(PausingPlay<'r>),
     /// Its play was halted, and this is left to be sent.
     Paused(Rest<'r>),
@@ -86,8 +86,8 @@ pub(crate) enum HaltedPlays {
 }
 
 impl<'r> Client<'r> {
-    /// Comes to a slot, and tells how many bytes were sent. A pause is done once all that it keeps
-    /// was sent.
+    /// Comes to a slot, and returns how many bytes were sent. A pause is done once all that it
+    /// keeps was sent.
     pub(crate) fn step(&mut self, slot: u64) -> u64
         requires { IsGoing self.old }
         ensures going { IsGoing self.new }
@@ -189,7 +189,7 @@ impl<'r> Client<'r> {
         }
     }
 
-    /// Pauses its play, if it has one, and tells how it is to be halted.
+    /// Pauses its play, if it has one, and returns how it is to be halted.
     pub(crate) fn pause(&mut self) -> Option<Halt>
         requires going { IsGoing self.old }
         requires undone { IsUndone self.old }
@@ -217,7 +217,7 @@ impl<'r> Client<'r> {
     }
 }
 
-/// Sends what is due in a slot, and tells how many bytes that was.
+/// Sends what is due in a slot, and returns how many bytes that was.
 fn send(pacer: &mut Pacer<Sending<'_>>, slot: u64) -> u64
     ensures state { pacer.new ≡ after_step false slot pacer.old }
     ensures sent { result ≡ pacer.new.sent - pacer.old.sent }

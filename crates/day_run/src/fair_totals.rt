@@ -1,13 +1,13 @@
-//! What a fair counts.
+//! What a large day counts.
 
-/// What a fair tells at its end.
+/// What a large day reports at its end.
 #[derive(Clone, Copy)]
 pub(crate) struct FairTotals {
     /// The turns that clients took.
     pub(crate) turns: u64,
     /// The plays that a full journal refused.
     pub(crate) full: u64,
-    /// The slot that was heard last.
+    /// The last slot.
     pub(crate) last: u64,
     /// The bytes that were sent.
     pub(crate) sent: u64,

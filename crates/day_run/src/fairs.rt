@@ -5,6 +5,7 @@ ghost use Rattle.std.specs.Prelude.{length, map, IfOk, OnOk};
 ghost use Rattle.film_make.specs.Generator.{words_after, words_left};
 ghost use Rattle.film_run.specs.Units.{AreUnitSizes};
 ghost use Rattle.admission.specs.declared.entries.Entry.{Entry};
+ghost use Rattle.admission.specs.Books.{places_taken};
 ghost use Rattle.admission.specs.Histories.{IsLegal};
 ghost use Rattle.day_run.specs.BookingBalance.{IsReady};
 ghost use Rattle.report.specs.JournalTexts.{journal_text};
@@ -50,6 +51,7 @@ pub fn fair(alloc: Global, seed: u64, plays: u32, profile: Profile) -> Result<Da
     ensures fair { IfOk result (λ day.
         IsFair profile seed plays day.text.items day.journal.items) }
     ensures legal { IfOk result (λ day. IsLegal profile day.journal.items) }
+    ensures within { IfOk result (λ day. places_taken day.journal.items ≤ 1048576) }
 {
     let mut draws = Draws::new(seed);
     let traces = draw_traces(alloc, &mut draws)?;
@@ -173,7 +175,7 @@ fn advance(machine: &mut DayMachine<'_>, later: u64, counts: &mut FairTotals)
     }
 }
 
-/// The lines of entries tell of no full journal: they begin with a digit.
+/// The lines of entries don't say that the journal is full: they begin with a digit.
 fn law_entries_other(place: u64)
     ensures { (entries : List Entry) → is_full_line (journal_text place entries) ≡ false }
 {}

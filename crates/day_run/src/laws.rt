@@ -1,22 +1,31 @@
 //! Laws of a day, of its script and of a large day, each a contract without a body.
 
 ghost use Rattle.std.specs.Prelude.{ℕ, List, ◌≡◌, ◌≤◌, ◌<◌, ◌+◌, ◌-◌, ◌⊎◌, ◌++◌, ◌∷◌, false, true};
-ghost use Rattle.std.specs.Prelude.{length, map, sum_by, All, [], ◌≢◌, slice_index};
+ghost use Rattle.std.specs.Prelude.{length, map, sum_by, All, [], ◌≢◌, slice_index, count_by};
+ghost use Rattle.std.specs.Prelude.{◌^◌};
 ghost use Rattle.std.specs.List.{list_all, range_with_len};
 ghost use Rattle.day_run.specs.declared.scripts.Line.{Line};
 ghost use Rattle.day_run.specs.declared.scripts.Line.TheVariants as Lines;
 ghost use Rattle.slot_calendar.specs.declared.profiles.CapStep.{CapStep};
 ghost use Rattle.slot_calendar.specs.Profiles.{capacity_at};
 ghost use Rattle.admission.specs.declared.entries.Entry.{Entry};
-ghost use Rattle.admission.specs.Histories.{IsLegal, booked_after, state_after};
+ghost use Rattle.plan_cert.specs.declared.Segment.{Segment};
+ghost use Rattle.admission.specs.Books.{places_taken};
+ghost use Rattle.admission.specs.Histories.{IsAdmission, IsLegal, booked_after, open_count};
+ghost use Rattle.admission.specs.Histories.{state_after};
+ghost use Rattle.admission.specs.Makers.{AreHaltsOwn};
 ghost use Rattle.day_run.specs.BookingBalance.{share_of};
 ghost use Rattle.day_run.specs.Clients.{after_open};
 ghost use Rattle.day_run.specs.DayLaws.{AreClients, IsClient, IsDrawnTurn, IsFairLine, IsLink};
+ghost use Rattle.day_run.specs.ClientStates.{Play, Playing, is_playing};
 ghost use Rattle.day_run.specs.DayLaws.{IsOfferAnswer, IsSoundClient, SentIsBookedAfter};
+ghost use Rattle.day_run.specs.DayLaws.{SentIsBookedEachTurn};
 ghost use Rattle.day_run.specs.Days.{AreLineSteps, IsDay, IsFaulty, IsLine, Link, DayState};
 ghost use Rattle.day_run.specs.Days.{booked_up_to};
 ghost use Rattle.day_run.specs.Days.{last_journal, first_moment, rest_at, state_at, sent_up_to};
 ghost use Rattle.day_run.specs.FairDays.{IsFair, IsTurn, Turn};
+ghost use Rattle.day_run.specs.JournalLaws.{HasItsMaker, IsFullJournal, IsHaltedOnce};
+ghost use Rattle.day_run.specs.JournalLaws.{IsOpenPlayOf, SaysFull, places_needed};
 ghost use Rattle.day_run.specs.declared.scripts.Script.{Script};
 ghost use Rattle.day_run.specs.TextLines.{lines_of_script};
 ghost use Rattle.day_run.specs.ScriptReading.{IsBadLine, IsScript, Name, Reading, lines_read};
@@ -25,8 +34,8 @@ ghost use Rattle.day_run.specs.Scripts.{AreLines, StandsAfter, latest_slot};
 ghost use Rattle.day_run.specs.ScriptText.{AreWritten, IsInWords, MayStand, is_verb, is_word};
 ghost use Rattle.day_run.specs.ScriptText.{line_text, names_used, script_text, words_text};
 
-/// After lines of a script, what the clients are sent in the slots up to any later one, after the
-/// slot that was heard last, is what is booked in those slots.
+/// After lines of a script, what the clients are sent in the slots after the last one, up to any
+/// later one, is what is booked in those slots.
 pub fn law_sent_is_what_is_booked()
     ensures { (link : Link) (sources : ℕ) (lines : List Line) (texts : List (List ℕ))
         (moment : DayState) (slot : ℕ) → AreClients lines → AreLines sources lines →
@@ -34,9 +43,8 @@ pub fn law_sent_is_what_is_booked()
         sent_up_to moment slot ≡ booked_up_to moment slot }
 {}
 
-/// After lines of a script, where the journal is legal, what the clients are sent in the slots up
-/// to any later one, after the slot that was heard last, is no more than the capacity of those
-/// slots.
+/// After lines of a script, where the journal is legal, what the clients are sent in the slots
+/// after the last one, up to any later one, is no more than the capacity of those slots.
 pub fn law_sent_is_within_capacity()
     ensures { (link : Link) (sources : ℕ) (lines : List Line) (texts : List (List ℕ))
         (moment : DayState) (slot : ℕ) → AreClients lines → AreLines sources lines →
@@ -46,8 +54,8 @@ pub fn law_sent_is_within_capacity()
 {}
 
 /// A script's day, whose journal is legal, comes to a moment after each of its lines: what the
-/// clients are sent in the slots up to any later one, after the slot that was heard last, is what
-/// is booked there, and no more than the capacity of those slots.
+/// clients are sent in the slots after the last one, up to any later one, is what is booked there,
+/// and no more than the capacity of those slots.
 pub fn law_each_line_sends_what_is_booked()
     ensures { (link : Link) (sources count : ℕ) (lines : List Line) (text : List ℕ)
         (journal : List Entry) → AreClients lines → AreLines sources lines →
@@ -62,11 +70,20 @@ pub fn law_one_text_per_line()
 {}
 
 /// What the line of a large day says holds: what was sent is what the journal books in its slots,
-/// and no slot has more than the capacity.
+/// and no slot has more than the capacity. Its counts are those of the journal: the plays that were
+/// admitted, those that overflowed a slot, and the halts.
 pub fn law_fair_line_is_correct()
     ensures { (steps : List CapStep) (number plays : ℕ) (text : List ℕ)
         (journal : List Entry) → IsFair steps number plays text journal → IsLegal steps journal →
         IsFairLine steps plays text journal }
+{}
+
+/// In each turn of a large day, what is sent in the turn's slots, up to any of them, is what the
+/// day's journal books there, and no more than the capacity of those slots.
+pub fn law_fair_turns_send_what_is_booked()
+    ensures { (steps : List CapStep) (number plays : ℕ) (text : List ℕ) (journal : List Entry) →
+        IsFair steps number plays text journal → IsLegal steps journal →
+        SentIsBookedEachTurn steps number plays journal }
 {}
 
 /// Each turn of a large day is a script's: at most one slot, of the next three, and then at most
@@ -121,9 +138,9 @@ pub fn law_looks_and_offers_book_nothing()
         new ≡ old }
 {}
 
-/// An offer tells the least start within its wait at which the play's plan has room beside all that
-/// is booked, from the start on that a play would get which is asked for in the slot that was heard
-/// last; or the fault of the curves. For each earlier start it names the first slot without room.
+/// An offer names the least start within its wait at which the play's plan has room beside all that
+/// is booked, from the start on that a play would get which is asked for in the last slot; or the
+/// fault of the curves. For each earlier start it names the first slot without room.
 pub fn law_offer_is_the_earliest_start()
     ensures { (link : Link) (client source buffer delay wait : ℕ) (old new : DayState)
         (text : List ℕ) → IsLine link (Lines.Offer client source buffer delay wait) old new text →
@@ -131,8 +148,7 @@ pub fn law_offer_is_the_earliest_start()
         ⊎ IsOfferAnswer link (rest_at link source buffer delay) wait old text }
 {}
 
-/// What is booked in the slots that were heard stays: no line of a script changes it, nor does the
-/// end of the day.
+/// What is booked in past slots stays: no line of a script changes it, nor does the end of the day.
 pub fn law_past_slots_never_change()
     ensures line { (link : Link) (sources slot : ℕ) (lines : List Line) (texts : List (List ℕ))
         (moment next : DayState) (line : Line) (text : List ℕ) → AreClients lines →
@@ -145,19 +161,79 @@ pub fn law_past_slots_never_change()
         booked_after (last_journal moment) slot ≡ booked_after moment.entries slot }
 {}
 
-/// At the day's end no play is open: the slots to come have only what is still sent to clients
-/// whose pause isn't done.
+/// At the day's end no play is open, and each play that was admitted has one halt, by its own
+/// client. The slots to come have only what is still sent to clients whose pause isn't done.
 pub fn law_no_play_is_open_at_the_end()
-    ensures { (link : Link) (sources slot : ℕ) (lines : List Line) (texts : List (List ℕ))
+    ensures open { (link : Link) (sources : ℕ) (lines : List Line) (texts : List (List ℕ))
+        (moment : DayState) → AreClients lines → AreLines sources lines →
+        AreLineSteps link lines texts first_moment moment →
+        open_count (last_journal moment) ≡ 0 }
+    ensures halted { (link : Link) (sources number start : ℕ) (lines : List Line)
+        (texts : List (List ℕ)) (moment : DayState) (plan : List Segment) → AreClients lines →
+        AreLines sources lines → AreLineSteps link lines texts first_moment moment →
+        IsLegal link.steps (last_journal moment) →
+        IsAdmission (last_journal moment) number start plan →
+        IsHaltedOnce (last_journal moment) number }
+    ensures booked { (link : Link) (sources slot : ℕ) (lines : List Line) (texts : List (List ℕ))
         (moment : DayState) → AreClients lines → AreLines sources lines →
         AreLineSteps link lines texts first_moment moment → moment.heard < slot →
         booked_after (last_journal moment) slot
         ≡ sum_by (share_of slot) (map after_open moment.states) }
 {}
 
+/// After lines of a script as many plays are open as clients play, and each of these clients has
+/// its own open play.
+pub fn law_open_plays_are_those_of_clients()
+    ensures count { (link : Link) (sources : ℕ) (lines : List Line) (texts : List (List ℕ))
+        (moment : DayState) → AreClients lines → AreLines sources lines →
+        AreLineSteps link lines texts first_moment moment →
+        open_count moment.entries ≡ count_by is_playing moment.states }
+    ensures own { (link : Link) (sources client : ℕ) (lines : List Line) (texts : List (List ℕ))
+        (moment : DayState) (play : Play) → AreClients lines → AreLines sources lines →
+        AreLineSteps link lines texts first_moment moment → client < 256 →
+        state_at moment client ≡ Playing play → IsOpenPlayOf moment.entries client play }
+{}
+
+/// The entries that a line makes have its client's number as their maker, and a look's entry has 0.
+/// Each halt, also those of a slot and of the day's end, is by the maker of its play.
+pub fn law_entries_have_their_makers()
+    ensures line { (link : Link) (line : Line) (old new : DayState) (text : List ℕ) →
+        IsLine link line old new text → HasItsMaker line old new }
+    ensures halts { (link : Link) (sources : ℕ) (lines : List Line) (texts : List (List ℕ))
+        (moment : DayState) → AreClients lines → AreLines sources lines →
+        AreLineSteps link lines texts first_moment moment → AreHaltsOwn moment.entries }
+    ensures end { (link : Link) (sources : ℕ) (lines : List Line) (texts : List (List ℕ))
+        (moment : DayState) → AreClients lines → AreLines sources lines →
+        AreLineSteps link lines texts first_moment moment → AreHaltsOwn (last_journal moment) }
+{}
+
+/// A day's journal stays within its limit: its entries, and one more for the halt of each open
+/// play, are never more than that. So all halts of the day's end find room.
+pub fn law_day_journal_stays_within_limit()
+    ensures lines { (link : Link) (sources : ℕ) (lines : List Line) (texts : List (List ℕ))
+        (moment : DayState) → AreClients lines → AreLines sources lines →
+        AreLineSteps link lines texts first_moment moment →
+        places_taken moment.entries ≤ link.limit }
+    ensures end { (link : Link) (sources : ℕ) (lines : List Line) (texts : List (List ℕ))
+        (moment : DayState) → AreClients lines → AreLines sources lines →
+        AreLineSteps link lines texts first_moment moment →
+        places_taken (last_journal moment) ≤ link.limit }
+{}
+
+/// A line that says that the journal is full says how many entries it has at that line and how many
+/// clients then play, and there is no room for what the line asks. It changes nothing.
+pub fn law_full_journal_line_is_true()
+    ensures { (link : Link) (sources : ℕ) (lines : List Line) (texts : List (List ℕ))
+        (moment next : DayState) (line : Line) (text : List ℕ) → link.limit < 2 ^ 64 →
+        AreClients lines → AreLines sources lines →
+        AreLineSteps link lines texts first_moment moment → IsLine link line moment next text →
+        SaysFull text →
+        (next ≡ moment) × IsFullJournal link (places_needed line) moment text }
+{}
+
 /// After lines of a script each client goes on soundly: a play is sent by the plan of what was left
 /// as it began, and isn't done; what a pause leaves can be played, and what was sent before it are
-/// whole frames and reports.
+/// complete frames and reports.
 pub fn law_every_client_is_sound()
     ensures { (link : Link) (lines : List Line) (texts : List (List ℕ)) (moment : DayState)
         (client : ℕ) → IsLink link → AreClients lines → AreLines (length link.media) lines →

@@ -26,3 +26,6 @@ pub use media::Source;
 pub use script_reader::read_script;
 pub use script_run::{Day, run_script};
 pub use scripts::{Line, Named, Script, ScriptRefused, SourceKind};
+
+#[cfg(test)]
+mod tests;

@@ -45,7 +45,7 @@ pub(crate) enum LineAnswer {
 pub(crate) struct SlotTotals {
     /// The bytes that were sent.
     pub(crate) sent: u64,
-    /// The bytes that are booked in the slots since the last one that was heard.
+    /// The bytes that are booked in the slots since the last one.
     pub(crate) booked: u64,
     /// The most of them in one slot.
     pub(crate) peak: u64,
@@ -61,7 +61,7 @@ pub(crate) struct DayMachine<'r> {
     pub(crate) book: Book,
     /// The 256 clients, in the order of their numbers.
     pub(crate) clients: Vec<Client<'r>>,
-    /// The slot that was heard last, 0 before the first.
+    /// The last slot to which the link has come, 0 before the first.
     pub(crate) heard: u64,
 }
 

@@ -24,7 +24,7 @@ pub enum Source {
     Trace(Vec<u64>),
 }
 
-/// The identity of what is sent: nobody hears it.
+/// The identity of what is sent: nobody receives it.
 const NOBODY: Identity = Identity {
     channel: 0,
     control: 0,

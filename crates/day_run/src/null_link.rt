@@ -4,7 +4,7 @@ ghost use Rattle.std.specs.Prelude.{None};
 
 use vod_base::{Heard, Link, LinkFault};
 
-/// A link that takes every byte and keeps none. It never fails, and hears nothing.
+/// A link that takes every byte and keeps none. It never fails, and receives nothing.
 #[derive(Clone, Copy)]
 pub(crate) struct NullLink;
 

@@ -25,10 +25,7 @@ pub(crate) fn medium_at<'r>(media: &'r [Media<'r>], source: usize) -> &'r Media<
         slice_index_or (map (media_content slot_units) media.now) source none
         ≡ media_content slot_units result.now }
 {
-    match media.get(source) {
-        Some(medium) => medium,
-        None => unreachable!(),
-    }
+    &media[source]
 }
 
 /// All of a source, for a client with such a buffer and start delay; None where it has no picture.

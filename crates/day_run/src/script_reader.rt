@@ -174,7 +174,7 @@ impl ScriptBuilder {
         }
     }
 
-    /// Takes in a line of these words, and tells whether it may stand there.
+    /// Takes in a line of these words, and returns whether it may stand there.
     fn add_message(&mut self, words: &[&[u8]], message: Message) -> Result<bool, NoMemory>
         requires draft { IsDraft self.old }
         requires range { IsInRange message }
@@ -191,7 +191,7 @@ impl ScriptBuilder {
         }
     }
 
-    /// Takes in a line's text, and tells whether it may stand there.
+    /// Takes in a line's text, and returns whether it may stand there.
     fn read<'a>(&mut self, line: &'a [u8], words: &mut Vec<&'a [u8]>) -> Result<bool, NoMemory>
         requires { IsDraft self.old }
         ensures taken { IfOk result (λ stands. IsLineTaken stands (reading_of self.new)

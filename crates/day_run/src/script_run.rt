@@ -1,11 +1,12 @@
 //! Scripts, run from their first line to the day's end.
 
 ghost use Rattle.std.specs.Prelude.{◌≡◌, ◌^◌, ◌≤◌, ◌<◌, ◌++◌, [], drop, length, IfOk, OnOk};
+ghost use Rattle.admission.specs.Books.{places_taken};
 ghost use Rattle.admission.specs.Histories.{IsLegal};
 ghost use Rattle.report.specs.JournalTexts.{journal_text};
 ghost use Rattle.day_run.specs.Days.{IsDay, IsLine, last_journal, last_lines, link_of};
 ghost use Rattle.day_run.specs.Days.{first_moment};
-ghost use Rattle.day_run.specs.DayLaws.{IsLink};
+ghost use Rattle.day_run.specs.DayLaws.{AreClients, IsClient, IsLink};
 ghost use Rattle.day_run.specs.MachineState.{HasRun, IsKept, IsPrinted, IsDayMachine, link_on};
 ghost use Rattle.day_run.specs.MachineState.{day_state_of};
 ghost use Rattle.day_run.specs.MachineState.{reply_text};
@@ -59,6 +60,8 @@ pub fn run_script(
         IsDay (link_of profile limit slot_units sources.now) script.now.lines.items
         day.text.items day.journal.items) }
     ensures legal { IfOk result (λ day. IsLegal profile day.journal.items) }
+    ensures within { IfOk result (λ day. places_taken day.journal.items ≤ limit) }
+    ensures clients { OnOk result (AreClients script.now.lines.items) }
     ensures link { OnOk result (IsLink (link_of profile limit slot_units sources.now)) }
 {
     let media = all_media_of(alloc, sources)?;
@@ -126,6 +129,7 @@ fn run_line(
     ensures heard { OnOk result (machine.new.heard ≡ slot_after machine.old.heard line) }
     ensures line { OnOk result (IsPrinted text.old.items text.new.items
         (IsLine (link_on machine.old) line (day_state_of machine.old) (day_state_of machine.new))) }
+    ensures client { IsClient line }
 {
     match line {
         Line::Play {
@@ -196,6 +200,7 @@ fn run_lines(
     ensures kept { OnOk result (IsKept machine.old machine.new) }
     ensures run { OnOk result
         (HasRun (link_on machine.old) lines.now text.new.items (day_state_of machine.new)) }
+    ensures clients { OnOk result (AreClients lines.now) }
 {
     for line in lines {
         run_line(alloc, machine, *line, text)?;

@@ -79,7 +79,7 @@ pub enum ScriptRefused {
         /// The first such line, from 1 to 1,000,001; empty lines are counted.
         line: u64,
     },
-    /// Want of memory.
+    /// Out of memory.
     #[error("out of memory")]
     NoMemory,
 }

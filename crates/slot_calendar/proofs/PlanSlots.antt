@@ -9,8 +9,8 @@ use Rattle.std.proofs.lemmas.Bool.{cases_lt, cases_eq}
 use Rattle.std.proofs.lemmas.List.{take-append-le, take_all, take_more, take-append-drop, get_or_default}
 use Rattle.std.proofs.lemmas.List.{get_or_past}
 use Rattle.std.proofs.lemmas.List.Concat.{flat_map-append}
-use Rattle.std.proofs.lemmas.List.Sums.{sum_by-append, sum_by-take-le, sum_by_more}
-use Rattle.std.proofs.lemmas.List.Elements.{All-head, All-take}
+use Rattle.std.proofs.lemmas.List.Sums.{sum_by-append, sum_by-cons, sum_by-take-le, sum_by_more}
+use Rattle.std.proofs.lemmas.List.Elements.{All-cons, All-head, All-nil, All-take}
 use Rattle.vod_base.proofs.PrefixSums.{sum-take-rises}
 use Rattle.plan_cert.specs.declared.Segment.{Segment}
 use Rattle.plan_cert.specs.PlanSlots.{slots_of, plan_slots, total_slots, total_bytes, sum_through}
@@ -68,12 +68,37 @@ pub sent-all : (segments : List Segment) (start t : ℕ) → All (λ s. 1 ≤ s.
     → start + total_slots segments ≤ t → sent_before segments start t ≡ total_bytes segments
 sent-all segments start t some past = sent-end segments start t past ∙ sum-plan_slots segments some
 
-pub sent-most : (segments : List Segment) (start t : ℕ) → All (λ s. 1 ≤ s.slots) segments
-    → sent_before segments start t ≤ total_bytes segments
-sent-most segments start t some =
+-- the slots of a segment send at most its bytes: none where it has no slots
+one-most : (s : Segment) → sum (plan_slots (s ∷ [])) ≤ s.bytes
+one-most s = elim (cases_lt 0 s.slots) [
+  | inl some ↦
+      let P : Segment → Type 0 = λ x. 1 ≤ x.slots in
+      let all : All P (s ∷ []) = All-cons P s [] (omega (arith, some)) (All-nil P) in
+      let is : sum (plan_slots (s ∷ [])) ≡ s.bytes = sum-plan_slots (s ∷ []) all ∙ omega arith in
+      omega (arith, is)
+  | inr none ↦
+      let slots : total_slots (s ∷ []) ≡ s.slots = omega arith in
+      let empty : take 0 (plan_slots (s ∷ [])) ≡ plan_slots (s ∷ []) =
+      take_all 0 (plan_slots (s ∷ [])) (omega (arith, length-plan_slots (s ∷ []), slots, none)) in
+      let is : sum (plan_slots (s ∷ [])) ≡ 0 = sym (ap sum empty) in
+      omega (arith, is)
+]
+
+slots-most : (segments : List Segment) → sum (plan_slots segments) ≤ total_bytes segments
+slots-most [] = omega arith
+slots-most (s ∷ segments) =
+    let parts : sum (plan_slots (s ∷ segments)) ≡ sum (plan_slots (s ∷ [])) + sum (plan_slots segments) =
+    ap sum (flat_map-append slots_of (s ∷ []) segments)
+    ∙ sum_by-append (λ x. x) (plan_slots (s ∷ [])) (plan_slots segments) in
+    let bytes : total_bytes (s ∷ segments) ≡ s.bytes + total_bytes segments =
+    sum_by-cons (λ x. x.bytes) s segments in
+    omega (arith, parts, bytes, one-most s, slots-most segments)
+
+pub sent-most : (segments : List Segment) (start t : ℕ) → sent_before segments start t ≤ total_bytes segments
+sent-most segments start t =
     let part : sum (take (t - start) (plan_slots segments)) ≤ sum (plan_slots segments) =
     sum_by-take-le (λ x. x) (plan_slots segments) (t - start) in
-    omega (arith, part, sum-plan_slots segments some)
+    omega (arith, part, slots-most segments)
 
 -- the first j slots of one segment
 pub sent-one : (s : Segment) (from j : ℕ) → 0 < s.slots → j ≤ s.slots

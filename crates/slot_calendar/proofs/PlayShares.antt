@@ -7,10 +7,10 @@ use Rattle.std.proofs.lemmas.List.FromFn.{sum_by-map-range_with_len_more}
 use Rattle.std.proofs.lemmas.List.Sums.{sum_by-append, sum_by-cons, sum_by_push}
 use Rattle.plan_cert.specs.declared.Segment.{Segment}
 use Rattle.plan_cert.specs.PlanSlots.{total_bytes}
-use Rattle.plan_cert.specs.Plan.{IsPlan}
 use Rattle.slot_calendar.specs.Plays.{Play, sent_before, asked_at, released_at, whole_play, truncated_play, share_at}
 use Rattle.slot_calendar.specs.Plays.{booked_by}
 use Rattle.slot_calendar.specs.Calendars.{CalendarState, booked_at, Represents}
+use Rattle.plan_cert.specs.Plan.{IsPlan}
 use Rattle.slot_calendar.proofs.PlanSlots.{sent-none, sent-rises, sent-most}
 
 share-parts : (a b k : ℕ) → a ≤ b → min b k - min a k + ((b - k) - (a - k)) ≡ b - a
@@ -19,11 +19,11 @@ share-parts a b k rises = omega arith
 share_whole : (a b k : ℕ) → a ≤ k → b ≤ k → min b k - min a k ≡ b - a
 share_whole a b k left right = omega arith
 
-pub share-whole : (segments : List Segment) (start t : ℕ) → IsPlan segments
+pub share-whole : (segments : List Segment) (start t : ℕ)
     → share_at t (whole_play start segments) ≡ asked_at segments start t
-share-whole segments start t plan =
+share-whole segments start t =
     share_whole (sent_before segments start t) (sent_before segments start (t + 1)) (total_bytes segments)
-    (sent-most segments start t plan.no_empty) (sent-most segments start (t + 1) plan.no_empty)
+    (sent-most segments start t) (sent-most segments start (t + 1))
 
 pub share-cut : (segments : List Segment) (start keep t : ℕ)
     → share_at t (truncated_play start segments keep) + released_at segments start keep t ≡ asked_at segments start t
@@ -57,11 +57,11 @@ shares-first segments start keep (suc t) =
     ∙ ap (λ n. min (sent_before segments start n) keep) at
 
 -- a play more
-pub booked-push : (plays : List Play) (segments : List Segment) (start t : ℕ) → IsPlan segments →
-    booked_by (plays ++ whole_play start segments ∷ []) t ≡ booked_by plays t + asked_at segments start t
-booked-push plays segments start t plan =
+pub booked-push : (plays : List Play) (segments : List Segment) (start t : ℕ)
+    → booked_by (plays ++ whole_play start segments ∷ []) t ≡ booked_by plays t + asked_at segments start t
+booked-push plays segments start t =
     sum_by_push (share_at t) plays (whole_play start segments)
-    ∙ ap (λ n. booked_by plays t + n) (share-whole segments start t plan)
+    ∙ ap (λ n. booked_by plays t + n) (share-whole segments start t)
 
 -- the plays before one, that one, and the plays after it
 pub booked-around : (before after : List Play) (play : Play) (t : ℕ)
@@ -71,15 +71,15 @@ booked-around before after play t =
     ∙ ap (λ n. booked_by before t + n) (sum_by-cons (share_at t) play after)
 
 -- a play that is cut
-pub booked-cut : (before after : List Play) (play : Play) (t : ℕ) → IsPlan play.segments
+pub booked-cut : (before after : List Play) (play : Play) (t : ℕ)
     → booked_by (before ++ play ∷ after) t + released_at play.segments play.start play.keep t
     ≡ booked_by (before ++ whole_play play.start play.segments ∷ after) t
-booked-cut before after play t plan =
+booked-cut before after play t =
     omega (
       arith,
       booked-around before after play t,
       booked-around before after (whole_play start segments) t,
-      share-whole segments start t plan,
+      share-whole segments start t,
       share-cut segments start keep t,
     )
   where
@@ -94,7 +94,7 @@ stands-push {old} {new} {plays} {segments} start plan first totals stands = reco
   each = λ t from. (
       let since : old.first ≤ t = omega (arith, first, from) in
       totals t since ∙ ap (λ n. n + asked_at segments start t) (stands.each t since)
-      ∙ sym (booked-push plays segments start t plan)
+      ∙ sym (booked-push plays segments start t)
       );
 }
 
@@ -104,19 +104,18 @@ pub record HasCut (old new : CalendarState) (play : Play) : Type 0 where
   pub totals : (t : ℕ) → old.first ≤ t → booked_at new t + released_at play.segments play.start play.keep t ≡ booked_at
       old t
 
-pub stands-cut : {old new : CalendarState} (before after : List Play) (play : Play) → IsPlan play.segments
-    → HasCut old new play →
+pub stands-cut : {old new : CalendarState} (before after : List Play) (play : Play) → HasCut old new play →
     Represents old (before ++ whole_play play.start play.segments ∷ after) → Represents new (before ++ play ∷ after)
-stands-cut {old} {new} before after play plan cut stands = record {
+stands-cut {old} {new} before after play cut stands = record {
   each = λ t from. (
       let since : old.first ≤ t = omega (arith, cut.first_is, from) in
-      omega (arith, cut.totals t since, stands.each t since, booked-cut before after play t plan)
+      omega (arith, cut.totals t since, stands.each t since, booked-cut before after play t)
       );
 }
 
 -- what a play that stands whole may give back
-pub cut-booked : {calendar : CalendarState} {t : ℕ} (before after : List Play) (play : Play) → IsPlan play.segments →
+pub cut-booked : {calendar : CalendarState} {t : ℕ} (before after : List Play) (play : Play) →
     Represents calendar (before ++ whole_play play.start play.segments ∷ after) → calendar.first ≤ t
     → released_at play.segments play.start play.keep t ≤ booked_at calendar t
-cut-booked {t} before after play plan stands from =
-    omega (arith, stands.each t from, booked-cut before after play t plan)
+cut-booked {t} before after play stands from =
+    omega (arith, stands.each t from, booked-cut before after play t)

@@ -35,7 +35,7 @@ pub fn law_plan_bytes_follow_running_sum()
 /// bytes that its plan sends and no others. So its release gives back in each slot what is after
 /// them.
 pub fn law_play_books_its_kept_bytes()
-    ensures whole { (segments : List Segment) (start t : ℕ) → IsPlan segments →
+    ensures whole { (segments : List Segment) (start t : ℕ) →
         share_at t (whole_play start segments) ≡ asked_at segments start t }
     ensures cut { (segments : List Segment) (start keep t : ℕ) →
         share_at t (truncated_play start segments keep) + released_at segments start keep t
@@ -45,7 +45,7 @@ pub fn law_play_books_its_kept_bytes()
         ≡ min (sent_before segments start t) keep }
 {}
 
-/// The plays that a calendar stands for never book more than the capacity, in any slot from now on.
+/// The plays that a calendar represents never book more than the capacity, in any slot from now on.
 pub fn law_plays_stay_within_capacity()
     ensures { (calendar : CalendarState) (plays : List Play) → IsCalendar calendar →
         Represents calendar plays → (t : ℕ) → calendar.first ≤ t →
@@ -55,7 +55,7 @@ pub fn law_plays_stay_within_capacity()
 /// A plan that stands booked whole may be cut after any of its bytes.
 pub fn law_booked_plan_can_be_released()
     ensures { (calendar : CalendarState) (before after : List Play) (segments : List Segment)
-        (start keep : ℕ) → IsPlan segments →
+        (start keep : ℕ) →
         Represents calendar (before ++ whole_play start segments ∷ after) →
         (t : ℕ) → calendar.first ≤ t → released_at segments start keep t ≤ booked_at calendar t }
 {}

@@ -13,7 +13,7 @@ use Rattle.admission.specs.Makers.{IsOpenAmong, entries_by}
 use Rattle.turnstile.specs.declared.view.Terms.{Terms}
 use Rattle.turnstile.specs.Passes.{PassState}
 use Rattle.turnstile.proofs.Prefixes.{prefix_self, prefix_trans}
-use Rattle.station.specs.declared.answers.Booking.{Booking}
+use Rattle.station.specs.Bookings.{Booking}
 use Rattle.station.specs.declared.answers.Looked.{Looked as Seen}
 use Rattle.station.specs.declared.answers.PlayRefused.{PlayRefused}
 use Rattle.station.specs.declared.answers.PlayRefused.TheVariants.{JournalFull, Overflow as PlayOverflow}

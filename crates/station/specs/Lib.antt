@@ -1,4 +1,5 @@
 pub mod Seats
 pub mod Ledgers
 pub mod Answers
+pub mod Bookings
 pub mod Inside

@@ -1,16 +1,44 @@
 //! What a station answers.
 
+ghost use Rattle.std.specs.Prelude.{◌≡◌};
+
 use admission::PlayFull;
 use plan_cert::Plan;
+use std::marker::Model;
 use thiserror::Error;
 
-/// A play that was admitted and not halted. It can't be dropped: `Station::halt` takes it. Its
-/// fields are public, so a caller that takes it apart has to make sure that the play is halted.
+/// A play that was admitted and not halted. It can't be dropped, and only `Station::halt` takes it:
+/// so its holder halts the play.
+///
+/// Contracts see its number and its start.
+#[derive(Debug)]
 pub struct Booking {
-    /// Its number, the place of its entry.
-    pub number: u64,
-    /// The slot in which it begins.
-    pub start: u64,
+    pub(crate) number: u64,
+    pub(crate) start: u64,
+}
+
+impl Model for Booking {
+    ghost use Rattle.station.specs.Bookings.{Booking};
+
+    ghost Value = { Booking };
+
+    ghost view = { λ b. record { number = b.number; start = b.start } };
+}
+
+impl Booking {
+    /// Returns the play's number: the place of its entry in the journal, from 0 on.
+    pub fn number(&self) -> u64
+        ensures { result ≡ self.now.number }
+    {
+        self.number
+    }
+
+    /// Returns the slot in which the play begins.
+    pub fn start(&self) -> u64
+        ensures { result ≡ self.now.start }
+    {
+        self.start
+    }
 }
 
 /// Why a play was refused.

@@ -53,7 +53,7 @@ pub fn law_play_stays_open_until_halted()
         ¬ Halts number made.entry.command → IsOpenAmong (mine ++ made ∷ []) number keep }
 {}
 
-/// What an offer tells of a play that is asked for in its place, with the same plan: admitted, it
+/// What an offer says of a play that is asked for in its place, with the same plan: admitted, it
 /// would begin in the offer's first slot; from the start that was found it would be admitted, where
 /// it is asked for so that it begins there; and where another start than the first was found, or
 /// none, it would be refused for the slot that the first start tried names.

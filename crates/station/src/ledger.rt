@@ -54,7 +54,7 @@ impl Ledger {
         Ledger { book }
     }
 
-    /// What holds of every ledger.
+    /// What each ledger satisfies.
     pub(crate) fn holds(&self)
         ensures legal { IsLegal self.now.steps self.now.entries }
         ensures halts { AreHaltsOwn self.now.entries }
@@ -74,7 +74,7 @@ impl Ledger {
         self.book.play(maker, heard, plan)
     }
 
-    /// Books a play where it is admitted, or tells why it is refused.
+    /// Books a play where it is admitted, or returns why it is refused.
     pub(crate) fn play(
         &mut self,
         maker: u32,

@@ -36,7 +36,7 @@ impl Seat {
         self.pass.number()
     }
 
-    /// What holds of every seat: it has seen a legal history over its capacity in which each play
+    /// What each seat satisfies: it has seen a legal history over its capacity in which each play
     /// is halted by its own maker, and its own entries are those of its number in it.
     pub fn holds(&self)
         ensures kept { IsSeat self.now }

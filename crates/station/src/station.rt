@@ -64,7 +64,7 @@ impl Station {
         Ok((Station { turns }, Seat { pass }))
     }
 
-    /// Asks for a play of the plan in a heard slot, as `Book::play`.
+    /// Asks for a play of the plan in a slot that has begun, as `Book::play`.
     ///
     /// # Errors
     ///
@@ -139,8 +139,8 @@ impl Station {
         told
     }
 
-    /// Finds the earliest start of a plan within a wait, asked for in a heard slot. It makes no
-    /// entry, and books nothing.
+    /// Finds the earliest start of a plan within a wait, asked for in a slot that has begun. It
+    /// makes no entry, and books nothing.
     pub fn offer<R: Wait>(
         &self,
         rt: &R,

@@ -35,7 +35,7 @@ fn play<R: Wait + Abort>(rt: &R, alloc: Global, station: &Station, seat: &mut Se
 {
     match station.play(rt, seat, 0, plan(rt, alloc)) {
         Ok(booking) => {
-            assert_eq!(rt; booking.start, 1);
+            assert_eq!(rt; booking.start(), 1);
             station.halt(rt, seat, booking, 0);
             2
         }

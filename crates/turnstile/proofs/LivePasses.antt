@@ -7,7 +7,7 @@ use mathlib.Core.Option.{some, some-injective, some-ne-none}
 use native.Mathlib.Decide.{ℕ_discrete}
 use lib.ListN.{get_elem?}
 use Rattle.atomic_table.specs.Table.{Me}
-use Rattle.atomic_table.proofs.Lists.{at_set}
+use Rattle.atomic_table.proofs.Lists.{at_set, set_else, set_here}
 use Rattle.admission.specs.declared.entries.Entry.{Entry}
 use Rattle.turnstile.specs.declared.view.Joined.{Joined}
 use Rattle.turnstile.specs.declared.view.Stage.{Stage}
@@ -15,6 +15,7 @@ use Rattle.turnstile.specs.declared.view.Stage.TheVariants.{Idle, Waits, Holds}
 use Rattle.turnstile.specs.declared.view.Terms.{Terms}
 use Rattle.turnstile.specs.declared.view.View.{View}
 use Rattle.turnstile.specs.TurnRule.{pass_count, ticket_count, has_ticket, Apart, IsLive, IsTicket, InTurn, Fits}
+use Rattle.turnstile.specs.TurnRule.{HasFirst}
 use Rattle.turnstile.specs.Steps.{slot_list}
 use Rattle.turnstile.proofs.Prefixes.{prefix_longer, made_other}
 
@@ -82,6 +83,7 @@ restage f turn = record {
   past = f.past;
   few = f.few;
   first = f.first;
+  others = f.others;
   turn = turn;
 }
 
@@ -101,6 +103,23 @@ live_set P views id w mine others j u live = ⊎_elim
     (λ (t : (j ≡ id) × (w ≡ u)). subst (λ (x : ℕ × View). P x.0 x.1) (λ i. (sym t.0 i, t.1 i)) mine)
     (λ (t : (j ≢ id) × (get_elem? views j ≡ some u)). others j u t.0 (t.1, live.1))
     (at_set views id j w u live.0)
+
+-- a pass of the number 0 is there, also when one has changed and kept its number
+pub first_set : {views : List View} {v : View} (id : ℕ) (w : View) → IsLive views id v → w.spent ≡ false → w.number ≡ v.number
+    → HasFirst views → HasFirst (set views id w)
+first_set {views} {v} id w live left same first = dite (ℕ_discrete first.place id)
+    (λ (here : first.place ≡ id). record {
+      place = id;
+      view = w;
+      live = (set_here views id w (at_inside views id v live.0), left);
+      number_is = same ∙ ap (λ (u : View). u.number) (one_at views live.0 first.live.0 here) ∙ first.number_is;
+    })
+    (λ (other : first.place ≢ id). record {
+      place = first.place;
+      view = first.view;
+      live = (set_else views id first.place w other ∙ first.live.0, first.live.1);
+      number_is = first.number_is;
+    })
 
 -- two passes of which one has changed stand apart, where no ticket is of both
 pub apart_both : {w u : View} → w.number ≢ u.number → ((t : ℕ) → IsTicket w.stage t → IsTicket u.stage t → ⊥)
@@ -173,5 +192,6 @@ longer_list {log} {u} e f other past = record {
       };
   few = f.few;
   first = f.first;
+  others = f.others;
   turn = f.turn;
 }

@@ -5,25 +5,25 @@ use Rattle.std.proofs.Common.{◌∙◌, subst, ⊎_elim, inl, inr, arith, cond,
 use mathlib.Core.Logic.{dite}
 use mathlib.Core.List.{IsPrefix}
 use mathlib.Core.Option.{some, some-injective, some-ne-none}
-use native.Mathlib.Decide.{dec_le}
+use native.Mathlib.Decide.{dec_le, ℕ_discrete}
 use lib.ListN.{get_elem?}
 use Rattle.std.proofs.lemmas.Bool.{lt-ltb, le-ltb}
 use Rattle.atomic_table.specs.Table.{State, Splits, Joins, opening}
-use Rattle.atomic_table.proofs.Lists.{at_set, set_else, at_longer}
+use Rattle.atomic_table.proofs.Lists.{at_set, set_else, set_here, at_longer}
 use Rattle.admission.specs.declared.entries.Entry.{Entry}
 use Rattle.turnstile.specs.declared.view.Joined.{Joined}
 use Rattle.turnstile.specs.declared.view.Stage.TheVariants.{Idle}
 use Rattle.turnstile.specs.declared.view.Terms.{Terms}
 use Rattle.turnstile.specs.declared.view.View.{View}
 use Rattle.admission.specs.Makers.{entries_by}
-use Rattle.turnstile.specs.TurnRule.{pass_count, ticket_count, has_ticket, IsLive, IsPast, Fits, Apart, IsRuled}
+use Rattle.turnstile.specs.TurnRule.{pass_count, ticket_count, has_ticket, IsLive, IsPast, Fits, Apart, HasFirst, IsRuled}
 use Rattle.turnstile.specs.Passes.{longer_list}
 use Rattle.turnstile.specs.Steps.{shorter_list, first_view, view_after_split, split_view, joined_record}
 use Rattle.turnstile.specs.Steps.{view_after_join}
 use Rattle.turnstile.specs.Steps.{spent_view}
 use Rattle.turnstile.proofs.Prefixes.{prefix_shorter, made_nothing, made_between}
 use Rattle.turnstile.proofs.PassSums.{total_set, total_push}
-use Rattle.turnstile.proofs.LivePasses.{lives, waits_in, idle_free, Free, one_at, EachLive, live_set}
+use Rattle.turnstile.proofs.LivePasses.{lives, waits_in, idle_free, at_inside, first_set, Free, one_at, EachLive, live_set}
 use Rattle.turnstile.proofs.StepRules.{place_other}
 use Rattle.turnstile.proofs.StepRules as step
 
@@ -99,6 +99,7 @@ one_more f other = record {
       record { mine = p.mine; few = (let a = p.few in omega arith); other = p.other };
   few = (let a = f.few in omega arith);
   first = λ zero. absurd (other zero);
+  others = f.others;
   turn = f.turn;
 }
 
@@ -123,6 +124,41 @@ live_join P join mine others j u live = ⊎_elim
     (at_set (set views id b) other j x u live.0)
   where
     open join use {views, id, other, joined as b, remnant as x, gone}
+
+-- a pass of the number 0 is there after one more has come, and after another pass was joined
+first_push : {views : List View} (x : View) → HasFirst views → HasFirst (views ++ x ∷ [])
+first_push {views} x first = record {
+  place = first.place;
+  view = first.view;
+  live = (at_longer views (x ∷ []) first.place first.view first.live.0, first.live.1);
+  number_is = first.number_is;
+}
+
+first_join : {v : View} (join : Join) → IsLive join.views join.id v → join.joined.spent ≡ false
+    → join.joined.number ≡ v.number → join.other ≢ join.id → (first : HasFirst join.views)
+    → first.place ≢ join.other
+    → HasFirst (set (set join.views join.id join.joined) join.other join.remnant)
+first_join {v} join live left same apart first away = dite (ℕ_discrete first.place id)
+    (λ (here : first.place ≡ id). record {
+      place = id;
+      view = b;
+      live = (
+        set_else (set views id b) other id x (λ e. apart (sym e)) ∙ set_here views id b (at_inside views id v live.0),
+        left,
+      );
+      number_is = same ∙ ap (λ (u : View). u.number) (one_at views live.0 first.live.0 here) ∙ first.number_is;
+    })
+    (λ (ne : first.place ≢ id). record {
+      place = first.place;
+      view = first.view;
+      live = (
+        set_else (set views id b) other first.place x away ∙ (set_else views id first.place b ne ∙ first.live.0),
+        first.live.1,
+      );
+      number_is = first.number_is;
+    })
+  where
+    open join use {views, id, other, joined as b, remnant as x}
 
 -- two live passes
 record TwoLive (views : List View) : Type 0 where
@@ -225,6 +261,7 @@ module _ {B : Type 0} (entries : B → List Entry) (terms_of : B → Terms) (ter
                   f.past k j j_at in record { mine = p.mine; few = (let a = p.few in omega arith); other = p.other };
               few = (let a = f.few in omega arith);
               first = λ _. omega arith;
+              others = λ other. absurd (other head);
               turn = f.turn;
             })
             (record {
@@ -237,6 +274,7 @@ module _ {B : Type 0} (entries : B → List Entry) (terms_of : B → Terms) (ter
               past = λ k j e. absurd (none_there k j e);
               few = omega arith;
               first = λ e. absurd (omega arith);
+              others = λ _. refl;
               turn = tt;
             })
             (λ j u other l. one_more (r.each j u l) (theirs j u other l));
@@ -275,6 +313,7 @@ module _ {B : Type 0} (entries : B → List Entry) (terms_of : B → Terms) (ter
             (λ j z _ k ne. r.apart i j y z ne l k)
             j z lz ne)
             i y ly ne;
+        first_pass = first_push x (first_set id w (at, left) left refl r.first_pass);
         where_is = place_push r.log (record { words = s.words; homes = s.homes; views = set s.views id w }) x refl
             (place_other entries terms_of terms r.log s
             (record {
@@ -365,6 +404,7 @@ module _ {B : Type 0} (entries : B → List Entry) (terms_of : B → Terms) (ter
             (at_either v.joined (joined_record w ∷ w.joined) k j at);
         few = f.few;
         first = f.first;
+        others = f.others;
         turn = f.turn;
       }
     where
@@ -378,9 +418,9 @@ module _ {B : Type 0} (entries : B → List Entry) (terms_of : B → Terms) (ter
       at_past (suc i) j e = let g = r.each other w wlive in let p = g.past i j e in
           record { mine = p.mine; few = p.few; other = (r.apart other id w v apart wlive live).past i j e }
 
-  pub joins : (id : ℕ) (v : View) (other : ℕ) (w : View) → AtRest v → AtRest w
+  pub joins : (id : ℕ) (v : View) (other : ℕ) (w : View) → AtRest v → AtRest w → w.number ≢ 0
       → Joins Rule id v other w (view_after_join v w) spent_view
-  joins id v other w rest other_rest s r at apart wat =
+  joins id v other w rest other_rest not_first s r at apart wat =
       let b : View = view_after_join v w in let x : View = spent_view in
       let w_at : get_elem? s.views other ≡ some w = sym (set_else s.views id other b apart) ∙ wat in
       let live : IsLive s.views id v = (at, left) in let wlive : IsLive s.views other w = (w_at, wleft) in
@@ -424,6 +464,10 @@ module _ {B : Type 0} (entries : B → List Entry) (terms_of : B → Terms) (ter
             (λ j z _ _ k ne. r.apart i j y z ne l k)
             j z lz ne)
             i y ly ne;
+        first_pass =
+            first_join join live left refl apart r.first_pass
+            (λ e. not_first (ap (λ (u : View). u.number) (one_at s.views w_at r.first_pass.live.0 e)
+            ∙ r.first_pass.number_is));
         where_is = place_join s r.log
             (record {
               two = two;
@@ -462,9 +506,11 @@ module _ {B : Type 0} (entries : B → List Entry) (terms_of : B → Terms) (ter
       past = λ k j e. absurd (none_there k j e);
       few = omega arith;
       first = λ _. refl;
+      others = λ _. refl;
       turn = tt;
     }) i v live;
     apart = λ i j v w ne l k. absurd (ne (only (λ i _. i ≡ 0) refl i v l ∙ sym (only (λ i _. i ≡ 0) refl j w k)));
+    first_pass = record { place = 0; view = first_view terms; live = (refl, refl); number_is = refl };
     where_is = inl record {
       value = value;
       home = refl;

@@ -25,7 +25,7 @@ use Rattle.turnstile.proofs.Prefixes.{prefix_self, prefix_trans, prefix_longer, 
 use Rattle.turnstile.proofs.PassSums.{total_set, tickets_total}
 use Rattle.turnstile.proofs.LivePasses.{lives, waits_in, ticket_or, Free, idle_free, waits_free, ticket_low, turn_more}
 use Rattle.turnstile.proofs.LivePasses.{turn_next, at_inside, apart_both, one_at, restage, refit}
-use Rattle.turnstile.proofs.LivePasses.{live_set, FreeChange, Waiter, Holder, EmptyWaiter, GrownHolder, longer_list}
+use Rattle.turnstile.proofs.LivePasses.{first_set, live_set, FreeChange, Waiter, Holder, EmptyWaiter, GrownHolder, longer_list}
 
 module _ {B : Type 0} (entries : B → List Entry) (terms_of : B → Terms) (terms : Terms) where
   abbrev pub St : Type 0
@@ -47,6 +47,7 @@ module _ {B : Type 0} (entries : B → List Entry) (terms_of : B → Terms) (ter
     pub new : View
     pub live : IsLive s.views id old
     pub left : new.spent ≡ false
+    pub same : new.number ≡ old.number
     pub log : List Entry
     pub drawn : ℕ
     pub served : ℕ
@@ -82,10 +83,11 @@ module _ {B : Type 0} (entries : B → List Entry) (terms_of : B → Terms) (ter
         (λ i x other l ne. live_set (λ j y. i ≢ j → Apart x y) s.views id w (λ _. (others i x other l).2)
         (λ j y _ k ne. r.apart i j x y ne l k) j y ly ne)
         i x lx ne;
+    first_pass = first_set id w live left same r.first_pass;
     where_is = place;
   }
     where
-      open c use {id, old as v, new as w, live, left, log, drawn, served, words_are, queue, makers, fits, others, place}
+      open c use {id, old as v, new as w, live, left, same, log, drawn, served, words_are, queue, makers, fits, others, place}
 
   pub place_other : (log : List Entry) (s : St) (c : FreeChange s.views) (words : List ℕ) → Place log s
       → Place log record { words = words; homes = s.homes; views = set s.views c.id c.new }
@@ -145,6 +147,7 @@ module _ {B : Type 0} (entries : B → List Entry) (terms_of : B → Terms) (ter
           new = w;
           live = (at, left);
           left = left;
+          same = refl;
           log = r.log;
           drawn = r.drawn + 1;
           served = r.served;
@@ -218,6 +221,7 @@ module _ {B : Type 0} (entries : B → List Entry) (terms_of : B → Terms) (ter
         new = w;
         live = (at, left);
         left = left;
+        same = refl;
         log = r.log;
         drawn = r.drawn;
         served = r.served;
@@ -236,6 +240,7 @@ module _ {B : Type 0} (entries : B → List Entry) (terms_of : B → Terms) (ter
           past = f.past;
           few = f.few;
           first = f.first;
+          others = f.others;
           turn = (now, drawn);
         };
         others = λ j u other l. let g = r.each j u l in let a =
@@ -344,6 +349,7 @@ module _ {B : Type 0} (entries : B → List Entry) (terms_of : B → Terms) (ter
         new = w;
         live = live;
         left = live.1;
+        same = refl;
         log = log;
         drawn = r.drawn;
         served = r.served;
@@ -370,6 +376,7 @@ module _ {B : Type 0} (entries : B → List Entry) (terms_of : B → Terms) (ter
               };
           few = f.few;
           first = f.first;
+          others = f.others;
           turn = f.turn;
         };
         others = λ j u other l. let g = r.each j u l in let a =
@@ -434,6 +441,7 @@ module _ {B : Type 0} (entries : B → List Entry) (terms_of : B → Terms) (ter
           new = w;
           live = (at, left);
           left = left;
+          same = refl;
           log = r.log;
           drawn = r.drawn;
           served = r.served + 1;

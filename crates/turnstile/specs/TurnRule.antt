@@ -66,6 +66,7 @@ pub record Fits (terms : Terms) (log : List Entry) (count served drawn : ℕ) (v
   pub past : (k : ℕ) (j : Joined) → get_elem? v.joined k ≡ some j → IsPast log count v.number j
   pub few : v.number ≤ count
   pub first : v.number ≡ 0 → v.splits ≡ count
+  pub others : v.number ≢ 0 → v.splits ≡ 0
   pub turn : InTurn served drawn v.stage
 
 -- what holds of two of them
@@ -73,6 +74,14 @@ pub record Apart (v w : View) : Type 0 where
   pub numbers : v.number ≢ w.number
   pub tickets : (t : ℕ) → IsTicket v.stage t → IsTicket w.stage t → ⊥
   pub past : (k : ℕ) (j : Joined) → get_elem? v.joined k ≡ some j → j.number ≢ w.number
+
+-- a pass that isn't spent has the number 0; no other has it, since two of them differ in their
+-- numbers
+pub record HasFirst (views : List View) : Type 0 where
+  pub place : ℕ
+  pub view : View
+  pub live : IsLive views place view
+  pub number_is : view.number ≡ 0
 
 -- the value is away with the one pass that has the turn
 pub record IsAway {B : Type 0} (log : List Entry) (s : State (Option B) View) : Type 0 where
@@ -105,4 +114,5 @@ module _ {B : Type 0} (entries : B → List Entry) (terms_of : B → Terms) wher
     pub makers : (m : ℕ) → count < m → entries_by m log ≡ []
     pub each : (i : ℕ) (v : View) → IsLive s.views i v → Fits terms log count served drawn v
     pub apart : (i j : ℕ) (v w : View) → i ≢ j → IsLive s.views i v → IsLive s.views j w → Apart v w
+    pub first_pass : HasFirst s.views
     pub where_is : IsHome terms log s ⊎ IsAway log s

@@ -20,14 +20,14 @@ use crate::view::View;
 use atomic_table::Play;
 use std::marker::PhantomData;
 
-/// What drawing a ticket tells.
+/// What drawing a ticket exposes.
 pub(crate) struct Draws;
 
 impl<B> Play<Option<B>, View> for Draws {
     ghost then = { λ _. HasDrawn };
 }
 
-/// What a look at the ticket whose turn it is tells.
+/// What a look at the ticket whose turn it is exposes.
 pub(crate) struct Looks<B> {
     marker: PhantomData<B>,
 }
@@ -36,7 +36,7 @@ impl<B: Kept> Play<Option<B>, View> for Looks<B> {
     ghost then = { λ _. HasLooked B.entries B.terms };
 }
 
-/// What counting an entry tells.
+/// What counting an entry exposes.
 pub(crate) struct Counts<B> {
     marker: PhantomData<B>,
 }
@@ -45,14 +45,14 @@ impl<B: Kept> Play<Option<B>, View> for Counts<B> {
     ghost then = { λ _. HasCounted B.entries };
 }
 
-/// What giving the turn on tells.
+/// What giving the turn on exposes.
 pub(crate) struct Leaves;
 
 impl<B> Play<Option<B>, View> for Leaves {
     ghost then = { λ _. HasLeft };
 }
 
-/// What reading a word tells of what the pass knows.
+/// What reading a word exposes of what the pass knows.
 pub(crate) struct Reads;
 
 impl<B> Play<Option<B>, View> for Reads {
@@ -105,7 +105,7 @@ pub(crate) fn give_back<B: Kept>(shared: &SharedTable<B>, place: &mut Place<B>) 
     shared.fetch_add::<Leaves>(place, SERVING, 1)
 }
 
-/// Reads a word, which tells what the pass knows and changes nothing.
+/// Reads a word, which exposes what the pass knows and changes nothing.
 pub(crate) fn read_view<B: Kept>(shared: &SharedTable<B>, place: &mut Place<B>)
     requires seat { IsSeated shared.now.table_id place.old }
     requires left { place.old.me.0.spent ≡ false }

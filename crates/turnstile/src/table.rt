@@ -19,7 +19,7 @@ pub(crate) const ENTRIES: usize = 2;
 /// The slot of the value.
 pub(crate) const VALUE: usize = 0;
 
-/// The rule of the turn: what holds of the words, the slot and the views at each moment.
+/// The rule of the turn: what is true of the words, the slot and the views at each moment.
 pub(crate) struct Turns<B> {
     marker: PhantomData<B>,
 }

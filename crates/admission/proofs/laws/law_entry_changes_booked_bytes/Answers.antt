@@ -2,11 +2,11 @@ use Rattle.admission.proofs.BookedBytes.{booked-admitted, booked_halted, booked-
 use Rattle.admission.proofs.laws.law_entry_changes_booked_bytes.Goals as goal
 
 pub returns-clause-admitted : goal.returns-clause-admitted
-returns-clause-admitted c = λ xs maker slot start t segments. booked-admitted xs maker slot start t
+returns-clause-admitted c = booked-admitted
 
 pub returns-clause-halted : goal.returns-clause-halted
-returns-clause-halted c = λ steps xs maker number keep start t segments legal plan admission.
-    booked_halted maker keep t plan (record { legal = legal; admission = admission })
+returns-clause-halted c = λ steps xs maker number keep start t segments legal admission.
+    booked_halted maker keep t (record { legal = legal; admission = admission })
 
 pub returns-clause-others : goal.returns-clause-others
 returns-clause-others c = booked-other

@@ -58,7 +58,7 @@ release-requires-clause-booked c =
     cut-allowed c.args.keep (whole (goal.at.release-requires-clause-booked c).After-law_booked_plan_can_be_released)
     c.requires.follows.stands
     (λ before after. c.law_booked_plan_can_be_released.ensures c.args.calendar.now before after c.in-Play.plan
-    c.in-Admitted.start c.args.keep c.segments-plan.ensures.plan)
+    c.in-Admitted.start c.args.keep)
 
 pub returns-clause-next : goal.returns-clause-next
 returns-clause-next c = λ place. record {

@@ -1,5 +1,8 @@
-use Rattle.std.proofs.Common.{◌<◌, length, ◌∙◌, arith}
+use Rattle.std.proofs.Common.{◌<◌, length, sym, subst, ◌∙◌, arith}
+use Rattle.std.proofs.lemmas.List.{take_more}
+use Rattle.day_run.specs.DayLaws.{AreClients}
 use Rattle.day_run.proofs.LineSequenceLemmas.{run-next}
+use Rattle.day_run.proofs.ScriptLines.{clients-more}
 use Rattle.day_run.proofs.SourceMedia.{heard-next}
 use Rattle.day_run.proofs.script_run.run_lines.Goals as goal
 
@@ -19,6 +22,9 @@ loop-line-preserved c =
         media = ran.kept.media ∙ inv.kept.media;
       };
       heard = heard-next c.args.lines.now (record { index = i; none = _; inside = inside }) ran.heard inv.heard;
+      clients =
+          let i_one = sym (take_more c.args.lines.now i _ inside) in
+          subst AreClients i_one (clients-more _ inv.clients c.run_line.ensures.client);
       run =
           run-next c.args.lines.now (record { index = i; none = _; inside = inside }) inv.kept.link inv.run ran.line;
     }

@@ -13,7 +13,7 @@ returns-clause-small c =
     omega (
       arith,
       sent-one s 0 c.args.count (one-some s c.requires.plan) c.requires.within,
-      sent-most (s ∷ []) 0 (0 + c.args.count) c.requires.plan.no_empty,
+      sent-most (s ∷ []) 0 (0 + c.args.count),
       one-bytes s,
       c.first_bytes.ensures,
     )

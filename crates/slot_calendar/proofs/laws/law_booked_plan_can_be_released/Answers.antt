@@ -3,5 +3,5 @@ use Rattle.slot_calendar.proofs.PlayShares.{cut-booked}
 use Rattle.slot_calendar.proofs.laws.law_booked_plan_can_be_released.Goals as goal
 
 pub returns : goal.returns
-returns c = λ calendar before after segments start keep plan stands t from.
-    cut-booked before after (truncated_play start segments keep) plan stands from
+returns c = λ calendar before after segments start keep stands t from.
+    cut-booked before after (truncated_play start segments keep) stands from

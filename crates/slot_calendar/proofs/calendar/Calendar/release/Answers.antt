@@ -26,7 +26,7 @@ returns-then-saturating_sub-lt-RING_SLOTS-clause-stands c = λ before after stan
           ∙ c.release_segments.ensures.totals t (omega (arith, from, first))
           ∙ ap (λ e. booked_at e t) c.self.view_is;
     } in
-    stands-cut before after play c.segments-segments.ensures.plan cut stands
+    stands-cut before after play cut stands
     )
 
 pub returns-else-saturating_sub-lt-RING_SLOTS-clause-stands :
@@ -44,5 +44,5 @@ returns-else-saturating_sub-lt-RING_SLOTS-clause-stands c = λ before after stan
       first_is = refl;
       totals = λ t from. (let none = cut-none t past_all from in omega (arith, none));
     } in
-    stands-cut before after play c.segments-segments.ensures.plan cut stands
+    stands-cut before after play cut stands
     )

@@ -1,4 +1,9 @@
-use Rattle.std.proofs.Common.{◌∙◌}
+use Rattle.std.proofs.Common.{subst, ◌∙◌}
+use Rattle.admission.specs.declared.entries.Answer.TheVariants.{Halted}
+use Rattle.admission.specs.declared.entries.Command.TheVariants.{Halt}
+use Rattle.station.specs.Answers.{HasMadeEntry}
+use Rattle.station.specs.Bookings.{Booking}
+use Rattle.station.specs.Inside.{seat_of}
 use Rattle.station.proofs.SeatTurns.{IsVisit, entered_longer, visit, visit_made, visit_same}
 use Rattle.station.proofs.station.Station.halt.Goals as goal
 use Rattle.station.proofs.station.Station.halt.Goals.{After-leave}
@@ -21,4 +26,6 @@ returns-clause-same g c =
 pub returns-clause-made : goal.returns-clause-made
 returns-clause-made g c =
     let is = visited g (goal.at.returns-clause-made g c).After-leave in
-    visit_made is c.halt-place.ensures
+    subst (λ (b : Booking). HasMadeEntry c.args.seat.now (seat_of c.leave.new.pass) 0 (Halt b.number c.args.keep)
+    c.halt-place.result Halted) c.booking.view_is
+    (visit_made is c.halt-place.ensures)

@@ -13,5 +13,6 @@ join_seat-requires g c =
       joins g.B.Kept.entries g.B.Kept.terms (g.B.Kept.terms c.self.inside.table.shared.key.value)
           c.take_seat-place.result.id c.take_seat-place.result.me.0
           c.take_seat-theirs.result.id c.take_seat-theirs.result.me.0 record { left = free.left; idle = free.idle }
-          record { left = theirs.left; idle = theirs.idle },
+          record { left = theirs.left; idle = theirs.idle }
+          (λ first. c.requires.not_first (ap (λ p. p.number) c.take_seat-theirs.ensures.old ∙ first)),
     )

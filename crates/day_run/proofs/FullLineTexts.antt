@@ -1,0 +1,160 @@
+-- Which lines of a day say that the journal is full, and what they then say.
+use Rattle.std.proofs.Common.{◌≡◌, ◌<◌, ◌≤◌, ◌+◌, ◌^◌, ◌%◌, ℕ, true, false, true≢false, List, [], ◌∷◌, ◌++◌, length, take}
+use Rattle.std.proofs.Common.{Option, Some, None, arith, refl, sym, ap, subst, ◌∙◌, inl, inr}
+use Rattle.std.specs.Prelude.{◌⊎◌, codes, count_by, decimal, flat_map}
+use Rattle.std.specs.Str.{bytes_eq}
+use Rattle.std.proofs.lemmas.List.{append-nil, append_assoc}
+use Rattle.early_start.specs.declared.Tried.{Tried}
+use Rattle.early_start.specs.StartSearch.{Offers}
+use Rattle.wire_curve.specs.declared.film.CurveFault.{CurveFault}
+use Rattle.wire_curve.specs.declared.film.CurveFault.TheVariants.{BufferTooSmall, NoPictures, TooManySlots}
+use Rattle.admission.specs.declared.entries.Entry.{Entry}
+use Rattle.admission.specs.Books.{places_taken}
+use Rattle.admission.specs.Histories.{open_count}
+use Rattle.report.specs.EntryLines.{entry_line}
+use Rattle.day_run.specs.declared.scripts.Line.{Line}
+use Rattle.day_run.specs.declared.scripts.Line.TheVariants as lines
+use Rattle.day_run.specs.BookingBalance.{IsReady}
+use Rattle.day_run.specs.ClientStates.{ClientState, Idle, Playing, Pausing, Paused, Rest, is_playing}
+use Rattle.day_run.specs.Days.{IsAsked, IsFull, IsLine, IsLookLine, IsNoted, IsOfferLine, IsPauseLine, IsResumeLine}
+use Rattle.day_run.specs.Days.{IsTold, Link, DayState, rest_at, slot_lines, state_at}
+use Rattle.day_run.specs.FairDays.{IsDone, is_full_line, line_drawn}
+use Rattle.day_run.specs.JournalLaws.{IsFullJournal, places_needed}
+use Rattle.day_run.specs.LineTexts.{fault_text, full_text, offer_text, state_text}
+use Rattle.day_run.proofs.FullJournalLines.{entry-other}
+use Rattle.day_run.proofs.ScriptLineFacts.{IsPlayTaken, LineStep}
+
+-- the line says something else, or the journal is full
+abbrev OtherOrFull : LineStep → ℕ → Type 0
+OtherOrFull step needed = (is_full_line step.text ≡ false) ⊎ IsFull step.link needed step.old step.new step.text
+
+told-other : {told text : List ℕ} {old new : DayState} → IsTold told old new text → is_full_line told ≡ false
+    → is_full_line text ≡ false
+told-other is other = ap is_full_line is.text_is ∙ other
+
+noted-other : {link : Link} {entry : Entry} {states : List ClientState} {old new : DayState} {text : List ℕ}
+    → length old.entries < 2 ^ 64 → IsNoted link entry states old new text → is_full_line text ≡ false
+noted-other {entry} {old} small is =
+    let line = entry_line (length old.entries) entry in
+    ap is_full_line (is.text_is ∙ sym (append-nil line)) ∙ entry-other (length old.entries) entry [] small
+
+fault-other : (fault : CurveFault) → is_full_line (fault_text fault) ≡ false
+fault-other NoPictures = refl
+fault-other (TooManySlots slots) = refl
+fault-other (BufferTooSmall slot used least) = refl
+
+asked-text : {c : ℕ} {rest : Rest} (step : LineStep) → length step.old.entries < 2 ^ 64
+    → IsAsked step.link c rest step.old step.new step.text → OtherOrFull step 2
+asked-text step small (inl faulty) = inl (told-other faulty.told (fault-other faulty.fault))
+asked-text step small (inr planned) = elim planned.done [
+  | inl full ↦ inr full
+  | inr made ↦ inl (noted-other small made.noted)
+]
+
+play-text : (step : LineStep) (c : ℕ) (rest : Rest) (state : ClientState) → length step.old.entries < 2 ^ 64
+    → IsPlayTaken step c rest state → OtherOrFull step 2
+play-text step c rest Idle small is = asked-text step small is
+play-text step c rest (Playing play) small is = inl (told-other is refl)
+play-text step c rest (Pausing stop left) small is = inl (told-other is refl)
+play-text step c rest (Paused left) small is = asked-text step small is
+
+resume-text : (step : LineStep) (c : ℕ) (state : ClientState) → length step.old.entries < 2 ^ 64
+    → IsResumeLine step.link c state step.old step.new step.text → OtherOrFull step 2
+resume-text step c Idle small is = inl (told-other is refl)
+resume-text step c (Playing play) small is = inl (told-other is refl)
+resume-text step c (Pausing stop rest) small is = inl (told-other is refl)
+resume-text step c (Paused rest) small is = asked-text step small is
+
+pause-text : (step : LineStep) (c : ℕ) (state : ClientState) → length step.old.entries < 2 ^ 64
+    → IsPauseLine step.link c state step.old step.new step.text → is_full_line step.text ≡ false
+pause-text step c Idle small is = told-other is refl
+pause-text step c (Playing play) small is = noted-other small is.noted
+pause-text step c (Pausing stop rest) small is = told-other is refl
+pause-text step c (Paused rest) small is = told-other is refl
+
+look-text : {slot : ℕ} (step : LineStep) → length step.old.entries < 2 ^ 64
+    → IsLookLine step.link slot step.old step.new step.text → OtherOrFull step 1
+look-text step small (inl full) = inr full
+look-text step small (inr made) = inl (noted-other small made.noted)
+
+slot-other : (old : DayState) (slot : ℕ) → is_full_line (slot_lines old slot) ≡ false
+slot-other old slot = refl
+
+offer-other : (tried : List Tried) (start : Option ℕ) (wait : ℕ)
+    → is_full_line (offer_text (record { wait = wait; start = start; tried = tried })) ≡ false
+offer-other [] None wait = refl
+offer-other [] (Some start) wait = refl
+offer-other (t ∷ tried) start wait = refl
+
+offer-line-text : {rest : Rest} {wait : ℕ} (step : LineStep)
+    → IsOfferLine step.link rest wait step.old step.new step.text → is_full_line step.text ≡ false
+offer-line-text step (inl faulty) = told-other faulty.told (fault-other faulty.fault)
+offer-line-text step (inr offered) =
+    told-other offered.told (offer-other offered.found.tried offered.found.start offered.found.wait)
+
+line-text : (step : LineStep) (line : Line) → length step.old.entries < 2 ^ 64
+    → IsLine step.link line step.old step.new step.text → OtherOrFull step (places_needed line)
+line-text step (lines.Play c source buffer delay) small is =
+    play-text step c (rest_at step.link source buffer delay) (state_at step.old c) small is
+line-text step (lines.Pause c) small is = inl (pause-text step c (state_at step.old c) small is)
+line-text step (lines.Resume c) small is = resume-text step c (state_at step.old c) small is
+line-text step (lines.Look slot) small is = look-text step small is
+line-text step (lines.Slot slot) small is = inl (ap is_full_line is.1 ∙ slot-other step.old slot)
+line-text step (lines.Offer c source buffer delay wait) small is = inl (offer-line-text step is)
+
+-- the text of a full journal in its parts
+abbrev full-words : ℕ → ℕ → List ℕ
+full-words entries open_plays =
+    codes "refused journal entries=" ++ decimal entries ++ codes " open=" ++ decimal open_plays ++ codes "\n"
+
+text-parts : (entries open_plays : ℕ)
+    → full_text (record { entries = entries; live = open_plays }) ≡ full-words entries open_plays
+text-parts entries open_plays =
+    let first : List ℕ = codes "refused journal entries=" in
+    let second : List ℕ = codes " open=" in
+    let end : List ℕ = codes "\n" in
+    ap (λ t. t ++ end) (sym (append_assoc (first ++ decimal entries) second (decimal open_plays)))
+
+-- what is said of a full journal is true of it
+pub record SaysFull (link : Link) (needed : ℕ) (old new : DayState) (text : List ℕ) : Type 0 where
+  pub kept : new ≡ old
+  pub says : IsFullJournal link needed old text
+
+pub full-line : (step : LineStep) (line : Line) → IsReady step.old → length step.old.entries < 2 ^ 64
+    → IsLine step.link line step.old step.new step.text → take 15 step.text ≡ codes "refused journal"
+    → SaysFull step.link (places_needed line) step.old step.new step.text
+full-line step line ready small is begins = elim (line-text step line small is) [
+  | inl other ↦ (
+      let bytes : List ℕ = codes "refused journal" in
+      let said : is_full_line step.text ≡ true = ap (λ t. bytes_eq t bytes) begins in
+      absurd (true≢false (sym said ∙ other))
+      )
+  | inr full ↦ record {
+    kept = full.told.kept;
+    says = record {
+      full = omega (arith, full.full, ready.balanced.playing);
+      text_is = full.told.text_is
+          ∙ text-parts (length step.old.entries) (open_count step.old.entries)
+          ∙ ap (full-words (length step.old.entries)) ready.balanced.playing;
+    };
+  }
+]
+
+-- ---- a large day
+pub done-text : (c : ℕ) (step : LineStep) (words : ℕ → ℕ) (state : ClientState) → length step.old.entries < 2 ^ 64
+    → IsDone step.link (line_drawn words c state) step.old step.new step.text → OtherOrFull step 2
+done-text c step words Idle small is =
+    line-text step (lines.Play c (words 0 % 16) (16384 + words 1 % 16384) (words 2 % 26)) small is
+done-text c step words (Playing play) small is = line-text step (lines.Pause c) small is
+done-text c step words (Pausing stop rest) small is = inl (told-other is refl)
+done-text c step words (Paused rest) small is = line-text step (lines.Resume c) small is
+
+-- where there is room for a play, the journal isn't said to be full
+pub done-other : (c : ℕ) (step : LineStep) (words : ℕ → ℕ) (state : ClientState)
+    → places_taken step.old.entries + 2 ≤ step.link.limit → step.link.limit < 2 ^ 64
+    → IsDone step.link (line_drawn words c state) step.old step.new step.text → is_full_line step.text ≡ false
+done-other c step words state room small is =
+    elim (done-text c step words state (omega (arith, room, small)) is) [
+      | inl other ↦ other
+      | inr full ↦ absurd (omega (arith, full.full, room))
+    ]

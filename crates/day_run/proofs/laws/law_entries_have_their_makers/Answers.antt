@@ -1,0 +1,20 @@
+use Rattle.day_run.proofs.JournalMakers.{line-made}
+use Rattle.day_run.proofs.LineBalance.{taken-ready}
+use Rattle.day_run.proofs.ScriptLineFacts.{LinesTaken}
+use Rattle.day_run.proofs.SlotBalance.{last-halted}
+use Rattle.day_run.proofs.laws.law_entries_have_their_makers.Goals as goal
+
+pub returns-clause-line : goal.returns-clause-line
+returns-clause-line c = line-made
+
+pub returns-clause-halts : goal.returns-clause-halts
+returns-clause-halts c = λ link sources lines texts moment clients are run.
+    let taken : LinesTaken link sources =
+    record { lines = lines; texts = texts; moment = moment; clients = clients; are = are; run = run } in
+    (taken-ready taken).balanced.halts.own
+
+pub returns-clause-end : goal.returns-clause-end
+returns-clause-end c = λ link sources lines texts moment clients are run.
+    let taken : LinesTaken link sources =
+    record { lines = lines; texts = texts; moment = moment; clients = clients; are = are; run = run } in
+    (last-halted moment (taken-ready taken).balanced).balanced.halts.own
