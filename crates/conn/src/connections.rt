@@ -297,7 +297,7 @@ impl<'a> Connection<'a> {
         seat.holds();
         match station.play(rt, seat, self.session.heard_slot(), plan) {
             Ok(booking) => {
-                self.session.admitted(booking.number, booking.start);
+                self.session.admitted(booking.number(), booking.start());
                 hold(&mut self.booking, booking);
             }
             Err(refused) => hear_refusal(&mut self.session, refused),
