@@ -1,7 +1,7 @@
 //! Laws on every course of a connection, on its bytes and its report, each a contract without a
 //! body.
 
-ghost use Rattle.std.specs.Prelude.{◌≡◌, ◌+◌, ◌++◌, ◌∷◌, [], ℕ, List, map};
+ghost use Rattle.std.specs.Prelude.{◌≡◌, ◌+◌, ◌++◌, ◌∷◌, [], ℕ, List, None, Option, map};
 ghost use Rattle.vod_base.specs.Links.{IoEvent, HeardSlot};
 ghost use Rattle.film_frames.specs.declared.stored_films.Stored.{Stored};
 ghost use Rattle.session.specs.SettingRanges.{AreFilms};
@@ -10,10 +10,16 @@ ghost use Rattle.conn.specs.Films.{rounds_film};
 ghost use Rattle.conn.specs.EventSteps.{EndsInReply, HasFailedInSlot, IsStopped, Round, Runs};
 ghost use Rattle.conn.specs.EventSteps.{RunsAll};
 ghost use Rattle.conn.specs.EventSteps.{entries_in, round_bytes, rounds_outcomes};
-ghost use Rattle.conn.specs.InputSteps.{Answered, Outcome, Stage, reply_parts};
+ghost use Rattle.conn.specs.InputSteps.{Answered, HasHeard, Outcome, Stage, reply_parts};
 ghost use Rattle.conn.specs.declared.reports.ConnEnd.{ConnEnd};
 ghost use Rattle.conn.specs.declared.reports.ConnReport.{ConnReport};
 ghost use Rattle.conn.specs.Agreement.{Activity, HasDone, doings_outcomes};
+ghost use Rattle.conn.specs.ConnectionService.{HasServedFrom};
+ghost use Rattle.session.specs.RequestEffects.{HasCode};
+ghost use Rattle.session.specs.RequestSteps.{new_session_state};
+ghost use Rattle.session.specs.SessionStates.{SessionState};
+ghost use Rattle.station.specs.Seats.{SeatState};
+ghost use Rattle.connection_laws.specs.ReportCourses.{IsCourseOf, activity_of};
 ghost use Rattle.connection_laws.specs.Courses.{Course, IsCourseBetween, IsCourseSplit};
 ghost use Rattle.connection_laws.specs.Courses.{course_film, course_plays};
 ghost use Rattle.connection_laws.specs.Courses.{first_stage, greatest_slot, rounds_bytes};
@@ -26,6 +32,8 @@ ghost use Rattle.connection_laws.specs.Notes.{ending_missed, noted_play, notes_o
 ghost use Rattle.connection_laws.specs.Notes.{placed_plays, rounds_missed, station_calls};
 ghost use Rattle.connection_laws.specs.Receipts.{offers_in, receipts_in};
 ghost use Rattle.connection_laws.specs.ReplyPlaces.{AreSentAt, slots_from};
+ghost use Rattle.connection_laws.specs.LookLimits.{MayLackMemory};
+ghost use Rattle.connection_laws.specs.PlayRuns.{AreRunsInOrder};
 ghost use Rattle.connection_laws.specs.Plays.{AreOver, booked_plays, booking_of};
 ghost use Rattle.connection_laws.specs.Requests.{AreTaken};
 ghost use Rattle.connection_laws.specs.Replies.{course_replies, course_texts, text_of};
@@ -50,6 +58,21 @@ pub fn law_course_is_event_sequence()
         → IsCourseSplit old first rest new }
 {}
 
+/// A connection that was served has done what its report lists, and has a course: all its rounds,
+/// the one in which it ended among them. So each law on courses holds for what
+/// `conn::serve_connection` did (its clause `served`).
+pub fn law_served_connection_has_a_course()
+    ensures served { (films : List Stored) (settings : Settings) (words : List ℕ)
+        (old_told new_told : Option (List IoEvent)) (old new : SeatState) (report : ConnReport)
+        → (served : HasServedFrom (new_session_state films settings words) old_told new_told old new
+        report)
+        → HasDone films settings words
+        (activity_of films settings words old_told new_told old new report served) report }
+    ensures course { (films : List Stored) (settings : Settings) (words : List ℕ)
+        (doings : Activity) (report : ConnReport) → HasDone films settings words doings report
+        → (course : Course) × IsCourseOf films settings words doings course }
+{}
+
 /// After each event the film bytes that a connection wrote from its beginning on are, of the films
 /// of its plays joined, as many as are due by the greatest slot that was heard: of each play what
 /// its plan has by then, and none past what is kept of it. Each play but the last was sent as far
@@ -57,6 +80,16 @@ pub fn law_course_is_event_sequence()
 pub fn law_film_written_equals_bytes_due()
     ensures film { (course : Course) → rounds_film course.rounds ≡ course_film course }
     ensures over { (course : Course) → AreOver (greatest_slot course.rounds) (course_plays course) }
+{}
+
+/// Each play of a connection's course either resumes the run of the play before it, from the byte up
+/// to which that play was kept, in the same packets and reports; or it begins a new run at the run's
+/// first byte (RFC 2326 sections 10.5 and 10.6). The first run has the SSRC, the first sequence
+/// number and the timestamps of the connection's random words. In each later run the sequence
+/// numbers go on, and the reports count all packets and octets that were sent before (RFC 3550
+/// sections 5.1 and 6.4.1).
+pub fn law_plays_resume_or_begin_runs()
+    ensures { (course : Course) → AreRunsInOrder course.words None (course_plays course) }
 {}
 
 /// The plays of a connection's course are those that its entries in the journal tell: each begins
@@ -83,6 +116,14 @@ pub fn law_replies_between_packets()
 pub fn law_replies_at_next_boundary()
     ensures { (course : Course) → AreSentAt (greatest_slot course.rounds) (course_plays course)
         (slots_from 0 course.rounds) (course_texts course) }
+{}
+
+/// Of a connection's requests only a PLAY and an offer in Ready, and a look that at least 1,024
+/// looks came before, may be answered 500: for no other may memory run out (RFC 2326 section 7.1.1).
+pub fn law_first_looks_of_a_connection_find_memory()
+    ensures { (course : Course) (message : List ℕ) (outcome : Outcome) (new : SessionState)
+        → HasHeard course.last.session message outcome new → HasCode 500 new.text
+        → MayLackMemory course message }
 {}
 
 /// The requests in a connection's input are processed in order. After each event so were all that
