@@ -29,18 +29,20 @@ const WORDS: [u32; 5] = [0x0123_4567, 0x89ab_cdef, 0x0102_0304, 1, 0];
 
 /// The film's report and its two frames, as they are sent.
 const REPORT: [u8; 52] = [
-    0x24, 1, 0, 0x30, 0x80, 0xc8, 0, 6, 1, 2, 3, 4, 0, 0, 0, 0, 0, 0, 0, 0, 0, 0, 0, 0, 0, 0, 0,
-    0, 0, 0, 0, 0, 0x81, 0xca, 0, 4, 1, 2, 3, 4, 1, 8, 0x76, 0x6f, 0x64, 0x73, 0x65, 0x72, 0x76,
-    0x65, 0, 0,
+    0x24, 1, 0, 0x30, 0x80, 0xc8, 0, 6, 1, 2, 3, 4, 0, 0, 0, 0, 0, 0, 0, 0, 0, 0, 0, 0, 0, 0, 0, 0,
+    0, 0, 0, 0, 0x81, 0xca, 0, 4, 1, 2, 3, 4, 1, 8, 0x76, 0x6f, 0x64, 0x73, 0x65, 0x72, 0x76, 0x65,
+    0, 0,
 ];
+
 const FIRST_FRAME: [u8; 54] = [
-    0x24, 0, 0, 0x32, 0x80, 0xa0, 0, 1, 0, 0, 0, 0, 1, 2, 3, 4, 0, 0, 0x39, 0, 0, 0, 1, 0xb3,
-    0x16, 1, 0x20, 0x13, 0xff, 0xff, 0xe0, 0xa0, 0, 0, 1, 0xb8, 0, 8, 0, 0x40, 0, 0, 1, 0, 0,
-    0x0f, 0xff, 0xf8, 0, 0, 1, 1, 0x12, 0x34,
+    0x24, 0, 0, 0x32, 0x80, 0xa0, 0, 1, 0, 0, 0, 0, 1, 2, 3, 4, 0, 0, 0x39, 0, 0, 0, 1, 0xb3, 0x16,
+    1, 0x20, 0x13, 0xff, 0xff, 0xe0, 0xa0, 0, 0, 1, 0xb8, 0, 8, 0, 0x40, 0, 0, 1, 0, 0, 0x0f, 0xff,
+    0xf8, 0, 0, 1, 1, 0x12, 0x34,
 ];
+
 const SECOND_FRAME: [u8; 35] = [
-    0x24, 0, 0, 0x1f, 0x80, 0xa0, 0, 2, 0, 0, 0x0e, 0x10, 1, 2, 3, 4, 0, 1, 0x1a, 1, 0, 0, 1, 0,
-    0, 0x57, 0xff, 0xf8, 0x80, 0, 0, 1, 1, 0x12, 0x34,
+    0x24, 0, 0, 0x1f, 0x80, 0xa0, 0, 2, 0, 0, 0x0e, 0x10, 1, 2, 3, 4, 0, 1, 0x1a, 1, 0, 0, 1, 0, 0,
+    0x57, 0xff, 0xf8, 0x80, 0, 0, 1, 1, 0x12, 0x34,
 ];
 
 /// What comes: bytes, or the slot of a number.
@@ -57,18 +59,12 @@ const REQUESTS: [Comes; 12] = [
         "SETUP rtsp://h/b.mpg RTSP/1.0\r\nCSeq: 1\r\n\
          Transport: RTP/AVP/TCP;unicast;interleaved=0-1\r\nx-Startup: 2\r\n\r\n",
     ),
-    Comes::Bytes(
-        "PLAY rtsp://h/b.mpg RTSP/1.0\r\nCSeq: 2\r\nSession: 0123456789abcdef\r\n\r\n",
-    ),
+    Comes::Bytes("PLAY rtsp://h/b.mpg RTSP/1.0\r\nCSeq: 2\r\nSession: 0123456789abcdef\r\n\r\n"),
     Comes::Slot(1),
-    Comes::Bytes(
-        "PAUSE rtsp://h/b.mpg RTSP/1.0\r\nCSeq: 3\r\nSession: 0123456789abcdef\r\n\r\n",
-    ),
+    Comes::Bytes("PAUSE rtsp://h/b.mpg RTSP/1.0\r\nCSeq: 3\r\nSession: 0123456789abcdef\r\n\r\n"),
     Comes::Slot(2),
     Comes::Slot(3),
-    Comes::Bytes(
-        "PLAY rtsp://h/b.mpg RTSP/1.0\r\nCSeq: 4\r\nSession: 0123456789abcdef\r\n\r\n",
-    ),
+    Comes::Bytes("PLAY rtsp://h/b.mpg RTSP/1.0\r\nCSeq: 4\r\nSession: 0123456789abcdef\r\n\r\n"),
     Comes::Slot(4),
     Comes::Slot(5),
     Comes::Slot(6),
@@ -145,9 +141,15 @@ fn link_of(alloc: Global) -> Result<MemoryLink, Fail> {
 
 /// The report has the worker's number, the words, the end, the answers and the plays.
 fn reads_report(rt: &impl Abort, report: &ConnReport) {
-    assert_eq!(rt; (report.worker, report.words, report.end), (3, WORDS, ConnEnd::TornDown));
+    assert_eq!(rt;
+        (report.worker, report.words, report.end),
+        (3, WORDS, ConnEnd::TornDown)
+    );
     assert_eq!(rt; report.receipts.as_slice(), RECEIPTS.as_slice());
-    assert_eq!(rt; (report.plays.len(), report.late, report.offers.len()), (PLAYS.len(), 0, 0));
+    assert_eq!(rt;
+        (report.plays.len(), report.late, report.offers.len()),
+        (PLAYS.len(), 0, 0)
+    );
     for (note, play) in report.plays.iter().zip(PLAYS) {
         assert_eq!(rt; (note.place, note.start, note.sent_before, note.keep), play);
     }

@@ -70,7 +70,6 @@ halt_code asking new keep (Entered placed) never halted is =
 halt_code asking new keep (WasFull more entries live) never halted is = absurd halted
 halt_code asking new keep (Offered at_slot note) never halted is = absurd halted
 
-
 -- so the session itself answered it
 own_code : (ask : Ask) (asking new : SessionState) (outcome : Outcome) → NeverLacks ask asking
     → IsAskAnswered asking ask outcome new → HasCode 500 new.text → Is500 ask asking

@@ -289,16 +289,19 @@ module _ (words : List ℕ) where
       → IsUnderWay (stream_of s) setup play.run (play.run.sent + keep) last
       → IsLast (after_halt (record s { state = Playing setup play; awaited = Halt keep next }) place) kept last
   halt_state s setup play keep place Done kept last left way = inr (counted_done s.films s.source s.counts setup play.run keep last way)
-  halt_state s setup play keep place (Paused run) kept last left way = (refl, inr (record {
-    stored = way.stored;
-    at = way.at;
-    place = way.place
-        ∙ ap (λ first. Some (run_place (run_of way.stored.film first play.run.end_unit
-        (identity_of s.source setup s.counts)) (play.run.sent + keep))) (sym left.first)
-        ∙ ap (λ end. Some (run_place (run_of way.stored.film run.first_unit end
-        (identity_of s.source setup s.counts)) (play.run.sent + keep))) (sym left.end)
-        ∙ ap (λ sent. Some (run_place (sending_of way.stored.film s.source setup s.counts run) sent)) (sym left.sent);
-  }))
+  halt_state s setup play keep place (Paused run) kept last left way = (
+    refl,
+    inr (record {
+      stored = way.stored;
+      at = way.at;
+      place = way.place
+          ∙ ap (λ first. Some (run_place (run_of way.stored.film first play.run.end_unit
+          (identity_of s.source setup s.counts)) (play.run.sent + keep))) (sym left.first)
+          ∙ ap (λ end. Some (run_place (run_of way.stored.film run.first_unit end
+          (identity_of s.source setup s.counts)) (play.run.sent + keep))) (sym left.end)
+          ∙ ap (λ sent. Some (run_place (sending_of way.stored.film s.source setup s.counts run) sent)) (sym left.sent);
+    }),
+  )
   halt_state s setup play keep place Torn kept last left way = (refl, inl refl)
 
   abbrev Halts : SessionState → ℕ → Outcome → SessionState → Type 0
@@ -488,12 +491,16 @@ module _ (words : List ℕ) where
 
     new_next : (stored : Stored) (setup : Setup) (last : Option RunPlace) (run : Run) → run.sent ≡ 0
         → IsFresh words (stream_of old) setup last → Next stored setup last old.counts run
-    new_next stored setup None run sent fresh play before = (before ∙ sent,
+    new_next stored setup None run sent fresh play before = (
+      before ∙ sent,
       subst (λ s. IsFirstRun words (identity_of s setup old.counts)) (sym fresh.1)
-      (subst (λ c. IsFirstRun words (identity_of (source_of words) setup c)) (sym fresh.0) (first_identity setup)))
-    new_next stored setup (Some last) run sent fresh play before = inr (before ∙ sent,
+          (subst (λ c. IsFirstRun words (identity_of (source_of words) setup c)) (sym fresh.0) (first_identity setup)),
+    )
+    new_next stored setup (Some last) run sent fresh play before = inr (
+      before ∙ sent,
       subst (λ c. IsLaterRun last (identity_of old.source setup c)) (sym fresh.counts)
-      (later_identity last old.source setup fresh.before fresh.identity))
+          (later_identity last old.source setup fresh.before fresh.identity),
+    )
 
     rest_next : (stored : Stored) (setup : Setup) (paused : Option Run) (last : Option RunPlace) (run : Run)
         → IsFilmAt old.films setup.film stored → run.sent ≡ 0 → IsAtRest words paused (stream_of old) setup last
@@ -569,13 +576,16 @@ module _ (words : List ℕ) where
                   place = ap (λ run. Some (run_place run (play.before + play.keep))) frames;
                 }) in
                 subst (λ a. AreRunsInOrder words last (plays_admitted (Play asked) a later ++ plays_of later))
-                (sym answer) (asked.frames, (
-                  refl,
-                  subst (λ run. SendsNext words last run play) (sym frames)
-                  (next_run stored setup paused last asked.run asked.counts at
-                  (at_rest (kept_in (Asks (Play asked) (Entered placed) ∷ later)) last was) next play refl),
-                  follows (Some (run_place asked.frames (play.before + play.keep))) under,
-                ));
+                (sym answer) (
+                  asked.frames,
+                  (
+                    refl,
+                    subst (λ run. SendsNext words last run play) (sym frames)
+                        (next_run stored setup paused last asked.run asked.counts at
+                        (at_rest (kept_in (Asks (Play asked) (Entered placed) ∷ later)) last was) next play refl),
+                    follows (Some (run_place asked.frames (play.before + play.keep))) under,
+                  ),
+                );
             looks = sym (minus_none old.looks_left);
           })
 
