@@ -46,7 +46,7 @@ pub(crate) struct Connection<'a> {
 }
 
 impl<'a> Connection<'a> {
-    /// A connection that heard nothing yet.
+    /// Makes a connection before its first event.
     pub(crate) fn new(
         alloc: Global,
         films: &'a [Stored],
@@ -304,7 +304,7 @@ impl<'a> Connection<'a> {
         }
     }
 
-    /// Halts the open booking, which keeps so many bytes.
+    /// Halts the open booking. So many bytes stay booked.
     fn halt<R: Wait>(&mut self, rt: &R, station: &Station, seat: &mut Seat, keep: u64)
         requires seat { seat.old.id ≡ station.now.id }
         requires held { IsHeld seat.old.mine self.old.booking (open_of self.old.session) }

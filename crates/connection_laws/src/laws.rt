@@ -74,7 +74,7 @@ pub fn law_served_connection_has_a_course()
 {}
 
 /// After each event the film bytes that a connection wrote from its beginning on are, of the films
-/// of its plays joined, as many as are due by the greatest slot that was heard: of each play what
+/// of its plays joined, as many as are due by the greatest slot that arrived: of each play what
 /// its plan has by then, and none past what is kept of it. Each play but the last was sent as far
 /// as it is kept.
 pub fn law_film_written_equals_bytes_due()
@@ -82,18 +82,19 @@ pub fn law_film_written_equals_bytes_due()
     ensures over { (course : Course) → AreOver (greatest_slot course.rounds) (course_plays course) }
 {}
 
-/// Each play of a connection's course either resumes the run of the play before it, from the byte up
-/// to which that play was kept, in the same packets and reports; or it begins a new run at the run's
-/// first byte (RFC 2326 sections 10.5 and 10.6). The first run has the SSRC, the first sequence
-/// number and the timestamps of the connection's random words. In each later run the sequence
-/// numbers go on, and the reports count all packets and octets that were sent before (RFC 3550
-/// sections 5.1 and 6.4.1).
+/// Each play of a connection's course either resumes the run of the play before it, from the byte
+/// up to which that play was kept, in the same packets and reports; or it begins a new run at the
+/// run's first byte (RFC 2326 sections 10.5 and 10.6). The first run has the SSRC, the first
+/// sequence number and the timestamps of the connection's random words. In each later run the
+/// sequence numbers go on, and the reports count all packets and octets that were sent before (RFC
+/// 3550 sections 5.1 and 6.4.1).
 pub fn law_plays_resume_or_begin_runs()
     ensures { (course : Course) → AreRunsInOrder course.words None (course_plays course) }
 {}
 
-/// The plays of a connection's course are those that its entries in the journal tell: each begins
-/// in the slot and has the plan with which it was admitted, and keeps what the next halt keeps.
+/// The plays of a connection's course are those that its entries in the journal say: each begins in
+/// the slot and has the plan with which it was admitted. As many bytes of it are sent as the next
+/// halt keeps.
 pub fn law_plays_match_journal_entries()
     ensures { (course : Course) → map booking_of (course_plays course)
         ≡ booked_plays (entries_in (rounds_outcomes course.rounds)) }
@@ -119,7 +120,8 @@ pub fn law_replies_at_next_boundary()
 {}
 
 /// Of a connection's requests only a PLAY and an offer in Ready, and a look that at least 1,024
-/// looks came before, may be answered 500: for no other may memory run out (RFC 2326 section 7.1.1).
+/// looks came before, may be answered 500: memory may run out for no other (RFC 2326 section
+/// 7.1.1).
 pub fn law_first_looks_of_a_connection_find_memory()
     ensures { (course : Course) (message : List ℕ) (outcome : Outcome) (new : SessionState)
         → HasHeard course.last.session message outcome new → HasCode 500 new.text
@@ -127,7 +129,7 @@ pub fn law_first_looks_of_a_connection_find_memory()
 {}
 
 /// The requests in a connection's input are processed in order. After each event so were all that
-/// are whole, unless an earlier reply waits or the 200 of a TEARDOWN was sent.
+/// are complete, unless an earlier reply waits or the 200 of a TEARDOWN was sent.
 pub fn law_requests_processed_in_order()
     ensures { (beginning : Beginning) (cutting : InputSplit beginning) → AreTaken beginning cutting }
 {}
@@ -144,9 +146,9 @@ pub fn law_courses_are_input_splits()
         → ArePrefixes old first rest new }
 {}
 
-/// However the same bytes between the same slots are cut into events, a connection sends the same,
-/// as long as the station answers the same and memory is wanting for the same requests. What is so
-/// of two courses is so of their fronts: so they have sent the same after each slot.
+/// However the same bytes between the same slots are split into events, a connection sends the
+/// same, as long as the station answers the same and memory runs out for the same requests. What
+/// holds for two courses holds for their prefixes: so they have sent the same after each slot.
 pub fn law_output_ignores_segmentation()
     ensures same { (beginning : Beginning) (one other : InputSplit beginning)
         → AreFilms beginning.films → HaveSameInput beginning one other
@@ -202,8 +204,8 @@ pub fn law_report_lists_station_answers()
         → report.offers.items ≡ offers_in (doings_outcomes doings) }
 {}
 
-/// A report's missed slots are those that were not heard while a play, or its rest, was being sent:
-/// at each slot that was heard then, the slots before it that are later than the last one heard,
+/// A report's missed slots are those that did not arrive while a play, or its rest, was being sent:
+/// at each slot that arrived then, the slots before it that are later than the last one before,
 /// from the play's first one on.
 pub fn law_report_counts_missed_slots()
     ensures { (films : List Stored) (settings : Settings) (words : List ℕ) (doings : Activity)
