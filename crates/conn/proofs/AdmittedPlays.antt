@@ -1,5 +1,5 @@
 -- What the station's answer to a play leaves of the connection that asked for it.
-use Rattle.std.proofs.Common.{◌≡◌, ℕ, ◌<◌, ◌≤◌, List, Option, Some, None, refl, ap, sym, ◌∙◌}
+use Rattle.std.proofs.Common.{◌≡◌, ℕ, ◌^◌, ◌<◌, ◌≤◌, List, Option, Some, None, refl, ap, sym, ◌∙◌}
 use Rattle.std.proofs.Common.{subst}
 use Rattle.std.specs.Prelude.{IsSome}
 use Rattle.admission.specs.declared.entries.Answer.TheVariants.{Admitted}
@@ -16,7 +16,7 @@ use Rattle.session.specs.SlotTransitions.{IsPlayIn}
 use Rattle.station.specs.Answers.{IsSeatRefused, HasMadeEntry}
 use Rattle.station.specs.Ledgers.{play_of}
 use Rattle.station.specs.Seats.{IsSameSeat, IsSeat, SeatState}
-use Rattle.station.specs.declared.answers.Booking.{Booking}
+use Rattle.station.specs.Bookings.{Booking}
 use Rattle.station.specs.declared.answers.PlayRefused.{PlayRefused}
 use Rattle.station.specs.declared.answers.PlayRefused.TheVariants.{JournalFull, Overflow}
 use Rattle.conn.specs.declared.connections.Connection.{Connection}
@@ -123,10 +123,11 @@ pub record HasHeardAdmission (before : SessionState) (booking : Booking) (after 
   pub later : before.heard < booking.start
   pub exact : after ≡ after_admission before booking.number booking.start
   pub play : IsPlayIn after.state
+  pub small : booking.start < 2 ^ 64
 
 pub answered_admitted : {plan : List Segment} {seat next : SeatState} {before : Connection} {after : SessionState}
     {booking : Booking} → IsAsking seat next before →
     HasMadeEntry seat next 2 (play_of before.session.heard plan) booking.number (Admitted booking.start) →
     HasHeardAdmission before.session booking after → HasAnswered before.session (AskPlay plan) after seat next
 answered_admitted asking made heard =
-    answered_entry asking.kept asking.also asking.same made refl (refl, (heard.later, heard.exact, heard.play))
+    answered_entry asking.kept asking.also asking.same made refl (refl, (heard.later, heard.exact, heard.play, heard.small))

@@ -35,3 +35,4 @@ mod SeatInvariants
 pub mod EventPremises
 mod EventLimit
 mod RandomWords
+mod TestFilms

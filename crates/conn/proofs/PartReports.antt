@@ -15,6 +15,7 @@ use Rattle.conn.specs.declared.reports.ConnEnd.TheVariants.{LinkFault}
 use Rattle.conn.specs.EventSteps.{ending_doings, rounds_doings}
 use Rattle.conn.specs.Guarantees.{MeetsGuarantee}
 use Rattle.conn.specs.ConnectionService.{ConnectionSpec}
+use Rattle.conn.specs.ReservationInvariant.{HasAdvanced, at_rest}
 use Rattle.conn.specs.Parts.{AreServed, AreReported, HasServedOne, IsUntouched, fresh_history}
 use Rattle.vod_base.proofs.HistoryLemmas.{told_more-nil}
 use Rattle.conn.proofs.EventPremises.{TakenBack}
@@ -37,10 +38,11 @@ pub served_fresh : {films : List Stored} {settings : Settings} {words : List ℕ
     IfSome old (λ told. told ≡ []) → report.words ≡ words →
     ConnectionSpec (new_session_state films settings words) old new seat next report →
     MeetsGuarantee (new_session_state films settings words) old new seat next report →
+    HasAdvanced (at_rest seat.mine []) (at_rest next.mine report.receipts.items) →
     (report.end ≡ LinkFault → HasRisen before after) →
     HasServedOne films settings (record { faults = after; told = new }) report seat next
 served_fresh {films} {settings} {words} {old} {new} {after} {seat} {next} {report} zero fresh is_words served keeps
-    fault =
+    entries fault =
     let more = told_after served in
     let told : ConnectionSpec (new_session_state films settings words) (fresh_history new) new seat next report =
     subst (λ t. ConnectionSpec (new_session_state films settings words) t new seat next report)
@@ -53,6 +55,7 @@ served_fresh {films} {settings} {words} {old} {new} {after} {seat} {next} {repor
       keeps = subst (λ ws. MeetsGuarantee (new_session_state films settings ws) (fresh_history new) new seat next
           report)
           (sym is_words) kept;
+      entries = entries;
       fault = λ is. subst (λ n. HasRisen n after) zero (fault is);
     }
 

@@ -16,7 +16,7 @@ use Rattle.session.specs.declared.notes.Receipt.TheVariants.{Full as FullReceipt
 use Rattle.plan_cert.specs.declared.Segment.{Segment}
 use Rattle.plan_cert.specs.PlanSlots.{total_bytes}
 use Rattle.session.specs.SessionStates.{OpenBooking, IsSameBooking}
-use Rattle.station.specs.declared.answers.Booking.{Booking}
+use Rattle.station.specs.Bookings.{Booking}
 use Rattle.conn.specs.ReservationInvariant.{ReservationState, HasAdvanced, IsHeld, entry_receipts, receipt_for, Closed}
 use Rattle.conn.specs.ReservationInvariant.{Broken, open_play_with, open_play_from, open_play_of}
 

@@ -22,6 +22,7 @@ use Rattle.std.proofs.lemmas.Option.{slice_get-get_or}
 use Rattle.conn.specs.InputSteps.{Outcome, Unasked, Entered, WasFull, Offered, SentPart, Film, Text}
 use Rattle.conn.specs.InputSteps.{entry_in}
 use Rattle.conn.specs.EventSteps.{entries_in}
+use Rattle.conn.specs.Journals.{terms_of}
 use Rattle.conn.specs.Guarantees.{AreRefusalsJustified, ReportsOverflowOf}
 use Rattle.conn.proofs.ReplyContents.{AreReported, TellsOver}
 
@@ -84,7 +85,7 @@ overflow_stands {command = Halt number keep} {slot} steps before is = absurd is
 overflow_stands {command = Look at} {slot} steps before is = absurd is
 
 overflow_seen : {seat : SeatState} {made : List Outcome} (text : List ℕ) → SeatEntries seat made → TellsOver made text →
-    ReportsOverflowOf seat made text
+    ReportsOverflowOf (terms_of seat) seat.seen made text
 overflow_seen {seat} text own told =
     let placed : PlacedEntry = told.placed in
     let entry : Entry = placed.entry in
@@ -125,7 +126,7 @@ overflow_seen {seat} text own told =
 
 -- over a whole course, by the seat at its end
 pub refusals_told : {seat : SeatState} {made : List Outcome} (parts : List SentPart) → SeatEntries seat made →
-    AreReported made parts → AreRefusalsJustified seat made parts
+    AreReported made parts → AreRefusalsJustified (terms_of seat) seat.seen made parts
 refusals_told [] own told = tt
 refusals_told (Film bytes ∷ parts) own told = refusals_told parts own told
 refusals_told (Text text ∷ parts) own told = (

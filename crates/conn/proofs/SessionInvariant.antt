@@ -65,7 +65,7 @@ admitted_well {old} {start} {new} placed plan well answered =
     let asked = well.1 in
     let playing = subst (λ (s : SessionState). IsPlayIn s.state) answered.1 answered.2 in
     let ready : IsReady asked.setup old.state = subst (IsReady asked.setup) (sym asked.state_is) refl in
-    let begun = play_begins old placed (answered.0, refl, playing) ready asked.awaited_is in
+    let begun = play_begins old placed (answered.0, refl, playing, answered.3) ready asked.awaited_is in
     let counts : counts_of old.awaited old.counts ≡ asked.prepared.counts =
     ap (λ a. counts_of a old.counts) asked.awaited_is in
     let run = begun.run in

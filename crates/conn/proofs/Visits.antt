@@ -1,22 +1,33 @@
 -- What a connection did agrees with its journal, and with each longer one.
-use Rattle.std.proofs.Common.{◌≡◌, ◌<◌, ℕ, List, [], ◌∷◌, Some, length, sym, ◌∙◌, subst, arith, inl, inr, suc, zero}
-use Rattle.std.specs.Prelude.{slice_index_or}
+use Rattle.std.proofs.Common.{◌≡◌, ◌<◌, ℕ, ◌++◌, List, [], ◌∷◌, Some, length, take, ap, sym, ◌∙◌, subst, arith, inl, inr, suc, zero}
+use Rattle.std.specs.Prelude.{slice_get, slice_index_or}
+use Rattle.std.proofs.lemmas.List.{append_cancel_left, length-append}
+use Rattle.std.proofs.lemmas.Option.{slice_get-get_or, slice_get_within}
 use mathlib.Core.List.{IsPrefix}
 use Rattle.vod_base.specs.Gates.{ReturnedConn}
 use Rattle.vod_base.specs.Links.{IoEvent}
 use Rattle.vod_base.specs.IoState.{HasRisen}
 use Rattle.film_frames.specs.declared.stored_films.Stored.{Stored}
 use Rattle.admission.specs.declared.entries.Entry.{Entry}
-use Rattle.admission.specs.Histories.{IsLegal}
+use Rattle.admission.specs.Histories.{IsLegal, booked_after, state_after}
+use Rattle.admission.specs.Machine.{start_after}
+use Rattle.slot_calendar.specs.Calendars.{IsFirstOverflow}
+use Rattle.slot_calendar.specs.Profiles.{capacity_at}
 use Rattle.session.specs.declared.settings.Settings.{Settings}
 use Rattle.session.specs.RequestSteps.{new_session_state}
 use Rattle.session.specs.SessionStates.{SessionState}
 use Rattle.station.specs.Seats.{IsSameSeat, SeatState}
+use Rattle.station.proofs.LongerJournals.{prefix_at, prefix_take}
 use Rattle.station.proofs.SameSeats.{seat_none, seat_on}
 use Rattle.conn.specs.Agreement.{Agrees, AgreesIfObserved, Activity, Visit, doings_outcomes, visit}
 use Rattle.conn.specs.Journals.{AgreeWith, Terms, terms_of}
 use Rattle.conn.specs.Parts.{AreServed, HasServedOne, fresh_history}
-use Rattle.conn.specs.Guarantees.{CourseMeetsGuarantee, MeetsGuarantee}
+use Rattle.conn.specs.Guarantees.{AreRefusalsJustified, CourseMeetsGuarantee, MeetsGuarantee, ReportsOverflowOf}
+use Rattle.conn.specs.InputSteps.{Outcome, SentPart, Film, Text}
+use Rattle.conn.specs.EventSteps.{ending_outcomes, entries_in, rounds_outcomes}
+use Rattle.conn.specs.Films.{rounds_parts}
+use Rattle.conn.specs.Plays.{ending_rounds}
+use Rattle.conn.specs.ReservationInvariant.{Closed, HasAdvanced, at_rest, open_play_from}
 use Rattle.conn.specs.Observations.{AreNoted}
 use Rattle.conn.specs.declared.reports.ConnEnd.TheVariants.{LinkFault}
 use Rattle.conn.specs.declared.reports.ConnReport.{ConnReport}
@@ -26,8 +37,9 @@ use Rattle.conn.proofs.CourseSteps.{noted_on}
 course_agrees : {told : List IoEvent} {old new : SeatState} (visit : Visit) →
     CourseMeetsGuarantee (new_session_state visit.films visit.settings visit.report.words) (Some []) (Some told) old new
     visit.report → visit.returned.told ≡ Some told → (visit.report.end ≡ LinkFault → HasRisen 0 visit.returned.faults) →
+    HasAdvanced (at_rest old.mine []) (at_rest new.mine visit.report.receipts.items) →
     Agrees visit (terms_of new) new.seen
-course_agrees {old} {new} visit keeps tells fault =
+course_agrees {old} {new} visit keeps tells fault entries =
     let served = keeps.served in
     let course = served.course in
     let doings : Activity = record { rounds = course.rounds; ending = course.ending; halt = served.closes.halt } in
@@ -57,6 +69,10 @@ course_agrees {old} {new} visit keeps tells fault =
       };
       agree = agree;
       plays = keeps.keeps.plays;
+      refusals = keeps.keeps.refusals;
+      halts = subst (λ made. open_play_from Closed made ≡ Closed)
+          (append_cancel_left old.mine entries.made (entries_in (doings_outcomes doings))
+          (sym entries.mine_is ∙ noted.mine)) entries.open_is;
       fault = fault;
     }
 
@@ -69,9 +85,63 @@ one_agrees {old} {new} visit one = λ told tells found.
     let keeps : MeetsGuarantee session (Some []) (Some told) old new visit.report =
     subst (λ t. MeetsGuarantee session (fresh_history t) t old new visit.report) tells one.keeps in
     elim keeps [
-      | inl course ↦ course_agrees visit course tells one.fault
+      | inl course ↦ course_agrees visit course tells one.fault one.entries
       | inr nothing ↦ absurd (found nothing.end)
     ]
+
+-- an entry that stands in a journal stands in each longer one
+get_longer : (journal longer : List Entry) → IsPrefix journal longer → (k : ℕ) (entry : Entry)
+    → slice_get journal k ≡ Some entry → slice_get longer k ≡ Some entry
+get_longer journal longer prefix k entry is =
+    let inside : k < length journal = slice_get_within journal k entry is in
+    let wide : k < length longer =
+    omega (arith, inside, length-append journal prefix.0, ap (λ (xs : List Entry). length xs) prefix.1) in
+    slice_get-get_or longer k entry wide
+    ∙ ap (λ e. Some e) (prefix_at journal longer prefix k entry inside)
+    ∙ sym (slice_get-get_or journal k entry inside) ∙ is
+
+overflow_longer : {terms : Terms} {journal longer : List Entry} {made : List Outcome} {text : List ℕ}
+    → IsPrefix journal longer → ReportsOverflowOf terms journal made text → ReportsOverflowOf terms longer made text
+overflow_longer {terms} {journal} {longer} prefix reports =
+    let over = reports.overflow in
+    let inside : over.placed.place < length journal =
+    slice_get_within journal over.placed.place over.placed.entry over.seen in
+    let same : take over.placed.place longer ≡ take over.placed.place journal =
+    prefix_take journal longer prefix over.placed.place (omega (arith, inside)) in
+    record {
+      slot = reports.slot;
+      booked = reports.booked;
+      asked = reports.asked;
+      overflow = record {
+        placed = over.placed;
+        among = over.among;
+        seen = get_longer journal longer prefix over.placed.place over.placed.entry over.seen;
+        maker = over.maker;
+        answer = over.answer;
+        heard = over.heard;
+        plan = over.plan;
+        command = over.command;
+        first = subst (λ (xs : List Entry). IsFirstOverflow 0 (booked_after xs) (capacity_at terms.steps)
+            (start_after (state_after xs) over.heard) over.plan
+            (record { slot = reports.slot; booked = reports.booked; asked = reports.asked })) (sym same) over.first;
+      };
+      sequence = reports.sequence;
+      text_is = reports.text_is;
+    }
+
+refusals_longer : (terms : Terms) (journal longer : List Entry) (made : List Outcome) (parts : List SentPart)
+    → IsPrefix journal longer → AreRefusalsJustified terms journal made parts
+    → AreRefusalsJustified terms longer made parts
+refusals_longer terms journal longer made [] prefix justified = tt
+refusals_longer terms journal longer made (Film bytes ∷ parts) prefix justified =
+    refusals_longer terms journal longer made parts prefix justified
+refusals_longer terms journal longer made (Text text ∷ parts) prefix justified = (
+  record {
+    overflow = λ code. overflow_longer prefix (justified.0.overflow code);
+    full = justified.0.full;
+  },
+  refusals_longer terms journal longer made parts prefix justified.1,
+)
 
 -- and with each longer legal journal
 pub agrees_longer : {visit : Visit} {terms : Terms} {journal longer : List Entry} → Agrees visit terms journal →
@@ -84,6 +154,10 @@ agrees_longer {terms} {journal} {longer} agrees prefix legal = record {
   agree = agree_longer (record { terms = terms; journal = journal; longer = longer; prefix = prefix }) 0
       (doings_outcomes agrees.doings) agrees.agree;
   plays = agrees.plays;
+  refusals = refusals_longer terms journal longer
+      (rounds_outcomes agrees.doings.rounds ++ ending_outcomes agrees.doings.ending)
+      (rounds_parts (agrees.doings.rounds ++ ending_rounds agrees.doings.ending)) prefix agrees.refusals;
+  halts = agrees.halts;
   fault = agrees.fault;
 }
 

@@ -11,7 +11,7 @@ use Rattle.vod_base.specs.Gates.{Content, ReturnedConn, LastTake, HasConnOut, af
 use Rattle.vod_base.specs.Gates.{after_return}
 use Rattle.admission.specs.Makers.{PlacedEntry}
 use Rattle.session.specs.declared.notes.Receipt.{Receipt}
-use Rattle.station.specs.declared.answers.Booking.{Booking}
+use Rattle.station.specs.Bookings.{Booking}
 use Rattle.conn.specs.declared.reports.ConnReport.{ConnReport}
 use Rattle.conn.specs.ReservationInvariant.{HasAdvanced, Closed, at_rest, open_play_from, open_play_of, open_play_with}
 use Rattle.conn.specs.ReservationInvariant.{entry_receipts, receipt_for}

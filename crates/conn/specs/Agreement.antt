@@ -10,11 +10,14 @@ use Rattle.session.specs.declared.settings.Settings.{Settings}
 use Rattle.session.specs.RequestSteps.{new_session_state}
 use Rattle.session.specs.SessionStates.{SessionState, open_of}
 use Rattle.conn.specs.EventSteps.{Ending, Ends, Round, RunsAll, ending_doings, ending_events}
-use Rattle.conn.specs.EventSteps.{ending_outcomes, rounds_doings, rounds_outcomes}
+use Rattle.conn.specs.EventSteps.{ending_outcomes, entries_in, rounds_doings, rounds_outcomes}
+use Rattle.conn.specs.Films.{rounds_parts}
+use Rattle.conn.specs.Guarantees.{AreRefusalsJustified}
 use Rattle.conn.specs.Journals.{AgreeWith, Terms}
 use Rattle.conn.specs.Plays.{ArePlaysKept, ending_rounds}
 use Rattle.conn.specs.ConnectionService.{IsReportOf}
 use Rattle.conn.specs.InputSteps.{IsClosed, Outcome, Stage, stage}
+use Rattle.conn.specs.ReservationInvariant.{Closed, open_play_from}
 use Rattle.conn.specs.declared.reports.ConnEnd.TheVariants.{LinkFault, NoMemory}
 use Rattle.conn.specs.declared.reports.ConnReport.{ConnReport}
 
@@ -60,8 +63,10 @@ visit films settings returned report =
 -- what the station answered on the way agrees with it. Each entry stands at its place as the
 -- maker's; a full answer tells the entries that the journal had then and its open plays, and had no
 -- room; an offer is the one that is made in the state of the entries that it names. Each play is
--- kept between its client's curves, with the least excess. The connection failed only where its
--- link counted a fault.
+-- kept between its client's curves, with the least excess. A reply 453 reports the slot of one of
+-- these entries, the first slot without room; a reply 503 the two numbers of a full answer. Each
+-- play that was admitted is halted once, by its own number, before the next one is admitted. The
+-- connection failed only where its link counted a fault.
 pub record Agrees (visit : Visit) (terms : Terms) (journal : List Entry) : Type 0 where
   pub legal : IsLegal terms.steps journal
   pub doings : Activity
@@ -70,6 +75,10 @@ pub record Agrees (visit : Visit) (terms : Terms) (journal : List Entry) : Type 
   pub agree : AgreeWith terms journal 0 (doings_outcomes doings)
   pub plays : ArePlaysKept (new_session_state visit.films visit.settings visit.report.words)
       (doings.rounds ++ ending_rounds doings.ending)
+  pub refusals : AreRefusalsJustified terms journal
+      (rounds_outcomes doings.rounds ++ ending_outcomes doings.ending)
+      (rounds_parts (doings.rounds ++ ending_rounds doings.ending))
+  pub halts : open_play_from Closed (entries_in (doings_outcomes doings)) ≡ Closed
   pub fault : visit.report.end ≡ LinkFault → HasRisen 0 visit.returned.faults
 
 -- they do, where the link told what was done and memory was found before the first event

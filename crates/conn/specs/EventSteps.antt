@@ -13,7 +13,7 @@ use Rattle.session.specs.SlotSteps.{missed_between, start_in}
 use Rattle.session.specs.SlotTransitions.{IsCarried}
 use Rattle.session.specs.SessionStates.{AwaitsNoAnswer, SessionState, open_in, open_of}
 use Rattle.conn.specs.InputSteps.{HasHeard, HasStepped, IsNext, Outcome, Unasked, SentPart, Stage}
-use Rattle.conn.specs.InputSteps.{ElementStep}
+use Rattle.conn.specs.InputSteps.{ElementStep, held, most_held}
 use Rattle.conn.specs.InputSteps.{Passed, Answered, TakesAll, entry_in, parts_bytes, stage}
 use Rattle.conn.specs.declared.reports.ConnEnd.{ConnEnd}
 use Rattle.conn.specs.declared.reports.ConnEnd.TheVariants.{Ended, TornDown, LinkFault}
@@ -28,11 +28,11 @@ pub record Round : Type 0 where
   pub halt : Outcome
   pub takings : List ElementStep
 
--- an event came: its bytes wait after those that waited, at most 131,072 in all; or its slot was
--- taken up
+-- an event came: its bytes are held after those that were held, at most 131,072 in all; or its slot
+-- was processed
 abbrev pub Comes : Stage → IoEvent → List SentPart → Outcome → Stage → Type 0
 Comes old (HeardBytes bytes) due halt new =
-    (due ≡ []) × (halt ≡ Unasked) × (length old.input + length bytes ≤ 131072)
+    (due ≡ []) × (halt ≡ Unasked) × (held old + length bytes ≤ most_held)
     × (new ≡ stage old.session (old.input ++ bytes))
 Comes old (HeardSlot slot) due halt new = (new.input ≡ old.input)
     × HasStepped old.session slot due halt new.session
@@ -132,7 +132,7 @@ abbrev pub Ends : Stage → ℕ → Ending → ConnEnd → Stage → Type 0
 Ends old count Unheard end new = IsUnheard end count × (new ≡ old)
 Ends old count PeerEnded end new = (end ≡ Ended) × (new ≡ old)
 Ends old count (Overfull bytes) end new = (end ≡ TooMuchInput)
-    × (131072 < length old.input + length bytes) × (old.session.waits ≡ true) × (new ≡ old)
+    × (most_held < held old + length bytes) × (old.session.waits ≡ true) × (new ≡ old)
 Ends old count (AtElement round) end new = Runs old round new × IsStopped end new
 Ends old count (InSlot slot front) end new = (end ≡ LinkFault) × HasFailedInSlot old slot front new
 Ends old count (InReply round message outcome front) end new = (end ≡ LinkFault)

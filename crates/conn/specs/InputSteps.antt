@@ -1,6 +1,6 @@
 -- What a connection does with one element of its input, and with one slot.
-use Rattle.std.specs.Prelude.{◌≡◌, ℕ, ◌<◌, ◌⊎◌, ◌++◌, ◌&&◌, true, false, if◌then◌else◌, List, []}
-use Rattle.std.specs.Prelude.{◌∷◌, length, take, drop, Option, Some, None, Ok}
+use Rattle.std.specs.Prelude.{◌≡◌, ℕ, ◌^◌, ◌<◌, ◌⊎◌, ◌++◌, ◌&&◌, true, false, if◌then◌else◌, List}
+use Rattle.std.specs.Prelude.{[], ◌∷◌, length, take, drop, Option, Some, None, Ok}
 use Rattle.interleave.specs.Elements.{IsFirst}
 use Rattle.interleave.specs.declared.elements.Step.TheVariants.{Block, Request, Skip}
 use Rattle.admission.specs.declared.entries.Answer.{Answer}
@@ -30,6 +30,15 @@ pub record Stage : Type 0 where
 abbrev pub stage : SessionState → List ℕ → Stage
 stage session input = record { session = session; input = input }
 
+-- how many bytes are held: they arrived and weren't judged. They begin with the first request that
+-- wasn't processed; where there is none, with the part of an element that has arrived
+abbrev pub held : Stage → ℕ
+held stage = length stage.input
+
+-- the most that may be held
+abbrev pub most_held : ℕ
+most_held = 131072
+
 -- what is sent at once: bytes of a film, its reports among them, or a reply
 pub data SentPart : Type 0 where
   Film : List ℕ → SentPart
@@ -58,10 +67,11 @@ pub data Outcome : Type 0 where
   Offered : ℕ → OfferNote → Outcome
 
 -- a play's entry has the heard slot and the plan that was asked for; an admitted play begins in a
--- later slot
+-- later slot, whose number has 64 bits
 abbrev pub IsPlayAnswered : SessionState → PlacedEntry → Answer → SessionState → Type 0
 IsPlayAnswered old placed (Admitted start) new =
     (old.heard < start) × (new ≡ after_admission old placed.place start) × IsPlayIn new.state
+    × (start < 2 ^ 64)
 IsPlayAnswered old placed (Overflow slot booked asked) new = new ≡
     after_overflow old placed.place slot booked asked
 IsPlayAnswered old placed Halted new = ⊥

@@ -14,7 +14,8 @@ use Rattle.station.specs.Seats.{SeatState, IsSameSeat}
 use Rattle.conn.specs.declared.reports.ConnReport.{ConnReport}
 use Rattle.conn.specs.declared.reports.PartReport.{PartReport}
 use Rattle.conn.specs.declared.reports.PartEnd.TheVariants.{AllTaken, GateFault}
-use Rattle.conn.specs.ReservationInvariant.{Closed, open_play_from, entry_receipts, receipt_for}
+use Rattle.conn.specs.ReservationInvariant.{Closed, HasAdvanced, at_rest, open_play_from}
+use Rattle.conn.specs.ReservationInvariant.{entry_receipts, receipt_for}
 use Rattle.conn.specs.declared.reports.ConnEnd.TheVariants.{LinkFault}
 use Rattle.conn.specs.Guarantees.{MeetsGuarantee}
 use Rattle.conn.specs.ConnectionService.{ConnectionSpec}
@@ -68,13 +69,15 @@ fresh_history None = None
 fresh_history (Some told) = Some []
 
 -- a connection that came back, and its report: what it tells is its course, in which it keeps what
--- it promises, and it failed only where its count rose
+-- it promises; each play that was admitted is halted once, and the report lists the entries; and it
+-- failed only where its count rose
 pub record HasServedOne (films : List Stored) (settings : Settings) (returned : ReturnedConn)
     (report : ConnReport) (old new : SeatState) : Type 0 where
   pub served : ConnectionSpec (new_session_state films settings report.words)
       (fresh_history returned.told) returned.told old new report
   pub keeps : MeetsGuarantee (new_session_state films settings report.words)
       (fresh_history returned.told) returned.told old new report
+  pub entries : HasAdvanced (at_rest old.mine []) (at_rest new.mine report.receipts.items)
   pub fault : report.end ≡ LinkFault → HasRisen 0 returned.faults
 
 -- connections that came back, and their reports, one after another: each with its own

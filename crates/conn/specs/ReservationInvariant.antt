@@ -13,7 +13,7 @@ use Rattle.session.specs.declared.notes.Receipt.{Receipt}
 use Rattle.session.specs.declared.notes.Receipt.TheVariants.{Entry as EntryReceipt}
 use Rattle.session.specs.declared.notes.Receipt.TheVariants.{Full as FullReceipt}
 use Rattle.session.specs.SessionStates.{OpenBooking, AwaitsNoAnswer, open_of}
-use Rattle.station.specs.declared.answers.Booking.{Booking}
+use Rattle.station.specs.Bookings.{Booking}
 use Rattle.station.specs.Seats.{SeatState, IsSameSeat}
 use Rattle.conn.specs.declared.connections.Connection.{Connection}
 

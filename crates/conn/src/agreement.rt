@@ -1,4 +1,4 @@
-//! A law on what links told and reports, beside the journal.
+//! A law on reports, on what links expose, and on the journal.
 
 ghost use Rattle.std.specs.Prelude.{ℕ, ◌<◌, List, length, slice_index_or};
 ghost use mathlib.Core.List.{IsPrefix};
@@ -13,10 +13,11 @@ ghost use Rattle.conn.specs.Journals.{Terms, terms_of};
 ghost use Rattle.conn.specs.Parts.{AreServed, HasServedOne};
 ghost use Rattle.conn.specs.declared.reports.ConnReport.{ConnReport};
 
-/// What a connection's link told and its report agree with the journal that its seat has seen then,
-/// and with each longer one: its entries, the two numbers of each answer that the journal was full,
-/// and its offers; and each of its plays is kept. So those of each connection of a part agree with
-/// what the seat has seen after the last one.
+/// What a connection's link exposes and its report agree with the journal that its seat has seen
+/// then, and with each longer one: its entries, the two numbers of each answer that the journal was
+/// full, and its offers. A reply 453 has the first slot without room, and each admitted play is
+/// halted once, by its own number. So those of each connection of a part agree with what the seat
+/// has seen after the last one.
 pub fn law_connection_agrees_with_journal()
     ensures seen { (visit : Visit) (old new : SeatState)
         → HasServedOne visit.films visit.settings visit.returned visit.report old new

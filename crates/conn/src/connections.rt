@@ -46,7 +46,7 @@ pub(crate) struct Connection<'a> {
 }
 
 impl<'a> Connection<'a> {
-    /// A connection that heard nothing yet.
+    /// Makes a connection before its first event.
     pub(crate) fn new(
         alloc: Global,
         films: &'a [Stored],
@@ -297,14 +297,14 @@ impl<'a> Connection<'a> {
         seat.holds();
         match station.play(rt, seat, self.session.heard_slot(), plan) {
             Ok(booking) => {
-                self.session.admitted(booking.number, booking.start);
+                self.session.admitted(booking.number(), booking.start());
                 hold(&mut self.booking, booking);
             }
             Err(refused) => hear_refusal(&mut self.session, refused),
         }
     }
 
-    /// Halts the open booking, which keeps so many bytes.
+    /// Halts the open booking. So many bytes stay booked.
     fn halt<R: Wait>(&mut self, rt: &R, station: &Station, seat: &mut Seat, keep: u64)
         requires seat { seat.old.id ≡ station.now.id }
         requires held { IsHeld seat.old.mine self.old.booking (open_of self.old.session) }

@@ -1,4 +1,4 @@
-//! What holds of each film that is served.
+//! What each film satisfies that is served.
 
 ghost use Rattle.std.specs.Prelude.{◌≡◌, ◌<◌, ◌≤◌, ℕ, Some, length, slice_get};
 ghost use Rattle.film_frames.specs.declared.stored_films.Stored.{Stored};

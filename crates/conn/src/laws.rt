@@ -1,5 +1,5 @@
 //! Laws of a connection: what is sent of a film while its play isn't halted, how plays are
-//! answered, how many events are heard, and the random words.
+//! answered, how many events arrive, and the random words.
 
 ghost use Rattle.std.specs.Prelude.{◌≡◌, ◌++◌, ◌+◌, ◌-◌, ◌*◌, ◌^◌, ◌<◌, ◌≤◌, ℕ, List, length};
 ghost use Rattle.std.specs.Prelude.{slice_index};
@@ -35,7 +35,7 @@ use crate::film_laws::law_all_films_are_traces;
 use film_frames::Stored;
 use session::Settings;
 
-/// A play that was admitted begins in a slot that is later than the heard one, and nothing is sent
+/// A play that was admitted begins in a slot that is later than the last one, and nothing is sent
 /// of it yet.
 #[tactic(auto, using(crate::proofs::PlayStart::play_begins))]
 pub fn law_admitted_play_begins_later()
@@ -46,8 +46,8 @@ pub fn law_admitted_play_begins_later()
         → HasBegun setup prepared placed.place start new }
 {}
 
-/// After each event what was sent of a film is what its plan has for the slots up to the heard one,
-/// all in order, until its play is halted. Slots that weren't heard are made up by the next one
+/// After each event what was sent of a film is what its plan has for the slots up to the last one,
+/// all in order, until its play is halted. Slots that were missed are made up by the next one
 /// that is.
 pub fn law_film_bytes_follow_plan()
     ensures { (stretch : PlaySpan) (on : GoesOn stretch)
@@ -55,7 +55,7 @@ pub fn law_film_bytes_follow_plan()
         (stretch.film ++ rounds_film stretch.rounds) }
 {}
 
-/// What was sent of a film is as many bytes as its plan has up to the heard slot.
+/// What was sent of a film is as many bytes as its plan has up to the last slot that arrived.
 #[tactic(auto, using(crate::proofs::ReplyPlacement::film_count))]
 pub fn law_film_byte_count_follows_plan()
     ensures { (play : Played) (heard : ℕ) (film : List ℕ) → HasSent play heard film
@@ -94,10 +94,10 @@ pub fn law_overflow_reply_names_slot()
         → ReportsOverflow old plan placed over new }
 {}
 
-/// A PLAY in Ready to which no refusal applies is answered by what the station made of it: 200
+/// A PLAY in Ready to which no refusal applies is answered by what the station answered: 200
 /// where its entry admits it, and its run then goes on by the plan that the entry has; 453 exactly
 /// where its entry says that the link has no room; 503 exactly where the journal was full; and 500
-/// only where memory was wanting before the station was asked.
+/// only where memory ran out before the station was asked.
 pub fn law_play_reply_matches_entry()
     ensures { (old new : SessionState) (message : List ℕ) (outcome : Outcome)
         → CanBePlayed old message → HasHeard old message outcome new
@@ -107,14 +107,14 @@ pub fn law_play_reply_matches_entry()
 /// A PLAY in Ready to which no refusal applies is answered 200 where at its turn the journal has
 /// room for it and no slot would be booked above the link's capacity; 453 exactly where there is
 /// room and a slot would be, with the first such slot; 503 exactly where there is no room; or 500
-/// where memory was wanting. The journal is any legal one with which the station's answer agrees.
+/// where memory ran out. The journal is any legal one with which the station's answer agrees.
 pub fn law_play_reply_matches_journal()
     ensures { (old new : SessionState) (message : List ℕ) (outcome : Outcome)
         → CanBePlayed old message → HasHeard old message outcome new
         → IsPlayCompleted old outcome new }
 {}
 
-/// At most 2^40 events of a connection are heard. [`crate::ConnEnd::TurnsSpent`] is its end
+/// At most 2^40 events of a connection arrive. [`crate::ConnEnd::TurnsSpent`] is its end
 /// exactly where so many were and none of them ended it.
 pub fn law_event_limit_ends_connection()
     ensures few { (end : ConnEnd) (old new : Observed) (course : HasCourse end old new)

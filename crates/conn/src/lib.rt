@@ -9,6 +9,8 @@ pub mod laws;
 mod parts;
 mod reports;
 mod service;
+#[cfg(test)]
+mod tests;
 mod words;
 
 pub use parts::serve_part;

@@ -17,9 +17,9 @@ pub enum ConnEnd {
     HeadTooLong,
     /// A request's body is longer than 65,536 bytes.
     BodyTooLong,
-    /// So many events were heard as a connection may have, 2^40.
+    /// As many events arrived as a connection may have, 2^40.
     TurnsSpent,
-    /// There was no memory for the connection. Nothing was heard and nothing was sent.
+    /// There was no memory for the connection. No event arrived and nothing was sent.
     NoMemory,
 }
 

@@ -24,13 +24,13 @@ use vod_base::{Link, MAX_EVENTS, MAX_READ_BYTES};
 
 /// Serves a connection from its first event to its end.
 ///
-/// Bytes that come are cut into requests, which a session answers; plays are booked with the
+/// Bytes that arrive are split into requests, which a session answers; plays are booked with the
 /// station, and what is due is sent as slots begin. An open booking is halted at the end, whatever
 /// ends the connection.
 ///
-/// What the link tells is the connection's course, event by event: what was sent in its slot, the
+/// What the link exposes is the connection's course, event by event: what was sent in its slot, the
 /// halt of a play that is then done, and each request that was processed with the station's answer
-/// and the reply. The report tells what was noted on the way.
+/// and the reply. The report lists what was noted on the way.
 #[allow(clippy::too_many_arguments)]
 pub fn serve_connection<R: Wait, K: Link>(
     rt: &R,

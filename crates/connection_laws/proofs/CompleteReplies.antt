@@ -26,7 +26,7 @@ use Rattle.session.specs.declared.commands.Ask.{Ask}
 use Rattle.session.specs.declared.commands.Ask.TheVariants.{Reply as AskReply, Play as AskPlay, Halt as AskHalt}
 use Rattle.session.specs.declared.commands.Ask.TheVariants.{Look as AskLook, Offer as AskOffer}
 use Rattle.session.specs.EndLaws.{HaltsPlay, IsTeardown}
-use Rattle.session.specs.RequestSteps.{Hears, HearsOn}
+use Rattle.session.specs.RequestSteps.{Hears}
 use Rattle.session.specs.Laws.{InitStage, PlayingStage, ReadyStage, StateKind as SessionStage, stage_of}
 use Rattle.session.specs.SettingRanges.{AreFilms}
 use Rattle.session.specs.SessionStates.{SessionState}
@@ -134,12 +134,11 @@ own_halt InitStage ask is = subst IsOwnReply (sym is) tt
 own_halt ReadyStage ask is = subst IsOwnReply (sym is) tt
 own_halt PlayingStage ask is = subst IsOwnReply (sym is.1) tt
 
-teardown_read : (b : Beginning) (lost : Bool) (old new : SessionState) {message : List ℕ} {ask : Ask}
-    → message ≡ teardown_text b.wish b.session → HearsOn lost old message ask new
+teardown_read : (b : Beginning) (old new : SessionState) {message : List ℕ} {ask : Ask}
+    → message ≡ teardown_text b.wish b.session → Hears old message ask new
     → (ask ≡ AskReply) ⊎ IsTeardown message
-teardown_read b true old new is hears = inl hears.0
-teardown_read b false old new is (inl fault) = inl fault.refused.0
-teardown_read b false old new {message = message} is (inr whole) =
+teardown_read b old new is (inl fault) = inl fault.refused.0
+teardown_read b old new {message = message} is (inr whole) =
     let asked = teardown-asked b.wish b.session b.wished b.port b.session_is in
     let R : List ℕ → Type 0 = λ m.
     IsRequest m (codes "TEARDOWN") (film_url b.wish) 3 (request_head (teardown_parts b.wish b.session)) [] in
@@ -148,7 +147,7 @@ teardown_read b false old new {message = message} is (inr whole) =
 
 teardown_own : {message : List ℕ} (b : Beginning) (old new : SessionState) (ask : Ask)
     → message ≡ teardown_text b.wish b.session → Hears old message ask new → IsOwnReply ask
-teardown_own {message} b old new ask is hears = elim (teardown_read b old.lost old new is hears) [
+teardown_own {message} b old new ask is hears = elim (teardown_read b old new is hears) [
   | inl reply ↦ subst IsOwnReply (sym reply) tt
   | inr teardown ↦ elim (teardown_ends old new message ask teardown hears) [
     | inl declined ↦ subst IsOwnReply (sym declined.command) tt

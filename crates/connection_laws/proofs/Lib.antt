@@ -53,3 +53,6 @@ mod EntryNotes
 mod ReceiptNotes
 mod MissedSlots
 mod FailedSends
+mod PlayRuns
+mod ReportCourses
+mod LookLimits

@@ -55,7 +55,6 @@ pub record Outlook : Type 0 where
   pub last_are : AreNoPlays last
   pub play : FilmPlay
   pub others : List FilmPlay
-  pub start : play.start < 2 ^ 64
 
 -- the one play, and the slots in which so many requests and PLAY were taken up
 pub record IsOnePlay (b : Beginning) (out : Outlook) (slot ahead : ℕ) (slots : List ℕ) : Type 0 where
@@ -187,9 +186,7 @@ play_whole : {b : Beginning} {out : Outlook} {old : SessionState} {message : Lis
 play_whole later heard taken whole (Stays same after still) = absurd (not_begun later taken (still.none later))
 play_whole later heard taken whole (Ends after halts) = absurd (not_begun later taken (halts.none later))
 play_whole {out = out} {new = new} later heard taken whole (Starts after begins) =
-    let begun = begun_same later taken begins in
-    let small : begins.start < 2 ^ 64 = subst (λ (p : FilmPlay). p.start < 2 ^ 64) (sym begun.same) out.start in
-    admitted_whole heard.ask begins.answer small (record {
+    admitted_whole heard.ask begins.answer begins.small (record {
       whole = whole;
       answered = subst (λ o. IsAskAnswered heard.asking heard.ask o new) begins.outcome_is heard.answered;
     })

@@ -1,5 +1,5 @@
 -- What a request and its answer make of a session: what is sent of a film, and the play that begins or ends.
-use Rattle.std.proofs.Common.{◌≡◌, ℕ, ◌<◌, if◌then◌else◌, Bool, true, false, List, [], Option, refl, sym, ap, subst}
+use Rattle.std.proofs.Common.{◌≡◌, ℕ, ◌<◌, ◌^◌, if◌then◌else◌, Bool, true, false, List, [], Option, refl, sym, ap, subst}
 use Rattle.std.proofs.Common.{◌∙◌}
 use Rattle.film_frames.specs.FramedRuns.{run_pieces}
 use Rattle.film_run.specs.declared.runs.Run.{Run}
@@ -81,6 +81,7 @@ pub record Begins (old : SessionState) (asked : Awaited) (outcome : Outcome) (ne
   pub answer : placed.entry.answer ≡ Admitted start
   pub command : placed.entry.command ≡ play_of old.heard prepared.plan
   pub later : old.heard < start
+  pub small : start < 2 ^ 64
   pub paced : prepared.paced ≡ prepared.plan
   pub sends : sends_in new.state ≡ Going (pacing_for prepared start)
   pub pacing : IsPacerState (pacing_for prepared start)
@@ -170,6 +171,7 @@ play_turns {prepared} {placed} {answer = Admitted start} {new} {asked} entry ans
       answer = entry.answer_is;
       command = entry.command ∙ ap (λ h. play_of h prepared.plan) heard;
       later = subst (λ h. h < start) heard answered.0;
+      small = answered.3;
       paced = (play_in placed.place start (state ∙ ready) awaited plays).1;
       sends = ap (λ (s : SessionState). sends_in s.state) answered.1
           ∙ admitted_sends placed.place start (state ∙ ready) awaited;

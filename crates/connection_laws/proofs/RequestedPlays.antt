@@ -129,7 +129,6 @@ outlook_of asked its = record {
   last_are = torn_no_plays (beginning_of asked) its.last its.teardowns;
   play = asked.play;
   others = asked.others;
-  start = asked.start;
 }
 
 one_play : {wish : Wish} {stored : Stored} {course : Course} (asked : IsAskedFor wish stored course)

@@ -25,8 +25,7 @@ IsDueBy play (slot ∷ slots) = (due_of slot play ≡ play.keep) × IsDueBy play
 -- A client that wishes so asked a connection for a film: what the connection heard is a front of
 -- the client's requests, SETUP, PLAY and TEARDOWN, the last one once the film was due to its end.
 -- The films of the wish's name are this one, and a slot is as long for the server as for the
--- client. A play was admitted, in a slot of 64 bits, and it was kept whole: no pause and no fault
--- cut it.
+-- client. A play was admitted, and it was kept whole: no pause and no fault cut it.
 pub record IsAskedFor (wish : Wish) (stored : Stored) (course : Course) : Type 0 where
   pub wished : IsWish wish
   pub port : wish.port < 2 ^ 16
@@ -41,7 +40,6 @@ pub record IsAskedFor (wish : Wish) (stored : Stored) (course : Course) : Type 0
   pub play : FilmPlay
   pub others : List FilmPlay
   pub plays : course_plays course ≡ play ∷ others
-  pub start : play.start < 2 ^ 64
   pub keep : play.keep ≡ total_bytes play.plan
   pub due : IsDueBy play (drop 2 (slots_from 0 course.rounds))
 

@@ -1,4 +1,5 @@
 pub mod Plays
+pub mod PlayRuns
 pub mod Courses
 pub mod Replies
 pub mod InputSplits
@@ -11,3 +12,5 @@ pub mod Notes
 pub mod Receipts
 pub mod Failures
 pub mod ClientRequests
+pub mod ReportCourses
+pub mod LookLimits

@@ -1,7 +1,7 @@
 //! Laws on every course of a connection, on its bytes and its report, each a contract without a
 //! body.
 
-ghost use Rattle.std.specs.Prelude.{◌≡◌, ◌+◌, ◌++◌, ◌∷◌, [], ℕ, List, map};
+ghost use Rattle.std.specs.Prelude.{◌≡◌, ◌+◌, ◌++◌, ◌∷◌, [], ℕ, List, None, Option, map};
 ghost use Rattle.vod_base.specs.Links.{IoEvent, HeardSlot};
 ghost use Rattle.film_frames.specs.declared.stored_films.Stored.{Stored};
 ghost use Rattle.session.specs.SettingRanges.{AreFilms};
@@ -10,10 +10,16 @@ ghost use Rattle.conn.specs.Films.{rounds_film};
 ghost use Rattle.conn.specs.EventSteps.{EndsInReply, HasFailedInSlot, IsStopped, Round, Runs};
 ghost use Rattle.conn.specs.EventSteps.{RunsAll};
 ghost use Rattle.conn.specs.EventSteps.{entries_in, round_bytes, rounds_outcomes};
-ghost use Rattle.conn.specs.InputSteps.{Answered, Outcome, Stage, reply_parts};
+ghost use Rattle.conn.specs.InputSteps.{Answered, HasHeard, Outcome, Stage, reply_parts};
 ghost use Rattle.conn.specs.declared.reports.ConnEnd.{ConnEnd};
 ghost use Rattle.conn.specs.declared.reports.ConnReport.{ConnReport};
 ghost use Rattle.conn.specs.Agreement.{Activity, HasDone, doings_outcomes};
+ghost use Rattle.conn.specs.ConnectionService.{HasServedFrom};
+ghost use Rattle.session.specs.RequestEffects.{HasCode};
+ghost use Rattle.session.specs.RequestSteps.{new_session_state};
+ghost use Rattle.session.specs.SessionStates.{SessionState};
+ghost use Rattle.station.specs.Seats.{SeatState};
+ghost use Rattle.connection_laws.specs.ReportCourses.{IsCourseOf, activity_of};
 ghost use Rattle.connection_laws.specs.Courses.{Course, IsCourseBetween, IsCourseSplit};
 ghost use Rattle.connection_laws.specs.Courses.{course_film, course_plays};
 ghost use Rattle.connection_laws.specs.Courses.{first_stage, greatest_slot, rounds_bytes};
@@ -26,6 +32,8 @@ ghost use Rattle.connection_laws.specs.Notes.{ending_missed, noted_play, notes_o
 ghost use Rattle.connection_laws.specs.Notes.{placed_plays, rounds_missed, station_calls};
 ghost use Rattle.connection_laws.specs.Receipts.{offers_in, receipts_in};
 ghost use Rattle.connection_laws.specs.ReplyPlaces.{AreSentAt, slots_from};
+ghost use Rattle.connection_laws.specs.LookLimits.{MayLackMemory};
+ghost use Rattle.connection_laws.specs.PlayRuns.{AreRunsInOrder};
 ghost use Rattle.connection_laws.specs.Plays.{AreOver, booked_plays, booking_of};
 ghost use Rattle.connection_laws.specs.Requests.{AreTaken};
 ghost use Rattle.connection_laws.specs.Replies.{course_replies, course_texts, text_of};
@@ -50,8 +58,23 @@ pub fn law_course_is_event_sequence()
         → IsCourseSplit old first rest new }
 {}
 
+/// A connection that was served has done what its report lists, and has a course: all its rounds,
+/// the one in which it ended among them. So each law on courses holds for what
+/// `conn::serve_connection` did (its clause `served`).
+pub fn law_served_connection_has_a_course()
+    ensures served { (films : List Stored) (settings : Settings) (words : List ℕ)
+        (old_told new_told : Option (List IoEvent)) (old new : SeatState) (report : ConnReport)
+        → (served : HasServedFrom (new_session_state films settings words) old_told new_told old new
+        report)
+        → HasDone films settings words
+        (activity_of films settings words old_told new_told old new report served) report }
+    ensures course { (films : List Stored) (settings : Settings) (words : List ℕ)
+        (doings : Activity) (report : ConnReport) → HasDone films settings words doings report
+        → (course : Course) × IsCourseOf films settings words doings course }
+{}
+
 /// After each event the film bytes that a connection wrote from its beginning on are, of the films
-/// of its plays joined, as many as are due by the greatest slot that was heard: of each play what
+/// of its plays joined, as many as are due by the greatest slot that arrived: of each play what
 /// its plan has by then, and none past what is kept of it. Each play but the last was sent as far
 /// as it is kept.
 pub fn law_film_written_equals_bytes_due()
@@ -59,8 +82,19 @@ pub fn law_film_written_equals_bytes_due()
     ensures over { (course : Course) → AreOver (greatest_slot course.rounds) (course_plays course) }
 {}
 
-/// The plays of a connection's course are those that its entries in the journal tell: each begins
-/// in the slot and has the plan with which it was admitted, and keeps what the next halt keeps.
+/// Each play of a connection's course either resumes the run of the play before it, from the byte
+/// up to which that play was kept, in the same packets and reports; or it begins a new run at the
+/// run's first byte (RFC 2326 sections 10.5 and 10.6). The first run has the SSRC, the first
+/// sequence number and the timestamps of the connection's random words. In each later run the
+/// sequence numbers go on, and the reports count all packets and octets that were sent before (RFC
+/// 3550 sections 5.1 and 6.4.1).
+pub fn law_plays_resume_or_begin_runs()
+    ensures { (course : Course) → AreRunsInOrder course.words None (course_plays course) }
+{}
+
+/// The plays of a connection's course are those that its entries in the journal say: each begins in
+/// the slot and has the plan with which it was admitted. As many bytes of it are sent as the next
+/// halt keeps.
 pub fn law_plays_match_journal_entries()
     ensures { (course : Course) → map booking_of (course_plays course)
         ≡ booked_plays (entries_in (rounds_outcomes course.rounds)) }
@@ -85,8 +119,17 @@ pub fn law_replies_at_next_boundary()
         (slots_from 0 course.rounds) (course_texts course) }
 {}
 
+/// Of a connection's requests only a PLAY and an offer in Ready, and a look that at least 1,024
+/// looks came before, may be answered 500: memory may run out for no other (RFC 2326 section
+/// 7.1.1).
+pub fn law_first_looks_of_a_connection_find_memory()
+    ensures { (course : Course) (message : List ℕ) (outcome : Outcome) (new : SessionState)
+        → HasHeard course.last.session message outcome new → HasCode 500 new.text
+        → MayLackMemory course message }
+{}
+
 /// The requests in a connection's input are processed in order. After each event so were all that
-/// are whole, unless an earlier reply waits or the 200 of a TEARDOWN was sent.
+/// are complete, unless an earlier reply waits or the 200 of a TEARDOWN was sent.
 pub fn law_requests_processed_in_order()
     ensures { (beginning : Beginning) (cutting : InputSplit beginning) → AreTaken beginning cutting }
 {}
@@ -103,9 +146,9 @@ pub fn law_courses_are_input_splits()
         → ArePrefixes old first rest new }
 {}
 
-/// However the same bytes between the same slots are cut into events, a connection sends the same,
-/// as long as the station answers the same and memory is wanting for the same requests. What is so
-/// of two courses is so of their fronts: so they have sent the same after each slot.
+/// However the same bytes between the same slots are split into events, a connection sends the
+/// same, as long as the station answers the same and memory runs out for the same requests. What
+/// holds for two courses holds for their prefixes: so they have sent the same after each slot.
 pub fn law_output_ignores_segmentation()
     ensures same { (beginning : Beginning) (one other : InputSplit beginning)
         → AreFilms beginning.films → HaveSameInput beginning one other
@@ -161,8 +204,8 @@ pub fn law_report_lists_station_answers()
         → report.offers.items ≡ offers_in (doings_outcomes doings) }
 {}
 
-/// A report's missed slots are those that were not heard while a play, or its rest, was being sent:
-/// at each slot that was heard then, the slots before it that are later than the last one heard,
+/// A report's missed slots are those that did not arrive while a play, or its rest, was being sent:
+/// at each slot that arrived then, the slots before it that are later than the last one before,
 /// from the play's first one on.
 pub fn law_report_counts_missed_slots()
     ensures { (films : List Stored) (settings : Settings) (words : List ℕ) (doings : Activity)

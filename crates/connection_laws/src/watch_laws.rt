@@ -38,7 +38,7 @@ ghost use Rattle.connection_laws.specs.Courses.{Course};
 /// of its one play, of the whole film and for the client's own buffer, start delay and slot, comes
 /// back from its first picture to its last one; and at each reading no picture lacks that is used,
 /// and what waits fits in the buffer (Salehi, Zhang, Kurose and Towsley 1998). So it is where the
-/// connection was asked for the film by the client's requests, and its play was kept whole.
+/// connection was asked for the film by the client's requests, and its play was sent to its end.
 pub fn law_watched_film_is_complete()
     ensures played { (wish : Wish) (stored : Stored) (course : Course) (watched : Watched)
         (heard : List IoEvent) (out : List ℕ) → IsWish wish
@@ -54,7 +54,7 @@ pub fn law_watched_film_is_complete()
 {}
 
 /// What a client that wishes for a film asks of a connection, SETUP, PLAY and, once the film was
-/// due to its end, TEARDOWN, is played as it wished where it was admitted and nothing cut it: one
+/// due to its end, TEARDOWN, is played as it wished where it was admitted and not stopped: one
 /// play, of the whole film, by its plan for the client's buffer, start delay and slot, on the
 /// channels 0 and 1. The replies to SETUP and to PLAY come before the film's first byte, and a
 /// later one after its last (RFC 2326 sections 10.4, 10.5 and 10.12).
@@ -65,7 +65,7 @@ pub fn law_requested_film_is_played()
 {}
 
 /// A client reads in the reply to PLAY what the server writes in it: its code and number, the
-/// session, the film's end and the play's start. The reply is a whole message, and its fields'
+/// session, the film's end and the play's start. The reply is a complete message, and its fields'
 /// values have no LF and no blanks around them.
 pub fn law_play_reply_is_read_correctly()
     ensures { (message id authority name : List ℕ) (sequence end_ms number time slots : ℕ)

@@ -38,7 +38,7 @@ use Rattle.session.specs.declared.states.Setup.{Setup}
 use Rattle.session.specs.declared.states.State.{State}
 use Rattle.session.specs.declared.states.State.TheVariants.{Init, Ready, Playing, Stopping}
 use Rattle.session.specs.Films.{Names, length_ms}
-use Rattle.session.specs.RequestSteps.{HearsOn, AnswersGoodRequest}
+use Rattle.session.specs.RequestSteps.{AnswersGoodRequest, Hears}
 use Rattle.session.specs.RefusalOrder.{IsJudged, IsTaskOf, IsTopic, fault_refusal, method_of, option_of}
 use Rattle.session.specs.Laws.{IsOneAnswer}
 use Rattle.session.specs.Methods.{AsksHalt, AsksOffer, AsksOfferOr, AsksPlay, AsksPlayOr, Describes, play_call}
@@ -373,24 +373,23 @@ whole_once {old} {one} {other} {message} {ask} {again} films is its =
     (record { films = films; judged = is.hears.judged; judged_again = its.hears.judged })
     is.hears.takes its.hears.takes
 
-hears_on_once : {one other : SessionState} {ask again : Ask} (lost : Bool) (old : SessionState) (message : List ℕ)
+both_once : {one other : SessionState} {ask again : Ask} (old : SessionState) (message : List ℕ)
     → AreFilms old.films
-    → HearsOn lost old message ask one → HearsOn lost old message again other
+    → Hears old message ask one → Hears old message again other
     → IsOneAnswer old message ask one again other
-hears_on_once {one} {other} {ask} true old message films is its = inr (inl is)
-hears_on_once {one} {other} {ask} {again} false old message films (inl is) (inl its) =
+both_once {one} {other} {ask} {again} old message films (inl is) (inl its) =
     replied_once old message ask again one other _ _
     (ap (λ f. refusal_text (first_sequence message) (fault_refusal f) [])
     (fault_once message its.fault is.fault its.is_fault is.is_fault)) is.refused its.refused
-hears_on_once {one} {other} {ask} false old message films (inl is) (inr its) =
+both_once {one} {other} {ask} old message films (inl is) (inr its) =
     let r = its.request in
     absurd (no_fault is.fault its.is_request is.is_fault)
-hears_on_once {one} {other} {ask} false old message films (inr is) (inl its) =
+both_once {one} {other} {ask} old message films (inr is) (inl its) =
     let r = is.request in
     absurd (no_fault its.fault is.is_request its.is_fault)
-hears_on_once {one} {other} {ask} false old message films (inr is) (inr its) = whole_once films is its
+both_once {one} {other} {ask} old message films (inr is) (inr its) = whole_once films is its
 
 -- a message has one answer, state, reply and command, or memory is wanting for it
 pub hears_once : (twice : TwoHearings)
     → IsOneAnswer twice.old twice.message twice.ask twice.one twice.again twice.other
-hears_once twice = hears_on_once twice.old.lost twice.old twice.message twice.films twice.is twice.its
+hears_once twice = both_once twice.old twice.message twice.films twice.is twice.its

@@ -78,7 +78,7 @@ use Rattle.session.specs.declared.states.Setup.{Setup}
 use Rattle.session.specs.declared.states.State.{State}
 use Rattle.session.specs.declared.states.State.TheVariants.{Init, Ready, Playing, Stopping}
 use Rattle.session.specs.Films.{IsFilmAt, length_ms, milliseconds_at, timestamp_at}
-use Rattle.session.specs.RequestSteps.{Hears, HearsOn, after_offer, new_session_state, started_text}
+use Rattle.session.specs.RequestSteps.{Hears, after_offer, new_session_state, started_text}
 use Rattle.session.specs.RefusalOrder.{IsJudged, IsReadAs, fault_refusal, first_of, option_of, or_nothing}
 use Rattle.session.specs.Methods.{AsksHalt, AsksOfferOr, AsksPlay, AsksPlayOr, Ends, Gets, GetsOffer, IsRefused}
 use Rattle.session.specs.Methods.{IsReplied}
@@ -805,22 +805,16 @@ module _ (old : SessionState) (message : List ℕ) (ask : Ask) (new : SessionSta
       (option_repeated request.head.now short)
       (λ least same. absurd (subst (λ r. IsJudged old.films old.id old.state request (Err r)) same judged)) is
 
-  hears_on : (lost : Bool) → LeavesRoom message → HearsOn lost old message ask new → Whole
-  hears_on true room is =
-      refused (first_sequence message) Memory [] (sequence_fits message (first_sequence message) refl) repeats_nothing
-      (λ least same. cc) is
-  hears_on false room (inl fault) =
+  pub replies_whole : LeavesRoom message → Hears old message ask new → Whole
+  replies_whole room (inl fault) =
       refused (first_sequence message) (fault_refusal fault.fault) []
       (sequence_fits message (first_sequence message) refl) repeats_nothing (fault_fits fault.fault) fault.refused
-  hears_on false room (inr whole) =
+  replies_whole room (inr whole) =
       let request = whole.request in
       let read = whole.is_request in
       takes request whole.hears.judgement read
       (sequence_fits message (Some request.sequence) (first_sequence_is message request.sequence read.sequence_is))
       (room (length request.head.now) read.split.is_head) whole.hears.judged whole.hears.takes
-
-  pub replies_whole : LeavesRoom message → Hears old message ask new → Whole
-  replies_whole room hears = hears_on old.lost room hears
 
 -- what a session keeps from its beginning
 pub begins_named : (films : List Stored) (settings : Settings) (words : List ℕ) → AreFilms films

@@ -16,6 +16,7 @@ mod StateMachineLemmas
 pub mod RequestEffectLemmas
 pub mod ReplyCodeLemmas
 pub mod RequestShapes
+pub mod RunLemmas
 mod VerdictUniqueness
 mod PlanUniqueness
 mod RequestUniqueness

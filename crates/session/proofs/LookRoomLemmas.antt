@@ -18,7 +18,7 @@ use Rattle.session.specs.declared.refusals.Task.TheVariants.{Setup as ToSetup, P
 use Rattle.session.specs.declared.refusals.Task.TheVariants.{Pause as ToPause}
 use Rattle.session.specs.declared.refusals.Task.TheVariants.{Teardown as ToTeardown}
 use Rattle.session.specs.declared.refusals.Task.TheVariants.{GetParameter as ToGetParameter}
-use Rattle.session.specs.RequestSteps.{HearsOn, new_session_state}
+use Rattle.session.specs.RequestSteps.{Hears, new_session_state}
 use Rattle.session.specs.RefusalOrder.{IsJudged, IsWord, option_of}
 use Rattle.session.specs.Laws.{Is500}
 use Rattle.session.specs.LookLaws.{SessionEvent, Message, Admission, Overflow, Full, Halt, Look, Offer}
@@ -163,14 +163,12 @@ takes_booked taken (Err refusal) asked judged takes =
   where
     open taken use {old, request}
 
-hears_booked : {lost : Bool} {old : SessionState} {message : List ℕ} (new : SessionState) (ask : Ask) → lost ≡ false
-    → 0 < old.looks_left
-    → AsksBooked old message → HearsOn lost old message ask new → ¬ Is500 ask new
-hears_booked {lost = true} new ask linked some is hears = absurd (let no : ⊥ = cc in no)
-hears_booked {lost = false} {message} new ask linked some is (inl fault) =
+hears_booked : {old : SessionState} {message : List ℕ} (new : SessionState) (ask : Ask) → 0 < old.looks_left
+    → AsksBooked message → Hears old message ask new → ¬ Is500 ask new
+hears_booked {message} new ask some is (inl fault) =
     let r = is.request in
     absurd (no_fault fault.fault is.is_request fault.is_fault)
-hears_booked {lost = false} {old} {message} new ask linked some is (inr whole) =
+hears_booked {old} {message} new ask some is (inr whole) =
     let alike = same_request message is.request whole.request is.is_request whole.is_request in
     takes_booked (record { old = old; new = new; request = whole.request; ask = ask }) whole.hears.judgement (record {
       some = some;
@@ -179,8 +177,8 @@ hears_booked {lost = false} {old} {message} new ask linked some is (inr whole) =
     }) whole.hears.judged whole.hears.takes
 
 pub looks_found : (begun : Beginning) (heard : HeardMessage)
-    → HasLooksLeft begun.films begun.settings begun.words heard.old → AsksBooked heard.old heard.message
+    → HasLooksLeft begun.films begun.settings begun.words heard.old → AsksBooked heard.message
     → ¬ Is500 heard.ask heard.new
 looks_found begun heard has is =
     let room = all_room has.happenings (new_session_state begun.films begun.settings begun.words) heard.old has.are in
-    hears_booked heard.new heard.ask is.linked (omega (arith, room, has.few)) is heard.hears
+    hears_booked heard.new heard.ask (omega (arith, room, has.few)) is heard.hears

@@ -34,7 +34,7 @@ use Rattle.session.specs.declared.refusals.Task.TheVariants.{GetParameter as ToG
 use Rattle.session.specs.declared.states.Setup.{Setup}
 use Rattle.session.specs.declared.states.State.{State}
 use Rattle.session.specs.declared.states.State.TheVariants.{Init, Ready, Playing, Stopping}
-use Rattle.session.specs.RequestSteps.{Hears, HearsOn, after_offer}
+use Rattle.session.specs.RequestSteps.{Hears, after_offer}
 use Rattle.session.specs.RefusalOrder.{IsJudged, IsReadAs, IsTopic}
 use Rattle.session.specs.Methods.{AsksOfferOr, AsksPlayOr, Gets, GetsOffer, HasWait, IsWaitOf, Looks, Pauses, Plays}
 use Rattle.session.specs.Methods.{IsSetUp, Takes, TearsDown, play_call}
@@ -167,14 +167,10 @@ module _ (old : SessionState) (message : List ℕ) (plan : List Segment) (offers
       gets request its.topic is judged.talk.spoken.named its.is_topic its.gets
   takes request (Err refusal) is judged its = absurd (let no : ⊥ = cc (its.0) in no)
 
-  hears_on_offer : (lost : Bool) → HearsOn lost old message (AskOffer plan offers) new → Asked
-  hears_on_offer true refused = absurd (let no : ⊥ = cc (refused.0) in no)
-  hears_on_offer false (inl fault) = absurd (let no : ⊥ = cc (fault.refused.0) in no)
-  hears_on_offer false (inr whole) =
-      takes whole.request whole.hears.judgement whole.is_request whole.hears.judged whole.hears.takes
-
   pub offer_asked : Hears old message (AskOffer plan offers) new → Asked
-  offer_asked hears = hears_on_offer old.lost hears
+  offer_asked (inl fault) = absurd (let no : ⊥ = cc (fault.refused.0) in no)
+  offer_asked (inr whole) =
+      takes whole.request whole.hears.judgement whole.is_request whole.hears.judged whole.hears.takes
 
 -- ---- what is told
 

@@ -26,7 +26,7 @@ use Rattle.session.specs.declared.states.State.TheVariants.{Init, Ready, Playing
 use Rattle.session.specs.EndLaws.{CanBePaused, CanBeTornDown, EndsSession, HaltsPlay, HasTeardown}
 use Rattle.session.specs.EndLaws.{IsPausedPlay, IsPause, HasSessionInReply, IsTeardown, IsTeardownHeard}
 use Rattle.session.specs.EndLaws.{IsTornDown}
-use Rattle.session.specs.RequestSteps.{Hears, HearsOn, after_halt, is_torn, new_session_state}
+use Rattle.session.specs.RequestSteps.{Hears, after_halt, is_torn, new_session_state}
 use Rattle.session.specs.declared.methods.Method.{Method}
 use Rattle.session.specs.declared.methods.Method.TheVariants.{Pause, Teardown}
 use Rattle.session.specs.RefusalOrder.{IsJudged, IsReadAs, method_of, name_of, option_of}
@@ -156,13 +156,12 @@ pauses_task taken ToGetParameter is takes = absurd cc
 
 -- a message of a method is refused, or comes to what its request does
 hears_on : {method : List ℕ} (P : SessionState → Ask → SessionState → Type 0) → TakesMethod P method
-    → (lost : Bool) {old : SessionState} {message : List ℕ} {ask : Ask} {new : SessionState} → IsOfMethod method message
-    → HearsOn lost old message ask new → Comes P old ask new
-hears_on P takes true {ask} {new} is hears = inl (refused _ Memory [] hears)
-hears_on P takes false {message} {ask} {new} is (inl fault) =
+    → {old : SessionState} {message : List ℕ} {ask : Ask} {new : SessionState} → IsOfMethod method message
+    → Hears old message ask new → Comes P old ask new
+hears_on P takes {message} {ask} {new} is (inl fault) =
     let r = is.request in
     absurd (no_fault fault.fault is.is_request fault.is_fault)
-hears_on P takes false {old} {message} {ask} {new} is (inr whole) =
+hears_on P takes {old} {message} {ask} {new} is (inr whole) =
     let alike = same_request message is.request whole.request is.is_request whole.is_request in
     takes (record { old = old; new = new; request = whole.request; ask = ask }) whole.hears.judgement
     (alike.method ∙ is.method_is)
@@ -172,13 +171,13 @@ pub teardown_ends : (old new : SessionState) (message : List ℕ) (ask : Ask) �
     new
     → IsDeclined old ask new ⊎ IsTornDown old ask new
 teardown_ends old new message ask is hears =
-    hears_on IsTornDown (does_task IsTornDown Teardown tears_task) old.lost {old = old} {message = message}
+    hears_on IsTornDown (does_task IsTornDown Teardown tears_task) {old = old} {message = message}
     {ask = ask} {new = new} is hears
 
 pub pause_leaves : (old new : SessionState) (message : List ℕ) (ask : Ask) → IsPause message → Hears old message ask new
     → IsDeclined old ask new ⊎ IsPausedPlay old ask new
 pause_leaves old new message ask is hears =
-    hears_on IsPausedPlay (does_task IsPausedPlay Pause pauses_task) old.lost {old = old} {message = message}
+    hears_on IsPausedPlay (does_task IsPausedPlay Pause pauses_task) {old = old} {message = message}
     {ask = ask} {new = new} is hears
 
 -- a message that is taken up, with its task
@@ -204,14 +203,11 @@ takes_up P does taken (Err refusal) is again = absurd (not_both refusal again.al
 
 -- it does what its task does
 hears_up : (P : SessionState → Ask → SessionState → Type 0) {task : Task} → DoesTask P (method_of task)
-    → {lost : Bool} {old : SessionState}
-    {message : List ℕ} {ask : Ask} {new : SessionState} → lost ≡ false → IsTakenUp old message task
-    → HearsOn lost old message ask new
-    → P old ask new
-hears_up P does {lost = true} {ask} {new} linked is hears = absurd (let no : ⊥ = cc in no)
-hears_up P does {lost = false} {message} {ask} {new} linked is (inl fault) =
+    → {old : SessionState} {message : List ℕ} {ask : Ask} {new : SessionState} → IsTakenUp old message task
+    → Hears old message ask new → P old ask new
+hears_up P does {message} {ask} {new} is (inl fault) =
     absurd (no_fault fault.fault is.is_request fault.is_fault)
-hears_up P does {lost = false} {old} {message} {ask} {new} linked is (inr whole) =
+hears_up P does {old} {message} {ask} {new} is (inr whole) =
     takes_up P does (record { old = old; new = new; request = whole.request; ask = ask }) whole.hears.judgement is
     (record {
       alike = same_request message is.request whole.request is.is_request whole.is_request;
@@ -224,7 +220,7 @@ pub teardown_taken : (old new : SessionState) (message : List ℕ) (ask : Ask) �
     → IsTornDown old ask new
 teardown_taken old new message ask can hears =
     hears_up IsTornDown {task = ToTeardown} tears_task {old = old} {message = message} {ask = ask} {new = new}
-    can.good.linked (record {
+    (record {
       request = can.request;
       is_request = can.is_request;
       judged = record { talk = can.good.talk; film = can.good.film; state = tt };
@@ -235,7 +231,7 @@ pub pause_taken : (old new : SessionState) (message : List ℕ) (ask : Ask) → 
     → IsPausedPlay old ask new
 pause_taken old new message ask can hears =
     hears_up IsPausedPlay {task = ToPause} pauses_task {old = old} {message = message} {ask = ask} {new = new}
-    can.good.linked (record {
+    (record {
       request = can.request;
       is_request = can.is_request;
       judged = record {

@@ -23,7 +23,7 @@ use Rattle.session.specs.declared.states.Prepared.{Prepared}
 use Rattle.session.specs.declared.states.Setup.{Setup}
 use Rattle.session.specs.declared.states.State.{State}
 use Rattle.session.specs.declared.states.State.TheVariants.{Init, Ready, Playing, Stopping}
-use Rattle.session.specs.RequestSteps.{Hears, HearsOn}
+use Rattle.session.specs.RequestSteps.{Hears}
 use Rattle.session.specs.RefusalOrder.{IsJudged, IsReadAs}
 use Rattle.session.specs.Methods.{AsksOfferOr, AsksPlayOr, Gets, GetsOffer, IsSetUp, Looks, Pauses, Plays, Takes}
 use Rattle.session.specs.Methods.{TearsDown, play_call, prepared_of}
@@ -170,11 +170,7 @@ module _ (old : SessionState) (message : List ℕ) (ask : Ask) (new : SessionSta
   takes request (Ok ToGetParameter) read judged is = gets request is.topic is.gets
   takes request (Err refusal) read judged is = replies _ is.1
 
-  hears_on : (lost : Bool) → HearsOn lost old message ask new → Heard
-  hears_on true refused = replies _ refused.1
-  hears_on false (inl fault) = replies _ fault.refused.1
-  hears_on false (inr whole) =
-      takes whole.request whole.hears.judgement whole.is_request whole.hears.judged whole.hears.takes
-
   pub play_heard : Hears old message ask new → Heard
-  play_heard hears = hears_on old.lost hears
+  play_heard (inl fault) = replies _ fault.refused.1
+  play_heard (inr whole) =
+      takes whole.request whole.hears.judgement whole.is_request whole.hears.judged whole.hears.takes

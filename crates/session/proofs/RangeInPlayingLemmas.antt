@@ -21,7 +21,7 @@ use Rattle.session.specs.declared.refusals.Task.TheVariants.{Teardown as ToTeard
 use Rattle.session.specs.declared.refusals.Task.TheVariants.{GetParameter as ToGetParameter}
 use Rattle.session.specs.declared.states.State.{State}
 use Rattle.session.specs.RequestEffects.{HasCode}
-use Rattle.session.specs.RequestSteps.{HearsOn}
+use Rattle.session.specs.RequestSteps.{Hears}
 use Rattle.session.specs.RefusalOrder.{IsJudged, IsReadAs, option_of}
 use Rattle.session.specs.Methods.{IsRefused, Takes}
 use Rattle.session.specs.PlayLaws.{HasRangeInPlaying, PassesEarlierChecks, IsDeclined}
@@ -115,13 +115,11 @@ takes_refused {ask} {new} (Ok task) ranged judged takes =
 takes_refused {request} {ask} {new} (Err refusal) ranged judged takes =
     refused (Some request.sequence) refusal (option_of request.head.now) takes
 
-hears_on_refused : {old : SessionState} {message : List ℕ} {ask : Ask} {new : SessionState} {request : Request} (lost :
-    Bool)
-    → IsReadAs message request → IsRanged old.state request → HearsOn lost old message ask new → IsDeclined old ask new
-hears_on_refused {ask} {new} true is ranged hears = refused _ Memory [] hears
-hears_on_refused {message} {ask} {new} {request} false is ranged (inl fault) =
+hears_refused : {old : SessionState} {message : List ℕ} {ask : Ask} {new : SessionState} {request : Request}
+    → IsReadAs message request → IsRanged old.state request → Hears old message ask new → IsDeclined old ask new
+hears_refused {message} {ask} {new} {request} is ranged (inl fault) =
     absurd (no_fault fault.fault is fault.is_fault)
-hears_on_refused {old} {message} {ask} {new} {request} false is ranged (inr whole) =
+hears_refused {old} {message} {ask} {new} {request} is ranged (inr whole) =
     let alike = same_request message request whole.request is whole.is_request in
     takes_refused whole.hears.judgement (ranged_as old.state request whole.request alike ranged)
     whole.hears.judged whole.hears.takes
@@ -138,7 +136,7 @@ ranged_in old message request is = record {
 pub range_refused : {request : Request} (heard : HeardMessage) → HasRangeInPlaying heard.old heard.message request
     → IsDeclined heard.old heard.ask heard.new
 range_refused {request} heard is =
-    hears_on_refused heard.old.lost is.is_request (ranged_in heard.old heard.message request is) heard.hears
+    hears_refused is.is_request (ranged_in heard.old heard.message request is) heard.hears
 
 -- a PLAY with a Range, heard in Playing, that would else be good, under another reading
 record RangedPlay (old : SessionState) (request other : Request) : Type 0 where
@@ -167,14 +165,12 @@ takes_455 {old} {request} {other} (Err refusal) ask new play judged takes =
     subst (λ (t : List ℕ). HasCode 455 t) (sym text)
     (refusal_code (Some other.sequence) NotNow (option_of other.head.now))
 
-hears_455 : {lost : Bool} {old : SessionState} {message : List ℕ} {request : Request} (ask : Ask) (new : SessionState)
-    → lost ≡ false
+hears_455 : {old : SessionState} {message : List ℕ} {request : Request} (ask : Ask) (new : SessionState)
     → HasRangeInPlaying old message request → PassesEarlierChecks PlayMethod old request
-    → HearsOn lost old message ask new → HasCode 455 new.text
-hears_455 {lost = true} ask new linked is good hears = absurd (let no : ⊥ = cc in no)
-hears_455 {lost = false} {message} {request} ask new linked is good (inl fault) =
+    → Hears old message ask new → HasCode 455 new.text
+hears_455 {message} {request} ask new is good (inl fault) =
     absurd (no_fault fault.fault is.is_request fault.is_fault)
-hears_455 {lost = false} {old} {message} {request} ask new linked is good (inr whole) =
+hears_455 {old} {message} {request} ask new is good (inr whole) =
     takes_455 whole.hears.judgement ask new (record {
       alike = same_request message request whole.request is.is_request whole.is_request;
       ranged = ranged_in old message request is;
@@ -183,4 +179,4 @@ hears_455 {lost = false} {old} {message} {request} ask new linked is good (inr w
 
 pub range_455 : {request : Request} (heard : HeardMessage) → HasRangeInPlaying heard.old heard.message request
     → PassesEarlierChecks PlayMethod heard.old request → HasCode 455 heard.new.text
-range_455 heard is good = hears_455 heard.ask heard.new good.linked is good heard.hears
+range_455 heard is good = hears_455 heard.ask heard.new is good heard.hears

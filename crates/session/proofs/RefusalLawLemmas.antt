@@ -7,7 +7,9 @@ use Rattle.mpeg_scan.specs.PictureRates.{picture_time}
 use Rattle.film_frames.specs.declared.stored_films.Stored.{Stored}
 use Rattle.film_run.specs.declared.runs.Run.{Run}
 use Rattle.film_run.specs.Seeks.{IsRequestedRange}
+use Rattle.rtsp_fields.specs.Ranges.{IsSpan}
 use Rattle.rtsp_fields.specs.SessionIds.{IsSession}
+use Rattle.rtsp_fields.specs.declared.ranges.Origin.{Origin}
 use Rattle.rtsp_fields.specs.declared.ranges.Origin.TheVariants.{Now}
 use Rattle.rtsp_fields.specs.declared.ranges.Span.{Span}
 use Rattle.rtsp_text.specs.Fields.{header_value}
@@ -25,19 +27,21 @@ use Rattle.session.specs.declared.refusals.Refusal.TheVariants.{Method as Unknow
 use Rattle.session.specs.declared.refusals.Refusal.TheVariants.{Session, Film as NoFilm, State as NotNow}
 use Rattle.session.specs.declared.refusals.Task.{Task}
 use Rattle.session.specs.declared.states.Setup.{Setup as SetupIs}
+use Rattle.session.specs.Laws.{Resumes}
 use Rattle.session.specs.Methods.{Takes}
 use Rattle.session.specs.PlayLaws.{PassesEarlierChecks}
-use Rattle.session.specs.RefusalLaws.{IsForeign, IsInvalidMethod, IsKnownMethod, IsOfNoFilm, IsOfNoSession}
+use Rattle.session.specs.RefusalLaws.{BeginsFilm, IsForeign, IsInvalidMethod, IsKnownMethod, IsOfNoFilm, IsOfNoSession}
 use Rattle.session.specs.RefusalLaws.{IsPlainRequest, IsRefusedBy, IsWholeFilm, LacksSession, RequiresSomeOption}
 use Rattle.session.specs.RefusalOrder.{FitsSession, IsJudged, IsOwnSession, IsReadAs, IsTimely, first_of, option_of}
 use Rattle.session.specs.RefusalOrder.{required_of}
 use Rattle.session.specs.Replies.{code_of, refusal_fields, refusal_text}
-use Rattle.session.specs.RequestSteps.{HearsOn}
+use Rattle.session.specs.RequestSteps.{Hears}
 use Rattle.session.specs.RequestedPlans.{IsPlannedRun}
-use Rattle.session.specs.RunRequests.{IsRequestFor, run_of}
+use Rattle.session.specs.RunRequests.{IsAskedRun, IsRequestFor, counts_for, run_of}
 use Rattle.session.specs.SessionStates.{SessionState, with_reply}
 use Rattle.session.proofs.InitialStateLemmas.{HeardMessage}
 use Rattle.session.proofs.RangeInPlayingLemmas.{same_request}
+use Rattle.session.proofs.ResumedPlayLemmas.{span_of_once}
 use Rattle.session.proofs.VerdictUniqueness.{AreAlike, not_both, refusal_once, turned}
 
 -- a request that is judged so is refused so
@@ -61,13 +65,12 @@ takes_refused {old} {request} {other} refusal (Err given) ask new alike own judg
           ∙ ap (λ n. refusal_text (Some n) refusal option) alike.sequence;
     }
 
-hears_refused : (lost : Bool) {old : SessionState} {message : List ℕ} (request : Request) (refusal : Refusal)
-    (ask : Ask) (new : SessionState) → lost ≡ false
+hears_refused : {old : SessionState} {message : List ℕ} (request : Request) (refusal : Refusal)
+    (ask : Ask) (new : SessionState)
     → IsReadAs message request → IsJudged old.films old.id old.state request (Err refusal)
-    → HearsOn lost old message ask new → IsRefusedBy old (code_of refusal) request.sequence ask new
-hears_refused true request refusal ask new linked is own hears = absurd (let none : ⊥ = cc in none)
-hears_refused false request refusal ask new linked is own (inl fault) = absurd (no_fault fault.fault is fault.is_fault)
-hears_refused false {message} request refusal ask new linked is own (inr whole) =
+    → Hears old message ask new → IsRefusedBy old (code_of refusal) request.sequence ask new
+hears_refused request refusal ask new is own (inl fault) = absurd (no_fault fault.fault is fault.is_fault)
+hears_refused {message} request refusal ask new is own (inr whole) =
     takes_refused refusal whole.hears.judgement ask new (same_request message request whole.request is whole.is_request)
     own whole.hears.judged whole.hears.takes
 
@@ -75,14 +78,13 @@ hears_refused false {message} request refusal ask new linked is own (inr whole) 
 pub record HeardRequest : Type 0 where
   pub heard : HeardMessage
   pub request : Request
-  pub linked : heard.old.lost ≡ false
   pub is : IsReadAs heard.message request
 
-refused_by : (r : HeardRequest) (refusal : Refusal)
+pub refused_by : (r : HeardRequest) (refusal : Refusal)
     → IsJudged r.heard.old.films r.heard.old.id r.heard.old.state r.request (Err refusal)
     → IsRefusedBy r.heard.old (code_of refusal) r.request.sequence r.heard.ask r.heard.new
 refused_by r refusal own =
-    hears_refused r.heard.old.lost r.request refusal r.heard.ask r.heard.new r.linked r.is own r.heard.hears
+    hears_refused r.request refusal r.heard.ask r.heard.new r.is own r.heard.hears
 
 pub unknown_refused : (r : HeardRequest) → ¬ IsKnownMethod r.request
     → IsRefusedBy r.heard.old 501 r.request.sequence r.heard.ask r.heard.new
@@ -207,3 +209,54 @@ whole_played old stored setup planned is =
     subst (λ (s : Span). IsRequestFor stored.film None s.from s.to is.wanted) asked.is_span asked.is_wanted in
     subst (λ (r : Run). IsWholeFilm stored.film r) (sym is.run_is)
     (whole_run stored.film (run_of is.wanted) (asked_whole stored.film is.wanted now))
+
+-- ---- a PLAY from now on
+
+-- what a Range from now on asks for
+asked_now : {film : Film} {paused : Option Run} (value : List ℕ) (span : Span) (wanted : PlayRequest)
+    → IsSpan value span → span.from ≡ Now → IsAskedRun film paused (Some value) wanted
+    → IsRequestFor film paused Now span.to wanted
+asked_now {film} {paused} value span wanted is now asked =
+    let same : asked.span ≡ span = span_of_once (Some value) asked.span span asked.is_span is in
+    let own : IsRequestFor film paused span.from span.to wanted =
+    subst (λ (s : Span). IsRequestFor film paused s.from s.to wanted) same asked.is_wanted in
+    subst (λ (o : Origin). IsRequestFor film paused o span.to wanted) now own
+
+new_begins : {film : Film} {to : Option ℕ} {run : Run} → IsRequestedRange film 0 to run → BeginsFilm film run
+new_begins {film} {to} {run} is = record {
+  begins = ap (λ n. n * picture_time film.rate) is.new.first_is ∙ zero_time _ is.begins.by_then;
+  unplayed = is.new.from_is ∙ sym is.new.first_is;
+  unsent = is.new.sent_is;
+}
+  where
+    zero_time : (time : ℕ) → time * 1000000000 ≤ 0 * 360000 → time ≡ 0
+    zero_time time by_then = omega (arith, by_then)
+
+begun_by : (film : Film) (to : Option ℕ) (wanted : PlayRequest) → IsRequestFor film None Now to wanted
+    → BeginsFilm film (run_of wanted)
+begun_by film to (Resumed run) asked = absurd asked
+begun_by film to (New run) asked = new_begins asked
+
+pub now_begins : (old : SessionState) (stored : Stored) (setup : SetupIs) (value : List ℕ) (span : Span)
+    (planned : Planned) → IsSpan value span → span.from ≡ Now
+    → IsPlannedRun old stored setup None (Some value) planned → BeginsFilm stored.film planned.run
+now_begins old stored setup value span planned is now planned_is =
+    subst (λ (r : Run). BeginsFilm stored.film r) (sym planned_is.run_is)
+    (begun_by stored.film span.to planned_is.wanted (asked_now value span planned_is.wanted is now planned_is.asked))
+
+resumed_by : (film : Film) (paused : Run) (to : Option ℕ) (wanted : PlayRequest)
+    → IsRequestFor film (Some paused) Now to wanted → wanted ≡ Resumed paused
+resumed_by film paused to (Resumed run) asked = ap Resumed asked
+resumed_by film paused to (New run) asked = absurd asked
+
+pub now_resumes : (old : SessionState) (stored : Stored) (setup : SetupIs) (paused : Run) (value : List ℕ)
+    (span : Span) (planned : Planned) → IsSpan value span → span.from ≡ Now
+    → IsPlannedRun old stored setup (Some paused) (Some value) planned → Resumes old paused planned
+now_resumes old stored setup paused value span planned is now planned_is =
+    let same : planned_is.wanted ≡ Resumed paused = resumed_by stored.film paused span.to planned_is.wanted
+    (asked_now value span planned_is.wanted is now planned_is.asked) in
+    record {
+      run = planned_is.run_is ∙ ap run_of same;
+      counts = planned_is.counts_is
+          ∙ ap (counts_for stored.film old.source setup old.counts (Some paused)) same;
+    }

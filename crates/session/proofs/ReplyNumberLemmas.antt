@@ -39,7 +39,7 @@ use Rattle.session.specs.Replies.{code_of, describe_text, field, full_text, join
 use Rattle.session.specs.Replies.{overflow_text, parameters_text, plain_text, play_fields, public_text, refusal_fields}
 use Rattle.session.specs.Replies.{refusal_text, session_text, setup_text, transport_value}
 use Rattle.session.specs.ReplyNumbers.{HasNumber, NumbersLook, NumbersPlay, RepliesHaveNumber}
-use Rattle.session.specs.RequestSteps.{HearsOn, after_admission, after_offer, started_text}
+use Rattle.session.specs.RequestSteps.{Hears, after_admission, after_offer, started_text}
 use Rattle.session.specs.SessionStates.{SessionState, sequence_of}
 use Rattle.session.proofs.InitialStateLemmas.{HeardMessage}
 use Rattle.session.proofs.RangeInPlayingLemmas.{same_request}
@@ -267,17 +267,15 @@ takes_number s request (Ok ToTeardown) is = tears_number s s.old.state request.s
 takes_number s request (Ok ToGetParameter) is = gets_number s request is.topic is.gets
 takes_number s request (Err refusal) is = refused s request.sequence refusal (option_of request.head.now) is
 
-hears_number : (s : Step) (lost : Bool) (message : List ℕ) (request : Request)
-    → lost ≡ false → IsReadAs message request → HearsOn lost s.old message s.ask s.new → Numbered s request.sequence
-hears_number s true message request linked is hears = absurd (let none : ⊥ = cc in none)
-hears_number s false message request linked is (inl fault) = absurd (no_fault fault.fault is fault.is_fault)
-hears_number s false message request linked is (inr whole) =
+hears_number : (s : Step) (message : List ℕ) (request : Request)
+    → IsReadAs message request → Hears s.old message s.ask s.new → Numbered s request.sequence
+hears_number s message request is (inl fault) = absurd (no_fault fault.fault is fault.is_fault)
+hears_number s message request is (inr whole) =
     let alike = same_request message request whole.request is whole.is_request in
     subst (λ n. RepliesHaveNumber n s.ask s.new) alike.sequence
     (takes_number s whole.request whole.hears.judgement whole.hears.takes)
 
-pub reply_number : (request : Request) (heard : HeardMessage) → heard.old.lost ≡ false
+pub reply_number : (request : Request) (heard : HeardMessage)
     → IsReadAs heard.message request → RepliesHaveNumber request.sequence heard.ask heard.new
-reply_number request heard linked is =
-    hears_number (record { old = heard.old; new = heard.new; ask = heard.ask }) heard.old.lost heard.message request
-    linked is heard.hears
+reply_number request heard is =
+    hears_number (record { old = heard.old; new = heard.new; ask = heard.ask }) heard.message request is heard.hears

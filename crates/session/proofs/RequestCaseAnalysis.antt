@@ -37,7 +37,7 @@ use Rattle.session.specs.declared.states.Setup.{Setup}
 use Rattle.session.specs.declared.states.State.{State}
 use Rattle.session.specs.declared.states.State.TheVariants.{Init, Ready, Playing, Stopping}
 use Rattle.session.specs.EndLaws.{IsTeardown}
-use Rattle.session.specs.RequestSteps.{Hears, HearsOn, is_answered, is_torn}
+use Rattle.session.specs.RequestSteps.{Hears, is_answered, is_torn}
 use Rattle.session.specs.RefusalOrder.{IsJudged, IsReadAs, IsTopic, IsWord, fault_refusal, option_of}
 use Rattle.session.specs.Laws.{IsOfMethod, IsOutOfMemory, MayRunOutOfMemory}
 use Rattle.session.specs.Methods.{AsksHalt, AsksLook, AsksOffer, AsksOfferOr, AsksPlayOr, Gets, play_call}
@@ -149,9 +149,8 @@ record PlayHeard (old : SessionState) (message : List ℕ) : Type 0 where
   ready : old.state ≡ Ready setup paused
   play : IsOfMethod (codes "PLAY") message
 
--- a GET_PARAMETER that is heard while the link goes on
+-- a GET_PARAMETER that is heard
 record ParameterHeard (old : SessionState) (message : List ℕ) (request : Request) : Type 0 where
-  linked : old.lost ≡ false
   read : IsReadAs message request
   method : request.method.now ≡ codes "GET_PARAMETER"
   number : first_sequence message ≡ Some request.sequence
@@ -186,17 +185,16 @@ module _ (old : SessionState) (message : List ℕ) (ask : Ask) (new : SessionSta
       → Looks old request.sequence ask new → Comes
   looks_to request heard booked (inl look) = AsksForLook request.sequence look
   looks_to request heard booked (inr short) =
-      lacks request.sequence heard.number (inr (inr (inr (record {
+      lacks request.sequence heard.number (inr (inr (record {
         look = record {
           request = request;
-          linked = heard.linked;
           is_request = heard.read;
           method = heard.method;
           body =
               booked;
         };
         none = short.later;
-      })))) short.refused
+      }))) short.refused
 
   asks_offer_to : (sequence wait : ℕ) (planned : Result Planned Refusal) → first_sequence message ≡ Some sequence
       → MayRunOutOfMemory old message → AsksOfferOr old sequence wait planned ask new → Comes
@@ -211,12 +209,12 @@ module _ (old : SessionState) (message : List ℕ) (ask : Ask) (new : SessionSta
   gets_offer_to (Ready setup paused) request heard offer same (inl short) =
       Refuses (Some request.sequence) Parameter [] (λ memory. cc) short.refused
   gets_offer_to (Ready setup paused) request heard offer same (inr offers) =
-      asks_offer_to request.sequence offers.wait offers.offers.planned heard.number (inr (inr (inl (record {
+      asks_offer_to request.sequence offers.wait offers.offers.planned heard.number (inr (inl (record {
         setup = setup;
         request = request;
         ready = ready_in setup paused same;
         offer = record { is_request = heard.read; method = heard.method; body = offer };
-      })))) offers.offers.asks
+      }))) offers.offers.asks
   gets_offer_to (Playing setup play) request heard offer same is =
       Refuses (Some request.sequence) NotNow [] (λ memory. cc) is
   gets_offer_to (Stopping setup stop) request heard offer same is =
@@ -239,12 +237,11 @@ module _ (old : SessionState) (message : List ℕ) (ask : Ask) (new : SessionSta
 
   may_play : PlayHeard old message → MayRunOutOfMemory old message
   may_play heard =
-      inr (inl (record {
+      inl (record {
         setup = heard.setup;
         ready = ready_in heard.setup heard.paused heard.ready;
-        play =
-            heard.play;
-      }))
+        play = heard.play;
+      })
 
   asks_play_to : (heard : PlayHeard old message) (planned : Result Planned Refusal)
       → IsPlanned old heard.setup heard.paused heard.range planned
@@ -291,48 +288,44 @@ module _ (old : SessionState) (message : List ℕ) (ask : Ask) (new : SessionSta
   tears_to (Playing setup play) sequence torn same is = AsksForHalt sequence setup play Torn same refl (inr torn) is
   tears_to (Stopping setup stop) sequence torn same is = Says sequence _ [] true (inr torn) is.0 is.1
 
-  takes_to : (request : Request) (judgement : Result Task Refusal) → old.lost ≡ false → IsReadAs message request
+  takes_to : (request : Request) (judgement : Result Task Refusal) → IsReadAs message request
       → first_sequence message ≡ Some request.sequence
       → IsJudged old.films old.id old.state request judgement → Takes old request judgement ask new → Comes
-  takes_to request (Ok ToOptions) linked read number judged takes = says request.sequence _ [] takes
-  takes_to request (Ok (ToDescribe asked)) linked read number judged takes = says request.sequence _ _ takes.reply
-  takes_to request (Ok (ToSetup film)) linked read number judged takes =
+  takes_to request (Ok ToOptions) read number judged takes = says request.sequence _ [] takes
+  takes_to request (Ok (ToDescribe asked)) read number judged takes = says request.sequence _ _ takes.reply
+  takes_to request (Ok (ToSetup film)) read number judged takes =
       let named = judged.film.1.named.film in
       set_up_to request film takes.read (record {
         number = number;
         init = init_of old.state judged.state;
         within = slice_get_within old.films film named.stored named.at;
       }) takes.is_read takes.done
-  takes_to request (Ok (ToPlay asked)) linked read number judged takes =
+  takes_to request (Ok (ToPlay asked)) read number judged takes =
       plays_to old.state request asked.authority.now number
       (record { request = request; is_request = read; method_is = judged.talk.spoken.named }) refl takes
-  takes_to request (Ok ToPause) linked read number judged takes = pauses_to old.state request.sequence refl takes
-  takes_to request (Ok ToTeardown) linked read number judged takes = tears_to old.state request.sequence
+  takes_to request (Ok ToPause) read number judged takes = pauses_to old.state request.sequence refl takes
+  takes_to request (Ok ToTeardown) read number judged takes = tears_to old.state request.sequence
       (record { request = request; is_request = read; method_is = judged.talk.spoken.named }) refl takes
-  takes_to request (Ok ToGetParameter) linked read number judged takes =
+  takes_to request (Ok ToGetParameter) read number judged takes =
       gets_to request takes.topic
       (record {
-        linked = linked;
         read = read;
         method = judged.talk.spoken.named;
         number =
             number;
       }) takes.is_topic takes.gets
-  takes_to request (Err refusal) linked read number judged takes =
+  takes_to request (Err refusal) read number judged takes =
       elim (is_memory refusal) [
         | inl memory ↦
             absurd (subst (λ r. IsJudged old.films old.id old.state request (Err r)) memory judged)
         | inr other ↦ Refuses (Some request.sequence) refusal (option_of request.head.now) other takes
       ]
 
-  hears_on_to : (lost : Bool) → old.lost ≡ lost → HearsOn lost old message ask new → Comes
-  hears_on_to true lost refused = Lacks (inl lost) refused
-  hears_on_to false linked (inl fault) =
+  -- every answer to a message is one of the ways of `ComesTo`
+  pub comes_to : Hears old message ask new → Comes
+  comes_to (inl fault) =
       Refuses (first_sequence message) (fault_refusal fault.fault) [] (fault_refuses fault.fault) fault.refused
-  hears_on_to false linked (inr whole) =
-      takes_to whole.request whole.hears.judgement linked whole.is_request
+  comes_to (inr whole) =
+      takes_to whole.request whole.hears.judgement whole.is_request
       (first_sequence_is message whole.request.sequence whole.is_request.sequence_is)
       whole.hears.judged whole.hears.takes
-
-  pub comes_to : Hears old message ask new → Comes
-  comes_to hears = hears_on_to old.lost refl hears

@@ -23,7 +23,7 @@ use Rattle.session.specs.declared.states.State.TheVariants.{Ready}
 use Rattle.session.specs.RequestEffects.{AsksOrLacks, AwaitsNoStop, CanBePlayed, ChangesState, IsGoodPlay}
 use Rattle.session.specs.RequestEffects.{IsPlayAskedFor}
 use Rattle.session.specs.RequestEffects.{IsSameContext}
-use Rattle.session.specs.RequestSteps.{Hears, HearsOn}
+use Rattle.session.specs.RequestSteps.{Hears}
 use Rattle.session.specs.RefusalOrder.{IsJudged}
 use Rattle.session.specs.Laws.{AsksNoHalt}
 use Rattle.session.specs.Methods.{AsksPlayOr, IsRefused, IsReplied, Plays, Takes, play_call, play_front, prepared_of}
@@ -230,16 +230,10 @@ good_takes {ask} {new} (Ok ToTeardown) ready good judged takes =
 good_takes {ask} {new} (Ok ToGetParameter) ready good judged takes =
     absurd (let no : ⊥ = cc (judged.talk.spoken.named, good.method) in no)
 
-hears_on_good : {lost : Bool} {old : SessionState} {message : List ℕ} {ask : Ask} {new : SessionState} → lost ≡ false
-    → CanBePlayed old message
-    → HearsOn lost old message ask new → AsksOrLacks old ask new
-hears_on_good {lost = true} {ask} {new} linked can hears = absurd (let no : ⊥ = cc in no)
-hears_on_good {lost = false} {ask} {new} linked can (inl fault) = absurd (can.sound fault.fault fault.is_fault)
-hears_on_good {lost = false} {ask} {new} linked can (inr whole) =
-    good_takes whole.hears.judgement can.ready (can.good whole.request whole.is_request)
-    whole.hears.judged whole.hears.takes
-
 pub hears_good : (old new : SessionState) (message : List ℕ) (ask : Ask) → Hears old message ask new
     → CanBePlayed old message
     → AsksOrLacks old ask new
-hears_good old new message ask hears can = hears_on_good can.linked can hears
+hears_good old new message ask (inl fault) can = absurd (can.sound fault.fault fault.is_fault)
+hears_good old new message ask (inr whole) can =
+    good_takes {ask = ask} {new = new} whole.hears.judgement can.ready (can.good whole.request whole.is_request)
+    whole.hears.judged whole.hears.takes

@@ -17,7 +17,7 @@ use Rattle.session.specs.declared.refusals.Task.TheVariants.{GetParameter as ToG
 use Rattle.session.specs.declared.states.Setup.{Setup}
 use Rattle.session.specs.declared.states.State.TheVariants.{Ready}
 use Rattle.session.specs.Films.{Names}
-use Rattle.session.specs.RequestSteps.{Hears, HearsOn}
+use Rattle.session.specs.RequestSteps.{Hears}
 use Rattle.session.specs.RefusalOrder.{IsJudged}
 use Rattle.session.specs.Methods.{IsSetUp, Takes}
 use Rattle.session.specs.Setups.{AsksForSetup, IsSetupRead}
@@ -78,13 +78,9 @@ module _ (old : SessionState) (message url head : List ℕ) (ask : Ask) (new : S
       absurd (otherwise 71 method (ap first_byte judged.talk.spoken.named) (λ same. omega (arith, same)))
   takes request (Err refusal) method at_url at_head judged taken = Refused _ taken.0 taken.1
 
-  hears_on : (lost : Bool) → HearsOn lost old message ask new → Heard
-  hears_on true refused = Refused _ refused.0 refused.1
-  hears_on false (inl fault) = Refused _ fault.refused.0 fault.refused.1
-  hears_on false (inr whole) =
+  pub setup_heard : Hears old message ask new → Heard
+  setup_heard (inl fault) = Refused _ fault.refused.0 fault.refused.1
+  setup_heard (inr whole) =
       let same = request_once whole.is_request is.read in
       takes whole.request whole.hears.judgement same.method_is same.url_is same.head_is
       whole.hears.judged whole.hears.takes
-
-  pub setup_heard : Hears old message ask new → Heard
-  setup_heard hears = hears_on old.lost hears

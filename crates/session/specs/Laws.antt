@@ -148,11 +148,10 @@ pub record IsOfferInReady (old : SessionState) (message : List ℕ) : Type 0 whe
   pub offer : IsOfferRequest old message request
 
 pub record IsLookPastRoom (old : SessionState) (message : List ℕ) : Type 0 where
-  pub look : AsksBooked old message
+  pub look : AsksBooked message
   pub none : old.looks_left ≡ 0
 
--- memory may be wanting for such a message, and for no other; once the link is lost, each message
--- is answered so
+-- memory may run out for such a message, and for no other
 abbrev pub MayRunOutOfMemory : SessionState → List ℕ → Type 0
-MayRunOutOfMemory old message = (old.lost ≡ true) ⊎ (IsPlayInReady old message
-    ⊎ (IsOfferInReady old message ⊎ IsLookPastRoom old message))
+MayRunOutOfMemory old message = IsPlayInReady old message
+    ⊎ (IsOfferInReady old message ⊎ IsLookPastRoom old message)

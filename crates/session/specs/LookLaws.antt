@@ -59,11 +59,9 @@ looks_of _ = 0
 abbrev pub looks_asked : List SessionEvent → ℕ
 looks_asked happenings = sum_by looks_of happenings
 
--- a message is a GET_PARAMETER for what is booked (RFC 2326 section 10.8), and no call of the link
--- has failed
-pub record AsksBooked (old : SessionState) (message : List ℕ) : Type 0 where
+-- a message is a GET_PARAMETER for what is booked (RFC 2326 section 10.8)
+pub record AsksBooked (message : List ℕ) : Type 0 where
   pub request : Request
-  pub linked : old.lost ≡ false
   pub is_request : IsReadAs message request
   pub method : request.method.now ≡ codes "GET_PARAMETER"
   pub body : IsWord (codes "x-Booked") request.body.now

@@ -54,7 +54,6 @@ pub record IsDeclined (old : SessionState) (ask : Ask) (new : SessionState) : Ty
 -- option, and names the session and the session's film
 pub record PassesEarlierChecks (method : Method) (old : SessionState) (request : Request) : Type 0
   where
-    pub linked : old.lost ≡ false
     pub talk : IsOwnTalk old.id old.state request method
     pub film : HasFilm old.films old.state request.url.now method
 

@@ -95,3 +95,9 @@ pub record IsWholeFilm (film : Film) (run : Run) : Type 0 where
   pub ends : run.end_unit ≡ length film.units.items
   pub unplayed : run.from_unit ≡ run.first_unit
   pub unsent : run.sent ≡ 0
+
+-- a new run from the film's beginning: from the time 0, of which nothing was played or sent
+pub record BeginsFilm (film : Film) (run : Run) : Type 0 where
+  pub begins : run.first_unit * picture_time film.rate ≡ 0
+  pub unplayed : run.from_unit ≡ run.first_unit
+  pub unsent : run.sent ≡ 0

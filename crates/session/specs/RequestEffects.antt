@@ -117,7 +117,6 @@ pub record IsGoodPlay (old : SessionState) (setup : Setup) (paused : Option Run)
 pub record CanBePlayed (old : SessionState) (message : List ℕ) : Type 0 where
   pub setup : Setup
   pub paused : Option Run
-  pub linked : old.lost ≡ false
   pub ready : old.state ≡ Ready setup paused
   pub sound : (fault : RequestFault) → ¬ IsFault message fault
   pub good : (request : Request)

@@ -18,7 +18,6 @@ use Rattle.session.specs.declared.notes.Receipt.TheVariants.{Entry, Full}
 use Rattle.session.specs.declared.states.Awaited.{Awaited}
 use Rattle.session.specs.declared.states.Awaited.TheVariants.{Nothing, Play, Halt, Look, Offer}
 use Rattle.session.specs.declared.states.Counts.{Counts}
-use Rattle.session.specs.declared.refusals.Refusal.TheVariants.{Memory}
 use Rattle.session.specs.RefusalOrder.{IsReadAs, fault_refusal}
 use Rattle.session.specs.Methods.{HearsRequest, IsRefused}
 use Rattle.session.specs.Replies.{field, full_text, look_body, offer_body, overflow_text}
@@ -82,15 +81,10 @@ pub record AnswersGoodRequest (old : SessionState) (message : List ℕ) (ask : A
   pub is_request : IsReadAs message request
   pub hears : HearsRequest old request ask new
 
--- what a message asks of the station, and the session after it; once the link has failed nothing
--- more is begun
-abbrev pub HearsOn : Bool → SessionState → List ℕ → Ask → SessionState → Type 0
-HearsOn false old message ask new = AnswersBadRequest old message ask new ⊎ AnswersGoodRequest old
-    message ask new
-HearsOn true old message ask new = IsRefused old (first_sequence message) Memory [] ask new
-
+-- what a message asks of the station, and the session after it
 abbrev pub Hears : SessionState → List ℕ → Ask → SessionState → Type 0
-Hears old message ask new = HearsOn old.lost old message ask new
+Hears old message ask new = AnswersBadRequest old message ask new
+    ⊎ AnswersGoodRequest old message ask new
 
 -- what was sent before the run that is asked for
 abbrev pub counts_of : Awaited → Counts → Counts

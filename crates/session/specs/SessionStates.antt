@@ -38,7 +38,7 @@ pub record SessionState : Type 0 where
   -- a TEARDOWN was answered 200, and that reply was sent
   pub tearing : Bool
   pub torn : Bool
-  -- a call of the link failed
+  -- a call of the link failed: `slot` or `reply` returned an error, after which nothing is heard
   pub lost : Bool
   -- the last slot that was heard, and the slots that were missed
   pub heard : ℕ

@@ -13,7 +13,7 @@ ghost use Rattle.session.specs.SessionStates.{SessionState};
 
 /// A TEARDOWN that isn't refused halts the play that is sent, if there is one, and the session is
 /// over once its reply was sent. One that names the session and its film, and requires no option,
-/// isn't refused, unless the link was lost. Nothing else ends the session, whatever happens to it.
+/// isn't refused. Nothing else ends the session, whatever happens to it.
 pub fn law_only_teardown_ends_the_session()
     ensures ends { (old new : SessionState) (message : List ℕ) (ask : Ask) → IsTeardown message
         → Hears old message ask new → IsDeclined old ask new ⊎ IsTornDown old ask new }
@@ -27,8 +27,7 @@ pub fn law_only_teardown_ends_the_session()
 
 /// A PAUSE that isn't refused halts the play. Once its reply was sent the session is Ready with
 /// what the halt leaves of the run, which a PLAY without a Range then sends on. In Playing, one
-/// that names the session and its film, and requires no option, isn't refused, unless the link was
-/// lost.
+/// that names the session and its film, and requires no option, isn't refused.
 pub fn law_pause_leaves_a_resumable_run()
     ensures leaves { (old new : SessionState) (message : List ℕ) (ask : Ask) → IsPause message
         → Hears old message ask new → IsDeclined old ask new ⊎ IsPausedPlay old ask new }

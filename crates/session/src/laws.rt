@@ -48,7 +48,7 @@ pub use crate::play_laws::{
     law_note_matches_its_play, law_only_later_slots_are_processed, law_range_in_playing_is_refused,
 };
 pub use crate::refusal_laws::{
-    law_play_without_range_plays_whole_film, law_refusals_come_in_order,
+    law_play_from_now_goes_on, law_play_without_range_plays_whole_film, law_refusals_come_in_order,
     law_replies_have_the_request_cseq,
 };
 
@@ -134,11 +134,10 @@ pub fn law_valid_play_asks_the_station()
         → AsksOrLacks old ask new }
 {}
 
-/// A message is heard in one way, where memory is found for it: one command to the station, and one
-/// session after it, with its state and its reply. Where memory is wanting, it is answered 500, as
-/// for no other reason, and nothing else changes. That may be so of a PLAY and of an offer in
-/// Ready, and of a look once the room of the first 1,024 is used up; any other message is answered
-/// 500 only where the link was lost.
+/// A message has one answer, as long as memory doesn't run out: one command to the station, and one
+/// session after it, with its state and its reply. Where memory runs out, the message is answered
+/// 500, and nothing else changes; nothing else is answered 500. Memory can run out only for a PLAY
+/// and for an offer in Ready, and for a look once the room of the first 1,024 is used up.
 pub fn law_one_answer_per_request()
     ensures one { (old one other : SessionState) (message : List ℕ) (ask again : Ask) →
         AreFilms old.films → Hears old message ask one → Hears old message again other
@@ -153,9 +152,8 @@ pub fn law_one_answer_per_request()
         Hears old message ask new → NeverLacks ask new }
 {}
 
-/// Each refusal has the phrase for its cause, in this project's spelling of those of RFC 2326
-/// section
-/// 7.1.1.
+/// Each refusal has the phrase for its cause, in this project's own spelling: RFC 2326 section
+/// 7.1.1 spells four of the twelve otherwise, and recommends its phrases only.
 pub fn law_refusals_have_their_phrases()
     ensures { (refusal : Refusal) → phrase (code_of refusal) ≡ phrase_of refusal }
 {}

@@ -14,5 +14,5 @@ ghost use Rattle.session.specs.SessionStates.{SessionState};
 pub fn law_first_looks_never_lack_memory()
     ensures { (films : List Stored) (settings : Settings) (words : List ℕ) (old new : SessionState)
         (message : List ℕ) (ask : Ask) → HasLooksLeft films settings words old
-        → AsksBooked old message → Hears old message ask new → ¬ Is500 ask new }
+        → AsksBooked message → Hears old message ask new → ¬ Is500 ask new }
 {}

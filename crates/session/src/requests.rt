@@ -45,23 +45,24 @@ use std::mem;
 use vod_base::NoMemory;
 
 impl<'a> Session<'a> {
-    /// Hears a whole request: answers it, or asks for what its answer needs.
+    /// Processes a complete request: answers it, or asks for what its answer needs.
     ///
-    /// All memory that the request needs is taken here, before anything is changed: want of it is
-    /// answered 500.
+    /// It takes all memory that the request needs before it changes anything. Where memory runs
+    /// out it answers 500.
+    ///
+    /// The caller may ask only while no link call of the session has failed: once
+    /// [`Session::slot`] or [`Session::reply`] returned an error, no request is processed any more,
+    /// since a play could not be stopped between two packets. [`Session::link_failed`] says so too.
     pub fn hear(&mut self, message: &[u8]) -> Ask
         requires rest { AwaitsNoAnswer self.old }
         requires replied { self.old.waits ≡ false }
         requires torn { self.old.torn ≡ false }
+        requires linked { self.old.lost ≡ false }
         requires whole { IsMessageLength message.now (length message.now) }
         ensures hears { Hears self.old message.now result self.new }
         ensures asks { AsksFor result self.new }
         ensures same { IsSameStationState self.old self.new }
     {
-        if self.lost {
-            // what is due can't be sent any more, so no play can be stopped at the end of a piece
-            return self.refuse(sequence_of(message), Refusal::Memory);
-        }
         match read_request(message) {
             Ok(request) => self.hear_request(&request),
             Err(fault) => self.refuse(sequence_of(message), fault.into()),

@@ -141,6 +141,14 @@ impl<'a> Session<'a> {
         matches!(self.teardown, Teardown::Sent)
     }
 
+    /// Whether a link call of the session failed: [`Session::slot`] or [`Session::reply`] returned
+    /// an error. From then on [`Session::hear`] may not be called.
+    pub fn link_failed(&self) -> bool
+        ensures { result ≡ self.now.lost }
+    {
+        self.lost
+    }
+
     /// What is due of the open booking, in bytes of its plan, if there is one.
     pub fn open_due(&self) -> Option<u64>
         ensures due { MatchOption result (open_of self.now ≡ None) (IsDue (open_of self.now)) }

@@ -40,7 +40,8 @@ connections-preserved g c =
       one = served_fresh {films = c.args.films.now} {settings = c.args.settings.now} {words = _} {old = _}
           {new = _} {before = _} {after = _} {seat = c.connections.seat}
           {next = c.serve_connection-report.new.seat} {report = report}
-          some.fresh.0 some.fresh.1 served.words served.served served.guarantee served.fault;
+          some.fresh.0 some.fresh.1 served.words served.served served.guarantee served.entries
+          served.fault;
     }) given c.give_back.ensures.back (omega (arith, c.take.ensures.count, c.give_back.ensures.count)) items
 
 pub returns-then-is_err : goal.returns-then-is_err

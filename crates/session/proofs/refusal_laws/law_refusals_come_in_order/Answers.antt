@@ -3,38 +3,34 @@ use Rattle.session.proofs.RefusalLawLemmas.{unknown_refused}
 use Rattle.session.proofs.refusal_laws.law_refusals_come_in_order.Goals as goal
 
 pub returns-clause-method : goal.returns-clause-method
-returns-clause-method c = λ old new message ask request hears linked is.
+returns-clause-method c = λ old new message ask request hears is.
     unknown_refused (record {
       heard = record { old = old; new = new; message = message; ask = ask; hears = hears };
       request = request;
-      linked = linked;
       is = is;
     })
 
 pub returns-clause-option : goal.returns-clause-option
-returns-clause-option c = λ old new message ask request hears linked is.
+returns-clause-option c = λ old new message ask request hears is.
     option_refused (record {
       heard = record { old = old; new = new; message = message; ask = ask; hears = hears };
       request = request;
-      linked = linked;
       is = is;
     })
 
 pub returns-clause-session : goal.returns-clause-session
-returns-clause-session c = λ old new message ask request hears linked is.
+returns-clause-session c = λ old new message ask request hears is.
     session_refused (record {
       heard = record { old = old; new = new; message = message; ask = ask; hears = hears };
       request = request;
-      linked = linked;
       is = is;
     })
 
 pub returns-clause-film : goal.returns-clause-film
-returns-clause-film c = λ old new message ask request hears linked is.
+returns-clause-film c = λ old new message ask request hears is.
     film_refused (record {
       heard = record { old = old; new = new; message = message; ask = ask; hears = hears };
       request = request;
-      linked = linked;
       is = is;
     })
 
@@ -43,6 +39,5 @@ returns-clause-state c = λ old new message ask request method hears is good wro
     state_refused (record {
       heard = record { old = old; new = new; message = message; ask = ask; hears = hears };
       request = request;
-      linked = good.linked;
       is = is;
     }) method good wrong

@@ -1,7 +1,10 @@
-use Rattle.std.proofs.Common.{refl, rules, subst}
+use Rattle.std.proofs.Common.{refl, rules, ap, subst, ◌∙◌}
 use Rattle.admission.specs.declared.entries.Answer.TheVariants.{Admitted}
 use Rattle.station.specs.Answers.{IsSeatRefused, HasMadeEntry}
 use Rattle.station.specs.Ledgers.{play_of}
+use Rattle.session.specs.declared.notes.Receipt.TheVariants.{Entry}
+use Rattle.session.specs.RequestSteps.{after_admission}
+use Rattle.session.specs.SessionStates.{IsAnswerRecorded, awaited_answer, booking_of}
 use Rattle.conn.proofs.AdmittedPlays.{answered_admitted, answered_refused, kept_admitted, kept_refused}
 use Rattle.conn.proofs.connections.Connection.play.Goals as goal
 
@@ -14,9 +17,13 @@ returns-in-Ok-clause-kept g c =
       held = c.requires.held;
       closed = c.requires.closed;
     }) c.in-Ok.ensures.made c.in-Ok.ensures.open (record {
-      handed = c.admitted.ensures.handed;
+      handed = subst (λ start. IsAnswerRecorded c.args.self.now.session
+          (Entry c.in-Ok.booking.number (Admitted start)) c.admitted.new.self) c.start.ensures
+          (subst (λ number. IsAnswerRecorded c.args.self.now.session (Entry number (Admitted c.start.result))
+          c.admitted.new.self) c.number.ensures c.admitted.ensures.handed);
       asked = c.requires.asked;
-      opens = c.admitted.ensures.open;
+      opens = c.admitted.ensures.open
+          ∙ ap (λ start. booking_of (awaited_answer c.args.self.now.session) start) c.start.ensures;
       booking_is = c.hold.ensures;
     })
 
@@ -47,8 +54,11 @@ returns-in-Ok-clause-answered g c =
     c.in-Ok.booking.number (Admitted c.in-Ok.booking.start))
     c.heard_slot.ensures.slot c.in-Ok.ensures.made) (record {
       later = search rules;
-      exact = c.admitted.ensures.exact;
+      exact = c.admitted.ensures.exact
+          ∙ ap (λ number. after_admission c.args.self.now.session number c.start.result) c.number.ensures
+          ∙ ap (λ start. after_admission c.args.self.now.session c.in-Ok.booking.number start) c.start.ensures;
       play = c.admitted.ensures.play;
+      small = search rules;
     })
 
 pub returns-in-Err-clause-answered : goal.returns-in-Err-clause-answered

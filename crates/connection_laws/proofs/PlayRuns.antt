@@ -1,0 +1,730 @@
+-- The plays of a course send its runs in order.
+use Rattle.std.proofs.Common.{◌≡◌, ℕ, ◌+◌, ◌-◌, ◌%◌, ◌≤◌, ◌⊎◌, ◌&&◌, ◌++◌, if◌then◌else◌, Bool, true, false, List, [], ◌∷◌}
+use Rattle.std.proofs.Common.{Option, Some, None, slice_get, slice_index, add_assoc, refl, sym, ap}
+use Rattle.std.proofs.Common.{subst, ◌∙◌, inl, inr, arith}
+use Rattle.std.proofs.lemmas.Bool.{true≢false}
+use Rattle.std.proofs.lemmas.List.{append_assoc, append-nil}
+use Rattle.plan_cert.specs.PlanSlots.{total_bytes}
+use Rattle.vod_base.specs.Links.{IoEvent, HeardBytes, HeardEnd, HeardSlot, Sent}
+use Rattle.film_frames.specs.declared.stored_films.Stored.{Stored}
+use Rattle.film_frames.specs.FramedRuns.{FramedRun, frames_before, octets_before, run_of, run_pieces}
+use Rattle.plan_cert.specs.declared.Segment.{Segment}
+use Rattle.early_start.specs.StartSearch.{Offers}
+use Rattle.film_run.specs.declared.runs.Run.{Run}
+use Rattle.rtp_pack.specs.declared.reports.Identity.{Identity}
+use Rattle.admission.specs.declared.entries.Answer.{Answer}
+use Rattle.admission.specs.declared.entries.Answer.TheVariants.{Admitted, Halted, Looked, Overflow}
+use Rattle.admission.specs.Makers.{PlacedEntry}
+use Rattle.station.specs.Ledgers.{look_at, play_of}
+use Rattle.session.specs.declared.commands.Ask.{Ask}
+use Rattle.session.specs.declared.commands.Ask.TheVariants.{Reply as AskReply, Play as AskPlay, Halt as AskHalt}
+use Rattle.session.specs.declared.commands.Ask.TheVariants.{Look as AskLook, Offer as AskOffer}
+use Rattle.session.specs.declared.settings.Settings.{Settings}
+use Rattle.session.specs.declared.states.AfterHalt.{AfterHalt}
+use Rattle.session.specs.declared.states.AfterHalt.TheVariants.{Done, Paused, Torn}
+use Rattle.session.specs.declared.states.Awaited.{Awaited}
+use Rattle.session.specs.declared.states.Awaited.TheVariants.{Nothing, Play, Halt, Look, Offer}
+use Rattle.session.specs.declared.states.Counts.{Counts}
+use Rattle.session.specs.declared.states.Play.{Play as Played}
+use Rattle.session.specs.declared.states.Prepared.{Prepared}
+use Rattle.session.specs.declared.states.Setup.{Setup}
+use Rattle.session.specs.declared.states.State.{State}
+use Rattle.session.specs.declared.states.State.TheVariants.{Init, Ready, Playing, Stopping}
+use Rattle.session.specs.declared.states.StreamSource.{StreamSource}
+use Rattle.session.specs.Films.{IsFilmAt, counts_after, identity_of, sending_of}
+use Rattle.session.specs.Laws.{GoesOn}
+use Rattle.session.specs.RequestSteps.{after_admission, after_halt, counts_done, source_of}
+use Rattle.session.specs.RunRequests.{counts_before}
+use Rattle.session.specs.SessionStates.{NoAnswer, SessionState, awaited_answer, awaited_answer_of}
+use Rattle.session.specs.SlotSteps.{admitted_in, after_play, after_slot, can_reply, due_state, finished_in, is_between, is_sending}
+use Rattle.session.specs.SlotSteps.{is_done_in, is_taken, sent_due, sent_in, sent_reply, sent_slot, state_once_halted}
+use Rattle.session.specs.SlotSteps.{stepped_in}
+use Rattle.session.specs.SlotTransitions.{after_stop}
+use Rattle.session.proofs.RunLemmas.{IsLeftBy, IsNextRun, RunsAs, Replies, SetsUp, AsksPlay, Stops, AsksLook}
+use Rattle.session.proofs.RunLemmas.{AsksOffer, one_film, run_goes_on, runs_as}
+use Rattle.conn.specs.EventSteps.{Comes, Round, Runs}
+use Rattle.conn.specs.InputSteps.{HasHeard, IsAskAnswered, IsFinished, IsHalted, IsLookAnswered, IsPlayAnswered}
+use Rattle.conn.specs.InputSteps.{IsReplied, Outcome, Unasked, Entered, WasFull, Offered, SentPart, Stage, ElementStep}
+use Rattle.conn.specs.InputSteps.{Passed, Answered, TakesAll, after_reply, film_bytes}
+use Rattle.connection_laws.specs.Courses.{Course, IsCourseBetween, asked_by, askings_of, course_plays, first_stage}
+use Rattle.connection_laws.specs.Courses.{round_askings, takings_askings}
+use Rattle.connection_laws.specs.Plays.{FilmPlay, StationRequest, Asks, kept_by, kept_in, kept_with, plays_admitted}
+use Rattle.connection_laws.specs.Plays.{plays_begun, plays_of}
+use Rattle.connection_laws.specs.LookLimits.{course_looks, look_in, looks_in}
+use Rattle.connection_laws.specs.PlayRuns.{AreRunsInOrder, IsFirstRun, IsLaterRun, RunPlace, SendsNext, run_place}
+use Rattle.connection_laws.proofs.FilmBytes.{Stands, opened_stands, reply_awaited, round_step, stands_by, taken_stands}
+
+-- what the runs of a session go by, and what of a reply matters to them
+record Stream : Type 0 where
+  films : List Stored
+  source : StreamSource
+  counts : Counts
+
+record ReplyFlags : Type 0 where
+  waits : Bool
+  tearing : Bool
+  torn : Bool
+
+abbrev stream_of : SessionState → Stream
+stream_of s = record { films = s.films; source = s.source; counts = s.counts }
+
+abbrev flags_of : SessionState → ReplyFlags
+flags_of s = record { waits = s.waits; tearing = s.tearing; torn = s.torn }
+
+-- so many bytes of this run were sent, which has these numbers
+record IsCounted (stream : Stream) (setup : Setup) (last : RunPlace) : Type 0 where
+  before : Counts
+  identity : last.run.identity ≡ identity_of stream.source setup before
+  counts : stream.counts ≡ counts_after before last.run last.sent
+
+abbrev nothing_sent : Counts
+nothing_sent = record { frames = 0; octets = 0 }
+
+-- a new run's numbers go on from here
+abbrev IsFresh : List ℕ → Stream → Setup → Option RunPlace → Type 0
+IsFresh words stream setup None = (stream.counts ≡ nothing_sent) × (stream.source ≡ source_of words)
+IsFresh words stream setup (Some last) = IsCounted stream setup last
+
+-- of a film's run so many bytes were sent
+record IsUnderWay (stream : Stream) (setup : Setup) (run : Run) (sent : ℕ) (last : Option RunPlace) : Type 0 where
+  stored : Stored
+  at : IsFilmAt stream.films setup.film stored
+  place : last ≡ Some (run_place (sending_of stored.film stream.source setup stream.counts run) sent)
+
+abbrev IsAtRest : List ℕ → Option Run → Stream → Setup → Option RunPlace → Type 0
+IsAtRest words None stream setup last = IsFresh words stream setup last
+IsAtRest words (Some paused) stream setup last = IsUnderWay stream setup paused paused.sent last
+
+-- an answer that neither begins nor halts a play
+record IsQuiet (asked : Awaited) (outcome : Outcome) : Type 0 where
+  none : (later : List StationRequest) → plays_begun asked outcome later ≡ []
+  kept : (k : ℕ) → kept_with outcome k ≡ k
+
+unasked_quiet : (asked : Awaited) → IsQuiet asked Unasked
+unasked_quiet asked = record { none = λ later. refl; kept = λ k. refl }
+
+-- where the runs stand, by the state; what is kept of a play that is under way is known later
+abbrev IsLastIn : List ℕ → State → Stream → ReplyFlags → (ℕ → ℕ) → Option RunPlace → Type 0
+IsLastIn words Init stream flags kept last = (last ≡ None) × (stream.counts ≡ nothing_sent)
+    × (stream.source ≡ source_of words)
+IsLastIn words (Ready setup paused) stream flags kept last =
+    ((flags.tearing ≡ true) × (flags.torn ≡ true)) ⊎ IsAtRest words paused stream setup last
+IsLastIn words (Playing setup play) stream flags kept last =
+    IsUnderWay stream setup play.run (play.run.sent + kept (total_bytes play.plan)) last
+IsLastIn words (Stopping setup stop) stream flags kept last =
+    (flags.waits ≡ true) × ((flags.tearing ≡ true) ⊎ IsAtRest words stop.paused stream setup last)
+
+-- looks that are left
+minus_none : (n : ℕ) → n - 0 ≡ n
+minus_none n = omega arith
+
+plus_none : (n : ℕ) → n + 0 ≡ n
+plus_none n = omega arith
+
+minus_both : (n a b : ℕ) → (n - a) - b ≡ n - (a + b)
+minus_both n a b = omega arith
+
+none_asked : (n : ℕ) (awaited : Awaited) → awaited ≡ Nothing → n ≡ n - look_in awaited
+none_asked n awaited rest = sym (minus_none n) ∙ ap (λ a. n - look_in a) (sym rest)
+
+looks_append : (made more : List StationRequest) → looks_in (made ++ more) ≡ looks_in made + looks_in more
+looks_append [] more = omega arith
+looks_append (Asks asked outcome ∷ made) more =
+    ap (λ n. look_in asked + n) (looks_append made more) ∙ sym (add_assoc (look_in asked) (looks_in made)
+    (looks_in more))
+
+-- a new connection's first number
+sequence_begins : (word : ℕ) → (word % 65536 + 0) % 65536 ≡ word % 65536
+sequence_begins word = omega arith
+
+-- what a session's runs go by, what is kept of a play, and the last place
+record Standing : Type 0 where
+  stream : Stream
+  flags : ReplyFlags
+  kept : ℕ → ℕ
+  last : Option RunPlace
+
+abbrev standing : SessionState → (ℕ → ℕ) → Option RunPlace → Standing
+standing s kept last = record { stream = stream_of s; flags = flags_of s; kept = kept; last = last }
+
+module _ (words : List ℕ) where
+  abbrev IsLast : SessionState → (ℕ → ℕ) → Option RunPlace → Type 0
+  IsLast s kept last = IsLastIn words s.state (stream_of s) (flags_of s) kept last
+
+  abbrev Follows : SessionState → List StationRequest → Type 0
+  Follows s askings = (last : Option RunPlace) → IsLast s (kept_in askings) last
+      → AreRunsInOrder words last (plays_of askings)
+
+  -- what is asked on the way from one session to another
+  record Leads (old new : SessionState) (made : List StationRequest) : Type 0 where
+    on : (later : List StationRequest) → Follows new later → Follows old (made ++ later)
+    looks : new.looks_left ≡ old.looks_left - looks_in made
+
+  abbrev Moves : SessionState → SessionState → Type 0
+  Moves old new = (kept : ℕ → ℕ) (last : Option RunPlace) → IsLast old kept last → IsLast new kept last
+
+  leads_then : {a b c : SessionState} {made more : List StationRequest} → Leads a b made → Leads b c more
+      → Leads a c (made ++ more)
+  leads_then {a} {made} {more} one two = record {
+    on = λ later follows. subst (Follows a) (sym (append_assoc made more later))
+        (one.on (more ++ later) (two.on later follows));
+    looks = two.looks ∙ ap (λ n. n - looks_in more) one.looks
+        ∙ minus_both a.looks_left (looks_in made) (looks_in more)
+        ∙ ap (λ n. a.looks_left - n) (sym (looks_append made more));
+  }
+
+  moves : {old new : SessionState} → new.looks_left ≡ old.looks_left → Moves old new → Leads old new []
+  moves {old} looks move = record {
+    on = λ later follows last is. follows last (move (kept_in later) last is);
+    looks = looks ∙ sym (minus_none old.looks_left);
+  }
+
+  moves_none : (s : SessionState) → Moves s s
+  moves_none s = λ kept last is. is
+
+  -- ---- requests that neither begin nor end a play
+
+  -- where the runs of a session stand
+  abbrev IsIn : State → Standing → Type 0
+  IsIn state at = IsLastIn words state at.stream at.flags at.kept at.last
+
+  same_kept : (at : Standing) (g : ℕ → ℕ) (state : State) → ((k : ℕ) → at.kept k ≡ g k) → IsIn state at
+      → IsIn state (record at { kept = g })
+  same_kept at g Init same is = is
+  same_kept at g (Ready setup paused) same is = is
+  same_kept at g (Playing setup play) same is =
+      subst (λ k. IsUnderWay at.stream setup play.run (play.run.sent + k) at.last) (same (total_bytes play.plan)) is
+  same_kept at g (Stopping setup stop) same is = is
+
+  still : {old new : SessionState} {asked : Awaited} {outcome : Outcome} → IsQuiet asked outcome
+      → new.looks_left ≡ old.looks_left - look_in asked → Moves old new → Leads old new (Asks asked outcome ∷ [])
+  still {old} {asked} {outcome} stays looks move = record {
+    on = λ later follows last is. subst (λ plays. AreRunsInOrder words last (plays ++ plays_of later))
+        (sym (stays.none later)) (follows last (move (kept_in later) last
+        (same_kept (standing old (λ k. kept_with outcome (kept_in later k)) last) (kept_in later) old.state
+        (λ k. stays.kept (kept_in later k)) is)));
+    looks = looks ∙ ap (λ n. old.looks_left - n) (sym (plus_none (look_in asked)));
+  }
+
+  -- ---- slots and replies
+
+  stepped : (at : Standing) (stop : Bool) (slot : ℕ) (state : State) → IsIn state at
+      → IsIn (stepped_in stop slot state) at
+  stepped at stop slot Init is = is
+  stepped at stop slot (Ready setup paused) is = is
+  stepped at stop slot (Playing setup play) is = is
+  stepped at stop slot (Stopping setup halted) is = is
+
+  due_between : (at : Standing) (between : Bool) (slot : ℕ) (state : State) → IsIn state at
+      → IsIn (if between then stepped_in false slot (stepped_in true slot state) else stepped_in true slot state) at
+  due_between at true slot state is = stepped at false slot (stepped_in true slot state) (stepped at true slot state is)
+  due_between at false slot state is = stepped at true slot state is
+
+  due : (at : Standing) (waits : Bool) (slot : ℕ) (state : State) → IsIn state at → IsIn (due_state waits state slot) at
+  due at true slot state is = due_between at (is_between (stepped_in true slot state)) slot state is
+  due at false slot state is = stepped at false slot state is
+
+  stopped : (at : Standing) (state : State) → IsIn state at → IsIn (after_stop state)
+      (record at { flags = record { waits = false; tearing = at.flags.tearing; torn = at.flags.tearing } })
+  stopped at Init is = is
+  stopped at (Ready setup paused) (inl torn) = inl (torn.0, torn.0)
+  stopped at (Ready setup paused) (inr rest) = inr rest
+  stopped at (Playing setup play) is = is
+  stopped at (Stopping setup stop) is = elim is.1 [
+    | inl tearing ↦ inl (tearing, tearing)
+    | inr rest ↦ inr rest
+  ]
+
+  reply_looks : (goes : Bool) (s : SessionState) → (if goes then sent_reply s else s).looks_left ≡ s.looks_left
+  reply_looks true s = refl
+  reply_looks false s = refl
+
+  slot_looks : (s : SessionState) (slot : ℕ) (taken sending : Bool)
+      → (if taken then (if sending then after_play (sent_slot s slot) else record s { heard = slot }) else s).looks_left
+      ≡ s.looks_left
+  slot_looks s slot true true = reply_looks (s.waits && is_between (stepped_in true slot s.state)) (sent_due s slot)
+  slot_looks s slot true false = refl
+  slot_looks s slot false sending = refl
+
+  reply_moves : (goes : Bool) (s : SessionState) → Moves s (if goes then sent_reply s else s)
+  reply_moves true s = λ kept last is. stopped (standing s kept last) s.state is
+  reply_moves false s = moves_none s
+
+  due_moves : (s : SessionState) (slot : ℕ) → Moves s (sent_due s slot)
+  due_moves s slot = λ kept last is. due (standing s kept last) s.waits slot s.state is
+
+  sent_moves : (s : SessionState) (slot : ℕ) → Moves s (sent_slot s slot)
+  sent_moves s slot = λ kept last is.
+      reply_moves (s.waits && is_between (stepped_in true slot s.state)) (sent_due s slot) kept last
+      (due_moves s slot kept last is)
+
+  slot_moves : (s : SessionState) (slot : ℕ) (taken sending : Bool)
+      → Moves s (if taken then (if sending then after_play (sent_slot s slot) else record s { heard = slot }) else s)
+  slot_moves s slot true true = sent_moves s slot
+  slot_moves s slot true false = λ kept last is. is
+  slot_moves s slot false sending = λ kept last is. is
+
+  -- ---- halts
+
+  counted_done : (films : List Stored) (source : StreamSource) (counts : Counts) (setup : Setup) (run : Run) (keep : ℕ)
+      (last : Option RunPlace)
+      → IsUnderWay (record { films = films; source = source; counts = counts }) setup run (run.sent + keep) last
+      → IsFresh words (record {
+        films = films;
+        source = source;
+        counts = counts_done source counts setup run keep (slice_get films setup.film);
+      }) setup last
+  counted_done films source counts setup run keep last way =
+      let done : Option Stored → Stream = λ found. record {
+        films = films;
+        source = source;
+        counts = counts_done source counts setup run keep found;
+      } in
+      subst (λ found. IsFresh words (done found) setup last) (sym way.at)
+      (subst (λ l. IsFresh words (done (Some way.stored)) setup l) (sym way.place)
+      (record { before = counts; identity = refl; counts = refl }))
+
+  halt_state : (s : SessionState) (setup : Setup) (play : Played) (keep place : ℕ) (next : AfterHalt)
+      (kept : ℕ → ℕ) (last : Option RunPlace) → IsLeftBy play.run keep next
+      → IsUnderWay (stream_of s) setup play.run (play.run.sent + keep) last
+      → IsLast (after_halt (record s { state = Playing setup play; awaited = Halt keep next }) place) kept last
+  halt_state s setup play keep place Done kept last left way = inr (counted_done s.films s.source s.counts setup play.run keep last way)
+  halt_state s setup play keep place (Paused run) kept last left way = (
+    refl,
+    inr (record {
+      stored = way.stored;
+      at = way.at;
+      place = way.place
+          ∙ ap (λ first. Some (run_place (run_of way.stored.film first play.run.end_unit
+          (identity_of s.source setup s.counts)) (play.run.sent + keep))) (sym left.first)
+          ∙ ap (λ end. Some (run_place (run_of way.stored.film run.first_unit end
+          (identity_of s.source setup s.counts)) (play.run.sent + keep))) (sym left.end)
+          ∙ ap (λ sent. Some (run_place (sending_of way.stored.film s.source setup s.counts run) sent)) (sym left.sent);
+    }),
+  )
+  halt_state s setup play keep place Torn kept last left way = (refl, inl refl)
+
+  abbrev Halts : SessionState → ℕ → Outcome → SessionState → Type 0
+  Halts s keep halt new = IsHalted s keep halt new → Leads s new (Asks s.awaited halt ∷ [])
+
+  halts : (s : SessionState) (setup : Setup) (play : Played) (keep : ℕ) (next : AfterHalt) (halt : Outcome)
+      (new : SessionState) → IsLeftBy play.run keep next
+      → Halts (record s { state = Playing setup play; awaited = Halt keep next }) keep halt new
+  halts s setup play keep next Unasked new left halted = absurd halted
+  halts s setup play keep next (Entered placed) new left halted =
+      let asking : SessionState = record s { state = Playing setup play; awaited = Halt keep next } in
+      subst (λ n. Leads asking n (Asks (Halt keep next) (Entered placed) ∷ [])) (sym halted.halts) (record {
+        on = λ later follows last is. follows last (halt_state s setup play keep placed.place next (kept_in later) last
+            left (subst (λ c. IsUnderWay (stream_of s) setup play.run
+            (play.run.sent + kept_by c (kept_in later (total_bytes play.plan))) last) halted.command is));
+        looks = sym (minus_none s.looks_left);
+      })
+  halts s setup play keep next (WasFull more entries live) new left halted = absurd halted
+  halts s setup play keep next (Offered at_slot note) new left halted = absurd halted
+
+  halts_in : (s : SessionState) (setup : Setup) (play : Played) (keep : ℕ) (next : AfterHalt) (halt : Outcome)
+      (new : SessionState) → s.state ≡ Playing setup play → s.awaited ≡ Halt keep next → IsLeftBy play.run keep next
+      → Halts s keep halt new
+  halts_in s setup play keep next halt new state awaited left =
+      subst (λ a. Halts (record s { awaited = a }) keep halt new) (sym awaited)
+      (subst (λ st. Halts (record s { state = st; awaited = Halt keep next }) keep halt new) (sym state)
+      (halts s setup play keep next halt new left))
+
+  -- a slot asks for nothing, or halts a play that is done
+  record IsDone (state : State) (awaited : Awaited) : Type 0 where
+    setup : Setup
+    play : Played
+    keep : ℕ
+    playing : state ≡ Playing setup play
+    halt : awaited ≡ Halt keep Done
+
+  abbrev AsksIn : State → Awaited → Type 0
+  AsksIn state awaited = (awaited ≡ Nothing) ⊎ IsDone state awaited
+
+  done_asks : (setup : Setup) (play : Played) (keep : ℕ) (awaited : Awaited) (done : Bool) → awaited ≡ Nothing
+      → AsksIn (Playing setup play) (if done then Halt keep Done else awaited)
+  done_asks setup play keep awaited true rest =
+      inr (record { setup = setup; play = play; keep = keep; playing = refl; halt = refl })
+  done_asks setup play keep awaited false rest = inl rest
+
+  play_asks : (state : State) (awaited : Awaited) → awaited ≡ Nothing → AsksIn state (finished_in state awaited)
+  play_asks Init awaited rest = inl rest
+  play_asks (Ready setup paused) awaited rest = inl rest
+  play_asks (Playing setup play) awaited rest =
+      done_asks setup play play.pacer.sent awaited (is_done_in (Playing setup play)) rest
+  play_asks (Stopping setup stop) awaited rest = inl rest
+
+  slot_asks : (s : SessionState) (slot : ℕ) (taken sending : Bool) → s.awaited ≡ Nothing
+      → (let t : SessionState = if taken then (if sending then after_play (sent_slot s slot) else record s
+      { heard = slot }) else s in AsksIn t.state t.awaited)
+  slot_asks s slot true true rest =
+      play_asks (sent_slot s slot).state (sent_slot s slot).awaited
+      (reply_awaited (s.waits && is_between (stepped_in true slot s.state)) (sent_due s slot) ∙ rest)
+  slot_asks s slot true false rest = inl rest
+  slot_asks s slot false sending rest = inl rest
+
+  unasked : (s new : SessionState) (halt : Outcome) → s.awaited ≡ Nothing → IsFinished NoAnswer s halt new
+      → Leads s new (Asks s.awaited halt ∷ [])
+  unasked s new Unasked rest is =
+      subst (λ n. Leads s n (Asks s.awaited Unasked ∷ [])) (sym is)
+      (still (unasked_quiet s.awaited) (none_asked s.looks_left s.awaited rest) (moves_none s))
+  unasked s new (Entered placed) rest is = absurd is
+  unasked s new (WasFull more entries live) rest is = absurd is
+  unasked s new (Offered at_slot note) rest is = absurd is
+
+  finishes : (s new : SessionState) (halt : Outcome) → AsksIn s.state s.awaited
+      → IsFinished (awaited_answer s) s halt new → Leads s new (Asks s.awaited halt ∷ [])
+  finishes s new halt (inl rest) is =
+      unasked s new halt rest (subst (λ a. IsFinished (awaited_answer_of a) s halt new) rest is)
+  finishes s new halt (inr done) is =
+      halts_in s done.setup done.play done.keep Done halt new done.playing done.halt tt
+      (subst (λ a. IsFinished (awaited_answer_of a) s halt new) done.halt is)
+
+  comes_leads : (old opened : Stage) (event : IoEvent) (parts : List SentPart) (halt : Outcome)
+      → Stands old.session → Comes old event parts halt opened
+      → Leads old.session opened.session (Asks (asked_by old.session event) halt ∷ [])
+  comes_leads old opened (HeardBytes bytes) parts halt stands comes =
+      subst (λ h. Leads old.session opened.session (Asks Nothing h ∷ [])) (sym comes.1)
+      (subst (λ (t : Stage). Leads old.session t.session (Asks Nothing Unasked ∷ [])) (sym comes.3)
+      (still (unasked_quiet Nothing) (sym (minus_none old.session.looks_left)) (moves_none old.session)))
+  comes_leads old opened (HeardSlot slot) parts halt stands comes =
+      let s : SessionState = after_slot old.session slot in
+      leads_then (moves (slot_looks old.session slot (is_taken old.session slot) (is_sending old.session.state))
+      (slot_moves old.session slot (is_taken old.session slot) (is_sending old.session.state)))
+      (finishes s opened.session halt
+      (slot_asks old.session slot (is_taken old.session slot) (is_sending old.session.state) stands.rest)
+      comes.1.finished)
+  comes_leads old opened HeardEnd parts halt stands comes = absurd comes
+  comes_leads old opened (Sent byte) parts halt stands comes = absurd comes
+
+  -- ---- requests
+
+  -- a request is processed where no reply waits and no TEARDOWN was answered; then its own waits
+  said : (at : Standing) (state : State) (tearing : Bool) → at.flags.waits ≡ false → at.flags.torn ≡ false
+      → IsIn state at
+      → IsIn state (record at { flags = record { waits = true; tearing = tearing; torn = at.flags.torn } })
+  said at Init tearing replied on is = is
+  said at (Ready setup paused) tearing replied on (inl torn) = absurd (true≢false (sym torn.1 ∙ on))
+  said at (Ready setup paused) tearing replied on (inr rest) = inr rest
+  said at (Playing setup play) tearing replied on is = is
+  said at (Stopping setup stop) tearing replied on is = absurd (true≢false (sym is.0 ∙ replied))
+
+  module _ (old : SessionState) (replied : old.waits ≡ false) (linked : old.torn ≡ false) where
+    abbrev Answers : Outcome → SessionState → Ask → SessionState → Type 0
+    Answers outcome new ask asking = IsAskAnswered asking ask outcome new
+        → Leads old new (Asks asking.awaited outcome ∷ [])
+
+    -- a reply waits, and else all is as before
+    waiting : (tearing : Bool) (kept : ℕ → ℕ) (last : Option RunPlace) → IsLast old kept last
+        → IsLastIn words old.state (stream_of old) (record { waits = true; tearing = tearing; torn = old.torn }) kept
+        last
+    waiting tearing kept last is = said (standing old kept last) old.state tearing replied linked is
+
+    replies : (asking new : SessionState) (outcome : Outcome) → asking.awaited ≡ Nothing
+        → asking.looks_left ≡ old.looks_left → Moves old asking → Answers outcome new AskReply asking
+    replies asking new Unasked rest looks move answered =
+        subst (λ n. Leads old n (Asks asking.awaited Unasked ∷ [])) (sym answered)
+        (still (unasked_quiet asking.awaited) (looks ∙ none_asked old.looks_left asking.awaited rest) move)
+    replies asking new (Entered placed) rest looks move answered = absurd answered
+    replies asking new (WasFull more entries live) rest looks move answered = absurd answered
+    replies asking new (Offered at_slot note) rest looks move answered = absurd answered
+
+    looked : (sequence slot : ℕ) (new : SessionState) (placed : PlacedEntry) (answer : Answer)
+        → placed.entry.command ≡ look_at slot
+        → IsLookAnswered (record old { looks_left = old.looks_left - 1; awaited = Look sequence }) placed answer new
+        → Leads old new (Asks (Look sequence) (Entered placed) ∷ [])
+    looked sequence slot new placed (Looked now at booked) command answered =
+        subst (λ n. Leads old n (Asks (Look sequence) (Entered placed) ∷ [])) (sym answered)
+        (still (record { none = λ later. refl; kept = λ k. ap (λ c. kept_by c k) command }) refl (waiting old.tearing))
+    looked sequence slot new placed (Admitted start) command answered = absurd answered
+    looked sequence slot new placed (Overflow over booked asks) command answered = absurd answered
+    looked sequence slot new placed Halted command answered = absurd answered
+
+    looks_at : (sequence slot : ℕ) (new : SessionState) (outcome : Outcome)
+        → Answers outcome new (AskLook slot) (record old { looks_left = old.looks_left - 1; awaited = Look sequence })
+    looks_at sequence slot new Unasked answered = absurd answered
+    looks_at sequence slot new (Entered placed) answered =
+        looked sequence slot new placed placed.entry.answer answered.0 answered.1
+    looks_at sequence slot new (WasFull more entries live) answered =
+        subst (λ n. Leads old n (Asks (Look sequence) (WasFull more entries live) ∷ [])) (sym answered.0)
+        (still (record { none = λ later. refl; kept = λ k. refl }) refl (waiting old.tearing))
+    looks_at sequence slot new (Offered at_slot note) answered = absurd answered
+
+    offers_of : (plan : List Segment) (offers : Offers) (sequence : ℕ) (new : SessionState) (outcome : Outcome)
+        → Answers outcome new (AskOffer plan offers) (record old { awaited = Offer sequence })
+    offers_of plan offers sequence new Unasked answered = absurd answered
+    offers_of plan offers sequence new (Entered placed) answered = absurd answered
+    offers_of plan offers sequence new (WasFull more entries live) answered = absurd answered
+    offers_of plan offers sequence new (Offered at_slot note) answered =
+        subst (λ n. Leads old n (Asks (Offer sequence) (Offered at_slot note) ∷ [])) (sym answered.2)
+        (still (record { none = λ later. refl; kept = λ k. refl }) (sym (minus_none old.looks_left))
+        (waiting old.tearing))
+
+    -- ---- a play
+
+    first_identity : (setup : Setup) → IsFirstRun words (identity_of (source_of words) setup nothing_sent)
+    first_identity setup = record {
+      ssrc = refl;
+      sequence = sequence_begins (slice_index words 3);
+      timestamp = refl;
+      packets = refl;
+      octets = refl;
+    }
+
+    later_identity : (last : RunPlace) (source : StreamSource) (setup : Setup) (counts : Counts)
+        → last.run.identity ≡ identity_of source setup counts
+        → IsLaterRun last (identity_of source setup (counts_after counts last.run last.sent))
+    later_identity last source setup counts is = record {
+      channel = sym (ap (λ (i : Identity). i.channel) is);
+      control = sym (ap (λ (i : Identity). i.control) is);
+      ssrc = sym (ap (λ (i : Identity). i.ssrc) is);
+      timestamp = sym (ap (λ (i : Identity). i.timestamp) is);
+      numbers = subst (λ i. GoesOn i (identity_of source setup (counts_after counts last.run last.sent))
+          (frames_before last.run last.sent) (octets_before last.run last.sent)) (sym is)
+          (run_goes_on source setup counts last.run last.sent);
+    }
+
+    -- of a play: its run, as it is sent, and where it begins
+    abbrev Next : Stored → Setup → Option RunPlace → Counts → Run → Type 0
+    Next stored setup last counts run = (play : FilmPlay) → play.before ≡ run.sent
+        → SendsNext words last (sending_of stored.film old.source setup counts run) play
+
+    new_next : (stored : Stored) (setup : Setup) (last : Option RunPlace) (run : Run) → run.sent ≡ 0
+        → IsFresh words (stream_of old) setup last → Next stored setup last old.counts run
+    new_next stored setup None run sent fresh play before = (
+      before ∙ sent,
+      subst (λ s. IsFirstRun words (identity_of s setup old.counts)) (sym fresh.1)
+          (subst (λ c. IsFirstRun words (identity_of (source_of words) setup c)) (sym fresh.0) (first_identity setup)),
+    )
+    new_next stored setup (Some last) run sent fresh play before = inr (
+      before ∙ sent,
+      subst (λ c. IsLaterRun last (identity_of old.source setup c)) (sym fresh.counts)
+          (later_identity last old.source setup fresh.before fresh.identity),
+    )
+
+    rest_next : (stored : Stored) (setup : Setup) (paused : Option Run) (last : Option RunPlace) (run : Run)
+        → IsFilmAt old.films setup.film stored → run.sent ≡ 0 → IsAtRest words paused (stream_of old) setup last
+        → Next stored setup last (counts_before stored.film old.source setup old.counts paused) run
+    rest_next stored setup None last run at sent rest play before =
+        new_next stored setup last run sent rest play before
+    rest_next stored setup (Some paused) last run at sent rest play before =
+        let sending : FramedRun = sending_of stored.film old.source setup old.counts paused in
+        let place : last ≡ Some (run_place sending paused.sent) =
+        one_film old.films setup.film rest.stored (λ s. last ≡ Some (run_place
+        (sending_of s.film old.source setup old.counts paused) paused.sent)) rest.at rest.place stored at in
+        subst (λ l. SendsNext words l (sending_of stored.film old.source setup
+        (counts_after old.counts sending paused.sent) run) play) (sym place)
+        (inr (before ∙ sent, later_identity (run_place sending paused.sent) old.source setup old.counts refl))
+
+    resumed_next : (stored : Stored) (setup : Setup) (last : Option RunPlace) (run : Run)
+        → IsFilmAt old.films setup.film stored → IsUnderWay (stream_of old) setup run run.sent last
+        → Next stored setup last old.counts run
+    resumed_next stored setup last run at rest play before =
+        let sending : FramedRun = sending_of stored.film old.source setup old.counts run in
+        let place : last ≡ Some (run_place sending run.sent) =
+        one_film old.films setup.film rest.stored (λ s. last ≡ Some (run_place
+        (sending_of s.film old.source setup old.counts run) run.sent)) rest.at rest.place stored at in
+        subst (λ l. SendsNext words l sending play) (sym place) (inl (refl, before))
+
+    next_run : (stored : Stored) (setup : Setup) (paused : Option Run) (last : Option RunPlace) (run : Run)
+        (counts : Counts) → IsFilmAt old.films setup.film stored → IsAtRest words paused (stream_of old) setup last
+        → IsNextRun old stored setup paused run counts → Next stored setup last counts run
+    next_run stored setup paused last run counts at rest (inl resumed) =
+        subst (λ c. Next stored setup last c run) (sym resumed.counts_are) (resumed_next stored setup last run at
+        (subst (λ p. IsAtRest words p (stream_of old) setup last) resumed.paused_is rest))
+    next_run stored setup paused last run counts at rest (inr begun) =
+        subst (λ c. Next stored setup last c run) (sym begun.counts_are)
+        (rest_next stored setup paused last run at begun.none_sent rest)
+
+    abbrev asking_for : Prepared → List ℕ → SessionState
+    asking_for prepared text = record old { awaited = Play prepared; text = text }
+
+    -- it is admitted
+    module _ (stored : Stored) (setup : Setup) (paused : Option Run) (asked : Prepared) (text : List ℕ)
+        (ready : old.state ≡ Ready setup paused) (at : IsFilmAt old.films setup.film stored)
+        (next : IsNextRun old stored setup paused asked.run asked.counts)
+        (frames : asked.frames ≡ sending_of stored.film old.source setup asked.counts asked.run) where
+      at_rest : (kept : ℕ → ℕ) (last : Option RunPlace) → IsLast old kept last
+          → IsAtRest words paused (stream_of old) setup last
+      at_rest kept last was = elim (subst (λ st. IsLastIn words st (stream_of old) (flags_of old) kept last) ready was) [
+        | inl torn ↦ absurd (true≢false (sym torn.1 ∙ linked))
+        | inr rest ↦ rest
+      ]
+
+      admitted : (new : SessionState) (placed : PlacedEntry) (start : ℕ) → placed.entry.answer ≡ Admitted start
+          → new ≡ after_admission (asking_for asked text) placed.place start
+          → Leads old new (Asks (Play asked) (Entered placed) ∷ [])
+      admitted new placed start answer admission =
+          subst (λ n. Leads old n (Asks (Play asked) (Entered placed) ∷ [])) (sym admission) (record {
+            on = λ later follows last was.
+                let play : FilmPlay = record {
+                  start = start;
+                  plan = asked.plan;
+                  keep = kept_in later (total_bytes asked.plan);
+                  before = asked.run.sent;
+                  pieces = run_pieces asked.frames;
+                } in
+                let under : IsLast (after_admission (asking_for asked text) placed.place start) (kept_in later)
+                (Some (run_place asked.frames (play.before + play.keep))) =
+                subst (λ st. IsLastIn words (admitted_in st (Play asked) placed.place start)
+                (record { films = old.films; source = old.source; counts = asked.counts })
+                (record { waits = true; tearing = old.tearing; torn = old.torn }) (kept_in later)
+                (Some (run_place asked.frames (play.before + play.keep)))) (sym ready)
+                (record {
+                  stored = stored;
+                  at = at;
+                  place = ap (λ run. Some (run_place run (play.before + play.keep))) frames;
+                }) in
+                subst (λ a. AreRunsInOrder words last (plays_admitted (Play asked) a later ++ plays_of later))
+                (sym answer) (
+                  asked.frames,
+                  (
+                    refl,
+                    subst (λ run. SendsNext words last run play) (sym frames)
+                        (next_run stored setup paused last asked.run asked.counts at
+                        (at_rest (kept_in (Asks (Play asked) (Entered placed) ∷ later)) last was) next play refl),
+                    follows (Some (run_place asked.frames (play.before + play.keep))) under,
+                  ),
+                );
+            looks = sym (minus_none old.looks_left);
+          })
+
+      -- or refused
+      entered : (new : SessionState) (placed : PlacedEntry) (answer : Answer) → placed.entry.answer ≡ answer
+          → placed.entry.command ≡ play_of old.heard asked.plan
+          → IsPlayAnswered (asking_for asked text) placed answer new
+          → Leads old new (Asks (Play asked) (Entered placed) ∷ [])
+      entered new placed (Admitted start) answer command answered = admitted new placed start answer answered.1
+      entered new placed (Overflow slot booked asks) answer command answered =
+          subst (λ n. Leads old n (Asks (Play asked) (Entered placed) ∷ [])) (sym answered)
+          (still (record {
+            none = λ later. ap (λ a. plays_admitted (Play asked) a later) answer;
+            kept = λ k. ap (λ c. kept_by c k) command;
+          }) (sym (minus_none old.looks_left)) (waiting old.tearing))
+      entered new placed Halted answer command answered = absurd answered
+      entered new placed (Looked now at booked) answer command answered = absurd answered
+
+      plays : (new : SessionState) (outcome : Outcome)
+          → Answers outcome new (AskPlay asked.plan) (asking_for asked text)
+      plays new Unasked answered = absurd answered
+      plays new (Entered placed) answered = entered new placed placed.entry.answer refl answered.0 answered.1
+      plays new (WasFull more entries live) answered =
+          subst (λ n. Leads old n (Asks (Play asked) (WasFull more entries live) ∷ [])) (sym answered.0)
+          (still (record { none = λ later. refl; kept = λ k. refl }) (sym (minus_none old.looks_left))
+          (waiting old.tearing))
+      plays new (Offered at_slot note) answered = absurd answered
+
+    -- ---- by what a message comes to
+
+    set_up : (new : SessionState) (setup : Setup) → old.state ≡ Init → new.state ≡ Ready setup None
+        → stream_of new ≡ stream_of old → Moves old new
+    set_up new setup init state stream kept last was =
+        let first : (last ≡ None) × (old.counts ≡ nothing_sent) × (old.source ≡ source_of words) =
+        subst (λ st. IsLastIn words st (stream_of old) (flags_of old) kept last) init was in
+        subst (λ st. IsLastIn words st (stream_of new) (flags_of new) kept last) (sym state)
+        (subst (λ s. IsLastIn words (Ready setup None) s (flags_of new) kept last) (sym stream)
+        (subst (λ l. IsLastIn words (Ready setup None) (stream_of old) (flags_of new) kept l) (sym first.0)
+        (inr (first.1, first.2))))
+
+    -- a halt keeps what was sent up to a boundary
+    halt_asked : (setup : Setup) (play : Played) (keep : ℕ) (next : AfterHalt) (text : List ℕ) (new : SessionState)
+        (outcome : Outcome) → old.state ≡ Playing setup play → IsLeftBy play.run keep next
+        → Answers outcome new (AskHalt keep) (record old {
+          state = Playing setup (record play { pacer = record play.pacer { keep = keep } });
+          awaited = Halt keep next;
+          text = text;
+        })
+    halt_asked setup play keep next text new outcome playing left answered =
+        let stopping : Played = record play { pacer = record play.pacer { keep = keep } } in
+        let asking : SessionState = record old {
+          state = Playing setup stopping;
+          awaited = Halt keep next;
+          text = text;
+        } in
+        let same : Moves old asking = λ kept last was.
+        subst (λ st. IsLastIn words st (stream_of old) (flags_of old) kept last) playing was in
+        leads_then (moves refl same) (halts (record old { text = text }) setup stopping keep next outcome new left answered)
+
+    to : (outcome : Outcome) (new : SessionState) {ask command : Ask} {asking is : SessionState} → ask ≡ command
+        → asking ≡ is → Answers outcome new command is → Answers outcome new ask asking
+    to outcome new {ask} {command} {asking} {is} ask_is asking_is answers =
+        subst (λ a. Answers outcome new a asking) (sym ask_is)
+        (subst (λ s. Answers outcome new command s) (sym asking_is) answers)
+
+    message_leads : (ask : Ask) (asking new : SessionState) (outcome : Outcome) → old.awaited ≡ Nothing
+        → RunsAs old ask asking → Answers outcome new ask asking
+    message_leads ask asking new outcome rest (Replies text tearing command is) =
+        to outcome new command is
+        (replies (record old { text = text; waits = true; tearing = tearing }) new outcome rest refl (waiting tearing))
+    message_leads ask asking new outcome rest (SetsUp text setup init command is) =
+        let asked : SessionState = record old { text = text; waits = true; state = Ready setup None } in
+        to outcome new command is (replies asked new outcome rest refl (set_up asked setup init refl refl))
+    message_leads ask asking new outcome rest
+        (AsksPlay stored setup paused prepared text ready at next frames command is) =
+        to outcome new command is (plays stored setup paused prepared text ready at next frames new outcome)
+    message_leads ask asking new outcome rest (Stops setup play keep next text playing left command is) =
+        to outcome new command is (halt_asked setup play keep next text new outcome playing left)
+    message_leads ask asking new outcome rest (AsksLook sequence command is) =
+        to outcome new command is (looks_at sequence old.heard new outcome)
+    message_leads ask asking new outcome rest (AsksOffer plan offers sequence command is) =
+        to outcome new command is (offers_of plan offers sequence new outcome)
+
+  -- ---- elements and events
+
+  answered_leads : (old new : Stage) (message : List ℕ) (outcome : Outcome) (parts : List SentPart)
+      (replied : IsReplied old message outcome parts new) → Stands old.session
+      → Leads old.session new.session (Asks replied.heard.asking.awaited outcome ∷ [])
+  answered_leads old new message outcome parts replied stands =
+      let heard = replied.heard in
+      let made : List StationRequest = Asks heard.asking.awaited outcome ∷ [] in
+      let one : Leads old.session replied.answered made =
+      message_leads old.session replied.next.replied replied.next.torn heard.ask heard.asking replied.answered outcome
+      stands.rest (runs_as old.session message heard.ask heard.asking stands.rest heard.hears) heard.answered in
+      subst (λ (t : Stage). Leads old.session t.session made) (sym replied.new_is)
+      (leads_then one (moves (reply_looks (can_reply replied.answered) replied.answered)
+      (reply_moves (can_reply replied.answered) replied.answered)))
+
+  takes_lead : (old new : Stage) (takings : List ElementStep) (takes : TakesAll old takings new)
+      → Stands old.session → Leads old.session new.session (takings_askings old takings new takes)
+  takes_lead old new [] takes stands =
+      subst (λ (t : Stage). Leads old.session t.session []) (sym takes) (moves refl (moves_none old.session))
+  takes_lead old new (Passed n ∷ takings) takes stands =
+      let same : takes.0.session ≡ old.session = ap (λ (t : Stage). t.session) takes.1.0.2 in
+      subst (λ s. Leads s new.session (takings_askings takes.0 takings new takes.1.1)) same
+      (takes_lead takes.0 new takings takes.1.1 (subst Stands (sym same) stands))
+  takes_lead old new (Answered message outcome parts ∷ takings) takes stands =
+      leads_then (answered_leads old takes.0 message outcome parts takes.1.0 stands)
+      (takes_lead takes.0 new takings takes.1.1
+      (taken_stands old takes.0 (Answered message outcome parts) takes.1.0 stands))
+
+  rounds_lead : (old new : Stage) (rounds : List Round) (follows : IsCourseBetween old rounds new)
+      → Stands old.session → Leads old.session new.session (askings_of old rounds new follows)
+  rounds_lead old new [] follows stands =
+      subst (λ (t : Stage). Leads old.session t.session []) (sym follows) (moves refl (moves_none old.session))
+  rounds_lead old new (round ∷ rounds) follows stands =
+      let runs = follows.1.0 in
+      let mid : Stands follows.0.session =
+      stands_by old.session follows.0.session (round_askings old round follows.0 runs) (film_bytes round.due)
+      (round_step old follows.0 round runs stands) in
+      leads_then
+      (leads_then (comes_leads old runs.opened round.event round.due round.halt stands runs.comes)
+      (takes_lead runs.opened follows.0 round.takings runs.takes (opened_stands old follows.0 round runs stands)))
+      (rounds_lead follows.0 new rounds follows.1.1 mid)
+
+-- what leads through a course
+course_leads : (course : Course) → (let first : Stage = first_stage course.films course.settings course.words in
+    Leads course.words first.session course.last.session (askings_of first course.rounds course.last course.follows))
+course_leads course =
+    rounds_lead course.words (first_stage course.films course.settings course.words) course.last course.rounds
+    course.follows (record { rest = refl; sound = tt })
+
+pub runs_in_order : (course : Course) → AreRunsInOrder course.words None (course_plays course)
+runs_in_order course =
+    let first : Stage = first_stage course.films course.settings course.words in
+    subst (λ made. Follows course.words first.session made)
+    (append-nil (askings_of first course.rounds course.last course.follows))
+    ((course_leads course).on [] (λ last is. tt)) None (refl, refl, refl)
+
+-- of the first 1,024 looks those are left that weren't asked for
+pub looks_used : (course : Course) → course.last.session.looks_left ≡ 0 → 1024 ≤ course_looks course
+looks_used course none = omega (arith, (course_leads course).looks, none)

@@ -1,0 +1,72 @@
+-- A connection's report has a course.
+use Rattle.std.proofs.Common.{◌≡◌, ℕ, ◌++◌, List, [], ◌∷◌, length, refl, sym, subst}
+use Rattle.std.proofs.lemmas.List.{append-nil}
+use Rattle.std.specs.Prelude.{Option}
+use Rattle.vod_base.specs.Links.{IoEvent}
+use Rattle.film_frames.specs.declared.stored_films.Stored.{Stored}
+use Rattle.station.specs.Seats.{SeatState}
+use Rattle.session.specs.declared.settings.Settings.{Settings}
+use Rattle.session.specs.RequestSteps.{new_session_state}
+use Rattle.conn.specs.Agreement.{Activity, HasDone}
+use Rattle.conn.specs.ConnectionService.{HasServedFrom}
+use Rattle.conn.specs.EventSteps.{Ending, Ends, Unheard, PeerEnded, Overfull, AtElement, InSlot, InReply, Round, RunsAll}
+use Rattle.conn.specs.InputSteps.{Stage}
+use Rattle.conn.specs.Plays.{ending_rounds}
+use Rattle.conn.specs.declared.reports.ConnEnd.{ConnEnd}
+use Rattle.conn.specs.declared.reports.ConnReport.{ConnReport}
+use Rattle.connection_laws.specs.Courses.{Course, IsCourseBetween, first_stage}
+use Rattle.connection_laws.specs.ReportCourses.{IsCourseOf, activity_of}
+use Rattle.connection_laws.proofs.CourseJoins.{follows_all, follows_last}
+
+-- rounds up to the end, and where they lead
+record LeadsTo (old : Stage) (rounds : List Round) : Type 0 where
+  last : Stage
+  follows : IsCourseBetween old rounds last
+
+no_more : (old mid : Stage) (rounds : List Round) → RunsAll old rounds mid → LeadsTo old (rounds ++ [])
+no_more old mid rounds runs = record {
+  last = mid;
+  follows = subst (λ rs. IsCourseBetween old rs mid) (sym (append-nil rounds)) (follows_all old mid rounds runs);
+}
+
+up_to_end : (old mid : Stage) (rounds : List Round) (ending : Ending) (end : ConnEnd) (new : Stage) (count : ℕ)
+    → RunsAll old rounds mid → Ends mid count ending end new → LeadsTo old (rounds ++ ending_rounds ending)
+up_to_end old mid rounds Unheard end new count runs ends = no_more old mid rounds runs
+up_to_end old mid rounds PeerEnded end new count runs ends = no_more old mid rounds runs
+up_to_end old mid rounds (Overfull bytes) end new count runs ends = no_more old mid rounds runs
+up_to_end old mid rounds (AtElement round) end new count runs ends =
+    record { last = new; follows = follows_last old rounds runs ends.0 }
+up_to_end old mid rounds (InSlot slot front) end new count runs ends = no_more old mid rounds runs
+up_to_end old mid rounds (InReply round message outcome front) end new count runs ends =
+    record { last = ends.1.mid; follows = follows_last old rounds runs ends.1.runs }
+
+pub course_of : (films : List Stored) (settings : Settings) (words : List ℕ) (doings : Activity) (report : ConnReport)
+    → HasDone films settings words doings report → (course : Course) × IsCourseOf films settings words doings course
+course_of films settings words doings report done =
+    let all = up_to_end (first_stage films settings words) done.mid doings.rounds doings.ending report.end done.last
+    (length doings.rounds) done.runs done.ends in (
+      record {
+        films = films;
+        settings = settings;
+        words = words;
+        rounds = doings.rounds ++ ending_rounds doings.ending;
+        last = all.last;
+        follows = all.follows;
+      },
+      record { films_are = refl; settings_are = refl; words_are = refl; rounds_are = refl },
+    )
+
+pub served_done : (films : List Stored) (settings : Settings) (words : List ℕ) (old_told new_told : Option (List
+    IoEvent)) (old new : SeatState) (report : ConnReport)
+    → (served : HasServedFrom (new_session_state films settings words) old_told new_told old new report)
+    → HasDone films settings words (activity_of films settings words old_told new_told old new report served) report
+served_done films settings words old_told new_told old new report served = record {
+  mid = served.course.mid;
+  runs = served.course.runs;
+  last = served.ended.stage;
+  ends = served.course.ends;
+  few = served.course.few;
+  closed = served.closed;
+  closes = served.closes.closes;
+  report_is = served.report_is;
+}
