@@ -36,3 +36,5 @@ pub mod CompleteReplyLemmas
 mod WordLemmas
 mod RefusalLawLemmas
 mod ReplyNumberLemmas
+mod SoundStateLemmas
+mod MethodLemmas

@@ -41,11 +41,16 @@ ghost use Rattle.session.specs.CompleteReplies.{HasValidIds, LeavesRoom, Replies
 
 pub use crate::end_laws::{law_only_teardown_ends_the_session, law_pause_leaves_a_resumable_run};
 pub use crate::look_laws::law_first_looks_never_lack_memory;
+pub use crate::method_laws::{
+    law_describe_is_answered, law_get_parameter_is_answered, law_options_is_answered,
+    law_other_film_is_not_found, law_play_is_answered, law_setup_is_answered,
+};
 pub use crate::offer_laws::{law_least_buffer_is_exact, law_offer_matches_its_request};
 pub use crate::play_laws::{
     law_admitted_play_sends_its_run, law_done_play_is_halted_in_full,
-    law_done_run_is_counted_in_full, law_halt_is_at_next_boundary, law_missed_slots_are_counted,
-    law_note_matches_its_play, law_only_later_slots_are_processed, law_range_in_playing_is_refused,
+    law_done_run_is_counted_in_full, law_every_session_is_sound, law_halt_is_at_next_boundary,
+    law_missed_slots_are_counted, law_note_matches_its_play, law_only_later_slots_are_processed,
+    law_range_in_playing_is_refused,
 };
 pub use crate::refusal_laws::{
     law_play_from_now_goes_on, law_play_without_range_plays_whole_film, law_refusals_come_in_order,
