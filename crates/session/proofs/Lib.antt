@@ -38,3 +38,4 @@ mod RefusalLawLemmas
 mod ReplyNumberLemmas
 mod SoundStateLemmas
 mod MethodLemmas
+mod CauseLemmas

@@ -176,7 +176,7 @@ spoken_of {request} m plain = record {
       plain.no_option ∙ plain.no_proxy_option;
 }
 
-exists_in : (s : State) (setup : Setup) → setup_in s ≡ Some setup → has_session_in s ≡ true
+pub exists_in : (s : State) (setup : Setup) → setup_in s ≡ Some setup → has_session_in s ≡ true
 exists_in Init setup is = absurd (let no : ⊥ = cc in no)
 exists_in (Ready own paused) setup is = refl
 exists_in (Playing own play) setup is = refl
@@ -197,7 +197,7 @@ film_of (Ready other paused) setup film is own = own ∙ ap (λ (t : Setup). t.f
 film_of (Playing other play) setup film is own = own ∙ ap (λ (t : Setup). t.film) (setup_once other setup is)
 film_of (Stopping other stop) setup film is own = own ∙ ap (λ (t : Setup). t.film) (setup_once other setup is)
 
-own_session : {id head : List ℕ} (exists : Bool) (otherwise : Type 0) → exists ≡ true → NamesSession id head
+pub own_session : {id head : List ℕ} (exists : Bool) (otherwise : Type 0) → exists ≡ true → NamesSession id head
     → IsOwnSession exists id (header_value head (codes "Session")) otherwise
 own_session {id} {head} exists otherwise is names =
     subst (λ (v : Option (List ℕ)). IsOwnSession exists id v otherwise) (sym names.named) (is, names.own)
@@ -485,18 +485,18 @@ play_confirmed h request setup play playing is no_range =
     }
 
 -- why there is no plan
-data CurveCause (refusal : Refusal) : Type 0 where
+pub data CurveCause (refusal : Refusal) : Type 0 where
   IsRange : refusal ≡ Range → CurveCause refusal
   IsBuffer : (least : ℕ) → refusal ≡ Buffer least → CurveCause refusal
   IsMemory : refusal ≡ Memory → CurveCause refusal
 
-curve_cause : (refused : CurveRefused) → CurveCause (curve_refusal refused)
+pub curve_cause : (refused : CurveRefused) → CurveCause (curve_refusal refused)
 curve_cause (Fault NoPictures) = IsRange refl
 curve_cause (Fault (TooManySlots slots)) = IsRange refl
 curve_cause (Fault (BufferTooSmall slot used least)) = IsBuffer least refl
 curve_cause CurveMemory = IsMemory refl
 
-cause_as : {one other : Refusal} → other ≡ one → CurveCause one → CurveCause other
+pub cause_as : {one other : Refusal} → other ≡ one → CurveCause one → CurveCause other
 cause_as same (IsRange is) = IsRange (same ∙ is)
 cause_as same (IsBuffer least is) = IsBuffer least (same ∙ is)
 cause_as same (IsMemory is) = IsMemory (same ∙ is)

@@ -256,3 +256,15 @@ IsFilmMethod method = (method ≡ codes "SETUP") ⊎ ((method ≡ codes "PLAY") 
 abbrev pub NamesOtherFilm : List Stored → List ℕ → ℕ → Type 0
 NamesOtherFilm films url own = (authority : List ℕ) (film : ℕ) → Names films url authority film
     → film ≢ own
+
+-- ---- causes
+
+-- a request names no session that exists
+abbrev pub NamesNoSession : SessionState → List ℕ → Type 0
+NamesNoSession old head = (setup : Setup) → setup_in old.state ≡ Some setup
+    → ¬ NamesSession old.id head
+
+-- each film of the server that a URL names is another than the session's, and there is a session
+abbrev pub NamesNoOwnFilm : SessionState → List ℕ → Type 0
+NamesNoOwnFilm old url = (authority : List ℕ) (film : ℕ) → Names old.films url authority film
+    → (setup : Setup) × ((setup_in old.state ≡ Some setup) × (film ≢ setup.film))

@@ -43,7 +43,8 @@ pub use crate::end_laws::{law_only_teardown_ends_the_session, law_pause_leaves_a
 pub use crate::look_laws::law_first_looks_never_lack_memory;
 pub use crate::method_laws::{
     law_describe_is_answered, law_get_parameter_is_answered, law_options_is_answered,
-    law_other_film_is_not_found, law_play_is_answered, law_setup_is_answered,
+    law_other_film_is_not_found, law_play_is_answered, law_refusals_have_their_causes,
+    law_setup_is_answered,
 };
 pub use crate::offer_laws::{law_least_buffer_is_exact, law_offer_matches_its_request};
 pub use crate::play_laws::{

@@ -19,11 +19,13 @@ ghost use Rattle.session.specs.MethodLaws.{IsLookAsked, IsOfferAskedOf, IsOption
 ghost use Rattle.session.specs.MethodLaws.{IsParameterRequest, IsPlainMessage, IsPlayAskedOf};
 ghost use Rattle.session.specs.MethodLaws.{IsPlayConfirmed, IsPlayRequest, IsRefusedFor};
 ghost use Rattle.session.specs.MethodLaws.{IsSetupAnswered, IsSetupRequest, IsUnknownBody};
-ghost use Rattle.session.specs.MethodLaws.{NamesOtherFilm, NamesSession, PlanRefusal};
+ghost use Rattle.session.specs.MethodLaws.{NamesNoOwnFilm, NamesNoSession, NamesOtherFilm};
+ghost use Rattle.session.specs.MethodLaws.{NamesSession, PlanRefusal};
 ghost use Rattle.session.specs.MethodLaws.{SettlesSetup, setup_in};
 ghost use Rattle.session.specs.OfferLaws.{IsWaitIn};
-ghost use Rattle.session.specs.RefusalLaws.{IsRefusedBy};
-ghost use Rattle.session.specs.RefusalOrder.{IsWord};
+ghost use Rattle.session.specs.RefusalLaws.{IsKnownMethod, IsRefusedBy, RequiresSomeOption};
+ghost use Rattle.session.specs.RefusalOrder.{IsReadAs, IsWord};
+ghost use Rattle.session.specs.RequestEffects.{HasCode};
 ghost use Rattle.session.specs.RequestedPlans.{IsPlannedRun};
 ghost use Rattle.session.specs.RequestSteps.{Hears};
 ghost use Rattle.session.specs.SettingRanges.{AreFilms};
@@ -144,4 +146,23 @@ pub fn law_other_film_is_not_found()
         NamesSession old.id request.head.now →
         NamesOtherFilm old.films request.url.now setup.film →
         IsRefusedBy old 404 request.sequence ask new }
+{}
+
+/// A refusal that all methods share comes for its cause alone: 501 only where the method is unknown,
+/// 551 only where an option is required, 454 only where no session exists that the request names,
+/// and 404 only where its URL names no film of the server but others than the session's (RFC 2326
+/// section 7.1.1).
+pub fn law_refusals_have_their_causes()
+    ensures method { (old new : SessionState) (message : List ℕ) (request : Request) →
+        Hears old message Ask.Reply new → IsReadAs message request → HasCode 501 new.text →
+        ¬ IsKnownMethod request }
+    ensures option { (old new : SessionState) (message : List ℕ) (request : Request) →
+        Hears old message Ask.Reply new → IsReadAs message request → HasCode 551 new.text →
+        RequiresSomeOption request }
+    ensures session { (old new : SessionState) (message : List ℕ) (request : Request) →
+        Hears old message Ask.Reply new → IsReadAs message request → HasCode 454 new.text →
+        NamesNoSession old request.head.now }
+    ensures film { (old new : SessionState) (message : List ℕ) (request : Request) →
+        Hears old message Ask.Reply new → IsReadAs message request → HasCode 404 new.text →
+        NamesNoOwnFilm old request.url.now }
 {}
