@@ -71,8 +71,8 @@ pub fn law_setup_is_answered()
 /// without a Range, it is answered 200 with the session, and nothing changes. In Ready the station
 /// is asked for the run that its Range gives; or it is refused, by 457 where the Range has no
 /// meaning for the film or gives too many pictures, by 451 where the client's buffer is too small,
-/// and by 500 where memory runs out. Where its Range gives a run that has a plan, nothing but want
-/// of memory refuses it (RFC 2326 section 10.5).
+/// and by 500 where memory runs out. Where its Range gives a run that has a plan, it is refused
+/// only where memory runs out (RFC 2326 section 10.5).
 pub fn law_play_is_answered()
     ensures playing { (old new : SessionState) (message : List ℕ) (ask : Ask) (request : Request)
         (setup : Setup) (play : Played) → Hears old message ask new →
@@ -96,7 +96,7 @@ pub fn law_play_is_answered()
 {}
 
 /// A GET_PARAMETER that names the session and its film, or none, and requires no option, does what
-/// its body asks for. An empty one is answered 200. `x-Booked` looks at the heard slot; once the
+/// its body asks for. An empty one is answered 200. `x-Booked` looks at the last slot; once the
 /// room of the first 1,024 looks is used up, 500 is possible. `x-Offer` is refused by 454 where
 /// there is no session, by 455 in Playing, and by 451 without a wait in its `x-Wait`; else an offer
 /// is asked for, or refused as a PLAY without a Range is. Any other body is refused by 451 (RFC

@@ -29,7 +29,7 @@ use crate::sessions::Session;
 pub fn law_every_session_is_sound(session: &Session<'_>)
     ensures { IsSoundState session.now }
 {
-    // a field is read, so that what every session keeps is known here
+    // a field is read, so that what every session satisfies is known here
     let _waits = session.waits;
 }
 
@@ -46,7 +46,7 @@ pub fn law_range_in_playing_is_refused()
 {}
 
 /// A PAUSE and a TEARDOWN halt a play at the first boundary at or after what was sent: the frame or
-/// report in hand is sent to its end, and nothing after it.
+/// report that is being sent goes out to its end, and nothing after it.
 pub fn law_halt_is_at_next_boundary()
     ensures { (old new : SessionState) (message : List ℕ) (keep : ℕ) (setup : Setup) (play : Played)
         →
@@ -54,7 +54,7 @@ pub fn law_halt_is_at_next_boundary()
         → old.state ≡ Playing setup play → KeepsToBoundary play keep }
 {}
 
-/// While a play is sent, each slot from its start on that was not heard between two heard ones is
+/// While a play is sent, each slot from its start on that did not arrive between two that did is
 /// counted as missed; where none is sent, no slot is.
 pub fn law_missed_slots_are_counted()
     ensures sending { (old : SessionState) (slot : ℕ) → is_taken old slot ≡ true →
@@ -93,9 +93,9 @@ pub fn law_done_run_is_counted_in_full()
         (sending_of stored.film old.source setup old.counts play.run) }
 {}
 
-/// The note of a halted play tells its run and its client, and its plan is the plan of that run for
+/// The note of a halted play names its run and its client, and its plan is the plan of that run for
 /// that client. It keeps what the halt was asked to keep, or what is due as the connection ends,
-/// and stands after the notes of the plays before.
+/// and comes after the notes of the plays before.
 pub fn law_note_matches_its_play()
     ensures { (old : SessionState) (place : ℕ) (stored : Stored) (setup : Setup) (play : Played)
         → IsSoundState old → old.state ≡ Playing setup play
@@ -111,7 +111,7 @@ pub fn law_admitted_play_sends_its_run()
         (after_admission asked place start) }
 {}
 
-/// A slot is processed where it is later than the heard one, and none above 2^62; no other changes
+/// A slot is processed where it is later than the last one, and none above 2^62; no other changes
 /// anything.
 pub fn law_only_later_slots_are_processed()
     ensures later { (old : SessionState) (slot : ℕ) → old.heard < slot → slot ≤ 2 ^ 62 →

@@ -1,4 +1,4 @@
-//! Where a session stands (RFC 2326 appendix A.2).
+//! The states of a session (RFC 2326 appendix A.2).
 
 ghost use Rattle.std.specs.Prelude.{◌≡◌, true, if◌then◌else◌};
 ghost use Rattle.session.specs.Teardowns.{is_tearing, is_torn_down};
@@ -69,7 +69,7 @@ pub(crate) struct Play<'a> {
     pub(crate) pacer: Pacer<Frames<'a>>,
 }
 
-/// A play that was halted: the piece in hand is sent to its end.
+/// A play that was halted: the current frame or report is sent to its end.
 #[derive(Drop)]
 pub(crate) struct Stop<'a> {
     /// The run as the pause leaves it; None where the session is torn down.
