@@ -1,13 +1,12 @@
 -- A refusal that all methods share comes for its cause alone.
 use Rattle.std.specs.Prelude.{⊤}
-use Rattle.std.proofs.Common.{◌≡◌, ◌≢◌, ℕ, ◌<◌, ◌⊎◌, Bool, true, false, List, [], codes, Option, Some, None, is_some}
+use Rattle.std.proofs.Common.{◌≡◌, ◌≢◌, ℕ, ◌<◌, ◌⊎◌, Bool, true, List, [], codes, Option, Some, None, is_some}
 use Rattle.std.proofs.Common.{Result, Ok, Err, refl, sym, ap, subst, ◌∙◌, inl, inr, arith}
 use Rattle.film_run.specs.declared.runs.Run.{Run}
 use Rattle.rtsp_text.specs.Fields.{header_value}
 use Rattle.rtsp_text.specs.Replies.{Field, reply_text}
 use Rattle.rtsp_text.specs.declared.requests.Request.{Request}
 use Rattle.rtsp_text.proofs.MessageUniqueness.{no_fault}
-use Rattle.session.specs.declared.commands.Ask.{Ask}
 use Rattle.session.specs.declared.commands.Ask.TheVariants.{Reply}
 use Rattle.session.specs.declared.methods.Method.{Method}
 use Rattle.session.specs.declared.methods.Method.TheVariants.{Options, Describe, Play as PlayMethod, Pause, Teardown}
@@ -34,11 +33,11 @@ use Rattle.session.specs.declared.states.State.{State}
 use Rattle.session.specs.declared.states.State.TheVariants.{Init, Ready, Playing, Stopping}
 use Rattle.session.specs.Films.{Names}
 use Rattle.session.specs.MethodLaws.{NamesNoOwnFilm, NamesNoSession, NamesSession, setup_in}
-use Rattle.session.specs.Methods.{AsksOfferOr, AsksPlayOr, Gets, GetsOffer, IsRefused, IsReplied, IsSetUp, Looks, Pauses}
+use Rattle.session.specs.Methods.{AsksOfferOr, AsksPlayOr, Gets, GetsOffer, IsRefused, IsSetUp, Looks, Pauses}
 use Rattle.session.specs.Methods.{PlayCall, Plays, Takes, TearsDown}
 use Rattle.session.specs.RefusalLaws.{IsKnownMethod, RequiresSomeOption}
-use Rattle.session.specs.RefusalOrder.{FitsFilm, FitsSession, HasFilm, IsJudged, IsOwnFilm, IsReadAs, first_of, option_of}
-use Rattle.session.specs.Replies.{code_of, refusal_text}
+use Rattle.session.specs.RefusalOrder.{FitsFilm, FitsSession, IsJudged, IsOwnFilm, IsReadAs, first_of, option_of}
+use Rattle.session.specs.Replies.{code_of}
 use Rattle.session.specs.RequestEffects.{HasCode}
 use Rattle.session.specs.RequestedPlans.{IsPlanned}
 use Rattle.session.specs.RequestSteps.{Hears}
@@ -48,7 +47,7 @@ use Rattle.session.proofs.MethodLemmas.{CurveCause, IsRange, IsBuffer, IsMemory,
 use Rattle.session.proofs.MethodLemmas.{own_session}
 use Rattle.session.proofs.RangeInPlayingLemmas.{same_request}
 use Rattle.session.proofs.ReplyCodeLemmas.{ok_text_code, one_code, own_code, refusal_code}
-use Rattle.session.proofs.RequestUniqueness.{Unread, NoChannels, NoMeaning, unread}
+use Rattle.session.proofs.RequestUniqueness.{NoChannels, NoMeaning, unread}
 use Rattle.session.proofs.VerdictUniqueness.{AreAlike}
 
 -- what a reply's code says of its request

@@ -35,19 +35,18 @@ use Rattle.session.specs.declared.refusals.Task.TheVariants.{Setup as ToSetup, P
 use Rattle.session.specs.declared.refusals.Task.TheVariants.{Pause as ToPause}
 use Rattle.session.specs.declared.refusals.Task.TheVariants.{Teardown as ToTeardown}
 use Rattle.session.specs.declared.refusals.Task.TheVariants.{GetParameter as ToGetParameter}
-use Rattle.session.specs.declared.settings.Settings.{Settings}
 use Rattle.session.specs.declared.states.Awaited.TheVariants.{Play as ToAwaitPlay}
 use Rattle.session.specs.declared.states.Play.{Play as Played}
 use Rattle.session.specs.declared.states.Setup.{Setup}
 use Rattle.session.specs.declared.states.State.{State}
 use Rattle.session.specs.declared.states.State.TheVariants.{Init, Ready, Playing, Stopping}
 use Rattle.session.specs.EndLaws.{HasSessionInReply}
-use Rattle.session.specs.Films.{IsFilmAt, Names, identity_of}
-use Rattle.session.specs.MethodLaws.{AnswersAlone, GivesChannels, GivesNumber, HasBadNumber, HasNoMeaningFor}
-use Rattle.session.specs.MethodLaws.{IsBufferRefused, IsDescribeRequest, IsFilmDescribed, IsFilmMethod, IsLookAsked}
-use Rattle.session.specs.MethodLaws.{IsNumberIn, IsOfferAskedOf, IsOptionsAnswered, IsParameterRequest, IsPlainMessage}
+use Rattle.session.specs.Films.{Names, identity_of}
+use Rattle.session.specs.MethodLaws.{AnswersAlone, GivesChannels, GivesNumber, HasBadNumber}
+use Rattle.session.specs.MethodLaws.{IsDescribeRequest, IsFilmDescribed, IsFilmMethod, IsLookAsked}
+use Rattle.session.specs.MethodLaws.{IsOfferAskedOf, IsOptionsAnswered, IsParameterRequest, IsPlainMessage}
 use Rattle.session.specs.MethodLaws.{IsPlayAskedOf, IsPlayConfirmed, IsPlayRequest, IsRefusedFor, IsSetupAnswered}
-use Rattle.session.specs.MethodLaws.{IsSetupRequest, IsUnknownBody, MayNameSession, NamesOtherFilm, NamesOwnFilm}
+use Rattle.session.specs.MethodLaws.{IsSetupRequest, IsUnknownBody, MayNameSession, NamesOtherFilm}
 use Rattle.session.specs.MethodLaws.{NamesSession, PlanRefusal, NoMeaning, NoCurves, SmallBuffer, NoMemory}
 use Rattle.session.specs.MethodLaws.{SettlesSetup, setup_in}
 use Rattle.session.specs.Methods.{AsksOfferOr, AsksPlayOr, Describes, GetsOffer, GetsParameter, Gets, HasWait, IsRefused}
@@ -61,7 +60,7 @@ use Rattle.session.specs.RefusalOrder.{FitsFilm, FitsSession, FitsState, HasFilm
 use Rattle.session.specs.RefusalOrder.{IsReadAs, IsSpoken, IsTaken, IsTimely, IsTopic, IsWord, first_of, method_of}
 use Rattle.session.specs.RefusalOrder.{name_of, required_of}
 use Rattle.session.specs.Replies.{code_of, field, plain_text, public_text, refusal_fields, refusal_text, session_text}
-use Rattle.session.specs.RequestedPlans.{HasNoPlan, HasNoRun, IsPlanned, IsPlannedRun}
+use Rattle.session.specs.RequestedPlans.{HasNoPlan, IsPlanned, IsPlannedRun}
 use Rattle.session.specs.RequestSteps.{Hears}
 use Rattle.session.specs.RunRequests.{curve_refusal}
 use Rattle.session.specs.SettingRanges.{AreFilms}
@@ -71,7 +70,7 @@ use Rattle.session.proofs.InitialStateLemmas.{HeardMessage}
 use Rattle.session.proofs.OfferLemmas.{least_told, offer_asked}
 use Rattle.session.proofs.PlanUniqueness.{film_at_once, planned_once}
 use Rattle.session.proofs.RangeInPlayingLemmas.{same_request}
-use Rattle.session.proofs.RefusalLawLemmas.{HeardRequest, refused_by}
+use Rattle.session.proofs.RefusalLawLemmas.{refused_by}
 use Rattle.session.proofs.ReplyContentLemmas.{film_told, public_told, setup_told}
 use Rattle.session.proofs.RequestUniqueness.{names_once, read_once, topic_once}
 use Rattle.session.proofs.VerdictUniqueness.{AreAlike, method_once}

@@ -1,5 +1,5 @@
 -- What is known of each session: of the play that it sends, and of what its halt keeps.
-use Rattle.std.proofs.Common.{◌≡◌, ℕ, ◌+◌, ◌≤◌, Bool, false, List, length, sym, ap, subst, ◌∙◌, arith}
+use Rattle.std.proofs.Common.{◌≡◌, ℕ, ◌+◌, ◌≤◌, Bool, false, List, length, ap, subst, arith}
 use Rattle.plan_cert.specs.PlanSlots.{total_bytes}
 use Rattle.film_frames.specs.declared.stored_films.Stored.{Stored}
 use Rattle.film_frames.specs.FramedRuns.{run_pieces}
@@ -14,7 +14,7 @@ use Rattle.session.specs.declared.states.State.TheVariants.{Playing}
 use Rattle.session.specs.Films.{IsFilmAt, sending_of}
 use Rattle.session.specs.ResumedPlays.{IsPacedPlay}
 use Rattle.session.specs.RunRequests.{IsPlayable}
-use Rattle.session.specs.SessionInvariant.{IsAwaitedInvariant, IsPlayUnfinished, IsSoundState, IsStateInvariant}
+use Rattle.session.specs.SessionInvariant.{IsAwaitedInvariant, IsSoundState, IsStateInvariant}
 use Rattle.session.specs.SessionInvariant.{SessionContext, context_of}
 use Rattle.session.specs.SessionStates.{AwaitsNoAnswer, SessionState}
 use Rattle.session.specs.SlotSteps.{kept_of}

@@ -1,6 +1,6 @@
 -- What each method does for a request that nothing refuses, and how it refuses one, in the words of
 -- RFC 2326 sections 10 and 12.
-use Rattle.std.specs.Prelude.{ℕ, ◌≡◌, ◌≢◌, ◌≤◌, ◌-◌, ◌^◌, ◌⊎◌, List, [], ◌∷◌, Option, Some, None}
+use Rattle.std.specs.Prelude.{ℕ, ◌≡◌, ◌≢◌, ◌≤◌, ◌-◌, ◌^◌, ◌⊎◌, List, [], Option, Some, None}
 use Rattle.std.specs.Prelude.{codes, string_bytes}
 use Rattle.vod_base.specs.Numbers.{number_of}
 use Rattle.plan_cert.specs.declared.Segment.{Segment}
@@ -8,7 +8,6 @@ use Rattle.early_start.specs.StartSearch.{Offers}
 use Rattle.film_frames.specs.declared.stored_films.Stored.{Stored}
 use Rattle.film_run.specs.declared.runs.Run.{Run}
 use Rattle.rtsp_text.specs.Fields.{header_value}
-use Rattle.rtsp_text.specs.Replies.{Field, reply_text, value_named}
 use Rattle.rtsp_text.specs.declared.requests.Request.{Request}
 use Rattle.rtsp_fields.specs.SessionIds.{IsSession}
 use Rattle.rtsp_fields.specs.Transports.{IsTransport}
@@ -20,14 +19,13 @@ use Rattle.session.specs.declared.plans.Planned.{Planned}
 use Rattle.session.specs.declared.refusals.Refusal.TheVariants.{Buffer, Range}
 use Rattle.session.specs.declared.settings.Settings.{Settings}
 use Rattle.session.specs.declared.states.Awaited.TheVariants.{Play, Look}
-use Rattle.session.specs.declared.states.Play.{Play as Played}
 use Rattle.session.specs.declared.states.Setup.{Setup}
 use Rattle.session.specs.declared.states.State.{State}
 use Rattle.session.specs.declared.states.State.TheVariants.{Init, Ready, Playing, Stopping}
 use Rattle.session.specs.EndLaws.{HasSessionInReply}
 use Rattle.session.specs.Films.{IsFilmAt, Names, identity_of}
 use Rattle.session.specs.Methods.{play_front, prepared_of}
-use Rattle.session.specs.OfferLaws.{IsLeastBufferReply, IsOfferAsked, IsWaitIn}
+use Rattle.session.specs.OfferLaws.{IsLeastBufferReply, IsOfferAsked}
 use Rattle.session.specs.PublicLaws.{IsPublicTold}
 use Rattle.session.specs.RefusalLaws.{IsRefusedBy}
 use Rattle.session.specs.RefusalOrder.{IsReadAs, IsWord}
