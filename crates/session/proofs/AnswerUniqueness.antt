@@ -1,5 +1,5 @@
 -- A message is heard in one way, if memory is found for it.
-use Rattle.std.proofs.Common.{◌≡◌, ℕ, string_bytes, ◌⊎◌, Bool, true, false, List, [], Option, Some}
+use Rattle.std.proofs.Common.{◌≡◌, ℕ, string_bytes, ◌⊎◌, List, [], Option, Some}
 use Rattle.std.proofs.Common.{None, Result, Ok, Err, codes, refl, sym, ap, subst, ◌∙◌, inl, inr}
 use Rattle.std.proofs.Common.{arith}
 use Rattle.film_frames.specs.declared.stored_films.Stored.{Stored}

@@ -1,5 +1,5 @@
 -- Each reply of a session is a whole message.
-use Rattle.std.proofs.Common.{◌≡◌, ℕ, ◌+◌, ◌-◌, ◌*◌, ◌^◌, ◌<◌, ◌≤◌, ◌&&◌, ◌==◌, Bool, true, false, not, suc, zero}
+use Rattle.std.proofs.Common.{◌≡◌, ℕ, ◌+◌, ◌-◌, ◌*◌, ◌^◌, ◌<◌, ◌≤◌, ◌&&◌, ◌==◌, Bool, true, not, suc, zero}
 use Rattle.std.proofs.Common.{nat_lt, nat_le, List, [], ◌∷◌, ◌++◌, All, codes, cond, decimal, eqb, flat_map, get_or}
 use Rattle.std.proofs.Common.{le_refl, length}
 use Rattle.std.proofs.Common.{slice_index, string_bytes, sum, drop, Option, Some, None, Result, Ok, Err, refl, sym, ap}

@@ -37,3 +37,6 @@ pub mod CompleteReplyLemmas
 mod WordLemmas
 mod RefusalLawLemmas
 mod ReplyNumberLemmas
+mod SoundStateLemmas
+mod MethodLemmas
+mod CauseLemmas

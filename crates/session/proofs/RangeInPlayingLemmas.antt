@@ -1,5 +1,5 @@
 -- A PLAY with a Range in Playing is refused.
-use Rattle.std.proofs.Common.{◌≡◌, ℕ, Bool, true, false, List, [], Option, Some, is_some, codes, Result, Ok, Err, sym}
+use Rattle.std.proofs.Common.{◌≡◌, ℕ, true, List, Option, Some, is_some, codes, Result, Ok, Err, sym}
 use Rattle.std.proofs.Common.{ap, subst, ◌∙◌, inl, inr, arith}
 use Rattle.film_frames.specs.declared.stored_films.Stored.{Stored}
 use Rattle.rtsp_text.specs.Fields.{header_value}

@@ -1,5 +1,5 @@
 -- The refusals that all methods share, by their codes; what a PLAY without a Range plays.
-use Rattle.std.proofs.Common.{◌≡◌, ℕ, ◌*◌, ◌≤◌, Bool, true, false, List, [], Option, Some, None, is_some, codes, length}
+use Rattle.std.proofs.Common.{◌≡◌, ℕ, ◌*◌, ◌≤◌, Bool, true, List, Option, Some, None, is_some, codes}
 use Rattle.std.proofs.Common.{Result, Ok, Err, refl, sym, ap, subst, ◌∙◌, inl, inr, arith}
 use Rattle.std.specs.Bool.{⊤}
 use Rattle.mpeg_scan.specs.declared.films.Film.{Film}
@@ -8,7 +8,6 @@ use Rattle.film_frames.specs.declared.stored_films.Stored.{Stored}
 use Rattle.film_run.specs.declared.runs.Run.{Run}
 use Rattle.film_run.specs.Seeks.{IsRequestedRange}
 use Rattle.rtsp_fields.specs.Ranges.{IsSpan}
-use Rattle.rtsp_fields.specs.SessionIds.{IsSession}
 use Rattle.rtsp_fields.specs.declared.ranges.Origin.{Origin}
 use Rattle.rtsp_fields.specs.declared.ranges.Origin.TheVariants.{Now}
 use Rattle.rtsp_fields.specs.declared.ranges.Span.{Span}
@@ -31,7 +30,7 @@ use Rattle.session.specs.Laws.{Resumes}
 use Rattle.session.specs.Methods.{Takes}
 use Rattle.session.specs.PlayLaws.{PassesEarlierChecks}
 use Rattle.session.specs.RefusalLaws.{BeginsFilm, IsForeign, IsInvalidMethod, IsKnownMethod, IsOfNoFilm, IsOfNoSession}
-use Rattle.session.specs.RefusalLaws.{IsPlainRequest, IsRefusedBy, IsWholeFilm, LacksSession, RequiresSomeOption}
+use Rattle.session.specs.RefusalLaws.{IsRefusedBy, IsWholeFilm, LacksSession, RequiresSomeOption}
 use Rattle.session.specs.RefusalOrder.{FitsSession, IsJudged, IsOwnSession, IsReadAs, IsTimely, first_of, option_of}
 use Rattle.session.specs.RefusalOrder.{required_of}
 use Rattle.session.specs.Replies.{code_of, refusal_fields, refusal_text}

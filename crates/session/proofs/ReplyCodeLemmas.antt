@@ -30,7 +30,7 @@ ok_code : (sequence : Option ℕ) (fields : List Field) (rest : List ℕ) → Ha
 unfolding reply_front status_line digits
 ok_code sequence fields rest = refl
 
-ok_text_code : (sequence : Option ℕ) (fields : List Field) (body : List ℕ) → HasCode 200
+pub ok_text_code : (sequence : Option ℕ) (fields : List Field) (body : List ℕ) → HasCode 200
     (reply_text 200 sequence fields body)
 unfolding reply_text reply_front status_line digits
 ok_text_code sequence fields body = refl

@@ -1,16 +1,13 @@
 -- Each reply to a request has the request's CSeq.
-use Rattle.std.proofs.Common.{◌≡◌, ℕ, ◌-◌, ◌++◌, false, true, List, [], ◌∷◌, Bool, Option, Some, None, codes, decimal}
-use Rattle.std.proofs.Common.{length, string_bytes, Result, Ok, Err, refl, sym, ap, subst, ◌∙◌, inl, inr}
-use Rattle.film_frames.specs.declared.stored_films.Stored.{Stored}
-use Rattle.film_run.specs.declared.runs.Run.{Run}
-use Rattle.rtsp_text.specs.Replies.{Field, field_line, reply_front, reply_text}
+use Rattle.std.proofs.Common.{◌≡◌, ℕ, ◌-◌, ◌++◌, List, [], ◌∷◌, Some, codes, decimal}
+use Rattle.std.proofs.Common.{length, string_bytes, Result, Ok, Err, refl, sym, ap, subst, inl, inr}
+use Rattle.rtsp_text.specs.Replies.{Field, field_line, reply_front}
 use Rattle.rtsp_text.specs.declared.requests.Request.{Request}
 use Rattle.rtsp_text.proofs.MessageUniqueness.{no_fault}
 use Rattle.rtsp_text.proofs.ReplyTexts.{front_field, whole_reply}
 use Rattle.rtsp_fields.specs.Sdp.{description_text}
 use Rattle.session.specs.declared.commands.Ask.{Ask}
-use Rattle.session.specs.declared.commands.Ask.TheVariants.{Reply, Play as AskPlay, Halt as AskHalt}
-use Rattle.session.specs.declared.commands.Ask.TheVariants.{Look as AskLook, Offer as AskOffer}
+use Rattle.session.specs.declared.commands.Ask.TheVariants.{Reply}
 use Rattle.session.specs.declared.methods.Topic.{Topic}
 use Rattle.session.specs.declared.methods.Topic.TheVariants.{Nothing as NoTopic, Booked, Offer as OfferTopic, Unknown}
 use Rattle.session.specs.declared.plans.Planned.{Planned}
@@ -38,12 +35,11 @@ use Rattle.session.specs.RefusalOrder.{IsReadAs, option_of}
 use Rattle.session.specs.Replies.{code_of, describe_text, field, full_text, joined_parts, look_body, offer_body}
 use Rattle.session.specs.Replies.{overflow_text, parameters_text, plain_text, play_fields, public_text, refusal_fields}
 use Rattle.session.specs.Replies.{refusal_text, session_text, setup_text, transport_value}
-use Rattle.session.specs.ReplyNumbers.{HasNumber, NumbersLook, NumbersPlay, RepliesHaveNumber}
-use Rattle.session.specs.RequestSteps.{Hears, after_admission, after_offer, started_text}
+use Rattle.session.specs.ReplyNumbers.{HasNumber, RepliesHaveNumber}
+use Rattle.session.specs.RequestSteps.{Hears, started_text}
 use Rattle.session.specs.SessionStates.{SessionState, sequence_of}
 use Rattle.session.proofs.InitialStateLemmas.{HeardMessage}
 use Rattle.session.proofs.RangeInPlayingLemmas.{same_request}
-use Rattle.session.proofs.VerdictUniqueness.{AreAlike}
 
 -- ---- texts
 

@@ -51,12 +51,12 @@ setup_once {settings} {head} {film} {one} {other} is its =
     ∙ ap (λ b. S one.film (C one) b other.delay) buffer ∙ ap (λ d. S one.film (C one) one.buffer d) delay
 
 -- a SETUP that is refused
-data Unread (settings : Settings) (head : List ℕ) (refusal : Refusal) : Type 0 where
+pub data Unread (settings : Settings) (head : List ℕ) (refusal : Refusal) : Type 0 where
   NoChannels : refusal ≡ Transport → ((channels : Channels) → ¬ HasChannels head channels)
       → Unread settings head refusal
   NoMeaning : refusal ≡ Parameter → HasNoMeaning settings head → Unread settings head refusal
 
-unread : (settings : Settings) (head : List ℕ) (film : ℕ) (refusal : Refusal) → IsSetupRead settings head film
+pub unread : (settings : Settings) (head : List ℕ) (film : ℕ) (refusal : Refusal) → IsSetupRead settings head film
     (Err refusal)
     → Unread settings head refusal
 unread settings head film BadRequest is = absurd is

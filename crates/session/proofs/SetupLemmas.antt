@@ -1,5 +1,5 @@
 -- What a SETUP that is heard comes to: it is refused, or the session is Ready with what it asks for.
-use Rattle.std.proofs.Common.{◌≡◌, ℕ, Bool, true, false, List, None, Result, Ok, Err, codes, sym, subst, inl, inr, ap}
+use Rattle.std.proofs.Common.{◌≡◌, ℕ, List, None, Result, Ok, Err, codes, sym, subst, inl, inr, ap}
 use Rattle.std.proofs.Common.{◌∙◌, arith, get_or}
 use Rattle.rtsp_text.specs.Requests.{IsRequest}
 use Rattle.rtsp_text.specs.declared.requests.Request.{Request}

@@ -27,3 +27,4 @@ pub mod PublicLaws
 pub mod CompleteReplies
 pub mod RefusalLaws
 pub mod ReplyNumbers
+pub mod MethodLaws

@@ -1,5 +1,5 @@
 -- What a request changes of a session, and what its reply can be.
-use Rattle.std.specs.Prelude.{ℕ, ◌≡◌, ◌≢◌, ◌⊎◌, ◌++◌, ⊤, false, List, [], length, take, drop, codes}
+use Rattle.std.specs.Prelude.{ℕ, ◌≡◌, ◌≢◌, ◌⊎◌, ◌++◌, ⊤, List, [], length, take, drop, codes}
 use Rattle.std.specs.Prelude.{decimal, Option, Some, None, Err}
 use Rattle.rtsp_text.specs.Fields.{header_value}
 use Rattle.rtsp_text.specs.Requests.{IsFault, IsRequest}

@@ -94,6 +94,15 @@ session_context_of session = record {
   counts = session.counts;
 }
 
+-- the same, of a session as contracts see it
+abbrev pub context_of : SessionState → SessionContext
+context_of old = record {
+  films = old.films;
+  source = old.source;
+  settings = old.settings;
+  counts = old.counts;
+}
+
 -- a play is sent as such a run
 pub record IsPlaying (stored : Stored) (source : StreamSource) (settings : Settings) (setup : Setup)
     (counts : Counts) (play : Played) : Type 0 where
@@ -187,3 +196,12 @@ pub record IsSessionInvariant (session : Inside) : Type 0 where
   pub late : session.late ≤ session.heard
   pub heard : session.heard ≤ 2 ^ 62
   pub front : awaited_plays session.awaited ≡ 1 → length session.reply ≤ 20000
+
+-- what every session satisfies, whatever happened to it: the films and the settings are in their
+-- ranges; a paused run can be sent on; a play that is sent has the plan of its run, and is sent by
+-- it; and what is awaited of the station fits the state
+pub record IsSoundState (old : SessionState) : Type 0 where
+  pub films : AreFilms old.films
+  pub settings : AreSettings old.settings
+  pub state : IsStateInvariant (context_of old) old.state
+  pub awaited : IsAwaitedInvariant (context_of old) old.lost old.state old.awaited

@@ -3,12 +3,12 @@
 use early_start::Offers;
 use plan_cert::Plan;
 
-/// What is to be done after a request was heard.
+/// What the caller does next, after a request.
 #[derive(Debug, Drop)]
 pub enum Ask {
     /// Nothing: the reply waits.
     Reply,
-    /// Ask the station for a play of this plan in the heard slot, and hand its answer to
+    /// Ask the station for a play of this plan in the last slot, and hand its answer to
     /// [`crate::Session::admitted`], [`crate::Session::overflowed`] or
     /// [`crate::Session::full`].
     Play(Plan),
@@ -18,7 +18,7 @@ pub enum Ask {
     /// Look at this slot, and hand the answer to [`crate::Session::looked`] or
     /// [`crate::Session::full`].
     Look(u64),
-    /// Ask from which slot on this plan fits, from the slot after the heard one on, and hand the
+    /// Ask from which slot on this plan fits, from the slot after the last one on, and hand the
     /// answer to [`crate::Session::offered`].
     Offer(Plan, Offers),
 }

@@ -41,11 +41,17 @@ ghost use Rattle.session.specs.CompleteReplies.{HasValidIds, LeavesRoom, Replies
 
 pub use crate::end_laws::{law_only_teardown_ends_the_session, law_pause_leaves_a_resumable_run};
 pub use crate::look_laws::law_first_looks_never_lack_memory;
+pub use crate::method_laws::{
+    law_describe_is_answered, law_get_parameter_is_answered, law_options_is_answered,
+    law_other_film_is_not_found, law_play_is_answered, law_refusals_have_their_causes,
+    law_setup_is_answered,
+};
 pub use crate::offer_laws::{law_least_buffer_is_exact, law_offer_matches_its_request};
 pub use crate::play_laws::{
     law_admitted_play_sends_its_run, law_done_play_is_halted_in_full,
-    law_done_run_is_counted_in_full, law_halt_is_at_next_boundary, law_missed_slots_are_counted,
-    law_note_matches_its_play, law_only_later_slots_are_processed, law_range_in_playing_is_refused,
+    law_done_run_is_counted_in_full, law_every_session_is_sound, law_halt_is_at_next_boundary,
+    law_missed_slots_are_counted, law_note_matches_its_play, law_only_later_slots_are_processed,
+    law_range_in_playing_is_refused,
 };
 pub use crate::refusal_laws::{
     law_play_from_now_goes_on, law_play_without_range_plays_whole_film, law_refusals_come_in_order,
@@ -53,7 +59,7 @@ pub use crate::refusal_laws::{
 };
 
 /// A reply other than 200 leaves all of the session but the reply (RFC 2326 section 7.1.1). So do
-/// 453 and 503, which tell what the station answered: only its receipt is noted, and no answer is
+/// 453 and 503, which report what the station answered: only its receipt is noted, and no answer is
 /// awaited any more.
 pub fn law_refusal_changes_nothing_else()
     ensures own { (old new : SessionState) (message : List ℕ) → Hears old message Ask.Reply new →
@@ -109,11 +115,11 @@ pub fn law_states_follow_rfc_2326()
         StaysOr PlayingStage ReadyStage old (after_halt old place) }
 {}
 
-/// A request changes neither the films, the settings, what was sent before, the heard slot, nor the
+/// A request changes neither the films, the settings, what was sent before, the last slot, nor the
 /// notes of plays. What a SETUP settles is in its ranges (RFC 2326 section 10.4). A PLAY asks for
 /// the run that its Range means, or the paused one, with the plan that is taken for it. A PAUSE and
-/// a TEARDOWN in Playing ask for a halt that keeps what is sent up to the end of the frame or
-/// report in hand; no other request leaves one waiting.
+/// a TEARDOWN in Playing ask for a halt that keeps what is sent up to the end of the current
+/// frame or report; no other request leaves one waiting.
 pub fn law_request_effects_are_bounded()
     ensures ground { (old new : SessionState) (message : List ℕ) (ask : Ask) →
         Hears old message ask new → IsSameContext old new }
@@ -158,7 +164,7 @@ pub fn law_refusals_have_their_phrases()
     ensures { (refusal : Refusal) → phrase (code_of refusal) ≡ phrase_of refusal }
 {}
 
-/// The reply to a PLAY tells, up to its start, the session, the time of the film from the run's
+/// The reply to a PLAY names, before its start, the session, the time of the film from the run's
 /// first unplayed picture to its end, and how the stream goes on: the URL of the film, the number
 /// of the next frame, and the first unplayed picture's time (RFC 2326 sections 12.29 and 12.33).
 pub fn law_play_reply_has_range_and_rtp_info()
@@ -168,15 +174,15 @@ pub fn law_play_reply_has_range_and_rtp_info()
         (play_front old stored setup planned sequence authority) }
 {}
 
-/// The reply to a DESCRIBE tells the film's base URL, under the authority of the request's URL, and
-/// describes the film, with its whole time (RFC 2326 section 10.2 and appendix C).
+/// The reply to a DESCRIBE names the film's base URL, under the authority of the request's URL, and
+/// describes the film, with its duration (RFC 2326 section 10.2 and appendix C).
 pub fn law_describe_reply_describes_the_film()
     ensures { (old new : SessionState) (sequence : ℕ) (authority : List ℕ)
         → (is : IsDescribed old sequence authority new) → IsDescribeReply sequence authority
         (string_bytes is.describes.stored.name) is.describes.stored.film new.text }
 {}
 
-/// The reply to a play that was admitted ends with its start, counted from the heard slot.
+/// The reply to a play that was admitted ends with its start, counted from the last slot.
 pub fn law_play_reply_ends_with_its_start()
     ensures { (old : SessionState) (place start sequence : ℕ) (fields : List Field) → old.heard <
         start
@@ -184,7 +190,7 @@ pub fn law_play_reply_ends_with_its_start()
         → HasStartInReply old start sequence fields (after_admission old place start).text }
 {}
 
-/// The reply to a SETUP tells the session's id, the channels on which its frames and reports are
+/// The reply to a SETUP names the session's id, the channels on which its frames and reports are
 /// sent, and their source (RFC 2326 section 12.39). The session is then Ready, and no run of it is
 /// paused.
 pub fn law_setup_reply_has_transport()
@@ -214,7 +220,7 @@ pub fn law_options_reply_lists_all_methods()
     ensures { (sequence : ℕ) → IsPublicTold sequence (public_text sequence) }
 {}
 
-/// Each reply is a whole message, whose end its own bytes tell (RFC 2326 sections 4.4 and 7). A
+/// Each reply is a complete message, whose end follows from its own bytes (RFC 2326 sections 4.4 and 7). A
 /// reply repeats the authority of its request's URL, or the option that the request requires; so
 /// the request's head is to be 512 bytes shorter than the longest that is taken. What else it needs
 /// is so of each session from its beginning on.

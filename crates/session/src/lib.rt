@@ -6,6 +6,7 @@ mod end_laws;
 mod films;
 pub mod laws;
 mod look_laws;
+mod method_laws;
 mod methods;
 mod notes;
 mod offer_laws;

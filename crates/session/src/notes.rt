@@ -1,4 +1,4 @@
-//! What a connection keeps of its business with the station, for its report.
+//! What a connection notes of its requests to the station, for its report.
 
 use admission::Answer;
 use early_start::Offers;
@@ -7,7 +7,7 @@ use plan_cert::Plan;
 /// What the station answered, in the order of the answers.
 #[derive(Clone, Copy, Debug, PartialEq, Eq)]
 pub enum Receipt {
-    /// An entry of the journal was made.
+    /// The journal has a new entry.
     Entry {
         /// Its place in the journal.
         place: u64,
@@ -52,7 +52,7 @@ pub struct PlayNote {
     pub keep: u64,
 }
 
-/// An offer that was made.
+/// An offer, as its client received it.
 #[derive(Debug, Drop)]
 pub struct OfferNote {
     /// How many entries the journal had.
@@ -72,8 +72,8 @@ pub struct Notes {
     pub receipts: Vec<Receipt>,
     /// The plays that were admitted, in order.
     pub plays: Vec<PlayNote>,
-    /// The slots that were not heard while a play was sent: for each step those between the last
-    /// heard slot, or the slot before the play's start where that is later, and the heard one.
+    /// The slots that did not arrive while a play was sent: at each slot those between the slot
+    /// before it, or the slot before the play's start where that is later, and itself.
     pub late: u64,
     /// The offers, in order.
     pub offers: Vec<OfferNote>,

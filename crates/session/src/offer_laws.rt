@@ -20,7 +20,7 @@ ghost use Rattle.session.specs.SessionStates.{SessionState, sequence_of};
 
 /// An offer is asked of the station exactly as its request has it: in Ready, with the plan of a
 /// PLAY without a Range and the wait that its `x-Wait` names, and nothing else changes. The reply
-/// tells the start that was found, and each start that was tried in vain, a line each.
+/// names the start that was found, and each start without room, a line each.
 pub fn law_offer_matches_its_request()
     ensures asked { (old new : SessionState) (message : List ℕ) (plan : List Segment) (offers :
         Offers)

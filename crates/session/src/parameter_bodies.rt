@@ -23,7 +23,7 @@ pub(crate) fn put_look(body: &mut Text, now: u64, at: u64, booked: u64)
 }
 
 /// From which slot on a play would fit, and the first slot without room for each start that was
-/// tried in vain.
+/// tried without room.
 pub(crate) fn put_offer(body: &mut Text, offers: &Offers)
     ensures text { body.new ≡ offer_body offers.now.start offers.now.tried }
     ensures short { length body.new ≤ MAX_TEXT_BYTES }
@@ -60,7 +60,7 @@ fn put_start_line(body: &mut Text, start: Option<u64>)
     body.put(b"\r\n");
 }
 
-/// The line of a start that was tried in vain: the first slot without room, what is booked in it
+/// The line of a start that was tried without room: the first slot without room, what is booked in it
 /// and what the plan asks for there.
 fn put_over_line(body: &mut Text, tried: &Tried)
     requires { length body.old + 93 ≤ MAX_TEXT_BYTES }

@@ -1,11 +1,8 @@
 //! Laws of a play, from its request to its note.
 
-ghost use Rattle.std.specs.Prelude.{◌≡◌, ◌<◌, ◌≤◌, ◌+◌, ◌^◌, ℕ, true, false, List, length};
+ghost use Rattle.std.specs.Prelude.{◌≡◌, ◌<◌, ◌≤◌, ◌+◌, ◌^◌, ℕ, true, false, List};
 ghost use Rattle.plan_cert.specs.PlanSlots.{total_bytes};
 ghost use Rattle.film_frames.specs.declared.stored_films.Stored.{Stored};
-ghost use Rattle.film_frames.specs.FramedRuns.{run_pieces};
-ghost use Rattle.film_frames.specs.Tracks.{framed_bytes};
-ghost use Rattle.pacer.specs.PacerStates.{IsPacerState};
 ghost use Rattle.rtsp_text.specs.declared.requests.Request.{Request};
 ghost use Rattle.session.specs.declared.commands.Ask.{Ask};
 ghost use Rattle.session.specs.declared.methods.Method.TheVariants.{Play as PlayMethod};
@@ -19,10 +16,22 @@ ghost use Rattle.session.specs.PlayLaws.{HasCountedAll, HasRangeInPlaying, Passe
 ghost use Rattle.session.specs.PlayLaws.{IsNoted};
 ghost use Rattle.session.specs.PlayLaws.{IsDeclined, IsSentAsAsked, KeepsToBoundary};
 ghost use Rattle.session.specs.PlayLaws.{slots_missed};
-ghost use Rattle.session.specs.RunRequests.{IsPlayable};
+ghost use Rattle.session.specs.SessionInvariant.{IsSoundState};
 ghost use Rattle.session.specs.SlotSteps.{after_play, is_sending, is_taken, kept_of, next_of};
 ghost use Rattle.session.specs.SlotSteps.{after_slot, start_in};
-ghost use Rattle.session.specs.SessionStates.{HaltAnswer, SessionState, awaited_answer};
+ghost use Rattle.session.specs.SessionStates.{AwaitsNoAnswer, HaltAnswer, SessionState};
+ghost use Rattle.session.specs.SessionStates.{awaited_answer};
+
+use crate::sessions::Session;
+
+/// Every session is sound, whatever happened to it: what it settled and planned is in its ranges and
+/// fits its state. A caller that holds a session shows by this what the laws of a play need.
+pub fn law_every_session_is_sound(session: &Session<'_>)
+    ensures { IsSoundState session.now }
+{
+    // a field is read, so that what every session satisfies is known here
+    let _waits = session.waits;
+}
 
 /// A PLAY with a Range in Playing is refused: by 455, where no other refusal comes before (RFC 2326
 /// section 10.5 and appendix A.2).
@@ -37,15 +46,15 @@ pub fn law_range_in_playing_is_refused()
 {}
 
 /// A PAUSE and a TEARDOWN halt a play at the first boundary at or after what was sent: the frame or
-/// report in hand is sent to its end, and nothing after it.
+/// report that is being sent goes out to its end, and nothing after it.
 pub fn law_halt_is_at_next_boundary()
     ensures { (old new : SessionState) (message : List ℕ) (keep : ℕ) (setup : Setup) (play : Played)
         →
-        Hears old message (Ask.Halt keep) new
-        → old.state ≡ Playing setup play → IsPacerState play.pacer → KeepsToBoundary play keep }
+        Hears old message (Ask.Halt keep) new → IsSoundState old
+        → old.state ≡ Playing setup play → KeepsToBoundary play keep }
 {}
 
-/// While a play is sent, each slot from its start on that was not heard between two heard ones is
+/// While a play is sent, each slot from its start on that did not arrive between two that did is
 /// counted as missed; where none is sent, no slot is.
 pub fn law_missed_slots_are_counted()
     ensures sending { (old : SessionState) (slot : ℕ) → is_taken old slot ≡ true →
@@ -56,41 +65,41 @@ pub fn law_missed_slots_are_counted()
 {}
 
 /// A play of which all is sent that is kept is halted with all of that, as soon as a slot of it was
-/// stepped; while some of it is to be sent, no halt is asked for.
+/// stepped; while some of it is to be sent, no halt is asked for. What is kept is the whole plan, as
+/// long as no halt was asked for and no link call failed.
 pub fn law_done_play_is_halted_in_full()
     ensures done { (old : SessionState) (setup : Setup) (play : Played) →
         old.state ≡ Playing setup play → 0 < play.pacer.passed →
         play.pacer.sent ≡ play.pacer.keep
         → awaited_answer (after_play old) ≡ HaltAnswer play.pacer.keep }
+    ensures whole { (old : SessionState) (setup : Setup) (play : Played) → IsSoundState old →
+        AwaitsNoAnswer old → old.lost ≡ false → old.state ≡ Playing setup play →
+        play.pacer.keep ≡ total_bytes play.plan }
     ensures going { (old : SessionState) (setup : Setup) (play : Played) →
         old.state ≡ Playing setup play → play.pacer.sent < play.pacer.keep →
         after_play old ≡ old }
 {}
 
-/// After a play that is done, all frames of its run were counted: what is sent next has the next
-/// sequence number, and reports count all packets and octets before (RFC 3550 sections 5.1 and
-/// 6.4.1).
+/// After a play that is done, whose halt keeps its whole plan, all frames of its run were counted:
+/// what is sent next has the next sequence number, and reports count all packets and octets before
+/// (RFC 3550 sections 5.1 and 6.4.1).
 pub fn law_done_run_is_counted_in_full()
     ensures { (old : SessionState) (place : ℕ) (stored : Stored) (setup : Setup) (play : Played)
-        → old.state ≡ Playing setup play → is_answered (next_of old.awaited) ≡ false
-        → IsFilmAt old.films setup.film stored
-        → play.run.sent + kept_of old.awaited play.pacer.due
-        ≡ length (framed_bytes (run_pieces
-        (sending_of stored.film old.source setup old.counts play.run)))
+        → IsSoundState old → old.state ≡ Playing setup play
+        → is_answered (next_of old.awaited) ≡ false → IsFilmAt old.films setup.film stored
+        → kept_of old.awaited play.pacer.due ≡ total_bytes play.plan
         → HasCountedAll (identity_of old.source setup old.counts)
         (identity_of old.source setup (after_halt old place).counts)
         (sending_of stored.film old.source setup old.counts play.run) }
 {}
 
-/// The note of a halted play tells its run and its client, and its plan is the plan of that run for
+/// The note of a halted play names its run and its client, and its plan is the plan of that run for
 /// that client. It keeps what the halt was asked to keep, or what is due as the connection ends,
-/// and stands after the notes of the plays before.
+/// and comes after the notes of the plays before.
 pub fn law_note_matches_its_play()
     ensures { (old : SessionState) (place : ℕ) (stored : Stored) (setup : Setup) (play : Played)
-        → old.state ≡ Playing setup play
-        → IsPlayable stored old.source old.settings setup old.counts play.run play.plan
-        → kept_of old.awaited play.pacer.due ≤ total_bytes play.plan
-        → IsNoted stored play old (after_halt old place) }
+        → IsSoundState old → old.state ≡ Playing setup play
+        → IsFilmAt old.films setup.film stored → IsNoted stored play old (after_halt old place) }
 {}
 
 /// A play that the station admitted is sent as it was asked for: the run from what was sent of it
@@ -102,7 +111,7 @@ pub fn law_admitted_play_sends_its_run()
         (after_admission asked place start) }
 {}
 
-/// A slot is processed where it is later than the heard one, and none above 2^62; no other changes
+/// A slot is processed where it is later than the last one, and none above 2^62; no other changes
 /// anything.
 pub fn law_only_later_slots_are_processed()
     ensures later { (old : SessionState) (slot : ℕ) → old.heard < slot → slot ≤ 2 ^ 62 →

@@ -1,4 +1,4 @@
-//! What a session keeps for the connection's report: the station's answers, the plays and the
+//! What a session notes for the connection's report: the station's answers, the plays and the
 //! offers.
 
 ghost use Rattle.std.specs.Prelude.{◌≡◌, ◌+◌, ◌-◌, ◌≤◌, ◌++◌, [], ◌∷◌, IfOk, OnOk, IsOk};
@@ -17,7 +17,7 @@ pub(crate) struct Records {
     pub(crate) receipts: Vec<Receipt>,
     /// The plays that were admitted and are halted.
     pub(crate) plays: Vec<PlayNote>,
-    /// The offers that were made.
+    /// The offers.
     pub(crate) offers: Vec<OfferNote>,
 }
 

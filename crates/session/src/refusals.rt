@@ -47,7 +47,7 @@ pub(crate) enum Refusal {
     Buffer(u64),
     /// Its range has no meaning for the film.
     Range,
-    /// Want of memory.
+    /// Memory ran out.
     Memory,
 }
 

@@ -174,7 +174,7 @@ pub(crate) fn info_of<'m>(
     }
 }
 
-/// The front of the 200 of a PLAY: all but the start.
+/// The 200 of a PLAY up to its start.
 pub(crate) fn put_play(reply: &mut Reply, sequence: u64, id: &[u8; 16], info: &Info<'_>)
     requires id { is_one_line id.now ≡ true }
     requires authority { length info.now.authority.now ≤ 16384 }
@@ -215,7 +215,7 @@ pub(crate) fn put_play(reply: &mut Reply, sequence: u64, id: &[u8; 16], info: &I
     );
 }
 
-/// The end of the 200 of a PLAY that begins so many slots after the heard one.
+/// The end of the 200 of a PLAY that begins so many slots after the last one.
 pub(crate) fn put_start(reply: &mut Reply, slots: u64)
     requires { length reply.old ≤ 20000 }
     ensures text { reply.new ≡ started_text reply.old slots }

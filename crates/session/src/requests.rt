@@ -69,7 +69,7 @@ impl<'a> Session<'a> {
         }
     }
 
-    /// Hears a request that could be read: it is refused, or processed by its method.
+    /// Answers a request that could be read: it is refused, or processed by its method.
     fn hear_request(&mut self, request: &Request<'_>) -> Ask
         requires hear { CanHandleRequest self.old }
         requires head { length request.now.head.now ≤ 16384 }
@@ -107,7 +107,7 @@ impl<'a> Session<'a> {
         }
     }
 
-    /// The reply is whole: it waits.
+    /// The reply is complete: it waits.
     fn reply_waits(&mut self) -> Ask
         requires rest { AwaitsNoAnswer self.old }
         ensures asks { result ≡ Ask.Reply }
@@ -246,7 +246,8 @@ impl<'a> Session<'a> {
         Ask::Play(plan)
     }
 
-    /// PAUSE (RFC 2326 section 10.6): the play is halted at the end of the piece in hand.
+    /// PAUSE (RFC 2326 section 10.6): the play is halted at the end of the current frame
+    /// or report.
     fn pause(&mut self, sequence: u64) -> Ask
         requires hear { CanHandleRequest self.old }
         requires playing { is_playing_in self.old.state ≡ true }
@@ -306,7 +307,7 @@ impl<'a> Session<'a> {
         }
     }
 
-    /// A look at the heard slot. There is room for the first ones from the beginning.
+    /// A look at the last slot. There is room for the first ones from the beginning.
     fn look(&mut self, sequence: u64) -> Ask
         requires hear { CanHandleRequest self.old }
         ensures exact { Looks self.old sequence result self.new }
@@ -377,8 +378,8 @@ impl<'a> Session<'a> {
     }
 }
 
-/// Asks for the halt of the play that is sent, if one is, at the end of the piece in hand, and
-/// tells how many bytes it keeps.
+/// Asks for the halt of the play that is sent, if one is, at the end of the current frame or report,
+/// and returns how many bytes it keeps.
 fn ask_halt(state: &mut State<'_>) -> Option<u64>
     requires { IsGoing false state.old }
     ensures halted { IfSome result (KeepsToBoundary state.old state.new) }

@@ -20,7 +20,7 @@ use vod_base::NoMemory;
 /// One RTSP session of a connection (RFC 2326): what it asked of the station, and the play that it
 /// sends.
 ///
-/// Contracts see a record of named fields, and speak of it by the words of its specification.
+/// Contracts see a record of named fields, and use the definitions of its specification.
 #[derive(Drop)]
 pub struct Session<'a> {
     /// What the session takes memory from.
@@ -33,13 +33,13 @@ pub struct Session<'a> {
     pub(crate) id: [u8; 16],
     /// What its stream begins with.
     pub(crate) source: StreamSource,
-    /// Where it stands.
+    /// Its state.
     pub(crate) state: State<'a>,
-    /// What was sent before the run in hand, or in all where there is none.
+    /// What was sent before the current run, or in all where there is none.
     pub(crate) counts: Counts,
     /// What the station was asked and hasn't answered.
     pub(crate) awaited: Awaited<'a>,
-    /// The reply, or the front of the one that the station's answer completes.
+    /// The reply, or the beginning of the one that the station's answer completes.
     pub(crate) reply: Reply,
     /// The reply's body.
     pub(crate) body: Text,
@@ -49,7 +49,7 @@ pub struct Session<'a> {
     pub(crate) teardown: Teardown,
     /// Whether a call of the link failed.
     pub(crate) lost: bool,
-    /// The greatest slot up to 2^62 that was heard.
+    /// The greatest slot up to 2^62 that arrived.
     pub(crate) heard: u64,
     /// The slots that were missed while plays were sent.
     pub(crate) late: u64,
@@ -160,7 +160,7 @@ impl<'a> Session<'a> {
         }
     }
 
-    /// The greatest slot up to 2^62 that was heard, at first 0.
+    /// The greatest slot up to 2^62 that arrived, at first 0.
     pub fn heard_slot(&self) -> u64
         ensures slot { result ≡ self.now.heard }
         ensures most { result ≤ 2 ^ 62 }

@@ -109,7 +109,7 @@ impl<'a> Session<'a> {
     }
 }
 
-/// The slots from a play's start on that were not heard between two heard ones.
+/// The slots from a play's start on that did not arrive between two that did.
 fn missed_slots(before: u64, start: u64, slot: u64) -> u64
     requires { before ≤ slot }
     ensures { result ≡ slot - 1 - max before (start - 1) }
@@ -129,8 +129,8 @@ fn start_of(state: &State<'_>) -> Option<u64>
     }
 }
 
-/// Sends what is due in a slot, with a stop up to the end of the piece in hand alone. It tells how
-/// many bytes are left.
+/// Sends what is due in a slot, with a stop only up to the end of the current frame or report. It
+/// returns how many bytes are left.
 #[tactic(auto, using(crate::proofs::FailedSlotLemmas::failed_front, crate::proofs::FailedSlotLemmas::failed_due))]
 fn step<K: Link>(
     state: &mut State<'_>,
@@ -172,7 +172,7 @@ fn is_between(state: &State<'_>) -> bool
 }
 
 /// Sends what is due in a slot, and the reply, if one waits, at the first boundary that is reached.
-/// It tells whether the reply was sent.
+/// It returns whether the reply was sent.
 fn send_due<K: Link>(
     state: &mut State<'_>,
     reply: &Reply,

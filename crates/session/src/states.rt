@@ -1,14 +1,16 @@
-//! Where a session stands (RFC 2326 appendix A.2).
+//! The states of a session (RFC 2326 appendix A.2).
 
 ghost use Rattle.std.specs.Prelude.{◌≡◌, true, if◌then◌else◌};
 ghost use Rattle.session.specs.Teardowns.{is_tearing, is_torn_down};
 ghost use Rattle.session.specs.RequestSteps.{is_torn, source_of};
-ghost use Rattle.session.specs.SessionStates.{has_session_in, is_playing_in};
+ghost use Rattle.session.specs.SessionStates.{has_session_in, is_playing_in, sequence_of};
+ghost use Rattle.session.specs.declared.states.Awaited.TheVariants.{Nothing};
 
 use film_frames::Frames;
 use film_run::Run;
 use pacer::Pacer;
 use plan_cert::Plan;
+use std::mem;
 
 /// What SETUP settled.
 #[derive(Clone, Copy)]
@@ -67,7 +69,7 @@ pub(crate) struct Play<'a> {
     pub(crate) pacer: Pacer<Frames<'a>>,
 }
 
-/// A play that was halted: the piece in hand is sent to its end.
+/// A play that was halted: the current frame or report is sent to its end.
 #[derive(Drop)]
 pub(crate) struct Stop<'a> {
     /// The run as the pause leaves it; None where the session is torn down.
@@ -193,6 +195,19 @@ impl Teardown {
 }
 
 impl<'a> Awaited<'a> {
+    /// The number of the request that waits for the station's answer, which has come: from now on
+    /// nothing is awaited. A halt's reply has its number already.
+    pub(crate) fn take_sequence(&mut self) -> u64
+        ensures sequence { result ≡ sequence_of self.old }
+        ensures nothing { self.new ≡ Nothing }
+    {
+        match mem::replace(self, Awaited::Nothing) {
+            Awaited::Play(prepared) => prepared.sequence,
+            Awaited::Look(sequence) | Awaited::Offer(sequence) => sequence,
+            Awaited::Nothing | Awaited::Halt(..) => 0,
+        }
+    }
+
     /// Sets what is awaited from now on.
     pub(crate) fn set(&mut self, awaited: Awaited<'a>)
         ensures { self.new ≡ awaited.entry }

@@ -83,9 +83,7 @@ impl<'a> Session<'a> {
         ensures open { open_of self.new ≡ None }
         ensures notes { AreNotesUnchanged self.old self.new }
     {
-        let Awaited::Play(prepared) = mem::replace(&mut self.awaited, Awaited::Nothing) else {
-            unreachable!()
-        };
+        let sequence = self.awaited.take_sequence();
         self.log.note(Receipt::Entry {
             place,
             answer: Answer::Overflow {
@@ -94,7 +92,7 @@ impl<'a> Session<'a> {
                 asked,
             },
         });
-        put_overflow(&mut self.reply, prepared.sequence, slot, booked, asked);
+        put_overflow(&mut self.reply, sequence, slot, booked, asked);
         self.waits = true;
     }
 
@@ -108,11 +106,7 @@ impl<'a> Session<'a> {
         ensures open { open_of self.new ≡ open_of self.old }
         ensures notes { AreNotesUnchanged self.old self.new }
     {
-        let sequence = match mem::replace(&mut self.awaited, Awaited::Nothing) {
-            Awaited::Play(prepared) => prepared.sequence,
-            Awaited::Look(sequence) => sequence,
-            _ => unreachable!(),
-        };
+        let sequence = self.awaited.take_sequence();
         self.log.note(Receipt::Full { entries, live });
         put_full(&mut self.reply, sequence, entries, live);
         self.waits = true;
@@ -162,9 +156,7 @@ impl<'a> Session<'a> {
         ensures open { open_of self.new ≡ open_of self.old }
         ensures notes { AreNotesUnchanged self.old self.new }
     {
-        let Awaited::Look(sequence) = mem::replace(&mut self.awaited, Awaited::Nothing) else {
-            unreachable!()
-        };
+        let sequence = self.awaited.take_sequence();
         self.log.note(Receipt::Entry {
             place,
             answer: Answer::Looked { now, at, booked },
@@ -197,9 +189,7 @@ impl<'a> Session<'a> {
         ensures torn { self.new.torn ≡ self.old.torn }
         ensures lost { self.new.lost ≡ self.old.lost }
     {
-        let Awaited::Offer(sequence) = mem::replace(&mut self.awaited, Awaited::Nothing) else {
-            unreachable!()
-        };
+        let sequence = self.awaited.take_sequence();
         put_offer(&mut self.body, &offers);
         put_parameters(&mut self.reply, sequence, self.body.bytes());
         self.log.note_offer(OfferNote {

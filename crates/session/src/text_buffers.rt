@@ -12,7 +12,7 @@ const MAX_TEXT_BYTES: usize = 24_576;
 
 /// The text of a reply's body, in a buffer of 24,576 bytes that `new` takes. It is apart from
 /// [`rtsp_text::Reply`], which writes a head and takes the whole body at its end, since the head
-/// tells the body's length. Contracts see the text so far.
+/// gives the body's length. Contracts see the text so far.
 #[derive(Drop)]
 pub(crate) struct Text {
     bytes: Vec<u8>,
