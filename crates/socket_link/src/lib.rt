@@ -12,7 +12,7 @@ mod memory_sockets;
 mod sockets;
 
 pub use limits::{FIRST_SEND_LIMIT, IDLE_LIMIT, LINGER, STUCK_LIMIT};
-pub use links::{NewLinkError, SocketLink};
+pub use links::{LinkBuffer, SocketLink};
 pub use memory_sockets::{MemorySocket, ScriptedRead, ScriptedWrite};
 pub use sockets::{Purpose, ReadOutcome, Socket, SocketFault, WriteOutcome};
 
