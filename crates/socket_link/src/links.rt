@@ -79,8 +79,8 @@ pub struct SocketLink<S: Socket> {
 impl<S: Socket + Drop> SocketLink<S> {
     /// A link over a connection that was just accepted. A slot lasts `slot_units` / 360,000 s.
     ///
-    /// The socket has made no call yet. A caller knows that from the socket's constructor; a socket
-    /// of the system exposes no calls, so nothing is asked of it.
+    /// No call of the socket was made yet. A caller knows that from the socket's constructor. A
+    /// socket of the system exposes no calls, so the caller of such a socket has nothing to show.
     ///
     /// # Errors
     ///

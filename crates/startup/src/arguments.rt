@@ -1,6 +1,6 @@
 //! The arguments of the command line.
 
-ghost use Rattle.std.specs.Prelude.{◌≡◌, [], Err, IfOk, IfErr, IsOk};
+ghost use Rattle.std.specs.Prelude.{◌≡◌, [], IfOk, IfErr, IsOk, IsErr};
 ghost use Rattle.std.specs.IoError.{error_kind};
 
 use std::alloc::{AllocError, Global};
@@ -22,7 +22,7 @@ pub fn program_args(rt: &(impl Env + AllocGlobal)) -> Result<Vec<String>, AllocE
 /// The arguments without the first one, which is the program's name.
 fn without_name(alloc: Global, args: io::Result<Args<Global>>) -> Result<Vec<String>, AllocError>
     ensures memory { IfErr args (λ error. error_kind error ≡ ErrorKind.OutOfMemory →
-        result ≡ Err AllocError) }
+        IsErr result) }
     ensures none { IfErr args (λ error. (error_kind error ≡ ErrorKind.OutOfMemory → ⊥) →
         IsOk result) }
     ensures empty { IfErr args (λ error. IfOk result (λ words. words.items ≡ [])) }
