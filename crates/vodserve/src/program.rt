@@ -1,6 +1,6 @@
 //! The program: what its command needs of the machine, and then the command.
 
-ghost use Rattle.std.specs.Prelude.{◌≡◌, ◌×◌, Bool, Option, Some, None, true, IfOk, OnErr};
+ghost use Rattle.std.specs.Prelude.{◌≡◌, Option, Some, None, true, IfOk, OnErr};
 ghost use Rattle.cli_args.specs.Invocations.{Invocation as Asked, ServeArgs, WatchArgs};
 ghost use Rattle.cli_args.specs.Invocations.{invocation_from, serve_of, watch_of};
 ghost use Rattle.cli_args.specs.Settings.{texts};
