@@ -1,5 +1,5 @@
-//! What a gate tells of its connections and parts. These histories exist in proofs alone: they take
-//! no memory, and no step of the program reads them.
+//! The history of a gate: its connections and parts. A history exists in proofs alone: it takes no
+//! memory, and no step of the program reads it.
 
 ghost use Rattle.std.specs.Prelude.{◌≡◌, [], ◌∷◌, ◌++◌};
 
@@ -17,8 +17,7 @@ pub enum PartNote {
 }
 
 /// What happened at a gate: it was opened, a call failed to open it, a part was split off, or a
-/// part
-/// came back.
+/// part came back.
 #[derive(Clone, Copy, Drop)]
 pub enum GateNote {
     Opened(Opening),
@@ -30,7 +29,7 @@ pub enum GateNote {
 /// The history of a part, each note with the connection that it is of.
 #[derive(Drop)]
 pub struct PartHistory<C: Drop> {
-    /// Which split made the part, from 0.
+    /// The number of the split that gave the part, from 0.
     pub number: u32,
     pub notes: Log<Option<C>, PartNote>,
 }

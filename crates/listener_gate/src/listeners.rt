@@ -21,7 +21,7 @@ pub enum AcceptError {
     #[error("the connection was lost before it was accepted")]
     Transient,
     /// The process or the system is short of file descriptors or memory: an accept may succeed
-    /// later.
+    /// later. No connection was lost: it still waits to be accepted.
     #[error("file descriptors or memory are short")]
     Shortage,
     /// The listener doesn't work any more.
@@ -49,8 +49,8 @@ pub enum ListenerDoing {
 /// A listening socket of the machine: connections come to its address and port.
 ///
 /// A listener counts its faults as a library does: the count rises with each call that fails,
-/// except for an accept that may succeed later. What it did may be told to contracts: `tells` says
-/// whether `did` is what it did, in order, and `ended` how many connections it ended.
+/// except for an accept that may succeed later. Where `tells` is true it exposes to contracts what
+/// it did, in order, as `did`, and how many connections it ended, as `ended`.
 pub trait Listener: Sized {
     type Conn: Link + Drop;
 

@@ -67,7 +67,7 @@ impl MemoryListener {
         self.ended
     }
 
-    /// Counts a call, and tells whether it is to fail.
+    /// Counts a call, and answers whether it is to fail.
     fn call_fails(&mut self) -> bool
         ensures did { self.new.did ≡ self.old.did }
         ensures faults { self.new.faults ≡ self.old.faults }

@@ -175,3 +175,21 @@ fn parts_go_out_and_come_back(rt: HostRuntime) -> Result<(), Fail> {
     assert_eq!(rt; gate.listener().doings().len(), 2);
     Ok(())
 }
+
+/// The numbers are those of errno(3) in Linux.
+#[test]
+fn error_numbers_have_their_meaning(rt: HostRuntime) {
+    for (numbers, meaning) in [
+        ([12, 23, 24, 105].as_slice(), AcceptError::Shortage),
+        (
+            &[1, 4, 64, 71, 92, 95, 100, 101, 103, 112, 113],
+            AcceptError::Transient,
+        ),
+        (&[9, 13, 22, 88, 11], AcceptError::Broken),
+    ] {
+        for number in numbers {
+            assert_eq!(rt; accept_error_of(Some(*number)), meaning, "{number}");
+        }
+    }
+    assert_eq!(rt; accept_error_of(None), AcceptError::Broken);
+}

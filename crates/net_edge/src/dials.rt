@@ -3,8 +3,9 @@
 ghost use Rattle.std.specs.Prelude.{◌≡◌, None, IfOk, IfSome};
 
 use crate::faults::Faults;
-use crate::links::{TcpLink, link_over};
+use crate::links::{LinkResources, TcpLink, link_over};
 use crate::slots::SlotClock;
+use socket_link::SocketFault;
 use std::alloc::Global;
 use std::net::{Ipv4Addr, Net, SocketAddr, TcpListener, TcpStream};
 use std::time::Clock;
@@ -35,15 +36,17 @@ impl<'a, R: Net<Listener = TcpListener, Stream = TcpStream> + Clock> DialGate<'a
     }
 
     /// The connection, where it wasn't given yet.
-    fn next_link(&mut self) -> io::Result<Option<TcpLink<'a, R>>>
+    fn next_link(&mut self) -> Result<Option<TcpLink<'a, R>>, SocketFault>
         ensures faults { self.new.faults ≡ self.old.faults }
         ensures fresh { IfOk result (λ next. IfSome next (λ link. link.faults ≡ 0)) }
     {
         let Some(dialed) = self.call.give() else {
             return Ok(None);
         };
-        let link = link_over(self.rt, self.alloc, dialed.stream, dialed.clock)?;
-        Ok(Some(link))
+        match link_over(self.rt, dialed.stream, dialed.resources, dialed.clock) {
+            Ok(link) => Ok(Some(link)),
+            Err(fault) => Err(fault),
+        }
     }
 }
 
@@ -56,7 +59,9 @@ impl<'a, R: Net<Listener = TcpListener, Stream = TcpStream> + Clock> Gate for Di
 
     fn open(&mut self, how: &Opening) -> Result<(), GateFault> {
         self.call = Call::NotOpen;
-        let dialed = self.faults.pass_on(dial(self.rt, how), GateFault)?;
+        let dialed = self
+            .faults
+            .pass_on(dial(self.rt, self.alloc, how), GateFault)?;
         self.call = Call::Waiting(dialed);
         Ok(())
     }
@@ -113,21 +118,37 @@ impl Call {
     }
 }
 
-/// A connection that was made.
+/// A connection that was made, and what its link needs.
 #[derive(Drop)]
 struct Dialed {
     stream: TcpStream,
     clock: SlotClock,
+    resources: LinkResources,
+}
+
+/// Connects to a port of this machine. Slot 0 begins now.
+fn dial<R: Net<Listener = TcpListener, Stream = TcpStream> + Clock>(
+    rt: &R,
+    alloc: Global,
+    how: &Opening,
+) -> Result<Dialed, GateFault> {
+    let Ok(resources) = LinkResources::reserve(rt, alloc) else {
+        return Err(GateFault);
+    };
+    let Ok(stream) = connect(rt, how.port) else {
+        return Err(GateFault);
+    };
+    let Ok(clock) = SlotClock::start(rt, how.slot_units) else {
+        return Err(GateFault);
+    };
+    Ok(Dialed {
+        stream,
+        clock,
+        resources,
+    })
 }
 
 /// Connects to a port of this machine.
-fn dial<R: Net<Listener = TcpListener, Stream = TcpStream> + Clock>(
-    rt: &R,
-    how: &Opening,
-) -> io::Result<Dialed> {
-    let stream = TcpStream::connect(rt, SocketAddr::from((Ipv4Addr::LOCALHOST, how.port)))?;
-    Ok(Dialed {
-        stream,
-        clock: SlotClock::start(rt, how.slot_units)?,
-    })
+fn connect<R: Net<Stream = TcpStream>>(rt: &R, port: u16) -> io::Result<TcpStream> {
+    TcpStream::connect(rt, SocketAddr::from((Ipv4Addr::LOCALHOST, port)))
 }

@@ -1,6 +1,7 @@
 //! Counts of faults.
 
 ghost use Rattle.std.specs.Prelude.{◌≡◌, ◌+◌, ◌-◌, ◌^◌, ◌≤◌, ◌<◌, min, Err, IfOk, OnOk, OnErr};
+ghost use Rattle.std.specs.IoError.{error_kind};
 ghost use Rattle.vod_base.specs.IoState.{HasRisen, one_more};
 
 use std::io;
@@ -28,8 +29,12 @@ impl Faults {
         self.count = self.count.saturating_add(1);
     }
 
-    /// Passes an answer on. An error is counted, and `fault` stands for it.
-    pub(crate) fn pass_on<T, E: Drop>(&mut self, answer: io::Result<T>, fault: E) -> Result<T, E>
+    /// Passes a result on. An error is counted, and `fault` is returned in its place.
+    pub(crate) fn pass_on<T, C: Drop, E: Drop>(
+        &mut self,
+        answer: Result<T, C>,
+        fault: E,
+    ) -> Result<T, E>
         ensures count { self.old.count ≤ self.new.count }
         ensures value { IfOk result (λ value. answer ≡ Ok value) }
         ensures same { OnOk result (self.new ≡ self.old) }
@@ -55,8 +60,10 @@ impl Faults {
     }
 }
 
-/// What is answered where a loop that its body alone ends has counted to 2^64 - 1, which it never
-/// reaches.
-pub(crate) fn end_of_count() -> io::Error {
+/// The error of a loop that has counted to 2^64 - 1. Its body alone ends it, so it never counts
+/// that far.
+pub(crate) fn end_of_count() -> io::Error
+    ensures { error_kind result ≡ ErrorKind.TimedOut }
+{
     io::Error::from(ErrorKind::TimedOut)
 }

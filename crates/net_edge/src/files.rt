@@ -1,8 +1,10 @@
 //! The files of the current folder.
 
-ghost use Rattle.std.specs.Prelude.{◌≡◌, ◌≤◌, None, length, IfOk};
+ghost use Rattle.std.specs.Prelude.{◌≡◌, ◌≤◌, None, length, IfOk, IfErr, string_bytes};
+ghost use Rattle.std.specs.IoError.{error_kind};
 
 use crate::faults::{Faults, end_of_count};
+use crate::outcomes::size_outcome;
 use std::alloc::Global;
 use std::io::{ErrorKind, Read, Seek, SeekFrom};
 use std::rt::Files;
@@ -20,7 +22,7 @@ pub struct FileLibrary<'a, R: Files> {
 }
 
 impl<'a, R: Files> FileLibrary<'a, R> {
-    /// A library of the current folder. It keeps names in memory of this allocator.
+    /// A library of the current folder. This allocator has the memory for names.
     pub fn new(rt: &'a R, alloc: Global) -> FileLibrary<'a, R> {
         FileLibrary {
             rt,
@@ -32,18 +34,18 @@ impl<'a, R: Files> FileLibrary<'a, R> {
 
     /// The file of that name at a place, the one that is open if it is the same.
     fn open_at(&mut self, name: &str, at: u64) -> io::Result<OpenFile<R::File>>
-        ensures { self.new.faults ≡ self.old.faults }
+        ensures faults { self.new.faults ≡ self.old.faults }
+        ensures named { IfOk result (λ file. string_bytes file.name ≡ name.now) }
+        ensures place { IfOk result (λ file. file.place ≡ at) }
     {
         match self.open.take() {
             Some(open) if open.name.as_str() == name && open.place == at => return Ok(open),
             _ => {}
         }
         let name_kept = String::from_str(self.alloc, name)?;
-        let mut file = fs::open(self.rt, name)?;
-        file.seek(SeekFrom::Start(at))?;
         Ok(OpenFile {
             name: name_kept,
-            file,
+            file: open_file(self.rt, name, at)?,
             place: at,
         })
     }
@@ -67,7 +69,7 @@ impl<R: Files> Library for FileLibrary<'_, R> {
     ghost files = { λ _. None };
 
     fn find(&mut self, name: &str) -> Result<Option<u64>, StoreFault> {
-        let found = file_size(self.rt, name);
+        let found = size_outcome(file_size(self.rt, name));
         self.faults.pass_on(found, StoreFault)
     }
 
@@ -85,18 +87,22 @@ struct OpenFile<F> {
     place: u64,
 }
 
-/// The size in bytes of the file of that name, or None where there is none.
-fn file_size<R: Files>(rt: &R, name: &str) -> io::Result<Option<u64>> {
-    match fs::metadata(rt, name) {
-        Ok(metadata) => Ok(Some(metadata.len())),
-        Err(error) if error.kind() == ErrorKind::NotFound => Ok(None),
-        Err(error) => Err(error),
-    }
+/// The size in bytes of the file of that name.
+fn file_size<R: Files>(rt: &R, name: &str) -> io::Result<u64> {
+    Ok(fs::metadata(rt, name)?.len())
+}
+
+/// Opens the file of that name at a place.
+fn open_file<R: Files>(rt: &R, name: &str, at: u64) -> io::Result<R::File> {
+    let mut file = fs::open(rt, name)?;
+    file.seek(SeekFrom::Start(at))?;
+    Ok(file)
 }
 
 /// Reads, again where a signal interrupted it.
 fn read_some<F: Read>(file: &mut F, into: &mut [u8]) -> io::Result<usize>
-    ensures { IfOk result (λ count. count ≤ length into.new) }
+    ensures within { IfOk result (λ count. count ≤ length into.new) }
+    ensures again { IfErr result (λ error. error_kind error ≡ ErrorKind.Interrupted → ⊥) }
 {
     for _ in 0..u64::MAX {
         match file.read(into) {

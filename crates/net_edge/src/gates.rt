@@ -1,9 +1,9 @@
 //! A gate that takes connections, as a server does.
 
-ghost use Rattle.std.specs.Prelude.{[], false};
+ghost use Rattle.std.specs.Prelude.{◌≡◌, [], false, IfOk};
 
 use crate::faults::Faults;
-use crate::links::{TcpLink, link_over};
+use crate::links::{LinkResources, TcpLink, link_over};
 use crate::slots::SlotClock;
 use listener_gate::{AcceptError, Listener, ListenerFault, ListenerGate, accept_error_of};
 use std::alloc::Global;
@@ -11,13 +11,16 @@ use std::net::{Ipv4Addr, Net, SocketAddr, TcpListener, TcpStream};
 use std::time::{Clock, Duration};
 use std::{io, thread};
 
-/// A gate over a TCP port that connections come to, made by [`ListenerGate::new`] over a
+/// A gate over a TCP port that connections come to, built by [`ListenerGate::new`] over a
 /// [`TcpPort`].
 pub type TcpGate<'a, R> = ListenerGate<TcpPort<'a, R>>;
 
-/// A listening TCP socket of the system. It tells contracts nothing: what each call does is one
-/// call
-/// of std.
+/// A listening TCP socket of the system. It exposes no calls to contracts: each method makes one
+/// call of std.
+///
+/// What a link needs is reserved before its connection is accepted, and a copy reserves it for its
+/// first connection. So a port can't be copied where descriptors are short, and a connection that
+/// was accepted is never closed because descriptors or memory are short.
 #[derive(Drop)]
 pub struct TcpPort<'a, R: Net<Listener = TcpListener, Stream = TcpStream> + Clock> {
     rt: &'a R,
@@ -26,11 +29,53 @@ pub struct TcpPort<'a, R: Net<Listener = TcpListener, Stream = TcpStream> + Cloc
     faults: Faults,
 }
 
-/// A socket that is bound.
+/// A socket that is bound, and what the next connection's link needs, where that was reserved.
 #[derive(Drop)]
 struct BoundPort {
     listener: TcpListener,
     clock: SlotClock,
+    reserved: Option<LinkResources>,
+}
+
+impl BoundPort {
+    /// Another handle to the same socket, and what its first connection's link needs.
+    fn copy<R: Net>(&self, rt: &R, alloc: Global) -> Result<BoundPort, ListenerFault> {
+        let Ok(reserved) = LinkResources::reserve(rt, alloc) else {
+            return Err(ListenerFault);
+        };
+        let Ok(listener) = copy_listener(&self.listener) else {
+            return Err(ListenerFault);
+        };
+        Ok(BoundPort {
+            listener,
+            clock: self.clock,
+            reserved: Some(reserved),
+        })
+    }
+
+    /// Accepts a connection, once what its link needs is reserved.
+    fn accept<'a, R: Net + Clock>(
+        &mut self,
+        rt: &'a R,
+        alloc: Global,
+    ) -> Result<TcpLink<'a, R>, AcceptError>
+        ensures { IfOk result (λ link. link.faults ≡ 0) }
+    {
+        let reserved = match self.reserved.take() {
+            Some(reserved) => reserved,
+            None => LinkResources::reserve(rt, alloc)?,
+        };
+        match accept_stream(&self.listener, &reserved) {
+            Ok(stream) => match link_over(rt, stream, reserved, self.clock) {
+                Ok(link) => Ok(link),
+                Err(_) => Err(AcceptError::Shortage),
+            },
+            Err(error) => {
+                self.reserved = Some(reserved);
+                Err(error)
+            }
+        }
+    }
 }
 
 impl<'a, R: Net<Listener = TcpListener, Stream = TcpStream> + Clock> TcpPort<'a, R> {
@@ -70,34 +115,27 @@ impl<'a, R: Net<Listener = TcpListener, Stream = TcpStream> + Clock> Listener fo
     }
 
     fn copy(&mut self) -> Result<TcpPort<'a, R>, ListenerFault> {
-        let Some(bound) = &self.bound else {
-            self.faults.add();
-            return Err(ListenerFault);
+        let copied = match &self.bound {
+            Some(bound) => bound.copy(self.rt, self.alloc),
+            None => Err(ListenerFault),
         };
-        let clock = bound.clock;
-        let listener = self
-            .faults
-            .pass_on(bound.listener.try_clone(), ListenerFault)?;
+        let bound = self.faults.pass_on(copied, ListenerFault)?;
         Ok(TcpPort {
             rt: self.rt,
             alloc: self.alloc,
-            bound: Some(BoundPort { listener, clock }),
+            bound: Some(bound),
             faults: Faults::new(),
         })
     }
 
-    /// A connection that can't be set up, for want of memory or of a file descriptor, is closed.
     fn accept(&mut self) -> Result<TcpLink<'a, R>, AcceptError> {
-        let Some(bound) = &self.bound else {
-            self.faults.add();
-            return Err(AcceptError::Broken);
+        let accepted = match &mut self.bound {
+            Some(bound) => bound.accept(self.rt, self.alloc),
+            None => Err(AcceptError::Broken),
         };
-        let error = match bound.listener.accept() {
-            Ok((stream, _)) => match link_over(self.rt, self.alloc, stream, bound.clock) {
-                Ok(link) => return Ok(link),
-                Err(_) => AcceptError::Shortage,
-            },
-            Err(error) => accept_error_of(error.raw_os_error()),
+        let error = match accepted {
+            Ok(link) => return Ok(link),
+            Err(error) => error,
         };
         if error == AcceptError::Broken {
             self.faults.add();
@@ -122,7 +160,33 @@ fn bind_port<R: Net<Listener = TcpListener, Stream = TcpStream> + Clock>(
     port: u16,
     slot_units: u32,
 ) -> io::Result<BoundPort> {
-    let listener = TcpListener::bind(rt, SocketAddr::from((Ipv4Addr::from(address), port)))?;
-    let clock = SlotClock::start(rt, slot_units)?;
-    Ok(BoundPort { listener, clock })
+    Ok(BoundPort {
+        listener: listen(rt, SocketAddr::from((Ipv4Addr::from(address), port)))?,
+        clock: SlotClock::start(rt, slot_units)?,
+        reserved: None,
+    })
+}
+
+/// Listens at an address and a port.
+fn listen<R: Net<Listener = TcpListener, Stream = TcpStream>>(
+    rt: &R,
+    at: SocketAddr,
+) -> io::Result<TcpListener> {
+    TcpListener::bind(rt, at)
+}
+
+/// Another handle to a listening socket.
+fn copy_listener(listener: &TcpListener) -> io::Result<TcpListener> {
+    listener.try_clone()
+}
+
+/// Accepts a connection. A caller shows what it has reserved for the connection's link.
+fn accept_stream(
+    listener: &TcpListener,
+    _reserved: &LinkResources,
+) -> Result<TcpStream, AcceptError> {
+    match listener.accept() {
+        Ok((stream, _)) => Ok(stream),
+        Err(error) => Err(accept_error_of(error.raw_os_error())),
+    }
 }

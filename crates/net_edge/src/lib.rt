@@ -1,6 +1,6 @@
-//! The real folder, output, sockets and clock that `vodserve` runs on. They tell contracts nothing
-//! of their content: what they promise is that a call answers a fault only where their count of
-//! faults rose in it.
+//! The real folder, output, sockets and clock that `vodserve` runs on. They expose none of their
+//! content to contracts: they promise that a call fails only where their count of faults rose in
+//! it, and that each result of a system call means what the manual of Linux says.
 #![tactic(auto)]
 
 // Where a loop ends by its body alone, it counts to 2^64 - 1, which it never reaches, and an error
@@ -10,6 +10,7 @@ mod faults;
 mod files;
 mod gates;
 mod links;
+mod outcomes;
 mod outputs;
 mod slots;
 

@@ -3,21 +3,25 @@
 ghost use Rattle.std.specs.Prelude.{◌≡◌, [], false, IfOk};
 
 use crate::faults::Faults;
+use crate::outcomes::{nanoseconds, read_outcome, wait_outcome, write_outcome};
 use crate::slots::SlotClock;
+use listener_gate::{AcceptError, accept_error_of};
 use mio::net::TcpStream;
 use mio::{Events, Interest, Poll, Token};
-use socket_link::{Purpose, ReadOutcome, Socket, SocketFault, SocketLink, WriteOutcome};
+use socket_link::{
+    LinkBuffer, Purpose, ReadOutcome, Socket, SocketFault, SocketLink, WriteOutcome,
+};
 use std::alloc::Global;
-use std::io::{ErrorKind, Read, Write};
+use std::io::{Read, Write};
 use std::net::{Net, Shutdown};
 use std::time::{Clock, Duration, Instant};
 use std::{io, net};
 
-/// A link over a TCP connection, made by [`link_over`].
+/// A link over a TCP connection of the system.
 pub type TcpLink<'a, R> = SocketLink<TcpSocket<'a, R>>;
 
-/// A TCP connection of the system, and its clock. It exposes nothing to contracts: what each call
-/// does is one call of mio or std.
+/// A TCP connection of the system, and its clock. It exposes no calls to contracts: each method is
+/// one call of mio or std.
 #[derive(Drop)]
 pub struct TcpSocket<'a, R: Clock> {
     rt: &'a R,
@@ -28,36 +32,86 @@ pub struct TcpSocket<'a, R: Clock> {
     faults: Faults,
 }
 
+/// What a link needs apart from its connection: a descriptor to wait with, and memory. It is
+/// reserved before a connection is accepted. So a shortage of descriptors or memory closes no
+/// connection: the connection waits to be accepted until there are enough.
+#[derive(Drop)]
+pub(crate) struct LinkResources {
+    poll: Poll,
+    events: Events,
+    buffer: LinkBuffer,
+}
+
+impl LinkResources {
+    /// Reserves them.
+    ///
+    /// # Errors
+    ///
+    /// [`AcceptError::Shortage`] where descriptors or memory are short; else what the error number
+    /// of the system means for an accept.
+    pub(crate) fn reserve<R: Net>(rt: &R, alloc: Global) -> Result<LinkResources, AcceptError> {
+        let poll = new_poll(rt)?;
+        // one socket is watched, so few events come at once
+        let Ok(events) = Events::with_capacity(alloc, 4) else {
+            return Err(AcceptError::Shortage);
+        };
+        let Ok(buffer) = LinkBuffer::new(alloc) else {
+            return Err(AcceptError::Shortage);
+        };
+        Ok(LinkResources {
+            poll,
+            events,
+            buffer,
+        })
+    }
+}
+
 /// A link over a connection that was just made.
-pub(crate) fn link_over<'a, R: Net + Clock>(
-    rt: &'a R,
-    alloc: Global,
+///
+/// # Errors
+///
+/// [`SocketFault`] where the kernel has no memory to watch the connection, or where the clock can't
+/// be read. The connection is closed then.
+pub(crate) fn link_over<R: Clock>(
+    rt: &R,
     stream: net::TcpStream,
+    resources: LinkResources,
     clock: SlotClock,
-) -> io::Result<TcpLink<'a, R>>
+) -> Result<TcpLink<'_, R>, SocketFault>
     ensures { IfOk result (λ link. link.faults ≡ 0) }
 {
-    stream.set_nonblocking(true)?;
-    let _ = stream.set_nodelay(true);
-    let mut stream = TcpStream::from_std(stream);
-    let poll = Poll::new(rt)?;
-    poll.registry().register(
-        &mut stream,
-        Token(0),
-        Interest::READABLE | Interest::WRITABLE,
-    )?;
+    let LinkResources {
+        poll,
+        events,
+        buffer,
+    } = resources;
+    let Ok(stream) = watch_stream(stream, &poll) else {
+        return Err(SocketFault);
+    };
     let socket = TcpSocket {
         rt,
         stream,
         poll,
-        // one socket is watched, so few events come at once
-        events: Events::with_capacity(alloc, 4)?,
+        events,
         opened: clock.opened,
         faults: Faults::new(),
     };
-    SocketLink::new(alloc, socket, clock.slot_units).map_err(|_| io::Error::from(
-        ErrorKind::OutOfMemory,
-    ))
+    SocketLink::new(buffer, socket, clock.slot_units)
+}
+
+/// Makes a descriptor to wait with.
+fn new_poll<R: Net>(rt: &R) -> Result<Poll, AcceptError> {
+    Poll::new(rt).map_err(|error| accept_error_of(error.raw_os_error()))
+}
+
+/// Makes a stream non-blocking, and has `poll` watch it. Without TCP_NODELAY it still works.
+fn watch_stream(stream: net::TcpStream, poll: &Poll) -> io::Result<TcpStream> {
+    stream.set_nonblocking(true)?;
+    let _ = stream.set_nodelay(true);
+    let mut stream = TcpStream::from_std(stream);
+    let both = Interest::READABLE | Interest::WRITABLE;
+    poll.registry().register(&mut stream, Token(0), both)?;
+    Ok(stream)
 }
 
 impl<R: Clock> Socket for TcpSocket<'_, R> {
@@ -68,46 +122,26 @@ impl<R: Clock> Socket for TcpSocket<'_, R> {
     ghost did = { λ _. [] };
 
     fn read(&mut self, into: &mut [u8]) -> Result<ReadOutcome, SocketFault> {
-        let read = match self.stream.read(into) {
-            Ok(0) => Ok(ReadOutcome::End),
-            Ok(count) => Ok(ReadOutcome::Bytes(count)),
-            Err(error) => match error.kind() {
-                ErrorKind::WouldBlock => Ok(ReadOutcome::Nothing),
-                ErrorKind::Interrupted => Ok(ReadOutcome::Interrupted),
-                _ => Err(error),
-            },
-        };
+        let read = read_outcome(self.stream.read(into));
         self.faults.pass_on(read, SocketFault)
     }
 
     fn write(&mut self, bytes: &[u8]) -> Result<WriteOutcome, SocketFault> {
-        let written = match self.stream.write(bytes) {
-            Ok(0) => Err(io::Error::from(ErrorKind::WriteZero)),
-            Ok(count) => Ok(WriteOutcome::Bytes(count)),
-            Err(error) => match error.kind() {
-                ErrorKind::WouldBlock => Ok(WriteOutcome::Nothing),
-                ErrorKind::Interrupted => Ok(WriteOutcome::Interrupted),
-                _ => Err(error),
-            },
-        };
+        let written = write_outcome(self.stream.write(bytes));
         self.faults.pass_on(written, SocketFault)
     }
 
     fn wait(&mut self, most: u64) -> Result<bool, SocketFault> {
-        let most = Some(Duration::from_nanos(most));
-        let waited = match self.poll.poll(&mut self.events, most) {
-            Ok(()) => Ok(!self.events.is_empty()),
-            Err(error) if error.kind() == ErrorKind::Interrupted => Ok(false),
-            Err(error) => Err(error),
-        };
+        let waited = self
+            .poll
+            .poll(&mut self.events, Some(Duration::from_nanos(most)));
+        let waited = wait_outcome(waited, !self.events.is_empty());
         self.faults.pass_on(waited, SocketFault)
     }
 
     fn time(&mut self, _purpose: Purpose) -> Result<u64, SocketFault> {
-        let elapsed = self.opened.elapsed(self.rt);
-        let elapsed = self.faults.pass_on(elapsed, SocketFault)?;
-        // the nanoseconds of 584 years
-        Ok(u64::try_from(elapsed.as_nanos()).unwrap_or(u64::MAX))
+        let elapsed = nanoseconds(self.opened.elapsed(self.rt));
+        self.faults.pass_on(elapsed, SocketFault)
     }
 
     fn shut_down(&mut self) -> Result<(), SocketFault> {

@@ -4,3 +4,4 @@ pub mod Orders
 pub mod Parts
 pub mod Steps
 mod Walks
+mod SlotLengths

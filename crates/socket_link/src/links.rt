@@ -22,21 +22,9 @@ use crate::buffers::WriteBuffer;
 use crate::clocks::{rest_of_slot, slot_at};
 use crate::histories::{History, Note};
 use crate::limits::{LINGER, RETRY, STUCK_LIMIT, Watch};
-use crate::sockets::{Purpose, ReadOutcome, Socket, WriteOutcome};
-use std::alloc::Global;
-use thiserror::Error;
+use crate::sockets::{Purpose, ReadOutcome, Socket, SocketFault, WriteOutcome};
+use std::alloc::{AllocError, Global};
 use vod_base::{Heard, Link, LinkFault};
-
-/// A link could not be made.
-#[derive(Clone, Copy, Debug, PartialEq, Eq, Error)]
-pub enum NewLinkError {
-    /// There is no memory for its buffer.
-    #[error("out of memory")]
-    NoMemory,
-    /// The clock could not be read.
-    #[error("the clock could not be read")]
-    Clock,
-}
 
 /// What a flush of the buffer left.
 #[derive(Clone, Copy)]
@@ -45,6 +33,27 @@ enum Flushed {
     Everything,
     /// The peer takes nothing now.
     Stuck,
+}
+
+/// The memory of a link, for the bytes that wait to be written. It is there before a connection is
+/// accepted, so that no accepted connection is closed because memory is short.
+#[derive(Drop)]
+pub struct LinkBuffer {
+    bytes: WriteBuffer,
+    ghost empty: { bytes ≡ [] } by { Prim.hlevel props },
+}
+
+impl LinkBuffer {
+    /// Takes memory for 16,384 bytes. No other call of a link takes memory.
+    ///
+    /// # Errors
+    ///
+    /// [`AllocError`] where there is none.
+    pub fn new(alloc: Global) -> Result<LinkBuffer, AllocError> {
+        Ok(LinkBuffer {
+            bytes: WriteBuffer::new(alloc)?,
+        })
+    }
 }
 
 /// A link over a socket. What is sent waits in a buffer of 16,384 bytes. It is written out when the
@@ -70,23 +79,28 @@ pub struct SocketLink<S: Socket> {
 impl<S: Socket + Drop> SocketLink<S> {
     /// A link over a connection that was just accepted. A slot lasts `slot_units` / 360,000 s.
     ///
+    /// No call of the socket was made yet. A caller knows that from the socket's constructor. A
+    /// socket of the system exposes no calls, so the caller of such a socket has nothing to show.
+    ///
     /// # Errors
     ///
-    /// [`NewLinkError`] where there is no memory for the buffer, or where the clock can't be read.
-    pub fn new(alloc: Global, mut socket: S, slot_units: u32) -> Result<SocketLink<S>, NewLinkError>
+    /// [`SocketFault`] where the clock can't be read.
+    pub fn new(
+        buffer: LinkBuffer,
+        mut socket: S,
+        slot_units: u32,
+    ) -> Result<SocketLink<S>, SocketFault>
         requires { IsTrue S.tells → S.did socket ≡ [] }
         ensures fresh { IfOk result (λ link. (link.faults ≡ 0) × (link.history.doings ≡ [])) }
         ensures units { IfOk result (λ link. link.slot_units ≡ max slot_units 1) }
     {
-        let Ok(buffer) = WriteBuffer::new(alloc) else {
-            return Err(NewLinkError::NoMemory);
-        };
-        let Ok(accept) = socket.time(Purpose::Accept) else {
-            return Err(NewLinkError::Clock);
+        let accept = match socket.time(Purpose::Accept) {
+            Ok(accept) => accept,
+            Err(fault) => return Err(fault),
         };
         Ok(SocketLink {
             socket,
-            buffer,
+            buffer: buffer.bytes,
             slot_units: slot_units.max(1),
             slot: None,
             readable: true,

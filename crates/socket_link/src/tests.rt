@@ -1,6 +1,6 @@
 //! The link over a socket in memory: its limits, its slots, and what short reads and writes do.
 
-use crate::links::SocketLink;
+use crate::links::{LinkBuffer, SocketLink};
 use crate::memory_sockets::{MemorySocket, NotedCall, ScriptedRead, ScriptedWrite};
 use std::alloc::{AllocError, Global};
 use std::test::Fail;
@@ -18,7 +18,7 @@ fn scripted(
     writes: Vec<ScriptedWrite>,
 ) -> Result<SocketLink<MemorySocket>, Fail> {
     let socket = MemorySocket::new(alloc, time, reads, writes);
-    Ok(SocketLink::new(alloc, socket, slot_units)?)
+    Ok(SocketLink::new(LinkBuffer::new(alloc)?, socket, slot_units)?)
 }
 
 /// How many events come before the link fails, of at most 10,000.

@@ -8,8 +8,8 @@ use std::random::RandomSource;
 #[derive(Clone, Copy, Debug, PartialEq, Eq)]
 pub struct NoRandomBytes;
 
-/// A source of random bytes. What it gave may be told to contracts: `tells` says whether `drawn` is
-/// all bytes that it gave, in order.
+/// A source of random bytes. Where `tells` is true it exposes to contracts all the bytes that it
+/// gave, in order, as `drawn`.
 pub trait ByteSource {
     ghost tells: { Bool };
 
@@ -24,7 +24,7 @@ pub trait ByteSource {
         ensures { OnOk result (IsTrue tells → drawn self.new ≡ drawn self.old ++ into.new) };
 }
 
-/// Draws a seed: each of its bytes is one of the source.
+/// Draws a seed: the next 32 bytes of the source, in order.
 ///
 /// # Errors
 ///
@@ -40,14 +40,14 @@ pub fn draw_seed<S: ByteSource>(source: &mut S) -> Result<[u8; 32], NoRandomByte
     }
 }
 
-/// The random bytes of the system. They tell contracts nothing.
+/// The random bytes of the system. It doesn't expose them to contracts.
 #[derive(Drop)]
 pub struct SystemBytes<'a, R: RandomSource> {
     rt: &'a R,
 }
 
 impl<'a, R: RandomSource> SystemBytes<'a, R> {
-    /// The bytes of the system that this runtime stands for.
+    /// The random bytes of this runtime's system.
     pub fn new(rt: &'a R) -> SystemBytes<'a, R> {
         SystemBytes { rt }
     }
@@ -59,9 +59,6 @@ impl<R: RandomSource> ByteSource for SystemBytes<'_, R> {
     ghost drawn = { λ _. [] };
 
     fn fill(&mut self, into: &mut [u8]) -> Result<(), NoRandomBytes> {
-        match self.rt.fill_bytes(into) {
-            Ok(()) => Ok(()),
-            Err(_) => Err(NoRandomBytes),
-        }
+        self.rt.fill_bytes(into).map_err(|_| NoRandomBytes)
     }
 }

@@ -4,6 +4,8 @@ ghost use Rattle.std.specs.Prelude.{true};
 
 use super::*;
 use std::alloc::Global;
+use std::env::FillError;
+use std::rt::Env;
 use std::test::Fail;
 
 /// A source in memory, which counts: its bytes are 0, 1, 2 and so on.
@@ -45,5 +47,42 @@ fn draws_all_bytes(rt: HostRuntime) -> Result<(), Fail> {
     let first = draw_seed(&mut SystemBytes::new(&rt))?;
     let second = draw_seed(&mut SystemBytes::new(&rt))?;
     assert!(rt; first != second);
+    Ok(())
+}
+
+/// A runtime whose arguments are these.
+#[derive(Drop)]
+struct ArgsOf<'a>(&'a [&'a str]);
+
+impl Env for ArgsOf<'_> {
+    fn arg(&self, i: usize, buf: &mut [u8]) -> Result<usize, FillError> {
+        let Some(arg) = self.0.get(i) else {
+            return Err(FillError::NotPresent);
+        };
+        match buf.get_mut(..arg.len()) {
+            Some(place) => {
+                place.copy_from_slice(arg.as_bytes());
+                Ok(arg.len())
+            }
+            None => Err(FillError::TooLong),
+        }
+    }
+
+    fn var(&self, _name: &str, _buf: &mut [u8]) -> Result<usize, FillError> {
+        Err(FillError::NotPresent)
+    }
+
+    fn var_at(&self, _i: usize, _buf: &mut [u8]) -> Result<usize, FillError> {
+        Err(FillError::NotPresent)
+    }
+}
+
+#[test]
+fn reads_the_arguments(rt: HostRuntime) -> Result<(), Fail> {
+    let named = ArgsOf(&["vodserve", "scan", "film=a"]);
+    let words = program_args(&(named, rt.alloc()))?;
+    assert_eq!(rt; words.len(), 2);
+    assert_eq!(rt; words[0].as_str(), "scan");
+    assert_eq!(rt; words[1].as_str(), "film=a");
     Ok(())
 }

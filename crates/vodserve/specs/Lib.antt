@@ -6,3 +6,4 @@ pub mod Workers
 pub mod ServerOutput
 pub mod Laws
 pub mod TextLaws
+pub mod Program

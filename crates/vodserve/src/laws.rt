@@ -1,4 +1,4 @@
-//! What holds of every run: laws over what `run` promises.
+//! Laws over what `run` promises: each is true for every run.
 
 ghost use Rattle.std.specs.Prelude.{◌≡◌, ℕ, List, Option};
 ghost use Rattle.cli_args.specs.Invocations.{ClientParams, check_of};
@@ -13,45 +13,45 @@ ghost use Rattle.vodserve.specs.Laws.{NoConnectionIsLeftOut, RunPrintsItsDay};
 ghost use Rattle.vodserve.specs.Laws.{EveryConnectionIsCorrect, RefusedFilmsAreNotServed};
 ghost use Rattle.vodserve.specs.Laws.{AcceptedFilmsAreServed, ReportsMatchJournal};
 
-/// A law: each command but `watch` whose inputs are accepted does its work, where nothing fails
-/// outside: it ends with status 0, or `check` with 1 where it refuses the certificate, and its
-/// whole text is written; or it ends with 6.
+/// A law: if no I/O error occurs, each command except `watch` completes on inputs that are
+/// accepted. It ends with status 0, or `check` with 1 where it refuses the certificate, and its
+/// complete text is written; or it ends with 6 (out of memory).
 pub fn law_valid_input_succeeds()
     ensures { ValidInputSucceeds }
 {}
 
-/// A law: a server whose films are accepted serves, where nothing fails outside and memory is
-/// found. Where one of its films is refused, it does nothing.
+/// A law: a server whose films are accepted serves, if no I/O error occurs and memory is found.
+/// Where one of its films is refused, it does nothing.
 pub fn law_accepted_films_are_served()
     ensures accepted { AcceptedFilmsAreServed }
     ensures refused { RefusedFilmsAreNotServed }
 {}
 
-/// A law: where the workers ran, the gate was opened as the words say, and each part of it got back
-/// every connection that it gave. With status 0 each part gave connections until it had no more.
+/// A law: where the workers ran, the gate was opened as the arguments say, and each part of it got
+/// back every connection that it gave. With status 0 each part gave connections until it had no more.
 pub fn law_every_connection_is_returned()
     ensures each_back { EachConnectionIsReturned }
     ensures none_out { NoConnectionIsLeftOut }
 {}
 
-/// A law: with every status but 6 each receipt of a report tells an entry of the journal in
+/// A law: with every status except 6 each receipt of a report has its entry in the journal of
 /// `Ended`: the one at its place, of the seat of the report's worker, with its answer.
 pub fn law_reports_match_journal()
     ensures { ReportsMatchJournal }
 {}
 
 /// A law: where the workers ran, each connection that a part of the gate gave was served over the
-/// films of the library, as its own report in `Ended` tells, and what its seat made and had seen is
-/// in the journal. In its whole course each play was kept between its client's two curves with the
-/// least excess, no play was refused but for a slot without room or a full journal, and no slot was
-/// ever booked above its capacity. The workers ran where the status is 0 or 5, and where it is 7
-/// and as many parts as workers were split from the gate.
+/// films of the library, as its own report in `Ended` says. What its seat made and had seen is in
+/// the journal. Throughout the connection each play was sent between its client's two curves with
+/// the least excess; a play was refused only for a slot without room or for a full journal; and no
+/// slot was booked above its capacity. The workers ran where the status is 0 or 5, and where it is
+/// 7 and as many parts as workers were split from the gate.
 pub fn law_every_connection_is_correct()
     ensures { EveryConnectionIsCorrect }
 {}
 
-/// A law: a trace or film that a library holds has one plan and one text of it, and isn't refused
-/// besides. So the output is a function of the input, and status 3 comes only where there is no
+/// A law: a trace or film that a library holds has one plan and one text of it, and isn't also
+/// refused. So the output is a function of the input, and status 3 comes only where there is no
 /// plan.
 pub fn law_plan_is_unique()
     ensures once { (held : List File) (viewer : ClientParams) (text text' : List ℕ)

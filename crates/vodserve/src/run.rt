@@ -24,7 +24,7 @@ use std::sync::Wait;
 use std::thread::Threads;
 use vod_base::{Gate, Library, Sink};
 
-/// Carries out the arguments of the command line, which come without the program's name.
+/// Runs the command that the arguments ask for. They come without the program's name.
 ///
 /// Each command's text goes to `out` when all of it is known, and an error's line to `err`. With
 /// the statuses 2, 3 and 4 nothing is written to `out`, with 5 a prefix of the text. With 6 and 7
@@ -33,7 +33,7 @@ use vod_base::{Gate, Library, Sink};
 /// came before an error stand there, with the statuses 3, 6 and 8 too; at the film's end it says
 /// one line on `err`. A fault of `err` changes no status. `serve` takes its connections from
 /// `gate`, and draws their identities from `seed`; `watch` makes its one connection by `gate`. What
-/// each command did is told by its own definition, below `RunSpec` in `specs/Run.antt`.
+/// each command did is said by its own definition, below `RunSpec` in `specs/Run.antt`.
 pub fn run<R: Threads + Wait + Sync, L: Library, O: Sink, E: Sink, G: Gate + Send + Drop>(
     rt: &R,
     alloc: Global,

@@ -16,7 +16,7 @@ use vod_base::Sink;
 /// How a run ended.
 #[derive(Debug, Drop)]
 pub struct Ended {
-    /// The exit status: 0 done, 1 a certificate was refused, 2 the words mean nothing, 3 an input
+    /// The exit status: 0 done, 1 a certificate was refused, 2 the arguments mean nothing, 3 an input
     /// is refused, 4 the library failed, 5 the output failed, 6 out of memory, 7 the gate failed,
     /// 8 the link to a server failed.
     pub status: u8,

@@ -140,7 +140,7 @@ where
     let mut reports = Vec::new(alloc);
     let count = serving.listening.workers;
     if let Err(error) = make_workers(alloc, &station, &mut seat, gate, count, &mut workers) {
-        // what was made goes back to its station and its gate before the error is answered
+        // the seats and parts go back to their station and their gate before the error is returned
         let _ = join_workers(&station, &mut seat, gate, workers, &mut reports);
         return Err(error);
     }
@@ -153,7 +153,7 @@ where
     run_workers(rt, alloc, service, &mut workers);
     let end = join_workers(&station, &mut seat, gate, workers, &mut reports);
     let book = station.close(seat);
-    // a book's own invariant isn't seen from outside: only `entries` tells that the entries, with
+    // a book's own invariant isn't visible here: only `entries` says that the entries, with
     // the halts to come, are within its limit
     let _within = book.entries();
     Ok(Closed { book, reports, end })
@@ -183,7 +183,7 @@ fn add_film<'a, L: Library>(
     Ok(())
 }
 
-/// Loads the films that the words name, one by one: the first that is refused is named.
+/// Loads the films that the arguments name, one by one. The error names the first that is refused.
 fn load_films<'a, L: Library>(
     alloc: Global,
     library: &mut L,

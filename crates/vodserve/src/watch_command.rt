@@ -70,7 +70,7 @@ fn refusal_of(fault: WatchFault) -> InputError
     }
 }
 
-/// What the words wish for.
+/// What the arguments wish for.
 fn wish_of(alloc: Global, watching: &WatchArgs<'_>) -> Result<Wish, NoMemory>
     requires { AreWatchArgsInRange watching.now }
     ensures wish { IfOk result IsWish }
@@ -133,7 +133,7 @@ fn watch_part<O: Sink, G: Gate>(
     Ok(Some(end))
 }
 
-/// Opens the gate as the words say, and watches over the connection that it gives, or answers None
+/// Opens the gate as the arguments say, and watches over the connection that it gives, or answers None
 /// where it gives none.
 fn watch_gate<O: Sink, G: Gate + Drop>(
     alloc: Global,

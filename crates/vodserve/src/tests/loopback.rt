@@ -1,11 +1,15 @@
 //! A server and a client over the loopback interface: the film that was served is the film that is
 //! watched.
 
-use crate::run::run;
+ghost use Rattle.std.specs.Prelude.{[], false};
+
+use crate::program::run_program;
 use crate::tests::materials::{FILM, library_of_film, words_of};
 use net_edge::{DialGate, TcpGate, TcpPort};
+use startup::{ByteSource, NoRandomBytes, SystemBytes};
 use std::alloc::Global;
 use std::net::{Net, TcpListener, TcpStream};
+use std::random::RandomSource;
 use std::sync::Wait;
 use std::test::Fail;
 use std::thread::{self, Threads};
@@ -23,29 +27,46 @@ struct Left {
     err: Vec<u8>,
 }
 
-/// Carries out words over a library of the film.
-fn carry_out<R: Threads + Wait + Sync, G: Gate + Send + Drop>(
+/// A source that has no random bytes.
+#[derive(Drop)]
+struct NoBytes;
+
+impl ByteSource for NoBytes {
+    ghost tells = { false };
+
+    ghost drawn = { λ _. [] };
+
+    fn fill(&mut self, _into: &mut [u8]) -> Result<(), NoRandomBytes> {
+        Err(NoRandomBytes)
+    }
+}
+
+/// Carries out words over a library of the film and over the gates of the system.
+fn carry_out<R, B: ByteSource>(
     rt: &R,
     alloc: Global,
     line: &str,
-    gate: &mut G,
+    random: &mut B,
 ) -> Result<Left, NoMemory>
 where
-    G::Conn: Send,
+    R: Net<Listener = TcpListener, Stream = TcpStream> + Clock + Threads + Wait + Sync,
 {
     let words = words_of(alloc, line)?;
     let mut library = library_of_film(alloc)?;
     let mut out = MemorySink::new(alloc, 1 << 10, Vec::new(alloc))?;
     let mut err = MemorySink::new(alloc, 1 << 10, Vec::new(alloc))?;
-    let ended = run(
+    let mut listening = TcpGate::new(TcpPort::new(rt, alloc));
+    let mut dialing = DialGate::new(rt, alloc);
+    let ended = run_program(
         rt,
         alloc,
-        &words,
+        Ok(words),
         &mut library,
         &mut out,
         &mut err,
-        gate,
-        [7; 32],
+        &mut listening,
+        &mut dialing,
+        random,
     );
     Ok(Left {
         status: ended.status,
@@ -73,14 +94,13 @@ fn free_port<R: Net<Listener = TcpListener, Stream = TcpStream> + Clock>(
 }
 
 /// Serves one connection.
-fn serve<R: Net<Listener = TcpListener, Stream = TcpStream> + Clock + Threads + Wait + Sync>(
-    rt: &R,
-    alloc: Global,
-    port: u16,
-) -> Result<Left, NoMemory> {
+fn serve<R>(rt: &R, alloc: Global, port: u16) -> Result<Left, NoMemory>
+where
+    R: Net<Listener = TcpListener, Stream = TcpStream> + Clock + RandomSource,
+    R: Threads + Wait + Sync,
+{
     let line = format!(in alloc; "serve film=b.mpg workers=1 connections=1 slot=3600 port={port}")?;
-    let mut gate = TcpGate::new(TcpPort::new(rt, alloc));
-    carry_out(rt, alloc, line.as_str(), &mut gate)
+    carry_out(rt, alloc, line.as_str(), &mut SystemBytes::new(rt))
 }
 
 /// Watches the film, as soon as the server is there.
@@ -91,7 +111,7 @@ fn watch<R: Net<Listener = TcpListener, Stream = TcpStream> + Clock + Threads + 
 ) -> Result<Left, NoMemory> {
     let line = format!(in alloc; "watch film=b.mpg startup=2 slot=3600 port={port}")?;
     for _ in 0..MAX_DIALS {
-        match carry_out(rt, alloc, line.as_str(), &mut DialGate::new(rt, alloc)) {
+        match carry_out(rt, alloc, line.as_str(), &mut NoBytes) {
             Ok(left) if left.status != 6 && left.status != 7 => return Ok(left),
             _ => {}
         }
@@ -100,11 +120,12 @@ fn watch<R: Net<Listener = TcpListener, Stream = TcpStream> + Clock + Threads + 
     Err(NoMemory)
 }
 
-/// Serves and watches side by side. Want of memory is the error.
-fn meet<R: Net<Listener = TcpListener, Stream = TcpStream> + Clock + Threads + Wait + Sync>(
-    rt: &R,
-    alloc: Global,
-) -> Result<(Left, Left), NoMemory> {
+/// Serves and watches side by side. The error is that memory is out.
+fn meet<R>(rt: &R, alloc: Global) -> Result<(Left, Left), NoMemory>
+where
+    R: Net<Listener = TcpListener, Stream = TcpStream> + Clock + RandomSource,
+    R: Threads + Wait + Sync,
+{
     let port = free_port(rt, alloc);
     let (served, watched) = thread::join(rt, || serve(rt, alloc, port), || watch(rt, alloc, port));
     let (served, watched) = (served?, watched?);
@@ -130,5 +151,20 @@ fn watches_what_is_served(rt: HostRuntime) -> Result<(), Fail> {
     );
     assert!(rt; served.out.ends_with(b"served connections=1 entries=2\n"));
     assert!(rt; served.err.is_empty());
+    Ok(())
+}
+
+#[test]
+fn a_server_needs_random_bytes(rt: HostRuntime) -> Result<(), Fail> {
+    for (line, status, text) in [
+        ("serve film=b.mpg", 7, "vodserve: GateFault\n"),
+        ("serve film=b.mpg film=b.mpg", 2, "vodserve: usage\n"),
+        ("watch film=none port=0", 2, "vodserve: usage\n"),
+        ("make kind=trace seed=1 pictures=1", 0, ""),
+    ] {
+        let left = carry_out(&rt, rt.alloc(), line, &mut NoBytes)?;
+        assert_eq!(rt; left.status, status, "{line}");
+        assert_eq!(rt; left.err.as_slice(), text.as_bytes(), "{line}");
+    }
     Ok(())
 }
