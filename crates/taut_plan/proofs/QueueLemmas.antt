@@ -1,8 +1,12 @@
 -- The points of a queue, by the list that holds them.
-use Rattle.std.proofs.Common.{◌≡◌, ℕ, ◌+◌, ◌-◌, ◌<◌, ◌≤◌, List, length, drop, get_or, arith, sym, ap, ◌∙◌}
-use Rattle.std.proofs.lemmas.List.{get_or-drop, length-drop, drop_more}
+use Rattle.std.proofs.Common.{◌≡◌, ℕ, ◌+◌, ◌-◌, ◌<◌, ◌≤◌, List, [], ◌∷◌, ◌++◌, length, take, drop, get_or, arith}
+use Rattle.std.proofs.Common.{refl, sym, ap, ◌∙◌, subst}
+use Rattle.std.proofs.Math.ListN.{get_or-map}
+use Rattle.std.proofs.lemmas.List.{get_or-drop, drop_more, get_or_default, length-map, length-drop, take_all, take_more}
 use Rattle.taut_plan.specs.declared.points.Point.{Point}
-use Rattle.taut_plan.specs.Chain.{IsLastEdge}
+use Rattle.taut_plan.specs.declared.points.Link.{Link}
+use Rattle.taut_plan.specs.Chain.{IsLastEdge, IsFirstPoint, last_point}
+use Rattle.taut_plan.specs.Links.{points_of, IsEdge, AreLinked, IsLastLink}
 use Rattle.taut_plan.proofs.EdgeLemmas.{edge_of_one, edge_of_more}
 
 at_place : {place : ℕ} {p : Point} (points : List Point) (passed i : ℕ) → passed + i ≡ place → p ≡ get_or points place p
@@ -34,3 +38,65 @@ pub without_first : (points : List Point) (passed : ℕ) → 0 < length (drop pa
 without_first points passed some =
     let left = length-drop passed points in
     sym (ap (drop 1) (drop_more points passed (record { place = 0; height = 0 }) (omega (arith, left, some))))
+
+-- The same of links, of which each keeps the edge from the one before.
+
+point_at_place : (links : List Link) (place : ℕ) (link : Link) → place < length links → link ≡ get_or links place link
+    → (p : Point) → get_or (points_of links) place p ≡ link.point
+point_at_place links place link inside is p =
+    get_or_default (points_of links) place p link.point (omega (arith, inside, length-map links (λ (l : Link). l.point)))
+    ∙ (get_or-map (λ (l : Link). l.point) links place link ∙ sym (ap (λ (l : Link). l.point) is))
+
+pub link_of_two : {o : Point} {count : ℕ} {link : Link} (links : List Link) (passed : ℕ)
+    → AreLinked passed links → count ≡ length links → passed + 2 ≤ count → link ≡ get_or links (count - 1) link
+    → IsLastLink o (drop passed (points_of links)) link
+link_of_two {o} {count} {link} links passed linked all many is =
+    let before : Link = get_or links (count - 2) link in
+    let long : count ≡ length (points_of links) = all ∙ sym (length-map links (λ (l : Link). l.point)) in
+    let inside : count - 2 < length links = omega (arith, all, many) in
+    let at_first : before ≡ get_or links (count - 2) before = get_or_default links (count - 2) link before inside in
+    let at_last : count - 2 + 1 ≡ count - 1 = omega (arith, many) in
+    let edge = linked (count - 2) link (omega (arith, many)) (omega (arith, all, many)) in
+    record {
+      first = before.point;
+      edge = edge_of_two (points_of links) passed long many
+          (sym (point_at_place links (count - 2) before inside at_first before.point))
+          (sym (point_at_place links (count - 1) link (omega (arith, all, many)) is link.point));
+      is = subst (IsEdge before.point) (ap (λ j. get_or links j link) at_last ∙ sym is) edge;
+    }
+
+-- the point of the first link
+pub first_of : {link : Link} (links : List Link) (passed : ℕ) → passed < length links
+    → link ≡ get_or links passed link → IsFirstPoint (drop passed (points_of links)) link.point
+first_of {link} links passed inside is =
+    let long : passed < length (points_of links) = omega (arith, inside, length-map links (λ (l : Link). l.point)) in
+    record {
+      rest = drop (passed + 1) (points_of links);
+      is = drop_more (points_of links) passed link.point long
+          ∙ ap (λ (p : Point). p ∷ drop (passed + 1) (points_of links)) (point_at_place links passed link inside is link.point);
+    }
+
+-- how many points are left
+pub length_left : (links : List Link) (passed : ℕ) → length (drop passed (points_of links)) ≡ length links - passed
+length_left links passed =
+    omega (arith, length-drop passed (points_of links), length-map links (λ (l : Link). l.point))
+
+-- the last of some links is the end of an edge
+pub edge_to_last : {count : ℕ} {last : Link} {o : Point} (links : List Link) (passed : ℕ) → count ≡ length links
+    → passed < count → last ≡ get_or links (count - 1) last
+    → IsLastEdge o (drop passed (points_of links)) (last_point o (take (count - 1 - passed) (drop passed (points_of links))))
+    last.point
+edge_to_last {count} {last} {o} links passed all some is =
+    let points : List Point = drop passed (points_of links) in
+    let b = count - 1 - passed in
+    let left = length_left links passed in
+    let at_end : passed + b ≡ count - 1 = omega (arith, some) in
+    let here = at_place {p = last.point} (points_of links) passed b at_end
+    (sym (point_at_place links (count - 1) last (omega (arith, all, some)) is last.point)) in
+    record {
+      front = take b points;
+      is = sym (take_all (b + 1) points (omega (arith, left, all, some)))
+          ∙ (take_more points b last.point (omega (arith, left, all, some))
+          ∙ ap (λ (p : Point). take b points ++ p ∷ []) (sym here));
+      begins = refl;
+    }

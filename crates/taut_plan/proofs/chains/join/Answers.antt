@@ -5,6 +5,7 @@ use Rattle.taut_plan.specs.CurveSides.{side_of}
 use Rattle.taut_plan.proofs.ChainLemmas.{chain_opens}
 use Rattle.taut_plan.proofs.PointRangeLemmas.{edges_fit, point_fits}
 use Rattle.taut_plan.proofs.EdgeLemmas.{edges_ascend, pop_step, join_step}
+use Rattle.taut_plan.proofs.RiseLemmas.{curve_rises, edges_rise, ends_before}
 use Rattle.taut_plan.proofs.chains.join.Goals as goal
 
 pub loop-side-init : goal.loop-side-init
@@ -39,3 +40,22 @@ pop_last-requires c = grind (arith, common_steps)
 
 pub loop-side-smaller : goal.loop-side-smaller
 loop-side-smaller c = grind (arith, common_steps)
+
+pub is_last_dropped-requires-clause-rise : goal.is_last_dropped-requires-clause-rise
+is_last_dropped-requires-clause-rise c =
+    let low = c.requires.low in
+    edges_rise c.args.side (side_of c.args.curves.now c.args.side) c.args.slot c.point_at-point.ensures
+    c.loop-side.invariant
+    (λ i j le fits. curve_rises c.args.side c.requires.sound i j le (omega (arith, fits, low)))
+    c.requires.rising
+
+pub join-requires : goal.join-requires
+join-requires c =
+    let low = c.requires.low in
+    ends_before c.args.side
+    (edges_ascend c.args.side (side_of c.args.curves.now c.args.side) c.args.slot c.point_at-point.ensures
+    c.loop-side.invariant)
+    (edges_rise c.args.side (side_of c.args.curves.now c.args.side) c.args.slot c.point_at-point.ensures
+    c.loop-side.invariant
+    (λ i j le fits. curve_rises c.args.side c.requires.sound i j le (omega (arith, fits, low)))
+    c.requires.rising)
