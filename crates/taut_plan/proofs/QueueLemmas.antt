@@ -1,13 +1,15 @@
 -- The points of a queue, by the list that holds them.
 use Rattle.std.proofs.Common.{◌≡◌, ℕ, ◌+◌, ◌-◌, ◌<◌, ◌≤◌, List, [], ◌∷◌, ◌++◌, length, take, drop, get_or, arith}
-use Rattle.std.proofs.Common.{refl, sym, ap, ◌∙◌, subst}
-use Rattle.std.proofs.Math.ListN.{get_or-map}
+use Rattle.std.proofs.Common.{refl, sym, ap, ◌∙◌, subst, inl, inr}
+use Rattle.std.proofs.Math.ListN.{get_or-map, get_or-append}
+use Rattle.std.proofs.lemmas.Bool.{cases_lt}
+use Rattle.std.proofs.lemmas.List.{get_or_push, length-append}
 use Rattle.std.proofs.lemmas.List.{get_or-drop, drop_more, get_or_default, length-map, length-drop, take_all, take_more}
 use Rattle.taut_plan.specs.declared.points.Point.{Point}
 use Rattle.taut_plan.specs.declared.points.Link.{Link}
 use Rattle.taut_plan.specs.Chain.{IsLastEdge, IsFirstPoint, last_point}
-use Rattle.taut_plan.specs.Links.{points_of, IsEdge, AreLinked, IsLastLink}
-use Rattle.taut_plan.proofs.EdgeLemmas.{edge_of_one, edge_of_more}
+use Rattle.taut_plan.specs.Links.{points_of, IsEdge, AreLinked, IsLastLink, IsLinkedTo}
+use Rattle.taut_plan.proofs.EdgeLemmas.{edge_of_one, edge_of_more, last_point-push}
 
 at_place : {place : ℕ} {p : Point} (points : List Point) (passed i : ℕ) → passed + i ≡ place → p ≡ get_or points place p
     → p ≡ get_or (drop passed points) i p
@@ -100,3 +102,37 @@ edge_to_last {count} {last} {o} links passed all some is =
           ∙ ap (λ (p : Point). take b points ++ p ∷ []) (sym here));
       begins = refl;
     }
+
+-- a link joins whose edge comes from the last point
+pub linked_join : {new : List Link} {link : Link} (links : List Link) (passed : ℕ) → new ≡ links ++ link ∷ []
+    → AreLinked passed links → IsLinkedTo (drop passed (points_of links)) link → AreLinked passed new
+linked_join {new} {link} links passed is linked edge = subst (AreLinked passed) (sym is) (λ j d upto inside.
+    let long = length-append links (link ∷ []) in
+    let here : get_or (links ++ link ∷ []) j d ≡ get_or links j d =
+    get_or-append links (link ∷ []) d j (omega (arith, long, inside)) in
+    subst (λ (l : Link). IsEdge l.point (get_or (links ++ link ∷ []) (j + 1) d)) (sym here)
+    (elim (cases_lt (j + 1) (length links)) [
+      | inl before ↦
+          subst (IsEdge (get_or links j d).point) (sym (get_or-append links (link ∷ []) d (j + 1) before))
+          (linked j d upto before)
+      | inr le ↦
+          let end : length links ≡ j + 1 = omega (arith, le, long, inside) in
+          let within : j < length links = omega (arith, end) in
+          let at_end : j ≡ length links - 1 = omega (arith, end) in
+          let last : Link = get_or links j d in
+          let is_last : last ≡ get_or links (length links - 1) last =
+          subst (λ k. last ≡ get_or links k last) at_end (get_or_default links j d last within) in
+          let its = edge_to_last {o = last.point} links passed refl (omega (arith, upto, end)) is_last in
+          subst (IsEdge (get_or links j d).point) (sym (get_or_push links link d (j + 1) end))
+          (edge last.point (last_point last.point (take (length links - 1 - passed) (drop passed (points_of links))))
+          last.point its)
+    ]))
+
+-- the last point of a chain is one
+pub linked_to_last : {o : Point} {chain : List Point} {last next : Link} → IsLastLink o chain last
+    → IsEdge last.point next → IsLinkedTo chain next
+linked_to_last {o} {chain} {last} {next} its edge = λ other first second end.
+    let here : last_point o chain ≡ last.point =
+    ap (last_point o) its.edge.is ∙ last_point-push o its.edge.front last.point in
+    let there : last_point o chain ≡ second = ap (last_point o) end.is ∙ last_point-push o end.front second in
+    subst (λ (p : Point). IsEdge p next) (sym here ∙ there) edge

@@ -52,3 +52,7 @@ abbrev pub EndsBefore : List Point → Point → Type 0
 EndsBefore chain point =
     (o first second : Point) → IsLastEdge o chain first second → (second.place ≤ point.place)
     × (second.height ≤ point.height)
+
+-- the link has the edge from the last point of a chain
+abbrev pub IsLinkedTo : List Point → Link → Type 0
+IsLinkedTo chain link = (o first second : Point) → IsLastEdge o chain first second → IsEdge second link

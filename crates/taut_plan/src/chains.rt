@@ -9,7 +9,7 @@ ghost use Rattle.taut_plan.specs.Slopes.{Fits};
 ghost use Rattle.taut_plan.specs.Links.{IsRising, EdgesRise};
 ghost use Rattle.taut_plan.specs.CurveSides.{side_of};
 
-use crate::points::{Point, Side, is_passed, point_at};
+use crate::points::{Link, Point, Side, is_passed, point_at};
 use crate::queues::Queue;
 use std::alloc::AllocError;
 use wire_curve::Curves;
@@ -34,6 +34,15 @@ pub(crate) fn join(
         + 1) apex chain.new) }
 {
     let point = point_at(curves, side, slot);
+    while let Some(last) = chain.last_link() {
+        if !is_passed(side, last, point) {
+            chain.push_link(Link::new(last.point, point))?;
+            return Ok(point);
+        }
+        chain.pop_last();
+    }
+
+    // At most one point is left: its edge begins at the apex.
     while is_last_dropped(side, apex, chain, point) {
         chain.pop_last();
     }

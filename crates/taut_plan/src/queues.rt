@@ -1,9 +1,10 @@
 //! Points in a row that join at the back and leave at both ends.
 
-ghost use Rattle.std.specs.Prelude.{◌≡◌, ◌-◌, ◌<◌, [], ◌∷◌, ◌++◌, length, take, drop, MatchOption};
+ghost use Rattle.std.specs.Prelude.{◌≡◌, ◌-◌, ◌<◌, ◌≤◌, [], ◌∷◌, ◌++◌, length, take, drop, MatchOption};
 ghost use Rattle.std.specs.Prelude.{OnOk, IsTrue, ◌↔◌};
 ghost use Rattle.taut_plan.specs.Chain.{IsFirstPoint};
-ghost use Rattle.taut_plan.specs.Links.{IsLastLink, EndsBefore};
+ghost use Rattle.taut_plan.specs.declared.points.Point.{Point};
+ghost use Rattle.taut_plan.specs.Links.{IsLastLink, EndsBefore, IsLinkedTo};
 
 use crate::points::{Link, Point};
 use std::alloc::{AllocError, Global};
@@ -64,6 +65,30 @@ impl Queue {
         ensures { IsTrue result ↔ 1 < length self.now }
     {
         self.links.len() - self.passed > 1
+    }
+
+    /// The last point with the edge to it, where that begins at another point of the chain.
+    #[inline(always)]
+    pub(crate) fn last_link(&self) -> Option<Link>
+        ensures { MatchOption result (length self.now ≤ 1)
+            (λ link. (o : Point) → IsLastLink o self.now link) }
+    {
+        let count = self.links.len();
+        if count - self.passed >= 2 {
+            Some(self.links[count - 1])
+        } else {
+            None
+        }
+    }
+
+    /// A point joins at the back, with the edge from the last point.
+    #[inline(always)]
+    pub(crate) fn push_link(&mut self, link: Link) -> Result<(), AllocError>
+        requires { IsLinkedTo self.old link }
+        ensures { OnOk result (self.new ≡ self.old ++ link.point ∷ []) }
+    {
+        self.links.push(link)?;
+        Ok(())
     }
 
     /// The last edge of the chain that begins at `apex`.
