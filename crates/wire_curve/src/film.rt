@@ -115,7 +115,7 @@ pub enum CurveRefused {
     /// The pictures have none.
     #[error("{0}")]
     Fault(CurveFault),
-    /// Want of memory.
+    /// Out of memory.
     #[error("out of memory")]
     NoMemory,
 }

@@ -113,8 +113,13 @@ pub loop-last-smaller : goal.loop-last-smaller
 loop-last-smaller c =
     let last = c.in-Some.ensures c.args.apex in
     let long = length-append last.edge.front (c.in-Some.last.point ∷ []) in
-    omega (arith, ap length last.edge.is, long, ap length c.pop_last.ensures,
-    length-take (length c.loop-last.chain - 1) c.loop-last.chain)
+    omega (
+      arith,
+      ap length last.edge.is,
+      long,
+      ap length c.pop_last.ensures,
+      length-take (length c.loop-last.chain - 1) c.loop-last.chain,
+    )
 
 pub new-requires-clause-later : goal.new-requires-clause-later
 new-requires-clause-later c =
