@@ -1,4 +1,4 @@
-//! The capacity of a link, as a word gives it.
+//! The capacity of a link, as an argument gives it.
 
 ghost use Rattle.std.specs.Prelude.{◌≡◌, ◌^◌, ◌≤◌, [], true, false, IfOk, IfSome};
 ghost use Rattle.slot_calendar.specs.Profiles.{IsProfile};
@@ -13,10 +13,10 @@ use slot_calendar::{CapStep, MAX_CAPACITY, MAX_STEPS, Profile};
 use std::alloc::Global;
 use vod_base::{LATEST_SLOT, NoMemory, number_within, read_number};
 
-/// The capacity of each slot in bytes, where the words say nothing.
+/// The capacity of each slot in bytes, where no argument gives one.
 const DEFAULT_CAPACITY: u64 = 50_000;
 
-/// The steps of the capacity that the words give.
+/// Reads the steps of the capacity that the arguments give.
 pub(crate) fn one_capacity(words: &[String], key: &str) -> Option<Steps>
     ensures steps { result ≡ one_capacity (values_of key.now (texts words.now)) }
     ensures profile { IfSome result IsProfile }
@@ -50,7 +50,7 @@ fn read_step(text: &str) -> Option<CapStep>
     Some(CapStep { from, bytes })
 }
 
-/// Whether a step at the slot may stand after these.
+/// Whether a step at the slot may follow these.
 fn is_later_step(steps: &[CapStep], slot: u64) -> bool
     ensures { result ≡ is_later_step steps.now slot }
 {
@@ -70,7 +70,7 @@ fn may_follow(steps: &[CapStep], step: CapStep) -> bool
         && step.bytes <= MAX_CAPACITY
 }
 
-/// Puts the step that a part writes after these, and tells whether it may stand there.
+/// Appends the step that a part writes to these, and returns whether it may follow them.
 fn push_step_text(steps: &mut Steps, part: &str) -> bool
     requires { IsStepPrefix steps.old }
     ensures put { result ≡ true → add_step steps.old (step_of part.now) ≡ Some steps.new }

@@ -63,7 +63,7 @@ pub(crate) fn fair_run_given(words: &[String]) -> Option<FairRun>
     })
 }
 
-/// Whether the words give no value to the key.
+/// Whether the arguments give no value to the key.
 fn is_absent(words: &[String], key: &str) -> bool
     ensures { result ≡ is_absent (values_of key.now (texts words.now)) }
 {

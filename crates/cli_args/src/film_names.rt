@@ -13,14 +13,14 @@ use vod_base::good_name;
 /// The most films.
 const MAX_FILMS: usize = 64;
 
-/// The film that a word names, if it is a word of the key `film`.
+/// Returns the film that an argument names, if it is an argument of the key `film`.
 pub fn film_named<'a>(word: &'a str) -> Option<&'a str>
     ensures { option_copied result ≡ setting_value (codes "film") word.entry.now }
 {
     setting(word, "film")
 }
 
-/// Whether the words name 1 to 64 films, with good names, no two alike.
+/// Whether the arguments name 1 to 64 films, with good names, no two alike.
 pub(crate) fn are_films(words: &[String]) -> bool
     ensures { result ≡ are_films (values_of (codes "film") (texts words.now)) }
 {
@@ -36,7 +36,7 @@ pub(crate) fn are_films(words: &[String]) -> bool
     1 <= count && count <= MAX_FILMS
 }
 
-/// Whether one of the words names that film.
+/// Whether one of the arguments names that film.
 fn is_named(words: &[String], name: &str) -> bool
     ensures { result ≡ list_any (bytes_eq name.now) (values_of (codes "film") (texts words.now)) }
 {

@@ -1,4 +1,4 @@
-//! What the words ask for.
+//! What the arguments ask for.
 
 ghost use Rattle.std.specs.Prelude.{◌≡◌};
 ghost use Rattle.cli_args.specs.InvocationViews.{source_name, source_read};
@@ -62,7 +62,7 @@ pub struct ClientParams<'a> {
     pub delay: u64,
 }
 
-/// What `make` makes.
+/// What `make` generates.
 #[derive(Clone, Copy, Debug, PartialEq, Eq)]
 pub enum MediaKind {
     /// An MPEG-1 video stream (ISO/IEC 11172-2).
@@ -86,7 +86,7 @@ pub struct ListenSettings {
     pub connections: u64,
 }
 
-/// The client that a play is planned for where its request says nothing else, and the length of a
+/// The client for which a play is planned where its request names no other, and the length of a
 /// slot.
 #[derive(Clone, Copy, Debug, PartialEq, Eq)]
 pub struct PlanSettings {
@@ -101,8 +101,7 @@ pub struct PlanSettings {
 /// A server's films, link and connections.
 #[derive(Debug, Drop)]
 pub struct ServeArgs<'a> {
-    /// The words of the command, of which those of the key `film` name its films, 1 to 64, no two
-    /// alike.
+    /// The arguments of the command. Those of the key `film` name its films, 1 to 64, no two alike.
     pub words: &'a [String],
     /// The steps of its link's capacity.
     pub capacity: Steps,

@@ -117,7 +117,7 @@ pub(crate) fn seed_given(words: &[String]) -> Option<u64>
     one_number(words, "seed", 0, u64::MAX)
 }
 
-/// The number of pictures that are made.
+/// The number of pictures that are generated.
 pub(crate) fn pictures_given(words: &[String]) -> Option<u32>
     ensures pictures { result ≡ pictures_given (texts words.now) }
     ensures range { IfSome result IsValidPictures }

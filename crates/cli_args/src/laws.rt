@@ -12,32 +12,31 @@ ghost use Rattle.cli_args.specs.ArgumentText.{IsValidInvocation, Setting, settin
 
 pub use crate::parser::law_written_arguments_read_back;
 
-/// A law: words with a meaning are `--help` or `--version` alone, or a command's: each is
-/// `key=value` with a key that the command takes, each key comes once at most, but for `film` in
+/// A law: arguments with a meaning are `--help` or `--version` alone, or a command's: each is
+/// `key=value` with a key that the command takes, each key comes at most once, except `film` in
 /// `serve`, where no two are alike, and each key that the command needs is given.
 pub fn law_accepted_arguments_are_well_formed()
     ensures { (words : List (List ℕ)) (order : Asked) → invocation_from words ≡ Some order →
         AreValidArgs words }
 {}
 
-/// A law: what words mean may be asked: each file that the order has is named by a good name, and
-/// each number is within its range, in its unit. With
-/// [`law_written_arguments_read_back`](crate::laws::law_written_arguments_read_back) the orders
-/// that words can mean are exactly
-/// those that may be asked.
+/// A law: what arguments mean is in range: each file of the command has a good name, and each
+/// number is within its range, in its unit. With
+/// [`law_written_arguments_read_back`](crate::laws::law_written_arguments_read_back) the commands
+/// that arguments can mean are exactly those in range.
 pub fn law_accepted_values_are_in_range()
     ensures { (words : List (List ℕ)) (order : Asked) → invocation_from words ≡ Some order →
         IsValidInvocation order }
 {}
 
-/// A law: a command in which a word is left out means what it means with that word and its default.
+/// A law: a command without a key means what it means with that key and its default.
 pub fn law_omitted_keys_have_defaults()
     ensures { (name : List ℕ) (command : Named) (words : List (List ℕ)) (default : Setting) →
         subcommand_named name ≡ Some command → IsLeftOut command words default →
         invocation_from (name ∷ setting_text default ∷ words) ≡ invocation_from (name ∷ words) }
 {}
 
-/// A law: two words of different keys, one after the other, mean the same in the other order.
+/// A law: two arguments of different keys, one after the other, mean the same in the other order.
 pub fn law_argument_order_is_free()
     ensures { (name : List ℕ) (command : Named) (front : List (List ℕ)) (word other : List ℕ)
         (rest : List (List ℕ)) → subcommand_named name ≡ Some command → HaveDistinctKeys word other

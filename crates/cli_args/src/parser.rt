@@ -28,7 +28,7 @@ pub fn parse_args<'a>(words: &'a [String]) -> Option<Invocation<'a>>
     }
 }
 
-/// A law: an order that may be asked is what its words mean, in which each key has its value.
+/// A law: a command in range is what its arguments mean, in which each key has its value.
 pub fn law_written_arguments_read_back()
     ensures { (order : Asked) → IsValidInvocation order → invocation_from (args_of order) ≡ Some
         order }
@@ -44,7 +44,7 @@ fn check_given<'a>(words: &'a [String]) -> Option<Invocation<'a>>
     Some(Invocation::Check(viewer, cert))
 }
 
-/// What the settings of `make` ask for.
+/// Reads what the settings of `make` ask for.
 fn make_given<'a>(words: &[String]) -> Option<Invocation<'a>>
     ensures order { option_map invocation_view result ≡ make_given (texts words.now) }
     ensures range { IfSome result IsInvocationInRange }
@@ -73,7 +73,7 @@ fn invocation_given<'a>(command: Subcommand, words: &'a [String]) -> Option<Invo
     }
 }
 
-/// What a command asks for, where each word gives a value to one of its keys.
+/// Reads what a command asks for, where each argument gives a value to one of its keys.
 fn command_invocation<'a>(command: Subcommand, words: &'a [String]) -> Option<Invocation<'a>>
     ensures order { option_map invocation_view result ≡ command_invocation (texts words.entry.now)
         command }
@@ -86,7 +86,7 @@ fn command_invocation<'a>(command: Subcommand, words: &'a [String]) -> Option<In
     }
 }
 
-/// The order, where no word follows.
+/// Returns the command, where no argument follows.
 fn lone_invocation<'a>(order: Invocation<'a>, rest: &[String]) -> Option<Invocation<'a>>
     requires { IsInvocationInRange order }
     ensures order { option_map invocation_view result ≡

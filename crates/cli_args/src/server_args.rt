@@ -15,7 +15,7 @@ use crate::key_values::{
     one_bind, port_given, slot_given, workers_given,
 };
 
-/// The server that the words describe.
+/// Reads the server that the arguments describe.
 pub(crate) fn serve_args_given<'a>(words: &'a [String]) -> Option<ServeArgs<'a>>
     ensures serving { option_map serve_args_of result ≡ serve_args_given (texts words.entry.now) }
     ensures range { IfSome result AreServeArgsInRange }
@@ -36,7 +36,7 @@ pub(crate) fn serve_args_given<'a>(words: &'a [String]) -> Option<ServeArgs<'a>>
     })
 }
 
-/// The film that the words have watched.
+/// Reads the film that the arguments have played and checked.
 pub(crate) fn watch_args_given<'a>(words: &'a [String]) -> Option<WatchArgs<'a>>
     ensures watching { option_map watch_args_of result ≡ watch_args_given (texts words.entry.now) }
     ensures range { IfSome result AreWatchArgsInRange }
@@ -51,7 +51,7 @@ pub(crate) fn watch_args_given<'a>(words: &'a [String]) -> Option<WatchArgs<'a>>
     })
 }
 
-/// Where the words have a server listen.
+/// Reads where a server listens by the arguments.
 fn listen_given(words: &[String]) -> Option<ListenSettings>
     ensures listening { result ≡ listen_given (texts words.now) }
     ensures range { IfSome result AreListenSettings }
@@ -68,7 +68,7 @@ fn listen_given(words: &[String]) -> Option<ListenSettings>
     })
 }
 
-/// The words' client, and their slot length.
+/// Reads the arguments' client, and their slot length.
 fn planning_given(words: &[String]) -> Option<PlanSettings>
     ensures planning { result ≡ planning_given (texts words.now) }
     ensures range { IfSome result ArePlanSettings }

@@ -9,7 +9,7 @@ ghost use Rattle.cli_args.specs.Occurrences.{IsGiven};
 
 use vod_base::{good_name, number_within};
 
-/// How often words give a value to a key.
+/// Counts how often arguments give a value to a key.
 #[derive(Clone, Copy)]
 pub(crate) enum Given<'a> {
     /// None does.
@@ -20,7 +20,7 @@ pub(crate) enum Given<'a> {
     Again,
 }
 
-/// The value that the word gives to the key.
+/// Returns the value that the argument gives to the key.
 pub(crate) fn setting<'a>(word: &'a str, key: &str) -> Option<&'a str>
     ensures { option_copied result ≡ setting_value key.now word.entry.now }
 {

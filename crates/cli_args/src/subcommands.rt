@@ -7,7 +7,7 @@ ghost use Rattle.cli_args.specs.Subcommands.{subcommand_named, is_setting_of, ke
 
 use crate::settings::setting;
 
-/// The commands whose words are settings.
+/// The commands whose arguments are settings.
 #[derive(Clone, Copy, Debug, PartialEq, Eq)]
 pub enum Subcommand {
     /// The best plan of a trace or film.
@@ -72,7 +72,7 @@ pub fn keys_of(command: Subcommand) -> &'static [&'static str]
     }
 }
 
-/// Whether each word gives a value to a key of the command.
+/// Whether each argument gives a value to a key of the command.
 pub(crate) fn are_settings_of(command: Subcommand, words: &[String]) -> bool
     ensures { result ≡ list_all (is_setting_of command) (texts words.now) }
 {
@@ -84,7 +84,7 @@ pub(crate) fn are_settings_of(command: Subcommand, words: &[String]) -> bool
     true
 }
 
-/// Whether the word gives a value to a key that the command takes.
+/// Whether the argument gives a value to a key that the command takes.
 fn is_setting_of(command: Subcommand, word: &str) -> bool
     ensures { result ≡ is_setting_of command word.now }
 {

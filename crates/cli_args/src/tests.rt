@@ -4,7 +4,7 @@ use crate::{Invocation, ServeArgs, Source, keys_of, parse_args, subcommand_named
 use std::alloc::{AllocError, Global};
 use std::test::Fail;
 
-/// The words of a line.
+/// The arguments of a line.
 fn args_of(alloc: Global, line: &str) -> Result<Vec<String>, AllocError> {
     let mut words = Vec::new(alloc);
     for word in line.split_whitespace() {

@@ -1,4 +1,4 @@
-//! The words of a refusal: its name, and the numbers that go with it.
+//! The text of a refusal: its name, and the numbers that go with it.
 
 ghost use Rattle.std.specs.Prelude.{is_ok};
 ghost use Rattle.cli_errors.specs.StreamWrites.{IsTextWritten, number_text};
@@ -12,7 +12,7 @@ use sys_demux::SystemFault;
 use vod_base::{Sink, SinkFault};
 use wire_curve::CurveFault;
 
-/// Writes the words of a refusal.
+/// Writes the name and numbers of a refusal.
 pub(crate) fn write_input_cause<S: Sink>(sink: &mut S, fault: InputError) -> Result<(), SinkFault>
     ensures said { IsTextWritten (S.faults sink.old) (S.faults sink.new) (S.written sink.old)
         (S.written sink.new) (words_text (cause_words fault)) (is_ok result) }
@@ -37,7 +37,7 @@ pub(crate) fn write_input_cause<S: Sink>(sink: &mut S, fault: InputError) -> Res
     }
 }
 
-/// Writes the words of a refusal of a film's curves.
+/// Writes the name and numbers of a refusal of a film's curves.
 fn write_curve_fault<S: Sink>(sink: &mut S, fault: CurveFault) -> Result<(), SinkFault>
     ensures { IsTextWritten (S.faults sink.old) (S.faults sink.new) (S.written sink.old)
         (S.written sink.new) (words_text (curve_cause_words fault)) (is_ok result) }
@@ -53,7 +53,7 @@ fn write_curve_fault<S: Sink>(sink: &mut S, fault: CurveFault) -> Result<(), Sin
     }
 }
 
-/// Writes the words of a refusal of a film; places are in bytes from its first one.
+/// Writes the name and numbers of a refusal of a film; places are in bytes from its first one.
 fn write_film_fault<S: Sink>(sink: &mut S, fault: FilmFault) -> Result<(), SinkFault>
     ensures { IsTextWritten (S.faults sink.old) (S.faults sink.new) (S.written sink.old)
         (S.written sink.new) (words_text (film_cause_words fault)) (is_ok result) }
@@ -78,7 +78,8 @@ fn write_film_fault<S: Sink>(sink: &mut S, fault: FilmFault) -> Result<(), SinkF
     }
 }
 
-/// Writes the words of a refusal of a system stream; places are in bytes from its first one.
+/// Writes the name and numbers of a refusal of a system stream; places are in bytes from its first
+/// one.
 fn write_system_fault<S: Sink>(sink: &mut S, fault: SystemFault) -> Result<(), SinkFault>
     ensures { IsTextWritten (S.faults sink.old) (S.faults sink.new) (S.written sink.old)
         (S.written sink.new) (words_text (system_cause_words fault)) (is_ok result) }

@@ -17,7 +17,7 @@ use vod_base::{Sink, SinkFault};
 ///
 /// # Errors
 ///
-/// [`SinkFault`] where a write fails: then a prefix of the line stands there.
+/// [`SinkFault`] where a write fails: then a prefix of the line was written.
 pub fn write_error<S: Sink>(sink: &mut S, error: CliError<'_>) -> Result<(), SinkFault>
     ensures said { IsTextWritten (S.faults sink.old) (S.faults sink.new) (S.written sink.old)
         (S.written sink.new) (error_text error.entry) (is_ok result) }
@@ -41,7 +41,7 @@ pub fn write_error<S: Sink>(sink: &mut S, error: CliError<'_>) -> Result<(), Sin
 ///
 /// # Errors
 ///
-/// [`SinkFault`] where a write fails: then a prefix of that stands there.
+/// [`SinkFault`] where a write fails: then a prefix of that was written.
 pub fn write_number<S: Sink>(sink: &mut S, label: &str, number: u64) -> Result<(), SinkFault>
     ensures { IsTextWritten (S.faults sink.old) (S.faults sink.new) (S.written sink.old)
         (S.written sink.new) (with_label label.now number) (is_ok result) }
@@ -53,7 +53,7 @@ pub fn write_number<S: Sink>(sink: &mut S, label: &str, number: u64) -> Result<(
     sink.write_all(buffer.format(number).as_bytes())
 }
 
-/// A law: the line of an error is one line of the program's own, and tells its cause: errors
+/// A law: the line of an error is one line of the program's own, and determines its cause: errors
 /// with the same line have the same cause, and with it the same input and the same refusal, with
 /// the same numbers.
 pub fn law_error_line_determines_error()

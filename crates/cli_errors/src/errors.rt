@@ -1,4 +1,4 @@
-//! What keeps the program from its work.
+//! The errors of the program.
 
 use mpeg_scan::FilmFault;
 use std::alloc::{AllocError, AllocFailed};
@@ -49,21 +49,20 @@ pub enum InputError {
     /// A server's bytes are no interleaved blocks and replies.
     #[error("the server's bytes can't be told apart")]
     Framing,
-    /// A server ended before its last reply, when so many pictures were whole.
+    /// A server ended before its last reply, after so many complete pictures.
     #[error("the server ended after {0} pictures")]
     EndedEarly(u64),
-    /// More events were heard than a connection may have, 2^40.
+    /// More events arrived than a connection may have, 2^40.
     #[error("the server's events don't end")]
     TurnsSpent,
 }
 
-/// Why the words weren't carried out. [`write_error`](crate::write_error) writes it on the error
-/// stream as
-/// a line of names and numbers; its `Display` is prose.
+/// Why a command failed. [`write_error`](crate::write_error) writes it on the error stream as a
+/// line of names and numbers; its `Display` is prose.
 #[derive(Clone, Copy, Debug, Error)]
 pub enum CliError<'a> {
-    /// The words have no meaning.
-    #[error("the words have no meaning")]
+    /// The arguments have no meaning.
+    #[error("the arguments have no meaning")]
     Usage,
     /// The input of that name is refused.
     #[error("{0}: {1}")]
@@ -74,7 +73,7 @@ pub enum CliError<'a> {
     /// Output could not be written.
     #[error("the output could not be written")]
     SinkFault,
-    /// Want of memory.
+    /// Out of memory.
     #[error("out of memory")]
     NoMemory,
     /// The gate failed.

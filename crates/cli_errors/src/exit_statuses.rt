@@ -23,7 +23,7 @@ pub fn status_of(error: &CliError<'_>) -> u8
     }
 }
 
-/// A law: each status tells one cause.
+/// A law: each status determines one cause.
 pub fn law_exit_status_determines_cause()
     ensures { (error : Cause) → DeterminesCause (status_of error) error }
 {}

@@ -1,5 +1,5 @@
-//! What keeps `vodserve` from its work: the errors, the line that names each on the error
-//! stream, and its exit status.
+//! The errors of `vodserve`: what each is, the line that names it on the error stream, and its exit
+//! status.
 #![tactic(auto)]
 
 mod error_causes;

@@ -8,7 +8,7 @@ use vod_base::MemorySink;
 use wire_curve::CurveFault;
 
 #[test]
-fn says_each_trouble(rt: HostRuntime) -> Result<(), Fail> {
+fn each_error_has_its_status_and_line(rt: HostRuntime) -> Result<(), Fail> {
     let alloc = rt.alloc();
     for (error, status, line) in [
         (CliError::Usage, 2, "vodserve: usage\n"),
@@ -152,7 +152,7 @@ fn each_refusal_of_a_system_stream_has_its_name(rt: HostRuntime) -> Result<(), F
 }
 
 #[test]
-fn says_a_count(rt: HostRuntime) -> Result<(), Fail> {
+fn a_number_has_its_name(rt: HostRuntime) -> Result<(), Fail> {
     let alloc = rt.alloc();
     let mut sink = MemorySink::new(alloc, 64, Vec::new(alloc))?;
     assert!(rt; write_number(&mut sink, "units", 2).is_ok());

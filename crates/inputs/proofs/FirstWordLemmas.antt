@@ -142,7 +142,7 @@ begins_first : (rest : List ℕ) → begins_token rest ≡ true → (0 < length 
 begins_first [] begins = absurd (false≢true begins)
 begins_first (b ∷ rest) begins = (omega arith, begins)
 
-word_ends : (rest : List ℕ) → begins_token (drop (word_length rest) rest) ≡ false
+pub word_ends : (rest : List ℕ) → begins_token (drop (word_length rest) rest) ≡ false
 word_ends rest = elim (cases_Bool (begins_token (drop (word_length rest) rest))) [
   | inr none ↦ none
   | inl begins ↦ (

@@ -1,9 +1,10 @@
 -- A number digit by digit.
 use Rattle.std.proofs.Common.{◌≡◌, ℕ, ◌+◌, ◌-◌, ◌*◌, ◌<◌, ◌≤◌, ◌^◌, Bool, true, ◌&&◌, List, length, take}
-use Rattle.std.proofs.Common.{get_or, Some, arith, ap, ◌∙◌, if◌then◌else◌}
+use Rattle.std.proofs.Common.{get_or, Some, arith, ap, ◌∙◌, if◌then◌else◌, add-one}
 use Rattle.std.specs.List.{list_all}
 use Rattle.std.specs.Char.{is_ascii_digit, digit_value}
 use Rattle.std.specs.Str.Parse.{digits_value}
+use Rattle.std.proofs.Math.Nat.{pow-suc, pow-le-pow_right}
 use Rattle.std.proofs.lemmas.List.{take_more, take_all}
 use Rattle.std.proofs.lemmas.List.Folds.{list_all_more}
 use Rattle.std.proofs.lemmas.Int.Digits.{digits_value_push}
@@ -38,3 +39,9 @@ pub number_read : (text : List ℕ) (number : ℕ) → number_of text ≡ Some n
 number_read text number is = grind (arith, common_steps)
 
 pub ruleset digit_steps = (take_all)
+
+pub power_more : (i : ℕ) → 10 ^ (i + 1) ≡ 10 ^ i * 10
+power_more i = rw add-one (pow-suc 10 i)
+
+pub power_few : (i : ℕ) → i < 11 → 10 ^ i ≤ 10 ^ 10
+power_few i lt = pow-le-pow_right {n = 10} (omega arith) {j = 10} (omega (arith, lt))

@@ -1,8 +1,8 @@
 -- The tokens of a text, from the front on, and the traces that they write.
 use Rattle.std.proofs.Common.{◌≡◌, ℕ, ◌+◌, ◌-◌, ◌<◌, ◌≤◌, ◌^◌, Bool, true, false, not, List, [], ◌∷◌, ◌++◌}
 use Rattle.std.proofs.Common.{length, take, drop, map, sum, Some, Option, refl, sym, ap, ◌∙◌, arith, add-zero}
-use Rattle.std.proofs.Common.{if◌then◌else◌, slice_range, get_or, length-append, length-drop}
-use Rattle.std.proofs.lemmas.Bool.{and_parts, not-true}
+use Rattle.std.proofs.Common.{min, ◌&&◌, subst, inl, inr, if◌then◌else◌, slice_range, get_or, length-append, length-drop}
+use Rattle.std.proofs.lemmas.Bool.{and_parts, not-true, not-false, cases_lt}
 use Rattle.std.proofs.lemmas.List.{take-append-drop, drop-drop, length-take-le, take_all, map-append, append_assoc}
 use Rattle.std.proofs.Math.Seq.{get_or-append_seam}
 use Rattle.std.proofs.lemmas.List.Elements.{All-append, All-cons, All-nil}
@@ -185,3 +185,28 @@ bad_read {text} {at} {from} {sizes} to read counted next none = record {
       });
   starts = refl;
 }
+
+-- the byte after a token, which is white space, is passed over where there is one
+pub read_past : {text : List ℕ} {at next : ℕ} {sizes : List ℕ} {total : ℕ} → HasRead text at sizes total
+    → begins_token (drop at text) ≡ false → next ≡ min (at + 1) (length text) → HasRead text next sizes total
+read_past {text} {at} {next} {sizes} {total} read ends is = elim (cases_lt at (length text)) [
+  | inl inside ↦
+      let same : at + 1 ≡ next = omega (arith, is, inside) in
+      let blank : list_all is_white_space (take 1 (drop at text)) ≡ true = first_blank (drop at text) ends in
+      let tokens = blanks_at text at 1 (omega (arith, inside, length-drop at text)) blank in
+      subst (λ (n : ℕ). HasRead text n sizes total) same (record {
+        within = omega (arith, inside);
+        done = read.done;
+        tokens = read.tokens ∙ ap (λ (ts : List Token). read.done ++ ts) tokens;
+        written = read.written;
+        total_is = read.total_is;
+      })
+  | inr le ↦
+      let within = read.within in
+      let same : at ≡ next = omega (arith, is, le, within) in
+      subst (λ (n : ℕ). HasRead text n sizes total) same read
+]
+  where
+    first_blank : (rest : List ℕ) → begins_token rest ≡ false → list_all is_white_space (take 1 rest) ≡ true
+    first_blank [] none = refl
+    first_blank (b ∷ rest) none = ap (λ (v : Bool). v && true) (not-false (is_white_space b) none)

@@ -1,12 +1,12 @@
 -- A trace read word by word.
-use Rattle.std.proofs.Common.{◌≡◌, ℕ, ◌+◌, ◌-◌, ◌<◌, ◌≤◌, true, not, List, [], ◌∷◌, ◌++◌, length, length-drop}
+use Rattle.std.proofs.Common.{◌≡◌, ℕ, ◌+◌, ◌-◌, ◌<◌, ◌≤◌, true, false, not, min, List, [], ◌∷◌, ◌++◌, length, length-drop}
 use Rattle.std.proofs.Common.{take, drop, slice_range, sym, ap, ◌∙◌, arith, subst}
 use Rattle.std.proofs.lemmas.List.{drop-drop}
 use Rattle.std.proofs.lemmas.List.Sums.{prefix_len-le-length}
 use Rattle.inputs.specs.Traces.{is_white_space, begins_token, tokens_from, IsBadTraceText, AddsSize}
 use Rattle.inputs.specs.FirstWord.{word_length, first_word}
-use Rattle.inputs.proofs.TokenLemmas.{HasRead, more_read, bad_read}
-use Rattle.inputs.proofs.FirstWordLemmas.{word_token}
+use Rattle.inputs.proofs.TokenLemmas.{HasRead, more_read, bad_read, read_past}
+use Rattle.inputs.proofs.FirstWordLemmas.{word_token, word_ends}
 
 -- where the blanks end before the end of the text, a token begins
 pub begins_after : {front : List ℕ} (text : List ℕ) (at n : ℕ) → front ≡ drop at text →
@@ -51,6 +51,19 @@ next_read {text} {rest} {at} {from} {len} {sizes} {total} {count} {size} read co
     subst (λ (n : ℕ). HasRead text (from + n) (sizes ++ size ∷ []) (total + size)) (sym word)
     (more_read from read counted (after_blanks text at from token.same token.begins) within
     (subst (λ (ts : List ℕ). AddsSize ts count total size) bytes adds))
+
+-- the same, and on to the byte after the white space that ends the word
+pub next_read_past : {text rest : List ℕ} {at from len next : ℕ} {sizes : List ℕ} {total count size : ℕ} →
+    HasRead text at sizes total → count ≡ length sizes → TokenBegins text at from rest → from < length text →
+    len ≡ word_length rest → AddsSize (first_word rest) count total size → next ≡ min (from + len + 1) (length text)
+    → HasRead text next (sizes ++ size ∷ []) (total + size)
+next_read_past {text} {rest} {from} {len} read counted token inside long adds is =
+    let word : len ≡ word_length (drop from text) = long ∙ ap word_length token.are in
+    let there : begins_token (drop (from + word_length (drop from text)) text) ≡ false =
+    ap begins_token (sym (drop-drop (word_length (drop from text)) from text)) ∙ word_ends (drop from text) in
+    let ends : begins_token (drop (from + len) text) ≡ false =
+    subst (λ (n : ℕ). begins_token (drop (from + n) text) ≡ false) (sym word) there in
+    read_past (next_read read counted token inside long adds) ends is
 
 -- a word with which the tokens so far write no sizes
 pub next_bad : {text rest : List ℕ} {at from : ℕ} {sizes : List ℕ} {total count : ℕ} →

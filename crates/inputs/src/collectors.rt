@@ -1,4 +1,4 @@
-//! Scans a film of the library, and keeps its units or their sizes.
+//! Scans a film of the library, and collects its units or their sizes.
 
 ghost use Rattle.std.specs.Prelude.{◌≡◌, ◌≤◌, Some, List, IfErr, IfOk};
 ghost use Rattle.vod_base.specs.IoState.{File};
@@ -36,7 +36,7 @@ pub struct SizedFilm {
     pub sizes: Vec<u64>,
 }
 
-/// Scans a film of the library, of at most 2^40 bytes, and keeps only its units.
+/// Scans a film of the library, of at most 2^40 bytes, and collects only its units.
 ///
 /// # Errors
 ///
@@ -64,8 +64,8 @@ pub fn scan_film<'a, L: Library>(
     })
 }
 
-/// Scans a film of the library, of at most 2^40 bytes, and keeps only the sizes of its units on the
-/// wire.
+/// Scans a film of the library, of at most 2^40 bytes, and collects only the sizes of its units on
+/// the wire.
 ///
 /// # Errors
 ///
@@ -116,7 +116,7 @@ impl Found for UnitList {
     }
 }
 
-/// Adds up the wire size of a unit as its parts come, and keeps those of the units that have ended.
+/// Adds up the wire size of a unit as its parts come, and collects those of the units that ended.
 #[derive(Drop)]
 struct SizeList {
     unit: UnitSize,

@@ -14,7 +14,7 @@ use vod_base::Library;
 /// The most bytes that one read asks for.
 pub(crate) const CHUNK: usize = 65_536;
 
-/// Reads the whole input of that name, by reads of at most 65,536 bytes.
+/// Reads the entire input of that name, by reads of at most 65,536 bytes.
 ///
 /// # Errors
 ///
@@ -96,7 +96,7 @@ impl<'a> SizedFile<'a> {
         }
     }
 
-    /// Reads the whole file, by reads of at most 65,536 bytes.
+    /// Reads the entire file, by reads of at most 65,536 bytes.
     pub(crate) fn read_bytes<L: Library>(
         self,
         alloc: Global,

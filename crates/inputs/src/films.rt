@@ -151,7 +151,7 @@ fn scan_file<'a>(alloc: Global, name: &'a str, file: Vec<u8>) -> Result<Film, Cl
     scan_video(alloc, name, video)
 }
 
-/// Loads a film: reads it whole, takes the video out of a system stream, scans it and makes its
+/// Loads a film: reads all of it, takes the video out of a system stream, scans it and makes its
 /// table. Where the file has more bytes than the most, `over` is the refusal, and no byte is read.
 fn load_within<'a, L: Library>(
     alloc: Global,

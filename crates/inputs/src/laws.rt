@@ -1,4 +1,4 @@
-//! What the words of a trace are, and where the fault of a system stream stands in its file.
+//! What the words of a trace are, and at which byte of its file a system stream is at fault.
 
 ghost use Rattle.std.specs.Prelude.{◌≡◌, ◌<◌, ◌^◌, ℕ, List, All};
 ghost use Rattle.sys_demux.specs.declared.faults.SystemFault.{SystemFault};

@@ -1,4 +1,4 @@
-//! The inputs that `vodserve` reads from a library: whole files, traces of picture sizes, and
+//! The inputs that `vodserve` reads from a library: complete files, traces of picture sizes, and
 //! films.
 #![tactic(auto)]
 

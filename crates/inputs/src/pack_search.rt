@@ -71,7 +71,7 @@ enum FirstCode {
     Other,
 }
 
-/// Looks for the first start code in the next bytes of a file, which stand at `at`.
+/// Looks for the first start code in the next bytes of a file, which begin at byte `at`.
 fn open_chunk(before: Prefix, at: u64, chunk: &[u8]) -> FirstCode
     requires { at + length chunk.now ≤ 2 ^ 40 }
     ensures opening { (seen : List ℕ) → length seen ≡ at → HasNoCode before seen →

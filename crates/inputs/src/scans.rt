@@ -47,8 +47,8 @@ pub(crate) fn finish_scan<'a, F: Found>(
     }
 }
 
-/// Scans a film of the library, by reads of at most 65,536 bytes, and keeps nothing of it but what
-/// `found` keeps: the video that the file is, or that of its system stream.
+/// Scans a film of the library, by reads of at most 65,536 bytes, and collects only what `found`
+/// collects: the video that the file is, or that of its system stream.
 pub(crate) fn scan_film_into<'a, L: Library, F: Found>(
     alloc: Global,
     library: &mut L,
@@ -76,7 +76,7 @@ pub(crate) fn scan_film_into<'a, L: Library, F: Found>(
     }
 }
 
-/// Feeds the whole film to the scanner, by reads of a chunk.
+/// Feeds the entire film to the scanner, by reads of a chunk.
 fn feed_film<'a, L: Library, F: Found>(
     library: &mut L,
     file: SizedFile<'a>,

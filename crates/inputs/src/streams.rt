@@ -22,7 +22,7 @@ use vod_base::{Library, NoMemory};
 pub(crate) enum StreamError {
     /// They are no system stream; the place counts from the stream's first byte.
     Fault(SystemFault),
-    /// Want of memory.
+    /// Out of memory.
     NoMemory,
 }
 

@@ -22,6 +22,9 @@ const MAX_SIZE: u64 = 1 << 32;
 /// The most bytes of all pictures together.
 const MAX_TOTAL: u64 = 1 << 40;
 
+/// How many digits are read before the value is tested. [`MAX_SIZE`] has ten.
+const FEW_DIGITS: usize = 11;
+
 /// Why a text gives no trace.
 #[derive(Clone, Copy, Debug, PartialEq, Eq, Error)]
 pub enum TraceError {
@@ -29,7 +32,7 @@ pub enum TraceError {
     /// brings the sum above 2^40, or that is the 1,000,001st.
     #[error("the word at byte {0} makes it no trace")]
     BadTrace(u64),
-    /// Want of memory.
+    /// Out of memory.
     #[error("out of memory")]
     NoMemory,
 }
@@ -74,12 +77,13 @@ pub fn read_trace(alloc: Global, text: &[u8]) -> Result<Vec<u64>, TraceError>
         };
         sizes.push(size.value)?;
         total += size.value;
-        at = from + size.len;
+        // The byte after a word is white space, where there is one.
+        at = (from + size.len + 1).min(text.len());
     }
     Ok(sizes)
 }
 
-/// A number that stands at the front of a text, and how many bytes write it.
+/// A number at the beginning of a text, and how many bytes write it.
 #[derive(Clone, Copy)]
 struct Number {
     value: u64,
@@ -93,7 +97,7 @@ fn is_white_space(byte: u8) -> bool
     byte == b' ' || byte == b'\t' || byte == b'\r' || byte == b'\n'
 }
 
-/// How many bytes of white space stand in front.
+/// Counts the bytes of white space at the beginning.
 #[inline(always)]
 fn white_space_length(rest: &[u8]) -> usize
     ensures within { result ≤ length rest.now }
@@ -108,7 +112,7 @@ fn white_space_length(rest: &[u8]) -> usize
     rest.len()
 }
 
-/// The place of the first token at or after `at`.
+/// Finds the place of the first token at or after `at`, in bytes.
 #[inline(always)]
 fn next_place(text: &[u8], at: usize) -> Option<usize>
     requires { at ≤ length text.now }
@@ -120,10 +124,35 @@ fn next_place(text: &[u8], at: usize) -> Option<usize>
     if from < text.len() { Some(from) } else { None }
 }
 
-/// The digits in front, as far as they write a number up to [`MAX_SIZE`] or the first above it.
-#[tactic(auto, using(crate::proofs::NumberDigitLemmas::digit_steps))]
+/// Reads the digits at the beginning: all of them where they are few, else as far as they write a
+/// number up to [`MAX_SIZE`] or the first above it.
 #[inline(always)]
 fn digits_in_front(rest: &[u8]) -> Number
+    ensures within { result.len ≤ length rest.now }
+    ensures digits { list_all is_ascii_digit (take result.len rest.now) ≡ true }
+    ensures value { result.value ≡ digits_value 10 (take result.len rest.now) }
+    ensures ends { result.len < length rest.now →
+        (2 ^ 32 < result.value) ⊎ (is_ascii_digit (slice_index rest.now result.len) ≡ false) }
+{
+    // So few digits can't overflow, which saves a test of the value at each of them.
+    let few = rest.len().min(FEW_DIGITS);
+    let mut value = 0u64;
+    for place in 0..few {
+        let byte = rest[place];
+        if !byte.is_ascii_digit() {
+            return Number { value, len: place };
+        }
+        value = value * 10 + u64::from(byte - b'0');
+    }
+    if few == rest.len() {
+        return Number { value, len: few };
+    }
+    long_number(rest)
+}
+
+/// Reads any number of digits: it tests the value at each of them.
+#[tactic(auto, using(crate::proofs::NumberDigitLemmas::digit_steps))]
+fn long_number(rest: &[u8]) -> Number
     ensures within { result.len ≤ length rest.now }
     ensures digits { list_all is_ascii_digit (take result.len rest.now) ≡ true }
     ensures value { result.value ≡ digits_value 10 (take result.len rest.now) }
@@ -143,7 +172,7 @@ fn digits_in_front(rest: &[u8]) -> Number
     }
 }
 
-/// The number of the word in front, where it writes one up to 2^32.
+/// Reads the number of the first word, where it writes one up to 2^32.
 #[inline(always)]
 fn number_in_front(rest: &[u8]) -> Option<Number>
     ensures { MatchOption result ((size : ℕ) → WritesSize rest.now size → ⊥)
@@ -159,8 +188,8 @@ fn number_in_front(rest: &[u8]) -> Option<Number>
     Some(number)
 }
 
-/// The size that the word in front adds to a trace of `count` sizes with `total` bytes, where it
-/// may.
+/// Reads the size that the first word adds to a trace of `count` sizes with `total` bytes, where
+/// it may.
 #[inline(always)]
 fn next_size(rest: &[u8], count: usize, total: u64) -> Option<Number>
     requires { total ≤ 2 ^ 40 }

@@ -89,3 +89,6 @@ fn refusal_text(alloc: Global, fault: &CertFault) -> Result<Vec<u8>, NoMemory>
     text.extend_from_slice(b"\n")?;
     Ok(text)
 }
+
+#[cfg(test)]
+mod tests;

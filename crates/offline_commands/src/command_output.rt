@@ -13,15 +13,15 @@ pub struct CommandOutput {
     pub status: u8,
     /// The text for the output.
     pub text: Vec<u8>,
-    /// The plan that was made.
+    /// The plan, where the command makes one.
     pub plan: Option<Plan>,
 }
 
-/// What was done, where its text was made.
+/// Returns the output of a command, where there was memory for its text.
 ///
 /// # Errors
 ///
-/// [`CliError::NoMemory`] where it wasn't.
+/// [`CliError::NoMemory`] where there wasn't.
 pub fn output_with_text<'a, F: Drop>(
     status: u8,
     text: Result<Vec<u8>, F>,

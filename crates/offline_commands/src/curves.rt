@@ -22,7 +22,7 @@ use std::alloc::Global;
 use vod_base::Library;
 use wire_curve::{CurveRefused, Curves, Timing, film_curves};
 
-/// Reads a trace or film and makes the curves of its viewer.
+/// Reads a trace or film and makes the curves of its client.
 pub(crate) fn client_curves<'a, L: Library>(
     alloc: Global,
     library: &mut L,

@@ -131,8 +131,8 @@ pub fn run_fair(alloc: Global, run: &FairRun) -> Result<Day, NoMemory>
     fair(alloc, run.seed, run.plays, profile)
 }
 
-/// A law: a script that a library holds, with each film and trace that it names, isn't refused
-/// besides. So status 3 comes only where there is no day to run.
+/// A law: a script that a library holds, with each film and trace that it names, isn't also
+/// refused. So status 3 comes only where there is no day to run.
 pub fn law_playable_script_is_not_refused()
     ensures { (held : List File) (name : List ℕ) (script : Script) (sources : List Source)
         (input : List ℕ) (fault : InputError) → HoldsScript held name script →

@@ -1,6 +1,6 @@
-//! The commands that need no connection, up to what they give: `plan`, `check`, `scan` and `make`
-//! read their inputs and make the text for the output, `day` and `fair` run a link's day, and
-//! `--help` and `--version` have their texts. `vodserve` writes what they give.
+//! The commands that need no connection: `plan`, `check`, `scan` and `make` read their inputs and
+//! return the text for the output, `day` and `fair` run a link's day, and `--help` and `--version`
+//! have their texts. `vodserve` writes what they return.
 #![tactic(auto)]
 
 mod checks;

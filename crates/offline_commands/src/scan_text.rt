@@ -28,7 +28,7 @@ pub(crate) fn scan_text(
     Ok(text)
 }
 
-/// Appends a word where something is so.
+/// Appends a word where `is` holds.
 fn push_word_if(text: &mut Vec<u8>, is: bool, word: &[u8]) -> Result<(), NoMemory>
     ensures { OnOk result (text.new.items ≡ text.old.items ++ word_if is word.now) }
 {
@@ -67,7 +67,7 @@ fn push_places(text: &mut Vec<u8>, unit: &Unit) -> Result<(), NoMemory>
     push_field(text, b" slices=", unit.slices)
 }
 
-/// Appends what stands in a unit's head, and the line's end.
+/// Appends what a unit's head has, and the line's end.
 fn push_marks(text: &mut Vec<u8>, unit: &Unit) -> Result<(), NoMemory>
     ensures { OnOk result (text.new.items ≡ text.old.items ++ unit_marks unit.now) }
 {

@@ -1,4 +1,4 @@
-//! What a reader of the output can tell from it: laws over the texts of a scan, a verdict and
+//! What a reader can learn from the output: laws over the texts of a scan, a verdict and
 //! `--help`.
 
 ghost use Rattle.std.specs.Prelude.{◌≡◌, ◌≢◌, ◌<◌, ◌^◌, ℕ, true, List, All, codes, length};
@@ -18,9 +18,9 @@ ghost use Rattle.offline_commands.specs.TextLaws.{IsSameScan, IsShortFault, IsSh
 ghost use Rattle.offline_commands.specs.TextLaws.{LineShowsFilm, LineShowsUnit};
 ghost use Rattle.offline_commands.specs.VerdictText.{refused_line};
 
-/// A law: the text of a scan tells the film's size, its rate code and its units, one for each line
-/// between the first and the last: scans with the same text tell the same of each, and in a line
-/// each number stands by its key.
+/// A law: the text of a scan determines the film's size, its rate code and its units, one for each
+/// line between the first and the last: scans with the same text agree in each of them, and in a
+/// line each number follows its key.
 pub fn law_scan_text_determines_units()
     ensures same { (bytes bytes' rate rate' : ℕ) (units units' : List Unit) → bytes < 2 ^ 64 →
         bytes' < 2 ^ 64 → rate < 2 ^ 64 → rate' < 2 ^ 64 → length units < 2 ^ 64 →
@@ -33,7 +33,7 @@ pub fn law_scan_text_determines_units()
         LineShowsUnit number unit (unit_line number unit) }
 {}
 
-/// A law: the line of a refused certificate tells its fault, with its number, and is another than
+/// A law: the line of a refused certificate determines its fault, with its number, and differs from
 /// that of the best plan.
 pub fn law_verdict_text_determines_fault()
     ensures tells { (fault fault' : CertFault) → IsShortFault fault → IsShortFault fault' →

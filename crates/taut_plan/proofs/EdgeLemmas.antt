@@ -9,7 +9,7 @@ use Rattle.taut_plan.specs.Chain.{on_curve, IsChain, last_point, IsLastEdge, IsL
 use Rattle.taut_plan.specs.Chain.{EdgesAscend}
 use Rattle.taut_plan.proofs.ChainLemmas.{ReadCurve, IsOpen, open_pops, open_joins, open_joins_alone}
 
-last_point-push : (o : Point) (chain : List Point) (p : Point) → last_point o (chain ++ p ∷ []) ≡ p
+pub last_point-push : (o : Point) (chain : List Point) (p : Point) → last_point o (chain ++ p ∷ []) ≡ p
 last_point-push o [] p = refl
 last_point-push o (q ∷ rest) p = last_point-push q rest p
 

@@ -11,3 +11,4 @@ mod PlanLemmas
 mod TautExistence
 mod PointRangeLemmas
 mod QueueLemmas
+mod RiseLemmas

@@ -1,4 +1,4 @@
-//! The chain along one curve, and how it takes in the next place.
+//! The chain along one curve, and how the next place joins it.
 
 ghost use Rattle.std.specs.Prelude.{◌≡◌, ◌+◌, ◌<◌, ◌≤◌, [], length, MatchBool, MatchOption, IfOk};
 ghost use Rattle.std.specs.Prelude.{OnOk};
@@ -6,14 +6,15 @@ ghost use Rattle.wire_curve.specs.SoundCurves.{AreSound};
 ghost use Rattle.taut_plan.specs.Chain.{on_curve, IsChain, IsLastDropped, CanAppend, EdgesAscend};
 ghost use Rattle.taut_plan.specs.Chain.{EdgesFit};
 ghost use Rattle.taut_plan.specs.Slopes.{Fits};
+ghost use Rattle.taut_plan.specs.Links.{IsRising, EdgesRise};
 ghost use Rattle.taut_plan.specs.CurveSides.{side_of};
 
-use crate::points::{Point, Side, is_inside, point_at};
+use crate::points::{Link, Point, Side, is_passed, point_at};
 use crate::queues::Queue;
 use std::alloc::AllocError;
 use wire_curve::Curves;
 
-/// Lets the chain of one side take in the end of the next slot, and answers the point that joined.
+/// Joins the end of the next slot to the chain of one side, and returns the point that joined.
 #[inline(always)]
 pub(crate) fn join(
     curves: &Curves,
@@ -26,12 +27,22 @@ pub(crate) fn join(
     requires up { slot < length curves.now.up.items }
     requires sound { AreSound curves.now.from curves.now.low.items curves.now.up.items }
     requires apex { Fits apex }
+    requires rising { IsRising side apex (on_curve (side_of curves.now side) apex.place) }
     requires chain { IsChain side (side_of curves.now side) slot apex chain.old }
     ensures point { IfOk result (λ point. point ≡ on_curve (side_of curves.now side) (slot + 1)) }
     ensures chain { OnOk result (IsChain side (side_of curves.now side) (slot
         + 1) apex chain.new) }
 {
     let point = point_at(curves, side, slot);
+    while let Some(last) = chain.last_link() {
+        if !is_passed(side, last, point) {
+            chain.push_link(Link::new(last.point, point))?;
+            return Ok(point);
+        }
+        chain.pop_last();
+    }
+
+    // At most one point is left: its edge begins at the apex.
     while is_last_dropped(side, apex, chain, point) {
         chain.pop_last();
     }
@@ -44,12 +55,13 @@ pub(crate) fn join(
 fn is_last_dropped(side: Side, apex: Point, chain: &Queue, point: Point) -> bool
     requires ascend { EdgesAscend apex chain.now point }
     requires fit { EdgesFit apex chain.now point }
+    requires rise { EdgesRise side apex chain.now point }
     ensures { MatchBool result
         (IsLastDropped side apex chain.now point)
         (CanAppend side apex chain.now point) }
 {
     match chain.last_edge(apex) {
-        Some((first, second)) => !is_inside(side.other_side(), first, second, point),
+        Some(link) => is_passed(side, link, point),
         None => false,
     }
 }

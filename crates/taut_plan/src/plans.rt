@@ -20,12 +20,15 @@ use std::alloc::{AllocError, Global};
 use vod_base::NoMemory;
 use wire_curve::Curves;
 
-/// The plan between sound curves: the one list of segments that `check` finds no fault in. Memory
-/// may be wanting.
+/// Makes the plan between sound curves: the one list of segments in which `check` finds no fault.
 ///
 /// It reads the curves once. Each slot joins and leaves each of the two chains at most once, so the
 /// work is linear in the slots, whatever the curves; the memory is that of the two chains and the
 /// segments.
+///
+/// # Errors
+///
+/// [`NoMemory`] alone.
 pub fn plan(alloc: Global, curves: &Curves) -> Result<Plan, NoMemory>
     requires { AreSound curves.now.from curves.now.low.items curves.now.up.items }
     ensures taut { IfOk result (λ plan.
@@ -40,7 +43,7 @@ pub fn plan(alloc: Global, curves: &Curves) -> Result<Plan, NoMemory>
     Ok(Plan::new(segments))
 }
 
-/// The front of the other chain, where `point` stands outside of it.
+/// Returns the first point of the other chain, where `point` is outside of that chain.
 #[inline(always)]
 fn crossing(side: Side, apex: Point, others: &Queue, point: Point) -> Option<Point>
     requires between { FirstIsBetween apex others.now point }
@@ -57,8 +60,8 @@ fn crossing(side: Side, apex: Point, others: &Queue, point: Point) -> Option<Poi
     }
 }
 
-/// Takes in the next slot's end on one side, and bends along the other chain while the new point
-/// stands outside of it.
+/// Joins the next slot's end on one side, and bends along the other chain while the new point is
+/// outside of it.
 #[inline(always)]
 fn extend(
     curves: &Curves,
@@ -83,8 +86,8 @@ fn extend(
 {
     let point = join(curves, side, path.apex, own, slot)?;
 
-    // Where the new point isn't alone in its chain, the first point of that chain stands further
-    // out and within the other chain, so that the new point can't cross it.
+    // Where the new point isn't alone in its chain, the first point of that chain is further out
+    // and within the other chain, so that the new point can't cross it.
     if own.has_several() {
         return Ok(());
     }

@@ -4,7 +4,9 @@
 //! bits serve. `slope_frac` compares any two slopes, which takes 128.
 
 ghost use Rattle.std.specs.Prelude.{◌≡◌, ◌+◌, ◌-◌, ◌*◌, ◌<◌, ◌≤◌, ◌↔◌, IsTrue, MatchBool, length};
-ghost use Rattle.taut_plan.specs.Slopes.{IsWithin, IsInside, AllFit, other_side};
+ghost use Rattle.std.specs.Prelude.{◌^◌};
+ghost use Rattle.taut_plan.specs.Slopes.{IsWithin, IsInside, AllFit, Fits, other_side};
+ghost use Rattle.taut_plan.specs.Links.{IsEdge, IsPassed, IsKept};
 ghost use Rattle.taut_plan.specs.Chain.{on_curve};
 ghost use Rattle.taut_plan.specs.CurveSides.{side_of};
 
@@ -18,6 +20,47 @@ pub(crate) struct Point {
     pub(crate) place: u64,
     /// In bytes sent in all.
     pub(crate) height: u64,
+}
+
+/// A point of a chain, and the edge that leads to it from the point before.
+#[derive(Clone, Copy)]
+pub(crate) struct Link {
+    pub(crate) point: Point,
+    /// The slots from the point before.
+    pub(crate) slots: u64,
+    /// The bytes from the point before.
+    pub(crate) bytes: u64,
+}
+
+impl Link {
+    /// The edge from a point to a later one that is as high.
+    #[inline(always)]
+    pub(crate) fn new(first: Point, point: Point) -> Link
+        requires later { first.place ≤ point.place }
+        requires higher { first.height ≤ point.height }
+        ensures point { result.point ≡ point }
+        ensures edge { IsEdge first result }
+    {
+        Link {
+            point,
+            slots: point.place - first.place,
+            bytes: point.height - first.height,
+        }
+    }
+
+    /// The edge from the apex. On the lower side the apex may be the higher point: the edge then
+    /// counts as level, since a next point, which is never lower than this one, passes either.
+    #[inline(always)]
+    pub(crate) fn from_apex(apex: Point, point: Point) -> Link
+        ensures point { result.point ≡ point }
+        ensures edge { IsEdge apex result }
+    {
+        Link {
+            point,
+            slots: point.place.saturating_sub(apex.place),
+            bytes: point.height.saturating_sub(apex.height),
+        }
+    }
 }
 
 /// One of the two curves.
@@ -56,6 +99,33 @@ pub(crate) fn point_at(curves: &Curves, side: Side, slot: usize) -> Point
         place: slot as u64 + 1,
         height,
     }
+}
+
+/// Whether the point that an edge leads to no longer stands out, where a later point is to come
+/// beyond it: whether the slope from it to that point is at least that of its edge on the lower
+/// side, and at most that on the upper side.
+#[inline(always)]
+pub(crate) fn is_passed(side: Side, link: Link, point: Point) -> bool
+    requires later { link.point.place ≤ point.place }
+    requires higher { link.point.height ≤ point.height }
+    requires slots { link.slots ≤ 2 ^ 20 }
+    requires bytes { link.bytes ≤ 2 ^ 42 }
+    requires fits { Fits point }
+    ensures { MatchBool result (IsPassed side link point) (IsKept side link point) }
+{
+    let rise = link.slots * (point.height - link.point.height);
+    let line = (point.place - link.point.place) * link.bytes;
+    match side {
+        Side::Lower => is_at_most(line, rise),
+        Side::Upper => is_at_most(rise, line),
+    }
+}
+
+#[inline(always)]
+fn is_at_most(one: u64, other: u64) -> bool
+    ensures { MatchBool result (one ≤ other) (other < one) }
+{
+    one <= other
 }
 
 /// Whether, seen from the first point, the middle one stands strictly inside the last one: below

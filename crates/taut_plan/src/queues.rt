@@ -1,18 +1,24 @@
 //! Points in a row that join at the back and leave at both ends.
 
-ghost use Rattle.std.specs.Prelude.{◌≡◌, ◌-◌, ◌<◌, [], ◌∷◌, ◌++◌, length, take, drop, MatchOption};
+ghost use Rattle.std.specs.Prelude.{◌≡◌, ◌-◌, ◌<◌, ◌≤◌, [], ◌∷◌, ◌++◌, length, take, drop, MatchOption};
 ghost use Rattle.std.specs.Prelude.{OnOk, IsTrue, ◌↔◌};
-ghost use Rattle.taut_plan.specs.Chain.{IsFirstPoint, IsLastEdge};
+ghost use Rattle.taut_plan.specs.Chain.{IsFirstPoint};
+ghost use Rattle.taut_plan.specs.declared.points.Point.{Point};
+ghost use Rattle.taut_plan.specs.Links.{IsLastLink, EndsBefore, IsLinkedTo};
 
-use crate::points::Point;
+use crate::points::{Link, Point};
 use std::alloc::{AllocError, Global};
 use std::marker::Model;
 
 /// The points of a chain. A ring would cost a test at each look at a point, so those that left at
 /// the front stay in the list until the chain is empty.
+///
+/// Each point but the first has with it the edge from the point before, so that a test of the last
+/// one reads one entry. The first one's edge begins at the apex, which moves: it's computed at each
+/// test.
 #[derive(Drop)]
 pub(crate) struct Queue {
-    points: Vec<Point>,
+    links: Vec<Link>,
     /// How many have left at the front.
     passed: usize,
 }
@@ -20,12 +26,14 @@ pub(crate) struct Queue {
 impl Model for Queue {
     ghost use Rattle.std.specs.Prelude.{◌≤◌, List, length, drop};
     ghost use Rattle.taut_plan.specs.declared.points.Point.{Point};
+    ghost use Rattle.taut_plan.specs.Links.{points_of, AreLinked};
 
     ghost Value = { List Point };
 
-    ghost view = { λ q. drop q.passed q.points.items };
+    ghost view = { λ q. drop q.passed (points_of q.links.items) };
 
-    ghost invariant = { λ q. q.passed ≤ length q.points.items };
+    ghost invariant = { λ q. (q.passed ≤ length q.links.items)
+        × AreLinked q.passed q.links.items };
 }
 
 impl Queue {
@@ -34,7 +42,7 @@ impl Queue {
         ensures { result ≡ [] }
     {
         Queue {
-            points: Vec::new(alloc),
+            links: Vec::new(alloc),
             passed: 0,
         }
     }
@@ -44,8 +52,8 @@ impl Queue {
     pub(crate) fn first(&self) -> Option<Point>
         ensures { MatchOption result (self.now ≡ []) (IsFirstPoint self.now) }
     {
-        if self.passed < self.points.len() {
-            Some(self.points[self.passed])
+        if self.passed < self.links.len() {
+            Some(self.links[self.passed].point)
         } else {
             None
         }
@@ -56,33 +64,67 @@ impl Queue {
     pub(crate) fn has_several(&self) -> bool
         ensures { IsTrue result ↔ 1 < length self.now }
     {
-        self.points.len() - self.passed > 1
+        self.links.len() - self.passed > 1
+    }
+
+    /// The last point with the edge to it, where that begins at another point of the chain.
+    #[inline(always)]
+    pub(crate) fn last_link(&self) -> Option<Link>
+        ensures { MatchOption result (length self.now ≤ 1)
+            (λ link. (o : Point) → IsLastLink o self.now link) }
+    {
+        let count = self.links.len();
+        if count - self.passed >= 2 {
+            Some(self.links[count - 1])
+        } else {
+            None
+        }
+    }
+
+    /// A point joins at the back, with the edge from the last point.
+    #[inline(always)]
+    pub(crate) fn push_link(&mut self, link: Link) -> Result<(), AllocError>
+        requires { IsLinkedTo self.old link }
+        ensures { OnOk result (self.new ≡ self.old ++ link.point ∷ []) }
+    {
+        self.links.push(link)?;
+        Ok(())
     }
 
     /// The last edge of the chain that begins at `apex`.
     #[inline(always)]
-    pub(crate) fn last_edge(&self, apex: Point) -> Option<(Point, Point)>
-        ensures { MatchOption result (self.now ≡ [])
-            (λ edge. IsLastEdge apex self.now edge.0 edge.1) }
+    pub(crate) fn last_edge(&self, apex: Point) -> Option<Link>
+        ensures { MatchOption result (self.now ≡ []) (IsLastLink apex self.now) }
     {
-        let count = self.points.len();
+        let count = self.links.len();
         if self.passed == count {
             return None;
         }
-        let first = if count - self.passed >= 2 {
-            self.points[count - 2]
+        let last = self.links[count - 1];
+        if count - self.passed >= 2 {
+            Some(last)
         } else {
-            apex
-        };
-        Some((first, self.points[count - 1]))
+            Some(Link::from_apex(apex, last.point))
+        }
     }
 
     /// A point joins at the back.
     #[inline(always)]
     pub(crate) fn join(&mut self, point: Point) -> Result<(), AllocError>
+        requires { EndsBefore self.old point }
         ensures { OnOk result (self.new ≡ self.old ++ point ∷ []) }
     {
-        self.points.push(point)?;
+        let count = self.links.len();
+        let link = if self.passed < count {
+            Link::new(self.links[count - 1].point, point)
+        } else {
+            Link {
+                point,
+                slots: 0,
+                bytes: 0,
+            }
+        };
+        self.links.push(link)?;
         Ok(())
     }
 
@@ -92,7 +134,7 @@ impl Queue {
         requires { 0 < length self.old }
         ensures { self.new ≡ take (length self.old - 1) self.old }
     {
-        self.points.pop();
+        self.links.pop();
     }
 
     /// The first point leaves.
@@ -102,8 +144,8 @@ impl Queue {
         ensures { self.new ≡ drop 1 self.old }
     {
         self.passed += 1;
-        if self.passed == self.points.len() {
-            self.points.clear();
+        if self.passed == self.links.len() {
+            self.links.clear();
             self.passed = 0;
         }
     }

@@ -1,4 +1,5 @@
 pub mod PictureSums
+pub mod OwnSlotLemmas
 pub mod SlotUsageLemmas
 mod SoundCurveLemmas
 pub mod FaultExclusion

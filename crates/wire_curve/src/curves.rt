@@ -19,7 +19,7 @@ pub struct Curves {
 }
 
 impl Curves {
-    /// Whether the curves are sound, as those that a plan is made for must be: 1 to 1,000,000 slots
+    /// Whether the curves are sound, as the planner requires: 1 to 1,000,000 slots
     /// in both; neither curve ever falls; the lower one begins at `from` or above, is nowhere above
     /// the upper one, and meets it at the last slot, at 2^42 bytes or less.
     ///

@@ -115,7 +115,7 @@ pub enum CurveRefused {
     /// The pictures have none.
     #[error("{0}")]
     Fault(CurveFault),
-    /// Want of memory.
+    /// Out of memory.
     #[error("out of memory")]
     NoMemory,
 }
@@ -152,11 +152,69 @@ pub fn film_curves(alloc: Global, sizes: &[u64], timing: &Timing) -> Result<Curv
     if slots > MAX_SLOTS {
         return Err(CurveRefused::Fault(CurveFault::TooManySlots { slots }));
     }
+    if timing.picture_units == timing.slot_units {
+        if let Some(curves) = picture_curves(alloc, sizes, timing)? {
+            return Ok(curves);
+        }
+    }
     let uses = sum_slot_uses(alloc, sizes, timing, slots as usize)?;
     if let Some(fault) = buffer_fault(&uses.in_slot, timing.buffer) {
         return Err(CurveRefused::Fault(fault));
     }
     Ok(curves_of_uses(alloc, timing, uses)?)
+}
+
+/// The curves of pictures of which each is used in a slot of its own, the next one after the
+/// picture before. None where a picture is larger than the buffer.
+///
+/// It makes both curves in one pass, without the list of what each slot uses.
+fn picture_curves(
+    alloc: Global,
+    sizes: &[u64],
+    timing: &Timing,
+) -> Result<Option<Curves>, AllocError>
+    requires limits { IsWithinLimits sizes.now timing.now }
+    requires own_slots { timing.now.picture_units ≡ timing.now.slot_units }
+    requires some_picture { 0 < length sizes.now }
+    ensures curves { IfOk result (λ found.
+        IfSome found (AreFilmCurves sizes.now timing.now)) }
+    ensures fits { IfOk result (λ found.
+        IfSome found (λ _. All (λ size. size ≤ timing.now.buffer) sizes.now)) }
+{
+    let slots = timing.delay as usize + sizes.len();
+    let total = sum_sizes(timing.played, sizes);
+    let mut low = Vec::with_capacity(alloc, slots)?;
+    let mut up = Vec::with_capacity(alloc, slots)?;
+    for _ in 0..timing.delay {
+        low.push(timing.sent)?;
+        up.push(total.min(timing.played + timing.buffer))?;
+    }
+    let mut used = timing.played;
+    for size in sizes {
+        if *size > timing.buffer {
+            return Ok(None);
+        }
+        up.push(total.min(used + timing.buffer))?;
+        used += *size;
+        low.push(timing.sent.max(used))?;
+    }
+    Ok(Some(Curves {
+        from: timing.sent,
+        low,
+        up,
+    }))
+}
+
+/// The bytes used before slot 0 and those of the pictures.
+fn sum_sizes(played: u64, sizes: &[u64]) -> u64
+    requires { played + sum sizes.now ≤ 2 ^ 42 }
+    ensures { result ≡ played + sum sizes.now }
+{
+    let mut total = played;
+    for size in sizes {
+        total += *size;
+    }
+    total
 }
 
 /// What a film's pictures use, slot by slot.

@@ -1,4 +1,4 @@
-//! Laws: what the two curves say of a client that plays its pictures.
+//! Laws: what the two curves mean for a client that plays its pictures.
 
 ghost use Rattle.std.specs.Prelude.{◌≡◌, ℕ, ◌+◌, ◌*◌, ◌<◌, ◌≤◌, ◌↔◌, List, max, min};
 ghost use Rattle.wire_curve.specs.declared.film.Timing.{Timing};

@@ -1,4 +1,4 @@
-use Rattle.std.proofs.Common.{◌≡◌, ◌≤◌, ◌^◌, true, take}
+use Rattle.std.proofs.Common.{◌≡◌, ◌<◌, ◌^◌, true, take}
 use Rattle.std.specs.List.{list_all}
 use Rattle.std.specs.Char.{is_ascii_digit}
 use Rattle.std.specs.Str.Parse.{digits_value}
@@ -8,5 +8,5 @@ abbrev pub invariant-loop-place : goal.invariant-loop-place
 invariant-loop-place l = record {
   value : l.value ≡ digits_value 10 (take l.place l.rest);
   digits : list_all is_ascii_digit (take l.place l.rest) ≡ true;
-  small : l.value ≤ 2 ^ 36;
+  small : l.value < 10 ^ l.place;
 }

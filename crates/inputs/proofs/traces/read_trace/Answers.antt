@@ -1,7 +1,6 @@
-use Rattle.std.proofs.lemmas.Grind.{common_steps}
 use Rattle.std.proofs.Common.{◌≡◌, length, arith, rules, ◌++◌, ◌∷◌, [], ◌-◌, take, drop}
 use Rattle.inputs.proofs.TokenLemmas.{slice_from}
-use Rattle.inputs.proofs.TraceWordLemmas.{TokenBegins, next_read, next_bad}
+use Rattle.inputs.proofs.TraceWordLemmas.{TokenBegins, next_read_past, next_bad}
 use Rattle.inputs.proofs.traces.read_trace.Goals as goal
 
 pub returns-in_default-next_size-clause-refused : goal.returns-in_default-next_size-clause-refused
@@ -23,10 +22,7 @@ loop-from-preserved c =
     let counted : c.len.result ≡ length c.loop-from.sizes.items = omega (arith, c.len.ensures, c.loop-from.sizes.ok) in
     let token : TokenBegins text c.loop-from.at from (take (length text - from) (drop from text)) =
     record { same = place.3; begins = place.2; are = slice_from text from } in
-    let read = next_read c.loop-from.invariant counted token place.1 size.0 size.1 in
+    let read = next_read_past c.loop-from.invariant counted token place.1 size.0 size.1 c.min-at.ensures in
     let pushed : c.push.new.self.items ≡ c.loop-from.sizes.items ++ c.in-Some-next_size.size.value ∷ [] =
     search rules in
     rw pushed read
-
-pub overflow_add-at : goal.overflow_add-at
-overflow_add-at c = grind (arith, common_steps)

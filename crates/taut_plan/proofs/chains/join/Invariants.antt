@@ -8,3 +8,9 @@ invariant-loop-side l = IsOpen l.side (side_of l.curves l.side) l.slot l.apex l.
 
 abbrev pub decreases-loop-side : goal.decreases-loop-side
 decreases-loop-side l = length l.chain
+
+abbrev pub invariant-loop-last : goal.invariant-loop-last
+invariant-loop-last l = IsOpen l.side (side_of l.curves l.side) l.slot l.apex l.chain
+
+abbrev pub decreases-loop-last : goal.decreases-loop-last
+decreases-loop-last l = length l.chain

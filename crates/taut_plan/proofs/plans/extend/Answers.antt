@@ -6,6 +6,7 @@ use Rattle.taut_plan.specs.CurveSides.{lower_of, upper_of, side_of}
 use Rattle.taut_plan.proofs.BandLemmas.{band_of_sound}
 use Rattle.taut_plan.proofs.PointRangeLemmas.{corner_fits, first_fits, point_fits}
 use Rattle.taut_plan.proofs.FunnelLemmas.{chain_beyond, crossing_starts, bends_at, crossing_ends, uncrossed_behind}
+use Rattle.taut_plan.proofs.RiseLemmas.{apex_rises}
 use Rattle.taut_plan.proofs.plans.extend.Goals as goal
 
 pub loop-corner-init : goal.loop-corner-init
@@ -92,3 +93,8 @@ pub returns-then-has_several-clause-beyond : goal.returns-then-has_several-claus
 returns-then-has_several-clause-beyond c =
     chain_beyond c.args.side (side_of c.args.curves.now c.args.side) c.args.slot c.args.path.now.apex c.args.own.now
     c.requires.funnel.own
+
+pub join-requires-clause-rising : goal.join-requires-clause-rising
+join-requires-clause-rising c =
+    let curves = c.args.curves.now in
+    apex_rises c.args.side (lower_of curves) (upper_of curves) c.args.path.now.apex c.requires.path.below

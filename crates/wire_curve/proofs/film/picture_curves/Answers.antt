@@ -1,0 +1,96 @@
+use Rattle.std.proofs.Common.{◌≡◌, ◌+◌, length, get_or, refl, sym, subst, arith, rules, ◌++◌, ◌∷◌, []}
+use Rattle.std.proofs.lemmas.List.Sums.{sum_by_more}
+use Rattle.wire_curve.specs.FilmCurves.{low_at, up_at, used_before}
+use Rattle.wire_curve.proofs.OwnSlotLemmas.{HasOwnSlots, slots_own, used_before-delay, used_before-own}
+use Rattle.wire_curve.proofs.OwnSlotLemmas.{each_pushed, length_pushed, fit_more, all_fit}
+use Rattle.wire_curve.proofs.film.picture_curves.Goals as goal
+
+pub loop-preserved : goal.loop-preserved
+loop-preserved c =
+    let sizes = c.args.sizes.now in
+    let timing = c.args.timing.now in
+    let t = c.loop.counter in
+    let own : HasOwnSlots timing = record { some = c.requires.limits.some_slot_units; same = c.requires.own_slots } in
+    let so_far = c.loop.invariant in
+    let low : c.push.new.self.items ≡ c.loop.low.items ++ timing.sent ∷ [] = search rules in
+    let up : c.push-in-loop.new.self.items ≡ c.loop.up.items ++ c.min.result ∷ [] = search rules in
+    let before = used_before-delay sizes own t (omega (arith, c.loop-test.true)) in
+    let after = used_before-delay sizes own (t + 1) (omega (arith, c.loop-test.true)) in
+    let low_here : timing.sent ≡ low_at sizes timing t = omega (arith, after, c.requires.limits.played_was_sent) in
+    let up_here : c.min.result ≡ up_at sizes timing t = omega (arith, before, c.min.ensures, c.sum_sizes-total.ensures) in
+    record {
+      low_slots = length_pushed _ _ _ _ low so_far.low_slots;
+      up_slots = length_pushed _ _ _ _ up so_far.up_slots;
+      low = each_pushed (low_at sizes timing) _ _ _ _ low so_far.low_slots so_far.low low_here;
+      up = each_pushed (up_at sizes timing) _ _ _ _ up so_far.up_slots so_far.up up_here;
+    }
+
+pub loop-size-init : goal.loop-size-init
+loop-size-init c =
+    let sizes = c.args.sizes.now in
+    let timing = c.args.timing.now in
+    let own : HasOwnSlots timing = record { some = c.requires.limits.some_slot_units; same = c.requires.own_slots } in
+    let so_far = c.loop.invariant in
+    let at_end : c.loop.counter ≡ timing.delay = omega (arith, c.loop-test.false, c.loop.auto.counter-end) in
+    let before = used_before-delay sizes own (timing.delay + 0) (omega arith) in
+    record {
+      used = sym before;
+      small = omega arith;
+      fit = λ k lt. absurd (omega (arith, lt));
+      low_slots = omega (arith, so_far.low_slots, at_end);
+      up_slots = omega (arith, so_far.up_slots, at_end);
+      low = λ t lt. so_far.low t (omega (arith, lt, at_end));
+      up = λ t lt. so_far.up t (omega (arith, lt, at_end));
+    }
+
+pub loop-size-preserved : goal.loop-size-preserved
+loop-size-preserved c =
+    let sizes = c.args.sizes.now in
+    let timing = c.args.timing.now in
+    let k = c.loop-size.size-index in
+    let own : HasOwnSlots timing = record { some = c.requires.limits.some_slot_units; same = c.requires.own_slots } in
+    let so_far = c.loop-size.invariant in
+    let inside = c.loop-size-test.true in
+    let low : c.push-in-loop-size-2.new.self.items ≡ c.loop-size.low.items ++ c.max.result ∷ [] = search rules in
+    let up : c.push-in-loop-size.new.self.items ≡ c.loop-size.up.items ++ c.min-in-loop-size.result ∷ [] = search rules in
+    let grown = used_before-own sizes own k inside in
+    let next : used_before sizes timing (timing.delay + (k + 1))
+    ≡ used_before sizes timing (timing.delay + k) + get_or sizes k 0 =
+    subst (λ t. used_before sizes timing t ≡ used_before sizes timing (timing.delay + k) + get_or sizes k 0)
+    (omega arith) grown in
+    let more = sum_by_more (λ x. x) sizes k 0 inside in
+    let low_here : c.max.result ≡ low_at sizes timing (timing.delay + k) =
+    omega (arith, c.max.ensures, so_far.used, grown) in
+    let up_here : c.min-in-loop-size.result ≡ up_at sizes timing (timing.delay + k) =
+    omega (arith, c.min-in-loop-size.ensures, so_far.used, c.sum_sizes-total.ensures) in
+    record {
+      used = omega (arith, so_far.used, next);
+      small = omega (arith, so_far.small, more);
+      fit = fit_more sizes timing.buffer k so_far.fit (omega (arith, c.if-size-timing.false));
+      low_slots = omega (arith, length_pushed _ _ _ _ low so_far.low_slots);
+      up_slots = omega (arith, length_pushed _ _ _ _ up so_far.up_slots);
+      low = λ t lt. each_pushed (low_at sizes timing) _ _ _ _ low so_far.low_slots so_far.low low_here t (omega (arith, lt));
+      up = λ t lt. each_pushed (up_at sizes timing) _ _ _ _ up so_far.up_slots so_far.up up_here t (omega (arith, lt));
+    }
+
+pub returns-clause-curves : goal.returns-clause-curves
+returns-clause-curves c =
+    let sizes = c.args.sizes.now in
+    let timing = c.args.timing.now in
+    let own : HasOwnSlots timing = record { some = c.requires.limits.some_slot_units; same = c.requires.own_slots } in
+    let so_far = c.loop-size.invariant in
+    let at_end : c.loop-size.size-index ≡ length sizes = omega (arith, c.loop-size-test.false, c.loop-size.auto.size-index-end) in
+    let slots = slots_own sizes own c.requires.some_picture in
+    record {
+      from_is = refl;
+      low_slots = omega (arith, so_far.low_slots, at_end, slots);
+      up_slots = omega (arith, so_far.up_slots, at_end, slots);
+      low_is = λ t lt. so_far.low t (omega (arith, lt, at_end, slots));
+      up_is = λ t lt. so_far.up t (omega (arith, lt, at_end, slots));
+    }
+
+pub returns-clause-fits : goal.returns-clause-fits
+returns-clause-fits c =
+    let sizes = c.args.sizes.now in
+    let at_end : length sizes ≡ c.loop-size.size-index = omega (arith, c.loop-size-test.false, c.loop-size.auto.size-index-end) in
+    all_fit sizes c.args.timing.now.buffer c.loop-size.size-index at_end c.loop-size.invariant.fit
