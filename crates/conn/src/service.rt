@@ -16,7 +16,7 @@ use crate::connections::Connection;
 use crate::film_laws::law_all_films_are_traces;
 use crate::reports::{ConnEnd, ConnReport};
 use film_frames::Stored;
-use session::{Notes, Settings};
+use session::{Notes, Receipt, Settings};
 use station::{Seat, Station};
 use std::alloc::Global;
 use std::sync::Wait;
@@ -66,12 +66,12 @@ pub fn serve_connection<R: Wait, K: Link>(
             late: 0,
             offers: Vec::new(alloc),
         };
-        return report_of(worker, words, ConnEnd::NoMemory, none);
+        return report_of(alloc, worker, words, ConnEnd::NoMemory, none);
     };
     let end = hear_all(rt, station, seat, link, &mut connection);
     connection.close(rt, station, seat);
     seat.holds();
-    report_of(worker, words, end, connection.notes())
+    report_of(alloc, worker, words, end, connection.notes())
 }
 
 /// Hears events until one of them ends the connection.
@@ -106,7 +106,7 @@ fn hear_all<R: Wait, K: Link>(
 }
 
 /// The report of a connection, whose lists keep no more memory than they need.
-fn report_of(worker: u32, words: [u32; 5], end: ConnEnd, notes: Notes) -> ConnReport
+fn report_of(alloc: Global, worker: u32, words: [u32; 5], end: ConnEnd, notes: Notes) -> ConnReport
     ensures worker { result.worker ≡ worker }
     ensures words { result.words ≡ words }
     ensures end { result.end ≡ end }
@@ -116,12 +116,12 @@ fn report_of(worker: u32, words: [u32; 5], end: ConnEnd, notes: Notes) -> ConnRe
     ensures offers { result.offers.items ≡ notes.offers.items }
 {
     let Notes {
-        mut receipts,
+        receipts,
         mut plays,
         late,
         mut offers,
     } = notes;
-    receipts.shrink_to_fit();
+    let receipts = in_own_memory(alloc, receipts);
     plays.shrink_to_fit();
     offers.shrink_to_fit();
     ConnReport {
@@ -132,5 +132,20 @@ fn report_of(worker: u32, words: [u32; 5], end: ConnEnd, notes: Notes) -> ConnRe
         plays,
         late,
         offers,
+    }
+}
+
+/// The receipts, in memory of just their length. Shrunk in place they would split the large room
+/// that a connection reserves, and the next connection would need new pages for its own. Where
+/// there is no memory for a copy, they are shrunk all the same.
+fn in_own_memory(alloc: Global, mut receipts: Vec<Receipt>) -> Vec<Receipt>
+    ensures { result.items ≡ receipts.items }
+{
+    match Vec::from_slice(alloc, receipts.as_slice()) {
+        Ok(copy) => copy,
+        Err(_) => {
+            receipts.shrink_to_fit();
+            receipts
+        }
     }
 }
