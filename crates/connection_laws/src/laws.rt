@@ -134,8 +134,8 @@ pub fn law_requests_processed_in_order()
     ensures { (beginning : Beginning) (cutting : InputSplit beginning) → AreTaken beginning cutting }
 {}
 
-/// A connection's course is one of those of which the laws on cuttings speak, with the last event
-/// where an element ended it, and so is each prefix of it.
+/// The laws on how input is split apply to a connection's course, with the last event where an
+/// element ended it, and to each prefix of it.
 pub fn law_courses_are_input_splits()
     ensures all { (old new : Stage) (rounds : List Round) → RunsAll old rounds new
         → TakesUp old rounds new }

@@ -34,7 +34,7 @@ pub struct Playback {
 }
 
 /// The plan by which a run is sent on: the taut one between the curves of the units that weren't
-/// played. It sends all bytes of the run that weren't sent, and no plan that keeps between the
+/// played. It sends all bytes of the run that weren't sent, and no plan that stays between the
 /// curves sends less above any rate.
 ///
 /// It takes time and memory in the units and slots that are still to be played, whatever stands

@@ -27,7 +27,7 @@ pub struct Stepped {
 #[derive(Drop)]
 pub struct Pacer<T: Track> {
     track: T,
-    /// The bytes of the whole track.
+    /// The bytes of the entire track.
     total: u64,
     /// The place in the track of the plan's first byte.
     before: u64,
@@ -91,7 +91,7 @@ impl<T: Track> Pacer<T> {
         ensures { result ≡ new_pacer_state (T.pieces track) sent_before plan start }
     {
         let total = track.total();
-        // Its clause is what holds of every plan.
+        // The contract of this call exposes what is true for every plan.
         let _segments = plan.segments();
         Pacer {
             track,

@@ -28,7 +28,7 @@ pub struct Request<'a> {
     pub url: &'a [u8],
     /// The number of its CSeq.
     pub sequence: u64,
-    /// Its whole head: the request line, the header lines and the empty line, with their ends.
+    /// Its entire head: the request line, the header lines and the empty line, with their ends.
     pub head: &'a [u8],
     /// Its body.
     pub body: &'a [u8],
@@ -106,11 +106,15 @@ pub fn sequence_of(message: &[u8]) -> Option<u64>
     fields::first_sequence(message)
 }
 
-/// Reads a whole request, head and body, as [`interleave::Demux`] cuts it from a connection's
-/// bytes.
+/// Reads a complete request, head and body, as [`interleave::Demux`] splits it off a connection's
+/// bytes (RFC 2326 section 6).
 ///
 /// Ok exactly where the message is a request of RTSP 1.0, with its parts; each fault exactly where
 /// its cause holds and none before it in [`RequestFault`].
+///
+/// # Errors
+///
+/// The first [`RequestFault`] that applies, in the order of its variants.
 pub fn read_request(message: &[u8]) -> Result<Request<'_>, RequestFault>
     requires { IsMessageLength message.now (length message.now) }
     ensures read { IfOk result (λ r.
@@ -153,8 +157,8 @@ fn has_length(message: &[u8]) -> bool
     }
 }
 
-/// Reads a whole request. What else [`read_request`] ensures follows from these two clauses, and so
-/// is proved there once, and not at each return here.
+/// Reads a complete request. What else [`read_request`] ensures follows from these two clauses, and
+/// so is proved there once, and not at each return here.
 fn read_parts(message: &[u8]) -> Result<Request<'_>, RequestFault>
     requires { IsMessageLength message.now (length message.now) }
     ensures read { IfOk result (λ r.

@@ -92,7 +92,8 @@ pub(crate) fn overflow_in(
     None
 }
 
-/// The bytes of the segment's first `count` slots, in the calendar's words.
+/// The bytes of the segment's first `count` slots, with the contract that the calendar's
+/// definitions need.
 fn sent_through(segment: Segment, count: u64) -> u64
     requires plan { IsPlan (segment ∷ []) }
     requires within { count ≤ segment.slots }

@@ -65,7 +65,7 @@ impl WriteBuffer {
         }
     }
 
-    /// Drops the first `count` waiting bytes. Once none waits the front of the buffer is used
+    /// Drops the first `count` waiting bytes. Once no byte waits, the start of the buffer is used
     /// again, so that no more of its memory is touched than waited at once.
     pub(crate) fn drop_front(&mut self, count: usize)
         requires { count ≤ length self.old }

@@ -565,6 +565,10 @@ impl<S: Socket> SocketLink<S> {
     /// down; and what the peer still sends is read and dropped until it ends, for 1 s at most. A
     /// socket that is closed with bytes unread is reset, and a last reply that is on its way is
     /// lost.
+    ///
+    /// # Errors
+    ///
+    /// [`LinkFault`] where a call of the socket failed, or the peer took nothing for 60 s.
     pub fn close(&mut self) -> Result<(), LinkFault>
         ensures count { S.faults self.old.socket ≤ S.faults self.new.socket }
         ensures served { OnOk result (IsTrue S.tells →

@@ -64,7 +64,7 @@ pub trait Socket {
 
     ghost did: { Self → List SocketCall };
 
-    /// Reads what came. The bytes stand in front of `into`.
+    /// Reads the bytes that arrived to the start of `into`.
     ///
     /// # Errors
     ///

@@ -1,4 +1,4 @@
-//! How a seat takes the turn, and gives it back.
+//! How a pass waits for the lock and takes it.
 
 ghost use Rattle.std.specs.Prelude.{◌≡◌, ◌%◌, ◌^◌, ◌<◌, ◌++◌, [], ◌∷◌, Some, None, true, false};
 ghost use Rattle.turnstile.specs.TableSeats.{IsFree, IsSame, IsSeated};
@@ -19,7 +19,7 @@ use std::sync::Wait;
 /// How often the pass that is next looks before it sleeps.
 const SPINS: u32 = 64;
 
-/// Draws a ticket, waits for its turn and takes the value.
+/// Draws a ticket, waits until it is served and takes the value.
 pub(crate) fn take<B: Kept, R: Wait>(
     rt: &R,
     shared: &SharedTable<B>,
@@ -42,8 +42,8 @@ pub(crate) fn take<B: Kept, R: Wait>(
     Turn::begin(place, value)
 }
 
-/// Waits until it is the turn of the ticket, asleep at its bell. The pass that is next stays awake
-/// for a short time; one that has others before it sleeps at once, since one of them may need the
+/// Waits until the ticket is served, asleep at its bell. The pass that is next stays awake for a
+/// short time; one that has others before it sleeps at once, since one of them may need the
 /// processor that it runs on.
 fn wait<B: Kept, R: Wait>(
     rt: &R,
