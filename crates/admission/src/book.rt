@@ -106,6 +106,8 @@ impl Book {
         ensures left { OnErr result (self.new ≡ self.old) }
     {
         let full = self.counts();
+        // Each open play has a free place for its halt's entry. A new play needs two: its own entry
+        // and its halt's.
         if full.entries + full.live + 2 > self.limit {
             return Err(PlayFull { plan, full });
         }

@@ -154,7 +154,7 @@ impl<'a> Connection<'a> {
         Ok(())
     }
 
-    /// Processes what waits, and answers how it ended the connection, if it did.
+    /// Processes what waits, and returns how it ended the connection, if it did.
     #[tactic(auto, using(crate::proofs::SharedLemmas::count_steps))]
     fn process_input<R: Wait, K: Link>(
         &mut self,

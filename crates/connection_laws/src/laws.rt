@@ -101,8 +101,8 @@ pub fn law_plays_match_journal_entries()
 {}
 
 /// All bytes that a connection sent are the film bytes that it wrote, with the replies among them:
-/// replies in the order of their requests, each once, but for the last one as long as it waits (RFC
-/// 2326 section 10.12).
+/// replies in the order of their requests, each once, except the last one while it waits (RFC 2326
+/// section 10.12).
 pub fn law_replies_between_packets()
     ensures woven { (course : Course)
         → rounds_bytes course.rounds ≡ insert_texts 0 (course_film course) (course_texts course) }

@@ -163,7 +163,7 @@ fn block_step(bytes: &[u8]) -> Step
     }
 }
 
-/// Makes room for more bytes, and answers where those that wait begin now.
+/// Makes room for more bytes, and returns where those that wait begin now.
 fn make_room(bytes: &mut Vec<u8>, start: usize, more: usize) -> usize
     requires start { start ≤ length bytes.old.items }
     requires most { length bytes.old.items ≤ MAX_WAITING_BYTES }
@@ -176,6 +176,7 @@ fn make_room(bytes: &mut Vec<u8>, start: usize, more: usize) -> usize
     if more <= MAX_WAITING_BYTES - bytes.len() {
         return start;
     }
+    // moved only when the end of the buffer is reached, not after each element
     move_to_front(bytes, start);
     0
 }

@@ -16,7 +16,7 @@ use vod_base::NoMemory;
 ///
 /// # Errors
 ///
-/// [`NoMemory`] ends the scan, which answers [`ScanRefused::NoMemory`](crate::ScanRefused).
+/// [`NoMemory`] ends the scan, which returns [`ScanRefused::NoMemory`](crate::ScanRefused).
 pub trait Found {
     ghost heard: { Self → List Call → Type 0 };
 

@@ -117,6 +117,7 @@ impl<T: Track> Pacer<T> {
         let number = slot - self.start;
         let reached = self.cursor.sum_at(number).min(self.keep);
         self.last = later_of(self.last, number);
+        // a slot that comes late, or again, never takes back what is due
         self.due = self.due.max(reached);
     }
 
@@ -138,6 +139,7 @@ impl<T: Track> Pacer<T> {
         ensures most { result ≤ self.now.due }
     {
         if stop {
+            // a reply waits, and may only stand between two packets (RFC 2326 section 10.12)
             self.due.min(self.next_boundary())
         } else {
             self.due
@@ -188,7 +190,7 @@ impl<T: Track> Pacer<T> {
         }
     }
 
-    /// Halts at the first boundary at or after what was sent, and answers it. Nothing past it ever
+    /// Halts at the first boundary at or after what was sent, and returns it. Nothing past it ever
     /// becomes due.
     pub fn ask_halt(&mut self) -> u64
         requires { self.old.due ≡ self.old.sent }
@@ -199,6 +201,7 @@ impl<T: Track> Pacer<T> {
         ensures pacing { IsPacerState self.new }
         ensures most { result ≤ self.old.keep }
     {
+        // a packet that is partly sent goes out to its end, or its bytes couldn't be read as one
         self.keep = self.next_boundary();
         self.keep
     }

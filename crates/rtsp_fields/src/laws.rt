@@ -33,7 +33,7 @@ pub fn law_channels_are_unique()
         IsTransport value other → one ≡ other }
 {}
 
-/// The URLs that a request line may have (RFC 2326 section 6.1), but for `*`, are those that
+/// The URLs that a request line may have (RFC 2326 section 6.1), except `*`, are those that
 /// [`crate::read_url`] reads.
 pub fn law_every_request_url_is_read()
     ensures { (url : List ℕ) →

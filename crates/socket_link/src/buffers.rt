@@ -49,7 +49,7 @@ impl WriteBuffer {
         &self.bytes[self.start..]
     }
 
-    /// Appends as many of the bytes as there is room for, and answers how many.
+    /// Appends as many of the bytes as there is room for, and returns how many.
     pub(crate) fn put(&mut self, bytes: &[u8]) -> usize
         ensures count { result ≡ min (length bytes.now) (ROOM - length self.old) }
         ensures waiting { self.new ≡ self.old ++ take result bytes.now }

@@ -38,6 +38,7 @@ pub(crate) fn take<B: Kept, R: Wait>(
     let ticket = draw(shared, &mut place);
     wait(rt, shared, wakers.waker_of(ticket), &mut place, ticket);
     let slot = shared.exchange(&mut place, VALUE, None);
+    // by the invariant the value is in the slot until the pass whose ticket is served takes it
     let Some(value) = slot else { unreachable!() };
     Turn::begin(place, value)
 }
@@ -75,6 +76,7 @@ fn wait<B: Kept, R: Wait>(
                 key.wait(rt);
                 0
             }
+            // next in line: the lock is likely to be free before a sleep and a wake are over
             None if serving.wrapping_add(1) == ticket => {
                 hint::spin_loop();
                 (tries + 1).min(SPINS)

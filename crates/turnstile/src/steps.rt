@@ -66,6 +66,7 @@ pub(crate) fn draw<B: Kept>(shared: &SharedTable<B>, place: &mut Place<B>) -> u6
     ensures same { IsSame place.old place.new }
     ensures drew { HasDrawn place.old.me result place.new.me }
 {
+    // one atomic step, so each caller has a ticket of its own and the tickets fix their order
     shared.fetch_add::<Draws>(place, TICKETS, 1)
 }
 
@@ -113,6 +114,7 @@ pub(crate) fn read_view<B: Kept>(shared: &SharedTable<B>, place: &mut Place<B>)
     ensures same { IsSame place.old place.new }
     ensures told { (place.new.me ≡ place.old.me) × Knows place.old.me.0 }
 {
+    // any access exposes the invariant; the number that it reads isn't needed
     shared.load::<Reads>(place, TICKETS);
 }
 

@@ -76,10 +76,12 @@ impl<B: Kept> Turn<B> {
             before,
         } = self;
         let grown = value.count() != before;
+        // The value goes back before the next ticket is served: that pass takes it at once.
         let empty = shared.exchange(&mut seat, VALUE, Some(value));
         let None = empty else { unreachable!() };
         count_if_grown(shared, &mut seat, grown);
         let served = give_back(shared, &mut seat);
+        // Tickets that share this bell wake too. They see that they aren't served, and sleep again.
         wakers.waker_of(served.wrapping_add(1)).notify_all();
         seat
     }

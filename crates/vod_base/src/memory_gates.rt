@@ -158,7 +158,7 @@ impl MemoryGate {
         }
     }
 
-    /// Counts a call, and answers whether it fails.
+    /// Counts a call, and returns whether it fails.
     fn call(&mut self) -> bool
         ensures fails { result ≡ call_fails self.old.failing self.old.calls }
         ensures called { self.new ≡

@@ -106,7 +106,7 @@ fn write_watched<E: Sink>(err: &mut E, watched: Watched) -> Result<(), SinkFault
     err.write_all(b"\n")
 }
 
-/// Watches over the first connection of a part, or answers None where it gives none.
+/// Watches over the first connection of a part, or returns None where it gives none.
 fn watch_part<O: Sink, G: Gate>(
     alloc: Global,
     out: &mut O,

@@ -35,7 +35,7 @@ fn block_of(number: u32) -> [u8; 16_384] {
     bytes
 }
 
-/// Sends the blocks; answers whether all were sent.
+/// Sends the blocks; returns whether all were sent.
 fn send_blocks<K: Link>(link: &mut K) -> bool {
     for number in 0..BLOCKS {
         if link.send(&block_of(number)).is_err() {
@@ -143,7 +143,7 @@ fn gives_up_a_peer_that_takes_nothing(rt: HostRuntime) -> Result<(), Fail> {
     Ok(())
 }
 
-/// Sends for a while, and then reads to the end; answers whether these bytes came.
+/// Sends for a while, and then reads to the end; returns whether these bytes came.
 fn send_and_read<R: Clock>(rt: &R, client: &mut TcpStream, want: &[u8; 4]) -> bool {
     for _ in 0..20 {
         if client.write_all(&[b' '; 1_000]).is_err() {

@@ -154,7 +154,7 @@ impl Stage {
         Ok(())
     }
 
-    /// Processes a line on the objects of the next run; answers whether it is one.
+    /// Processes a line on the objects of the next run; returns whether it is one.
     fn set<R: Abort>(
         &mut self,
         rt: &R,
@@ -238,8 +238,8 @@ impl Stage {
 /// of the error stream, `out TEXT`, `err TEXT` and `is NAME` an entire text, `has TEXT` a part of
 /// the output, `ends STATUS` its status, `counts REPORTS ENTRIES`, `says REPLY`, `sends WORDS` and
 /// `plays NAME` what its first link sent next, and `said LINKS TEXT` how many links sent a text.
-/// `keeps NAME` makes a file of the output. What no line reads is to be empty, but for the rest of
-/// the output after `has`, and of what links sent after `said`.
+/// `keeps NAME` makes a file of the output. What no line reads is to be empty, except the rest of
+/// the output after `has`, and the rest of what links sent after `said`.
 fn play_out<R: Threads + Wait + Sync + Abort>(
     rt: &R,
     alloc: Global,
