@@ -89,7 +89,7 @@ IsInvalidMethod Pause old = is_playing_in old.state ≡ false
 IsInvalidMethod Teardown old = ⊥
 IsInvalidMethod GetParameter old = ⊥
 
--- a run of a whole film: from the time 0 to the film's end
+-- a run of an entire film: from the time 0 to the film's end
 pub record IsWholeFilm (film : Film) (run : Run) : Type 0 where
   pub begins : run.first_unit * picture_time film.rate ≡ 0
   pub ends : run.end_unit ≡ length film.units.items

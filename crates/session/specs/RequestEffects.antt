@@ -96,7 +96,8 @@ pub record IsNoRefusal (text : List ℕ) : Type 0 where
   pub no_overflow : ¬ HasCode 453 text
   pub not_full : ¬ HasCode 503 text
 
--- so it is of a reply of the session's own, of one to a halt, and of the front of one to a play
+-- so it is of a reply of the session's own, of one to a halt, and of the first part of one to a
+-- play
 abbrev pub RefusesNone : Ask → SessionState → Type 0
 RefusesNone Reply new = IsNoRefusal new.text
 RefusesNone (AskPlay plan) new = (rest : List ℕ) → IsNoRefusal (new.text ++ rest)

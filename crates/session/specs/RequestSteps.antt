@@ -94,7 +94,7 @@ counts_of (Halt keep next) counts = counts
 counts_of (Look sequence) counts = counts
 counts_of (Offer sequence) counts = counts
 
--- a reply's front, ended by the slots from the heard one to the play's start
+-- a reply's first part, ended by the slots from the last one received to the play's start
 abbrev pub started_text : List ℕ → ℕ → List ℕ
 started_text front slots =
     front ++ field_line (field (codes "x-Start") (decimal slots)) ++ codes "\r\n"

@@ -74,8 +74,8 @@ IsFilmError serving store store' =
     IsReadError (Contains serving.films) (IsFirstRefused serving.films) store.told store.faults
     store'.faults
 
--- what keeps a server from its work: a film that is refused, or the library, and then the gate is
--- as it was; want of memory; or the gate, which counted a fault. No part of the gate gave a
+-- what prevents a server from its work: a film that is refused, or the library, and then the gate
+-- is as it was; out of memory; or the gate, which counted a fault. No part of the gate gave a
 -- connection
 abbrev pub IsServeError : ServeArgs → IoState (List File) → IoState (List File) → WorkerGate →
     WorkerGate →
@@ -99,9 +99,9 @@ IsNewlyOpen opening told =
 abbrev pub IsWordNamed : List ℕ → List ℕ → Type 0
 IsWordNamed word name = setting_value (codes "film") word ≡ Some name
 
--- the text was written whole and each part of the gate gave all its connections; or what went
--- wrong: want of memory left a front of it; where no worker lacked memory a fault of the output,
--- which was counted, left a front of it; else a part of the gate failed
+-- the text was written completely and each part of the gate gave all its connections; or what went
+-- wrong: out of memory left a prefix of it; where no worker ran out of memory a fault of the
+-- output, which was counted, left a prefix of it; else a part of the gate failed
 abbrev pub IsPrinted : IoState (List ℕ) → IoState (List ℕ) → List ℕ → PartEnd →
     Result (Unit {0}) CliError → Type 0
 IsPrinted out out' text end (Ok done) =
