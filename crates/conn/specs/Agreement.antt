@@ -36,7 +36,7 @@ abbrev pub doings_outcomes : Activity → List Outcome
 doings_outcomes doings =
     (rounds_outcomes doings.rounds ++ ending_outcomes doings.ending) ++ doings.halt ∷ []
 
--- a connection with these films, settings and words did this, and its report says so
+-- a connection with these films, settings and random words did this, and its report says so
 pub record HasDone (films : List Stored) (settings : Settings) (words : List ℕ) (doings : Activity)
     (report : ConnReport) : Type 0 where
   pub mid : Stage

@@ -41,7 +41,7 @@ IsServed None new count = new ≡ None
 IsServed (Some old) None count = ⊥
 IsServed (Some old) (Some new) count = Served old new count
 
--- each report has the worker's number and the words of its connection
+-- each report has the worker's number and the random words of its connection
 pub record AreOf (seed : List ℕ) (worker : ℕ) (reports : List ConnReport) : Type 0 where
   pub worker_is : (k : ℕ) (none : ConnReport) → k < length reports →
       (slice_index_or reports k none).worker ≡ worker

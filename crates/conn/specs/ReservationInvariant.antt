@@ -93,8 +93,8 @@ pub record IsQuiet (mine : List PlacedEntry) (connection : Connection) : Type 0 
   pub rest : AwaitsNoAnswer connection.session
   pub held : IsHeld mine connection.booking (open_of connection.session)
 
--- what a call leaves of a seat and of the connection for which it sits: the seat stays as it was
--- but for the entries that it made, which the receipts record, and the booking is held
+-- what a call leaves of a seat and of the connection for which it sits: the seat stays as it was,
+-- except the entries that it made, which the receipts record, and the booking is held
 pub record KeepsReservations (old new : SeatState) (before after : Connection) : Type 0 where
   pub seat : IsSameSeat old new
   pub quiet : IsQuiet new.mine after

@@ -1,4 +1,4 @@
--- A connection's course as whole lists: what it received, what it asked the station, and the
+-- A connection's course as complete lists: what it received, what it asked the station, and the
 -- greatest slot.
 use Rattle.std.specs.Prelude.{ℕ, ◌≡◌, ◌^◌, if◌then◌else◌, max, nat_le, List, [], ◌∷◌, ◌++◌}
 use Rattle.vod_base.specs.Links.{IoEvent, HeardBytes, HeardEnd, HeardSlot, Sent}

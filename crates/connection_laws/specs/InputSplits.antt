@@ -57,7 +57,7 @@ pub record HeardRequest : Type 0 where
   pub ask : Ask
   pub asking : SessionState
 
--- memory was wanting for it: it is answered 500
+-- memory ran out for it: it is answered 500
 abbrev pub RanOutOfMemory : HeardRequest → Type 0
 RanOutOfMemory h = IsOutOfMemory h.session h.message h.ask h.asking
 
@@ -81,7 +81,7 @@ heard_requests_in old (round ∷ rounds) new takes =
     heard_requests_taken takes.1.0.opened round.takings takes.0 takes.1.0.takes
     ++ heard_requests_in takes.0 rounds new takes.1.2
 
--- as far as both go the station's answers are the same, and memory is wanting for the same requests
+-- as far as both go the station's answers are the same, and memory ran out for the same requests
 abbrev pub AreSameAnswers : List Outcome → List Outcome → Type 0
 AreSameAnswers [] others = ⊤
 AreSameAnswers (answer ∷ answers) [] = ⊤

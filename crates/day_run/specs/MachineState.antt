@@ -50,14 +50,14 @@ day_state_of r = record {
   heard = r.heard;
 }
 
--- the text of what is exposed to a client, by the entries
+-- the text of what a client is answered, by the entries
 abbrev pub reply_text : List Entry → LineAnswer → List ℕ
 reply_text entries (tolds.Entry place) = journal_text place (drop place entries)
 reply_text entries (tolds.Full full) = full_text full
 reply_text entries tolds.State = state_text
 reply_text entries (tolds.Fault fault) = fault_text fault
 
--- a fact of the lines of an offer, or of the curves' fault; of none where memory is wanting
+-- a fact of the lines of an offer, or of the curves' fault; of none where memory ran out
 abbrev pub IfSaid : Result Offers CurveRefused → (List ℕ → Type 0) → Type 0
 IfSaid (Ok found) Is = Is (offer_text found)
 IfSaid (Err (Fault fault)) Is = Is (fault_text fault)

@@ -43,7 +43,7 @@ pub struct Playback {
 /// # Errors
 ///
 /// [`CurveRefused`] with the fault exactly where the curves have one, which is never that there are
-/// no pictures; or where memory is wanting.
+/// no pictures; or where memory ran out.
 pub fn plan_of<U: Units>(
     alloc: Global,
     units: &U,

@@ -18,7 +18,7 @@ abbrev pub StartsMessage : List ℕ → Type 0
 StartsMessage bytes = (0 < length bytes) × (is_line_end (slice_index bytes 0) ≡ false)
     × ((slice_index bytes 0 == 36) ≡ false)
 
--- all bytes CR and LF in front are these `n`
+-- the bytes CR and LF at the start are these `n`
 pub record AreLineEnds (bytes : List ℕ) (n : ℕ) : Type 0 where
   pub within : n ≤ length bytes
   pub line_ends : (k : ℕ) → k < n → is_line_end (slice_index bytes k) ≡ true

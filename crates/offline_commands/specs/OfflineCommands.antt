@@ -1,4 +1,4 @@
--- What carrying out the words gives, as a library holds its files.
+-- What carrying out the arguments gives, as a library holds its files.
 use Rattle.std.specs.List.{Contains}
 use Rattle.std.specs.Prelude.{◌≡◌, ◌⊎◌, ℕ, List, Option, Some, None, codes}
 use Rattle.vod_base.specs.IoState.{File}

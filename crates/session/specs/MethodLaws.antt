@@ -1,4 +1,4 @@
--- What each method does for a request that nothing refuses, and how it refuses one, in the words of
+-- What each method does for a request that nothing refuses, and how it refuses one, in the terms of
 -- RFC 2326 sections 10 and 12.
 use Rattle.std.specs.Prelude.{ℕ, ◌≡◌, ◌≢◌, ◌≤◌, ◌-◌, ◌^◌, ◌⊎◌, List, [], Option, Some, None}
 use Rattle.std.specs.Prelude.{codes, string_bytes}

@@ -168,7 +168,7 @@ play_call sequence authority setup = record {
   setup = setup;
 }
 
--- where memory is wanting for what the play leaves for the report, the request is refused
+-- where memory ran out for what the play leaves for the report, the request is refused
 abbrev pub AsksPlayOr : SessionState → PlayCall → Result Planned Refusal → Ask → SessionState → Type
     0
 AsksPlayOr old call (Ok planned) ask new =

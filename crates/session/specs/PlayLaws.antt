@@ -1,4 +1,4 @@
--- A play from its request to its note, in the words of RFC 2326 and RFC 3550.
+-- A play from its request to its note, in the terms of RFC 2326 and RFC 3550.
 use Rattle.std.specs.Prelude.{ℕ, ◌≡◌, ◌+◌, ◌≤◌, ◌&&◌, ◌++◌, nat_le, nat_lt}
 use Rattle.std.specs.Prelude.{if◌then◌else◌, List, [], ◌∷◌, Some, codes, sum_by}
 use Rattle.std.specs.List.{range_with_len}

@@ -1,4 +1,4 @@
--- The refusals that all methods share, in RFC 2326's words and in their order, and what a PLAY
+-- The refusals that all methods share, in the terms of RFC 2326 and in their order, and what a PLAY
 -- without a Range plays.
 use Rattle.std.specs.Prelude.{ℕ, ◌≡◌, ◌≢◌, ◌*◌, ◌⊎◌, ⊤, true, false, Bool, List, [], Option, Some}
 use Rattle.std.specs.Prelude.{None}

@@ -125,11 +125,11 @@ pub record CanBePlayed (old : SessionState) (message : List ℕ) : Type 0 where
       request.body.now
       → IsGoodPlay old setup paused request
 
--- memory is wanting for it: the reply is 500
+-- memory ran out for it: the reply is 500
 pub record LacksMemory (old : SessionState) (ask : Ask) (new : SessionState) : Type 0 where
   pub sequence : ℕ
   pub refused : IsRefused old (Some sequence) Memory [] ask new
 
--- the station is asked for the play, or memory is wanting
+-- the station is asked for the play, or memory ran out
 abbrev pub AsksOrLacks : SessionState → Ask → SessionState → Type 0
 AsksOrLacks old ask new = IsPlayAskedFor old ask new ⊎ LacksMemory old ask new

@@ -33,9 +33,9 @@ use Rattle.film_frames.specs.declared.stored_films.Stored.{Stored}
 use Rattle.session.specs.SlotSteps.{admitted_in, halted_in, halted_notes, kept_of, next_of}
 use Rattle.session.specs.SessionStates.{SessionState, after_answer, sequence_of}
 
--- a session of a new connection, with the connection's words: two for the session's id, the SSRC,
--- the sequence number of the first frame in 16 bits, and the timestamp of the film's beginning (RFC
--- 3550 section 5.1)
+-- a session of a new connection, with the connection's random words: two for the session's id, the
+-- SSRC, the sequence number of the first frame in 16 bits, and the timestamp of the film's
+-- beginning (RFC 3550 section 5.1)
 abbrev pub source_of : List ℕ → StreamSource
 source_of words = record {
   ssrc = slice_index words 2;

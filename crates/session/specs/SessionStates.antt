@@ -1,4 +1,4 @@
--- What contracts see of a session, and the words in which its callers speak of it.
+-- What contracts see of a session, and the terms that its callers need.
 use Rattle.std.specs.Prelude.{ℕ, ◌≡◌, ◌≤◌, ◌^◌, ◌&&◌, ◌++◌, ◌∷◌, Bool, true, false, if◌then◌else◌}
 use Rattle.std.specs.Prelude.{nat_lt, nat_le, List, [], Option, Some, None, ⊤}
 use Rattle.plan_cert.specs.declared.Segment.{Segment}

@@ -194,11 +194,12 @@ ReportsMatchJournal =
     All (IsReportIn ended.journal.items) ended.reports.items
 
 -- a connection of a worker, the one of that place among those of its part, from 0: its report has
--- the worker's number and the connection's words, it was served as the report says and kept what it
--- promises, under the capacity and the most entries that the arguments say. What its seat, of the
--- number after the worker's own, made up to its end are the first of the journal's entries of that
--- seat, and all that the seat had seen by then is a prefix of the journal. What its link exposed
--- and its report agree with the journal, as the words' capacity and most entries have it
+-- the worker's number and the connection's random words, it was served as the report says and
+-- satisfies what it promises, under the capacity and the most entries that the arguments say. What
+-- its seat, of the number after the worker's own, made up to its end are the first of the journal's
+-- entries of that seat, and all that the seat had seen by then is a prefix of the journal. What its
+-- link exposed and its report agree with the journal, as the words' capacity and most entries have
+-- it
 pub record IsConnectionCorrect (work : ServerRun) (worker place : ℕ) (returned : ReturnedConn)
     (report : ConnReport) : Type 0 where
   pub worker_is : report.worker ≡ worker

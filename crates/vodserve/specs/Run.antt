@@ -1,9 +1,7 @@
--- What a run of the program did: it carried out what the words ask for, or it said what kept it
--- from that. `RunSpec`, at the end, is what `run` promises, and `CommandSpec`, before it, has a
--- definition for
--- each command: `PrintSpec` where a text is printed at the end, `DaySpec`, `FairSpec`, `WatchSpec`
--- and
--- `ServeSpec`. Above them stands what they are made of.
+-- What a run of the program did: it carried out what the arguments ask for, or it printed the error
+-- that prevented that. `RunSpec`, at the end, is what `run` promises, and `CommandSpec`, before it,
+-- has a definition for each command: `PrintSpec` where a text is printed at the end, `DaySpec`,
+-- `FairSpec`, `WatchSpec` and `ServeSpec`. Above them stands what they are made of.
 use Rattle.std.specs.Prelude.{◌≡◌, ℕ, ◌≤◌, ◌<◌, ◌^◌, Bool, List, [], length, Option, Some, None}
 use Rattle.std.specs.Prelude.{Result, Ok, Err, IfSome, ◌⊎◌}
 use Rattle.vod_base.specs.IoState.{File, HasRisen, told_more, IsWrittenPrefix}
@@ -172,7 +170,7 @@ ServeSpec before after seed serving ended =
     ended))
     ⊎ HasServed before after seed serving ended
 
--- words without meaning: the line alone
+-- arguments without meaning: only the error line
 abbrev pub IsUsage : World → World → Ended → Type 0
 IsUsage before after ended =
     (after.store ≡ before.store) × (after.out ≡ before.out) × (after.gate ≡ before.gate)
@@ -219,7 +217,7 @@ DaySpec store store' streams run ended =
     (IsDayRefused run.script) store.told store.faults store'.faults error) ended
     ⊎ HasRunScript store streams run ended
 
--- drawn plays were run; or memory was wanting
+-- drawn plays were run; or memory ran out
 abbrev pub FairSpec : Streams → FairRun → Ended → Type 0
 FairSpec streams run ended =
     IsDayFailed streams (λ error. error ≡ NoMemory) ended
@@ -308,7 +306,7 @@ CommandSpec before after seed (watch_of watching) ended =
     × WatchSpec (streams_of before after) before.gate after.gate watching ended
 CommandSpec before after seed (serve_of serving) ended = ServeSpec before after seed serving ended
 
--- the library is as it was, and what the words ask for was done, if they mean something
+-- the library is as it was, and what the arguments ask for was done, if they mean something
 pub record RunSpec (before after : World) (seed : List ℕ) (asked : Option Invocation) (ended :
     Ended)
     : Type 0 where

@@ -42,7 +42,7 @@ served_text entries connections =
 
 -- the journal of a closed server: a legal history over its capacity, in which each play is halted
 -- by its own maker, with entries of the seats 1 up to that of the last worker alone; its entries,
--- with one for the halt of each open play, are no more than the words allow
+-- with one for the halt of each open play, are no more than the arguments allow
 pub record IsJournal (serving : ServeArgs) (entries : List Entry) : Type 0 where
   pub legal : IsLegal serving.capacity entries
   pub few : places_taken entries ≤ serving.journal
@@ -68,7 +68,7 @@ pub record IsFirstRefused (names : List (List ℕ)) (held : List File) (name : L
   pub accepted : All (MayBeServed held) before
   pub refused : IsServedFilmRefused held name fault
 
--- the first film that is refused, in the order of the words, or a fault of the library
+-- the first film that is refused, in the order of the arguments, or a fault of the library
 abbrev pub IsFilmError : ServeArgs → IoState (List File) → IoState (List File) → CliError → Type 0
 IsFilmError serving store store' =
     IsReadError (Contains serving.films) (IsFirstRefused serving.films) store.told store.faults

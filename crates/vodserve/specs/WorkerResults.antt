@@ -22,7 +22,7 @@ use Rattle.cli_args.specs.Invocations.{ServeArgs}
 use Rattle.inputs.specs.LoadErrors.{IsServedFilmRefused, IsNotRefused}
 use Rattle.inputs.specs.ChunkScans.{HoldsVideo}
 
--- how the words open the gate
+-- how the arguments open the gate
 abbrev pub opening_of : ServeArgs → Opening
 opening_of serving =
     record {
@@ -32,7 +32,7 @@ opening_of serving =
       slot_units = serving.planning.slot;
     }
 
--- what the words let clients settle by themselves, and the slot length
+-- what the arguments let clients settle by themselves, and the slot length
 abbrev pub settings_of : ServeArgs → Settings
 settings_of serving =
     record {
@@ -89,7 +89,7 @@ pub record HasTooFewParts (count : ℕ) (gate : Content) : Type 0 where
 abbrev pub HasParts : ℕ → Option Content → Type 0
 HasParts count told = IfSome told (λ content. length content.parts ≡ count)
 
--- a part is back in its gate as it was told last
+-- a part is back in its gate as it was exposed last
 abbrev pub IsPartBack : ℕ → Option Content → Content → Type 0
 IsPartBack number told gate = (part : Content)
     × ((told ≡ Some part) × (slice_index_or gate.parts number None ≡ Some part.own))
