@@ -201,7 +201,8 @@ impl<T: Track> Pacer<T> {
         ensures pacing { IsPacerState self.new }
         ensures most { result ≤ self.old.keep }
     {
-        // a packet that is partly sent goes out to its end, or its bytes couldn't be read as one
+        // a packet that is partly sent must go out to its end: the client couldn't read the stream
+        // after it
         self.keep = self.next_boundary();
         self.keep
     }

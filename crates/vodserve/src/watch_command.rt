@@ -133,7 +133,7 @@ fn watch_part<O: Sink, G: Gate>(
     Ok(Some(end))
 }
 
-/// Opens the gate as the arguments say, and watches over the connection that it gives, or answers
+/// Opens the gate as the arguments say, and watches over the connection that it gives, or returns
 /// None where it gives none.
 fn watch_gate<O: Sink, G: Gate + Drop>(
     alloc: Global,
