@@ -173,8 +173,8 @@ pub record AreEntryCounts (entries : EntryCounts) (journal : List Entry) : Type 
 
 -- what the line of a large day says: a turn brings at most three slots; as many bytes were sent as
 -- the journal books in all slots up to the last; the peak is the most that it books in one of them,
--- which is no more than the greatest capacity. Where the journal has two places for each turn, it is
--- never full.
+-- which is no more than the greatest capacity. Where the journal has two places for each turn, it
+-- is never full.
 pub record IsFairLine (steps : List CapStep) (plays : ℕ) (text : List ℕ) (journal : List Entry)
     : Type 0 where
   pub counts : FairTotals

@@ -27,7 +27,7 @@ pub struct Packet {
     pub sequence_header: bool,
 }
 
-/// The packets of a unit of the film, in order.
+/// The packets of a unit of the film, in order (RFC 2250 section 3.1).
 ///
 /// # Errors
 ///

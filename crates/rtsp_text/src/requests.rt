@@ -67,7 +67,7 @@ impl fmt::Display for RequestFault {
 impl Error for RequestFault {}
 
 /// The value of a head's first header line of that name, in any case, without the spaces and tabs
-/// around it; of a request's head or of a reply's.
+/// around it; of a request's head or of a reply's (RFC 2326 section 4.2).
 ///
 /// None exactly where the head has no line of that name. The value has no LF and at most as many
 /// bytes as the head.
@@ -96,8 +96,8 @@ pub fn header<'a>(request: &Request<'a>, name: &[u8]) -> Option<&'a [u8]>
     header_of(request.head, name)
 }
 
-/// The number of a message's first CSeq that is a number, also where the message is no request of
-/// RTSP 1.0.
+/// The number of a message's first CSeq (RFC 2326 section 12.17) that is a number, also where the
+/// message is no request of RTSP 1.0.
 pub fn sequence_of(message: &[u8]) -> Option<u64>
     ensures value { result ≡ first_sequence message.now }
     ensures first { IfSome result (IsFirstNumber (codes "CSeq") (header_lines message.now)) }

@@ -24,7 +24,7 @@ pub struct ReplyParts<'a> {
 }
 
 /// Reads a complete reply, head and body, as [`interleave::Demux`] splits it off a connection's
-/// bytes.
+/// bytes (RFC 2326 section 7).
 ///
 /// None exactly where the first line isn't `RTSP/1.0`, three digits and a phrase, with single
 /// spaces. Header lines aren't judged.
