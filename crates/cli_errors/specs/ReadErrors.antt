@@ -16,8 +16,8 @@ IsReadOnly files faults old new = IsLibraryUnchanged (files old) (files new) (fa
     new)
 
 -- a refusal names an input that is read, and goes with `Refuses` where the library exposes what it
--- holds; a fault of the library names an input that is read, and was counted; out of memory has no
--- condition
+-- holds; a fault of the library names an input that is read, and was counted; for out of memory
+-- nothing is asserted
 abbrev pub IsReadError : (List ℕ → Type 0) → (List File → List ℕ → InputError → Type 0) →
     Option (List File) → ℕ → ℕ → CliError → Type 0
 IsReadError Reads Refuses told faults faults' (Refused name fault) =

@@ -36,9 +36,10 @@ ghost use Rattle.connection_laws.specs.Courses.{Course};
 
 /// Where a link carries, slot by slot, what a server's connection sent, a film that is watched over
 /// it comes back from its first picture to its last one. At each reading no picture is missing that
-/// is used, and what waits fits in the buffer (Salehi, Zhang, Kurose and Towsley 1998). The
-/// connection was asked for the film by the client's requests. Its one play, of the entire film and
-/// for the client's own buffer, start delay and slot, was sent to its end.
+/// is used, and what waits fits in the buffer (Salehi, Zhang, Kurose and Towsley 1998). This
+/// requires that the connection was asked for the film by the client's requests, and that its one
+/// play, of the entire film and for the client's own buffer, start delay and slot, was sent to its
+/// end.
 pub fn law_watched_film_is_complete()
     ensures played { (wish : Wish) (stored : Stored) (course : Course) (watched : Watched)
         (heard : List IoEvent) (out : List ℕ) → IsWish wish

@@ -92,7 +92,8 @@ fn next_but_slots<K: Link>(link: &mut K, into: &mut [u8; 8]) -> Result<(Heard, u
     Err(Fail::from("slots alone"))
 }
 
-/// Expects that these bytes come next, except for slots, and returns how many slots those are.
+/// Expects that these bytes come next, except for slots, and returns how many slots came before
+/// them.
 fn hear<K: Link>(link: &mut K, want: &[u8]) -> Result<u32, Fail> {
     let mut into = [0; 8];
     match next_but_slots(link, &mut into)? {

@@ -123,7 +123,7 @@ abbrev pub StopsAtElements : {A : Type 0} → Wish → Result A WatchEnd → Cli
 StopsAtElements wish result old new = (h : History) → HistoryInvariant wish h old.client →
     IfErr result (λ end. HasStopped wish h old.client.input end old.observed new.observed)
 
--- an event was processed, after what the link exposed before
+-- an event was processed that the link had exposed before
 pub record HasRound (wish : Wish) (h : History) (rest : List ℕ) (event : IoEvent) (new : Client)
     (old_sight new_sight : Observed) : Type 0 where
   pub moments : List ClientEvent

@@ -108,7 +108,7 @@ pub record IsSameAnswer (ask again : Ask) (one other : SessionState) : Type 0 wh
   pub ask_is : again ≡ ask
   pub session_is : other ≡ one
 
--- what two hearings of a message come to is the same, or memory ran out for one of them
+-- a message that is processed twice has the same result, or memory ran out for one of them
 abbrev pub IsOneAnswer : SessionState → List ℕ → Ask → SessionState → Ask → SessionState → Type 0
 IsOneAnswer old message ask one again other = IsSameAnswer ask again one other
     ⊎ (IsOutOfMemory old message ask one ⊎ IsOutOfMemory old message again other)

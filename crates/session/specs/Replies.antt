@@ -34,7 +34,7 @@ code_of (Buffer least) = 451
 code_of Range = 457
 code_of Memory = 500
 
--- what a refusal says also; the option is the one that its request requires
+-- what a refusal says in addition; the option is the one that its request requires
 abbrev pub refusal_fields : Refusal → List ℕ → List Field
 refusal_fields BadRequest option = []
 refusal_fields Version option = []

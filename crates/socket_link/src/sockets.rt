@@ -64,7 +64,7 @@ pub trait Socket {
 
     ghost did: { Self → List SocketCall };
 
-    /// Reads the bytes that arrived to the start of `into`.
+    /// Reads the bytes that arrived, and puts them at the start of `into`.
     ///
     /// # Errors
     ///

@@ -40,7 +40,7 @@ abbrev pub told_more : {A : Type 0} → Option (List A) → List A → Option (L
 told_more None these = None
 told_more (Some told) these = Some (told ++ these)
 
--- what was exposed, with the start of these bytes after it
+-- what was exposed, with a prefix of these bytes after it
 abbrev pub IsWrittenPrefix : Option (List ℕ) → Option (List ℕ) → List ℕ → Type 0
 IsWrittenPrefix old new bytes = (n : ℕ) × ((n ≤ length bytes) × (new ≡ told_more old (take n
     bytes)))

@@ -77,8 +77,7 @@ pub record IsAccepted (order : Invocation) (told : Option (List File)) : Type 0 
   pub told_is : told ≡ Some held
   pub accepted : (name : List ℕ) (fault : InputError) → IsRefusedFor order held name fault → ⊥
 
--- nothing that is asked for prevents a command from its work: what it reads is accepted. `watch`
--- also needs a server
+-- nothing that is asked for stops a command: what it reads is accepted. `watch` also needs a server
 abbrev pub HasValidInput : Invocation → Option (List File) → Type 0
 HasValidInput help told = Unit {0}
 HasValidInput version told = Unit {0}
@@ -106,15 +105,15 @@ pub record HasSucceeded (before after : World) (order : Invocation) (ended : End
   pub wrote : after.out.told ≡ told_more before.out.told text
   pub quiet : after.err ≡ before.err
 
--- a command whose inputs are accepted does its work: without a I/O fault it writes its entire text,
--- or ends with status 6 because memory ran out
+-- a command whose inputs are accepted does its work: without an I/O fault it writes its entire
+-- text, or ends with status 6 because memory ran out
 abbrev pub ValidInputSucceeds : Type 0
 ValidInputSucceeds =
     (before after : World) (seed : List ℕ) (order : Invocation) (ended : Ended) →
     CommandSpec before after seed order ended → HasValidInput order before.store.told →
     HasNoFault before after → HasSucceeded before after order ended ⊎ (ended.status ≡ 6)
 
--- films that are accepted are served: without a I/O fault a server ends with status 0, or with 6
+-- films that are accepted are served: without an I/O fault a server ends with status 0, or with 6
 -- because memory ran out
 abbrev pub AcceptedFilmsAreServed : Type 0
 AcceptedFilmsAreServed =
@@ -198,8 +197,8 @@ ReportsMatchJournal =
 -- satisfies what it promises, under the capacity and the most entries that the arguments say. What
 -- its seat, of the number after the worker's own, made up to its end are the first of the journal's
 -- entries of that seat, and all that the seat had seen by then is a prefix of the journal. What its
--- link exposed and its report agree with the journal, as the words' capacity and most entries have
--- it
+-- link exposed and its report agree with the journal, as the arguments' capacity and most entries
+-- have it
 pub record IsConnectionCorrect (work : ServerRun) (worker place : ℕ) (returned : ReturnedConn)
     (report : ConnReport) : Type 0 where
   pub worker_is : report.worker ≡ worker

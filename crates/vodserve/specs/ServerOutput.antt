@@ -74,8 +74,8 @@ IsFilmError serving store store' =
     IsReadError (Contains serving.films) (IsFirstRefused serving.films) store.told store.faults
     store'.faults
 
--- what prevents a server from its work: a film that is refused, or the library, and then the gate
--- is as it was; out of memory; or the gate, which counted a fault. No part of the gate gave a
+-- what prevents a server from serving: a film that is refused, or the library, and then the gate is
+-- as it was; out of memory; or the gate, which counted a fault. No part of the gate gave a
 -- connection
 abbrev pub IsServeError : ServeArgs → IoState (List File) → IoState (List File) → WorkerGate →
     WorkerGate →
