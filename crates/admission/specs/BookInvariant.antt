@@ -12,7 +12,7 @@ pub record MatchesState (calendar : CalendarState) (state : State) : Type 0 wher
   pub now : calendar.first ≡ state.now
   pub stands : Represents calendar (plays_of state)
 
--- what holds of each book; the journal has room for all entries without memory
+-- what is true for each book; the journal has room for all entries without memory
 pub record IsBookKept (calendar : CalendarState) (entries : List Entry) (limit count room : ℕ)
     : Type 0 where
   pub legal : IsLegal calendar.steps entries

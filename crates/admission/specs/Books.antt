@@ -32,7 +32,7 @@ pub record IsNoted (old : Journal) (maker : ℕ) (command : Command) (noted : No
   }
   pub legal : IsLegal new.steps new.entries
 
--- what is told of a journal that has no room
+-- the numbers of a journal that has no room
 pub record IsFull (journal : Journal) (full : Full) : Type 0 where
   pub entries_are : full.entries ≡ length journal.entries
   pub open_is : full.live ≡ open_count journal.entries

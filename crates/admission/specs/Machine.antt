@@ -81,7 +81,7 @@ start_after state slot = max state.now slot + 1
 
 -- What is answered to a command in a state. A play is admitted exactly where its plan fits into
 -- every slot beside the plays of the state; else the first slot without room is named, with the
--- bytes booked and asked there. A look tells what is booked in a slot that isn't past.
+-- bytes booked and asked there. A look reports what is booked in a slot that isn't past.
 abbrev pub IsAnswer : List CapStep → State → Command → Answer → Type 0
 IsAnswer steps state (Play slot segments) (Admitted start) =
     (start ≡ start_after state slot)

@@ -15,9 +15,9 @@ use std::alloc::Global;
 use std::marker::Model;
 use vod_base::NoMemory;
 
-/// The book of a shared link: it admits plays, halts them and tells what is booked, and notes each
-/// of these with its answer in a journal. It keeps a free place in the journal for the halt of each
-/// open play.
+/// The book of a shared link. It admits plays, halts them and reports what is booked. It notes each
+/// of these commands with its answer in a journal. It keeps a free place in the journal for the
+/// halt of each open play.
 ///
 /// Contracts see the steps of the capacity, the most entries, and the list of the entries.
 #[derive(Drop)]
@@ -56,7 +56,7 @@ impl Book {
     ///
     /// # Errors
     ///
-    /// [`NoMemory`] where there is none for the calendar or for the whole journal.
+    /// [`NoMemory`] where there is none for the calendar or for the entire journal.
     pub fn new(alloc: Global, profile: Profile, limit: u64) -> Result<Book, NoMemory>
         requires some { 2 ≤ limit }
         requires few { limit ≤ 1048576 }
@@ -106,6 +106,8 @@ impl Book {
         ensures left { OnErr result (self.new ≡ self.old) }
     {
         let full = self.counts();
+        // Each open play has a free place for its halt's entry. A new play needs two: its own entry
+        // and its halt's.
         if full.entries + full.live + 2 > self.limit {
             return Err(PlayFull { plan, full });
         }
@@ -138,8 +140,8 @@ impl Book {
         )
     }
 
-    /// Tells what is booked in a slot, or in now where that is later. It leaves now. A slot above
-    /// [`LATEST_SLOT`] is taken as that one.
+    /// Reports what is booked in a slot, or in now where that is later. It doesn't change now. A
+    /// slot above [`LATEST_SLOT`] is taken as that one.
     ///
     /// # Errors
     ///

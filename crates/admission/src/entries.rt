@@ -20,7 +20,7 @@ pub enum Command {
         /// How many bytes of its plan it keeps.
         keep: u64,
     },
-    /// To tell what is booked in a slot.
+    /// To report what is booked in a slot.
     Look {
         /// The slot, at most 2^62.
         slot: u64,

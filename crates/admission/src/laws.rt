@@ -42,9 +42,9 @@ pub fn law_play_can_be_halted_iff_open()
         IsStillOpen entries number keep }
 {}
 
-/// The plays of the state after a legal history, told by its entries: a play's number is the place
-/// of the entry that admitted it; the play is open with all its bytes until an entry halts it, and
-/// closed with the bytes that it keeps from then on. A halt stands after its play's entry.
+/// The plays of the state after a legal history follow from its entries: a play's number is the
+/// place of the entry that admitted it; the play is open with all its bytes until an entry halts
+/// it, and closed with the bytes that it keeps from then on. A halt stands after its play's entry.
 pub fn law_plays_follow_from_entries()
     ensures admitted { (steps : List CapStep) (entries : List Entry) (number : ℕ) (h : AdmittedPlay)
         →
@@ -157,7 +157,7 @@ pub fn law_admitted_play_starts_next_slot()
         start ≡ latest_asked (take (number + 1) entries) + 1 }
 {}
 
-/// What the answer of a look tells: now, which is the latest slot in which a play was asked for
+/// What the answer of a look reports: now, which is the latest slot in which a play was asked for
 /// before it; the slot of the look, or now where that is later; and what the entries before it book
 /// there.
 pub fn law_look_reports_booked_bytes()

@@ -24,8 +24,8 @@ pub(crate) fn admit(calendar: &mut Calendar, slot: u64, plan: &Plan) -> Answer
     let now = calendar.now().max(slot);
     calendar.advance(now);
     let start = now + 1;
-    // its segments tell that a plan has at most 1,000,000 slots, so it ends within the calendar's
-    // ring
+    // the contract of this call says that a plan has at most 1,000,000 slots, so it ends within the
+    // calendar's ring
     let _plan = plan.segments();
     match calendar.first_overflow(start, plan) {
         Some(over) => Answer::Overflow {
@@ -69,7 +69,8 @@ pub(crate) fn release_play(calendar: &mut Calendar, entries: &[Entry], number: u
     let Answer::Admitted { start } = admitted.answer else {
         unreachable!()
     };
-    // its segments make a plan, and it stands booked whole, so it may be cut
+    // the contract of this call says that the segments make a plan; all of it is booked, so the law
+    // says that it can be stopped early
     let _plan = plan.segments();
     law_booked_plan_can_be_released();
     calendar.release(start, plan, keep);

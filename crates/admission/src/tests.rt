@@ -244,7 +244,7 @@ fn is_full(rt: HostRuntime) -> Result<(), Fail> {
     run(&rt, rt.alloc(), &mut book, rows.as_slice(), &[0, 0, 0, 0])
 }
 
-/// A look tells and leaves now; a slot above 2^62 is taken as 2^62.
+/// A look reports now and doesn't change it; a slot above 2^62 is taken as 2^62.
 #[test]
 fn looks(rt: HostRuntime) -> Result<(), Fail> {
     let mut book = book_of(&rt, rt.alloc(), &[(0, 5)], 64)?;

@@ -1,4 +1,5 @@
-//! Where the line of segments bends: on the curve that its side wants, or not.
+//! Where the line of segments bends: its slope may rise only on the upper curve and fall only on
+//! the lower one.
 
 ghost use Rattle.std.specs.Prelude.{ℕ, ◌≡◌, ◌+◌, ◌↔◌, IsTrue, MatchOption};
 ghost use Rattle.slope_frac.specs.SlopeOrder.{IsLessSteep, IsEquallySteep};

@@ -20,6 +20,10 @@ use wire_curve::Curves;
 /// Whether the segments are the taut line between the curves, or else the first fault. A list that
 /// passes is best, as [`law_checked_plan_is_optimal`] says. It takes no memory, and makes one pass
 /// over the slots and a few over the segments.
+///
+/// # Errors
+///
+/// The first [`CertFault`], in the order of its variants.
 pub fn check(curves: &Curves, segments: &[Segment]) -> Result<(), CertFault>
     requires { AreSound curves.now.from curves.now.low.items curves.now.up.items }
     ensures verdict { MatchResult result

@@ -1,5 +1,5 @@
--- The words of a command, each by its key: which it needs, which it may leave out, and what holds
--- then.
+-- The arguments of a command, each by its key: which it needs, which it may leave out, and what
+-- applies then.
 use Rattle.std.specs.Prelude.{ℕ, ◌≡◌, ◌<◌, ◌≤◌, ◌⊎◌, ◌+◌, if◌then◌else◌, All, List, [], ◌∷◌}
 use Rattle.std.specs.Prelude.{length, Some, None, codes}
 use Rattle.std.specs.List.{Contains}
@@ -11,7 +11,7 @@ use Rattle.cli_args.specs.declared.subcommands.Subcommand.{Subcommand}
 use Rattle.cli_args.specs.declared.subcommands.Subcommand.TheVariants.{Plan, Check, Scan, Make, Day}
 use Rattle.cli_args.specs.declared.subcommands.Subcommand.TheVariants.{Fair, Serve, Watch}
 
--- the settings that hold where words leave them out
+-- the settings that apply where arguments leave them out
 abbrev pub defaults : List Setting
 defaults =
     text_setting (codes "buffer") (codes "1048576") ∷ text_setting (codes "startup") (codes "25")
@@ -20,7 +20,8 @@ defaults =
     ∷ text_setting (codes "bind") (codes "local") ∷ text_setting (codes "workers") (codes "32")
     ∷ text_setting (codes "connections") (codes "0") ∷ []
 
--- a command takes the key of this default, and the words leave it out; of a trace no slot is asked
+-- a command takes the key of this default, and the arguments leave it out; of a trace no slot is
+-- asked
 pub record IsLeftOut (command : Subcommand) (words : List (List ℕ)) (default : Setting)
     : Type 0 where
   pub listed : Contains defaults default
@@ -28,7 +29,7 @@ pub record IsLeftOut (command : Subcommand) (words : List (List ℕ)) (default :
   pub absent : values_of default.key words ≡ []
   pub of_film : default.key ≡ codes "slot" → values_of (codes "trace") words ≡ []
 
--- no key is given a value by both words
+-- no key is given a value by both arguments
 abbrev pub HaveDistinctKeys : List ℕ → List ℕ → Type 0
 HaveDistinctKeys word other =
     (key : List ℕ) → (setting_value key word ≡ None) ⊎ (setting_value key other ≡ None)
@@ -44,7 +45,7 @@ needed_keys Fair = codes "seed" ∷ codes "plays" ∷ []
 needed_keys Serve = codes "film" ∷ []
 needed_keys Watch = codes "film" ∷ []
 
--- how often words give a value to a key
+-- how often arguments give a value to a key
 abbrev pub times : List ℕ → List (List ℕ) → ℕ
 times key words = length (values_of key words)
 
@@ -74,8 +75,8 @@ abbrev pub HasFilms : Subcommand → List (List ℕ) → Type 0
 HasFilms Serve words = AreApart (values_of (codes "film") words)
 HasFilms _ words = Unit {0}
 
--- the words are settings of the command, each key is given as often as it may be, and what it needs
--- is given
+-- the arguments are settings of the command, each key is given as often as it may be, and what it
+-- needs is given
 pub record AreArgsOf (command : Subcommand) (words : List (List ℕ)) : Type 0 where
   pub each : All (IsSettingOf command) words
   pub few : All (λ key. times key words ≤ most_times command key) (keys_of command)
@@ -83,7 +84,7 @@ pub record AreArgsOf (command : Subcommand) (words : List (List ℕ)) : Type 0 w
   pub source : HasSource command words
   pub films : HasFilms command words
 
--- a command, and words of its form
+-- a command, and arguments of its form
 pub record AreSubcommandArgs (words : List (List ℕ)) : Type 0 where
   pub name : List ℕ
   pub rest : List (List ℕ)

@@ -113,7 +113,7 @@ name_of (fair_of run) = codes "fair"
 name_of (serve_of serving) = codes "serve"
 name_of (watch_of watching) = codes "watch"
 
--- an order in words, with a value for each key
+-- an invocation as arguments, with a value for each key
 abbrev pub args_of : Invocation → List (List ℕ)
 args_of order = name_of order ∷ map setting_text (settings_of order)
 
@@ -157,7 +157,7 @@ IsValidPort port = IsInRange 1 65535 port
 abbrev pub IsValidWorkers : ℕ → Type 0
 IsValidWorkers workers = IsInRange 1 256 workers
 
--- how many pictures are made
+-- how many pictures are generated
 abbrev pub IsValidPictures : ℕ → Type 0
 IsValidPictures pictures = IsInRange 1 100000 pictures
 

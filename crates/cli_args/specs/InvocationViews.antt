@@ -1,4 +1,4 @@
--- The orders that the program reads from its words, as their meaning.
+-- The invocations that the program reads from its arguments, as their meaning.
 use Rattle.std.specs.Prelude.{ℕ, List, codes}
 use Rattle.cli_args.specs.Settings.{texts, values_of}
 use Rattle.cli_args.specs.Invocations.{Source, trace_source, film_source, ClientParams, ServeArgs}

@@ -1,4 +1,4 @@
--- What the words of the command line mean: a command, and its settings.
+-- What the arguments of the command line mean: a command, and its settings.
 use Rattle.std.specs.Prelude.{ℕ, Bool, true, not, ◌&&◌, if◌then◌else◌, nat_le, List, [], ◌∷◌}
 use Rattle.std.specs.Prelude.{length, Option, Some, None, option_map, codes}
 use Rattle.std.specs.List.{list_all, list_any}
@@ -52,7 +52,7 @@ pub record WatchArgs : Type 0 where
   pub port : ℕ
   pub planning : PlanSettings
 
--- what the words ask for
+-- what the arguments ask for
 pub data Invocation : Type 0 where
   help : Invocation
   version : Invocation
@@ -171,7 +171,8 @@ invocation_given Fair words = option_map fair_of (fair_run_given words)
 invocation_given Serve words = option_map serve_of (serve_args_given words)
 invocation_given Watch words = option_map watch_of (watch_args_given words)
 
--- what a command and its words ask for, where each gives a value to a key that the command takes
+-- what a command and its arguments ask for, where each gives a value to a key that the command
+-- takes
 abbrev pub command_invocation : List (List ℕ) → Subcommand → Option Invocation
 command_invocation words command = if list_all (is_setting_of command) words
     then invocation_given command words else None
@@ -181,7 +182,7 @@ abbrev pub lone_invocation : Invocation → List (List ℕ) → Option Invocatio
 lone_invocation order [] = Some order
 lone_invocation order (word ∷ words) = None
 
--- what the words mean, if anything
+-- what the arguments mean, if anything
 abbrev pub invocation_from : List (List ℕ) → Option Invocation
 invocation_from [] = None
 invocation_from (command ∷ words) =

@@ -1,4 +1,4 @@
--- What words give to each key: its range, and the value that holds where it isn't given.
+-- What arguments give to each key: its range, and the value that applies where it isn't given.
 use Rattle.std.specs.Prelude.{ℕ, ◌-◌, ◌^◌, Bool, true, false, if◌then◌else◌, List, [], ◌∷◌, Option}
 use Rattle.std.specs.Prelude.{Some, None, codes}
 use Rattle.std.specs.Str.{bytes_eq}
@@ -54,7 +54,7 @@ connections_given words = number_or 0 0 (2 ^ 64 - 1) (values_of (codes "connecti
 abbrev pub seed_given : List (List ℕ) → Option ℕ
 seed_given words = one_number 0 (2 ^ 64 - 1) (values_of (codes "seed") words)
 
--- how many pictures are made, from 1 to 100,000
+-- how many pictures are generated, from 1 to 100,000
 abbrev pub pictures_given : List (List ℕ) → Option ℕ
 pictures_given words = one_number 1 100000 (values_of (codes "pictures") words)
 

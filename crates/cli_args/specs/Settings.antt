@@ -1,5 +1,5 @@
--- Settings: words `key=value`, split at their first '='. Their order is free, and each key comes at
--- most once, but for those that say otherwise.
+-- Settings: arguments `key=value`, split at their first '='. Their order is free, and each key
+-- comes at most once, except those that say otherwise.
 use Rattle.std.specs.Prelude.{ℕ, Bool, true, false, ◌&&◌, ◌==◌, if◌then◌else◌, nat_lt, List}
 use Rattle.std.specs.Prelude.{[], ◌∷◌, length, Option, Some, None, map, flat_map, string_bytes}
 use Rattle.std.specs.Prelude.{String}
@@ -11,7 +11,7 @@ use Rattle.vod_base.specs.Limits.{in_range}
 use Rattle.vod_base.specs.Names.{good_name}
 use Rattle.vod_base.specs.Numbers.{number_of}
 
--- words as the bytes of their texts
+-- arguments as the bytes of their texts
 abbrev pub texts : List (String Global) → List (List ℕ)
 texts words = map string_bytes words
 
@@ -22,7 +22,7 @@ setting_value key word =
     && bytes_eq (before_first (λ b. b == 61) word) key
     then Some (after_first (λ b. b == 61) word) else None
 
--- the values that words give to a key, in order
+-- the values that arguments give to a key, in order
 abbrev pub values_of : List ℕ → List (List ℕ) → List (List ℕ)
 values_of key words = flat_map (λ word. option_to_list (setting_value key word)) words
 

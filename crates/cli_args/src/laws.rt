@@ -1,5 +1,5 @@
-//! What words mean, in laws: which words have a meaning, what they may ask for, what holds where
-//! one is left out, and that their order is free. With
+//! Laws on what arguments mean: which have a meaning, what they may ask for, what applies where one
+//! is left out, and that their order is free. With
 //! [`law_written_arguments_read_back`](crate::laws::law_written_arguments_read_back) they leave one
 //! meaning.
 

@@ -1,4 +1,4 @@
-//! Words of the form `key=value`.
+//! Arguments of the form `key=value`.
 
 ghost use Rattle.std.specs.Prelude.{◌≡◌, ◌≤◌, ◌^◌, true, IfSome};
 ghost use Rattle.std.specs.Option.{option_copied};

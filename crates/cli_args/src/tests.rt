@@ -1,4 +1,4 @@
-//! Words and their meanings.
+//! Arguments and their meanings.
 
 use crate::{Invocation, ServeArgs, Source, keys_of, parse_args, subcommand_named};
 use std::alloc::{AllocError, Global};
@@ -65,7 +65,7 @@ fn reads_a_server(rt: HostRuntime) -> Result<(), Fail> {
     Ok(())
 }
 
-/// Words without a meaning.
+/// Arguments without a meaning.
 const WRONG_WORDS: [&str; 51] = [
     "serve",
     "serve film=a film=a",

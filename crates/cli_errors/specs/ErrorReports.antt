@@ -1,4 +1,4 @@
--- What the line of a trouble tells who reads it.
+-- What the line of an error says to its reader.
 use Rattle.std.specs.Prelude.{◌≡◌, ◌≢◌, ℕ, ◌<◌, ◌^◌, true, All, List, ◌++◌, codes}
 use Rattle.vod_base.specs.Names.{good_name}
 use Rattle.cli_errors.specs.ErrorLines.{cause_words}
@@ -32,13 +32,13 @@ error_report_of LinkFault = failed_link
 abbrev pub HasShortNumbers : InputError → Type 0
 HasShortNumbers fault = All (λ n. n < 2 ^ 64) (cause_words fault).numbers
 
--- the input that a trouble names, if it names one, has a good name
+-- the input that an error names, if it names one, has a good name
 abbrev pub HasGoodName : CliError → Type 0
 HasGoodName (Refused name fault) = good_name name.now ≡ true
 HasGoodName (StoreFault name) = good_name name.now ≡ true
 HasGoodName _ = Unit {0}
 
--- the troubles that there can be: inputs have good names, and numbers have 64 bits
+-- the errors that there can be: inputs have good names, and numbers have 64 bits
 abbrev pub IsPrintableError : CliError → Type 0
 IsPrintableError (Refused name fault) = (good_name name.now ≡ true) × HasShortNumbers fault
 IsPrintableError (StoreFault name) = good_name name.now ≡ true

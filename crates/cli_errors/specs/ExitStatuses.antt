@@ -1,4 +1,4 @@
--- The exit status that goes with a trouble.
+-- The exit status that goes with an error.
 use Rattle.std.specs.Prelude.{◌≡◌, ◌≤◌, ℕ, List}
 use Rattle.std.specs.Borrow.{Bor}
 use Rattle.cli_errors.specs.declared.errors.InputError.{InputError}
@@ -16,7 +16,7 @@ status_of NoMemory = 6
 status_of GateFault = 7
 status_of LinkFault = 8
 
--- the cause that a status tells: of each status, which trouble alone ends with it
+-- the cause that a status gives: of each status, which error alone ends with it
 pub record DeterminesCause (status : ℕ) (error : CliError) : Type 0 where
   pub usage : status ≡ 2 → error ≡ Usage
   pub refused : status ≡ 3 → (name : Bor (List ℕ))

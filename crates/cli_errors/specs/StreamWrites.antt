@@ -10,8 +10,8 @@ number_text n = codes " " ++ decimal n
 abbrev pub with_label : List ℕ → ℕ → List ℕ
 with_label label number = codes " " ++ label ++ codes "=" ++ decimal number
 
--- the text was written after what was told, and `whole` tells whether all of it was; after a
--- fault, which was counted, a front of it was
+-- the text was written after what was exposed, and `whole` says whether all of it was; after a
+-- fault, which was counted, a prefix of it was
 pub record IsTextWritten (faults faults' : ℕ) (told told' : Option (List ℕ)) (text : List ℕ) (whole
     : Bool)
     : Type 0 where

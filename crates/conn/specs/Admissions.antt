@@ -45,14 +45,14 @@ IsEntryReplied old placed Halted new = ⊥
 IsEntryReplied old placed (Looked now at booked) new = ⊥
 
 -- where a play begins that is looked at after the first entries of a journal: in the slot after the
--- heard one and after all those that plays were asked for in
+-- last one received and after all those in which plays were asked for
 abbrev pub start_at : List Entry → ℕ → ℕ → ℕ
 start_at journal turn heard = start_after (state_after (take turn journal)) (min heard (2 ^ 62))
 
--- At its turn, after the first entries of a journal, a play was looked at by the station. Without
--- room for its entry and its halt's it is answered 503, with the journal's entries and open plays.
--- Else, where a slot would be booked above the link's capacity, 453 with the first one. Else it is
--- admitted with 200.
+-- The station looked at a play while it held the lock, after the first entries of a journal.
+-- Without room for its entry and its halt's it is answered 503, with the journal's entries and open
+-- plays. Else, where a slot would be booked above the link's capacity, 453 with the first one. Else
+-- it is admitted with 200.
 pub record IsDecided (terms : Terms) (journal : List Entry) (old : SessionState) (plan : List
     Segment)
     (turn : ℕ) (new : SessionState) : Type 0 where
@@ -67,7 +67,7 @@ pub record IsDecided (terms : Terms) (journal : List Entry) (old : SessionState)
       (start_at journal turn old.heard) plan
       → (placed : PlacedEntry) × HasBegunPlay old placed (start_at journal turn old.heard) new
 
--- the plan of the run that a PLAY asks for was looked at, at a turn from a place on
+-- the plan of the run that a PLAY asks for was looked at, under the lock, from a place on
 pub record HasTurn (terms : Terms) (journal : List Entry) (from : ℕ) (old new : SessionState)
     : Type 0 where
   pub asking : SessionState
@@ -77,8 +77,8 @@ pub record HasTurn (terms : Terms) (journal : List Entry) (from : ℕ) (old new 
   pub within : turn ≤ length journal
   pub decided : IsDecided terms journal old asked.planned.plan turn new
 
--- in each legal journal with which the station's answer agrees: it had its turn, or it is answered
--- 500 for want of memory, and the station isn't asked
+-- in each legal journal with which the station's answer agrees: it was decided under the lock, or
+-- it is answered 500 because memory ran out, and the station isn't asked
 abbrev pub IsPlayCompleted : SessionState → Outcome → SessionState → Type 0
 IsPlayCompleted old outcome new =
     (terms : Terms) (journal : List Entry) (from : ℕ) → IsLegal terms.steps journal

@@ -1,4 +1,4 @@
--- When what a link told and a report go with a journal.
+-- When what a link exposed and a report go with a journal.
 use Rattle.std.specs.Prelude.{◌≡◌, ◌≢◌, ℕ, ◌+◌, ◌≤◌, ◌^◌, List, [], ◌∷◌, ◌++◌, length, Some}
 use Rattle.vod_base.specs.Gates.{ReturnedConn}
 use Rattle.vod_base.specs.Links.{IoEvent}
@@ -28,7 +28,7 @@ pub record Activity : Type 0 where
   pub ending : Ending
   pub halt : Outcome
 
--- the doings as a link tells them, and the entries that were made, in order
+-- the doings as a link exposes them, and the entries that were made, in order
 abbrev pub doings_observed : Activity → List IoEvent
 doings_observed doings = rounds_doings doings.rounds ++ ending_doings doings.ending
 
@@ -36,7 +36,7 @@ abbrev pub doings_outcomes : Activity → List Outcome
 doings_outcomes doings =
     (rounds_outcomes doings.rounds ++ ending_outcomes doings.ending) ++ doings.halt ∷ []
 
--- a connection with these films, settings and words did this, and its report tells it
+-- a connection with these films, settings and random words did this, and its report says so
 pub record HasDone (films : List Stored) (settings : Settings) (words : List ℕ) (doings : Activity)
     (report : ConnReport) : Type 0 where
   pub mid : Stage
@@ -59,9 +59,9 @@ abbrev pub visit : List Stored → Settings → ReturnedConn → ConnReport → 
 visit films settings returned report =
     record { films = films; settings = settings; returned = returned; report = report }
 
--- What a link told and a report agree with a legal journal: they are a connection's doings, and
+-- What a link exposed and a report agree with a legal journal: they are a connection's doings, and
 -- what the station answered on the way agrees with it. Each entry stands at its place as the
--- maker's; a full answer tells the entries that the journal had then and its open plays, and had no
+-- maker's; a full answer gives the entries that the journal had then and its open plays, and had no
 -- room; an offer is the one that is made in the state of the entries that it names. Each play is
 -- kept between its client's curves, with the least excess. A reply 453 reports the slot of one of
 -- these entries, the first slot without room; a reply 503 the two numbers of a full answer. Each
@@ -81,7 +81,7 @@ pub record Agrees (visit : Visit) (terms : Terms) (journal : List Entry) : Type 
   pub halts : open_play_from Closed (entries_in (doings_outcomes doings)) ≡ Closed
   pub fault : visit.report.end ≡ LinkFault → HasRisen 0 visit.returned.faults
 
--- they do, where the link told what was done and memory was found before the first event
+-- they do, where the link exposed what was done and memory was found before the first event
 abbrev pub AgreesIfObserved : Visit → Terms → List Entry → Type 0
 AgreesIfObserved visit terms journal = (told : List IoEvent) → visit.returned.told ≡ Some told
     → visit.report.end ≢ NoMemory → Agrees visit terms journal

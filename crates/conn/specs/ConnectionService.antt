@@ -8,7 +8,7 @@ use Rattle.conn.specs.Observations.{AreNoted, HasCourse, Observed}
 use Rattle.conn.specs.declared.reports.ConnEnd.TheVariants.{NoMemory}
 use Rattle.conn.specs.declared.reports.ConnReport.{ConnReport}
 
--- the report tells what the session noted
+-- the report says what the session noted
 pub record IsReportOf (session : SessionState) (report : ConnReport) : Type 0 where
   pub receipts : report.receipts.items ≡ session.receipts
   pub plays : report.plays.items ≡ session.plays
@@ -21,7 +21,7 @@ pub record HasClosed (old new : SessionState) (old_seat new_seat : SeatState) : 
   pub closes : IsClosed (open_of old) old halt new
   pub noted : AreNoted old_seat new_seat (halt ∷ [])
 
--- a connection with its course, from a session that heard nothing yet, and the halt of a booking
+-- a connection with its course, from a session that received nothing yet, and the halt of a booking
 -- that is open at its end
 pub record HasServedFrom (session : SessionState) (old_told new_told : Option (List IoEvent))
     (old_seat new_seat : SeatState) (report : ConnReport) : Type 0 where

@@ -1,4 +1,4 @@
--- The course of a connection: event after event, what was taken up, what the station answered and
+-- The course of a connection: event after event, what was processed, what the station answered and
 -- what was sent.
 use Rattle.std.specs.Prelude.{◌≡◌, ℕ, ◌+◌, ◌^◌, ◌<◌, ◌≤◌, ◌⊎◌, ◌++◌, true, false, List, [], ◌∷◌}
 use Rattle.std.specs.Prelude.{length, take, drop, Ok, Err}
@@ -21,7 +21,7 @@ use Rattle.conn.specs.declared.reports.ConnEnd.TheVariants.{TooMuchInput, HeadTo
 use Rattle.conn.specs.declared.reports.ConnEnd.TheVariants.{TurnsSpent}
 
 -- an event, what was sent in its slot, the halt of a play that was done, and the elements that were
--- taken up after it
+-- processed after it
 pub record Round : Type 0 where
   pub event : IoEvent
   pub due : List SentPart
@@ -39,27 +39,27 @@ Comes old (HeardSlot slot) due halt new = (new.input ≡ old.input)
 Comes old HeardEnd due halt new = ⊥
 Comes old (Sent byte) due halt new = ⊥
 
--- an event and what was taken up after it
+-- an event and what was processed after it
 pub record Runs (old : Stage) (round : Round) (new : Stage) : Type 0 where
   pub opened : Stage
   pub comes : Comes old round.event round.due round.halt opened
   pub takes : TakesAll opened round.takings new
 
--- nothing more can be taken up: no whole element waits, or a request waits for a reply that isn't
--- sent
+-- nothing more can be processed: no complete element waits, or a request waits for a reply that
+-- isn't sent
 pub record IsIdle (stage : Stage) : Type 0 where
   pub torn : stage.session.torn ≡ false
   pub waits : IsFirst stage.input (Ok More)
       ⊎ ((n : ℕ) × (IsFirst stage.input (Ok (Request n)) × (stage.session.waits ≡ true)))
 
--- events, one after another; before the next one is asked for, all was taken up that could be
+-- events, one after another; before the next one is asked for, all was processed that could be
 abbrev pub RunsAll : Stage → List Round → Stage → Type 0
 RunsAll old [] new = new ≡ old
 RunsAll old (round ∷ rounds) new = (mid : Stage)
     × (Runs old round mid × IsIdle mid × RunsAll mid rounds new)
 
 -- what was done last: no event came, the peer ended, bytes came that find no room, an event was
--- taken up as far as an element, a slot's bytes were sent in front, or a reply's
+-- processed as far as an element, a prefix of a slot's bytes was sent, or of a reply's
 pub data Ending : Type 0 where
   Unheard : Ending
   PeerEnded : Ending
@@ -68,26 +68,26 @@ pub data Ending : Type 0 where
   InSlot : ℕ → List ℕ → Ending
   InReply : Round → List ℕ → Outcome → List ℕ → Ending
 
--- the end of a connection that hears no event any more, after so many
+-- the end of a connection that receives no event any more, after so many
 abbrev pub IsUnheard : ConnEnd → ℕ → Type 0
 IsUnheard LinkFault count = count < 2 ^ 40
 IsUnheard TurnsSpent count = count ≡ 2 ^ 40
 IsUnheard _ count = ⊥
 
--- the cause for which nothing more is taken up: the 200 of a TEARDOWN was sent, or the element in
--- front is too long
+-- the cause for which nothing more is processed: the 200 of a TEARDOWN was sent, or the first
+-- element is too long
 abbrev pub IsStopped : ConnEnd → Stage → Type 0
 IsStopped TornDown stage = stage.session.torn ≡ true
 IsStopped HeadTooLong stage = (stage.session.torn ≡ false) × IsFirst stage.input (Err LongHead)
 IsStopped BodyTooLong stage = (stage.session.torn ≡ false) × IsFirst stage.input (Err LongBody)
 IsStopped _ stage = ⊥
 
--- a front of these bytes
+-- a prefix of these bytes
 abbrev pub IsPrefixOf : List ℕ → List ℕ → Type 0
 IsPrefixOf front bytes = (n : ℕ) × ((n ≤ length bytes) × (front ≡ take n bytes))
 
--- a send failed in a slot: a front of what is due was sent, and the booking is due what it would be
--- without the fault
+-- a send failed in a slot: a prefix of what is due was sent, and the booking is due what it would
+-- be without the fault
 pub record HasFailedInSlot (old : Stage) (slot : ℕ) (front : List ℕ) (new : Stage) : Type 0 where
   pub taken : is_taken old.session slot ≡ true
   pub sending : is_sending old.session.state ≡ true
@@ -103,7 +103,7 @@ pub record HasFailedInSlot (old : Stage) (slot : ℕ) (front : List ℕ) (new : 
   pub receipts : new.session.receipts ≡ old.session.receipts
   pub plays : new.session.plays ≡ old.session.plays
   pub offers : new.session.offers ≡ old.session.offers
-  -- the link is lost, and nothing else of the session changes but its play
+  -- the link failed, and nothing else of the session changes but its play
   pub session_is : new.session ≡ record old.session {
     heard = slot;
     late = old.session.late + missed_between old.session.heard (start_in old.session.state) slot;
@@ -111,7 +111,7 @@ pub record HasFailedInSlot (old : Stage) (slot : ℕ) (front : List ℕ) (new : 
     lost = true;
   }
 
--- a send failed as a reply went out: a front of it was sent
+-- a send failed as a reply went out: a prefix of it was sent
 pub record HasFailedInReply (old : Stage) (message : List ℕ) (outcome : Outcome) (front : List ℕ)
     (new : Stage) : Type 0 where
   pub next : IsNext old message
@@ -138,7 +138,7 @@ Ends old count (InSlot slot front) end new = (end ≡ LinkFault) × HasFailedInS
 Ends old count (InReply round message outcome front) end new = (end ≡ LinkFault)
     × EndsInReply old round message outcome front new
 
--- what is sent as elements are taken up, in a round, and at the end
+-- what is sent as elements are processed, in a round, and at the end
 abbrev pub taking_bytes : ElementStep → List ℕ
 taking_bytes (Passed n) = []
 taking_bytes (Answered message outcome parts) = parts_bytes parts
@@ -167,7 +167,7 @@ ending_events (AtElement round) = round.event ∷ []
 ending_events (InSlot slot front) = HeardSlot slot ∷ []
 ending_events (InReply round message outcome front) = round.event ∷ []
 
--- what the link tells: each event, and then what was sent after it
+-- what the link exposes: each event, and then what was sent after it
 abbrev pub rounds_doings : List Round → List IoEvent
 rounds_doings [] = []
 rounds_doings (round ∷ rounds) = (round.event ∷ sends (round_bytes round)) ++ rounds_doings rounds

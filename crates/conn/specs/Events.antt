@@ -1,4 +1,4 @@
--- What an event brings: what was taken up, and how the connection ended, if it did.
+-- What an event brings: what was processed, and how the connection ended, if it did.
 use Rattle.std.specs.Prelude.{◌≡◌, ℕ, ◌+◌, ◌<◌, ◌≤◌, ◌⊎◌, ◌++◌, ⊤, Bool, true, false, if◌then◌else◌}
 use Rattle.std.specs.Prelude.{nat_lt, List, length, take, Option, Some, None, Ok, Err}
 use Rattle.vod_base.specs.IoState.{HasRisen}
@@ -23,13 +23,13 @@ abbrev pub IsEndOf : DemuxFault → ConnEnd → Type 0
 IsEndOf LongHead end = end ≡ HeadTooLong
 IsEndOf LongBody end = end ≡ BodyTooLong
 
--- nothing more can be taken up: no whole element waits, or a request waits for a reply that isn't
--- sent
+-- nothing more can be processed: no complete element waits, or a request waits for a reply that
+-- isn't sent
 abbrev pub IsWaiting : Connection → Type 0
 IsWaiting c = IsFirst c.input (Ok More)
     ⊎ ((n : ℕ) × (IsFirst c.input (Ok (Request n)) × (c.session.waits ≡ true)))
 
--- what waits was taken up, and the connection goes on; or it ended, for this cause
+-- what waits was processed, and the connection goes on; or it ended, for this cause
 abbrev pub IsProcessed : Option ConnEnd → Connection → Type 0
 IsProcessed None c = (c.session.torn ≡ false) × (c.session.lost ≡ false) × IsWaiting c
 IsProcessed (Some TornDown) c = c.session.torn ≡ true
@@ -41,7 +41,7 @@ IsProcessed (Some TooMuchInput) c = ⊥
 IsProcessed (Some TurnsSpent) c = ⊥
 IsProcessed (Some NoMemory) c = ⊥
 
--- an event was taken up, where so many bytes waited before it
+-- an event was processed, where so many bytes waited before it
 abbrev pub HasTakenEvent : Heard → ℕ → Option ConnEnd → Connection → Type 0
 HasTakenEvent PeerEnd waiting end c = end ≡ Some Ended
 HasTakenEvent (Slot slot) waiting end c = IsProcessed end c
@@ -49,7 +49,8 @@ HasTakenEvent (Bytes n) waiting end c =
     ((131072 < waiting + n) × (end ≡ Some TooMuchInput))
     ⊎ ((waiting + n < 131073) × IsProcessed end c)
 
--- however bytes were cut into elements and this rest, they are cut into elements and that one too
+-- however bytes were split into elements and this rest, they are split into elements and that one
+-- too
 pub record CutsOn (old new : List ℕ) : Type 0 where
   pub each : (bytes : List ℕ) (elements : List (List ℕ)) → AreInputElements bytes elements old →
       (more : List (List ℕ)) × AreInputElements bytes more new
@@ -61,7 +62,7 @@ with_heard input (Bytes n) into = if nat_lt 131072 (length input + n)
 with_heard input (Slot slot) into = input
 with_heard input PeerEnd into = input
 
--- what came of the element in front: it was taken up and is gone; nothing more can be taken up; or
+-- what came of the first element: it was processed and is gone; nothing more can be processed; or
 -- the connection ended
 abbrev pub IsTaken : InputProgress → ℕ → Connection → Type 0
 IsTaken Gone waiting c = (c.session.lost ≡ false) × (length c.input < waiting)

@@ -31,8 +31,8 @@ abbrev pub planned_bytes : PacerState → ℕ → List ℕ
 planned_bytes p slot =
     take (first_slots p.plan (slot + 1 - p.start)) (drop p.before (framed_bytes p.pieces))
 
--- of a play these bytes were sent up to the heard slot: what its plan has for its slots up to that
--- one, all in order
+-- of a play these bytes were sent up to the last slot received: what its plan has for its slots up
+-- to that one, all in order
 pub record HasSent (play : Played) (heard : ℕ) (film : List ℕ) : Type 0 where
   pub pacing : IsPacerState play.pacer
   pub plan : play.pacer.plan ≡ play.plan
@@ -128,8 +128,8 @@ pub record HasSentOn (setup : Setup) (play : Played) (session : SessionState) (f
   pub sent : HasSent now session.heard film
 
 -- a part of a connection's course with a play in it: where the connection stands at its beginning,
--- the bytes of the play's film that were sent by then, the pieces that are taken up from there, the
--- events after them, and where it stands at the end
+-- the bytes of the play's film that were sent by then, the pieces that are processed from there,
+-- the events after them, and where it stands at the end
 pub record PlaySpan : Type 0 where
   pub old : Stage
   pub play : Played
@@ -138,7 +138,7 @@ pub record PlaySpan : Type 0 where
   pub rounds : List Round
   pub new : Stage
 
--- the play goes on all the while: pieces were taken up, and event after event, and no booking was
+-- the play goes on all the while: pieces were processed, and event after event, and no booking was
 -- halted
 pub record GoesOn (stretch : PlaySpan) : Type 0 where
   pub setup : Setup

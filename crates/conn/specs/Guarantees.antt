@@ -1,4 +1,4 @@
--- What a connection promises over its whole course, of its plays and of the plays that it refuses.
+-- What a connection promises over its entire course, of its plays and of the plays that it refuses.
 use Rattle.std.specs.Prelude.{◌≡◌, ◌≤◌, ℕ, ◌⊎◌, ◌++◌, ⊤, Contains, List, [], ◌∷◌, slice_get, take}
 use Rattle.std.specs.Prelude.{Option, Some}
 use Rattle.vod_base.specs.Links.{IoEvent}
@@ -45,7 +45,7 @@ pub record IsOverflowOf (terms : Terms) (journal : List Entry) (outcomes : List 
         asked = asked;
       })
 
--- a reply tells it
+-- a reply reports it
 pub record ReportsOverflowOf (terms : Terms) (journal : List Entry) (outcomes : List Outcome)
     (text : List ℕ) : Type 0 where
   pub slot : ℕ

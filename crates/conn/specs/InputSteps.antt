@@ -59,15 +59,15 @@ film_bytes (Film bytes ∷ parts) = bytes ++ film_bytes parts
 film_bytes (Text bytes ∷ parts) = film_bytes parts
 
 -- what the station answered: it wasn't asked; it made an entry; its journal had no room for so many
--- more, by its two numbers; or, asked by a heard slot, it made an offer
+-- more, by its two numbers; or, asked with the last slot received, it made an offer
 pub data Outcome : Type 0 where
   Unasked : Outcome
   Entered : PlacedEntry → Outcome
   WasFull : ℕ → ℕ → ℕ → Outcome
   Offered : ℕ → OfferNote → Outcome
 
--- a play's entry has the heard slot and the plan that was asked for; an admitted play begins in a
--- later slot, whose number has 64 bits
+-- a play's entry has the last slot received and the plan that was asked for; an admitted play
+-- begins in a later slot, whose number has 64 bits
 abbrev pub IsPlayAnswered : SessionState → PlacedEntry → Answer → SessionState → Type 0
 IsPlayAnswered old placed (Admitted start) new =
     (old.heard < start) × (new ≡ after_admission old placed.place start) × IsPlayIn new.state
@@ -117,7 +117,7 @@ IsAskAnswered old (AskOffer plan offers) (Offered at_slot note) new =
     × (at_slot ≡ old.heard)
 IsAskAnswered _ _ _ _ = ⊥
 
--- a request was heard and answered, with what the station answered on the way
+-- a request was received and answered, with what the station answered on the way
 pub record HasHeard (old : SessionState) (message : List ℕ) (outcome : Outcome) (new : SessionState)
     : Type 0 where
   pub ask : Ask
@@ -125,32 +125,32 @@ pub record HasHeard (old : SessionState) (message : List ℕ) (outcome : Outcome
   pub hears : Hears old message ask asking
   pub answered : IsAskAnswered asking ask outcome new
 
--- a reply goes out where no frame and no report is cut
+-- a reply goes out where it splits no frame and no report
 abbrev pub reply_parts : SessionState → List SentPart
 reply_parts session = if can_reply session then Text session.text ∷ [] else []
 
 abbrev pub after_reply : SessionState → SessionState
 after_reply session = if can_reply session then sent_reply session else session
 
--- an element in front of the input: line ends or an interleaved block, so many bytes; or a request,
+-- the first element of the input: line ends or an interleaved block, so many bytes; or a request,
 -- what the station answered to it, and what was sent
 pub data ElementStep : Type 0 where
   Passed : ℕ → ElementStep
   Answered : List ℕ → Outcome → List SentPart → ElementStep
 
--- these bytes in front are line ends, or an interleaved block
+-- these first bytes are line ends, or an interleaved block
 abbrev pub IsPassed : List ℕ → ℕ → Type 0
 IsPassed input n = IsFirst input (Ok (Skip n))
     ⊎ ((channel : ℕ) × IsFirst input (Ok (Block channel n)))
 
--- the request in front can be taken up: no reply waits, and no TEARDOWN was answered 200
+-- the first request can be processed: no reply waits, and no TEARDOWN was answered 200
 pub record IsNext (old : Stage) (message : List ℕ) : Type 0 where
   pub first : IsFirst old.input (Ok (Request (length message)))
   pub message_is : message ≡ take (length message) old.input
   pub replied : old.session.waits ≡ false
   pub torn : old.session.torn ≡ false
 
--- a request was taken up, answered and replied to, as far as its reply can go out
+-- a request was processed, answered and replied to, as far as its reply can go out
 pub record IsReplied (old : Stage) (message : List ℕ) (outcome : Outcome) (parts : List SentPart)
     (new : Stage) : Type 0 where
   pub next : IsNext old message
@@ -164,7 +164,7 @@ Takes old (Passed n) new = IsPassed old.input n × (old.session.torn ≡ false)
     × (new ≡ stage old.session (drop n old.input))
 Takes old (Answered message outcome parts) new = IsReplied old message outcome parts new
 
--- elements were taken up, one after another
+-- elements were processed, one after another
 abbrev pub TakesAll : Stage → List ElementStep → Stage → Type 0
 TakesAll old [] new = new ≡ old
 TakesAll old (taking ∷ takings) new = (mid : Stage)
@@ -187,7 +187,7 @@ IsFinished NoAnswer old Unasked new = new ≡ old
 IsFinished (HaltAnswer keep) old outcome new = IsHalted old keep outcome new
 IsFinished _ _ _ _ = ⊥
 
--- a slot was taken up: what is due was sent, and a play that is then done was halted
+-- a slot was processed: what is due was sent, and a play that is then done was halted
 pub record HasStepped (old : SessionState) (slot : ℕ) (parts : List SentPart) (halt : Outcome)
     (new : SessionState) : Type 0 where
   pub parts_are : parts ≡ slot_parts old slot

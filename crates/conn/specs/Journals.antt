@@ -45,7 +45,7 @@ pub record StandsIn (terms : Terms) (journal : List Entry) (from : ℕ) (placed 
   pub maker_is : placed.entry.maker ≡ terms.maker
   pub room : HasRoomAt terms journal placed.place (entries_needed placed.entry.command)
 
--- a front of the journal had no room for so many more entries, beside those for the halts of its
+-- a prefix of the journal had no room for so many more entries, beside those for the halts of its
 -- open plays: these are its two numbers
 pub record IsFullIn (limit : ℕ) (journal : List Entry) (from more entries live : ℕ)
     : Type 0 where
@@ -54,8 +54,8 @@ pub record IsFullIn (limit : ℕ) (journal : List Entry) (from more entries live
   pub open_is : live ≡ open_count (take entries journal)
   pub full : limit < entries + live + more
 
--- an offer is the one that is made in the state after a front of the journal, from the slot after
--- the heard one and after now on
+-- an offer is the one that is made in the state after a prefix of the journal, from the slot after
+-- the last one received and after now on
 pub record IsOfferedIn (steps : List CapStep) (journal : List Entry) (from slot : ℕ)
     (note : OfferNote) : Type 0 where
   pub after : from ≤ note.seen

@@ -19,7 +19,7 @@ use Rattle.conn.specs.EventSteps.{Round, Runs, RunsAll, ending_bytes, ending_doi
 use Rattle.conn.specs.EventSteps.{ending_outcomes, entries_in, round_bytes, round_outcomes}
 use Rattle.conn.specs.EventSteps.{rounds_doings, rounds_outcomes, takings_bytes, takings_outcomes}
 
--- where a connection stands, what its link told, and its seat
+-- where a connection stands, what its link exposed, and its seat
 pub record Observed : Type 0 where
   pub stage : Stage
   pub told : Option (List IoEvent)
@@ -48,21 +48,21 @@ pub record HasAnswered (old : SessionState) (ask : Ask) (new : SessionState) (ol
   pub answered : IsAskAnswered old ask outcome new
   pub noted : AreNoted old_seat new_seat (outcome ∷ [])
 
--- a request was heard, and answered as far as the station goes
+-- a request was received, and answered as far as the station goes
 pub record HasAsked (old : SessionState) (message : List ℕ) (new : SessionState)
     (old_seat new_seat : SeatState) : Type 0 where
   pub outcome : Outcome
   pub heard : HasHeard old message outcome new
   pub noted : AreNoted old_seat new_seat (outcome ∷ [])
 
--- elements were taken up
+-- elements were processed
 pub record HasTaken (old new : Observed) : Type 0 where
   pub takings : List ElementStep
   pub takes : TakesAll old.stage takings new.stage
   pub sent : IsSent old.told (takings_bytes takings) new.told
   pub noted : AreNoted old.seat new.seat (takings_outcomes takings)
 
--- elements were taken up, and then a request's reply couldn't be sent
+-- elements were processed, and then a request's reply couldn't be sent
 pub record HasLostReply (old new : Observed) : Type 0 where
   pub mid : Observed
   pub taken : HasTaken old mid
@@ -73,19 +73,19 @@ pub record HasLostReply (old new : Observed) : Type 0 where
   pub sent : IsSent mid.told front new.told
   pub noted : AreNoted mid.seat new.seat (outcome ∷ [])
 
--- elements were taken up until nothing more can be, or until the connection ended, for this cause
+-- elements were processed until nothing more can be, or until the connection ended, for this cause
 abbrev pub HasProcessedInput : Option ConnEnd → Observed → Observed → Type 0
 HasProcessedInput None old new = HasTaken old new × IsIdle new.stage
 HasProcessedInput (Some end) old new = ((end ≡ LinkFault) × HasLostReply old new)
     ⊎ (HasTaken old new × IsStopped end new.stage)
 
--- one element was taken up; or nothing more can be; or the connection ended
+-- one element was processed; or nothing more can be; or the connection ended
 abbrev pub TakesNext : InputProgress → Observed → Observed → Type 0
 TakesNext Gone old new = HasTaken old new
 TakesNext Waits old new = (new ≡ old) × IsIdle new.stage
 TakesNext (End end) old new = HasProcessedInput (Some end) old new
 
--- a slot was taken up
+-- a slot was processed
 pub record HasTakenSlot (old new : Observed) (slot : ℕ) : Type 0 where
   pub parts : List SentPart
   pub halt : Outcome
@@ -101,7 +101,7 @@ pub record HasFailedSend (old new : Observed) (slot : ℕ) : Type 0 where
   pub sent : IsSent old.told front new.told
   pub noted : new.seat ≡ old.seat
 
--- after an event: it was taken up with all that can be taken up then; or the connection ended,
+-- after an event: it was processed with all that can be processed then; or the connection ended,
 -- where it stood after so many events
 pub record HasRound (event : IoEvent) (old new : Observed) : Type 0 where
   pub round : Round
@@ -123,7 +123,7 @@ abbrev pub HasHandledEvent : Option ConnEnd → IoEvent → Observed → Observe
 HasHandledEvent None event old new = HasRound event old new
 HasHandledEvent (Some end) event old new = (count : ℕ) → HasEnded (event ∷ []) end count old new
 
--- so many events were heard, and the connection goes on
+-- so many events were received, and the connection goes on
 pub record HasRun (count : ℕ) (old new : Observed) : Type 0 where
   pub rounds : List Round
   pub count_is : length rounds ≡ count
@@ -131,7 +131,7 @@ pub record HasRun (count : ℕ) (old new : Observed) : Type 0 where
   pub told : new.told ≡ told_more old.told (rounds_doings rounds)
   pub noted : AreNoted old.seat new.seat (rounds_outcomes rounds)
 
--- a connection's whole course, up to its end; at most 2^40 events were heard
+-- a connection's entire course, up to its end; at most 2^40 events were received
 pub record HasCourse (end : ConnEnd) (old new : Observed) : Type 0 where
   pub rounds : List Round
   pub mid : Stage

@@ -35,13 +35,13 @@ pub record Served (old new : Content) (count : ℕ) : Type 0 where
   pub given : new.own.given ≡ count
   pub back : length new.own.back ≡ count
 
--- the same of what is told of the part
+-- the same of what is exposed of the part
 abbrev pub IsServed : Option Content → Option Content → ℕ → Type 0
 IsServed None new count = new ≡ None
 IsServed (Some old) None count = ⊥
 IsServed (Some old) (Some new) count = Served old new count
 
--- each report has the worker's number and the words of its connection
+-- each report has the worker's number and the random words of its connection
 pub record AreOf (seed : List ℕ) (worker : ℕ) (reports : List ConnReport) : Type 0 where
   pub worker_is : (k : ℕ) (none : ConnReport) → k < length reports →
       (slice_index_or reports k none).worker ≡ worker
@@ -54,7 +54,7 @@ entries_reported [] = []
 entries_reported (report ∷ reports) = entry_receipts report.receipts.items ++ entries_reported
     reports
 
--- the entries that the seat made are those that the reports tell, in order, and each admission is
+-- the entries that the seat made are those that the reports list, in order, and each admission is
 -- followed by its halt
 pub record HasServed (mine : List PlacedEntry) (reports : List ConnReport) (new : List PlacedEntry)
     : Type 0 where
@@ -63,14 +63,14 @@ pub record HasServed (mine : List PlacedEntry) (reports : List ConnReport) (new 
   pub receipts_are : entries_reported reports ≡ map receipt_for made
   pub open_is : open_play_from Closed made ≡ Closed
 
--- before its first event a connection did nothing, where it tells what it does
+-- before its first event a connection did nothing, where it exposes what it does
 abbrev pub fresh_history : Option (List IoEvent) → Option (List IoEvent)
 fresh_history None = None
 fresh_history (Some told) = Some []
 
--- a connection that came back, and its report: what it tells is its course, in which it keeps what
--- it promises; each play that was admitted is halted once, and the report lists the entries; and it
--- failed only where its count rose
+-- a connection that came back, and its report: what it exposes is its course, in which it keeps
+-- what it promises; each play that was admitted is halted once, and the report lists the entries;
+-- and it failed only where its count rose
 pub record HasServedOne (films : List Stored) (settings : Settings) (returned : ReturnedConn)
     (report : ConnReport) (old new : SeatState) : Type 0 where
   pub served : ConnectionSpec (new_session_state films settings report.words)
@@ -90,14 +90,14 @@ AreServed films settings old (returned ∷ back) (report ∷ reports) new =
     (mid : SeatState) × (HasServedOne films settings returned report old mid
     × AreServed films settings mid back reports new)
 
--- the same of what is told of the part
+-- the same of what is exposed of the part
 abbrev pub AreReported : List Stored → Settings → Option Content → List ConnReport →
     SeatState → SeatState → Type 0
 AreReported films settings None reports old new = ⊤
 AreReported films settings (Some content) reports old new =
     AreServed films settings old content.own.back reports new
 
--- a part of a gate: its count of faults, and what it tells
+-- a part of a gate: its count of faults, and what it exposes
 pub record WorkerGate : Type 0 where
   pub faults : ℕ
   pub told : Option Content
@@ -128,7 +128,7 @@ pub record WorkerSpec (worker_input : WorkerInput) (old_seat new_seat : SeatStat
   pub served : IsServed old.told new.told (length result.reports.items)
   pub connections : AreReported worker_input.films worker_input.settings new.told
       result.reports.items old_seat new_seat
-  -- a part failed only where its count rose; the last take is told
+  -- a part failed only where its count rose; the history exposes the last take
   pub count : old.faults ≤ new.faults
   pub all : result.end ≡ AllTaken → IfSome new.told (λ c. c.own.last ≡ NoMore)
   pub fault : result.end ≡ GateFault → HasRisen old.faults new.faults

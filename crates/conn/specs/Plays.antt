@@ -30,7 +30,7 @@ use Rattle.conn.specs.EventSteps.{Comes, Ending, Unheard, PeerEnded, Overfull, A
 use Rattle.conn.specs.EventSteps.{InReply, Round, RunsAll}
 use Rattle.conn.specs.Films.{IsBetween}
 
--- what holds of each film: its units are those of a trace, and a picture's time is in its range
+-- what is true for each film: its units are those of a trace, and a picture's time is in its range
 pub record IsShown (stored : Stored) : Type 0 where
   pub sizes : AreUnitSizes (stored_sizes stored)
   pub some_time : 1 ≤ picture_time stored.film.rate
@@ -44,7 +44,7 @@ is_admitted (WasFull more entries live) = false
 is_admitted (Offered at_slot note) = false
 
 -- The film's bytes that were sent since the last admission: with one more answer of the station,
--- with elements that were taken up, and with rounds.
+-- with elements that were processed, and with rounds.
 abbrev pub film_since : List ℕ → Outcome → List ℕ
 film_since film outcome = if is_admitted outcome then [] else film
 
@@ -59,7 +59,7 @@ film_in film [] = film
 film_in film (round ∷ rounds) =
     film_in (film_taken (film ++ film_bytes round.due) round.takings) rounds
 
--- the last heard slot, with an event
+-- the last slot received, with an event
 abbrev pub heard_by : ℕ → IoEvent → ℕ
 heard_by heard (HeardBytes bytes) = heard
 heard_by heard (HeardSlot slot) = last_heard_slot heard slot
@@ -141,7 +141,7 @@ pub record IsRoundIn (first : SessionState) (rounds before : List Round) (round 
 
 -- Each play is kept, from its admission until its halt: after the step of each slot, which its halt
 -- follows at the earliest, what was sent of it is by its plan and between its curves. After the
--- halt, until the rest up to a boundary was sent, it is by its plan and cut at that boundary. Else
+-- halt, until the rest up to a boundary was sent, it is by its plan and ends at that boundary. Else
 -- nothing of a film is sent.
 abbrev pub ArePlaysKept : SessionState → List Round → Type 0
 ArePlaysKept first rounds =

@@ -71,7 +71,7 @@ reservation_state mine connection =
 abbrev pub at_rest : List PlacedEntry → List Receipt → ReservationState
 at_rest mine receipts = record { mine = mine; booking = None; receipts = receipts }
 
--- entries were made: the receipts tell them, and the bookings follow one another
+-- entries were made: the receipts record them, and the bookings follow one another
 pub record HasAdvanced (old new : ReservationState) : Type 0 where
   pub made : List PlacedEntry
   pub mine_is : new.mine ≡ old.mine ++ made
@@ -93,8 +93,8 @@ pub record IsQuiet (mine : List PlacedEntry) (connection : Connection) : Type 0 
   pub rest : AwaitsNoAnswer connection.session
   pub held : IsHeld mine connection.booking (open_of connection.session)
 
--- what a call leaves of a seat and of the connection for which it sits: the seat stays as it was
--- but for the entries that it made, which the receipts tell, and the booking is held
+-- what a call leaves of a seat and of the connection for which it sits: the seat stays as it was,
+-- except the entries that it made, which the receipts record, and the booking is held
 pub record KeepsReservations (old new : SeatState) (before after : Connection) : Type 0 where
   pub seat : IsSameSeat old new
   pub quiet : IsQuiet new.mine after

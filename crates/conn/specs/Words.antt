@@ -1,4 +1,5 @@
--- The words of a connection: the key stream of the seed, in a stream of the connection's own.
+-- The random words of a connection: the key stream of the seed, in a stream of the connection's
+-- own.
 use Rattle.std.specs.Prelude.{ℕ, ◌+◌, ◌*◌, ◌%◌, ◌^◌, List, [], ◌∷◌}
 use Rattle.rand_chacha.specs.ChaCha.{word_at, key_of}
 

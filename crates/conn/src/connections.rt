@@ -76,8 +76,8 @@ impl<'a> Connection<'a> {
         })
     }
 
-    /// Processes an event, and answers how it ended the connection, if it did. The bytes that came
-    /// stand in front of `bytes`.
+    /// Processes an event, and returns how it ended the connection, if it did. The bytes that
+    /// arrived are at the start of `bytes`.
     #[tactic(auto, using(crate::proofs::SharedLemmas::count_steps))]
     pub(crate) fn hear<R: Wait, K: Link>(
         &mut self,
@@ -154,7 +154,7 @@ impl<'a> Connection<'a> {
         Ok(())
     }
 
-    /// Processes what waits, and answers how it ended the connection, if it did.
+    /// Processes what waits, and returns how it ended the connection, if it did.
     #[tactic(auto, using(crate::proofs::SharedLemmas::count_steps))]
     fn process_input<R: Wait, K: Link>(
         &mut self,
@@ -183,8 +183,8 @@ impl<'a> Connection<'a> {
         }
     }
 
-    /// Processes the element in front. A request is processed only where no reply waits, and none
-    /// is once a TEARDOWN was answered 200.
+    /// Processes the first element that waits. A request is processed only where no reply waits,
+    /// and none is once a TEARDOWN was answered 200.
     #[tactic(auto, using(crate::proofs::SharedLemmas::count_steps))]
     fn process_next<R: Wait, K: Link>(
         &mut self,
@@ -222,8 +222,8 @@ impl<'a> Connection<'a> {
         }
     }
 
-    /// Processes the request in front, which has this length, unless a reply waits, and sends its
-    /// reply where it can go out.
+    /// Processes the first request that waits, which has this length, unless a reply waits, and
+    /// sends its reply where it can go out.
     #[tactic(auto, using(crate::proofs::SharedLemmas::count_steps))]
     fn process_request<R: Wait, K: Link>(
         &mut self,
@@ -256,7 +256,8 @@ impl<'a> Connection<'a> {
         }
     }
 
-    /// Hears the request in front, which has this length, and asks the station what it asks for.
+    /// Hands the first request that waits, which has this length, to the session, and asks the
+    /// station what the session asks for.
     fn answer_request<R: Wait>(&mut self, rt: &R, station: &Station, seat: &mut Seat, length: usize)
         requires seat { seat.old.id ≡ station.now.id }
         requires quiet { IsQuiet seat.old.mine self.old }
@@ -409,12 +410,12 @@ impl<'a> Connection<'a> {
     }
 }
 
-/// What came of the element in front.
+/// What came of the first element that waits.
 pub(crate) enum InputProgress {
     /// It was processed and is gone.
     Gone,
-    /// Nothing more can be processed: no whole element waits, or a request waits for a reply to be
-    /// sent.
+    /// Nothing more can be processed: no complete element waits, or a request waits for a reply to
+    /// be sent.
     Waits,
     /// The connection ended.
     End(ConnEnd),
@@ -430,7 +431,7 @@ fn end_of(fault: DemuxFault) -> ConnEnd
     }
 }
 
-/// Tells a session why the play was refused for which it asked.
+/// Hands the session the reason why the play that it asked for was refused.
 fn hear_refusal(session: &mut Session<'_>, refused: PlayRefused)
     requires asked { IsPlay (awaited_answer session.old) }
     requires closed { open_of session.old ≡ None }

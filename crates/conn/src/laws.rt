@@ -104,10 +104,11 @@ pub fn law_play_reply_matches_entry()
         → IsPlayReplied old outcome new }
 {}
 
-/// A PLAY in Ready to which no refusal applies is answered 200 where at its turn the journal has
-/// room for it and no slot would be booked above the link's capacity; 453 exactly where there is
-/// room and a slot would be, with the first such slot; 503 exactly where there is no room; or 500
-/// where memory ran out. The journal is any legal one with which the station's answer agrees.
+/// A PLAY in Ready to which no refusal applies is decided while its seat holds the lock. It is
+/// answered 200 where the journal then has room for it and no slot would be booked above the link's
+/// capacity; 453 exactly where there is room and a slot would be, with the first such slot; 503
+/// exactly where there is no room; or 500 where memory ran out. The journal is any legal one with
+/// which the station's answer agrees.
 pub fn law_play_reply_matches_journal()
     ensures { (old new : SessionState) (message : List ℕ) (outcome : Outcome)
         → CanBePlayed old message → HasHeard old message outcome new

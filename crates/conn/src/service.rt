@@ -74,7 +74,7 @@ pub fn serve_connection<R: Wait, K: Link>(
     report_of(alloc, worker, words, end, connection.notes())
 }
 
-/// Hears events until one of them ends the connection.
+/// Processes events until one of them ends the connection.
 #[tactic(auto, using(crate::proofs::SharedLemmas::event_steps))]
 fn hear_all<R: Wait, K: Link>(
     rt: &R,

@@ -22,10 +22,10 @@ abbrev pub IsDueBy : FilmPlay → List ℕ → Type 0
 IsDueBy play [] = ⊤
 IsDueBy play (slot ∷ slots) = (due_of slot play ≡ play.keep) × IsDueBy play slots
 
--- A client that wishes so asked a connection for a film: what the connection heard is a front of
--- the client's requests, SETUP, PLAY and TEARDOWN, the last one once the film was due to its end.
--- The films of the wish's name are this one, and a slot is as long for the server as for the
--- client. A play was admitted, and it was kept whole: no pause and no fault cut it.
+-- A client that wishes so asked a connection for a film: what the connection received is a prefix
+-- of the client's requests, SETUP, PLAY and TEARDOWN, the last one once the film was due to its
+-- end. The films of the wish's name are this one, and a slot is as long for the server as for the
+-- client. A play was admitted, and all of it was kept: no pause and no fault stopped it early.
 pub record IsAskedFor (wish : Wish) (stored : Stored) (course : Course) : Type 0 where
   pub wished : IsWish wish
   pub port : wish.port < 2 ^ 16
@@ -43,8 +43,9 @@ pub record IsAskedFor (wish : Wish) (stored : Stored) (course : Course) : Type 0
   pub keep : play.keep ≡ total_bytes play.plan
   pub due : IsDueBy play (drop 2 (slots_from 0 course.rounds))
 
--- A film comes back whole to a client that watches it: its bytes from its first picture to its last
--- one. At each reading no picture lacks that is used, and what waits fits in the client's buffer.
+-- A film comes back complete to a client that watches it: its bytes from its first picture to its
+-- last one. At each reading no picture is missing that is used, and what waits fits in the client's
+-- buffer.
 abbrev pub HasWatchedWhole : Wish → Stored → Watched → List ℕ → Type 0
 HasWatchedWhole wish stored watched out =
     (watched.over ≡ 0) × (watched.under ≡ 0) × (watched.most ≤ wish.buffer)

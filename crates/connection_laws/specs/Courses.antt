@@ -1,5 +1,5 @@
--- A connection's course as whole lists: what it heard, what it asked the station, and the greatest
--- slot.
+-- A connection's course as complete lists: what it received, what it asked the station, and the
+-- greatest slot.
 use Rattle.std.specs.Prelude.{ℕ, ◌≡◌, ◌^◌, if◌then◌else◌, max, nat_le, List, [], ◌∷◌, ◌++◌}
 use Rattle.vod_base.specs.Links.{IoEvent, HeardBytes, HeardEnd, HeardSlot, Sent}
 use Rattle.film_frames.specs.declared.stored_films.Stored.{Stored}
@@ -17,7 +17,7 @@ use Rattle.connection_laws.specs.Plays.{StationRequest, Asks, FilmPlay, film_wri
 abbrev pub first_stage : List Stored → Settings → List ℕ → Stage
 first_stage films settings words = stage (new_session_state films settings words) []
 
--- events, one after another, and what was taken up after each
+-- events, one after another, and what was processed after each
 abbrev pub IsCourseBetween : Stage → List Round → Stage → Type 0
 IsCourseBetween old [] new = new ≡ old
 IsCourseBetween old (round ∷ rounds) new = (mid : Stage) × (Runs old round mid × IsCourseBetween mid
@@ -28,7 +28,7 @@ abbrev pub IsCourseSplit : Stage → List Round → List Round → Stage → Typ
 IsCourseSplit old first rest new = (mid : Stage) × (IsCourseBetween old first mid × IsCourseBetween
     mid rest new)
 
--- the greatest slot up to 2^62 among events that were heard, 0 where there is none
+-- the greatest slot up to 2^62 among events that were received, 0 where there is none
 abbrev pub slot_in : IoEvent → ℕ
 slot_in (HeardBytes bytes) = 0
 slot_in (HeardSlot slot) = if nat_le slot (2 ^ 62) then slot else 0
@@ -44,7 +44,7 @@ abbrev pub rounds_bytes : List Round → List ℕ
 rounds_bytes [] = []
 rounds_bytes (round ∷ rounds) = round_bytes round ++ rounds_bytes rounds
 
--- what the station was asked, and its answers: as an event came, as elements were taken up, and in
+-- what the station was asked, and its answers: as an event came, as elements were processed, and in
 -- all
 abbrev pub asked_by : SessionState → IoEvent → Awaited
 asked_by session (HeardBytes bytes) = Nothing
@@ -73,7 +73,7 @@ askings_of old (round ∷ rounds) new follows =
     round_askings old round follows.0 follows.1.0 ++ askings_of follows.0 rounds new follows.1.1
 
 -- a connection's course from its beginning: the films, settings and words that it began with, its
--- events with what was taken up after each, and where it stands then
+-- events with what was processed after each, and where it stands then
 pub record Course : Type 0 where
   pub films : List Stored
   pub settings : Settings

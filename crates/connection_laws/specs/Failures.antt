@@ -5,9 +5,9 @@ use Rattle.conn.specs.EventSteps.{IsPrefixOf, Round}
 use Rattle.conn.specs.InputSteps.{ElementStep}
 use Rattle.connection_laws.specs.Courses.{Course, rounds_bytes}
 
--- After a course came this event, and then these elements were taken up. What was sent is all that
--- the course sent, and a front of what the course sends that has this event and these elements
--- beside.
+-- After a course came this event, and then these elements were processed. What was sent is all that
+-- the course sent, and a prefix of what the course sends that also has this event and these
+-- elements.
 pub record IsCutShort (course : Course) (event : IoEvent) (takings : List ElementStep) (sent : List
     ℕ)
     : Type 0 where

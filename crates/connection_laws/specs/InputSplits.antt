@@ -1,4 +1,4 @@
--- Two connections that heard the same bytes between the same slots, cut in two ways.
+-- Two connections that received the same bytes between the same slots, split in two ways.
 use Rattle.std.specs.Prelude.{ℕ, ◌≡◌, ◌⊎◌, ⊤, ◌++◌, List, [], ◌∷◌, map}
 use Rattle.vod_base.specs.Links.{IoEvent, HeardBytes, HeardEnd, HeardSlot, Sent}
 use Rattle.film_frames.specs.declared.stored_films.Stored.{Stored}
@@ -13,12 +13,12 @@ use Rattle.conn.specs.InputSteps.{Unasked, WasFull}
 use Rattle.conn.specs.declared.reports.ConnEnd.{ConnEnd}
 use Rattle.connection_laws.specs.Courses.{first_stage, rounds_bytes}
 
--- nothing more can be taken up: no whole element waits, a request waits for a reply that isn't
+-- nothing more can be processed: no complete element waits, a request waits for a reply that isn't
 -- sent, or the connection has ended
 abbrev pub IsDrained : Stage → Type 0
 IsDrained stage = IsIdle stage ⊎ ((end : ConnEnd) × IsStopped end stage)
 
--- events, one after another; after each all is taken up that can be
+-- events, one after another; after each all is processed that can be
 abbrev pub TakesUp : Stage → List Round → Stage → Type 0
 TakesUp old [] new = new ≡ old
 TakesUp old (round ∷ rounds) new = (mid : Stage)
@@ -28,7 +28,7 @@ TakesUp old (round ∷ rounds) new = (mid : Stage)
 abbrev pub ArePrefixes : Stage → List Round → List Round → Stage → Type 0
 ArePrefixes old first rest new = (mid : Stage) × (TakesUp old first mid × TakesUp mid rest new)
 
--- what was heard: each byte and each slot, in order
+-- what was received: each byte and each slot, in order
 abbrev pub heard_in : IoEvent → List IoEvent
 heard_in (HeardBytes bytes) = map (λ byte. HeardBytes (byte ∷ [])) bytes
 heard_in (HeardSlot slot) = HeardSlot slot ∷ []
@@ -50,18 +50,18 @@ abbrev pub answers_in : List Outcome → List Outcome
 answers_in [] = []
 answers_in (outcome ∷ outcomes) = answer_in outcome ++ answers_in outcomes
 
--- a request that a session heard, and what it then asked of the station
+-- a request that a session received, and what it then asked of the station
 pub record HeardRequest : Type 0 where
   pub session : SessionState
   pub message : List ℕ
   pub ask : Ask
   pub asking : SessionState
 
--- memory was wanting for it: it is answered 500
+-- memory ran out for it: it is answered 500
 abbrev pub RanOutOfMemory : HeardRequest → Type 0
 RanOutOfMemory h = IsOutOfMemory h.session h.message h.ask h.asking
 
--- the requests that were heard, in order
+-- the requests that were received, in order
 abbrev pub heard_requests_taken : (old : Stage) (takings : List ElementStep) (new : Stage)
     → TakesAll old takings new → List HeardRequest
 heard_requests_taken old [] new takes = []
@@ -81,7 +81,7 @@ heard_requests_in old (round ∷ rounds) new takes =
     heard_requests_taken takes.1.0.opened round.takings takes.0 takes.1.0.takes
     ++ heard_requests_in takes.0 rounds new takes.1.2
 
--- as far as both go the station's answers are the same, and memory is wanting for the same requests
+-- as far as both go the station's answers are the same, and memory ran out for the same requests
 abbrev pub AreSameAnswers : List Outcome → List Outcome → Type 0
 AreSameAnswers [] others = ⊤
 AreSameAnswers (answer ∷ answers) [] = ⊤
@@ -115,7 +115,7 @@ heard_requests beginning cutting = heard_requests_in
     (first_stage beginning.films beginning.settings beginning.words) cutting.rounds cutting.last
     cutting.takes
 
--- two courses of one beginning heard the same bytes between the same slots, and the station and
+-- two courses of one beginning received the same bytes between the same slots, and the station and
 -- the memory answered alike
 pub record HaveSameInput (beginning : Beginning) (one other : InputSplit beginning) : Type 0 where
   pub heard : all_heard one.rounds ≡ all_heard other.rounds

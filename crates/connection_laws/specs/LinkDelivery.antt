@@ -1,10 +1,10 @@
--- What a link carries from a server to a client, slot by slot, by what each end's link told.
+-- What a link carries from a server to a client, slot by slot, by what each end's link exposed.
 use Rattle.std.specs.Prelude.{◌≡◌, ℕ, ◌+◌, ◌-◌, ◌≤◌, max, List, [], ◌∷◌, ◌++◌}
 use Rattle.vod_base.specs.Links.{IoEvent, HeardBytes, HeardEnd, HeardSlot, Sent}
 use Rattle.conn.specs.EventSteps.{IsPrefixOf}
 use Rattle.connection_laws.specs.Courses.{slot_in}
 
--- the bytes that were heard, and those that were sent, in order
+-- the bytes that were received, and those that were sent, in order
 abbrev pub heard_bytes : List IoEvent → List ℕ
 heard_bytes [] = []
 heard_bytes (HeardBytes bytes ∷ doings) = bytes ++ heard_bytes doings
@@ -19,13 +19,13 @@ sent_bytes (HeardSlot slot ∷ doings) = sent_bytes doings
 sent_bytes (HeardEnd ∷ doings) = sent_bytes doings
 sent_bytes (Sent byte ∷ doings) = byte ∷ sent_bytes doings
 
--- the greatest slot up to 2^62 that was heard, 0 where there is none
+-- the greatest slot up to 2^62 that was received, 0 where there is none
 abbrev pub latest_slot : List IoEvent → ℕ
 latest_slot [] = 0
 latest_slot (doing ∷ doings) = max (slot_in doing) (latest_slot doings)
 
 -- A server had written these bytes at a moment between its step of a slot and the next one: the
--- slot was the latest that it had heard, and what it had begun to send was sent.
+-- slot was the latest that it had received, and what it had begun to send was sent.
 pub record IsWrittenBy (served : List IoEvent) (slot : ℕ) (bytes : List ℕ) : Type 0 where
   pub front : List IoEvent
   pub rest : List IoEvent
@@ -34,10 +34,10 @@ pub record IsWrittenBy (served : List IoEvent) (slot : ℕ) (bytes : List ℕ) :
   pub slot_is : latest_slot front ≡ slot
   pub bytes_are : bytes ≡ sent_bytes front
 
--- A link carries a play that begins in a slot of the server's, and in another of the client's:
--- the bytes that the client hears are the first that the server sent. Where the client hears one of
--- the play's slots, it has heard what the server had written by its own slot of that number of the
--- play.
+-- A link carries a play that begins in a slot of the server's, and in another of the client's: the
+-- bytes that the client receives are the first that the server sent. Where the client receives one
+-- of the play's slots, it has received what the server had written by its own slot of that number
+-- of the play.
 pub record IsCarried (served heard : List IoEvent) (start begin : ℕ) : Type 0 where
   pub front : IsPrefixOf (heard_bytes heard) (sent_bytes served)
   pub each : (before after : List IoEvent) (slot : ℕ) → heard ≡ before ++ HeardSlot slot ∷ after

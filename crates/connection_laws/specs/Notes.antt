@@ -39,7 +39,7 @@ station_call asking outcome = record { asking = asking; outcome = outcome }
 abbrev pub outcome_of : StationCall → Outcome
 outcome_of turn = turn.outcome
 
--- as an event came, as elements were taken up, and in all
+-- as an event came, as elements were processed, and in all
 abbrev pub asking_at : SessionState → IoEvent → SessionState
 asking_at session (HeardBytes bytes) = session
 asking_at session (HeardSlot slot) = after_slot session slot
@@ -91,7 +91,7 @@ kept_later [] all = all
 kept_later (turn ∷ turns) all = kept_with turn.outcome (kept_later turns all)
 
 -- the note of a play: where its entry stands in the journal, its plan and its start as the entry
--- tells them, what is kept of it, and the run that was asked for as the session was set up
+-- has them, what is kept of it, and the run that was asked for as the session was set up
 abbrev pub note_for : Setup → Run → ℕ → Booked → ℕ → PlayNote
 note_for setup run place booked keep = record {
   place = place;
@@ -139,11 +139,11 @@ pub record PlacedPlay : Type 0 where
 abbrev pub placed_play : ℕ → Booked → PlacedPlay
 placed_play place booked = record { place = place; booked = booked }
 
--- as its note tells it
+-- as its note says
 abbrev pub noted_play : PlayNote → PlacedPlay
 noted_play note = placed_play note.place (truncated_play note.start note.plan note.keep)
 
--- the plays that a connection's entries tell, one for each admission, in order
+-- the plays that a connection's entries record, one for each admission, in order
 abbrev pub placed_plays : List PlacedEntry → List PlacedPlay
 placed_plays [] = []
 placed_plays (placed ∷ made) =
@@ -151,7 +151,7 @@ placed_plays (placed ∷ made) =
     (booked_by (play_admitted placed.entry.command placed.entry.answer) made)
     ++ placed_plays made
 
--- the slots that an event missed: a slot was heard while a play, or its rest, was being sent
+-- the slots that an event missed: a slot was received while a play, or its rest, was being sent
 abbrev pub missed_in : SessionState → ℕ → ℕ
 missed_in session slot = if is_taken session slot && is_sending session.state
     then slots_missed session.heard slot (start_in session.state) else 0

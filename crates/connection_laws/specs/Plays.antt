@@ -41,7 +41,7 @@ due_of slot play = min (sent_before play.plan play.start (slot + 1)) play.keep
 abbrev pub due_by : ℕ → List FilmPlay → ℕ
 due_by slot plays = sum_by (due_of slot) plays
 
--- the films of plays joined in order, each but the last cut after what is kept of it
+-- the films of plays joined in order, each but the last ended after what is kept of it
 abbrev pub bytes_of_plays : List FilmPlay → List ℕ
 bytes_of_plays [] = []
 bytes_of_plays (play ∷ []) = film_of play
@@ -111,7 +111,7 @@ abbrev pub kept_among : List PlacedEntry → ℕ → ℕ
 kept_among [] all = all
 kept_among (placed ∷ made) all = kept_by placed.entry.command (kept_among made all)
 
--- the plays that a connection's entries tell, in order
+-- the plays that a connection's entries record, in order
 abbrev pub booked_by : Option Booked → List PlacedEntry → List Booked
 booked_by None made = []
 booked_by (Some play) made = truncated_play play.start play.segments (kept_among made play.keep) ∷

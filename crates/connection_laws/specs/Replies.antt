@@ -32,7 +32,7 @@ placed_texts place [] = []
 placed_texts place (Film bytes ∷ parts) = placed_texts (place + length bytes) parts
 placed_texts place (Text text ∷ parts) = placed_text place text ∷ placed_texts place parts
 
--- the replies to the requests that were taken up, in order
+-- the replies to the requests that were processed, in order
 abbrev pub takings_replies : (old : Stage) (takings : List ElementStep) (new : Stage)
     → TakesAll old takings new → List (List ℕ)
 takings_replies old [] new takes = []

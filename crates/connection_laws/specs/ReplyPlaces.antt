@@ -21,7 +21,7 @@ pub record IsNextIn (plays : List FilmPlay) (at place : ℕ) : Type 0 where
   pub after : at ≤ place
   pub least : (other : ℕ) → IsBoundaryIn plays other → at ≤ other → place ≤ other
 
--- a reply whose request was taken up in a slot was sent by another slot: at the least boundary at
+-- a reply whose request was processed in a slot was sent by another slot: at the least boundary at
 -- or after what was due then
 pub record IsSentAt (now : ℕ) (plays : List FilmPlay) (slot : ℕ) (placed : PlacedText)
     : Type 0 where
@@ -33,7 +33,7 @@ abbrev pub IsUnsentAt : ℕ → List FilmPlay → ℕ → Type 0
 IsUnsentAt now plays slot = (place : ℕ) → IsBoundaryIn plays place → due_by slot plays ≤ place →
     due_by now plays < place
 
--- so it is of each reply, in the order of their requests, which were taken up in these slots
+-- so it is of each reply, in the order of their requests, which were processed in these slots
 abbrev pub AreSentAt : ℕ → List FilmPlay → List ℕ → List PlacedText → Type 0
 AreSentAt now plays [] [] = ⊤
 AreSentAt now plays [] (placed ∷ texts) = ⊥
@@ -41,7 +41,7 @@ AreSentAt now plays (slot ∷ slots) [] = IsUnsentAt now plays slot × AreSentAt
 AreSentAt now plays (slot ∷ slots) (placed ∷ texts) = IsSentAt now plays slot placed
     × AreSentAt now plays slots texts
 
--- of each request the greatest slot that was heard when it was taken up
+-- of each request the greatest slot that was received when it was processed
 abbrev pub takings_slots : ℕ → List ElementStep → List ℕ
 takings_slots slot [] = []
 takings_slots slot (Passed n ∷ takings) = takings_slots slot takings

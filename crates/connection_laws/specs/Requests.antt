@@ -1,4 +1,4 @@
--- The requests in a connection's input, and those of them that were taken up.
+-- The requests in a connection's input, and those of them that were processed.
 use Rattle.std.specs.Prelude.{ℕ, ◌≡◌, ◌⊎◌, ◌++◌, ◌==◌, ◌||◌, if◌then◌else◌, Bool, true, List, []}
 use Rattle.std.specs.Prelude.{◌∷◌, map, slice_index, Ok}
 use Rattle.vod_base.specs.Links.{IoEvent, HeardBytes, HeardEnd, HeardSlot, Sent}
@@ -10,7 +10,7 @@ use Rattle.conn.specs.EventSteps.{Round}
 use Rattle.conn.specs.InputSteps.{Stage}
 use Rattle.connection_laws.specs.InputSplits.{Beginning, InputSplit, HeardRequest, heard_requests}
 
--- all bytes that were heard
+-- all bytes that were received
 abbrev pub bytes_in : IoEvent → List ℕ
 bytes_in (HeardBytes bytes) = bytes
 bytes_in (HeardSlot slot) = []
@@ -39,8 +39,9 @@ pub record AwaitsReply (stage : Stage) : Type 0 where
   pub first : IsFirst stage.input (Ok (Request length))
   pub waits : stage.session.waits ≡ true
 
--- The input is cut into elements and a rest, and the requests among them were taken up, all in
--- order. So were all whole ones, unless an earlier reply waits or the 200 of a TEARDOWN was sent.
+-- The input is split into elements and a rest, and the requests among them were processed, all in
+-- order. So were all complete ones, unless an earlier reply waits or the 200 of a TEARDOWN was
+-- sent.
 pub record AreTaken (beginning : Beginning) (cutting : InputSplit beginning) : Type 0 where
   pub elements : List (List ℕ)
   pub cut : AreInputElements (rounds_input cutting.rounds) elements cutting.last.input

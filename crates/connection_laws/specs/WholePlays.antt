@@ -42,8 +42,8 @@ abbrev pub film_blocks : Stored → Identity → List (List ℕ)
 film_blocks stored identity =
     run_pieces (run_of stored.film 0 (length stored.film.units.items) identity)
 
--- A play of a whole film, on the channels 0 and 1, by the film's plan for this client, and kept
--- whole: no pause or end of the session cut it.
+-- A play of an entire film, on the channels 0 and 1, by the film's plan for this client, and all of
+-- it kept: no pause or end of the session stopped it early.
 pub record IsWholePlay (wish : Wish) (stored : Stored) (identity : Identity) (play : FilmPlay)
     : Type 0 where
   pub media : identity.channel ≡ 0
@@ -58,8 +58,8 @@ abbrev pub AreAfter : ℕ → List PlacedText → Type 0
 AreAfter place [] = ⊤
 AreAfter place (text ∷ texts) = (place ≤ text.place) × IsMessage text.text × AreAfter place texts
 
--- A connection's one play is of a whole film. Of its replies two came before the film's first byte,
--- those to SETUP and to PLAY, and the others after its last one.
+-- A connection's one play is of an entire film. Of its replies two came before the film's first
+-- byte, those to SETUP and to PLAY, and the others after its last one.
 pub record HasPlayedWhole (wish : Wish) (stored : Stored) (course : Course) : Type 0 where
   pub identity : Identity
   pub play : FilmPlay

@@ -101,8 +101,8 @@ pub fn law_plays_match_journal_entries()
 {}
 
 /// All bytes that a connection sent are the film bytes that it wrote, with the replies among them:
-/// replies in the order of their requests, each once, but for the last one as long as it waits (RFC
-/// 2326 section 10.12).
+/// replies in the order of their requests, each once, except the last one while it waits (RFC 2326
+/// section 10.12).
 pub fn law_replies_between_packets()
     ensures woven { (course : Course)
         → rounds_bytes course.rounds ≡ insert_texts 0 (course_film course) (course_texts course) }
@@ -134,8 +134,8 @@ pub fn law_requests_processed_in_order()
     ensures { (beginning : Beginning) (cutting : InputSplit beginning) → AreTaken beginning cutting }
 {}
 
-/// A connection's course is one of those of which the laws on cuttings speak, with the last event
-/// where an element ended it, and so is each prefix of it.
+/// The laws on how input is split apply to a connection's course, with the last event where an
+/// element ended it, and to each prefix of it.
 pub fn law_courses_are_input_splits()
     ensures all { (old new : Stage) (rounds : List Round) → RunsAll old rounds new
         → TakesUp old rounds new }

@@ -34,11 +34,12 @@ ghost use Rattle.connection_laws.specs.WholePlays.{whole_run};
 ghost use Rattle.connection_laws.specs.PlayReplies.{IsPlayRead};
 ghost use Rattle.connection_laws.specs.Courses.{Course};
 
-/// A film that is watched over a link that carries, slot by slot, what a server's connection sent
-/// of its one play, of the whole film and for the client's own buffer, start delay and slot, comes
-/// back from its first picture to its last one; and at each reading no picture lacks that is used,
-/// and what waits fits in the buffer (Salehi, Zhang, Kurose and Towsley 1998). So it is where the
-/// connection was asked for the film by the client's requests, and its play was sent to its end.
+/// Where a link carries, slot by slot, what a server's connection sent, a film that is watched over
+/// it comes back from its first picture to its last one. At each reading no picture is missing that
+/// is used, and what waits fits in the buffer (Salehi, Zhang, Kurose and Towsley 1998). This
+/// requires that the connection was asked for the film by the client's requests, and that its one
+/// play, of the entire film and for the client's own buffer, start delay and slot, was sent to its
+/// end.
 pub fn law_watched_film_is_complete()
     ensures played { (wish : Wish) (stored : Stored) (course : Course) (watched : Watched)
         (heard : List IoEvent) (out : List ℕ) → IsWish wish
@@ -53,9 +54,9 @@ pub fn law_watched_film_is_complete()
         (first_slot client.mid.history) → HasWatchedWhole wish stored watched out }
 {}
 
-/// What a client that wishes for a film asks of a connection, SETUP, PLAY and, once the film was
-/// due to its end, TEARDOWN, is played as it wished where it was admitted and not stopped: one
-/// play, of the whole film, by its plan for the client's buffer, start delay and slot, on the
+/// A client asks a connection for a film with SETUP, PLAY and, once the film was due to its end,
+/// TEARDOWN. Where its play was admitted and not stopped early, it is played as the client asked:
+/// one play, of the entire film, by its plan for the client's buffer, start delay and slot, on the
 /// channels 0 and 1. The replies to SETUP and to PLAY come before the film's first byte, and a
 /// later one after its last (RFC 2326 sections 10.4, 10.5 and 10.12).
 pub fn law_requested_film_is_played()
@@ -78,14 +79,14 @@ pub fn law_play_reply_is_read_correctly()
         → IsPlayRead message id sequence end_ms slots }
 {}
 
-/// The end that a server tells of a whole film, in whole milliseconds, and the time of a picture
-/// give the number of the film's units.
+/// The end that a server reports of an entire film, in whole milliseconds, and the time of a
+/// picture give the number of the film's units.
 pub fn law_unit_count_from_end_time()
     ensures { (film : Film) → units_until (length_ms film) (picture_time film.rate) ≡ length
         film.units.items }
 {}
 
-/// The plan with which a session asks for a whole film is the film's plan for the client for whom
+/// The plan with which a session asks for an entire film is the film's plan for the client for whom
 /// the session was set up.
 pub fn law_whole_film_uses_its_plan()
     ensures { (wish : Wish) (stored : Stored) (source : StreamSource) (settings : Settings)

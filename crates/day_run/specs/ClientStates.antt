@@ -78,8 +78,8 @@ abbrev pub booking_of : Play → Booked
 booking_of play = whole_play play.start play.plan
 
 -- What a client does: nothing; it plays; it has paused, and the frame or report in hand is sent to
--- its end, as what a play with a plan that is cut there books; or that is done, and it may go on
--- with the rest.
+-- its end, as what a play with a plan that ends there books; or that is done, and it may go on with
+-- the rest.
 pub data ClientState : Type 0 where
   Idle : ClientState
   Playing : (play : Play) → ClientState

@@ -1,5 +1,5 @@
--- What holds of the clients of a day: what they send and how far they have come, and that the book
--- has their plays open.
+-- What is true for the clients of a day: what they send and how far they have come, and that the
+-- book has their plays open.
 use Rattle.std.specs.Prelude.{ℕ, ◌≡◌, ◌+◌, ◌-◌, ◌<◌, ◌≤◌, false, List, [], length, map, sum, sum_by}
 use Rattle.std.specs.Prelude.{slice_index_or, Option, Some, None}
 use Rattle.plan_cert.specs.declared.Segment.{Segment}
@@ -25,8 +25,8 @@ use Rattle.day_run.specs.MediaPieces.{media_pieces, media_sizes}
 use Rattle.day_run.specs.ClientStates as states
 use Rattle.day_run.specs.Days.{done_halt, halt_by, open_halt}
 
--- A rest can be sent on: it is a run of all of its reel's units, of which whole frames and reports
--- were sent, and what was sent and isn't played fits in the client's buffer.
+-- A rest can be sent on: it is a run of all of its reel's units, of which complete frames and
+-- reports were sent, and what was sent and isn't played fits in the client's buffer.
 pub record IsRest (rest : Rest) : Type 0 where
   pub playback : IsPlayback rest.playback
   pub run : IsRun (media_sizes rest.medium.now) rest.run
@@ -147,7 +147,7 @@ state_of (Pausing stop) =
     states.Pausing (truncated_play stop.pacer.start stop.pacer.plan stop.keep) (rest_of stop.rest)
 state_of (Paused rest) = states.Paused (rest_of rest)
 
--- a client's play has come to the slot that was heard last
+-- a client's play has come to the slot that was received last
 abbrev pub IsTimed : ℕ → Client → Type 0
 IsTimed heard Idle = Unit {0}
 IsTimed heard (Playing play) = play.pacer.passed ≡ heard + 1 - play.pacer.start

@@ -1,4 +1,4 @@
--- What holds of every day.
+-- What is true for every day.
 use Rattle.std.specs.Prelude.{ℕ, ◌≡◌, ◌+◌, ◌-◌, ◌*◌, ◌<◌, ◌≤◌, ◌⊎◌, ◌++◌, List, [], Option, Some}
 use Rattle.std.specs.Prelude.{Bool, true, false, None, All, codes, count_by, flat_map, fold, length, map, max}
 use Rattle.std.specs.Prelude.{slice_index_or, sum_by, take}
@@ -63,13 +63,13 @@ pub record IsLink (link : Link) : Type 0 where
   pub media : (i : ℕ) (none : MediaContent) → i < length link.media →
       IsSoundMedia (slice_index_or link.media i none)
 
--- What is left for a client can be played, and what was sent of it are whole frames and reports.
+-- What is left for a client can be played, and what was sent of it are complete frames and reports.
 pub record IsSoundRest (rest : Rest) : Type 0 where
   pub can : CanPlay rest.sizes rest.playback rest.run
   pub boundary : IsBoundary rest.pieces rest.run.sent
 
--- A play is sent by the plan of what was left as it began, and in the slot that was heard last the
--- plan had bytes left: a play is halted in the slot of its last byte.
+-- A play is sent by the plan of what was left as it began, and in the slot that was received last
+-- the plan had bytes left: a play is halted in the slot of its last byte.
 pub record IsSoundPlay (heard : ℕ) (play : ClientPlay) : Type 0 where
   pub rest : IsSoundRest play.rest
   pub plan : IsPlanOf play.rest.sizes play.rest.playback play.rest.run play.plan
@@ -82,7 +82,7 @@ IsSoundClient heard (Pausing stop rest) = IsSoundRest rest
 IsSoundClient heard (Paused rest) = IsSoundRest rest
 
 -- A day's moment after so many of its lines: what the clients are sent in the slots up to any later
--- one, after the slot that was heard last, is what is booked there, and within the capacity of
+-- one, after the slot that was received last, is what is booked there, and within the capacity of
 -- those slots.
 pub record SentIsBookedAfter (link : Link) (lines : List Line) (count : ℕ) : Type 0 where
   pub texts : List (List ℕ)
@@ -117,9 +117,10 @@ abbrev pub IsCount : ℕ → ℕ → Option ℕ → ℕ → Type 0
 IsCount first last (Some start) count = first + count ≡ start
 IsCount first last None count = first + count ≡ last + 1
 
--- What an offer tells at a moment: of the starts from the one that a play would get which is asked
--- for in the slot that was heard last, up to the wait, the least at which the whole plan has room
--- beside all that is booked; and for each earlier one, in order, the first slot without room.
+-- What an offer answers at a moment: of the starts from the one that a play would get which is
+-- asked for in the slot that was received last, up to the wait, the least at which the entire plan
+-- has room beside all that is booked; and for each earlier one, in order, the first slot without
+-- room.
 pub record IsOfferAnswer (link : Link) (rest : Rest) (wait : ℕ) (moment : DayState) (text : List ℕ)
     : Type 0 where
   pub plan : List Segment
@@ -172,8 +173,8 @@ pub record AreEntryCounts (entries : EntryCounts) (journal : List Entry) : Type 
 
 -- what the line of a large day says: a turn brings at most three slots; as many bytes were sent as
 -- the journal books in all slots up to the last; the peak is the most that it books in one of them,
--- which is no more than the greatest capacity. Where the journal has two places for each turn, it is
--- never full.
+-- which is no more than the greatest capacity. Where the journal has two places for each turn, it
+-- is never full.
 pub record IsFairLine (steps : List CapStep) (plays : ℕ) (text : List ℕ) (journal : List Entry)
     : Type 0 where
   pub counts : FairTotals

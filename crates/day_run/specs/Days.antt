@@ -50,13 +50,13 @@ link_of steps limit slot_units sources =
       media = map (source_content slot_units) sources;
     }
 
--- a day as far as it has come: the journal, the clients, and the slot that was heard last
+-- a day as far as it has come: the journal, the clients, and the slot that was received last
 pub record DayState : Type 0 where
   pub entries : List Entry
   pub states : List ClientState
   pub heard : ℕ
 
--- no client plays, and no slot was heard
+-- no client plays, and no slot was received
 abbrev pub first_moment : DayState
 first_moment = record { entries = []; states = replicate 256 Idle; heard = 0 }
 
@@ -183,8 +183,8 @@ abbrev pub IsLookLine : Link → ℕ → DayState → DayState → List ℕ → 
 IsLookLine link slot old new text = IsFull link 1 old new text
     ⊎ IsAnsweredLook link slot old new text
 
--- The earliest start within a wait is told: of the starts after now and after the slot that was
--- heard last. Nothing is booked.
+-- The earliest start within a wait is reported: of the starts after now and after the slot that was
+-- received last. Nothing is booked.
 pub record IsOffered (link : Link) (rest : Rest) (wait : ℕ) (old new : DayState) (text : List ℕ)
     : Type 0 where
   pub plan : List Segment
@@ -223,7 +223,7 @@ halt_entries halt client [] = []
 halt_entries halt client (state ∷ states) =
     halt client state ++ halt_entries halt (client + 1) states
 
--- the bytes that all clients are sent in the slots after the one that was heard last up to this
+-- the bytes that all clients are sent in the slots after the one that was received last up to this
 -- one, and those booked there
 abbrev pub sent_up_to : DayState → ℕ → ℕ
 sent_up_to moment slot = sum_by (sent_between moment.heard slot) moment.states

@@ -52,7 +52,7 @@ fair_link steps words = record {
 
 -- ---- the turns
 -- a turn as it came: the moments before it, after its slot, and at its end, and what the client was
--- told
+-- answered
 pub record Turn : Type 0 where
   pub old : DayState
   pub mid : DayState
@@ -126,7 +126,7 @@ most_up_to moment slot =
 abbrev pub turn_peak : Turn → ℕ
 turn_peak turn = most_up_to turn.old turn.mid.heard
 
--- a client was told that the journal is full
+-- a client was answered that the journal is full
 abbrev pub is_full_line : List ℕ → Bool
 is_full_line text = bytes_eq (take 15 text) (codes "refused journal")
 
@@ -145,7 +145,7 @@ counts_of turns evening = record {
   peak = fold max 0 (map turn_peak turns);
 }
 
--- the entries of a journal that are plays that were refused for want of capacity, and halts
+-- the entries of a journal that are plays that were refused because capacity ran out, and halts
 abbrev pub is_overflow : Answer → Bool
 is_overflow (Overflow slot booked asked) = true
 is_overflow _ = false

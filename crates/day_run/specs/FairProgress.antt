@@ -19,7 +19,7 @@ pub record AreTraces (traces : List (Vec ℕ)) : Type 0 where
 abbrev pub sizes_in : List (Vec ℕ) → List (List ℕ)
 sizes_in traces = map (λ (trace : Vec ℕ). trace.items) traces
 
--- the text of what a client was told, if it was asked at all
+-- the text of what a client was answered, if it was asked at all
 abbrev pub said_text : List Entry → Option LineAnswer → List ℕ
 said_text entries None = []
 said_text entries (Some told) = reply_text entries told

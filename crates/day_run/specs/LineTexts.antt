@@ -31,7 +31,7 @@ abbrev pub full_text : Full → List ℕ
 full_text full = field (codes "refused journal entries=") full.entries
     ++ field (codes " open=") full.live ++ codes "\n"
 
--- a slot, with the bytes sent, and those booked since the last slot that was heard
+-- a slot, with the bytes sent, and those booked since the last slot that was received
 abbrev pub slot_text : ℕ → ℕ → ℕ → List ℕ
 slot_text slot sent booked =
     field (codes "slot ") slot ++ field (codes " sent=") sent ++ field (codes " booked=") booked
@@ -74,6 +74,6 @@ unfoldable pub slot_words : FairTotals → List ℕ
 slot_words counts = field (codes " full=") counts.full ++ field (codes " last=") counts.last
     ++ sum_words counts
 
--- what a fair tells at its end
+-- what a fair prints at its end
 abbrev pub fair_text : FairTotals → EntryCounts → List ℕ
 fair_text counts entries = turn_words counts entries ++ slot_words counts ++ codes "\n"

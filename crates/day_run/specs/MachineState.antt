@@ -1,4 +1,4 @@
--- What holds of a day between its lines.
+-- What is true for a day between its lines.
 use Rattle.std.specs.Prelude.{ℕ, ◌≡◌, ◌^◌, ◌≤◌, ◌++◌, List, Result, Ok, Err, length, map, drop}
 use Rattle.std.specs.Prelude.{flat_map}
 use Rattle.admission.specs.declared.entries.Entry.{Entry}
@@ -18,7 +18,7 @@ use Rattle.day_run.specs.LineTexts.{fault_text, full_text, offer_text, state_tex
 use Rattle.day_run.specs.MediaContents.{media_content}
 
 -- the clients go on soundly, none of their plays is done, and the book has them open; the machine's
--- now isn't later than the slot that was heard last, to which their plays have come
+-- now isn't later than the slot that was received last, to which their plays have come
 pub record IsSoundDay (slot_units heard : ℕ) (entries : List Entry) (clients : List Client)
     : Type 0 where
   pub count : length clients ≡ 256
@@ -50,14 +50,14 @@ day_state_of r = record {
   heard = r.heard;
 }
 
--- the text of what is told to a client, by the entries
+-- the text of what a client is answered, by the entries
 abbrev pub reply_text : List Entry → LineAnswer → List ℕ
 reply_text entries (tolds.Entry place) = journal_text place (drop place entries)
 reply_text entries (tolds.Full full) = full_text full
 reply_text entries tolds.State = state_text
 reply_text entries (tolds.Fault fault) = fault_text fault
 
--- a fact of the lines of an offer, or of the curves' fault; of none where memory is wanting
+-- a fact of the lines of an offer, or of the curves' fault; of none where memory ran out
 abbrev pub IfSaid : Result Offers CurveRefused → (List ℕ → Type 0) → Type 0
 IfSaid (Ok found) Is = Is (offer_text found)
 IfSaid (Err (Fault fault)) Is = Is (fault_text fault)

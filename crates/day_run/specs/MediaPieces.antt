@@ -10,7 +10,7 @@ use Rattle.day_run.specs.declared.media.Media.TheVariants as media
 use Rattle.day_run.specs.declared.media.Sending.{Sending}
 use Rattle.day_run.specs.declared.media.Sending.TheVariants as sendings
 
--- the identity of what is sent, which nobody hears
+-- the identity of what is sent, which nobody receives
 abbrev pub no_identity : Identity
 no_identity = record {
   channel = 0;

@@ -94,8 +94,8 @@ MayStand heard names (Slot slot) = (heard < slot) × (slot ≤ 2 ^ 62)
 MayStand heard names (Offer client source buffer delay wait) =
     IsAsking (name_at names source) client buffer delay × (wait ≤ 255)
 
--- lines may stand one after the other, where so many names stand before them and a slot was heard
--- last; each new name is the next one
+-- lines may stand one after the other, where so many names stand before them and a slot was
+-- received last; each new name is the next one
 abbrev pub AreStanding : List Name → ℕ → ℕ → List Line → Type 0
 AreStanding names count heard [] = Unit {0}
 AreStanding names count heard (line ∷ lines) =

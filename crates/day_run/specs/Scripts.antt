@@ -1,10 +1,10 @@
--- What holds of a script's lines.
+-- What is true for a script's lines.
 use Rattle.std.specs.Prelude.{ℕ, ◌<◌, ◌≤◌, ◌^◌, List, length, take, slice_index_or}
 use Rattle.std.specs.List.{fold}
 use Rattle.day_run.specs.declared.scripts.Line.{Line}
 use Rattle.day_run.specs.declared.scripts.Line.TheVariants.{Play, Pause, Resume, Look, Slot, Offer}
 
--- the slot that was heard last, after a line
+-- the slot that was received last, after a line
 abbrev pub slot_after : ℕ → Line → ℕ
 slot_after heard (Play client source buffer delay) = heard
 slot_after heard (Pause client) = heard
@@ -24,7 +24,7 @@ pub record IsWish (sources source buffer delay : ℕ) : Type 0 where
   pub buffer_fits : buffer ≤ 2 ^ 42
   pub delay_fits : delay ≤ 10000
 
--- a line may stand where a slot was heard last
+-- a line may stand where a slot was received last
 abbrev pub StandsAfter : ℕ → ℕ → Line → Type 0
 StandsAfter heard sources (Play client source buffer delay) = IsWish sources source buffer delay
 StandsAfter heard sources (Pause client) = Unit {0}

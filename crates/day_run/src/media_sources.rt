@@ -1,4 +1,4 @@
-//! A script's films and traces, made ready to be played.
+//! A script's films and traces, prepared to be played.
 
 ghost use Rattle.std.specs.Prelude.{ℕ, ◌≡◌, All, length, map, IfOk, OnOk};
 ghost use Rattle.day_run.specs.ClientStates.{source_content};

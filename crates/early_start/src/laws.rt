@@ -20,7 +20,7 @@ pub fn law_offer_is_unique()
 {}
 
 /// What is found in a calendar is found in all slots, past ones too, among the plays that the
-/// calendar stands for, where they book no slot above its capacity.
+/// calendar represents, where they book no slot above its capacity.
 pub fn law_offer_covers_past_slots()
     ensures { (calendar : CalendarState) (plays : List Play) (segments : List Segment) (first : ℕ)
         (found : Offers) →

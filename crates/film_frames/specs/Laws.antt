@@ -62,7 +62,7 @@ pub record HaveSizes (pieces : List Piece) (all : List (List ℕ)) : Type 0 wher
   pub each : (k : ℕ) (piece : Piece) → slice_get pieces k ≡ Some piece →
       HasPieceSize piece (length (slice_index_or all k []))
 
--- a whole interleaved block, as it is read from a stream: its length is that of its head of four
+-- a complete interleaved block, as it is read from a stream: its length is that of its head of four
 -- bytes and of what this says follows (RFC 2326 section 10.12)
 abbrev pub IsBlock : List ℕ → Type 0
 IsBlock bytes = StartsBlock bytes × (block_length bytes ≡ length bytes)
@@ -126,7 +126,7 @@ head_read run unit packet before =
       video = video_word unit packet % 2 ^ 32;
     }
 
--- the head of each frame reads back whole: its packet's, with the frames of the run before it
+-- the head of each frame reads back completely: its packet's, with the frames of the run before it
 abbrev pub HeadsRoundTrip : FramedRun → Type 0
 HeadsRoundTrip run =
     (k : ℕ) (unit : PictureUnit) (packet : Packet) →

@@ -43,7 +43,7 @@ abbrev pub IsSound : List ℕ → Piece → Type 0
 IsSound film (Report unit) = Unit {0}
 IsSound film (Frame unit its) = IsCutPacket film unit its
 
--- a row tells of a piece: the number of its unit, and what is in it
+-- a row gives of a piece: the number of its unit, and what is in it
 pub record IsRow (units : List PictureUnit) (row : Row) (piece : Piece) : Type 0 where
   pub unit : slice_get units row.unit ≡ Some (unit_of piece)
   pub piece_is : row_piece row (unit_of piece) (from_of piece) (wire_of piece) ≡ piece

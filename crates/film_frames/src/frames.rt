@@ -166,7 +166,7 @@ impl<'a> Frames<'a> {
         put_frame_heads(head, self.identity.channel, &its, packet.to - packet.from);
     }
 
-    /// The payload of a packet without so many bytes from its front.
+    /// The payload of a packet without its first so many bytes.
     fn payload(&self, packet: &Packet, without: u64) -> &[u8]
         requires front { packet.now.from + without ≤ packet.now.to }
         requires within { packet.now.to ≤ length self.now.film }

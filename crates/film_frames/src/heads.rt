@@ -1,4 +1,4 @@
-//! The bytes of a report, and those in front of a payload.
+//! The bytes of a report, and the headers before a payload.
 
 ghost use Rattle.std.specs.Prelude.{◌≡◌, ◌+◌, ◌++◌, ◌≤◌, ◌/◌, ◌%◌, ◌∷◌, take};
 ghost use Rattle.rtp_pack.specs.Heads.{head_bytes};

@@ -1,4 +1,4 @@
-//! What holds of every run of a film: its sizes, frames and reports.
+//! What is true for every run of a film: its sizes, frames and reports.
 
 ghost use Rattle.std.specs.Prelude.{◌≡◌, ◌+◌, ◌-◌, ◌^◌, ◌<◌, ◌≤◌, ℕ, length, map, sum, take, drop};
 ghost use Rattle.mpeg_scan.specs.declared.films.Film.{Film};
@@ -58,7 +58,7 @@ pub fn law_reports_precede_groups()
 {}
 
 /// Each report of a run has 52 bytes; each frame has 21 to 1,400, of which its octets are all but
-/// 16. Each is a whole interleaved block. All together have the sizes of the run's units.
+/// 16. Each is a complete interleaved block. All together have the sizes of the run's units.
 pub fn law_frame_and_report_sizes_are_exact()
     ensures pieces { OfRuns (λ film first_unit end_unit identity.
         HaveSizes (pieces_in (run_of film first_unit end_unit identity))
@@ -89,8 +89,8 @@ pub fn law_unit_adds_its_wire_size()
         + wire_size film.slice_starts.items u) }
 {}
 
-/// The head of each frame of a run reads back whole: its marker, sequence number, timestamp, source
-/// and video header.
+/// The head of each frame of a run reads back completely: its marker, sequence number, timestamp,
+/// source and video header.
 pub fn law_frame_heads_round_trip()
     ensures { (run : FramedRun) → run.identity.ssrc < 2 ^ 32 → HeadsRoundTrip run }
 {}

@@ -1,4 +1,4 @@
-//! The table of the reports and frames of a film, which tells their places.
+//! The table of the reports and frames of a film, which gives their places.
 
 ghost use Rattle.std.specs.Prelude.{◌≡◌, ◌+◌, ◌-◌, ◌*◌, ◌^◌, ◌<◌, ◌≤◌, ◌++◌, ℕ, List, [], ◌∷◌};
 ghost use Rattle.std.specs.Prelude.{length, take, drop, slice_index, slice_index_or};

@@ -38,6 +38,10 @@ impl TraceTrack {
     /// A track of a frame for each size. The sizes add up to at most 2^42.
     ///
     /// It takes no memory, and so the answer is always Ok.
+    ///
+    /// # Errors
+    ///
+    /// None: [`NoMemory`] never comes.
     pub fn new(mut sizes: Vec<u64>) -> Result<TraceTrack, NoMemory>
         requires { sum sizes.items ≤ 2 ^ 42 }
         ensures { result ≡ Ok sizes.items }

@@ -1,4 +1,4 @@
--- The headers of a made film, read at the bits of ISO/IEC 11172-2, 2.4.2.
+-- The headers of a generated film, read at the bits of ISO/IEC 11172-2, 2.4.2.
 use Rattle.std.specs.Prelude.{ℕ, ◌+◌, ◌-◌, ◌*◌, ◌/◌, ◌%◌, ◌^◌, ◌≡◌, List, [], ◌∷◌, map, take}
 use Rattle.std.specs.Prelude.{slice_index}
 use Rattle.std.specs.List.{range_with_len}

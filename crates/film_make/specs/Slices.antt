@@ -1,4 +1,4 @@
--- The slices of a made picture, as they lie in ISO/IEC 11172-2, 2.4.2.6.
+-- The slices of a generated picture, as they lie in ISO/IEC 11172-2, 2.4.2.6.
 use Rattle.std.specs.Prelude.{ℕ, zero, suc, ◌+◌, ◌≡◌, ◌≤◌, List, [], ◌∷◌, ◌++◌, All, length}
 
 -- bytes among which no start code begins: none is 00

@@ -16,6 +16,10 @@ const SEQUENCE_END: [u8; 4] = [0, 0, 1, 0xb7];
 /// a group, four slices to a picture.
 ///
 /// `pictures` is at most 100,000 on the command line, and any number here.
+///
+/// # Errors
+///
+/// [`NoMemory`] where there is none for the film.
 pub fn make_film(alloc: Global, number: u64, pictures: u32) -> Result<Vec<u8>, NoMemory>
     ensures { IfOk result (λ film. film.items ≡ film_of (words_of number) pictures) }
 {

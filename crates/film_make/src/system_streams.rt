@@ -24,6 +24,10 @@ const END: [u8; 4] = [0, 0, 1, 0xb9];
 /// or of what is left, each in a pack of its own.
 ///
 /// `pictures` is at most 100,000 on the command line, and any number here.
+///
+/// # Errors
+///
+/// [`NoMemory`] where there is none for the film or the stream.
 pub fn make_system(alloc: Global, number: u64, pictures: u32) -> Result<Vec<u8>, NoMemory>
     ensures { IfOk result (λ stream. stream.items ≡
         system_of (film_of (words_of number) pictures)) }

@@ -11,6 +11,10 @@ use std::alloc::Global;
 use vod_base::{NoMemory, push_number};
 
 /// The sizes of a trace by the next draws: one for each picture, in bytes, from 200 to 7,996.
+///
+/// # Errors
+///
+/// [`NoMemory`] where there is none for the sizes.
 pub fn draw_sizes(alloc: Global, draws: &mut Draws, pictures: u32) -> Result<Vec<u64>, NoMemory>
     ensures sizes { IfOk result (λ sizes. sizes.items ≡ sizes_of (words_left draws.old) pictures) }
     ensures left { OnOk result
@@ -24,6 +28,10 @@ pub fn draw_sizes(alloc: Global, draws: &mut Draws, pictures: u32) -> Result<Vec
 }
 
 /// The trace by the next draws: for each picture its size in bytes, from 200 to 7,996, one a line.
+///
+/// # Errors
+///
+/// [`NoMemory`] where there is none for the text.
 pub fn draw_trace(alloc: Global, draws: &mut Draws, pictures: u32) -> Result<Vec<u8>, NoMemory>
     ensures trace { IfOk result (λ trace. trace.items ≡ trace_of (words_left draws.old) pictures) }
     ensures left { OnOk result
@@ -39,6 +47,10 @@ pub fn draw_trace(alloc: Global, draws: &mut Draws, pictures: u32) -> Result<Vec
 /// The trace of a number: for each picture its size in bytes, from 200 to 7,996, one a line.
 ///
 /// `pictures` is at most 100,000 on the command line, and any number here.
+///
+/// # Errors
+///
+/// [`NoMemory`] where there is none for the text.
 pub fn make_trace(alloc: Global, number: u64, pictures: u32) -> Result<Vec<u8>, NoMemory>
     ensures { IfOk result (λ trace. trace.items ≡ trace_of (words_of number) pictures) }
 {

@@ -49,8 +49,8 @@ AreUsedOnTime sizes playback run plan =
     (unit slot : ℕ) → IsUnplayed run unit
     → (use_slot playback run unit ≡ slot) ↔ IsTimeOf playback run unit slot
 
--- Each unplayed picture is in time: by the end of the slot in which it is used it was sent whole,
--- and all before it.
+-- Each unplayed picture is in time: by the end of the slot in which it is used it was sent
+-- completely, and all before it.
 abbrev pub AreInTime : List ℕ → Playback → Run → List Segment → Type 0
 AreInTime sizes playback run plan =
     (unit : ℕ) → IsUnplayed run unit

@@ -43,7 +43,7 @@ EndsAtBoundary film run =
     (identity : Identity) →
     IsBoundary (run_pieces (run_of film run.first_unit run.end_unit identity)) run.sent
 
--- a run of a film's units, of which whole frames and reports were sent
+-- a run of a film's units, of which complete frames and reports were sent
 pub record IsFilmRun (film : Film) (run : Run) : Type 0 where
   pub run_is : IsRun (film_sizes film.slice_starts.items film.units.items) run
   pub boundary : EndsAtBoundary film run

@@ -1,4 +1,4 @@
-//! What holds of every plan of a run, and of every jump and pause in it.
+//! What is true for every plan of a run, and for every jump and pause in it.
 
 ghost use Rattle.std.specs.Prelude.{◌<◌, ◌≤◌, ℕ, length, Option};
 ghost use Rattle.mpeg_scan.specs.declared.films.Film.{Film as FilmIs};
@@ -13,9 +13,9 @@ ghost use Rattle.film_run.specs.Seeks.{IsRequestedRange};
 
 use mpeg_scan::Film;
 
-/// A run's plan: each picture is used in the slot in which its time begins, and is whole at the
+/// A run's plan: each picture is used in the slot in which its time begins, and is complete at the
 /// client by the end of that slot, in the buffer or by the plan, and the client's buffer never
-/// overflows. No plan that keeps between the curves sends less above any rate. There is one such
+/// overflows. No plan that stays between the curves sends less above any rate. There is one such
 /// plan.
 pub fn law_plan_is_on_time_and_optimal()
     ensures on_time { OfSendings AreUsedOnTime }

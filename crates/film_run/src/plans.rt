@@ -34,7 +34,7 @@ pub struct Playback {
 }
 
 /// The plan by which a run is sent on: the taut one between the curves of the units that weren't
-/// played. It sends all bytes of the run that weren't sent, and no plan that keeps between the
+/// played. It sends all bytes of the run that weren't sent, and no plan that stays between the
 /// curves sends less above any rate.
 ///
 /// It takes time and memory in the units and slots that are still to be played, whatever stands
@@ -43,7 +43,7 @@ pub struct Playback {
 /// # Errors
 ///
 /// [`CurveRefused`] with the fault exactly where the curves have one, which is never that there are
-/// no pictures; or where memory is wanting.
+/// no pictures; or where memory ran out.
 pub fn plan_of<U: Units>(
     alloc: Global,
     units: &U,

@@ -24,7 +24,8 @@ const LONGEST: u128 = 1 << 64;
 
 /// The new run from a time on, up to another or the film's end, in nanoseconds: from the last group
 /// that begins at or before the first time, up to the first later group that begins at or after the
-/// second. None exactly where the film has ended at the first time, or the second isn't after it.
+/// second. None exactly where the film has ended at the first time, or the second isn't after it
+/// (RFC 2326 sections 3.6 and 10.5).
 pub fn run_between(film: &Film, from: u128, to: Option<u128>) -> Option<Run>
     ensures asked { MatchOption result (HasNothing film.now from to) (IsRequestedRange film.now from
         to) }

@@ -57,13 +57,13 @@ IsScanError name told faults faults' error =
 
 -- ---- what was scanned of it
 
--- all that ended in the video so far was told
+-- all that ended in the video so far was reported
 pub record HasReportedParts (Heard : List Call → Type 0) (scanner : Scanner) (video : List ℕ) : Type
     0 where
   pub fed : HasScannedBytes scanner (read_after [] video)
   pub heard : Heard (calls_of (codes_of (read_after [] video)))
 
--- a code of a front of the video is refused, and the scanner answers so from then on
+-- a code of a prefix of the video is refused, and the scanner answers so from then on
 pub record HasRefused (scanner : Scanner) (video : List ℕ) : Type 0 where
   pub fault : FilmFault
   pub answers : refused_by scanner ≡ Some (FaultAnswer fault)
@@ -75,8 +75,8 @@ pub record HasRefused (scanner : Scanner) (video : List ℕ) : Type 0 where
 abbrev pub HasTaken : (List Call → Type 0) → Scanner → List ℕ → Type 0
 HasTaken Heard scanner video = HasReportedParts Heard scanner video ⊎ HasRefused scanner video
 
--- the film before a place was scanned: the scanner was fed so many bytes, which are that front of
--- the file, where the library tells what it holds
+-- the film before a place was scanned: the scanner was fed so many bytes, which are the start of
+-- the file, where the library exposes what it holds
 pub record HasScanned (Heard : List Call →
     Type 0) (told : Option (List File)) (name : List ℕ) (size place : ℕ) (scanner : Scanner)
     : Type 0 where
@@ -136,11 +136,11 @@ pub record IsOpened (held : List File) (name : List ℕ) (size : ℕ) (from : Op
   pub pack : pack_in file ≡ from
   pub within : IfSome from (λ place. place ≤ size)
 
--- the same, where the library tells what it holds
+-- the same, where the library exposes what it holds
 abbrev pub WasOpened : Option (List File) → List ℕ → ℕ → Option ℕ → Type 0
 WasOpened told name size from = (held : List File) → told ≡ Some held → IsOpened held name size from
 
--- what a whole video comes to: it was accepted and all its parts told; or it is refused
+-- the result of an entire video: it was accepted and all its parts were reported; or it is refused
 pub record HasEnded (Heard : List Call → Type 0) (video : List ℕ) (size rate : ℕ) : Type 0 where
   pub accepted : refusal video ≡ None
   pub sized : size ≡ length video
@@ -152,8 +152,8 @@ IsRefusedAtEnd Heard scanner fault =
     (video : List ℕ) → length video ≤ 2 ^ 40 → HasTaken Heard scanner video →
     refusal video ≡ Some fault
 
--- a film was accepted, with this size and rate code, and all its parts were told; it is the one
--- that the library holds, where it tells what that is
+-- a film was accepted, with this size and rate code, and all its parts were reported; it is the one
+-- that the library holds, where it exposes what that is
 pub record HasScannedFilm (Heard : List Call →
     Type 0) (told : Option (List File)) (name : List ℕ) (size rate : ℕ) : Type 0 where
   pub video : List ℕ

@@ -12,11 +12,11 @@ IsThatName name other = other ≡ name
 abbrev pub IsMissing : List File → List ℕ → InputError → Type 0
 IsMissing held name fault = (fault ≡ NotFound) × (file_named held name ≡ None)
 
--- no refusal at all, where the library tells what it holds
+-- no refusal at all, where the library exposes what it holds
 abbrev pub IsNever : List File → List ℕ → InputError → Type 0
 IsNever held name fault = ⊥
 
--- the bytes are the front of the file that the library holds, whose size is known
+-- the bytes are the start of the file that the library holds, whose size is known
 pub record IsFilePrefix (held : List File) (name : List ℕ) (size : ℕ) (bytes : List ℕ) : Type 0
   where
     pub whole : List ℕ
@@ -31,7 +31,7 @@ pub record IsChunk (size at room count : ℕ) : Type 0 where
   pub fits : count ≤ room
   pub within : at + count ≤ size
 
--- a read after these bytes of the file gave the next ones, which stand at the front of `into`; or
+-- a read after these bytes of the file gave the next ones, which stand at the start of `into`; or
 -- the file ends there
 abbrev pub IsNextRead : List File → List ℕ → ℕ → List ℕ → List ℕ → Option ℕ → Type 0
 IsNextRead held name size bytes into (Some count) =

@@ -1,4 +1,4 @@
--- The word at the front of a text, and the size that it writes.
+-- The word at the start of a text, and the size that it writes.
 use Rattle.std.specs.Prelude.{◌≡◌, ◌≤◌, ◌^◌, ℕ, List, not, take, Some}
 use Rattle.std.specs.List.{prefix_len}
 use Rattle.vod_base.specs.Numbers.{number_of}

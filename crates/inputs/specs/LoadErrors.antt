@@ -17,7 +17,7 @@ use Rattle.cli_errors.specs.declared.errors.CliError.TheVariants.{Refused, NoMem
 abbrev pub IsServedFilmRefused : List File → List ℕ → InputError → Type 0
 IsServedFilmRefused = IsRefusedAbove (2 ^ 30) FilmTooLarge
 
--- the input of that name is refused for such a fault; or want of memory
+-- the input of that name is refused for such a fault; or out of memory
 abbrev pub IsRefusal : List ℕ → (InputError → Type 0) → CliError → Type 0
 IsRefusal name Refuses (Refused other fault) = (other.now ≡ name) × Refuses fault
 IsRefusal name Refuses NoMemory = Unit {0}
@@ -46,7 +46,7 @@ abbrev pub IsStreamError : List ℕ → StreamError → Type 0
 IsStreamError stream (StreamFault fault) = IsBadStream stream fault
 IsStreamError stream NoRoom = Unit {0}
 
--- a fault of a stream that begins at a place of the file, told of the file
+-- a fault of a stream that begins at a place of the file, as a fault of the file
 abbrev pub IsMovedFault : ℕ → SystemFault → SystemFault → Type 0
 IsMovedFault from own fault =
     (bytes : List ℕ) → IsBadStream bytes own → from + length bytes ≤ 2 ^ 40 →

@@ -1,4 +1,4 @@
--- The first start code of a file, looked for from its front on.
+-- The first start code of a file, looked for from its start on.
 use Rattle.std.specs.Prelude.{◌≡◌, ℕ, ◌≤◌, List, [], ◌++◌, Some, None}
 use Rattle.mpeg_scan.specs.declared.codes.Prefix.{Prefix}
 use Rattle.mpeg_scan.specs.StartCodes.{codes_of, latest_prefix, read_after}

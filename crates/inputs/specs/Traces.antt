@@ -14,13 +14,13 @@ pub record Token : Type 0 where
   pub from : ℕ
   pub bytes : List ℕ
 
--- a byte that is no white space stands in front
+-- the text begins with a byte that is no white space
 abbrev pub begins_token : List ℕ → Bool
 begins_token [] = false
 begins_token (b ∷ rest) = not (is_white_space b)
 
--- a byte that is no white space in front of the tokens: it belongs to the first of them, or is a
--- token by itself
+-- a byte that is no white space before the tokens: it belongs to the first of them, or is a token
+-- by itself
 abbrev pub joined_tokens : ℕ → ℕ → Bool → List Token → List Token
 joined_tokens at b false tokens = (record { from = at; bytes = b ∷ [] }) ∷ tokens
 joined_tokens at b true [] = (record { from = at; bytes = b ∷ [] }) ∷ []
@@ -67,7 +67,7 @@ abbrev pub IsWord : List ℕ → Type 0
 IsWord bytes = (0 < length bytes) × (list_all (λ b. not (is_white_space b)) bytes ≡ true)
 
 -- these are the tokens of a text that stands at a place: words with their places, with white space
--- between them, in front and at the end
+-- between them, before the first and after the last
 abbrev pub AreSeparated : ℕ → List ℕ → List Token → Type 0
 AreSeparated at text [] = list_all is_white_space text ≡ true
 AreSeparated at text (token ∷ tokens) =

@@ -1,4 +1,4 @@
--- The sizes of a film's units on the wire, counted while its parts are told.
+-- The sizes of a film's units on the wire, counted while its parts are reported.
 use Rattle.std.specs.Prelude.{◌≡◌, ℕ, ◌+◌, ◌-◌, ◌^◌, ◌≤◌, if◌then◌else◌, List, [], ◌∷◌, ◌++◌}
 use Rattle.std.specs.Prelude.{length, map, sum}
 use Rattle.mpeg_scan.specs.Calls.{Call, head_call, slice_call, unit_call}
@@ -11,7 +11,7 @@ abbrev pub sizes_of : List ℕ → List ℕ
 sizes_of film =
     map (λ unit. wire_size (slices_in (film_calls film)) unit) (units_in (film_calls film))
 
--- the unit that is being told, and the sizes of those that have ended
+-- the unit that is being reported, and the sizes of those that have ended
 pub record SizeState : Type 0 where
   pub unit : Measure
   pub sizes : List ℕ

@@ -67,8 +67,8 @@ pub(crate) struct SizedFile<'a> {
 }
 
 impl<'a> SizedFile<'a> {
-    /// Reads the bytes from a place on into the front of `into`, as many as one read gives, and
-    /// answers how many: None at the file's end.
+    /// Reads the bytes from a place on, as many as one read gives, puts them at the start of
+    /// `into`, and returns how many: None at the file's end.
     pub(crate) fn read_at<L: Library>(
         self,
         library: &mut L,

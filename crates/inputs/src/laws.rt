@@ -7,7 +7,8 @@ ghost use Rattle.inputs.specs.Traces.{AreSeparated, IsTraceText, Token, tokens_f
 ghost use Rattle.inputs.specs.Videos.{IsStreamFault};
 
 /// The tokens of a text are the words in it, each with its place: none is empty, none has white
-/// space in it, and such stands between them, in front and at the end. No other list is so.
+/// space in it, and there is only white space between them, before the first and after the last. No
+/// other list satisfies this.
 pub fn law_tokens_are_the_words_of_a_text()
     ensures are { (text : List ℕ) → AreSeparated 0 text (tokens_from 0 text) }
     ensures only { (text : List ℕ) (tokens : List Token) → AreSeparated 0 text tokens →

@@ -134,8 +134,8 @@ fn take_video<F: Found>(scanner: &mut Scanner, video: &[u8], found: &mut F) -> R
     }
 }
 
-/// Takes bytes from the front of a chunk of a stream, feeds the video among them to the scanner,
-/// and answers how many they were.
+/// Takes bytes from the start of a chunk of a stream, feeds the video among them to the scanner,
+/// and returns how many they were.
 fn unwrap_part<F: Found>(
     unwrapper: &mut Unwrapper,
     chunk: &[u8],

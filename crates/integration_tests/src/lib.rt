@@ -1,5 +1,5 @@
-//! Tests across crates: sessions and connections by scripts of whole requests, replies and frames,
-//! failing links, long films, a link's days, and a film that is served and watched.
+//! Tests across crates: sessions and connections by scripts of complete requests, replies and
+//! frames, failing links, long films, a link's days, and a film that is served and watched.
 //!
 //! Each test is a script, as data, that one reader of its kind runs; so a row more costs no proof.
 //! Nothing here is public.

@@ -9,27 +9,27 @@ use Rattle.interleave.specs.declared.elements.Step.TheVariants.{Request, Block, 
 use Rattle.interleave.specs.declared.elements.DemuxFault.{DemuxFault}
 use Rattle.interleave.specs.declared.elements.DemuxFault.TheVariants.{HeadTooLong, BodyTooLong}
 
--- `$` is in front, which begins an interleaved block
+-- the bytes begin with `$`, which begins an interleaved block
 abbrev pub StartsBlock : List ℕ → Type 0
 StartsBlock bytes = (0 < length bytes) × (slice_index bytes 0 ≡ 36)
 
--- another byte than CR, LF and `$` is in front, which begins a request
+-- the bytes begin with another byte than CR, LF and `$`, which begins a request
 abbrev pub StartsMessage : List ℕ → Type 0
 StartsMessage bytes = (0 < length bytes) × (is_line_end (slice_index bytes 0) ≡ false)
     × ((slice_index bytes 0 == 36) ≡ false)
 
--- all bytes CR and LF in front are these `n`
+-- the bytes CR and LF at the start are these `n`
 pub record AreLineEnds (bytes : List ℕ) (n : ℕ) : Type 0 where
   pub within : n ≤ length bytes
   pub line_ends : (k : ℕ) → k < n → is_line_end (slice_index bytes k) ≡ true
   pub last : n < length bytes → is_line_end (slice_index bytes n) ≡ false
 
--- the length of the block in front: `$`, the channel, the number of the bytes of data in two bytes,
+-- the length of the first block: `$`, the channel, the number of the bytes of data in two bytes,
 -- and the data
 abbrev pub block_length : List ℕ → ℕ
 block_length bytes = 4 + (slice_index bytes 2 * 256 + slice_index bytes 3)
 
--- the request in front has a whole head of at most 16,384 bytes and a body of at most 65,536, and
+-- the first request has a complete head of at most 16,384 bytes and a body of at most 65,536, and
 -- this length in all
 pub record IsMessageLength (bytes : List ℕ) (total : ℕ) : Type 0 where
   pub head : ℕ
@@ -40,20 +40,20 @@ pub record IsMessageLength (bytes : List ℕ) (total : ℕ) : Type 0 where
   pub small : body ≤ 65536
   pub total_is : total ≡ head + body
 
--- the request in front has a whole head of at most 16,384 bytes, and a body of more than 65,536
+-- the first request has a complete head of at most 16,384 bytes, and a body of more than 65,536
 pub record IsBodyTooLong (bytes : List ℕ) : Type 0 where
   pub head : ℕ
   pub is_head : IsHead bytes head
   pub fits : head ≤ 16384
   pub long : IsLongBody (take head bytes)
 
--- the request in front isn't whole: its head isn't, or its length is known and more than what waits
+-- the first request isn't complete: its head isn't, or its length is known and more than what waits
 abbrev pub IsUnfinished : List ℕ → Type 0
 IsUnfinished bytes =
     (HasNoHead bytes (length bytes) × (length bytes < 16384))
     ⊎ ((total : ℕ) × (IsMessageLength bytes total × (length bytes < total)))
 
--- what stands in front of the waiting bytes
+-- the first element of the waiting bytes
 abbrev pub IsFirst : List ℕ → Result Step DemuxFault → Type 0
 IsFirst bytes (Ok (Skip n)) = (0 < n) × AreLineEnds bytes n
 IsFirst bytes (Ok (Block channel n)) =
@@ -68,7 +68,7 @@ IsFirst bytes (Err HeadTooLong) = StartsMessage bytes × (16384 ≤ length bytes
     × HasNoHead bytes 16384
 IsFirst bytes (Err BodyTooLong) = StartsMessage bytes × IsBodyTooLong bytes
 
--- the answer is a fault or a whole element, and no byte that comes later belongs to it: after CR
+-- the answer is a fault or a complete element, and no byte that comes later belongs to it: after CR
 -- and LF another byte waits
 abbrev pub IsWholeElement : List ℕ → Result Step DemuxFault → Type 0
 IsWholeElement bytes (Ok (Skip n)) = n < length bytes
@@ -77,7 +77,7 @@ IsWholeElement bytes (Ok (Request n)) = Unit {0}
 IsWholeElement bytes (Ok More) = ⊥
 IsWholeElement bytes (Err fault) = Unit {0}
 
--- at least `n` bytes CR and LF are in front
+-- at least the first `n` bytes are CR or LF
 abbrev pub IsLongerSkip : ℕ → Result Step DemuxFault → Type 0
 IsLongerSkip n (Ok (Skip m)) = n ≤ m
 IsLongerSkip n (Ok (Block channel m)) = ⊥

@@ -1,4 +1,4 @@
--- What is kept about the element in front, so that no head is read again and again.
+-- What is kept about the first element, so that no head is read again and again.
 use Rattle.std.specs.Prelude.{◌≡◌, ℕ, ◌<◌, ◌≤◌, List, length}
 use Rattle.interleave.specs.Heads.{HasNoHead}
 use Rattle.interleave.specs.Elements.{IsMessageLength}
@@ -10,7 +10,7 @@ abbrev pub IsHeadSearch : List ℕ → HeadSearch → Type 0
 IsHeadSearch bytes (Searched to) = (to ≤ length bytes) × (to ≤ 16384) × HasNoHead bytes to
 IsHeadSearch bytes (Length total) = IsMessageLength bytes total
 
--- all that the bytes tell is known: no empty line ends among all of them, which are fewer than a
+-- all that the bytes show is known: no empty line ends among all of them, which are fewer than a
 -- head may have, or the request's length
 abbrev pub IsSettled : List ℕ → HeadSearch → Type 0
 IsSettled bytes (Searched to) = (to ≡ length bytes) × (to < 16384) × HasNoHead bytes to

@@ -5,7 +5,7 @@ use Rattle.std.specs.Prelude.{◌≡◌, ◌≢◌, ℕ, ◌<◌, ◌⊎◌, Lis
 abbrev pub IsCrOrLf : ℕ → Type 0
 IsCrOrLf byte = (byte ≡ 13) ⊎ (byte ≡ 10)
 
--- neither CR nor LF is in front
+-- the bytes begin with neither CR nor LF
 pub record BeginsOtherwise (bytes : List ℕ) : Type 0 where
   pub no_cr : 0 < length bytes → slice_index bytes 0 ≢ 13
   pub no_lf : 0 < length bytes → slice_index bytes 0 ≢ 10

@@ -8,7 +8,7 @@ use Rattle.interleave.specs.declared.elements.Step.{Step}
 use Rattle.interleave.specs.declared.elements.Step.TheVariants.{Request, Block, Skip, More}
 use Rattle.interleave.specs.declared.elements.DemuxFault.{DemuxFault}
 
--- the element in front has this length and is whole
+-- the first element has this length and is complete
 pub data IsElementLength (bytes : List ℕ) (n : ℕ) : Type 0 where
   LineEnd : n ≡ 1 → 0 < length bytes → is_line_end (slice_index bytes 0) ≡ true →
       IsElementLength bytes n
@@ -24,7 +24,7 @@ AreInputElements bytes (element ∷ elements) rest = (n : ℕ)
     × (IsElementLength bytes n × (element ≡ take n bytes) × AreInputElements (drop n bytes) elements
     rest)
 
--- the bytes are these elements, and no whole element is in front of the rest
+-- the bytes are these elements, and the rest begins with no complete element
 abbrev pub IsStream : List ℕ → List (List ℕ) → List ℕ → Type 0
 IsStream bytes elements rest = AreInputElements bytes elements rest × ((n : ℕ) → ¬ IsElementLength
     rest n)
@@ -33,16 +33,16 @@ IsStream bytes elements rest = AreInputElements bytes elements rest × ((n : ℕ
 abbrev pub HasStream : List ℕ → Type 0
 HasStream bytes = (elements : List (List ℕ)) × ((rest : List ℕ) × IsStream bytes elements rest)
 
--- the rest of one cut is cut further into the elements that the other has more
+-- the rest of one split is split further into the elements that the other has more
 abbrev pub GoesOn : List (List ℕ) → List ℕ → List (List ℕ) → List ℕ → Type 0
 GoesOn one rest other end = (more : List (List ℕ)) × ((other ≡ one ++ more) × AreInputElements rest
     more end)
 
--- of two cuts one goes on where the other ends
+-- of two splits one goes on where the other ends
 abbrev pub SharePrefix : List (List ℕ) → List ℕ → List (List ℕ) → List ℕ → Type 0
 SharePrefix one rest other end = GoesOn one rest other end ⊎ GoesOn other end one rest
 
--- the elements in front that an answer tells: each byte CR or LF is one
+-- the first elements, which an answer gives: each byte CR or LF is one
 abbrev pub returned_elements : List ℕ → Result Step DemuxFault → List (List ℕ)
 returned_elements bytes (Ok (Skip n)) = map (λ c. c ∷ []) (take n bytes)
 returned_elements bytes (Ok (Block channel n)) = take n bytes ∷ []
@@ -58,7 +58,7 @@ returned_length (Ok (Request n)) = n
 returned_length (Ok More) = 0
 returned_length (Err fault) = 0
 
--- where an answer tells no element, none is whole
+-- where an answer gives no element, none is complete
 abbrev pub ReturnsNoElement : List ℕ → Result Step DemuxFault → Type 0
 ReturnsNoElement bytes (Ok (Skip n)) = Unit {0}
 ReturnsNoElement bytes (Ok (Block channel n)) = Unit {0}

@@ -1,4 +1,4 @@
-//! The bytes of a connection that wait, and what stands in front of them.
+//! The bytes of a connection that wait, and the first element of them.
 
 ghost use Rattle.std.specs.Prelude.{◌≡◌, ◌+◌, ◌-◌, ◌*◌, ◌<◌, ◌≤◌, ◌++◌, [], length, drop, nat_lt};
 ghost use Rattle.std.specs.Prelude.{slice_index, if◌then◌else◌, vec_capacity, IfOk, MatchResult};
@@ -49,6 +49,10 @@ impl Model for Demux {
 
 impl Demux {
     /// Reserves room for [`MAX_WAITING_BYTES`] bytes; no other call takes memory.
+    ///
+    /// # Errors
+    ///
+    /// [`NoMemory`] where there is none.
     pub fn new(alloc: Global) -> Result<Demux, NoMemory>
         ensures { IfOk result (λ demux. demux ≡ []) }
     {
@@ -68,6 +72,10 @@ impl Demux {
     }
 
     /// Appends bytes, or changes nothing where more than [`MAX_WAITING_BYTES`] would wait.
+    ///
+    /// # Errors
+    ///
+    /// [`TooMuchInput`] exactly where more than [`MAX_WAITING_BYTES`] bytes would wait.
     pub fn put(&mut self, bytes: &[u8]) -> Result<(), TooMuchInput>
         ensures fault { is_err result ≡ nat_lt MAX_WAITING_BYTES (length self.old + length
             bytes.now) }
@@ -84,11 +92,17 @@ impl Demux {
         }
     }
 
-    /// What stands in front of the waiting bytes, which stay.
+    /// Returns the first element of the waiting bytes. The bytes stay.
     ///
     /// The answer follows from the waiting bytes alone. What was read of a request is remembered,
-    /// so that a call reads on where the last one ended. While nothing whole stands in front, fewer
-    /// bytes wait than the most of a head and of a body together.
+    /// so that a call reads on where the last one ended. While the first element is incomplete,
+    /// fewer bytes wait than the most of a head and of a body together ([`MAX_HEAD_BYTES`] +
+    /// [`MAX_BODY_BYTES`]).
+    ///
+    /// # Errors
+    ///
+    /// [`DemuxFault`] where the waiting bytes can't begin a message: the head or the body of the
+    /// request at their start is too long.
     pub fn look(&mut self) -> Result<Step, DemuxFault>
         ensures waiting { self.new ≡ self.old }
         ensures first { IsFirst self.old result }
@@ -122,7 +136,7 @@ impl Demux {
     }
 }
 
-/// How many bytes CR and LF stand in front.
+/// How many of the first bytes are CR or LF, in a row.
 fn line_ends(bytes: &[u8]) -> usize
     ensures { AreLineEnds bytes.now result }
 {
@@ -132,7 +146,7 @@ fn line_ends(bytes: &[u8]) -> usize
         .unwrap_or(bytes.len())
 }
 
-/// The block in front, where it is whole.
+/// The block at the start, where it is complete.
 fn block_step(bytes: &[u8]) -> Step
     requires { StartsBlock bytes.now }
     ensures first { IsFirst bytes.now (Ok result) }
@@ -149,7 +163,7 @@ fn block_step(bytes: &[u8]) -> Step
     }
 }
 
-/// Makes room for more bytes, and answers where those that wait begin now.
+/// Makes room for more bytes, and returns where those that wait begin now.
 fn make_room(bytes: &mut Vec<u8>, start: usize, more: usize) -> usize
     requires start { start ≤ length bytes.old.items }
     requires most { length bytes.old.items ≤ MAX_WAITING_BYTES }
@@ -162,6 +176,7 @@ fn make_room(bytes: &mut Vec<u8>, start: usize, more: usize) -> usize
     if more <= MAX_WAITING_BYTES - bytes.len() {
         return start;
     }
+    // moved only when the end of the buffer is reached, not after each element
     move_to_front(bytes, start);
     0
 }

@@ -1,20 +1,20 @@
-//! What stands in front of the waiting bytes, and the head of an interleaved block.
+//! The first element of the waiting bytes, and the head of an interleaved block.
 
 ghost use Rattle.std.specs.Prelude.{◌≡◌, ◌/◌, ◌%◌, [], ◌∷◌};
 ghost use Rattle.interleave.specs.Heads.{is_line_end};
 
 use thiserror::Error;
 
-/// What stands in front of the waiting bytes.
+/// The first element of the waiting bytes.
 #[derive(Clone, Copy, Debug, PartialEq, Eq)]
 pub enum Step {
-    /// A whole message of this many bytes, head and body: a request, or at a client a reply.
+    /// A complete message of this many bytes, head and body: a request, or at a client a reply.
     Request(usize),
-    /// A whole interleaved block on this channel, of this many bytes with its head of four.
+    /// A complete interleaved block on this channel, of this many bytes with its head of four.
     Block(u8, usize),
     /// This many bytes CR or LF, all that wait before the next element.
     Skip(usize),
-    /// No whole element, and no fault.
+    /// No complete element yet, and no fault.
     More,
 }
 

@@ -14,8 +14,8 @@ use crate::content_lengths::MAX_BODY_BYTES;
 use crate::demux::Demux;
 use crate::message_heads::MAX_HEAD_BYTES;
 
-/// Where a whole element or a fault stands in front of the waiting bytes, it stands there whatever
-/// comes later: the elements of a stream don't depend on how its bytes were cut.
+/// A complete element or a fault at the start of the waiting bytes stays there, whatever comes
+/// later. So the elements of a stream don't depend on how its bytes were split.
 pub fn law_first_element_is_stable()
     ensures { (waiting later : List ℕ) (answer : Result Step DemuxFault) →
         IsFirst waiting answer → IsWholeElement waiting answer →
@@ -28,7 +28,8 @@ pub fn law_first_element_is_unique()
         IsFirst waiting one → IsFirst waiting other → one ≡ other }
 {}
 
-/// Where bytes CR and LF stand in front, at least these stand there whatever comes later.
+/// Bytes CR and LF at the start of the waiting bytes stay there, whatever comes later. More of them
+/// may follow.
 pub fn law_skipped_bytes_only_grow()
     ensures { (waiting later : List ℕ) (count : ℕ) (answer : Result Step DemuxFault) →
         IsFirst waiting (Ok (Step.Skip count)) → IsFirst (waiting ++ later) answer →
@@ -42,25 +43,25 @@ pub fn law_elements_are_stable()
         later) }
 {}
 
-/// Cuts join: the elements of what was heard first, and those of its rest and what was heard then,
-/// are those of all.
+/// A stream may be read in two pieces. The elements of the first piece, and then those of its rest
+/// followed by the second piece, are the elements of the entire stream.
 pub fn law_elements_of_pieces_concatenate()
     ensures { (heard later : List ℕ) (elements more : List (List ℕ)) (rest end : List ℕ)
         → AreInputElements heard elements rest → AreInputElements (rest ++ later) more end
         → AreInputElements (heard ++ later) (elements ++ more) end }
 {}
 
-/// Two cuts of one stream agree: the elements of one are a prefix of the other's, which cuts the
-/// rest of the one further.
+/// Two splits of one stream agree: the elements of one are a prefix of the other's, which splits
+/// the rest of the one further.
 pub fn law_any_two_splits_share_a_prefix()
     ensures { (heard : List ℕ) (one other : List (List ℕ)) (rest end : List ℕ)
         → AreInputElements heard one rest → AreInputElements heard other end → SharePrefix one rest
         other end }
 {}
 
-/// An answer tells the next elements of a stream: they are those in front of the rest, and dropping
-/// them leaves what comes after them. Where it tells none, no whole element is in front of the
-/// rest.
+/// An answer of `look` gives the next elements of a stream: they are at the start of the waiting
+/// bytes, and dropping them leaves what comes after them. Where it gives none, the first element is
+/// incomplete.
 pub fn law_look_returns_next_elements()
     ensures elements { (heard rest : List ℕ) (elements : List (List ℕ))
         (answer : Result Step DemuxFault)
@@ -71,8 +72,8 @@ pub fn law_look_returns_next_elements()
         ReturnsNoElement rest answer }
 {}
 
-/// All bytes heard are elements and a rest, in one way alone. So the elements are the same however
-/// the bytes came.
+/// All bytes received split into elements and a rest in exactly one way. So the elements are the
+/// same however the bytes arrived.
 pub fn law_input_splits_in_one_way()
     ensures some { (heard : List ℕ) → HasStream heard }
     ensures one { (heard : List ℕ) (one other : List (List ℕ)) (rest end : List ℕ)
@@ -95,13 +96,13 @@ pub fn law_interleaved_block_is_found()
         (content ++ later)) (Ok (Step.Block channel (4 + length content))) }
 {}
 
-/// Where neither a whole element nor a fault is in front, fewer bytes wait than the most of a head
-/// and of a body together.
+/// Where the waiting bytes begin with neither a complete element nor a fault, they are fewer than
+/// the most of a head and of a body together.
 pub fn law_waiting_bytes_are_bounded(demux: &Demux)
     ensures { IsFirst demux.now (Ok Step.More) →
         length demux.now < MAX_HEAD_BYTES + MAX_BODY_BYTES }
 {
-    // the contracts of these two calls bound how many bytes a block's head tells
+    // the contracts of these two calls bound the length that a block's head gives
     let waiting = demux.waiting();
     let _count = waiting.len();
 }

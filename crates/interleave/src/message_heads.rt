@@ -11,7 +11,7 @@ ghost use Rattle.interleave.specs.HeadSearch.{IsHeadSearch, IsSettled};
 use crate::content_lengths::{MAX_BODY_BYTES, body_length};
 use crate::elements::{DemuxFault, Step};
 
-/// What is kept about the request in front of the waiting bytes.
+/// What is remembered about the request at the start of the waiting bytes.
 #[derive(Clone, Copy)]
 pub(crate) enum HeadSearch {
     /// No empty line ends among this many bytes.
@@ -23,7 +23,7 @@ pub(crate) enum HeadSearch {
 /// The most bytes of a message's head, with its empty line.
 pub const MAX_HEAD_BYTES: usize = 16_384;
 
-/// Learns what the waiting bytes tell of the request in front.
+/// Finds out what the waiting bytes show of the request at their start.
 pub(crate) fn search_head(bytes: &[u8], known: HeadSearch) -> Result<HeadSearch, DemuxFault>
     requires request { StartsMessage bytes.now }
     requires known { IsHeadSearch bytes.now known }
@@ -40,7 +40,7 @@ pub(crate) fn search_head(bytes: &[u8], known: HeadSearch) -> Result<HeadSearch,
     }
 }
 
-/// The step that all that can be known of the request in front leads to.
+/// The step that follows from all that is known of the first request.
 pub(crate) fn request_step(bytes: &[u8], known: HeadSearch) -> Step
     requires request { StartsMessage bytes.now }
     requires known { IsSettled bytes.now known }
@@ -85,7 +85,7 @@ fn find_head(bytes: &[u8], from: usize, to: usize) -> Option<usize>
     None
 }
 
-/// The length of the request with this head in front.
+/// The length of the first request, whose head has this length.
 #[tactic(auto, using(crate::proofs::HeadSearchResults::request_steps))]
 fn length_with_head(bytes: &[u8], head: usize) -> Result<HeadSearch, DemuxFault>
     requires request { StartsMessage bytes.now }

@@ -163,7 +163,7 @@ fn limits_what_waits(rt: HostRuntime) -> Result<(), Fail> {
     Ok(())
 }
 
-/// What comes later changes neither a whole element nor a fault, and only adds to bytes that are
+/// What comes later changes neither a complete element nor a fault, and only adds to bytes that are
 /// skipped.
 #[test]
 fn answers_stay(rt: HostRuntime) -> Result<(), Fail> {

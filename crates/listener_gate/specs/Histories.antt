@@ -1,4 +1,4 @@
--- What a gate tells of its connections and its parts, as its notes say.
+-- What a gate exposes of its connections and its parts, as its notes say.
 use Rattle.std.specs.Prelude.{ℕ, ◌+◌, Bool, if◌then◌else◌, List, [], ◌∷◌, ◌++◌, Option, Some, None}
 use Rattle.std.specs.Prelude.{slice_set}
 use Rattle.vod_base.specs.IoState.{one_more}
@@ -10,7 +10,7 @@ use Rattle.listener_gate.specs.declared.histories.PartNote.TheVariants as part
 use Rattle.listener_gate.specs.declared.histories.GateNote.{GateNote}
 use Rattle.listener_gate.specs.declared.histories.GateNote.TheVariants as gate
 
--- a connection that came back, by what it tells
+-- a connection that came back, by what it exposes
 abbrev pub returned : {C : Type 0} → (C → ℕ) → (C → Option (List IoEvent)) → Option C → List
     ReturnedConn
 returned faults told None = []
@@ -72,7 +72,7 @@ splits_after count (n ∷ ns) = splits_after (split_noted count n) ns
 abbrev pub none_shared : Shared
 none_shared = record { openings = 0; opening = None; parts = [] }
 
--- the content, where the listener tells what it did
+-- the content, where the listener exposes what it did
 abbrev pub content_with : Shared → Part → Content
 content_with s own = record {
   openings = s.openings;

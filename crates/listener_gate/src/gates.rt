@@ -28,9 +28,9 @@ const LONGEST_WAIT: u64 = 1_000;
 /// connections from other machines are taken too.
 ///
 /// Each part has a handle to the same listening socket and gives so many connections of its own as
-/// [`Opening`] says. A connection that was lost before it was accepted is passed over. Where
-/// descriptors or memory are short, `take` waits 10 ms, then twice as long each time, at most 1 s,
-/// until an accept succeeds. What else fails is a fault.
+/// [`Opening`] says. It skips a connection that failed before it was accepted. Where descriptors or
+/// memory are short, `take` waits 10 ms, then twice as long each time, at most 1 s, until an accept
+/// succeeds. What else fails is a fault.
 #[derive(Drop)]
 pub struct ListenerGate<L: Listener> {
     listener: L,
@@ -80,8 +80,8 @@ impl<L: Listener> ListenerGate<L> {
         &self.listener
     }
 
-    /// Tries to accept a connection. A lost connection is passed over, and a shortage is waited out
-    /// for once.
+    /// Tries to accept a connection. It skips one that failed before it was accepted, and waits
+    /// once at a shortage.
     fn try_accept(&mut self) -> Result<Option<L::Conn>, ListenerFault>
         ensures same { (self.new.faults ≡ self.old.faults) × (self.new.is_open ≡ self.old.is_open)
             × (self.new.given ≡ self.old.given) × (self.new.most ≡ self.old.most)
@@ -142,7 +142,8 @@ impl<L: Listener> ListenerGate<L> {
         }
     }
 
-    /// Accepts a connection. Lost connections are passed over, and shortages are waited out.
+    /// Accepts a connection. It skips those that failed before they were accepted, and waits out
+    /// shortages.
     fn accept(&mut self) -> Result<L::Conn, ListenerFault>
         ensures same { (self.new.faults ≡ self.old.faults) × (self.new.is_open ≡ self.old.is_open)
             × (self.new.given ≡ self.old.given) × (self.new.most ≡ self.old.most)

@@ -16,12 +16,12 @@ pub struct ListenerFault;
 /// Why no connection was accepted.
 #[derive(Clone, Copy, Debug, PartialEq, Eq, Error)]
 pub enum AcceptError {
-    /// The connection was lost before it was accepted, its network failed, or a signal came: the
+    /// The connection was closed before it was accepted, its network failed, or a signal came: the
     /// next accept may succeed at once.
     #[error("the connection was lost before it was accepted")]
     Transient,
     /// The process or the system is short of file descriptors or memory: an accept may succeed
-    /// later. No connection was lost: it still waits to be accepted.
+    /// later. The connection still waits to be accepted.
     #[error("file descriptors or memory are short")]
     Shortage,
     /// The listener doesn't work any more.

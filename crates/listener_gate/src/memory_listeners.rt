@@ -67,7 +67,7 @@ impl MemoryListener {
         self.ended
     }
 
-    /// Counts a call, and answers whether it is to fail.
+    /// Counts a call, and returns whether it is to fail.
     fn call_fails(&mut self) -> bool
         ensures did { self.new.did ≡ self.old.did }
         ensures faults { self.new.faults ≡ self.old.faults }
@@ -100,7 +100,7 @@ impl MemoryListener {
         }
     }
 
-    /// Notes a failed accept, and answers its error, or that the listener is broken.
+    /// Notes a failed accept, and returns its error, or that the listener is broken.
     fn note_error(&mut self, error: AcceptError) -> AcceptError
         ensures noted { self.new.did.items ≡ self.old.did.items ++ failed_accept result }
         ensures count { self.old.faults ≤ self.new.faults }

@@ -1,5 +1,5 @@
--- What is found in a film: heads, slices and units, each told where the code, or the film's end,
--- stands that ends it.
+-- What is found in a film: heads, slices and units, each reported where the code, or the film's
+-- end, stands that ends it.
 use Rattle.std.specs.Prelude.{ℕ, ◌+◌, ◌-◌, ◌==◌, ◌&&◌, List, [], ◌∷◌, ◌++◌, if◌then◌else◌, length}
 use Rattle.std.specs.Prelude.{nat_lt, unwrap_or}
 use Rattle.mpeg_scan.specs.declared.codes.Code.{Code}
@@ -15,7 +15,7 @@ pub data Call : Type 0 where
   slice_call : ℕ → ℕ → Call
   unit_call : PictureUnit → Call
 
--- stands for the header of a unit without a picture, which no accepted film has
+-- represents the header of a unit without a picture, which no accepted film has
 abbrev pub no_header : Header
 no_header = record { place = 0; temporal = 0; kind = D; vectors = 0 }
 
@@ -54,6 +54,6 @@ unfoldable pub calls_of : List Code → List Call
 calls_of [] = []
 calls_of (c ∷ past) = calls_of past ++ calls_at (tally_of past) c.place c.value
 
--- what a whole film has, its bytes given the latest first
+-- what an entire film has, its bytes given the latest first
 abbrev pub all_calls : List ℕ → List Call
 all_calls r = calls_of (codes_of r) ++ unit_end (tally_of (codes_of r)) (length r)

@@ -119,7 +119,7 @@ kind_of type =
     if type == 1 then I else (if type == 2 then P else (if type == 3 then B else D))
 
 -- the four fields of a picture's vectors as a byte: the backward ones in the high half, and 0 for
--- those that its kind lacks
+-- those that its kind doesn't have
 abbrev pub vectors_by : Kind → ℕ → ℕ → ℕ
 vectors_by I forward backward = 0
 vectors_by P forward backward = forward

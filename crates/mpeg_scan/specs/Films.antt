@@ -7,14 +7,14 @@ use Rattle.mpeg_scan.specs.CodeFacts.{rate_of}
 use Rattle.mpeg_scan.specs.FilmFaults.{refusal_of}
 use Rattle.mpeg_scan.specs.Calls.{Call, head_call, slice_call, unit_call, all_calls}
 
--- the units that are told of, in order
+-- the units that are reported, in order
 abbrev pub units_in : List Call → List PictureUnit
 units_in [] = []
 units_in (head_call from to ∷ calls) = units_in calls
 units_in (slice_call from to ∷ calls) = units_in calls
 units_in (unit_call unit ∷ calls) = unit ∷ units_in calls
 
--- the places of the slices that are told of, in order
+-- the places of the slices that are reported, in order
 abbrev pub slices_in : List Call → List ℕ
 slices_in [] = []
 slices_in (head_call from to ∷ calls) = slices_in calls
@@ -25,7 +25,7 @@ slices_in (unit_call unit ∷ calls) = slices_in calls
 abbrev pub refusal : List ℕ → Option FilmFault
 refusal bytes = refusal_of (read_after [] bytes)
 
--- all that is told of a film
+-- all that is reported of a film
 abbrev pub film_calls : List ℕ → List Call
 film_calls bytes = all_calls (read_after [] bytes)
 

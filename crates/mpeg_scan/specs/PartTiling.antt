@@ -11,7 +11,7 @@ pub data Part : Type 0 where
   between : ℕ → Part
   within : ℕ → ℕ → ℕ → ℕ → Part
 
--- the part after one more is told of, if that one fits: a head of 1 to 1,380 bytes, a slice of at
+-- the part after one more is reported, if that one fits: a head of 1 to 1,380 bytes, a slice of at
 -- least 4 bytes that begins where the part before it ends, and a unit of that head and these
 -- slices, which are at least one
 abbrev pub next_part : Part → Call → Option Part

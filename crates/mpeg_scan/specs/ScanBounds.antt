@@ -1,5 +1,5 @@
 -- What a scanner knows of places and counts: its latest unit and slice began well before the next
--- code, so that the parts of which it tells have the lengths that the grammar gives; and its counts
+-- code, so that the parts that it reports have the lengths that the grammar gives; and its counts
 -- have room for that code.
 use Rattle.std.specs.Prelude.{ℕ, ◌+◌, ◌-◌, ◌<◌, ◌≤◌, ◌≡◌, true, if◌then◌else◌, IsSome, Option}
 use Rattle.std.specs.Option.{ForSome}

@@ -61,8 +61,8 @@ open_slice s = (tally_with s.progress.latest s.progress.tally).slice
 abbrev pub IsSliceReady : (ℕ → Type 0) → Scanner → Type 0
 IsSliceReady Ready s = s.refused ≡ None → 0 < open_slices s → Ready (open_slice s)
 
--- a code of a chunk is refused at its last byte, and all that ends before it was told, after these
--- calls
+-- a code of a chunk is refused at its last byte, and all that ends before it was reported, after
+-- these calls
 pub record IsRefusedInChunk (Heard : List Call → Type 0) (r chunk : List ℕ) (calls : List Call)
     (f : FilmFault) : Type 0 where
   pub count : ℕ

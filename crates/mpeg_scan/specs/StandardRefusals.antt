@@ -1,4 +1,4 @@
--- The refusals of a film in the words of ISO/IEC 11172-2, over the start codes that stand in its
+-- The refusals of a film in the terms of ISO/IEC 11172-2, over the start codes that stand in its
 -- bytes, and these bytes. Each start code is judged in its turn, and the film's end last: a refusal
 -- speaks of the codes before a place `at`, where the code stands that is judged, or the film ends.
 -- A word takes `Has`: that a code of a value stands at a place.

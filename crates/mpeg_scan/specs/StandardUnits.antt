@@ -42,7 +42,7 @@ IsFirstCode Has from = (place value : ℕ) → Has place value → from ≤ plac
 abbrev pub StandsThere : (ℕ → ℕ → Type 0) → ℕ → (ℕ → Type 0) → Type 0
 StandsThere Has place OfValue = (value : ℕ) × (Has place value × OfValue value)
 
--- codes of such a value from a place on before another, each before the one in front of it in the
+-- codes of such a value from a place on before another, each before the one that precedes it in the
 -- list
 abbrev pub AreCodes : (ℕ → ℕ → Type 0) → (ℕ → Type 0) → ℕ → ℕ → List ℕ → Type 0
 AreCodes Has OfValue from to [] = Unit {0}
@@ -82,7 +82,7 @@ type_number P = 2
 type_number B = 3
 type_number D = 4
 
--- a P picture has the forward fields, a B picture the backward ones in the high half besides
+-- a P picture has the forward fields, a B picture also the backward ones in the high half
 abbrev pub vector_fields : List ℕ → ℕ → Kind → ℕ
 vector_fields bytes place I = 0
 vector_fields bytes place P = forward_vector bytes place

@@ -1,4 +1,4 @@
--- How the units of a film are numbered, from what is told of it alone.
+-- How the units of a film are numbered, from what is reported of it alone.
 use Rattle.std.specs.Prelude.{ℕ, ◌+◌, ◌==◌, ◌&&◌, List, [], ◌∷◌, Option, Some, None, IsSome}
 use Rattle.std.specs.Prelude.{if◌then◌else◌}
 use Rattle.mpeg_scan.specs.declared.units.Unit.{Unit as PictureUnit}
@@ -14,8 +14,8 @@ pub record Count : Type 0 where
 abbrev pub group_of : Count → PictureUnit → ℕ
 group_of k unit = if unit.starts_group then k.units else k.before_group
 
--- the count after one more is told of, if that one agrees: a unit's slices are the latest ones, and
--- its presentation number is the number of units before its group plus its temporal_reference
+-- the count after one more is reported, if that one agrees: a unit's slices are the latest ones,
+-- and its presentation number is the number of units before its group plus its temporal_reference
 abbrev pub next_count : Count → Call → Option Count
 next_count k (head_call from to) = Some k
 next_count k (slice_call from to) = Some (record k { slices = k.slices + 1 })

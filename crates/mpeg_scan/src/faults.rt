@@ -192,8 +192,8 @@ fn picture_fault(code: &Code, end: u64) -> Option<FilmFault>
     }
 }
 
-/// The refusal of a code by its value: a system code, an extension, or another than a sequence
-/// header in front.
+/// The refusal of a code by its value: a system code, an extension, or a code other than a sequence
+/// header at the film's start.
 fn value_fault(tally: &Tally, place: u64, value: u8) -> Option<FilmFault>
     ensures { result ≡ value_fault tally.now place value }
 {

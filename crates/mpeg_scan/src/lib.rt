@@ -1,5 +1,5 @@
-//! The pictures of an MPEG-1 video elementary stream (ISO/IEC 11172-2), read once from the front,
-//! whole or in chunks.
+//! The pictures of an MPEG-1 video elementary stream (ISO/IEC 11172-2), read in one pass from the
+//! start, in one piece or in chunks.
 #![tactic(auto)]
 
 mod codes;

@@ -107,6 +107,7 @@ impl Progress {
         ensures fed { self.new.fed ≡ self.old.fed }
         ensures prefix { self.new.prefix ≡ self.old.prefix }
     {
+        // only the next code shows whether the header before it is complete
         if let Some(fault) = self.header_fault(place) {
             return Err(fault);
         }
@@ -174,6 +175,7 @@ impl Progress {
             self.note(byte);
             return Ok(());
         }
+        // the prefix 00 00 01 ends before this byte, which is the code's value
         let place = self.fed - 3;
         self.note(byte);
         self.take_code(place, byte, found)
@@ -188,7 +190,7 @@ impl Progress {
         }
     }
 
-    /// Reads the first bytes of `rest`, up to its first zero byte, and answers how many:
+    /// Reads the first bytes of `rest`, up to its first zero byte, and returns how many:
     /// none where a part of a prefix stands at the end. No code ends in them, so they are of the
     /// latest header or are passed over.
     fn skip(&mut self, rest: &[u8]) -> usize
@@ -206,6 +208,7 @@ impl Progress {
         if !self.prefix.is_nothing() {
             return 0;
         }
+        // A code's prefix begins with a zero byte, so no code can begin before one.
         let count = run_before_zero(rest);
         self.note_header(&rest[..count]);
         self.fed += count as u64;

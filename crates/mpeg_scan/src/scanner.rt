@@ -49,7 +49,7 @@ impl Scanner {
     ///
     /// [`ScanRefused::Fault`] where a code is refused, once all that ends before that code was
     /// reported; [`ScanRefused::NoMemory`] where `found` runs out of memory. Once it has answered
-    /// either, it answers the same again.
+    /// either, it returns the same again.
     pub fn feed<F: Found>(&mut self, chunk: &[u8], found: &mut F) -> Result<(), ScanRefused>
         requires short { bytes_fed self.old + length chunk.now ≤ 2 ^ 40 }
         requires ready { IsSliceReady (F.ready_at found.old) self.old }

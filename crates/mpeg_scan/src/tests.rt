@@ -225,7 +225,7 @@ fn fields_of_headers(rt: HostRuntime) -> Result<(), Fail> {
     Ok(())
 }
 
-/// What a film tells when it is fed in two chunks, or byte by byte.
+/// What the scanner reports of a film that is fed in two chunks, or byte by byte.
 fn calls_in_chunks(
     alloc: Global,
     film: &[u8],

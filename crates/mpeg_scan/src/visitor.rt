@@ -1,4 +1,4 @@
-//! Tells of a film's heads, slices and units as they end.
+//! Reports a film's heads, slices and units as they end.
 
 ghost use Rattle.std.specs.Prelude.{◌≡◌, ◌+◌, ◌^◌, ◌<◌, ◌≤◌, ◌++◌, ◌∷◌, ℕ, [], List, IsSome};
 ghost use Rattle.std.specs.Prelude.{OnOk, true};
@@ -11,12 +11,12 @@ use crate::tallies::{Tally, is_head, is_slice};
 use crate::units::Unit;
 use vod_base::NoMemory;
 
-/// What hears of a film's parts while it is scanned: of each unit its head, its slices in order,
+/// Receives a film's parts while the film is scanned: of each unit its head, its slices in order,
 /// and then the unit itself, each when it has ended. Places are in bytes from the film's first.
 ///
 /// # Errors
 ///
-/// [`NoMemory`] ends the scan, which answers [`ScanRefused::NoMemory`](crate::ScanRefused).
+/// [`NoMemory`] ends the scan, which returns [`ScanRefused::NoMemory`](crate::ScanRefused).
 pub trait Found {
     ghost heard: { Self → List Call → Type 0 };
 
@@ -49,7 +49,7 @@ pub trait Found {
             heard self.new (calls ++ unit_call unit ∷ [])) };
 }
 
-/// Tells of the latest unit's last slice and of the unit, which end at `to`.
+/// Reports the latest unit's last slice and the unit, which end at `to`.
 #[tactic(auto, using(std::proofs::lemmas::List::append_assoc))]
 pub(crate) fn tell_unit<F: Found>(tally: &Tally, to: u64, found: &mut F) -> Result<(), NoMemory>
     requires some { 0 < tally.now.slices }
@@ -65,7 +65,7 @@ pub(crate) fn tell_unit<F: Found>(tally: &Tally, to: u64, found: &mut F) -> Resu
     found.unit(unit_at(tally, to))
 }
 
-/// Tells of what ends at a code after those of `tally`.
+/// Reports what ends at a code after those of `tally`.
 #[tactic(auto, unfolding(crate::specs::Calls::calls_at))]
 pub(crate) fn tell<F: Found>(
     tally: &Tally,

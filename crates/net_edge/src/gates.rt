@@ -89,7 +89,7 @@ impl<'a, R: Net<Listener = TcpListener, Stream = TcpStream> + Clock> TcpPort<'a,
         }
     }
 
-    /// The port that it is bound to; None where it isn't, or where the system doesn't tell.
+    /// The port that it is bound to; None where it isn't, or where the system doesn't report it.
     pub fn port(&self) -> Option<u16> {
         let bound = self.bound.as_ref()?;
         Some(bound.listener.local_addr().ok()?.port())

@@ -72,7 +72,7 @@ fn hears_slot<K: Link>(link: &mut K) -> bool {
     matches!(link.next(&mut [0; 8]), Ok(Heard::Slot(_)))
 }
 
-/// The next event that is no slot, and how many slots were heard before it.
+/// The next event that is no slot, and how many slots began before it.
 fn next_but_slots<K: Link>(link: &mut K, into: &mut [u8; 8]) -> Result<(Heard, u32), Fail> {
     let mut slots = 0u32;
     let mut last = None;
@@ -92,7 +92,8 @@ fn next_but_slots<K: Link>(link: &mut K, into: &mut [u8; 8]) -> Result<(Heard, u
     Err(Fail::from("slots alone"))
 }
 
-/// Hears these bytes next but for slots, and answers how many slots those are.
+/// Expects that these bytes come next, except for slots, and returns how many slots came before
+/// them.
 fn hear<K: Link>(link: &mut K, want: &[u8]) -> Result<u32, Fail> {
     let mut into = [0; 8];
     match next_but_slots(link, &mut into)? {
@@ -101,7 +102,7 @@ fn hear<K: Link>(link: &mut K, want: &[u8]) -> Result<u32, Fail> {
     }
 }
 
-/// Whether the end is heard next, but for slots.
+/// Whether the end comes next, except for slots.
 fn hears_end<K: Link>(link: &mut K) -> Result<bool, Fail> {
     Ok(next_but_slots(link, &mut [0; 8])?.0 == Heard::End)
 }

@@ -81,7 +81,7 @@ pub record AreHeldAs (held : List File) (named : List Named) (sources : List Sou
   pub each : (k : ℕ) (name : Named) (none : Source) → k < length named →
       IsHeldAs held (slice_index_or named k name) (slice_index_or sources k none)
 
--- a text was read as this script: the one under that name, where the library tells what it holds
+-- a text was read as this script: the one under that name, where the library exposes what it holds
 pub record IsScriptOf (told : Option (List File)) (name : List ℕ) (script : Script) : Type 0 where
   pub text : List ℕ
   pub found : IfTold told (λ held. file_named held name ≡ Some text)

@@ -1,4 +1,4 @@
--- What `--help` tells, as its reader looks for it.
+-- What `--help` says, as its reader looks for it.
 use Rattle.std.specs.Prelude.{ℕ, Bool, true, false, ◌==◌, ◌&&◌, ◌||◌, nat_le, List, [], ◌∷◌, ◌++◌}
 use Rattle.std.specs.Prelude.{length, reverse, codes}
 use Rattle.std.specs.List.{list_all, list_any, slice_split}

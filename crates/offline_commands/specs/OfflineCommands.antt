@@ -1,4 +1,4 @@
--- What carrying out the words gives, as a library holds its files.
+-- What carrying out the arguments gives, as a library holds its files.
 use Rattle.std.specs.List.{Contains}
 use Rattle.std.specs.Prelude.{◌≡◌, ◌⊎◌, ℕ, List, Option, Some, None, codes}
 use Rattle.vod_base.specs.IoState.{File}
@@ -39,7 +39,7 @@ generated_text Film seed pictures = film_of (words_of seed) pictures
 generated_text Trace seed pictures = trace_of (words_of seed) pictures
 generated_text System seed pictures = system_of (film_of (words_of seed) pictures)
 
--- what holds of the files that a library tells, if it tells them
+-- what is true for the files that a library exposes, if it exposes them
 abbrev pub IfTold : Option (List File) → (List File → Type 0) → Type 0
 IfTold told P = (held : List File) → told ≡ Some held → P held
 
@@ -64,8 +64,8 @@ pub record IsSomeScan (text : List ℕ) : Type 0 where
   pub printed : text ≡ scan_text size rate units
 
 -- the status, the text for the output and the plan of what is asked for. What `--help`, `--version`
--- and `make` give is the same over every library, also one that tells nothing; over each library a
--- plan is given with its certificate, and status 1 is that of `check` alone
+-- and `make` give is the same over every library, also one that exposes nothing; over each library
+-- a plan is given with its certificate, and status 1 is that of `check` alone
 abbrev pub IsOutputOf : Option (List File) → Invocation → ℕ → List ℕ → Option (List Segment) → Type
     0
 IsOutputOf told help status text plan = (status ≡ 0) × (plan ≡ None) × (text ≡ help_text)

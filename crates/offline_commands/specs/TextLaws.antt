@@ -1,4 +1,4 @@
--- What a reader of the texts of a scan, a verdict and `--help` can tell from them.
+-- What a reader of the texts of a scan, a verdict and `--help` can learn from them.
 use Rattle.std.specs.Prelude.{ℕ, ◌≡◌, ◌<◌, ◌^◌, ◌==◌, ◌||◌, List, [], ◌∷◌, All, IfSome}
 use Rattle.std.specs.Prelude.{codes, decimal, length, slice_index_or}
 use Rattle.std.specs.List.{AllZip, list_any, slice_split}
@@ -48,7 +48,7 @@ words_in line = slice_split (λ b. (b == 32) || (b == 10)) line
 abbrev pub GivesOnce : List ℕ → List ℕ → ℕ → Type 0
 GivesOnce line key number = values_of key (words_in line) ≡ decimal number ∷ []
 
--- What a line tells of a unit: its number first and its kind second, and by their keys its place in
+-- What a line gives of a unit: its number first and its kind second, and by their keys its place in
 -- presentation order, the places where it begins, where its first slice begins and where it ends,
 -- and its number of slices; `sequence` stands there where a sequence header does, `group` where the
 -- unit starts a group.
@@ -63,13 +63,13 @@ pub record LineShowsUnit (number : ℕ) (unit : PictureUnit) (line : List ℕ) :
   pub sequence_told : list_any (bytes_eq (codes "sequence")) (words_in line) ≡ unit.has_sequence
   pub group_told : list_any (bytes_eq (codes "group")) (words_in line) ≡ unit.starts_group
 
--- what the first line of a scan tells: the film's bytes, its rate code and its pictures
+-- what the first line of a scan says: the film's bytes, its rate code and its pictures
 pub record LineShowsFilm (bytes rate pictures : ℕ) (line : List ℕ) : Type 0 where
   pub bytes_told : GivesOnce line (codes "bytes") bytes
   pub rate_told : GivesOnce line (codes "rate") rate
   pub pictures_told : GivesOnce line (codes "pictures") pictures
 
--- what a scan tells: the film's size, its rate code, and its units in order
+-- what a scan says: the film's size, its rate code, and its units in order
 pub record IsSameScan (bytes bytes' rate rate' : ℕ) (units units' : List PictureUnit)
     : Type 0 where
   pub bytes_are : bytes ≡ bytes'

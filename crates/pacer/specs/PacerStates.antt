@@ -45,7 +45,7 @@ new_pacer_state pieces before plan start = record {
   sent = 0;
 }
 
--- what holds of every pacing
+-- what is true for every pacing
 pub record IsPacerState (p : PacerState) : Type 0 where
   pub plan : IsPlan p.plan
   pub whole : p.before + total_bytes p.plan ≡ length (framed_bytes p.pieces)

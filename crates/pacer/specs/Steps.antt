@@ -10,10 +10,10 @@ pub record IsStepped (old new : PacerState) (step : Stepped) : Type 0 where
   pub sent : step.sent ≡ new.sent - old.sent
   pub left : step.left ≡ new.due - new.sent
 
--- A step that failed. What is due is that of the whole step. What was sent are whole sends, none
--- past the step's end; and the front of one more went out, which is of one report, or of the heads
--- or the payload of one frame. So all that went out before counts as sent: whole frames and
--- reports, and the heads of a frame of whose payload some went out.
+-- A step that failed. What is due is that of the entire step. What was sent are complete sends,
+-- none past the step's end; and a prefix of one more went out, which is of one report, or of the
+-- heads or the payload of one frame. So all that went out before counts as sent: complete frames
+-- and reports, and the heads of a frame of whose payload some went out.
 pub record HasFailed (stop : Bool) (slot : ℕ) (old new : PacerState)
     (told_old told_new : Option (List IoEvent)) : Type 0 where
   pub state : new ≡ record (at_slot slot old) { sent = new.sent }

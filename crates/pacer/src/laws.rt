@@ -1,4 +1,4 @@
-//! What is sent in each slot, and that it is the whole track in the end.
+//! What is sent in each slot, and that in the end it is the entire track.
 
 ghost use Rattle.pacer.specs.Laws.{SendsNothing, DoPartsJoin, OfSteps, SendsNext};
 ghost use Rattle.pacer.specs.Laws.{SendsTheTrack, SendsThrough, StopsAtBoundary};
@@ -17,7 +17,7 @@ pub fn law_each_slot_sends_its_plan_bytes()
 {}
 
 /// The bytes of a plan are those of its track from the plan's first one on, however they are parted
-/// into slots. What was sent stands at a boundary exactly where it ends with a whole frame or
+/// into slots. What was sent stands at a boundary exactly where it ends with a complete frame or
 /// report, or nothing was sent of the track. A play is done exactly where a slot of its plan was
 /// stepped and nothing is left of what is kept.
 pub fn law_plan_bytes_are_track_bytes()

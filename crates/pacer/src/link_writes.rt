@@ -73,7 +73,7 @@ fn send_some<K: Link>(bytes: &[u8], link: &mut K) -> Result<(), LinkFault>
 }
 
 /// Sends the first `most` bytes of a head and the payload after it, in a send for each of the two
-/// that has some of them. It answers how many they were.
+/// that has some of them. It returns how many they were.
 fn send_part<K: Link>(
     head: &[u8],
     payload: &[u8],
@@ -91,6 +91,7 @@ fn send_part<K: Link>(
         (take most (head.now ++ payload.now)) (K.told link.old) (K.told link.new) stopped.0) }
 {
     let head = front(head, most);
+    // head and payload go out in a send each: so the payload, which lies in the film, isn't copied
     let head_bytes = head.len() as u64;
     let payload = front(payload, most - head_bytes);
     let Ok(()) = send_some(head, link) else {

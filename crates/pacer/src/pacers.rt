@@ -27,7 +27,7 @@ pub struct Stepped {
 #[derive(Drop)]
 pub struct Pacer<T: Track> {
     track: T,
-    /// The bytes of the whole track.
+    /// The bytes of the entire track.
     total: u64,
     /// The place in the track of the plan's first byte.
     before: u64,
@@ -91,7 +91,7 @@ impl<T: Track> Pacer<T> {
         ensures { result ≡ new_pacer_state (T.pieces track) sent_before plan start }
     {
         let total = track.total();
-        // Its clause is what holds of every plan.
+        // The contract of this call exposes what is true for every plan.
         let _segments = plan.segments();
         Pacer {
             track,
@@ -117,6 +117,7 @@ impl<T: Track> Pacer<T> {
         let number = slot - self.start;
         let reached = self.cursor.sum_at(number).min(self.keep);
         self.last = later_of(self.last, number);
+        // a slot that comes late, or again, never takes back what is due
         self.due = self.due.max(reached);
     }
 
@@ -138,6 +139,7 @@ impl<T: Track> Pacer<T> {
         ensures most { result ≤ self.now.due }
     {
         if stop {
+            // a reply waits, and may only stand between two packets (RFC 2326 section 10.12)
             self.due.min(self.next_boundary())
         } else {
             self.due
@@ -188,7 +190,7 @@ impl<T: Track> Pacer<T> {
         }
     }
 
-    /// Halts at the first boundary at or after what was sent, and answers it. Nothing past it ever
+    /// Halts at the first boundary at or after what was sent, and returns it. Nothing past it ever
     /// becomes due.
     pub fn ask_halt(&mut self) -> u64
         requires { self.old.due ≡ self.old.sent }
@@ -199,6 +201,8 @@ impl<T: Track> Pacer<T> {
         ensures pacing { IsPacerState self.new }
         ensures most { result ≤ self.old.keep }
     {
+        // a packet that is partly sent must go out to its end: the client couldn't read the stream
+        // after it
         self.keep = self.next_boundary();
         self.keep
     }

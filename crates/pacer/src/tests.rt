@@ -137,7 +137,7 @@ fn whole_play(rt: &impl Abort, alloc: Global, film: &Stored) -> Result<Vec<u8>, 
 /// The numbers of the sends that fail, and the calls.
 type Row<'a> = (&'a [u64], Calls<'a>);
 
-/// Calls that send the first bytes of the whole play.
+/// Calls that send the first bytes of the entire play.
 fn sends_the_front(rt: &impl Abort, alloc: Global, rows: &[Row<'_>]) -> Result<(), Fail> {
     let film = film_b(alloc)?;
     let whole = whole_play(rt, alloc, &film)?;

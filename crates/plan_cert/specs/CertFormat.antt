@@ -16,7 +16,7 @@ abbrev pub cert_head : ℕ → ℕ → List ℕ
 cert_head slots bytes =
     codes "smooth 1\nslots " ++ decimal slots ++ codes "\nbytes " ++ decimal bytes ++ codes "\n"
 
--- the whole text, the one spelling of a list of segments
+-- the entire text, the one spelling of a list of segments
 abbrev pub cert_text : List Segment → List ℕ
 cert_text segments =
     cert_head (total_slots segments) (total_bytes segments) ++ flat_map segment_line segments

@@ -64,7 +64,7 @@ pub record BreaksAt (lines : Lines) (i : ℕ) : Type 0 where
       ⊎ ((i < length lines.whole) × (¬ MayStand i (line_at lines i))
       × (¬ MayEnd i (line_at lines i)))
 
--- Line i, from 0, is after the end of a whole certificate.
+-- Line i, from 0, is after the end of a complete certificate.
 pub record IsAfterEnd (lines : Lines) (i : ℕ) : Type 0 where
   pub last : ℕ
   pub last_is : i ≡ last + 1

@@ -58,6 +58,11 @@ const MAX_NUMBER: u64 = MAX_BYTES;
 /// Reads a certificate: the text that [`crate::write_cert`] gives of a plan, and of any segments
 /// with numbers up to 2^42, at most 1,000,000 of them. Such a text is read as its own segments, or
 /// there is no memory; any other is refused.
+///
+/// # Errors
+///
+/// [`CertRead::BadCert`] with the line, from 1, that isn't as the grammar says or doesn't agree
+/// with the segments; [`CertRead::NoMemory`] where there is none for the segments.
 pub fn read_cert(alloc: Global, text: &[u8]) -> Result<CertText, CertRead>
     ensures read { IfOk result (λ cert.
         IsCertificate text.now cert.slots cert.bytes cert.segments.items) }

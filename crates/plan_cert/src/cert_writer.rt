@@ -10,6 +10,10 @@ use vod_base::{NoMemory, push_field};
 /// The certificate of a plan: a line `smooth 1`, `slots` and `bytes` with the sums, one line
 /// `segment SLOTS BYTES` for each segment, and a line `end`. Each line ends with LF, and numbers
 /// are decimal.
+///
+/// # Errors
+///
+/// [`NoMemory`] where there is none for the text.
 pub fn write_cert(alloc: Global, plan: &Plan) -> Result<Vec<u8>, NoMemory>
     ensures { IfOk result (λ text. text.items ≡ cert_text plan.now) }
 {

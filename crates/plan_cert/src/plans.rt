@@ -109,6 +109,10 @@ impl Plan {
     }
 
     /// Another plan of the same segments.
+    ///
+    /// # Errors
+    ///
+    /// [`NoMemory`] where there is none for the segments.
     pub fn copy(&self) -> Result<Plan, NoMemory>
         ensures { IfOk result (λ plan. plan ≡ self.now) }
     {

@@ -43,7 +43,7 @@ fn sends(rt: &impl Abort, plan: &Plan, want: &[u64], text: &str) {
     );
 }
 
-/// A cursor over a copy tells what the plan does, forwards and then from the first slot again.
+/// A cursor over a copy returns what the plan sends, forwards and then from the first slot again.
 fn follows(rt: &impl Abort, copy: Plan, plan: &Plan, text: &str) {
     let mut cursor = PlanCursor::new(copy);
     for again in [false, true] {

@@ -8,7 +8,7 @@ abbrev pub AreAscending : List ℕ → Type 0
 AreAscending [] = Unit {0}
 AreAscending (t ∷ rest) = All (λ u. t < u) rest × AreAscending rest
 
--- The first line tells the slot from which on bytes are told; then each slot from it on in which
+-- The first line gives the slot from which on bytes are listed; then each slot from it on in which
 -- bytes are booked has one line, in the order of slots, with its bytes; the last line is `end`, and
 -- nothing stands after it.
 pub record IsCalendarText (from : ℕ) (booked : ℕ → ℕ) (lines : Lines) : Type 0 where

@@ -6,7 +6,7 @@ use Rattle.plan_cert.specs.CertGrammar.{lines_of}
 use Rattle.slot_calendar.specs.Totals.{ring_slots}
 use Rattle.vod_base.specs.Fields.{field}
 
--- What holds of the bytes booked on a link in the slots from one on: a ring's slots alone have
+-- What is true for the bytes booked on a link in the slots from one on: a ring's slots alone have
 -- some, and none has more than a capacity can be.
 pub record AreBookings (from : ℕ) (booked : ℕ → ℕ) : Type 0 where
   pub first_small : from ≤ 2 ^ 62

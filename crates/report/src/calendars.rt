@@ -1,4 +1,4 @@
-//! The text of a calendar: from which slot on it tells, and each slot in which bytes are booked.
+//! The text of a calendar: its first slot, and each slot in which bytes are booked.
 
 ghost use Rattle.std.specs.Prelude.{◌++◌, codes, flat_map};
 ghost use Rattle.slot_calendar.specs.Calendars.{booked_at};

@@ -37,9 +37,9 @@ pub fn law_journal_text_is_its_lines()
         IsJournalText place entries (journal_text place entries) }
 {}
 
-/// A line that tells the booked bytes of a slot stands in the text of what is booked from a slot on
-/// exactly where the slot isn't before that one, bytes are booked in it, and the line tells how
-/// many. So it is for each calendar, by what `Calendar::now` tells of it.
+/// The text of what is booked from a slot on has a line for a slot, with its booked bytes, exactly
+/// where the slot isn't before the first one and bytes are booked in it. The line says how many.
+/// This is true for each calendar, by the contract of `Calendar::now`.
 pub fn law_slot_has_a_line_iff_booked()
     ensures stands { (from slot : ℕ) (booked : ℕ → ℕ) → AreBookings from booked → from ≤ slot →
         0 < booked slot → Contains (calendar_lines from booked) (slot_words slot (booked slot)) }
@@ -61,7 +61,7 @@ pub fn law_calendar_lists_each_booked_slot()
         IsCalendarText from booked (lines_of (calendar_text from booked)) }
 {}
 
-/// The text of a calendar that has come to a machine's now and stands for its plays is the text of
+/// The text of a calendar that has come to a machine's now and represents its plays is the text of
 /// what the machine has booked, from its now on. So it is for the calendar of a book and the state
 /// after its entries.
 pub fn law_calendar_text_matches_state()

@@ -153,7 +153,7 @@ fn texts_of_journals(rt: HostRuntime) -> Result<(), Fail> {
     Ok(())
 }
 
-/// The plan booked whole at slot 1, and at slot 3 with its first 2 bytes; then slots 0 and 1 are
+/// The plan booked entirely at slot 1, and at slot 3 with its first 2 bytes; then slots 0 and 1 are
 /// forgotten.
 fn calendar_of(rt: &impl Abort, alloc: Global, plan: &Plan) -> Result<Calendar, NoMemory> {
     let mut calendar = Calendar::new(alloc, Profile::flat(alloc, 5)?)?;

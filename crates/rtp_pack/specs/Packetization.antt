@@ -1,6 +1,6 @@
 -- How a unit, a picture with its headers, is cut into the payloads of RTP packets of at most 1,380
--- bytes. RFC 2250 section 3.1 wants that headers begin a packet and that a slice begins one too, or
--- follows headers or whole slices. Of the ways that it leaves this is one.
+-- bytes. RFC 2250 section 3.1 requires that headers begin a packet and that a slice begins one too,
+-- or follows headers or complete slices. This is one of the ways that it leaves.
 --
 -- The first portion begins with all headers.
 --

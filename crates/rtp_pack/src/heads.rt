@@ -73,6 +73,10 @@ pub fn write_head(head: &Head) -> [u8; 16]
 /// The head that the first 16 bytes are.
 ///
 /// `Short`, `NotRtp` and `NotVideo` come in this order, each exactly where it says.
+///
+/// # Errors
+///
+/// [`HeadFault`], the first of its three that applies: `Short`, `NotRtp`, `NotVideo`.
 pub fn read_head(bytes: &[u8]) -> Result<Head, HeadFault>
     ensures { result ≡ head_of bytes.now }
 {

@@ -73,7 +73,7 @@ fn close(packets: &mut Vec<Packet>, unit: &Unit, filling: OpenPacket) -> Result<
     put(packets, packet(unit, filling.from, filling.at, begin, end))
 }
 
-/// Appends the full portions from `start` on of a slice that ends at `end`, and answers where the
+/// Appends the full portions from `start` on of a slice that ends at `end`, and returns where the
 /// portion with its end begins.
 fn put_full(packets: &mut Vec<Packet>, unit: &Unit, start: u64, end: u64) -> Result<u64, NoMemory>
     requires { start < end }
@@ -95,7 +95,7 @@ fn put_full(packets: &mut Vec<Packet>, unit: &Unit, start: u64, end: u64) -> Res
     Ok(last)
 }
 
-/// Appends the packets that end before or in the slice to `end`, and answers the portion that is
+/// Appends the packets that end before or in the slice to `end`, and returns the portion that is
 /// being filled then.
 fn put_slice(
     packets: &mut Vec<Packet>,

@@ -27,7 +27,7 @@ pub struct Packet {
     pub sequence_header: bool,
 }
 
-/// The packets of a unit of the film, in order.
+/// The packets of a unit of the film, in order (RFC 2250 section 3.1).
 ///
 /// # Errors
 ///
@@ -44,6 +44,10 @@ pub fn packets(alloc: Global, film: &Film, unit: usize) -> Result<Vec<Packet>, N
 
 /// The packets of a unit of the film, in order, in place of those that the list has. It takes
 /// memory only where they are more than the list had room for.
+///
+/// # Errors
+///
+/// [`NoMemory`] where there is none for the packets.
 pub fn refill_packets(packets: &mut Vec<Packet>, film: &Film, unit: usize) -> Result<(), NoMemory>
     requires { unit < length film.now.units.items }
     ensures { OfUnit film.now.units.items unit (λ u.

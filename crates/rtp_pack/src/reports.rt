@@ -41,7 +41,7 @@ pub struct Report {
     pub octets: u32,
 }
 
-/// The bytes of a report with its interleaved head of 4.
+/// The bytes of a report (RFC 3550 sections 6.4.1 and 6.5) with its interleaved head of 4.
 pub const REPORT_BYTES: u64 = 52;
 
 /// The 48 bytes of a sender report without report blocks and a source description of the item CNAME

@@ -30,7 +30,8 @@ impl Model for UnitSize {
     ghost invariant = { λ m. IsMeasure (measure m.portions m.filling) };
 }
 
-/// The bytes of the heads of a frame: 4 of the interleaved block and 16 of the packet.
+/// The bytes of the heads of a frame: 4 of the interleaved block (RFC 2326 section 10.12) and 16 of
+/// the packet (RFC 3550 section 5.1, RFC 2250 section 3.4).
 pub const FRAME_HEAD_BYTES: u64 = 20;
 
 impl UnitSize {

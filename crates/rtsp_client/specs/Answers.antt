@@ -17,7 +17,7 @@ use Rattle.rtsp_client.specs.ClientHistory.{session}
 use Rattle.rtsp_client.specs.Films.{is_complete, is_good_frame}
 use Rattle.rtsp_client.specs.Meters.{watched_in}
 
--- a reply is awaited: to SETUP, then to PLAY, and to TEARDOWN once all units are whole
+-- a reply is awaited: to SETUP, then to PLAY, and to TEARDOWN once all units are complete
 abbrev pub is_awaited : History → Bool
 is_awaited h = nat_lt (replies h) 2 || is_complete h
 
@@ -112,7 +112,7 @@ element_events element =
 abbrev pub events_of_elements : List (List ℕ) → List ClientEvent
 events_of_elements elements = flat_map element_events elements
 
--- the bytes that wait of a block on channel 0 or 1 that isn't whole; of a block whose channel
+-- the bytes that wait of a block on channel 0 or 1 that isn't complete; of a block whose channel
 -- didn't come yet, one
 abbrev pub cut_bytes : List ℕ → ℕ
 cut_bytes rest =

@@ -1,4 +1,4 @@
--- Which fault of the outside an end blames.
+-- Which fault of I/O an end blames.
 use Rattle.std.specs.Prelude.{◌≡◌, ℕ, IfErr, Result}
 use Rattle.vod_base.specs.IoState.{HasRisen}
 use Rattle.rtsp_client.specs.declared.watch_request.WatchEnd.{WatchEnd}

@@ -1,5 +1,5 @@
--- What a client hears after its first request, element by element and slot by slot. A history is a
--- list of moments, the latest first.
+-- What a client receives after its first request, element by element and slot by slot. A history is
+-- a list of moments, the latest first.
 use Rattle.std.specs.Prelude.{ℕ, ◌+◌, ◌==◌, ◌&&◌, Bool, false}
 use Rattle.std.specs.Prelude.{not, max, nat_lt, if◌then◌else◌, List, [], ◌∷◌, ◌++◌, length}
 use Rattle.std.specs.Prelude.{drop, unwrap_or}
@@ -7,7 +7,7 @@ use Rattle.rtp_pack.specs.Heads.{head_at}
 use Rattle.rtsp_client.specs.Replies.{play_range, play_start, setup_session}
 
 -- a reply; a block on channel 0, a frame; a block on channel 1, a report; a slot began, while so
--- many bytes waited of a block on channel 0 or 1 that wasn't whole
+-- many bytes waited of a block on channel 0 or 1 that wasn't complete
 pub data ClientEvent : Type 0 where
   Reply : List ℕ → ClientEvent
   Frame : List ℕ → ClientEvent
@@ -32,7 +32,7 @@ frames (Frame block ∷ h) = frames h + 1
 frames (Report block ∷ h) = frames h
 frames (Slot slot cut ∷ h) = frames h
 
--- the reply to PLAY was heard, which is the second one
+-- the reply to PLAY was received, which is the second one
 abbrev pub is_playing : History → Bool
 is_playing h = nat_lt 1 (replies h)
 
@@ -57,7 +57,7 @@ bytes_received (Slot slot cut ∷ h) = bytes_received h
 abbrev pub is_last : List ℕ → Bool
 is_last block = (head_at (drop 4 block)).marker
 
--- a frame was heard of a unit that isn't whole
+-- a frame was received of a unit that isn't complete
 abbrev pub is_inside : History → Bool
 is_inside [] = false
 is_inside (Reply message ∷ h) = is_inside h
@@ -65,7 +65,7 @@ is_inside (Frame block ∷ h) = not (is_last block)
 is_inside (Report block ∷ h) = is_inside h
 is_inside (Slot slot cut ∷ h) = is_inside h
 
--- the bytes so far of the unit that isn't whole: its frames, and the reports directly before its
+-- the bytes so far of the unit that isn't complete: its frames, and the reports directly before its
 -- first one
 abbrev pub bytes_pending : History → ℕ
 bytes_pending [] = 0
@@ -75,7 +75,7 @@ bytes_pending (Report block ∷ h) = if is_playing h && not (is_inside h)
     then bytes_pending h + length block else bytes_pending h
 bytes_pending (Slot slot cut ∷ h) = bytes_pending h
 
--- the sizes of the whole units, in order
+-- the sizes of the complete units, in order
 abbrev pub sizes : History → List ℕ
 sizes [] = []
 sizes (Reply message ∷ h) = sizes h
@@ -92,7 +92,7 @@ payloads (Frame block ∷ h) = payloads h ++ drop 20 block
 payloads (Report block ∷ h) = payloads h
 payloads (Slot slot cut ∷ h) = payloads h
 
--- the greatest slot that was heard; 0 where there was none
+-- the greatest slot that was received; 0 where there was none
 abbrev pub last_slot : History → ℕ
 last_slot [] = 0
 last_slot (Reply message ∷ h) = last_slot h
@@ -109,8 +109,8 @@ session (Frame block ∷ h) = session h
 session (Report block ∷ h) = session h
 session (Slot slot cut ∷ h) = session h
 
--- of the reply to PLAY: in how many slots the play starts, the greatest slot that was heard before
--- it, the film's end in milliseconds
+-- of the reply to PLAY: in how many slots the play starts, the greatest slot that was received
+-- before it, the film's end in milliseconds
 abbrev pub start : History → ℕ
 start [] = 0
 start (Reply message ∷ h) = if replies h == 1 then unwrap_or (play_start message) 0 else start h

@@ -5,13 +5,13 @@ use Rattle.rtsp_client.specs.declared.frames.RtpSource.{RtpSource}
 use Rattle.rtsp_client.specs.declared.play_reply.Play.{Play}
 use Rattle.rtsp_client.specs.declared.watch_request.Watched.{Watched}
 
--- the reply to PLAY came after a slot, the greatest one that was heard until then; the film's end
--- is some number of milliseconds
+-- the reply to PLAY came after a slot, the greatest one that was received until then; the film's
+-- end is some number of milliseconds
 abbrev pub CameAfter : Option Play → ℕ → Type 0
 CameAfter None slot = Unit {0}
 CameAfter (Some play) slot = (play.slot_before ≤ slot) × (play.end_ms < 2 ^ 100)
 
--- a film's times and units, of which so many are whole
+-- a film's times and units, of which so many are complete
 pub record IsSoundSource (source : RtpSource) (whole : ℕ) : Type 0 where
   pub some_time : 0 < source.picture_time
   pub most_time : source.picture_time ≤ 15015

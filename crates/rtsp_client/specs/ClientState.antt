@@ -13,7 +13,7 @@ bytes_in c = c.watching.received + length c.input
 abbrev pub session_of : Client → List ℕ
 session_of c = unwrap_or (option_map (λ id. id.items) c.session) []
 
--- the replies that were heard: the one to SETUP, which began the session, and the one to PLAY
+-- the replies that were received: the one to SETUP, which began the session, and the one to PLAY
 abbrev pub replies_in : Client → ℕ
 replies_in c = if is_some c.watching.play then 2 else (if is_some c.session then 1 else 0)
 

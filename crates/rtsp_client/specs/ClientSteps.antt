@@ -1,5 +1,5 @@
--- What a client has done as moments, elements and events were taken up, by what its link and its
--- output tell.
+-- What a client has done as moments, elements and events were processed, by what its link and its
+-- output expose.
 use Rattle.std.specs.Prelude.{◌≡◌, ℕ, ◌<◌, ◌⊎◌, ◌∷◌, [], List, length, Option}
 use Rattle.std.specs.Prelude.{Ok, Result, OnOk, IfErr, take}
 use Rattle.vod_base.specs.Links.{IoEvent, IsSentPrefix, sends, told_more}
@@ -18,7 +18,7 @@ use Rattle.rtsp_client.specs.WatchCourses.{Ends, Fails, Round, Runs, StopsAt, ev
 use Rattle.rtsp_client.specs.WatchCourses.{rounds_doings, stage, RunsAll}
 use Rattle.rtsp_client.specs.HistoryInvariant.{HistoryInvariant}
 
--- what the link and the output tell
+-- what the link and the output expose
 pub record Observed : Type 0 where
   pub told : Option (List IoEvent)
   pub out : Option (List ℕ)
@@ -33,7 +33,7 @@ observed_more old sent out = record {
   out = told_more old.out out;
 }
 
--- moments were taken up, and the watching goes on
+-- moments were processed, and the watching goes on
 pub record HasTakenEvents (wish : Wish) (h : History) (moments : List ClientEvent) (new : Client)
     (old_sight new_sight : Observed) : Type 0 where
   pub good : GoOn h moments
@@ -41,7 +41,7 @@ pub record HasTakenEvents (wish : Wish) (h : History) (moments : List ClientEven
   pub sight_is : new_sight ≡
       observed_more old_sight (requests_after wish h moments) (payloads_of moments)
 
--- a moment gave the answer, or the outside failed as it was taken up
+-- a moment gave the answer, or I/O failed as it was processed
 pub record HasEndedAt (wish : Wish) (h : History) (moment : ClientEvent) (end : WatchEnd)
     (old_sight new_sight : Observed) : Type 0 where
   pub sent : List ℕ
@@ -50,14 +50,14 @@ pub record HasEndedAt (wish : Wish) (h : History) (moment : ClientEvent) (end : 
       ⊎ (GoesOn h moment × Fails wish h moment end sent out)
   pub sight_is : new_sight ≡ observed_more old_sight sent out
 
--- elements in front of the input were taken up
+-- the first elements of the input were processed
 pub record HasTaken (wish : Wish) (h : History) (rest : List ℕ) (new : Client)
     (old_sight new_sight : Observed) : Type 0 where
   pub elements : List (List ℕ)
   pub cut : AreInputElements rest elements new.input
   pub passed : HasTakenEvents wish h (events_of_elements elements) new old_sight new_sight
 
--- elements in front of the input were taken up, and then nothing more
+-- the first elements of the input were processed, and then nothing more
 pub record HasStopped (wish : Wish) (h : History) (rest : List ℕ) (end : WatchEnd)
     (old_sight new_sight : Observed) : Type 0 where
   pub sent : List ℕ
@@ -65,7 +65,7 @@ pub record HasStopped (wish : Wish) (h : History) (rest : List ℕ) (end : Watch
   pub stops : StopsAt wish (stage h rest) end sent out
   pub sight_is : new_sight ≡ observed_more old_sight sent out
 
--- a client, with what its link and its output tell
+-- a client, with what its link and its output expose
 pub record ClientView : Type 0 where
   pub client : Client
   pub observed : Observed
@@ -73,8 +73,8 @@ pub record ClientView : Type 0 where
 abbrev pub stand : Client → Option (List IoEvent) → Option (List ℕ) → ClientView
 stand client told out = record { client = client; observed = observed told out }
 
--- what a call answers that takes up moments: whatever was heard before, they were taken up where it
--- went well; and where it didn't, the moment gave the answer, or the outside failed
+-- what a call answers that processes moments: whatever was received before, they were processed
+-- where it went well; and where it didn't, the moment gave the answer, or I/O failed
 abbrev pub PassesMoments : {A : Type 0} → Wish → List ClientEvent → Result A WatchEnd → ClientView →
     ClientView →
     Type 0
@@ -86,8 +86,8 @@ abbrev pub EndsAtMoment : {A : Type 0} → Wish → ClientEvent → Result A Wat
 EndsAtMoment wish moment result old new = (h : History) → HistoryInvariant wish h old.client →
     IfErr result (λ end. HasEndedAt wish h moment end old.observed new.observed)
 
--- the same of the block of this channel and length in front of the input: a frame alone can end the
--- watching
+-- the same of the block of this channel and length at the start of the input: a frame alone can end
+-- the watching
 abbrev pub PassesBlock : {A : Type 0} → Wish → ℕ → ℕ → Result A WatchEnd → ClientView → ClientView →
     Type 0
 PassesBlock wish channel length result old new =
@@ -100,8 +100,8 @@ EndsAtBlock wish channel length result old new = (h : History) → HistoryInvari
     IfErr result (λ end. (channel ≡ 0)
     × HasEndedAt wish h (Frame (take length old.client.input)) end old.observed new.observed)
 
--- the same of the reply of this length in front of the input; nothing is handed on, whatever the
--- output tells
+-- the same of the reply of this length at the start of the input; nothing is handed on, whatever
+-- the output exposes
 abbrev pub PassesReply : {A : Type 0} → Wish → ℕ → Result A WatchEnd →
     (Option (List ℕ) → ClientView) → (Option (List ℕ) → ClientView) → Type 0
 PassesReply wish length result old new = (out : Option (List ℕ)) →
@@ -112,7 +112,7 @@ abbrev pub EndsAtReply : {A : Type 0} → Wish → ℕ → Result A WatchEnd →
 EndsAtReply wish length result old new = (out : Option (List ℕ)) →
     EndsAtMoment wish (Reply (take length (old out).client.input)) result (old out) (new out)
 
--- the same of elements in front of the input
+-- the same of the first elements of the input
 abbrev pub TakesElements : {A : Type 0} → Wish → Result A WatchEnd → ClientView → ClientView → Type
     0
 TakesElements wish result old new = (h : History) → HistoryInvariant wish h old.client →
@@ -123,7 +123,7 @@ abbrev pub StopsAtElements : {A : Type 0} → Wish → Result A WatchEnd → Cli
 StopsAtElements wish result old new = (h : History) → HistoryInvariant wish h old.client →
     IfErr result (λ end. HasStopped wish h old.client.input end old.observed new.observed)
 
--- an event was taken up, of which the link told before
+-- an event was processed that the link had exposed before
 pub record HasRound (wish : Wish) (h : History) (rest : List ℕ) (event : IoEvent) (new : Client)
     (old_sight new_sight : Observed) : Type 0 where
   pub moments : List ClientEvent
@@ -156,7 +156,7 @@ abbrev pub EndsAtEvent : {A : Type 0} → Wish → IoEvent → Result A WatchEnd
 EndsAtEvent wish event result old new = (h : History) → HistoryInvariant wish h old.client →
     IfErr result (λ end. HasEnded wish h old.client.input event end old.observed new.observed)
 
--- so many events were taken up from the beginning on, and the watching goes on
+-- so many events were processed from the beginning on, and the watching goes on
 pub record HasRun (wish : Wish) (count : ℕ) (client : Client) (old_sight new_sight : Observed)
     : Type 0 where
   pub rounds : List Round
@@ -170,7 +170,7 @@ pub record HasRun (wish : Wish) (count : ℕ) (client : Client) (old_sight new_s
         out = told_more old_sight.out (payloads_of (events_of_rounds rounds));
       }
 
--- SETUP wasn't sent whole: there was no memory for it, or a front of it was sent
+-- SETUP wasn't sent completely: there was no memory for it, or a prefix of it was sent
 abbrev pub IsUnsent : WatchEnd → Wish → Option (List IoEvent) → Option (List IoEvent) → Type 0
 IsUnsent end wish old_told new_told =
     ((end ≡ NoMemory) × (new_told ≡ old_told))

@@ -1,4 +1,4 @@
--- The film that is watched, as its frames and the reply to PLAY tell it.
+-- The film that is watched, as its frames and the reply to PLAY describe it.
 use Rattle.std.specs.Prelude.{ℕ, ◌+◌, ◌*◌, ◌%◌, ◌^◌, ◌==◌, ◌&&◌, Bool}
 use Rattle.std.specs.Prelude.{not, nat_le, nat_lt, if◌then◌else◌, List, length}
 use Rattle.std.specs.Prelude.{drop, slice_index, is_ok}
@@ -32,7 +32,7 @@ units_until ms time = div_ceil (ms * 360) time
 abbrev pub units : History → ℕ
 units h = if frames h == 0 then 0 else units_until (end_ms h) (time_in (first_frame h))
 
--- all units are whole
+-- all units are complete
 abbrev pub is_complete : History → Bool
 is_complete h = nat_lt 0 (frames h) && (length (sizes h) == units h)
 

@@ -8,8 +8,8 @@ use Rattle.rtsp_client.specs.ClientHistory.{bytes_received, frames, sizes}
 use Rattle.rtsp_client.specs.Films.{units}
 use Rattle.rtsp_client.specs.Meters.{is_read, place_in, time, used_before}
 
--- a film of units of these sizes on the wire, each shown for this time: the whole units that were
--- heard are its first ones, and of the next one not all bytes came
+-- a film of units of these sizes on the wire, each shown for this time: the complete units that
+-- were received are its first ones, and of the next one not all bytes came
 pub record IsFilmHeard (all : List ℕ) (picture_time : ℕ) (h : History) (cut : ℕ) : Type 0 where
   pub sizes_are : sizes h ≡ take (length (sizes h)) all
   pub among : length (sizes h) ≤ length all
@@ -37,7 +37,7 @@ IsBetweenAlways wish all picture_time (Slot slot cut ∷ h) =
     → IsFilmHeard all picture_time h cut
     × IsBetween wish all picture_time (place_in h slot) (bytes_received h + cut))
 
--- at each reading what was heard is of such a film
+-- at each reading what was received is of such a film
 abbrev pub IsFilmHeardAlways : Wish → List ℕ → ℕ → History → Type 0
 IsFilmHeardAlways wish all picture_time [] = ⊤
 IsFilmHeardAlways wish all picture_time (Reply message ∷ h) = IsFilmHeardAlways wish all

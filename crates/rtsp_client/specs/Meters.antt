@@ -25,7 +25,7 @@ used_before wish time slot unit (size ∷ sizes) =
 abbrev pub time : History → ℕ
 time h = if frames h == 0 then 0 else time_in (first_frame h)
 
--- the bytes of the whole units that are used before a slot of the play
+-- the bytes of the complete units that are used before a slot of the play
 abbrev pub played_before : Wish → History → ℕ → ℕ
 played_before wish h slot = used_before wish (time h) slot 0 (sizes h)
 
@@ -40,11 +40,12 @@ place_in h slot = slot - first_slot h
 abbrev pub is_read : History → ℕ → Bool
 is_read h slot = is_playing h && (nat_le (first_slot h) slot && nat_lt (last_slot h) slot)
 
--- the bytes that wait to be played as a slot begins, where so many wait of a block that isn't whole
+-- the bytes that wait to be played as a slot begins, where so many wait of a block that isn't
+-- complete
 abbrev pub bytes_waiting : Wish → History → ℕ → ℕ → ℕ
 bytes_waiting wish h slot cut = (bytes_received h + cut) - played_before wish h (place_in h slot)
 
--- the first unit that isn't whole is used in this slot of the play, or was to be used before it.
+-- the first unit that isn't complete is used in this slot of the play, or was to be used before it.
 -- Units are used in their order.
 abbrev pub lacks_picture : Wish → History → ℕ → Bool
 lacks_picture wish h slot =
@@ -69,7 +70,7 @@ count_over wish (Slot slot cut ∷ h) =
     if is_read h slot && nat_lt wish.buffer (bytes_waiting wish h slot cut)
     then count_over wish h + 1 else count_over wish h
 
--- at how many readings a unit was to be used that wasn't whole
+-- at how many readings a unit was to be used that wasn't complete
 abbrev pub count_under : Wish → History → ℕ
 count_under wish [] = 0
 count_under wish (Reply message ∷ h) = count_under wish h
@@ -78,7 +79,7 @@ count_under wish (Report block ∷ h) = count_under wish h
 count_under wish (Slot slot cut ∷ h) = if is_read h slot && lacks_picture wish h (place_in h slot)
     then count_under wish h + 1 else count_under wish h
 
--- what was heard and read
+-- what was received and read
 abbrev pub watched_in : Wish → History → Watched
 watched_in wish h = record {
   units = length (sizes h);

@@ -15,7 +15,7 @@ events_in (HeardSlot slot ∷ doings) = HeardSlot slot ∷ events_in doings
 events_in (HeardEnd ∷ doings) = HeardEnd ∷ events_in doings
 events_in (Sent byte ∷ doings) = events_in doings
 
--- an answer that the events decide: neither a fault of the outside nor want of memory
+-- an answer that the events decide: neither a fault of I/O nor that memory ran out
 abbrev pub IsDecided : WatchEnd → Type 0
 IsDecided (Done watched) = ⊤
 IsDecided (Fault fault) = ⊤
@@ -23,13 +23,13 @@ IsDecided LinkFault = ⊥
 IsDecided SinkFault = ⊥
 IsDecided NoMemory = ⊥
 
--- the answer, what the link tells of the watching, and what the output tells after it
+-- the answer, what the link exposes of the watching, and what the output exposes after it
 pub record WatchOutcome : Type 0 where
   pub end : WatchEnd
   pub doings : List IoEvent
   pub out : Option (List ℕ)
 
--- so a film was watched, after a link and an output had told these
+-- so a film was watched, after a link and an output had exposed these
 pub record IsOutcome (wish : Wish) (told : List IoEvent) (out : Option (List ℕ)) (outcome :
     WatchOutcome)
     : Type 0 where

@@ -42,7 +42,7 @@ abbrev pub milliseconds : List ℕ → List ℕ → Option ℕ
 milliseconds seconds fraction =
     option_and_then (λ s. option_map (λ f. s * 1000 + f) (number_of fraction)) (number_of seconds)
 
--- whether a text has a point before its last three bytes, and no needless zero in front
+-- whether a text has a point before its last three bytes, and no needless leading zero
 abbrev pub has_point : List ℕ → Bool
 has_point text =
     nat_le 4 (length text) && (slice_index text (length text - 4) == 46)
@@ -67,6 +67,6 @@ play_range message = option_and_then range_end (header_value message (codes "Ran
 abbrev pub start_within : ℕ → Option ℕ
 start_within start = if nat_le 1 start && nat_le start (2 ^ 62 + 1) then Some start else None
 
--- in how many slots the play starts that a reply tells
+-- in how many slots the play starts that a reply gives
 abbrev pub play_start : List ℕ → Option ℕ
 play_start message = option_and_then start_within (number_in message (codes "x-Start"))

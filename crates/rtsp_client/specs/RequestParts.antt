@@ -53,8 +53,8 @@ pub record IsSessionId (session : List ℕ) : Type 0 where
   pub bare : without_blanks session ≡ session
   pub short : length session ≤ 1024
 
--- a text is a request with these parts and this sequence number: it is found whole in front of
--- whatever comes later, and read as them, and each name has the value of the first field of that
+-- a text is a request with these parts and this sequence number: it is found as a complete request,
+-- whatever follows it, and read as them, and each name has the value of the first field of that
 -- name
 pub record IsRequestText (text : List ℕ) (parts : RequestPieces) (sequence : ℕ) : Type 0 where
   pub found : (later : List ℕ) → IsFirst (text ++ later) (Ok (Request (length text)))

@@ -15,7 +15,7 @@ setup_text wish =
     ++ decimal wish.buffer)
     ++ codes "\r\nx-Startup: ") ++ decimal wish.startup) ++ codes "\r\n\r\n"
 
--- PLAY of the whole film, in a session
+-- PLAY of the entire film, in a session
 abbrev pub play_text : Wish → List ℕ → List ℕ
 play_text wish session =
     (((codes "PLAY " ++ film_url wish) ++ codes " RTSP/1.0\r\nCSeq: 2\r\nSession: ") ++ session)

@@ -1,4 +1,4 @@
--- What a client keeps of what it heard, and what each moment makes of it.
+-- What a client keeps of what it received, and what each moment makes of it.
 use Rattle.std.specs.Prelude.{ℕ, ◌+◌, ◌-◌, ◌*◌, ◌/◌, ◌%◌, ◌^◌, ◌==◌, ◌&&◌, Bool}
 use Rattle.std.specs.Prelude.{true, false, not, max, min, nat_le, nat_lt, if◌then◌else◌, List, []}
 use Rattle.std.specs.Prelude.{◌∷◌, ◌++◌, length, drop, slice_index, Option, Some, None}
@@ -14,9 +14,9 @@ use Rattle.rtsp_client.specs.declared.frames.RtpSource.{RtpSource}
 use Rattle.rtsp_client.specs.declared.play_reply.Play.{Play}
 use Rattle.rtsp_client.specs.Films.{begins_film, rate_code, units_until}
 
--- the greatest slot, the reply to PLAY, the frames' source, for each whole unit the sum of its size
--- and those before it, the bytes of all frames and reports, those of all units with the one that
--- isn't whole, and what was heard and read
+-- the greatest slot, the reply to PLAY, the frames' source, for each complete unit the sum of its
+-- size and those before it, the bytes of all frames and reports, those of all units with the one
+-- that isn't complete, and what was received and read
 pub record State : Type 0 where
   pub last_slot : ℕ
   pub play : Option Play
@@ -29,7 +29,7 @@ pub record State : Type 0 where
 abbrev pub no_watched : Watched
 no_watched = record { units = 0; bytes = 0; frames = 0; reports = 0; most = 0; over = 0; under = 0 }
 
--- nothing was heard
+-- nothing was received
 abbrev pub new_state : State
 new_state = record {
   last_slot = 0;
@@ -41,7 +41,7 @@ new_state = record {
   watched = no_watched;
 }
 
--- the reply to PLAY was heard
+-- the reply to PLAY was received
 abbrev pub after_play : State → ℕ → ℕ → State
 after_play s start end_ms =
     record s { play = Some (record { start = start; slot_before = s.last_slot; end_ms = end_ms }) }
@@ -50,7 +50,7 @@ abbrev pub is_all : Option RtpSource → ℕ → Bool
 is_all None units = false
 is_all (Some source) units = units == source.units
 
--- all units are whole
+-- all units are complete
 abbrev pub has_all : State → Bool
 has_all s = is_all s.source s.watched.units
 
@@ -94,7 +94,7 @@ source_played (Some play) s block =
 abbrev pub source_with : State → List ℕ → Option RtpSource
 source_with s block = source_played s.play s block
 
--- a frame of so many bytes was heard
+-- a frame of so many bytes was received
 abbrev pub after_frame : State → RtpSource → ℕ → State
 after_frame s source length =
     let watched = record s.watched {
@@ -110,12 +110,12 @@ after_frame s source length =
       watched = watched;
     }
 
--- no unit is begun that isn't whole
+-- no unit is begun that isn't complete
 abbrev pub is_between : Option RtpSource → Bool
 is_between None = true
 is_between (Some source) = source.marker
 
--- a report of so many bytes was heard
+-- a report of so many bytes was received
 abbrev pub report_in : Option Play → State → ℕ → State
 report_in None s length = s
 report_in (Some play) s length = record s {
@@ -132,7 +132,7 @@ abbrev pub time_of : Option RtpSource → ℕ
 time_of None = 0
 time_of (Some source) = source.picture_time
 
--- the bytes of the whole units that are used before a slot of the play
+-- the bytes of the complete units that are used before a slot of the play
 abbrev pub used_bytes : List ℕ → ℕ → ℕ
 used_bytes ends count = if count == 0 then 0 else slice_index ends (count - 1)
 
@@ -142,7 +142,7 @@ played_of wish (Some source) ends slot =
     used_bytes ends (min (div_ceil ((slot - wish.startup) * wish.slot_units) source.picture_time)
     (length ends))
 
--- a unit is used in this slot of the play, or before it, that isn't whole
+-- a unit is used in this slot of the play, or before it, that isn't complete
 abbrev pub is_lacking : Wish → State → ℕ → Bool
 is_lacking wish s slot =
     not (has_all s) && nat_le (s.watched.units * time_of s.source / wish.slot_units
@@ -169,7 +169,7 @@ abbrev pub reading_at : Wish → State → Option ℕ → ℕ → State
 reading_at wish s None cut = s
 reading_at wish s (Some place) cut = after_reading wish s place cut
 
--- a slot began, while so many bytes waited of a block that isn't whole
+-- a slot began, while so many bytes waited of a block that isn't complete
 abbrev pub after_slot : Wish → State → ℕ → ℕ → State
 after_slot wish s slot cut =
     if nat_le slot s.last_slot then s

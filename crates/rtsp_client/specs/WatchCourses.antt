@@ -19,7 +19,7 @@ use Rattle.rtsp_client.specs.Answers.{events_of_elements}
 use Rattle.rtsp_client.specs.Answers.{element_events, payload_of, payloads_of, request_after}
 use Rattle.rtsp_client.specs.Answers.{requests_after}
 
--- where a watching stands: what was heard, and the bytes that wait
+-- where a watching stands: what was received, and the bytes that wait
 pub record Stage : Type 0 where
   pub history : History
   pub rest : List ℕ
@@ -27,8 +27,8 @@ pub record Stage : Type 0 where
 abbrev pub stage : History → List ℕ → Stage
 stage history rest = record { history = history; rest = rest }
 
--- an event brings these moments: those of the elements that are whole then, or a slot's; and leaves
--- these bytes waiting
+-- an event brings these moments: those of the elements that are complete then, or a slot's; and
+-- leaves these bytes waiting
 abbrev pub Brings : IoEvent → List ℕ → List ClientEvent → List ℕ → Type 0
 Brings (HeardBytes bytes) old moments new =
     (elements : List (List ℕ))
@@ -42,19 +42,19 @@ pub record Round : Type 0 where
   pub event : IoEvent
   pub moments : List ClientEvent
 
--- an event was taken up, and the watching goes on
+-- an event was processed, and the watching goes on
 pub record Runs (old : Stage) (round : Round) (new : Stage) : Type 0 where
   pub brings : Brings round.event old.rest round.moments new.rest
   pub good : GoOn old.history round.moments
   pub history_is : new.history ≡ history_after old.history round.moments
 
--- events, one after another; before the next one is asked for, all that was whole was taken up
+-- events, one after another; before the next one is asked for, all that was complete was processed
 abbrev pub RunsAll : Stage → List Round → Stage → Type 0
 RunsAll old [] new = new ≡ old
 RunsAll old (round ∷ rounds) new = (mid : Stage)
     × (Runs old round mid × IsFirst mid.rest (Ok More) × RunsAll mid rounds new)
 
--- what the link tells of them: each event, and directly after it the requests that it allowed
+-- what the link exposes of them: each event, and directly after it the requests that it allowed
 abbrev pub rounds_doings : Wish → History → List Round → List IoEvent
 rounds_doings wish h [] = []
 rounds_doings wish h (round ∷ rounds) =
@@ -66,12 +66,12 @@ abbrev pub events_of_rounds : List Round → List ClientEvent
 events_of_rounds [] = []
 events_of_rounds (round ∷ rounds) = round.moments ++ events_of_rounds rounds
 
--- a front of these bytes
+-- a prefix of these bytes
 abbrev pub IsPrefixOf : List ℕ → List ℕ → Type 0
 IsPrefixOf front bytes = (n : ℕ) × ((n ≤ length bytes) × (front ≡ take n bytes))
 
--- the outside failed as a moment was taken up: its payload was handed on and a front of its request
--- was sent; or a front of its payload was handed on; or there was no memory
+-- I/O failed as a moment was processed: its payload was handed on and a prefix of its request was
+-- sent; or a prefix of its payload was handed on; or there was no memory
 abbrev pub Fails : Wish → History → ClientEvent → WatchEnd → List ℕ → List ℕ → Type 0
 Fails wish h moment LinkFault sent out = IsPrefixOf sent (request_after wish h moment)
     × (out ≡ payload_of moment)
@@ -80,13 +80,13 @@ Fails wish h moment NoMemory sent out = (sent ≡ []) × IsPrefixOf out (payload
 Fails wish h moment (Done watched) sent out = ⊥
 Fails wish h moment (Fault fault) sent out = ⊥
 
--- the element in front is whole and has this moment
+-- the first element is complete and has this moment
 abbrev pub IsNext : List ℕ → ClientEvent → Type 0
 IsNext rest moment = (n : ℕ) × (IsElementLength rest n × (element_events (take n rest) ≡ moment ∷
     []))
 
--- nothing more is taken up: the bytes begin no element; or the next moment gives the answer; or the
--- outside failed as it was taken up
+-- nothing more is processed: the bytes begin no element; or the next moment gives the answer; or
+-- I/O failed as it was processed
 abbrev pub Stops : Wish → Stage → WatchEnd → List ℕ → List ℕ → Type 0
 Stops wish mid end sent out =
     ((end ≡ Fault Framing) × ((fault : DemuxFault) × IsFirst mid.rest (Err fault)) × (sent ≡ [])
@@ -95,7 +95,7 @@ Stops wish mid end sent out =
     × ((Gives wish mid.history moment end × (sent ≡ []) × (out ≡ []))
     ⊎ (GoesOn mid.history moment × Fails wish mid.history moment end sent out))))
 
--- elements of the bytes that wait were taken up, and then nothing more
+-- elements of the bytes that wait were processed, and then nothing more
 pub record StopsAt (wish : Wish) (old : Stage) (end : WatchEnd) (sent out : List ℕ) : Type 0 where
   pub elements : List (List ℕ)
   pub mid : List ℕ
@@ -109,9 +109,9 @@ pub record StopsAt (wish : Wish) (old : Stage) (end : WatchEnd) (sent out : List
   pub sent_is : sent ≡ requests_after wish old.history (events_of_elements elements) ++ more_sent
   pub out_is : out ≡ payloads_of (events_of_elements elements) ++ more_out
 
--- the answer after so many events, what the link tells last, and what was handed on last: no
--- further event was heard, since the link failed or all were heard; or the server ended; or bytes
--- came
+-- the answer after so many events, what the link exposes last, and what was handed on last: no
+-- further event was received, since the link failed or all were received; or the server ended; or
+-- bytes came
 abbrev pub Ends : Wish → Stage → ℕ → WatchEnd → List IoEvent → List ℕ → Type 0
 Ends wish old count end doings out =
     ((((end ≡ LinkFault) × (count < 2 ^ 40)) ⊎ ((end ≡ Fault TurnsSpent) × (count ≡ 2 ^ 40)))
@@ -123,7 +123,7 @@ Ends wish old count end doings out =
     × (StopsAt wish (stage old.history (old.rest ++ bytes)) end sent out
     × (doings ≡ HeardBytes bytes ∷ sends sent) × (count < 2 ^ 40)))))
 
--- the whole course, from SETUP on
+-- the entire course, from SETUP on
 pub record HasCourse (wish : Wish) (end : WatchEnd) (old_told new_told : Option (List IoEvent))
     (old_out new_out : Option (List ℕ)) : Type 0 where
   pub rounds : List Round
@@ -136,7 +136,7 @@ pub record HasCourse (wish : Wish) (end : WatchEnd) (old_told new_told : Option 
       told_more old_told (sends (setup_text wish) ++ (rounds_doings wish [] rounds ++ last_doings))
   pub out : new_out ≡ told_more old_out (payloads_of (events_of_rounds rounds) ++ last_out)
 
--- or it didn't begin: there was no memory, or a front of SETUP was sent
+-- or it didn't begin: there was no memory, or a prefix of SETUP was sent
 pub record HasNotBegun (wish : Wish) (end : WatchEnd) (old_told new_told : Option (List IoEvent))
     (old_out new_out : Option (List ℕ)) : Type 0 where
   pub front : List ℕ

@@ -68,7 +68,7 @@ impl Client {
         Ok(())
     }
 
-    /// Processes an event. The bytes that came stand in front of `bytes`.
+    /// Processes an event. The bytes that arrived are at the start of `bytes`.
     ///
     /// Breaks with how it ended the watching, where it did.
     pub(crate) fn hear<K: Link, O: Sink>(
@@ -191,7 +191,7 @@ impl Client {
         }
     }
 
-    /// Processes the block in front, which stays there.
+    /// Processes the first block that waits, which stays there.
     fn take_block<K: Link, O: Sink>(
         &mut self,
         wish: &Wish,
@@ -226,8 +226,8 @@ impl Client {
         }
     }
 
-    /// Processes the frame in front: hands its payload on, and sends TEARDOWN once all pictures are
-    /// whole.
+    /// Processes the first frame that waits: hands its payload on, and sends TEARDOWN once all
+    /// pictures are complete.
     fn take_frame<K: Link, O: Sink>(
         &mut self,
         wish: &Wish,
@@ -290,7 +290,7 @@ impl Client {
     }
 
     /// Whether a reply is awaited: to SETUP and then to PLAY, and to TEARDOWN once all pictures are
-    /// whole.
+    /// complete.
     fn is_awaited(&self) -> bool
         ensures { result ≡ (nat_lt (replies_in self.now) 2 || has_all self.now.watching) }
     {
@@ -309,7 +309,7 @@ impl Client {
         reply_code(message, self.replies() + 1)
     }
 
-    /// Processes the reply in front, which stays there.
+    /// Processes the first reply that waits, which stays there.
     fn take_reply<K: Link>(
         &mut self,
         wish: &Wish,
@@ -341,7 +341,7 @@ impl Client {
         }
     }
 
-    /// Processes the reply to SETUP in front, and asks for PLAY.
+    /// Processes the reply to SETUP, which is the first element that waits, and asks for PLAY.
     fn take_setup<K: Link>(
         &mut self,
         wish: &Wish,
@@ -369,7 +369,7 @@ impl Client {
         Ok(())
     }
 
-    /// Processes the reply to PLAY in front.
+    /// Processes the reply to PLAY, which is the first element that waits.
     fn take_play(&mut self, wish: &Wish, length: usize) -> Result<(), WatchEnd>
         requires second { replies_in self.old ≡ 1 }
         requires message { IsFirst self.old.input (Ok (Request length)) }

@@ -73,8 +73,8 @@ impl RtpSource {
     }
 }
 
-/// Whether a sequence header is in front (ISO/IEC 11172-2, 2.4.2.3), with a picture rate code from
-/// 1 to 8.
+/// Whether a payload begins with a sequence header (ISO/IEC 11172-2, 2.4.2.3) that has a picture
+/// rate code from 1 to 8.
 fn begins_film(payload: &[u8]) -> bool
     ensures { result ≡ begins_film payload.now }
 {

@@ -31,9 +31,9 @@ ghost use Rattle.rtsp_client.specs.declared.watch_request.Wish.{Wish};
 use film_frames::laws::{law_payloads_are_film_bytes, law_sequence_numbers_are_consecutive};
 use rtp_pack::laws::law_packets_respect_slices;
 
-/// A watching has one answer. Where the client heard it, the events that were heard decide it, and
-/// what was sent and handed on too. No prefix of these events has another answer, so the first
-/// cause in the order of the events is the one that is answered.
+/// A watching has one outcome. The events that the client received decide it, and also what it sent
+/// and handed on. No prefix of these events has another outcome: the outcome is the first cause in
+/// the order of the events.
 pub fn law_events_decide_watch_result()
     ensures { (wish : Wish) (told later : List IoEvent) (out : Option (List ℕ))
         (one other : WatchOutcome) → IsOutcome wish told out one → IsOutcome wish told out other →

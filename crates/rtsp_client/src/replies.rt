@@ -124,7 +124,7 @@ fn milliseconds(seconds: &[u8], fraction: &[u8]) -> Option<u128>
     Some(u128::from(seconds) * 1000 + u128::from(fraction))
 }
 
-/// Whether a text has a point before its last three bytes, and no needless zero in front.
+/// Whether a text has a point before its last three bytes, and no needless leading zero.
 fn has_point(text: &[u8]) -> bool
     ensures { result ≡ has_point text.now }
 {

@@ -5,7 +5,7 @@ use std::alloc::Global;
 use std::test::Fail;
 use vod_base::{Event, MemoryLink, MemorySink, good_name};
 
-/// What a link tells: a reply, bytes of the film as it is sent, other bytes, a slot, the end.
+/// What a link delivers: a reply, bytes of the film as it is sent, other bytes, a slot, the end.
 #[derive(Clone, Copy)]
 enum Tell {
     Text(&'static str),
@@ -73,8 +73,8 @@ const ALL: Watched = Watched {
     under: 0,
 };
 
-/// A case: the client's buffer, what the link tells, what comes of it, how many requests are sent,
-/// and how many of the film's bytes are handed on.
+/// A case: the client's buffer, what the link delivers, what comes of it, how many requests are
+/// sent, and how many of the film's bytes are handed on.
 #[derive(Clone, Copy)]
 struct Case {
     buffer: u64,
@@ -166,7 +166,7 @@ const CASES: &[Case] = &[
         requests: 3,
         handed_on: 49,
     },
-    // late: the first picture isn't whole in the slot in which it is used; a slot that is told
+    // late: the first picture isn't complete in the slot in which it is used; a slot that comes
     // again isn't read again
     Case {
         buffer: BUFFER,
@@ -347,7 +347,8 @@ const CASES: &[Case] = &[
     },
 ];
 
-/// The event that a link tells; where it brings bytes and is cut, one event for each of them.
+/// The event that a link delivers. Where it brings bytes and `cut` is true, one event for each
+/// byte.
 fn add_events(alloc: Global, events: &mut Vec<Event>, tell: Tell, cut: bool) -> Result<(), Fail> {
     let bytes: &[u8] = match tell {
         Text(text) => text.as_bytes(),
@@ -372,7 +373,7 @@ fn add_events(alloc: Global, events: &mut Vec<Event>, tell: Tell, cut: bool) -> 
     Ok(())
 }
 
-/// The events of all that a link tells.
+/// The events of all that a link delivers.
 fn events_of(alloc: Global, tells: &[Tell], cut: bool) -> Result<Vec<Event>, Fail> {
     let mut events = Vec::new(alloc);
     for tell in tells {

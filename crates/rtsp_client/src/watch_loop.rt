@@ -41,7 +41,7 @@ pub fn watch<K: Link, O: Sink>(alloc: Global, wish: &Wish, link: &mut K, out: &m
     }
 }
 
-/// Hears events until one of them ends the watching.
+/// Processes events until one of them ends the watching.
 fn hear_all<K: Link, O: Sink>(
     wish: &Wish,
     client: &mut Client,

@@ -47,7 +47,7 @@ pub enum WatchFault {
     #[error("a request was answered {0}")]
     Refused(u16),
     /// The reply of this number, from 1, isn't awaited, has a bad first line or another CSeq, or
-    /// lacks a field.
+    /// has a field missing.
     #[error("reply {0} isn't as it should be")]
     BadReply(u64),
     /// The frame of this number, from 0, comes when none is to come, or isn't the next one of the

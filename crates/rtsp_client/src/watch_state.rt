@@ -220,8 +220,7 @@ impl WatchState {
         !self.is_complete() && used + wish.startup <= slot
     }
 
-    /// Reads the meter in this slot of the play, while so many bytes wait of a block that isn't
-    /// whole.
+    /// Reads the meter in this slot of the play, while so many bytes wait of an incomplete block.
     fn read(&mut self, wish: &Wish, slot: u64, cut: u64)
         requires units { 1 ≤ wish.now.slot_units }
         requires startup { wish.now.startup ≤ 10000 }
@@ -250,7 +249,7 @@ impl WatchState {
         (slot - play.slot_before).checked_sub(play.start)
     }
 
-    /// A slot has begun, while so many bytes wait of a block that isn't whole: reads the meter.
+    /// A slot has begun, while so many bytes wait of an incomplete block: reads the meter.
     pub(crate) fn hear_slot(&mut self, wish: &Wish, slot: u64, cut: u64)
         requires units { 1 ≤ wish.now.slot_units }
         requires startup { wish.now.startup ≤ 10000 }

@@ -1,4 +1,4 @@
--- What a description tells a player, in the words of RFC 4566 section 5 and RFC 2326 appendix C;
+-- What a description says to a player, in the terms of RFC 4566 section 5 and RFC 2326 appendix C;
 -- parameters of a transport.
 use Rattle.std.specs.Prelude.{◌≡◌, ◌≢◌, ◌==◌, ◌⊎◌, ℕ, true, not, List, [], ◌∷◌, ◌++◌, Some, codes}
 use Rattle.std.specs.Prelude.{flat_map, slice_index}
@@ -16,7 +16,7 @@ whole_line line = line ++ codes "\r\n"
 
 -- The lines that a description must have, in their order: of the session the version, its origin,
 -- its name, the connection, no bounded time, and attributes; of its one medium the kind with the
--- payload type of MPEG video, and an attribute. The session's range is the whole film's, in
+-- payload type of MPEG video, and an attribute. The session's range is that of the entire film, in
 -- nanoseconds, and the medium's control URL, relative to the film's, is that of its stream.
 pub record IsDescription (text name : List ℕ) (end : ℕ) : Type 0 where
   pub range : List ℕ

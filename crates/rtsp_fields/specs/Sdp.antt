@@ -6,7 +6,7 @@ abbrev pub seconds_text : ℕ → List ℕ
 seconds_text ms = decimal (ms / 1000) ++ codes "." ++ decimal (ms / 100 % 10)
     ++ decimal (ms / 10 % 10) ++ decimal (ms % 10)
 
--- the whole text, each line ended by CR LF
+-- the entire text, each line ended by CR LF
 abbrev pub description_text : List ℕ → ℕ → List ℕ
 description_text name end_ms =
     codes "v=0\r\no=- 0 0 IN IP4 127.0.0.1\r\ns=" ++ name

@@ -1,4 +1,4 @@
--- Texts that a separator cuts into parts, and words in any case.
+-- Texts that a separator splits into parts, and words in any case.
 use Rattle.std.specs.Prelude.{◌≡◌, ◌≢◌, ℕ, ◌+◌, ◌-◌, ◌<◌, ◌≤◌, ◌⊎◌, List, length, take, map}
 use Rattle.std.specs.Prelude.{slice_index, slice_range}
 use Rattle.std.specs.Char.{to_ascii_lowercase}
@@ -18,7 +18,7 @@ pub record IsPartEnd (c : ℕ) (text : List ℕ) (from to : ℕ) : Type 0 where
   pub none : HasNone c text from to
   pub ends : to < length text → slice_index text to ≡ c
 
--- the bytes from `from` up to `to` are a part of the text that the separator `c` cuts
+-- the bytes from `from` up to `to` are a part of the text that the separator `c` splits
 pub record IsPart (c : ℕ) (text : List ℕ) (from to : ℕ) : Type 0 where
   pub start : IsStart c text from
   pub end : IsPartEnd c text from to

@@ -33,7 +33,7 @@ pub fn law_channels_are_unique()
         IsTransport value other → one ≡ other }
 {}
 
-/// The URLs that a request line may have (RFC 2326 section 6.1), but for `*`, are those that
+/// The URLs that a request line may have (RFC 2326 section 6.1), except `*`, are those that
 /// [`crate::read_url`] reads.
 pub fn law_every_request_url_is_read()
     ensures { (url : List ℕ) →
@@ -74,7 +74,7 @@ pub fn law_fraction_is_rounded_down()
 {}
 
 /// The description of a film that lasts less than 10^12 milliseconds has the lines that RFC 4566
-/// asks for, in their order. A player that reads them finds the whole film's time in it, and the
+/// asks for, in their order. A player that reads them finds the duration of the film in it, and the
 /// control URL of the film's one stream.
 pub fn law_description_has_sdp_lines()
     ensures { (name : List ℕ) (end_ms : ℕ) → good_name name ≡ true → end_ms < 10 ^ 12
@@ -90,7 +90,7 @@ pub fn law_clock_time_is_read()
 {}
 
 /// A Range value in normal play time, of a time, `-`, and nothing or a second time, is read as the
-/// span from the one to the other; `now` stands for the present place (RFC 2326 section 3.6). The
+/// span from the one to the other; `now` means the current place (RFC 2326 section 3.6). The
 /// letters of `npt` are in any case.
 pub fn law_npt_range_is_read()
     ensures from { (ms : ℕ) → ms < 10 ^ 12 →

@@ -6,8 +6,8 @@ ghost use Rattle.rtsp_fields.specs.Sdp.{description_text};
 
 use crate::seconds::{put, put_seconds};
 
-/// Writes the description of a film (RFC 4566, RFC 2326 appendix C) to the front of `into`, and
-/// answers its length in bytes.
+/// Writes the description of a film (RFC 4566, RFC 2326 appendix C) to the start of `into`, and
+/// returns its length in bytes.
 ///
 /// `end_ms` is the film's length in milliseconds. The text has nine lines, each ended by CR LF.
 pub fn description(name: &str, end_ms: u64, into: &mut [u8; 512]) -> usize

@@ -6,7 +6,7 @@ ghost use Rattle.rtsp_fields.specs.Sdp.{seconds_text};
 
 use itoa::Buffer;
 
-/// Puts a text at a place, and answers the place after it.
+/// Puts a text at a place, and returns the place after it.
 pub(crate) fn put(into: &mut [u8], at: usize, text: &[u8]) -> usize
     requires { at + length text.now ≤ length into.old }
     ensures place { result ≡ at + length text.now }
@@ -16,7 +16,7 @@ pub(crate) fn put(into: &mut [u8], at: usize, text: &[u8]) -> usize
     at + text.len()
 }
 
-/// Puts milliseconds as seconds, a point and three digits, and answers the place after them.
+/// Puts milliseconds as seconds, a point and three digits, and returns the place after them.
 pub(crate) fn put_seconds(into: &mut [u8], at: usize, ms: u64) -> usize
     requires { at + 24 ≤ length into.old }
     ensures place { result ≤ at + 24 }
@@ -40,7 +40,7 @@ pub fn seconds_text(ms: u64, into: &mut [u8; 24]) -> &[u8]
     &into[..end]
 }
 
-/// Puts a number in decimal at a place, and answers the place after it.
+/// Puts a number in decimal at a place, and returns the place after it.
 fn put_number(into: &mut [u8], at: usize, number: u64) -> usize
     requires { at + 20 ≤ length into.old }
     ensures place { result ≤ at + 20 }
@@ -50,7 +50,7 @@ fn put_number(into: &mut [u8], at: usize, number: u64) -> usize
     put(into, at, buffer.format(number).as_bytes())
 }
 
-/// Puts one digit at a place, and answers the next place.
+/// Puts one digit at a place, and returns the next place.
 fn put_digit(into: &mut [u8], at: usize, digit: u8) -> usize
     requires digit { digit < 10 }
     requires fits { at + 1 ≤ length into.old }

@@ -1,4 +1,4 @@
-//! Texts that a separator cuts into parts.
+//! Texts that a separator splits into parts.
 
 ghost use Rattle.std.specs.Prelude.{◌≡◌, ◌+◌, ◌-◌, ◌<◌, ◌≤◌, ◌↔◌, IsTrue, MatchOption, length};
 ghost use Rattle.std.specs.Iterator.{at_most};

@@ -31,7 +31,8 @@ pub record IsNextLine (bytes line rest : List ℕ) : Type 0 where
   pub lines_are : lines bytes ≡ line ∷ lines rest
   pub shorter : length rest < length bytes
 
--- a message is cut after the empty line of its head, which has the lines of the message up to there
+-- a message is split after the empty line of its head, which has the lines of the message up to
+-- there
 pub record IsSplit (message head body : List ℕ) : Type 0 where
   pub parts : message ≡ head ++ body
   pub is_head : IsHead message (length head)

@@ -78,7 +78,7 @@ AddsField before after field = (code : ℕ) (sequence : Option ℕ) (fields : Li
     before ≡ reply_front code sequence fields →
     after ≡ reply_front code sequence (fields ++ field ∷ [])
 
--- a whole reply
+-- a complete reply
 unfoldable pub reply_text : ℕ → Option ℕ → List Field → List ℕ → List ℕ
 reply_text code sequence fields body = reply_front code sequence fields ++ codes "\r\n" ++ body
 

@@ -29,7 +29,7 @@ request_front parts = request_line parts ++ codes "\r\n" ++ flat_map field_line 
 abbrev pub request_head : RequestPieces → List ℕ
 request_head parts = request_front parts ++ codes "\r\n"
 
--- the whole request
+-- the complete request
 abbrev pub request_text : RequestPieces → List ℕ
 request_text parts = request_head parts ++ parts.body
 

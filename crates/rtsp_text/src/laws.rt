@@ -21,8 +21,8 @@ ghost use Rattle.rtsp_text.specs.TerminatedLines.{IsHeader};
 
 use interleave::{DemuxFault, MAX_BODY_BYTES, MAX_HEAD_BYTES, Step};
 
-/// The bytes of a request that [`interleave::Demux::look`] tells are a whole request by themselves,
-/// as [`crate::read_request`] takes it.
+/// The bytes of a request that [`interleave::Demux::look`] returns are a complete request by
+/// themselves, as [`crate::read_request`] takes it.
 pub fn law_look_finds_whole_requests(waiting: &[u8], count: usize)
     requires { IsFirst waiting.now (Ok (Step.Request count)) }
     ensures { IsMessageLength (take count waiting.now) (length (take count waiting.now)) }
@@ -42,9 +42,10 @@ pub fn law_reply_round_trips()
         IsReadBack message code sequence fields body }
 {}
 
-/// A reply that [`crate::Reply`] wrote is a whole message by itself, as [`crate::read_reply`] takes
-/// it, where its head has at most [`MAX_HEAD_BYTES`] bytes, and its body at most [`MAX_BODY_BYTES`]
-/// and the length that its first Content-Length writes, or none where there is none.
+/// A reply that [`crate::Reply`] wrote is a complete message by itself, as [`crate::read_reply`]
+/// takes it, where its head has at most [`MAX_HEAD_BYTES`] bytes, and its body at most
+/// [`MAX_BODY_BYTES`] and the length that its first Content-Length writes, or none where there is
+/// none.
 pub fn law_reply_is_a_complete_message()
     ensures { (code : ℕ) (sequence : Option ℕ) (fields : List Field) (body : List ℕ) →
         IsTrue (is_code code) → All IsPlain (all_fields sequence fields) →
@@ -56,8 +57,8 @@ pub fn law_reply_is_a_complete_message()
 {}
 
 /// A request that is spelled as RFC 2326 section 6 says, from a method, a URL, header fields and a
-/// body, each line ended by CR LF, is found whole in front of whatever comes later; it is read as a
-/// request of these parts; and each name has the value of the first field of that name.
+/// body, each line ended by CR LF, is found as a complete request, whatever bytes follow it; it is
+/// read as a request of these parts; and each name has the value of the first field of that name.
 pub fn law_request_round_trips()
     ensures found { (parts : RequestPieces) (sequence : ℕ) (later : List ℕ) → AreRequest parts
         sequence →

@@ -52,7 +52,7 @@ pub(crate) fn header_lines(head: &[u8]) -> HeaderLines<'_>
     }
 }
 
-/// The head and the body of a whole request.
+/// The head and the body of a complete request.
 pub(crate) fn split(message: &[u8]) -> (&[u8], &[u8])
     requires { IsMessageLength message.now (length message.now) }
     ensures { IsSplit message.now result.0.now result.1.now }
@@ -75,8 +75,8 @@ fn next_line(bytes: &[u8]) -> Option<(&[u8], &[u8])>
     }
 }
 
-/// Where the head of a whole request ends, after its empty line. It walks by places, which
-/// [`HeaderLines`] doesn't tell.
+/// Where the head of a complete request ends, after its empty line. It walks by places, which
+/// [`HeaderLines`] doesn't return.
 fn head_end(message: &[u8]) -> usize
     requires { IsMessageLength message.now (length message.now) }
     ensures within { result ≤ length message.now }

@@ -50,6 +50,10 @@ impl Model for Reply {
 
 impl Reply {
     /// Reserves room for [`MAX_REPLY_BYTES`] bytes; no other call takes memory.
+    ///
+    /// # Errors
+    ///
+    /// [`NoMemory`] where there is none.
     pub fn new(alloc: Global) -> Result<Reply, NoMemory>
         ensures { IfOk result (λ reply. reply ≡ []) }
     {

@@ -28,7 +28,7 @@ pub struct Request<'a> {
     pub url: &'a [u8],
     /// The number of its CSeq.
     pub sequence: u64,
-    /// Its whole head: the request line, the header lines and the empty line, with their ends.
+    /// Its entire head: the request line, the header lines and the empty line, with their ends.
     pub head: &'a [u8],
     /// Its body.
     pub body: &'a [u8],
@@ -67,7 +67,7 @@ impl fmt::Display for RequestFault {
 impl Error for RequestFault {}
 
 /// The value of a head's first header line of that name, in any case, without the spaces and tabs
-/// around it; of a request's head or of a reply's.
+/// around it; of a request's head or of a reply's (RFC 2326 section 4.2).
 ///
 /// None exactly where the head has no line of that name. The value has no LF and at most as many
 /// bytes as the head.
@@ -96,8 +96,8 @@ pub fn header<'a>(request: &Request<'a>, name: &[u8]) -> Option<&'a [u8]>
     header_of(request.head, name)
 }
 
-/// The number of a message's first CSeq that is a number, also where the message is no request of
-/// RTSP 1.0.
+/// The number of a message's first CSeq (RFC 2326 section 12.17) that is a number, also where the
+/// message is no request of RTSP 1.0.
 pub fn sequence_of(message: &[u8]) -> Option<u64>
     ensures value { result ≡ first_sequence message.now }
     ensures first { IfSome result (IsFirstNumber (codes "CSeq") (header_lines message.now)) }
@@ -106,11 +106,15 @@ pub fn sequence_of(message: &[u8]) -> Option<u64>
     fields::first_sequence(message)
 }
 
-/// Reads a whole request, head and body, as [`interleave::Demux`] cuts it from a connection's
-/// bytes.
+/// Reads a complete request, head and body, as [`interleave::Demux`] splits it off a connection's
+/// bytes (RFC 2326 section 6).
 ///
 /// Ok exactly where the message is a request of RTSP 1.0, with its parts; each fault exactly where
 /// its cause holds and none before it in [`RequestFault`].
+///
+/// # Errors
+///
+/// The first [`RequestFault`] that applies, in the order of its variants.
 pub fn read_request(message: &[u8]) -> Result<Request<'_>, RequestFault>
     requires { IsMessageLength message.now (length message.now) }
     ensures read { IfOk result (λ r.
@@ -153,8 +157,8 @@ fn has_length(message: &[u8]) -> bool
     }
 }
 
-/// Reads a whole request. What else [`read_request`] ensures follows from these two clauses, and so
-/// is proved there once, and not at each return here.
+/// Reads a complete request. What else [`read_request`] ensures follows from these two clauses, and
+/// so is proved there once, and not at each return here.
 fn read_parts(message: &[u8]) -> Result<Request<'_>, RequestFault>
     requires { IsMessageLength message.now (length message.now) }
     ensures read { IfOk result (λ r.

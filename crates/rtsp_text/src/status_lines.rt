@@ -10,20 +10,21 @@ use crate::lines::{first_line, split};
 use interleave::{MAX_BODY_BYTES, MAX_HEAD_BYTES};
 use vod_base::{read_number, split_at_first};
 
-/// A reply of RTSP 1.0 (RFC 2326 section 7), as a client hears it.
+/// A reply of RTSP 1.0 (RFC 2326 section 7), as a client receives it.
 #[derive(Clone, Copy, Debug, PartialEq, Eq)]
 pub struct ReplyParts<'a> {
     /// The code: three digits.
     pub code: u16,
     /// The phrase: one or more bytes, the first no space.
     pub phrase: &'a [u8],
-    /// Its whole head: the status line, the header lines and the empty line, with their ends.
+    /// Its entire head: the status line, the header lines and the empty line, with their ends.
     pub head: &'a [u8],
     /// Its body.
     pub body: &'a [u8],
 }
 
-/// Reads a whole reply, head and body, as [`interleave::Demux`] cuts it from a connection's bytes.
+/// Reads a complete reply, head and body, as [`interleave::Demux`] splits it off a connection's
+/// bytes (RFC 2326 section 7).
 ///
 /// None exactly where the first line isn't `RTSP/1.0`, three digits and a phrase, with single
 /// spaces. Header lines aren't judged.

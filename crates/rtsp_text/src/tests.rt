@@ -12,7 +12,7 @@ use interleave::{Demux, Step};
 use std::alloc::Global;
 use std::test::Fail;
 
-/// The whole message in front of the waiting bytes.
+/// The complete message at the start of the waiting bytes.
 fn first_message(demux: &mut Demux) -> Option<&[u8]>
     ensures { IfSome result (λ message. IsMessageLength message.now (length message.now)) }
 {
@@ -26,7 +26,7 @@ fn first_message(demux: &mut Demux) -> Option<&[u8]>
     }
 }
 
-/// The message in front of a text.
+/// The message at the start of a text.
 fn message_in<'a>(demux: &'a mut Demux, text: &str) -> Result<&'a [u8], Fail>
     ensures { IfOk result (λ message. IsMessageLength message.now (length message.now)) }
 {

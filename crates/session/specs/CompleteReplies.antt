@@ -1,4 +1,4 @@
--- Each reply as a whole message (RFC 2326 sections 4.4 and 7).
+-- Each reply as a complete message (RFC 2326 sections 4.4 and 7).
 use Rattle.std.specs.Prelude.{ℕ, ◌≡◌, ◌<◌, ◌≤◌, ◌^◌, List, All, IfSome, length}
 use Rattle.std.specs.Int.{w64, to_be_bytes}
 use Rattle.hex.specs.Hex.{encode_lower}
@@ -15,7 +15,7 @@ use Rattle.session.specs.RequestSteps.{after_overflow}
 use Rattle.session.specs.SettingRanges.{AreFilms}
 use Rattle.session.specs.SessionStates.{SessionState}
 
--- a message whose end its own bytes tell
+-- a message whose own bytes show its end
 pub record IsMessage (message : List ℕ) : Type 0 where
   pub starts : StartsMessage message
   pub size : IsMessageLength message (length message)
@@ -61,8 +61,8 @@ pub record AnswersLook (asking : SessionState) : Type 0 where
   pub full : (entries live : ℕ) → entries < 2 ^ 64 → live < 2 ^ 64
       → IsMessage (after_full asking entries live).text
 
--- the reply to a request is a whole message: the session's own, the one that waits for a halt, or
--- the one that the station's answer makes, in numbers of 64 bits
+-- the reply to a request is a complete message: the session's own, the one that waits for a halt,
+-- or the one that the station's answer makes, in numbers of 64 bits
 abbrev pub RepliesAreComplete : Ask → SessionState → Type 0
 RepliesAreComplete Reply new = IsMessage new.text
 RepliesAreComplete (AskPlay plan) new = AnswersPlay new

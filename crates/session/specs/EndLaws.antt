@@ -40,13 +40,13 @@ pub record CanBePaused (old : SessionState) (message : List ℕ) : Type 0 where
   pub is_request : IsReadAs message request
   pub good : PassesEarlierChecks Pause old request
 
--- a TEARDOWN that nothing refuses: there is a session, so it isn't heard in Init
+-- a TEARDOWN that nothing refuses: there is a session, so it isn't received in Init
 pub record CanBeTornDown (old : SessionState) (message : List ℕ) : Type 0 where
   pub request : Request
   pub is_request : IsReadAs message request
   pub good : PassesEarlierChecks Teardown old request
 
--- a TEARDOWN is heard
+-- a TEARDOWN is received
 abbrev pub IsTeardownHeard : SessionEvent → Type 0
 IsTeardownHeard (Message message ask) = IsTeardown message
 IsTeardownHeard _ = ⊥

@@ -1,4 +1,4 @@
--- Laws of a session, in RFC 2326's words.
+-- Laws of a session, in the terms of RFC 2326.
 use Rattle.std.specs.Prelude.{ℕ, ◌≡◌, ◌+◌, ◌%◌, ◌^◌, ◌++◌, ◌⊎◌, ⊤, List, [], ◌∷◌, Option}
 use Rattle.std.specs.Prelude.{Some, codes}
 use Rattle.rtp_pack.specs.declared.reports.Identity.{Identity}
@@ -99,7 +99,7 @@ pub record Resumes (old : SessionState) (paused : Run) (planned : Planned) : Typ
   pub run : planned.run ≡ paused
   pub counts : planned.counts ≡ old.counts
 
--- memory is wanting for a message: it is answered 500 by its own number, and nothing else changes
+-- memory ran out for a message: it is answered 500 by its own number, and nothing else changes
 abbrev pub IsOutOfMemory : SessionState → List ℕ → Ask → SessionState → Type 0
 IsOutOfMemory old message ask new = IsRefused old (first_sequence message) Memory [] ask new
 
@@ -108,12 +108,12 @@ pub record IsSameAnswer (ask again : Ask) (one other : SessionState) : Type 0 wh
   pub ask_is : again ≡ ask
   pub session_is : other ≡ one
 
--- what two hearings of a message come to is the same, or memory was wanting for one of them
+-- a message that is processed twice has the same result, or memory ran out for one of them
 abbrev pub IsOneAnswer : SessionState → List ℕ → Ask → SessionState → Ask → SessionState → Type 0
 IsOneAnswer old message ask one again other = IsSameAnswer ask again one other
     ⊎ (IsOutOfMemory old message ask one ⊎ IsOutOfMemory old message again other)
 
--- a message for which memory is wanting, by its reply
+-- a message for which memory ran out, by its reply
 abbrev pub Is500 : Ask → SessionState → Type 0
 Is500 Reply new = HasCode 500 new.text
 Is500 (AskPlay plan) new = ⊥

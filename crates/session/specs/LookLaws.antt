@@ -13,7 +13,8 @@ use Rattle.session.specs.RefusalOrder.{IsReadAs, IsWord}
 use Rattle.session.specs.SlotSteps.{sent_reply, after_slot}
 use Rattle.session.specs.SessionStates.{SessionState}
 
--- what happens to a session: a message is heard, the station answers, a slot comes, a reply is sent
+-- what happens to a session: a message is received, the station answers, a slot comes, a reply is
+-- sent
 pub data SessionEvent : Type 0 where
   Message : List ℕ → Ask → SessionEvent
   Admission : ℕ → ℕ → SessionEvent

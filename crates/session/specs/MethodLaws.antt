@@ -1,4 +1,4 @@
--- What each method does for a request that nothing refuses, and how it refuses one, in the words of
+-- What each method does for a request that nothing refuses, and how it refuses one, in the terms of
 -- RFC 2326 sections 10 and 12.
 use Rattle.std.specs.Prelude.{ℕ, ◌≡◌, ◌≢◌, ◌≤◌, ◌-◌, ◌^◌, ◌⊎◌, List, [], Option, Some, None}
 use Rattle.std.specs.Prelude.{codes, string_bytes}
@@ -225,7 +225,7 @@ pub data PlanRefusal (old : SessionState) (setup : Setup) (paused : Option Run)
   NoMemory : IsRefusedBy old 500 sequence ask new
       → PlanRefusal old setup paused range sequence ask new
 
--- GET_PARAMETER for what is booked (section 10.8): a look at the heard slot
+-- GET_PARAMETER for what is booked (section 10.8): a look at the last slot received
 pub record IsLookAsked (old : SessionState) (sequence : ℕ) (ask : Ask) (new : SessionState)
     : Type 0 where
   pub command : ask ≡ AskLook old.heard

@@ -103,7 +103,8 @@ TearsDown (Ready setup paused) old sequence ask new = Ends old sequence ask new
 TearsDown (Playing setup play) old sequence ask new = AsksHalt old sequence setup play Torn ask new
 TearsDown (Stopping setup stop) old sequence ask new = Ends old sequence ask new
 
--- GET_PARAMETER for what is booked: a look at the heard slot, or want of memory for its receipt
+-- GET_PARAMETER for what is booked: a look at the last slot received, or out of memory for its
+-- receipt
 pub record AsksLook (old : SessionState) (sequence : ℕ) (ask : Ask) (new : SessionState) : Type 0
   where
     pub command : ask ≡ AskLook old.heard
@@ -167,7 +168,7 @@ play_call sequence authority setup = record {
   setup = setup;
 }
 
--- where memory is wanting for what the play leaves for the report, the request is refused
+-- where memory ran out for what the play leaves for the report, the request is refused
 abbrev pub AsksPlayOr : SessionState → PlayCall → Result Planned Refusal → Ask → SessionState → Type
     0
 AsksPlayOr old call (Ok planned) ask new =
@@ -277,7 +278,7 @@ pub record GetsParameter (old : SessionState) (request : Request) (ask : Ask) (n
   pub is_topic : IsTopic request.body.now topic
   pub gets : Gets old request topic ask new
 
--- a request that is taken up, or refused as all methods are
+-- a request that is processed, or refused as all methods are
 abbrev pub Takes : SessionState → Request → Result Task Refusal → Ask → SessionState → Type 0
 Takes old request (Ok ToOptions) ask new = IsReplied old (public_text request.sequence) ask new
 Takes old request (Ok (ToDescribe asked)) ask new =

@@ -1,4 +1,4 @@
--- What is asked of the station for an offer, what the reply tells, and the least buffer that a
+-- What is asked of the station for an offer, what the reply gives, and the least buffer that a
 -- refusal names.
 use Rattle.std.specs.Prelude.{ℕ, ◌≡◌, ◌<◌, ◌≤◌, ◌++◌, List, [], ◌∷◌, Option, Some, None}
 use Rattle.std.specs.Prelude.{codes, decimal, flat_map, length, map}

@@ -1,4 +1,4 @@
--- A play from its request to its note, in the words of RFC 2326 and RFC 3550.
+-- A play from its request to its note, in the terms of RFC 2326 and RFC 3550.
 use Rattle.std.specs.Prelude.{ℕ, ◌≡◌, ◌+◌, ◌≤◌, ◌&&◌, ◌++◌, nat_le, nat_lt}
 use Rattle.std.specs.Prelude.{if◌then◌else◌, List, [], ◌∷◌, Some, codes, sum_by}
 use Rattle.std.specs.List.{range_with_len}
@@ -32,7 +32,7 @@ use Rattle.session.specs.Films.{sending_of}
 use Rattle.session.specs.SessionStates.{HaltAnswer, AwaitsNoAnswer, SessionState, awaited_answer}
 use Rattle.session.specs.SessionStates.{with_reply}
 
--- a PLAY with a Range is heard in Playing
+-- a PLAY with a Range is received in Playing
 pub record HasRangeInPlaying (old : SessionState) (message : List ℕ) (request : Request) : Type 0
   where
     pub setup : Setup
@@ -63,17 +63,17 @@ KeepsToBoundary play keep =
     let place = play.pacer.before in
     IsBoundaryAfter play.pacer.pieces (place + play.pacer.sent) (place + keep)
 
--- the slots between two heard ones that are not before a play's start
+-- the slots between two received ones that are not before a play's start
 abbrev pub slots_missed : ℕ → ℕ → ℕ → ℕ
 slots_missed heard slot start =
     sum_by (λ t. if nat_lt heard t && nat_le start t then 1 else 0) (range_with_len 0 slot)
 
--- after a run that was sent whole, all its frames were counted
+-- after a run that was sent completely, all its frames were counted
 abbrev pub HasCountedAll : Identity → Identity → FramedRun → Type 0
 HasCountedAll before after sending =
     GoesOn before after (frames_in (pieces_in sending)) (octets_in (pieces_in sending))
 
--- the run, and the client, of which a note tells
+-- the run, and the client, that a note names
 abbrev pub run_in : PlayNote → Run
 run_in note = record {
   first_unit = note.first_unit;
@@ -91,7 +91,7 @@ client_in stored settings note = record {
   delay = note.delay;
 }
 
--- a note tells a run of a film and a client, and its plan is the plan of that run for that client;
+-- a note names a run of a film and a client, and its plan is the plan of that run for that client;
 -- the booking keeps no more than the plan's bytes
 pub record IsCorrectNote (stored : Stored) (settings : Settings) (note : PlayNote) : Type 0 where
   pub run_is : IsRun (stored_sizes stored) (run_in note)

@@ -1,4 +1,4 @@
--- What the reply to an OPTIONS tells.
+-- What the reply to an OPTIONS says.
 use Rattle.std.specs.Prelude.{ℕ, ◌≡◌, ◌++◌, List, [], ◌∷◌, Some, codes, flat_map}
 use Rattle.rtsp_text.specs.Replies.{Field, reply_text, value_named}
 use Rattle.session.specs.declared.methods.Method.{Method}

@@ -1,4 +1,4 @@
--- The refusals that all methods share, in RFC 2326's words and in their order, and what a PLAY
+-- The refusals that all methods share, in the terms of RFC 2326 and in their order, and what a PLAY
 -- without a Range plays.
 use Rattle.std.specs.Prelude.{ℕ, ◌≡◌, ◌≢◌, ◌*◌, ◌⊎◌, ⊤, true, false, Bool, List, [], Option, Some}
 use Rattle.std.specs.Prelude.{None}
@@ -89,7 +89,7 @@ IsInvalidMethod Pause old = is_playing_in old.state ≡ false
 IsInvalidMethod Teardown old = ⊥
 IsInvalidMethod GetParameter old = ⊥
 
--- a run of a whole film: from the time 0 to the film's end
+-- a run of an entire film: from the time 0 to the film's end
 pub record IsWholeFilm (film : Film) (run : Run) : Type 0 where
   pub begins : run.first_unit * picture_time film.rate ≡ 0
   pub ends : run.end_unit ≡ length film.units.items

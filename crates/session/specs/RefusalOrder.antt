@@ -168,7 +168,7 @@ abbrev pub IsTimely : StateKind → Request → Method → Type 0
 IsTimely stage request method =
     FitsState method stage (is_some (header_value request.head.now (codes "Range")))
 
--- a request that is taken up
+-- a request that is processed
 pub record IsTaken (films : List Stored) (id : List ℕ) (stage : StateKind) (request : Request)
     (task : Task) : Type 0 where
   pub talk : IsOwnTalk id stage request (method_of task)

@@ -1,4 +1,4 @@
--- The replies of a session, whole (RFC 2326 sections 7 and 10).
+-- The entire replies of a session (RFC 2326 sections 7 and 10).
 use Rattle.std.specs.Prelude.{ℕ, ◌++◌, List, [], ◌∷◌, Option, Some, None, length, codes, decimal}
 use Rattle.std.specs.Prelude.{flat_map}
 use Rattle.std.specs.Int.{w32, to_be_bytes}
@@ -34,7 +34,7 @@ code_of (Buffer least) = 451
 code_of Range = 457
 code_of Memory = 500
 
--- what a refusal says besides; the option is the one that its request requires
+-- what a refusal says in addition; the option is the one that its request requires
 abbrev pub refusal_fields : Refusal → List ℕ → List Field
 refusal_fields BadRequest option = []
 refusal_fields Version option = []
@@ -96,7 +96,7 @@ play_fields id first_ms end_ms authority name number time =
     ∷ codes "/video;seq=" ∷ decimal number ∷ codes ";rtptime=" ∷ decimal time ∷ []))
     ∷ []
 
--- a play's reply: it begins so many slots after the heard one
+-- a play's reply: it begins so many slots after the last one received
 abbrev pub play_text : ℕ → List Field → ℕ → List ℕ
 play_text sequence fields slots =
     reply_text 200 (Some sequence) (fields ++ field (codes "x-Start") (decimal slots) ∷ []) []

@@ -1,4 +1,4 @@
--- What replies tell, as a reader of RFC 2326's grammars finds it in their fields.
+-- What replies say, as a reader of RFC 2326's grammars finds it in their fields.
 use Rattle.std.specs.Prelude.{ℕ, ◌≡◌, ◌+◌, ◌*◌, ◌%◌, ◌^◌, ◌<◌, ◌≤◌, ◌++◌, List, [], ◌∷◌, Option}
 use Rattle.std.specs.Prelude.{Some, codes, decimal, string_bytes, length, true}
 use Rattle.vod_base.specs.Names.{good_name}
@@ -108,7 +108,7 @@ pub record IsPlayReply (old : SessionState) (stored : Stored) (setup : Setup) (p
   pub told : HasPlayFields old stored setup planned authority fields
 
 -- a reply with the description of a film: its base is a URL of the film, and its length that of the
--- description, which tells the film's whole time in milliseconds (RFC 2326 appendix C)
+-- description, which gives the film's entire time in milliseconds (RFC 2326 appendix C)
 pub record IsDescribeReply (sequence : ℕ) (authority name : List ℕ) (film : Film) (text : List ℕ)
     : Type 0 where
   pub fields : List Field
@@ -123,7 +123,7 @@ pub record IsDescribeReply (sequence : ℕ) (authority name : List ℕ) (film : 
   pub end_is : AreTicks end 360 (length film.units.items * picture_time film.rate)
   pub described : IsDescription body name (end * 1000000)
 
--- a film of which a description is told: of few units, each as long as a rate has it
+-- a film of which a description is given: of few units, each as long as a rate has it
 pub record IsShort (film : Film) : Type 0 where
   pub few : length film.units.items ≤ 4194304
   pub brief : picture_time film.rate ≤ 360000
@@ -140,7 +140,7 @@ pub record IsDescribed (old : SessionState) (sequence : ℕ) (authority : List �
   pub good : good_name (string_bytes describes.stored.name) ≡ true
   pub short : IsShort describes.stored.film
 
--- the reply of an admitted play ends with its start, counted from the heard slot
+-- the reply of an admitted play ends with its start, counted from the last slot received
 pub record HasStartInReply (old : SessionState) (start sequence : ℕ) (fields : List Field) (text :
     List ℕ)
     : Type 0 where

@@ -96,7 +96,8 @@ pub record IsNoRefusal (text : List ℕ) : Type 0 where
   pub no_overflow : ¬ HasCode 453 text
   pub not_full : ¬ HasCode 503 text
 
--- so it is of a reply of the session's own, of one to a halt, and of the front of one to a play
+-- so it is of a reply of the session's own, of one to a halt, and of the first part of one to a
+-- play
 abbrev pub RefusesNone : Ask → SessionState → Type 0
 RefusesNone Reply new = IsNoRefusal new.text
 RefusesNone (AskPlay plan) new = (rest : List ℕ) → IsNoRefusal (new.text ++ rest)
@@ -124,11 +125,11 @@ pub record CanBePlayed (old : SessionState) (message : List ℕ) : Type 0 where
       request.body.now
       → IsGoodPlay old setup paused request
 
--- memory is wanting for it: the reply is 500
+-- memory ran out for it: the reply is 500
 pub record LacksMemory (old : SessionState) (ask : Ask) (new : SessionState) : Type 0 where
   pub sequence : ℕ
   pub refused : IsRefused old (Some sequence) Memory [] ask new
 
--- the station is asked for the play, or memory is wanting
+-- the station is asked for the play, or memory ran out
 abbrev pub AsksOrLacks : SessionState → Ask → SessionState → Type 0
 AsksOrLacks old ask new = IsPlayAskedFor old ask new ⊎ LacksMemory old ask new

@@ -33,9 +33,9 @@ use Rattle.film_frames.specs.declared.stored_films.Stored.{Stored}
 use Rattle.session.specs.SlotSteps.{admitted_in, halted_in, halted_notes, kept_of, next_of}
 use Rattle.session.specs.SessionStates.{SessionState, after_answer, sequence_of}
 
--- a session of a new connection, with the connection's words: two for the session's id, the SSRC,
--- the sequence number of the first frame in 16 bits, and the timestamp of the film's beginning (RFC
--- 3550 section 5.1)
+-- a session of a new connection, with the connection's random words: two for the session's id, the
+-- SSRC, the sequence number of the first frame in 16 bits, and the timestamp of the film's
+-- beginning (RFC 3550 section 5.1)
 abbrev pub source_of : List ℕ → StreamSource
 source_of words = record {
   ssrc = slice_index words 2;
@@ -94,7 +94,7 @@ counts_of (Halt keep next) counts = counts
 counts_of (Look sequence) counts = counts
 counts_of (Offer sequence) counts = counts
 
--- a reply's front, ended by the slots from the heard one to the play's start
+-- a reply's first part, ended by the slots from the last one received to the play's start
 abbrev pub started_text : List ℕ → ℕ → List ℕ
 started_text front slots =
     front ++ field_line (field (codes "x-Start") (decimal slots)) ++ codes "\r\n"

@@ -1,4 +1,4 @@
--- What contracts see of a session, and the words in which its callers speak of it.
+-- What contracts see of a session, and the terms that its callers need.
 use Rattle.std.specs.Prelude.{ℕ, ◌≡◌, ◌≤◌, ◌^◌, ◌&&◌, ◌++◌, ◌∷◌, Bool, true, false, if◌then◌else◌}
 use Rattle.std.specs.Prelude.{nat_lt, nat_le, List, [], Option, Some, None, ⊤}
 use Rattle.plan_cert.specs.declared.Segment.{Segment}
@@ -32,15 +32,15 @@ pub record SessionState : Type 0 where
   pub state : State
   pub counts : Counts
   pub awaited : Awaited
-  -- the reply, or its front, and whether it waits
+  -- the reply, or its first part, and whether it waits
   pub text : List ℕ
   pub waits : Bool
   -- a TEARDOWN was answered 200, and that reply was sent
   pub tearing : Bool
   pub torn : Bool
-  -- a call of the link failed: `slot` or `reply` returned an error, after which nothing is heard
+  -- a call of the link failed: `slot` or `reply` returned an error, after which nothing is received
   pub lost : Bool
-  -- the last slot that was heard, and the slots that were missed
+  -- the last slot that was received, and the slots that were missed
   pub heard : ℕ
   pub late : ℕ
   -- how many more looks there is room for from the beginning
@@ -109,7 +109,7 @@ AsksFor (AskLook slot) new = (awaited_answer new ≡ LookAnswer) × (new.waits �
     × (slot ≡ new.heard)
 AsksFor (AskOffer plan offers) new = (awaited_answer new ≡ OfferAnswer) × (new.waits ≡ false)
 
--- a slot that is taken up: a later one than the last, and none above 2^62
+-- a slot that is processed: a later one than the last, and none above 2^62
 abbrev pub last_heard_slot : ℕ → ℕ → ℕ
 last_heard_slot heard slot = if nat_lt heard slot && nat_le slot (2 ^ 62) then slot else heard
 
@@ -190,7 +190,7 @@ pub record AreNotesUnchanged (old new : SessionState) : Type 0 where
   pub offers : new.offers ≡ old.offers
   pub late : new.late ≡ old.late
 
--- a request can be heard: nothing is awaited, no reply waits, and the connection goes on
+-- a request can be received: nothing is awaited, no reply waits, and the connection goes on
 pub record CanHandleRequest (standing : SessionState) : Type 0 where
   pub rest : AwaitsNoAnswer standing
   pub replied : standing.waits ≡ false

@@ -17,7 +17,7 @@ use Rattle.session.specs.declared.notes.PlayNote.{PlayNote}
 use Rattle.session.specs.SlotTransitions.{IsCarried, IsHaltIn, after_stop}
 use Rattle.session.specs.SessionStates.{SessionState, open_in, open_of}
 
--- no frame and no report is cut
+-- no frame and no report is split
 abbrev pub is_between : State → Bool
 is_between Init = true
 is_between (Ready setup paused) = true
@@ -180,7 +180,7 @@ HaltsIfDone state (Offer sequence) = ⊥
 abbrev pub after_play : SessionState → SessionState
 after_play old = record old { awaited = finished_in old.state old.awaited }
 
--- the slots from a play's start on that were not heard between two heard ones
+-- the slots from a play's start on that were not received between two received ones
 abbrev pub missed_between : ℕ → ℕ → ℕ → ℕ
 missed_between before start slot = slot - 1 - max before (start - 1)
 
@@ -197,7 +197,7 @@ sent_slot old slot =
     if old.waits && is_between (stepped_in true slot old.state)
     then sent_reply (sent_due old slot) else sent_due old slot
 
--- a slot is taken up: it is later than the last, and none above 2^62
+-- a slot is processed: it is later than the last, and none above 2^62
 abbrev pub is_taken : SessionState → ℕ → Bool
 is_taken old slot = nat_lt old.heard slot && nat_le slot (2 ^ 62)
 
@@ -208,7 +208,7 @@ after_slot old slot =
     then (if is_sending old.state
     then after_play (sent_slot old slot) else record old { heard = slot }) else old
 
--- a send failed in a slot: a front of what is due was sent, and of the open booking as much is due
+-- a send failed in a slot: a prefix of what is due was sent, and of the open booking as much is due
 -- as without the fault
 pub record HasSlotFailed (old : SessionState) (slot : ℕ) (told_old told_new : Option (List IoEvent))
     (new : SessionState) : Type 0 where
@@ -219,7 +219,7 @@ pub record HasSlotFailed (old : SessionState) (slot : ℕ) (told_old told_new : 
   -- the play is the same, and its slots were missed as without the fault
   pub carried : IsCarried old.state new.state
   pub late : new.late ≡ old.late + missed_between old.heard (start_in old.state) slot
-  -- the link is lost, and nothing else changes
+  -- the link failed, and nothing else changes
   pub rest : new ≡ record old {
     heard = slot;
     late = old.late + missed_between old.heard (start_in old.state) slot;

@@ -1,4 +1,4 @@
--- What is known of a request that is taken up.
+-- What is known of a request that is processed.
 use Rattle.std.specs.Prelude.{ℕ, ◌≡◌, ◌<◌, ◌≤◌, ⊤, false, true, Bool, length}
 use Rattle.rtsp_text.specs.Lines.{is_one_line}
 use Rattle.session.specs.declared.refusals.Asked.{Asked}

@@ -1,4 +1,4 @@
-//! Laws of a session, in RFC 2326's words.
+//! Laws of a session, in the terms of RFC 2326.
 
 ghost use Rattle.std.specs.Prelude.{◌≡◌, ◌<◌, ℕ, List, Some, None, Ok, string_bytes};
 ghost use Rattle.rtsp_text.specs.Replies.{Field, phrase, reply_front};
@@ -220,10 +220,10 @@ pub fn law_options_reply_lists_all_methods()
     ensures { (sequence : ℕ) → IsPublicTold sequence (public_text sequence) }
 {}
 
-/// Each reply is a complete message, whose end follows from its own bytes (RFC 2326 sections 4.4 and 7). A
-/// reply repeats the authority of its request's URL, or the option that the request requires; so
-/// the request's head is to be 512 bytes shorter than the longest that is taken. What else it needs
-/// is so of each session from its beginning on.
+/// Each reply is a complete message, whose end follows from its own bytes (RFC 2326 sections 4.4
+/// and 7). A reply repeats the authority of its request's URL, or the option that the request
+/// requires; so the request's head is to be 512 bytes shorter than the longest that is taken. What
+/// else it needs is so of each session from its beginning on.
 pub fn law_every_reply_is_a_complete_message()
     ensures begun { (films : List Stored) (settings : Settings) (words : List ℕ) → AreFilms films →
         HasValidIds (new_session_state films settings words) }

@@ -148,10 +148,10 @@ pub fn law_other_film_is_not_found()
         IsRefusedBy old 404 request.sequence ask new }
 {}
 
-/// A refusal that all methods share comes for its cause alone: 501 only where the method is unknown,
-/// 551 only where an option is required, 454 only where no session exists that the request names,
-/// and 404 only where its URL names no film of the server but others than the session's (RFC 2326
-/// section 7.1.1).
+/// A refusal that all methods share comes for its cause alone: 501 only where the method is
+/// unknown, 551 only where an option is required, 454 only where no session exists that the request
+/// names, and 404 only where its URL names no film of the server but others than the session's (RFC
+/// 2326 section 7.1.1).
 pub fn law_refusals_have_their_causes()
     ensures method { (old new : SessionState) (message : List ℕ) (request : Request) →
         Hears old message Ask.Reply new → IsReadAs message request → HasCode 501 new.text →

@@ -52,7 +52,7 @@ pub(crate) fn read_method(text: &[u8]) -> Option<Method>
 pub(crate) enum Topic {
     /// Nothing: the body is empty.
     Nothing,
-    /// What is booked in the heard slot.
+    /// What is booked in the last slot that arrived.
     Booked,
     /// From which slot on a play would fit.
     Offer,

@@ -60,8 +60,8 @@ fn put_start_line(body: &mut Text, start: Option<u64>)
     body.put(b"\r\n");
 }
 
-/// The line of a start that was tried without room: the first slot without room, what is booked in it
-/// and what the plan asks for there.
+/// The line of a start that was tried without room: the first slot without room, what is booked in
+/// it and what the plan asks for there.
 fn put_over_line(body: &mut Text, tried: &Tried)
     requires { length body.old + 93 ≤ MAX_TEXT_BYTES }
     ensures text { body.new ≡ body.old ++ over_line tried.now }

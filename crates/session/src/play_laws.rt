@@ -24,8 +24,8 @@ ghost use Rattle.session.specs.SessionStates.{awaited_answer};
 
 use crate::sessions::Session;
 
-/// Every session is sound, whatever happened to it: what it settled and planned is in its ranges and
-/// fits its state. A caller that holds a session shows by this what the laws of a play need.
+/// Every session is sound, whatever happened to it: what it settled and planned is in its ranges
+/// and fits its state. A caller that holds a session shows by this what the laws of a play need.
 pub fn law_every_session_is_sound(session: &Session<'_>)
     ensures { IsSoundState session.now }
 {
@@ -64,9 +64,9 @@ pub fn law_missed_slots_are_counted()
         (after_slot old slot).late ≡ old.late }
 {}
 
-/// A play of which all is sent that is kept is halted with all of that, as soon as a slot of it was
-/// stepped; while some of it is to be sent, no halt is asked for. What is kept is the whole plan, as
-/// long as no halt was asked for and no link call failed.
+/// A play is halted, and keeps all that was sent of it, as soon as all its kept bytes were sent and
+/// a slot of it was stepped. While some of them are to be sent, no halt is asked for. The kept
+/// bytes are those of the entire plan, as long as no halt was asked for and no link call failed.
 pub fn law_done_play_is_halted_in_full()
     ensures done { (old : SessionState) (setup : Setup) (play : Played) →
         old.state ≡ Playing setup play → 0 < play.pacer.passed →
@@ -80,7 +80,7 @@ pub fn law_done_play_is_halted_in_full()
         after_play old ≡ old }
 {}
 
-/// After a play that is done, whose halt keeps its whole plan, all frames of its run were counted:
+/// After a play that is done, whose halt keeps its entire plan, all frames of its run were counted:
 /// what is sent next has the next sequence number, and reports count all packets and octets before
 /// (RFC 3550 sections 5.1 and 6.4.1).
 pub fn law_done_run_is_counted_in_full()

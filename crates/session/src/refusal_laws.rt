@@ -54,8 +54,8 @@ pub fn law_play_without_range_plays_whole_film()
         IsPlannedRun old stored setup None None planned → IsWholeFilm stored.film planned.run }
 {}
 
-/// A Range from `now` on means where the paused run stopped: the run goes on from the byte after the
-/// last that was sent, whatever end the Range names. Where no run is paused it means the film's
+/// A Range from `now` on means where the paused run stopped: the run goes on from the byte after
+/// the last that was sent, whatever end the Range names. Where no run is paused it means the film's
 /// beginning (RFC 2326 section 3.6).
 pub fn law_play_from_now_goes_on()
     ensures begins { (old : SessionState) (stored : Stored) (setup : Setup) (value : List ℕ)

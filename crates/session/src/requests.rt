@@ -378,8 +378,8 @@ impl<'a> Session<'a> {
     }
 }
 
-/// Asks for the halt of the play that is sent, if one is, at the end of the current frame or report,
-/// and returns how many bytes it keeps.
+/// Asks for the halt of the play that is sent, if one is, at the end of the current frame or
+/// report, and returns how many bytes it keeps.
 fn ask_halt(state: &mut State<'_>) -> Option<u64>
     requires { IsGoing false state.old }
     ensures halted { IfSome result (KeepsToBoundary state.old state.new) }

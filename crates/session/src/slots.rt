@@ -70,7 +70,7 @@ impl<'a> Session<'a> {
         Ok(finish(&self.state, &mut self.awaited))
     }
 
-    /// Sends the waiting reply in one send where no frame and no report is cut; else it does
+    /// Sends the waiting reply in one send where that splits no frame and no report; else it does
     /// nothing.
     ///
     /// # Errors
@@ -160,7 +160,7 @@ fn step<K: Link>(
     }
 }
 
-/// Whether no frame and no report is cut.
+/// Whether bytes sent now would split no frame and no report.
 fn is_between(state: &State<'_>) -> bool
     ensures { result ≡ is_between state.now }
 {

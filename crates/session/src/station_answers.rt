@@ -39,7 +39,8 @@ use plan_cert::Plan;
 use std::mem;
 
 impl<'a> Session<'a> {
-    /// The station admitted the play that was asked for.
+    /// The station admitted the play that was asked for: the place of its entry in the journal, and
+    /// the slot in which it begins.
     pub fn admitted(&mut self, place: u64, start: u64)
         requires asked { IsPlay (awaited_answer self.old) }
         requires start { self.old.heard < start }
@@ -72,8 +73,9 @@ impl<'a> Session<'a> {
         self.waits = true;
     }
 
-    /// The link has no room for the play that was asked for: the first slot without room, what is
-    /// booked in it and what the plan asks for there.
+    /// The link has no room for the play that was asked for: the place of the entry in the journal,
+    /// the first slot without room, the bytes booked in it and the bytes that the plan asks for
+    /// there.
     pub fn overflowed(&mut self, place: u64, slot: u64, booked: u64, asked: u64)
         requires asked { IsPlay (awaited_answer self.old) }
         ensures exact { self.new ≡ after_overflow self.old place slot booked asked }
@@ -96,8 +98,8 @@ impl<'a> Session<'a> {
         self.waits = true;
     }
 
-    /// The journal had no room for the play or the look that was asked for: its entries and the
-    /// open plays.
+    /// The journal had no room for the play or the look that was asked for: the number of its
+    /// entries and of the open plays.
     pub fn full(&mut self, entries: u64, live: u64)
         requires asked { IsPlayOrLook (awaited_answer self.old) }
         ensures exact { self.new ≡ after_full self.old entries live }
@@ -145,8 +147,8 @@ impl<'a> Session<'a> {
         self.teardown = self.teardown.after_halt(next);
     }
 
-    /// What the station saw: the slot up to which its book has come, the slot that was looked at
-    /// and what is booked in it.
+    /// What the station saw: the place of the entry in the journal, the slot up to which its book
+    /// has come, the slot that was looked at and the bytes booked in it.
     pub fn looked(&mut self, place: u64, now: u64, at: u64, booked: u64)
         requires asked { IsLook (awaited_answer self.old) }
         ensures exact { self.new ≡ after_look self.old place now at booked }

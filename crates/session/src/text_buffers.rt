@@ -11,7 +11,7 @@ use vod_base::NoMemory;
 const MAX_TEXT_BYTES: usize = 24_576;
 
 /// The text of a reply's body, in a buffer of 24,576 bytes that `new` takes. It is apart from
-/// [`rtsp_text::Reply`], which writes a head and takes the whole body at its end, since the head
+/// [`rtsp_text::Reply`], which writes a head and takes the entire body at its end, since the head
 /// gives the body's length. Contracts see the text so far.
 #[derive(Drop)]
 pub(crate) struct Text {

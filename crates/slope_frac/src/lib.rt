@@ -25,6 +25,8 @@ pub struct Slope {
 pub fn compare(a: Slope, b: Slope) -> Ordering
     ensures { MatchOrdering result (IsLessSteep a b) (IsEquallySteep a b) (IsLessSteep b a) }
 {
+    // cross products, not quotients: they are exact, and 128 bits hold the product of any two
+    // numbers
     let left = u128::from(a.bytes) * u128::from(b.slots);
     let right = u128::from(b.bytes) * u128::from(a.slots);
     left.cmp(&right)

@@ -1,4 +1,4 @@
--- What a calendar tells, and how it stands to the plays that are booked in it.
+-- What a calendar exposes, and how it represents the plays that are booked in it.
 use Rattle.std.specs.Prelude.{ℕ, ◌≡◌, ◌+◌, ◌^◌, ◌<◌, ◌≤◌, List}
 use Rattle.plan_cert.specs.declared.Segment.{Segment}
 use Rattle.slot_calendar.specs.declared.profiles.CapStep.{CapStep}
@@ -22,7 +22,7 @@ booked_at calendar t = total_at calendar.first calendar.totals t
 pub record Represents (calendar : CalendarState) (plays : List Play) : Type 0 where
   pub each : (t : ℕ) → calendar.first ≤ t → booked_at calendar t ≡ booked_by plays t
 
--- what holds of each calendar; no slot from now on is booked above its capacity
+-- what is true for each calendar; no slot from now on is booked above its capacity
 pub record IsCalendar (calendar : CalendarState) : Type 0 where
   pub profile : IsProfile calendar.steps
   pub small : calendar.first ≤ 2 ^ 62

@@ -1,5 +1,5 @@
--- What plays book on a link. A play is a plan that begins at a slot and is cut after its first
--- `keep` bytes.
+-- What plays book on a link. A play is a plan that begins at a slot and ends after its first `keep`
+-- bytes.
 use Rattle.std.specs.Prelude.{ℕ, ◌+◌, ◌-◌, min, List, take, sum, sum_by}
 use Rattle.plan_cert.specs.declared.Segment.{Segment}
 use Rattle.plan_cert.specs.PlanSlots.{plan_slots, total_bytes}
@@ -28,7 +28,7 @@ abbrev pub whole_play : ℕ → List Segment → Play
 whole_play start segments =
     record { start = start; segments = segments; keep = total_bytes segments }
 
--- a play that was cut
+-- a play that was stopped early
 abbrev pub truncated_play : ℕ → List Segment → ℕ → Play
 truncated_play start segments keep = record { start = start; segments = segments; keep = keep }
 

@@ -81,6 +81,8 @@ pub(crate) fn overflow_in(
             .slots
             .min(passed + (BLOCK - slot % BLOCK))
             .min(span.until - from);
+        // Where the block's greatest total leaves room for the segment's greatest slot, all its
+        // slots fit and aren't read.
         if most > span.bytes || ring.top(slot) > span.bytes - most {
             let found = overflow_among(ring, from, segment, passed, end, span.bytes);
             if found.is_some() {
@@ -92,7 +94,8 @@ pub(crate) fn overflow_in(
     None
 }
 
-/// The bytes of the segment's first `count` slots, in the calendar's words.
+/// The bytes of the segment's first `count` slots, with the contract that the calendar's
+/// definitions need.
 fn sent_through(segment: Segment, count: u64) -> u64
     requires plan { IsPlan (segment ∷ []) }
     requires within { count ≤ segment.slots }
@@ -131,6 +134,7 @@ fn release_slot(ring: &mut Ring, slot: u64, by: u64)
     ensures others { (t : ℕ) → ring.old.first ≤ t → t ≢ slot →
         total_of ring.new t ≡ total_of ring.old t }
 {
+    // slots before now are past: there is nothing to give back in them
     if by > 0 && slot >= ring.now() {
         ring.lower(slot, by);
     }
@@ -182,6 +186,7 @@ fn overflow_among(
         let slot = from + passed;
         let booked = ring.total(slot);
         let asked = sent - before;
+        // compared without a sum, so that nothing can overflow
         if booked > capacity || asked > capacity - booked {
             return Some(Overflow {
                 slot,

@@ -53,6 +53,10 @@ impl Calendar {
     ghost use Rattle.slot_calendar.specs.Calendars.{IsFirstOverflowIn, booked_at};
 
     /// An empty calendar of this capacity, from slot 0 on. No other call takes memory.
+    ///
+    /// # Errors
+    ///
+    /// [`NoMemory`] where there is none for the 1,048,576 slots.
     pub fn new(alloc: Global, profile: Profile) -> Result<Calendar, NoMemory>
         ensures now { IfOk result (λ calendar. calendar.first ≡ 0) }
         ensures profile { IfOk result (λ calendar. calendar.steps ≡ profile) }

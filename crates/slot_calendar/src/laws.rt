@@ -15,7 +15,7 @@ ghost use Rattle.slot_calendar.specs.Calendars.{CalendarState, HasRoom, IsCalend
 ghost use Rattle.slot_calendar.specs.Calendars.{IsFirstOverflow};
 ghost use Rattle.slot_calendar.specs.Calendars.{Represents, booked_at};
 
-/// What a plan that begins at `start` has sent before a slot and sends in it, in the words of the
+/// What a plan that begins at `start` has sent before a slot and sends in it, in the terms of the
 /// plan: nothing before its start, its running sum through the slot before, all its bytes from its
 /// end on.
 pub fn law_plan_bytes_follow_running_sum()
@@ -31,9 +31,9 @@ pub fn law_plan_bytes_follow_running_sum()
         asked_at segments start t ≡ 0 }
 {}
 
-/// What a play books: all that its plan asks for, or, of a play that was cut, the first `keep`
-/// bytes that its plan sends and no others. So its release gives back in each slot what is after
-/// them.
+/// What a play books: all that its plan asks for, or, of a play that was stopped early, the first
+/// `keep` bytes that its plan sends and no others. So its release gives back in each slot what is
+/// after them.
 pub fn law_play_books_its_kept_bytes()
     ensures whole { (segments : List Segment) (start t : ℕ) →
         share_at t (whole_play start segments) ≡ asked_at segments start t }
@@ -52,7 +52,7 @@ pub fn law_plays_stay_within_capacity()
         booked_by plays t ≤ capacity_at calendar.steps t }
 {}
 
-/// A plan that stands booked whole may be cut after any of its bytes.
+/// A plan that is booked entirely may be stopped early, after any of its bytes.
 pub fn law_booked_plan_can_be_released()
     ensures { (calendar : CalendarState) (before after : List Play) (segments : List Segment)
         (start keep : ℕ) →

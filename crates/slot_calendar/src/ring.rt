@@ -143,6 +143,8 @@ impl Ring {
             self.stale,
             block,
         );
+        // A release lowers slots in order, so the greatest total of a block is read again once,
+        // when the next block begins, and not at each slot. At most one block is stale at a time.
         self.stale = Some(block);
         self.places[place] -= by;
     }
@@ -198,6 +200,7 @@ impl Ring {
         ensures totals { (t : ℕ) → now ≤ t → total_of self.new t ≡ total_of self.old t }
     {
         let last = self.last();
+        // after `last` nothing is booked, so a jump over empty slots costs nothing
         while self.first < now && self.first <= last {
             self.advance_one();
         }

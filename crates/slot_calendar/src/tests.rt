@@ -1,4 +1,4 @@
-//! Profiles, and calendars on which plays are booked, cut and forgotten, by rows.
+//! Profiles, and calendars on which plays are booked, stopped early and forgotten, by rows.
 
 ghost use Rattle.std.specs.Prelude.{◌+◌, ◌<◌, ◌≤◌, ◌^◌, ℕ, IsTrue};
 ghost use Rattle.plan_cert.specs.PlanSlots.{total_slots};

@@ -5,7 +5,7 @@ use Rattle.socket_link.specs.declared.sockets.ReadOutcome.TheVariants.{Bytes, No
 use Rattle.socket_link.specs.declared.sockets.ReadOutcome.TheVariants.{End}
 use Rattle.socket_link.specs.Calls.{SocketCall, GaveBytes, GaveNothing, GaveEnd, WasInterrupted}
 
--- an answer as a call, where `into` has the bytes that came in front
+-- an answer as a call, where `into` has the bytes that arrived at its start
 abbrev pub read_call : ReadOutcome → List ℕ → SocketCall
 read_call (Bytes count) into = GaveBytes (take count into)
 read_call Nothing into = GaveNothing

@@ -7,7 +7,7 @@ use Rattle.socket_link.specs.Calls.{SocketCall, GaveBytes, GaveNothing, GaveEnd,
 use Rattle.socket_link.specs.Calls.{TookNothing}
 use Rattle.socket_link.specs.Calls.{WasInterrupted, ReadClock, Waited, ShutDown}
 
--- a note as the call that it stands for
+-- a note as the call that it represents
 abbrev pub call_noted : NotedCall → SocketCall
 call_noted (Gave bytes) = GaveBytes bytes.items
 call_noted Empty = GaveNothing

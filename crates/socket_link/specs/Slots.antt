@@ -1,5 +1,5 @@
--- Slots by the clock. A slot's length is given in 1/360,000 second, so that a slot of so many units
--- lasts 25,000 / 9 times as many nanoseconds.
+-- The slot of a clock reading. A slot's length is given in 1/360,000 second, so that a slot of so
+-- many units lasts 25,000 / 9 times as many nanoseconds.
 use Rattle.std.specs.Prelude.{◌≡◌, ℕ, ◌+◌, ◌-◌, ◌*◌, ◌/◌, ◌^◌, ◌<◌, Bool, true, false}
 use Rattle.std.specs.Prelude.{if◌then◌else◌, nat_lt, min}
 use Rattle.std.specs.Prelude.{List, [], ◌∷◌, Option, Some, None, slice_get}

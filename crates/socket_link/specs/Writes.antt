@@ -4,7 +4,7 @@ use Rattle.socket_link.specs.declared.sockets.WriteOutcome.{WriteOutcome}
 use Rattle.socket_link.specs.declared.sockets.WriteOutcome.TheVariants.{Bytes, Nothing, Interrupted}
 use Rattle.socket_link.specs.Calls.{SocketCall, TookBytes, TookNothing, WasInterrupted}
 
--- an answer as a call: a write takes the bytes in front
+-- an answer as a call: a write takes the first bytes
 abbrev pub write_call : WriteOutcome → List ℕ → SocketCall
 write_call (Bytes count) bytes = TookBytes (take count bytes)
 write_call Nothing bytes = TookNothing

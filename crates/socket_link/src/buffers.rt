@@ -49,7 +49,7 @@ impl WriteBuffer {
         &self.bytes[self.start..]
     }
 
-    /// Appends as many of the bytes as there is room for, and answers how many.
+    /// Appends as many of the bytes as there is room for, and returns how many.
     pub(crate) fn put(&mut self, bytes: &[u8]) -> usize
         ensures count { result ≡ min (length bytes.now) (ROOM - length self.old) }
         ensures waiting { self.new ≡ self.old ++ take result bytes.now }
@@ -65,7 +65,7 @@ impl WriteBuffer {
         }
     }
 
-    /// Drops the first `count` waiting bytes. Once none waits the front of the buffer is used
+    /// Drops the first `count` waiting bytes. Once no byte waits, the start of the buffer is used
     /// again, so that no more of its memory is touched than waited at once.
     pub(crate) fn drop_front(&mut self, count: usize)
         requires { count ≤ length self.old }

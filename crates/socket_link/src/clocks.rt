@@ -1,4 +1,4 @@
-//! Slots by the clock.
+//! The slot of a clock reading, and the time until the next one.
 
 ghost use Rattle.std.specs.Prelude.{◌≡◌, ◌≤◌};
 ghost use Rattle.socket_link.specs.Slots.{slot_of, IsRest};

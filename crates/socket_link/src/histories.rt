@@ -21,8 +21,8 @@ impl Model for History {
 // It owns nothing.
 unsafe impl Send for History {}
 
-/// What is noted in one step: an event, with the bytes that came in front of a buffer; or bytes
-/// that were given to `send`.
+/// What is noted in one step: an event, with the bytes that arrived at the start of a buffer; or
+/// bytes that were given to `send`.
 #[derive(Clone, Copy, Drop)]
 pub(crate) enum Note<'a> {
     Came(Heard, &'a [u8]),

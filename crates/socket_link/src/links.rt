@@ -182,7 +182,7 @@ impl<S: Socket> SocketLink<S> {
         }
     }
 
-    /// Reads the clock, and answers the slot if it is newer than the last one.
+    /// Reads the clock, and returns the slot if it is newer than the last one.
     fn new_slot(&mut self) -> Result<Option<u64>, LinkFault>
         ensures same { (self.new.faults ≡ self.old.faults)
             × (self.new.slot_units ≡ self.old.slot_units) }
@@ -296,7 +296,7 @@ impl<S: Socket> SocketLink<S> {
         Ok(())
     }
 
-    /// Takes as many of the bytes as the buffer has room for, and answers how many.
+    /// Takes as many of the bytes as the buffer has room for, and returns how many.
     fn put(&mut self, bytes: &[u8]) -> usize
         ensures same { (self.new.faults ≡ self.old.faults)
             × (self.new.slot_units ≡ self.old.slot_units) }
@@ -328,6 +328,7 @@ impl<S: Socket> SocketLink<S> {
     {
         match self.flush()? {
             Flushed::Everything => Ok(()),
+            // the system may make room without waking the link, so the wait is short
             Flushed::Stuck => self.wait(RETRY),
         }
     }
@@ -399,6 +400,8 @@ impl<S: Socket> SocketLink<S> {
                 Ok(Some(Heard::End))
             }
             Ok(ReadOutcome::Nothing) => {
+                // A wait may report bytes only once, as they come. So the link reads until nothing
+                // is left, and only then waits again.
                 self.readable = false;
                 Ok(None)
             }
@@ -467,6 +470,7 @@ impl<S: Socket> SocketLink<S> {
         for _ in 0..u64::MAX {
             self.write_out()?;
             self.check(Purpose::Idle)?;
+            // a slot comes before bytes: a peer that sends without end can't hold up its film
             if let Some(slot) = self.new_slot()? {
                 return Ok(Heard::Slot(slot));
             }
@@ -500,6 +504,7 @@ impl<S: Socket> SocketLink<S> {
             if self.buffer.waiting_bytes().is_empty() {
                 return Ok(());
             }
+            // The bytes that are left are given up: a peer can't hold the worker for longer.
             if waited >= STUCK_LIMIT {
                 return Ok(());
             }
@@ -565,6 +570,11 @@ impl<S: Socket> SocketLink<S> {
     /// down; and what the peer still sends is read and dropped until it ends, for 1 s at most. A
     /// socket that is closed with bytes unread is reset, and a last reply that is on its way is
     /// lost.
+    ///
+    /// # Errors
+    ///
+    /// [`LinkFault`] where a call of the socket failed, or a reading of the clock shows that a
+    /// limit is reached.
     pub fn close(&mut self) -> Result<(), LinkFault>
         ensures count { S.faults self.old.socket ≤ S.faults self.new.socket }
         ensures served { OnOk result (IsTrue S.tells →

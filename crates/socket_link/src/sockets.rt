@@ -64,7 +64,7 @@ pub trait Socket {
 
     ghost did: { Self → List SocketCall };
 
-    /// Reads what came. The bytes stand in front of `into`.
+    /// Reads the bytes that arrived, and puts them at the start of `into`.
     ///
     /// # Errors
     ///
@@ -92,8 +92,12 @@ pub trait Socket {
             did self.new ≡ did self.old ++ write_call written bytes.now ∷ []) }
         ensures lost { OnErr result (IsTrue tells → did self.new ≡ did self.old) };
 
-    /// Waits until something may be read or written, at most so many nanoseconds, and answers
+    /// Waits until something may be read or written, at most so many nanoseconds, and returns
     /// whether something may be. It may return before, as after a signal.
+    ///
+    /// # Errors
+    ///
+    /// [`SocketFault`] only where the count of faults rose.
     fn wait(&mut self, most: u64) -> Result<bool, SocketFault>
         ensures count { faults self.old ≤ faults self.new }
         ensures fault { OnErr result (HasRisen (faults self.old) (faults self.new)) }
@@ -102,6 +106,10 @@ pub trait Socket {
         ensures lost { OnErr result (IsTrue tells → did self.new ≡ did self.old) };
 
     /// Reads the clock: the nanoseconds since the gate was opened, when slot 0 began.
+    ///
+    /// # Errors
+    ///
+    /// [`SocketFault`] only where the count of faults rose.
     fn time(&mut self, purpose: Purpose) -> Result<u64, SocketFault>
         ensures count { faults self.old ≤ faults self.new }
         ensures fault { OnErr result (HasRisen (faults self.old) (faults self.new)) }
@@ -110,6 +118,10 @@ pub trait Socket {
         ensures lost { OnErr result (IsTrue tells → did self.new ≡ did self.old) };
 
     /// Shuts the sending half down: the peer reads the end after all bytes that were taken.
+    ///
+    /// # Errors
+    ///
+    /// [`SocketFault`] only where the count of faults rose.
     fn shut_down(&mut self) -> Result<(), SocketFault>
         ensures count { faults self.old ≤ faults self.new }
         ensures fault { OnErr result (HasRisen (faults self.old) (faults self.new)) }

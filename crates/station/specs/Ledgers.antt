@@ -17,7 +17,7 @@ use Rattle.station.specs.declared.answers.PlayRefused.{PlayRefused}
 use Rattle.station.specs.declared.answers.PlayRefused.TheVariants.{JournalFull}
 use Rattle.station.specs.declared.answers.PlayRefused.TheVariants.{Overflow as PlayOverflow}
 
--- the command of a play that was asked for in a heard slot
+-- the command of a play that was asked for in a slot that was received
 abbrev pub play_of : ℕ → List Segment → Command
 play_of heard plan = Play (min heard (2 ^ 62)) plan
 
@@ -48,7 +48,7 @@ IsPlayRefused old new maker heard asked (PlayOverflow place slot booked bytes) =
     IsEntered old new maker 2 (play_of heard asked) place (Overflow slot booked bytes)
 
 -- an offer in the state after these entries: the earliest start within its wait, from the slot
--- after the heard one and after now on
+-- after the last one received and after now on
 pub record IsOffered (steps : List CapStep) (entries : List Entry) (heard : ℕ)
     (plan : List Segment) (told : Offered) (found : Offers) : Type 0 where
   pub seen_is : told.seen ≡ length entries

@@ -28,7 +28,7 @@ pub record SeatState : Type 0 where
   pub splits : ℕ
   pub joined : List Joined
 
--- what holds of each seat: it has seen a legal history in which each play is halted by its own
+-- what is true for each seat: it has seen a legal history in which each play is halted by its own
 -- maker, and its own entries are those of its number
 pub record IsSeat (seat : SeatState) : Type 0 where
   pub legal : IsLegal seat.steps seat.seen

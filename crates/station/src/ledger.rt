@@ -1,4 +1,4 @@
-//! The calls at the book within a turn.
+//! The calls of the book while a seat holds the lock.
 
 ghost use Rattle.std.specs.Prelude.{◌≡◌, IfOk, IfErr, []};
 ghost use Rattle.admission.specs.declared.entries.Answer.{Answer};
@@ -59,7 +59,7 @@ impl Ledger {
         ensures legal { IsLegal self.now.steps self.now.entries }
         ensures halts { AreHaltsOwn self.now.entries }
     {
-        // the call tells that the history is legal
+        // the contract of this call says that the history is legal
         let _entries = self.book.entries();
     }
 
@@ -112,7 +112,8 @@ impl Ledger {
         ensures { IsEntered self.old self.new maker 0 (Command.Halt number keep) result
             Answer.Halted }
     {
-        // the call tells that the history is legal, in which an open play is its maker's own
+        // the contract of this call says that the history is legal, in which an open play is its
+        // maker's own
         let _entries = self.book.entries();
         law_own_open_play_can_be_halted();
         self.book.halt(maker, number, keep).place

@@ -1,5 +1,5 @@
-//! The book of a shared link for all threads: each takes the turn at it, and gets its answer from
-//! one legal history.
+//! The book of a shared link for all threads: each takes its lock, and gets its answer from one
+//! legal history.
 #![tactic(auto)]
 
 mod answers;

@@ -41,7 +41,7 @@ impl Seat {
     pub fn holds(&self)
         ensures kept { IsSeat self.now }
     {
-        // a body that uses a field knows what its type keeps
+        // a body that uses a field may rely on the invariant of its type
         let _number = self.pass.number();
     }
 }

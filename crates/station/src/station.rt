@@ -96,7 +96,7 @@ impl Station {
         told
     }
 
-    /// Halts the play of a booking: it keeps the first `keep` bytes of its plan. Answers the place
+    /// Halts the play of a booking: it keeps the first `keep` bytes of its plan. Returns the place
     /// of the entry, which always finds one.
     pub fn halt<R: Wait>(&self, rt: &R, seat: &mut Seat, booking: Booking, keep: u64) -> u64
         requires seat { seat.old.id ≡ self.now.id }

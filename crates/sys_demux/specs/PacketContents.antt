@@ -27,7 +27,7 @@ from_stuffing zero (b ∷ bytes) = from_size (b ∷ bytes)
 from_stuffing (suc most) (b ∷ bytes) = if b == 255
     then from_stuffing most bytes else from_size (b ∷ bytes)
 
--- the video bytes of a content: what stands after its header; None where that isn't whole or of
+-- the video bytes of a content: what stands after its header; None where that isn't complete or of
 -- another form
 unfoldable pub video_in : List ℕ → Option (List ℕ)
 video_in content = from_stuffing 16 content

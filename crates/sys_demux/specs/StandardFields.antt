@@ -12,14 +12,14 @@ two_bytes n = n / 256 ∷ n % 256 ∷ []
 abbrev pub three_bytes : ℕ → List ℕ
 three_bytes n = n / 65536 ∷ n / 256 % 256 ∷ n % 256 ∷ []
 
--- a start code with its value, any number of bytes 00 in front, and what follows it
+-- a start code with its value, any number of bytes 00 before it, and what follows it
 abbrev pub with_code : ℕ → ℕ → List ℕ → List ℕ
 with_code front value rest = replicate front 0 ++ (0 ∷ 0 ∷ 1 ∷ value ∷ rest)
 
 -- ---- fields
 
--- a time of 33 bits with 4 bits in front that tell which it is: bits 32 to 30, 29 to 15 and 14 to
--- 0, each part with a marker bit after it
+-- a time of 33 bits after 4 bits that say which it is: bits 32 to 30, 29 to 15 and 14 to 0, each
+-- part with a marker bit after it
 abbrev pub time_bytes : ℕ → ℕ → List ℕ
 time_bytes which time =
     (which * 16 + time / 2 ^ 30 * 2 + 1)
@@ -42,13 +42,13 @@ pub data Stamps : Type 0 where
   Shown : (shown : ℕ) → Stamps
   ShownAndDecoded : (shown decoded : ℕ) → Stamps
 
--- 01 in front of a buffer's size
+-- 01 before a buffer's size
 abbrev pub buffer_bytes : Option Buffer → List ℕ
 buffer_bytes None = []
 buffer_bytes (Some buffer) = two_bytes (2 ^ 14 + buffer.scale * 2 ^ 13 + buffer.size)
 
--- 0010 in front of a time of showing alone; 0011 in front of one and 0001 in front of a time of
--- decoding after it; 0000 1111 where there is neither
+-- 0010 before a time of showing alone; 0011 before one and 0001 before a time of decoding after it;
+-- 0000 1111 where there is neither
 abbrev pub stamp_bytes : Stamps → List ℕ
 stamp_bytes NoStamp = 0x0f ∷ []
 stamp_bytes (Shown shown) = time_bytes 2 shown
@@ -62,7 +62,7 @@ content_of stuffing buffer stamps video =
 -- ---- a stream
 
 -- a pack header; a packet of video stream 0 to 15; another packet, also a system header, a packet
--- of audio or padding; each with a number of bytes 00 in front
+-- of audio or padding; each with a number of bytes 00 before it
 pub data Element : Type 0 where
   PackHeader : (front clock_reference mux_rate : ℕ) → Element
   VideoPacket : (front stream stuffing : ℕ) (buffer : Option Buffer) (stamps : Stamps)
@@ -88,7 +88,7 @@ abbrev pub stream_bytes : List Element → List ℕ
 stream_bytes [] = []
 stream_bytes (element ∷ elements) = element_bytes element ++ stream_bytes elements
 
--- the bytes 00 in front of an element's prefix
+-- the bytes 00 before an element's prefix
 abbrev pub front_of : Element → ℕ
 front_of (PackHeader front clock_reference mux_rate) = front
 front_of (VideoPacket front stream stuffing buffer stamps video) = front
@@ -172,11 +172,11 @@ first_video elements = video_by (first_stream elements) elements
 abbrev pub first_bits : ℕ → List ℕ → ℕ
 first_bits count bytes = slice_index bytes 0 / 2 ^ (8 - count)
 
--- none, or two bytes with 01 in front
+-- none, or two bytes that begin with 01
 abbrev pub IsSizeField : List ℕ → Type 0
 IsSizeField bytes = (bytes ≡ []) ⊎ ((length bytes ≡ 2) × (first_bits 2 bytes ≡ 1))
 
--- 5 bytes with 0010 in front, 10 bytes with 0011, or the byte 0000 1111
+-- 5 bytes that begin with 0010, 10 bytes with 0011, or the byte 0000 1111
 abbrev pub IsStampField : List ℕ → Type 0
 IsStampField bytes =
     ((length bytes ≡ 5) × (first_bits 4 bytes ≡ 2))

@@ -1,5 +1,5 @@
 -- The items of an MPEG-1 system stream (ISO/IEC 11172-1, section 2.4.3): packs and packets, each
--- with any number of bytes 00 in front.
+-- with any number of bytes 00 before it.
 use Rattle.std.specs.Prelude.{◌≡◌, ℕ, ◌+◌, ◌*◌, ◌/◌, ◌≤◌, ◌==◌, ◌&&◌, Bool, true, false}
 use Rattle.std.specs.Prelude.{if◌then◌else◌, nat_le, List, [], ◌∷◌, ◌++◌, length, slice_index}
 use Rattle.std.specs.Prelude.{replicate, flat_map, Option, Some, None, IsSome, unwrap_or}
@@ -20,7 +20,7 @@ abbrev pub item_bytes : Item → List ℕ
 item_bytes (Pack zeros rest) = with_prefix zeros (186 ∷ rest)
 item_bytes (Packet zeros value high low content) = with_prefix zeros (value ∷ high ∷ low ∷ content)
 
--- the number of bytes in front of its prefix
+-- the number of bytes before its prefix
 abbrev pub zeros_of : Item → ℕ
 zeros_of (Pack zeros rest) = zeros
 zeros_of (Packet zeros value high low content) = zeros

@@ -68,8 +68,8 @@ pub record IsBadPacket (chosen : Option ℕ) (start : ℕ) (tail : List ℕ) (pl
       video_in (front ++ more) ≡ None
   pub place_is : place ≡ start + zeros
 
--- a front of an item, from its prefix on, that lacks a byte or more; the place is that of the
--- prefix
+-- the first bytes of an item, from its prefix on, without its last byte at least; the place is that
+-- of the prefix
 pub record IsTruncatedItem (chosen : Option ℕ) (start : ℕ) (tail : List ℕ) (place : ℕ) : Type 0
   where
     pub item : Item

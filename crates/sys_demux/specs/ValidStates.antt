@@ -15,8 +15,8 @@ least_rest Second = 2
 least_rest Stamp = 1
 least_rest (Rest count) = count
 
--- a header that isn't whole, and a packet that has bytes enough for it; an item that has bytes to
--- come
+-- a header that isn't complete, and a packet that has bytes enough for it; an item that has bytes
+-- to come
 abbrev pub is_sound : ParserState → Bool
 is_sound (Zeros _) = true
 is_sound Value = true

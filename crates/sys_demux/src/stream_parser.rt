@@ -101,6 +101,10 @@ impl Unwrapper {
     ///
     /// A fault comes as soon as the bytes show it, whatever follows them, and again in each later
     /// call. `Truncated` never comes. At most 2^40 bytes may be fed in all.
+    ///
+    /// # Errors
+    ///
+    /// [`SystemFault`] with its place in all the bytes that were fed; never `Truncated`.
     pub fn feed<'p>(&mut self, chunk: &'p [u8]) -> Result<Fed<'p>, SystemFault>
         requires some { 0 < length chunk.now }
         requires room { self.old.fed + length chunk.now ≤ 2 ^ 40 }
@@ -160,6 +164,11 @@ impl Unwrapper {
     /// why they are none.
     ///
     /// Another fault than `Truncated` comes only where [`Unwrapper::feed`] answered it.
+    ///
+    /// # Errors
+    ///
+    /// [`SystemFault`] with its place: one that [`Unwrapper::feed`] returned, or `Truncated` where
+    /// the stream ends inside an item.
     pub fn finish(&self) -> Result<(), SystemFault>
         ensures end { (seen video : List ℕ) → WasFed self.now seen video →
             MatchResult result (λ _. IsSystem seen video) (λ fault. IsBadStream seen fault) }

@@ -51,7 +51,7 @@ pub record IsCrossing (side : Side) (curve other : ℕ → ℕ) (sight : FunnelR
   pub others : IsChain (other_side side) other sight.other_reach sight.apex other_chain
   pub apart : KeepsApart side curve other sight
 
--- the front of the other chain, where the point stands outside of it
+-- the first point of the other chain, where the point is outside of that chain
 pub record IsCrossed (side : Side) (o : Point) (chain : List Point) (point corner : Point)
     : Type 0 where
   pub rest : List Point
@@ -67,12 +67,12 @@ abbrev pub FirstIsBetween : Point → List Point → Point → Type 0
 FirstIsBetween o [] point = Unit {0}
 FirstIsBetween o (first ∷ rest) point = (o.place ≤ first.place) × (first.place ≤ point.place)
 
--- the apex, the front of the other chain and the point are of a plan
+-- the apex, the first point of the other chain and the point are of a plan
 abbrev pub FirstFits : Point → List Point → Point → Type 0
 FirstFits o [] point = Unit {0}
 FirstFits o (first ∷ rest) point = AllFit o first point
 
--- The whole funnel, seen from one side: each chain goes up to its curve's reach, and the curves
+-- The entire funnel, seen from one side: each chain goes up to its curve's reach, and the curves
 -- stand apart, the one at its reach too.
 pub record IsFunnel (side : Side) (curve other : ℕ → ℕ) (sight : FunnelReach)
     (own_chain other_chain : List Point) : Type 0 where

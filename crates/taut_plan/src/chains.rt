@@ -34,6 +34,8 @@ pub(crate) fn join(
         + 1) apex chain.new) }
 {
     let point = point_at(curves, side, slot);
+    // The plan can bend only at points that stand out of their chain. One that the new point passes
+    // will never be a corner, so it is dropped for good.
     while let Some(last) = chain.last_link() {
         if !is_passed(side, last, point) {
             chain.push_link(Link::new(last.point, point))?;

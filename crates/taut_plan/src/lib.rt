@@ -1,5 +1,6 @@
 //! The planner: the taut line between two curves, which is the plan that sends the fewest bytes
-//! above any rate.
+//! above any rate (Salehi, Zhang, Kurose and Towsley 1998). It is found with the funnel of Lee and
+//! Preparata (1984).
 #![tactic(auto)]
 
 mod chains;

@@ -91,6 +91,8 @@ fn extend(
     if own.has_several() {
         return Ok(());
     }
+    // No straight line from the apex to the new point stays within the other chain: the plan bends
+    // at that chain's first corner, which becomes the apex.
     while let Some(corner) = crossing(side, path.apex, others, point) {
         others.pop_first();
         path.bend_at(corner)?;
@@ -115,10 +117,13 @@ fn taut_segments(alloc: Global, curves: &Curves) -> Result<Vec<Segment>, AllocEr
     );
     let mut lower = Queue::new(alloc);
     let mut upper = Queue::new(alloc);
+    // The funnel: the apex is the last known corner, and from it the two chains bound all straight
+    // lines that stay between the curves so far. Each slot narrows the funnel on both sides.
     for slot in 0..slots {
         extend(curves, Side::Lower, &mut path, &mut lower, &mut upper, slot)?;
         extend(curves, Side::Upper, &mut path, &mut upper, &mut lower, slot)?;
     }
+    // Both curves end at one point, and from the apex a straight line reaches it now.
     path.bend_at(point_at(curves, Side::Upper, slots - 1))?;
     Ok(path.segments)
 }

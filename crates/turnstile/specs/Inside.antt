@@ -1,4 +1,4 @@
--- How a pass is kept: its view rests in it, but while it has the turn.
+-- How a pass is kept: its view rests in it, except while it holds the lock.
 use Rattle.std.specs.Prelude.{◌≡◌, ℕ, Bool, true, false, List, [], ◌∷◌}
 use Rattle.turnstile.specs.declared.pass.Pass.TheInside.{Inside}
 use Rattle.turnstile.specs.declared.view.Stage.TheVariants.{Idle}

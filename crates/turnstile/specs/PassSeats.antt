@@ -1,4 +1,4 @@
--- A pass and its seat, while it rests and while it has the turn.
+-- A pass and its seat, while it rests and while it holds the lock.
 use Rattle.std.specs.Prelude.{◌≡◌, ℕ, Option, None, length, false}
 use Rattle.atomic_table.specs.Seated.{TableId}
 use Rattle.atomic_table.specs.declared.shared.Seat.{Seat}
@@ -26,7 +26,7 @@ pub record IsViewOf (number splits : ℕ) (v : View) : Type 0 where
   pub splits_is : v.splits ≡ splits
   pub own : v.mine ≡ entries_by v.number v.seen
 
--- the pass has the turn, the slot is empty, and so long was the list
+-- the pass holds the lock, the slot is empty, and so long was the list
 pub record IsTurnTaken {B : Type 0} (seat : Seat (Option B) View) (before : ℕ) : Type 0 where
   pub turn : IsTurn seat.me None
   pub before_is : before ≡ length seat.me.0.seen

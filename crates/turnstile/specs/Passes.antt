@@ -14,7 +14,7 @@ pub record TurnstileState : Type 0 where
   pub id : TableId
   pub terms : Terms
 
--- a pass: the turnstile that made it, whether it has the turn, its number, what stays of the kept
+-- a pass: the turnstile that made it, whether it holds the lock, its number, what stays of the kept
 -- value, the list as it has seen it, its own entries in it, how many passes were split from it, and
 -- what those that were joined to it had made
 pub record PassState : Type 0 where
@@ -76,7 +76,7 @@ abbrev pub MayLeave : List Entry → ℕ → List Entry → Type 0
 MayLeave seen maker list = (list ≡ seen)
     ⊎ ((e : Entry) × (list ≡ seen ++ e ∷ []) × (e.maker ≡ maker))
 
--- a turn: the pass as it was when it took it, and the value
+-- a guard: the pass as it was when it took the lock, and the value
 pub record TurnState (B : Type 0) : Type 0 where
   pub pass : PassState
   pub value : B

@@ -1,4 +1,4 @@
--- What each kind of step tells its pass.
+-- What each kind of step exposes to its pass.
 use Rattle.std.specs.Prelude.{◌≡◌, ◌≢◌, ℕ, ◌+◌, ◌%◌, ◌^◌, true, false, List, [], ◌∷◌, ◌++◌, length}
 use Rattle.std.specs.Prelude.{Option, Some, None, if◌then◌else◌, ltb}
 use mathlib.Core.List.{IsPrefix}
@@ -70,8 +70,8 @@ pub record Knows (v : View) : Type 0 where
   pub terms : v.told_terms ≡ v.terms
 
 module _ {B : Type 0} (entries : B → List Entry) (terms_of : B → Terms) where
-  -- the pass has the turn of its ticket, and the slot with the value, which begins with all that it
-  -- had seen
+  -- the pass holds the lock with its ticket, and the slot with the value, which begins with all
+  -- that it had seen
   pub record HasTaken (t : ℕ) (me next : Me (Option B) View) : Type 0 where
     pub value : B
     pub view : next.0 ≡ record me.0 { stage = Holds t; seen = entries value }
@@ -96,15 +96,15 @@ module _ {B : Type 0} where
   HasDrawn me n next = (t : ℕ) × (n ≡ t % 2 ^ 64) × (next.0 ≡ record me.0 { stage = Waits t })
       × (next.1 ≡ [])
 
-  -- it has given the slot back and the turn on
+  -- it has given the slot back and passed the lock on
   abbrev pub HasLeft : Me (Option B) View → ℕ → Me (Option B) View → Type 0
   HasLeft me n next = (next.0 ≡ record me.0 { stage = Idle }) × (next.1 ≡ [])
 
-  -- it has read a word, which leaves it as it is, and tells what it knows
+  -- it has read a word, which leaves it as it is, and exposes what it knows
   abbrev pub HasRead : Me (Option B) View → ℕ → Me (Option B) View → Type 0
   HasRead me n next = (next ≡ me) × Knows me.0
 
-  -- a pass that waits for the turn of its ticket
+  -- a pass that waits until its ticket is served
   pub record IsWaiting (me : Me (Option B) View) (ticket : ℕ) : Type 0 where
     pub number : ℕ
     pub stage : me.0.stage ≡ Waits number
@@ -112,7 +112,7 @@ module _ {B : Type 0} where
     pub left : me.0.spent ≡ false
     pub empty : me.1 ≡ []
 
-  -- a pass that has the turn, with this in the slot
+  -- a pass that holds the lock, with this in the slot
   pub record IsTurn (me : Me (Option B) View) (slot : Option B) : Type 0 where
     pub number : ℕ
     pub stage : me.0.stage ≡ Holds number
@@ -135,7 +135,7 @@ module _ {B : Type 0} (entries : B → List Entry) where
   HasCounted me n next = (next.0 ≡ (after_counting me).0) × (next.1 ≡ me.1)
 
 module _ {B : Type 0} (entries : B → List Entry) (terms_of : B → Terms) where
-  -- the pass has looked whose turn it is: where it is that of its ticket, it has the turn and the
+  -- the pass has read which ticket is served: where it is its own, it holds the lock and has the
   -- slot, and else nothing is changed
   abbrev pub HasLooked : Me (Option B) View → ℕ → Me (Option B) View → Type 0
   HasLooked me n next =

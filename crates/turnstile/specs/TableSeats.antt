@@ -6,7 +6,7 @@ use Rattle.atomic_table.specs.declared.shared.Seat.{Seat}
 use Rattle.turnstile.specs.declared.view.Stage.TheVariants.{Idle}
 use Rattle.turnstile.specs.declared.view.View.{View}
 
--- three words and one slot
+-- three atomic words and one slot
 pub record IsSized (id : TableId) : Type 0 where
   pub words : id.words ≡ 3
   pub slots : id.slots ≡ 1

@@ -1,5 +1,5 @@
--- The rule of the turn: what holds at each moment of the shared words, of the value and of what
--- each pass knows.
+-- The invariant of the lock: what is true at each moment of the shared atomic words, of the value
+-- and of what each pass knows.
 use Rattle.std.specs.Prelude.{◌≡◌, ◌≢◌, ◌⊎◌, ℕ, ◌+◌, ◌%◌, ◌^◌, ◌<◌, ◌≤◌, false, List, [], ◌∷◌}
 use Rattle.std.specs.Prelude.{length, Option, Some, if◌then◌else◌}
 use mathlib.Core.Option.{some, none}
@@ -42,7 +42,7 @@ IsTicket (Holds u) t = u ≡ t
 abbrev pub IsHolder : View → ℕ → Type 0
 IsHolder v t = v.stage ≡ Holds t
 
--- the tickets that are out stand from `served` up to `drawn`, and the turn is at `served`
+-- the tickets that are out stand from `served` up to `drawn`, and `served` holds the lock
 abbrev pub InTurn : ℕ → ℕ → Stage → Type 0
 InTurn served drawn Idle = Unit {0}
 InTurn served drawn (Waits t) = (served ≤ t) × (t < drawn)
@@ -54,7 +54,7 @@ pub record IsPast (log : List Entry) (count number : ℕ) (j : Joined) : Type 0 
   pub few : j.number ≤ count
   pub other : j.number ≢ number
 
--- what holds of a pass that isn't spent
+-- what is true for a pass that isn't spent
 pub record Fits (terms : Terms) (log : List Entry) (count served drawn : ℕ) (v : View)
     : Type 0 where
   pub terms_are : v.terms ≡ terms
@@ -69,7 +69,7 @@ pub record Fits (terms : Terms) (log : List Entry) (count served drawn : ℕ) (v
   pub others : v.number ≢ 0 → v.splits ≡ 0
   pub turn : InTurn served drawn v.stage
 
--- what holds of two of them
+-- what is true for two of them
 pub record Apart (v w : View) : Type 0 where
   pub numbers : v.number ≢ w.number
   pub tickets : (t : ℕ) → IsTicket v.stage t → IsTicket w.stage t → ⊥
@@ -83,7 +83,7 @@ pub record HasFirst (views : List View) : Type 0 where
   pub live : IsLive views place view
   pub number_is : view.number ≡ 0
 
--- the value is away with the one pass that has the turn
+-- the value is away with the one pass that holds the lock
 pub record IsAway {B : Type 0} (log : List Entry) (s : State (Option B) View) : Type 0 where
   pub home : s.homes ≡ none ∷ []
   pub place : ℕ
@@ -94,7 +94,7 @@ pub record IsAway {B : Type 0} (log : List Entry) (s : State (Option B) View) : 
   pub all : holder.seen ≡ log
 
 module _ {B : Type 0} (entries : B → List Entry) (terms_of : B → Terms) where
-  -- the value is at home and nobody has the turn
+  -- the value is in its slot and nobody holds the lock
   pub record IsHome (terms : Terms) (log : List Entry) (s : State (Option B) View) : Type 0 where
     pub value : B
     pub home : s.homes ≡ some (Some value) ∷ []

@@ -1,4 +1,4 @@
-//! How a seat takes the turn, and gives it back.
+//! How a pass waits for the lock and takes it.
 
 ghost use Rattle.std.specs.Prelude.{◌≡◌, ◌%◌, ◌^◌, ◌<◌, ◌++◌, [], ◌∷◌, Some, None, true, false};
 ghost use Rattle.turnstile.specs.TableSeats.{IsFree, IsSame, IsSeated};
@@ -19,7 +19,7 @@ use std::sync::Wait;
 /// How often the pass that is next looks before it sleeps.
 const SPINS: u32 = 64;
 
-/// Draws a ticket, waits for its turn and takes the value.
+/// Draws a ticket, waits until it is served and takes the value.
 pub(crate) fn take<B: Kept, R: Wait>(
     rt: &R,
     shared: &SharedTable<B>,
@@ -38,12 +38,13 @@ pub(crate) fn take<B: Kept, R: Wait>(
     let ticket = draw(shared, &mut place);
     wait(rt, shared, wakers.waker_of(ticket), &mut place, ticket);
     let slot = shared.exchange(&mut place, VALUE, None);
+    // by the invariant the value is in the slot until the pass whose ticket is served takes it
     let Some(value) = slot else { unreachable!() };
     Turn::begin(place, value)
 }
 
-/// Waits until it is the turn of the ticket, asleep at its bell. The pass that is next stays awake
-/// for a short time; one that has others before it sleeps at once, since one of them may need the
+/// Waits until the ticket is served, asleep at its bell. The pass that is next stays awake for a
+/// short time; one that has others before it sleeps at once, since one of them may need the
 /// processor that it runs on.
 fn wait<B: Kept, R: Wait>(
     rt: &R,
@@ -75,6 +76,7 @@ fn wait<B: Kept, R: Wait>(
                 key.wait(rt);
                 0
             }
+            // next in line: the lock is likely to be free before a sleep and a wake are over
             None if serving.wrapping_add(1) == ticket => {
                 hint::spin_loop();
                 (tries + 1).min(SPINS)

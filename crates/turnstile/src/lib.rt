@@ -1,4 +1,4 @@
-//! A turn by ticket: one caller at a time has the value that all share, in the order in which they
+//! A ticket lock: one caller at a time holds the value that all share, in the order in which they
 //! drew their tickets.
 #![tactic(auto)]
 

@@ -10,11 +10,12 @@ use atomic_table::Badge;
 use std::marker::Model;
 use std::mem;
 
-/// The right of one caller to take turns. Its number is the maker of the entries that it makes.
+/// The right of one caller to take the lock, as often as it needs it. Its number is the maker of
+/// the entries that it makes.
 ///
 /// Contracts see its turnstile, its number, the list as far as it has seen it, its own entries with
 /// their places, how many passes were split from it, and what those that were joined to it had
-/// made; and whether it has the turn.
+/// made; and whether it holds the lock.
 #[derive(Drop)]
 pub struct Pass {
     badge: Badge<View>,

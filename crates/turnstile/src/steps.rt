@@ -1,10 +1,10 @@
-//! Each atomic step of the turn, as a small function.
+//! Each atomic step of the lock, as a small function.
 //!
-//! There are eight kinds of step: a pass draws a ticket; it looks whose turn it is; it takes the
-//! value out of its slot or puts it back; it counts the entry that the value has more; it hands the
-//! turn on; a pass is split in two; two passes are joined; and after a split or a join a pass reads
-//! the word of the tickets. The last kind changes nothing: it exposes what the rule says of the
-//! pass.
+//! There are eight kinds of step: a pass draws a ticket; it reads which ticket is served; it takes
+//! the value out of its slot or puts it back; it counts the entry that the value has more; it
+//! passes the lock on; a pass is split in two; two passes are joined; and after a split or a join a
+//! pass reads the word of the tickets. The last kind changes nothing: it exposes what the rule says
+//! of the pass.
 
 ghost use Rattle.std.specs.Prelude.{◌≡◌, ◌++◌, [], ◌∷◌, Some, false, true};
 ghost use Rattle.admission.specs.declared.entries.Entry.{Entry};
@@ -27,7 +27,7 @@ impl<B> Play<Option<B>, View> for Draws {
     ghost then = { λ _. HasDrawn };
 }
 
-/// What a look at the ticket whose turn it is exposes.
+/// What reading the ticket that is served exposes.
 pub(crate) struct Looks<B> {
     marker: PhantomData<B>,
 }
@@ -45,7 +45,7 @@ impl<B: Kept> Play<Option<B>, View> for Counts<B> {
     ghost then = { λ _. HasCounted B.entries };
 }
 
-/// What giving the turn on exposes.
+/// What passing the lock on exposes.
 pub(crate) struct Leaves;
 
 impl<B> Play<Option<B>, View> for Leaves {
@@ -66,11 +66,12 @@ pub(crate) fn draw<B: Kept>(shared: &SharedTable<B>, place: &mut Place<B>) -> u6
     ensures same { IsSame place.old place.new }
     ensures drew { HasDrawn place.old.me result place.new.me }
 {
+    // one atomic step, so each caller has a ticket of its own and the tickets fix their order
     shared.fetch_add::<Draws>(place, TICKETS, 1)
 }
 
-/// Looks whose turn it is: where it is that of this pass's ticket, the pass has the turn and the
-/// slot.
+/// Reads which ticket is served. Where it is this pass's ticket, the pass holds the lock and has
+/// the slot.
 pub(crate) fn look<B: Kept>(shared: &SharedTable<B>, place: &mut Place<B>, ticket: u64) -> u64
     requires seat { IsSeated shared.now.table_id place.old }
     requires waits { IsWaiting place.old.me ticket }
@@ -93,7 +94,8 @@ pub(crate) fn count_entry<B: Kept>(shared: &SharedTable<B>, place: &mut Place<B>
     shared.fetch_add::<Counts<B>>(place, ENTRIES, 1);
 }
 
-/// Gives the slot back, and the turn to the next ticket. Answers the ticket whose turn it was.
+/// Gives the slot back, and passes the lock to the next ticket. Returns the ticket that was served
+/// until then.
 pub(crate) fn give_back<B: Kept>(shared: &SharedTable<B>, place: &mut Place<B>) -> u64
     requires seat { IsSeated shared.now.table_id place.old }
     requires turn { (value : B) × IsTurn place.old.me (Some value)
@@ -112,6 +114,7 @@ pub(crate) fn read_view<B: Kept>(shared: &SharedTable<B>, place: &mut Place<B>)
     ensures same { IsSame place.old place.new }
     ensures told { (place.new.me ≡ place.old.me) × Knows place.old.me.0 }
 {
+    // any access exposes the invariant; the number that it reads isn't needed
     shared.load::<Reads>(place, TICKETS);
 }
 

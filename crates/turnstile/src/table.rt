@@ -1,4 +1,5 @@
-//! The table of the turn: the words tickets, serving and entries, and one slot for the value.
+//! The table of the lock: the atomic words `TICKETS`, `SERVING` and `ENTRIES`, and one slot for the
+//! value.
 
 use crate::kept_value::Kept;
 use crate::view::View;
@@ -10,7 +11,7 @@ use std::snapshot::Snapshot;
 /// How many tickets were drawn, modulo 2^64.
 pub(crate) const TICKETS: usize = 0;
 
-/// The ticket whose turn it is, modulo 2^64.
+/// The ticket that is served, modulo 2^64.
 pub(crate) const SERVING: usize = 1;
 
 /// How many entries the list has, modulo 2^64.
@@ -19,7 +20,7 @@ pub(crate) const ENTRIES: usize = 2;
 /// The slot of the value.
 pub(crate) const VALUE: usize = 0;
 
-/// The rule of the turn: what is true of the words, the slot and the views at each moment.
+/// The invariant of the lock: what is true of the words, the slot and the views at each moment.
 pub(crate) struct Turns<B> {
     marker: PhantomData<B>,
 }

@@ -1,4 +1,4 @@
-//! Threads that take turns at a list of entries, and what each of them has seen of it.
+//! Threads that take the lock of a list of entries, and what each of them has seen of it.
 
 ghost use Rattle.std.specs.Prelude.{◌≡◌, ◌++◌, [], ◌∷◌, false};
 ghost use Rattle.turnstile.specs.Passes.{first_pass};
@@ -57,7 +57,7 @@ impl Log {
     }
 }
 
-/// A turn in which the pass adds an entry.
+/// Takes the lock once and adds an entry.
 fn take_turn<R: Wait + Abort>(rt: &R, turnstile: &Turnstile<Log>, pass: &mut Pass)
     requires own { pass.old.id ≡ turnstile.now.id }
     requires free { pass.old.has_turn ≡ false }
@@ -69,7 +69,7 @@ fn take_turn<R: Wait + Abort>(rt: &R, turnstile: &Turnstile<Log>, pass: &mut Pas
     turnstile.leave(pass, turn);
 }
 
-/// 50 turns.
+/// Takes the lock 50 times.
 fn take_turns<R: Wait + Abort>(rt: &R, turnstile: &Turnstile<Log>, mut pass: Pass) -> Pass
     requires own { pass.id ≡ turnstile.now.id }
     requires free { pass.has_turn ≡ false }
@@ -89,7 +89,7 @@ fn count_of(log: &Log, maker: u32) -> usize {
         .count()
 }
 
-/// Two passes beside each other take 50 turns each, after one of the first pass.
+/// Two passes side by side take the lock 50 times each, after the first pass took it once.
 fn run_two_passes<R: Threads + Wait + Abort + Sync>(
     rt: &R,
     turnstile: Turnstile<Log>,

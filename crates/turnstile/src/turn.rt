@@ -1,4 +1,4 @@
-//! A turn at the kept value.
+//! The guard of the lock, with the kept value.
 
 ghost use Rattle.std.specs.Prelude.{◌≡◌, Some, None};
 ghost use Rattle.std.specs.Borrow.{sem};
@@ -15,13 +15,14 @@ use crate::table::{Place, SharedTable, VALUE};
 use crate::wakers::Wakers;
 use std::marker::Model;
 
-/// The turn of a pass, with the value. It must be handed to `Turnstile::leave`.
+/// The guard of a pass that holds the lock, with the value. It must be handed to
+/// `Turnstile::leave`.
 ///
-/// Contracts see the pass as it was when it took the turn, and the value.
+/// Contracts see the pass as it was when it took the lock, and the value.
 pub struct Turn<B: Kept> {
     seat: Place<B>,
     value: B,
-    /// How many entries its list had when the turn was taken.
+    /// How many entries its list had when the lock was taken.
     before: u64,
 }
 
@@ -38,7 +39,7 @@ impl<B: Kept> Model for Turn<B> {
 }
 
 impl<B: Kept> Turn<B> {
-    /// The turn of a pass that has emptied the slot, with the value from it.
+    /// The guard of a pass that has emptied the slot, with the value from it.
     pub(crate) fn begin(seat: Place<B>, value: B) -> Turn<B>
         requires turn { IsTurn seat.me None }
         requires list { B.entries value ≡ seat.me.0.seen }
@@ -53,7 +54,7 @@ impl<B: Kept> Turn<B> {
         }
     }
 
-    /// Puts the value back, counts the entry that its list has more, gives the turn to the next
+    /// Puts the value back, counts the entry that its list has more, passes the lock to the next
     /// ticket and rings its bell.
     pub(crate) fn end(self, shared: &SharedTable<B>, wakers: &Wakers) -> Place<B>
         requires sized { IsSized shared.now.table_id }
@@ -75,10 +76,12 @@ impl<B: Kept> Turn<B> {
             before,
         } = self;
         let grown = value.count() != before;
+        // The value goes back before the next ticket is served: that pass takes it at once.
         let empty = shared.exchange(&mut seat, VALUE, Some(value));
         let None = empty else { unreachable!() };
         count_if_grown(shared, &mut seat, grown);
         let served = give_back(shared, &mut seat);
+        // Tickets that share this bell wake too. They see that they aren't served, and sleep again.
         wakers.waker_of(served.wrapping_add(1)).notify_all();
         seat
     }

@@ -21,7 +21,7 @@ use std::snapshot::Snapshot;
 use std::sync::Wait;
 use vod_base::NoMemory;
 
-/// A value that one pass at a time has. Passes take turns in the order in which they drew their
+/// A value that one pass at a time holds. Passes get the lock in the order in which they drew their
 /// tickets, and sleep while they wait.
 ///
 /// Contracts see which turnstile it is, and what stays of the value.
@@ -72,7 +72,7 @@ impl<B: Kept> Turnstile<B> {
         Ok((turnstile, Pass::at_rest(seat, 0, 0)))
     }
 
-    /// Waits for the turn of the pass, and takes the value.
+    /// Draws a ticket, waits until it is served, and takes the value.
     pub fn enter<R: Wait>(&self, rt: &R, pass: &mut Pass) -> Turn<B>
         requires own { pass.old.id ≡ self.now.id }
         requires free { pass.old.has_turn ≡ false }
@@ -88,8 +88,8 @@ impl<B: Kept> Turnstile<B> {
         take(rt, &self.table.shared, &self.wakers, place)
     }
 
-    /// Gives the value back, and the turn to the next ticket, whose pass it wakes. The list is as
-    /// it was at `enter`, or has one more entry, of this pass.
+    /// Gives the value back, and passes the lock to the next ticket, whose pass it wakes. The list
+    /// is as it was at `enter`, or has one more entry, of this pass.
     pub fn leave(&self, pass: &mut Pass, turn: Turn<B>)
         requires own { turn.pass.id ≡ self.now.id }
         requires away { pass.old.has_turn ≡ true }
@@ -124,7 +124,7 @@ impl<B: Kept> Turnstile<B> {
         Pass::at_rest(other, splits, 0)
     }
 
-    /// Takes in what another pass has seen and made. Passes of one turnstile have the same terms.
+    /// Takes in what another pass has seen and noted. Passes of one turnstile have the same terms.
     pub fn join(&self, pass: &mut Pass, mut other: Pass)
         requires own { pass.old.id ≡ self.now.id }
         requires free { pass.old.has_turn ≡ false }

@@ -6,7 +6,7 @@ use std::collections::LinkedList;
 use std::marker::Model;
 
 /// What stays of a kept value: the steps of the link's capacity and the most entries. No value of
-/// it is made.
+/// it exists at run time.
 pub struct Terms {
     /// The steps of the capacity.
     pub steps: LinkedList<CapStep>,
@@ -14,7 +14,7 @@ pub struct Terms {
     pub limit: u64,
 }
 
-/// An entry that a pass made, with its place. No value of it is made.
+/// An entry that a pass made, with its place. No value of it exists at run time.
 pub struct OwnEntry {
     place: u64,
     entry: Entry,
@@ -28,7 +28,7 @@ impl Model for OwnEntry {
     ghost view = { λ m. record { place = m.place; entry = m.entry } };
 }
 
-/// What a pass that was joined had made. No value of it is made.
+/// What a pass that was joined had made. No value of it exists at run time.
 pub struct Joined {
     /// Its number.
     pub number: u32,
@@ -36,17 +36,17 @@ pub struct Joined {
     pub mine: LinkedList<OwnEntry>,
 }
 
-/// Where a pass stands: it has no ticket, or waits for the turn of its ticket, or has that turn.
+/// Where a pass stands: it has no ticket, or waits until its ticket is served, or holds the lock.
 pub enum Stage {
     /// It has no ticket.
     Idle,
-    /// It waits for the turn of this ticket.
+    /// It waits until this ticket is served.
     Waits(u64),
-    /// It has the turn of this ticket.
+    /// It holds the lock with this ticket.
     Holds(u64),
 }
 
-/// What a pass knows. No value of it is made.
+/// What a pass knows. No value of it exists at run time.
 pub struct View {
     /// Whether it was joined, and is no more.
     pub spent: bool,

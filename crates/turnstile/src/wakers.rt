@@ -1,4 +1,4 @@
-//! Where passes sleep while they wait for their turns.
+//! Where passes sleep while they wait for the lock.
 
 use crossbeam_utils::sync::EventCount;
 use std::array;
@@ -6,8 +6,8 @@ use std::array;
 /// How many bells a turnstile has.
 const WAKERS: u64 = 64;
 
-/// The bells of a turnstile. Tickets that are equal modulo [`WAKERS`] share one, so a turn that is
-/// handed on wakes the pass whose ticket is next, and no other one while at most 64 wait.
+/// The bells of a turnstile. Tickets that are equal modulo [`WAKERS`] share one. So passing the
+/// lock on wakes the pass whose ticket is next, and no other one while at most 64 wait.
 #[derive(Drop)]
 pub(crate) struct Wakers {
     wakers: [EventCount; WAKERS as usize],

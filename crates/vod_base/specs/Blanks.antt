@@ -7,7 +7,7 @@ use Rattle.std.specs.List.{list_all}
 abbrev pub is_blank : ℕ → Bool
 is_blank c = c == 32 || c == 9
 
--- a text without the blanks in front
+-- a text without its leading blanks
 abbrev pub without_leading_blanks : List ℕ → List ℕ
 without_leading_blanks [] = []
 without_leading_blanks (c ∷ cs) = if is_blank c then without_leading_blanks cs else c ∷ cs

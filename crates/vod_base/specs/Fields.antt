@@ -1,4 +1,4 @@
--- A number and the label in front of it.
+-- A number and the label before it.
 use Rattle.std.specs.Prelude.{ℕ, List, ◌++◌, decimal}
 
 -- the label, and the number in decimal, without leading zeros

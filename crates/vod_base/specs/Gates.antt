@@ -1,4 +1,4 @@
--- What a gate tells: how it was opened, its parts, and of each part the connections that it gave
+-- What a gate exposes: how it was opened, its parts, and of each part the connections that it gave
 -- and that came back.
 use Rattle.std.specs.Prelude.{◌≡◌, ℕ, ◌+◌, ◌<◌, List, [], ◌∷◌, ◌++◌, length, slice_index_or}
 use Rattle.std.specs.Prelude.{slice_set, Option, Some, None, IsSome}
@@ -6,7 +6,7 @@ use Rattle.vod_base.specs.IoState.{one_more}
 use Rattle.vod_base.specs.Links.{IoEvent}
 use Rattle.vod_base.specs.declared.gates.Opening.{Opening}
 
--- a connection that was given back: its count of faults, and what it told
+-- a connection that was given back: its count of faults, and what it exposed
 pub record ReturnedConn : Type 0 where
   pub faults : ℕ
   pub told : Option (List IoEvent)
@@ -87,7 +87,7 @@ after_return conn c = record c { own = record c.own { back = c.own.back ++ (conn
 abbrev pub after_rejoin : Part → Content → Content
 after_rejoin part c = record c { parts = slice_set c.parts part.number (Some part) }
 
--- the same of what is told of both
+-- the same of what is exposed of both
 abbrev pub told_rejoined : Option Content → Option Content → Option Content
 told_rejoined (Some part) (Some c) = Some (after_rejoin part.own c)
 told_rejoined None (Some c) = None

@@ -1,4 +1,4 @@
--- What the outside holds and counts, as contracts see it.
+-- What the I/O objects hold and count, as contracts see it.
 use Rattle.std.specs.Prelude.{◌≡◌, ℕ, ◌+◌, ◌-◌, ◌<◌, ◌≤◌, ◌^◌, if◌then◌else◌, List, [], ◌∷◌, ◌++◌}
 use Rattle.std.specs.Prelude.{nat_lt, length, take, drop, Option, Some, None, unwrap_or}
 use Rattle.std.specs.Str.{bytes_eq}
@@ -27,20 +27,20 @@ file_named (file ∷ files) name = if bytes_eq file.name name
 abbrev pub bytes_named : List File → List ℕ → List ℕ
 bytes_named files name = unwrap_or (file_named files name) []
 
--- A read of `bytes` at `at` put n bytes in front of `into`: 0 only where `into` is empty or nothing
--- stands there.
+-- A read of `bytes` at `at` put n bytes at the start of `into`: 0 only where `into` is empty or
+-- nothing stands there.
 pub record IsRead (bytes : List ℕ) (at n : ℕ) (into : List ℕ) : Type 0 where
   pub within : n ≤ length into
   pub there : n ≤ length bytes - at
   pub front : take n into ≡ take n (drop at bytes)
   pub some : 0 < length into → at < length bytes → 0 < n
 
--- what was told, with these after it: bytes that were written, or what a connection did
+-- what was exposed, with these after it: bytes that were written, or what a connection did
 abbrev pub told_more : {A : Type 0} → Option (List A) → List A → Option (List A)
 told_more None these = None
 told_more (Some told) these = Some (told ++ these)
 
--- what was told, with the front of these bytes after it
+-- what was exposed, with a prefix of these bytes after it
 abbrev pub IsWrittenPrefix : Option (List ℕ) → Option (List ℕ) → List ℕ → Type 0
 IsWrittenPrefix old new bytes = (n : ℕ) × ((n ≤ length bytes) × (new ≡ told_more old (take n
     bytes)))

@@ -11,7 +11,7 @@ use Rattle.vod_base.specs.declared.part_links.TakeResult.{TakeResult}
 use Rattle.vod_base.specs.declared.part_links.TakeResult.TheVariants.{Nothing, Link, NoLink, Fault}
 use Rattle.vod_base.specs.declared.part_links.PartLinks.{PartLinks}
 
--- what a link in memory tells
+-- what a link in memory exposes
 abbrev pub returned_conn_of : LinkState → ReturnedConn
 returned_conn_of link = record { faults = link.faults; told = Some link.told }
 
@@ -21,7 +21,7 @@ last_of Link = Gave
 last_of NoLink = NoMore
 last_of Fault = Failed
 
--- a share as the part that it stands for
+-- a share as the part that it represents
 abbrev pub part_of : PartLinks → Part
 part_of share = record {
   number = share.number;
@@ -38,8 +38,8 @@ pub record PartScript : Type 0 where
 abbrev pub script_of : MemoryPart → PartScript
 script_of part = record { links = part.links.items; failing = part.failing.items }
 
--- what is told, the scripts of the parts that are still to be split off, the links that are still
--- to be given, whether it is a part, the failing calls, and the counts
+-- what is exposed, the scripts of the parts that are still to be split off, the links that are
+-- still to be given, whether it is a part, the failing calls, and the counts
 pub record GateState : Type 0 where
   pub content : Content
   pub scripts : List PartScript

@@ -11,7 +11,7 @@ use Rattle.vod_base.specs.declared.memory_links.LinkLogEntry.TheVariants.{Came, 
 
 -- what was done, all events that the link was made from, those that are left, how many were handed
 -- out, the most of them and of the bytes, the failing calls, and the counts. An event stands here
--- as what is done where it is heard whole
+-- as what is done where it is received in full
 pub record LinkState : Type 0 where
   pub told : List IoEvent
   pub script : List IoEvent
@@ -38,7 +38,7 @@ bytes_of (Bytes bytes) = bytes.items
 bytes_of (Slot slot) = []
 bytes_of End = []
 
--- a note as the doing that it stands for
+-- a note as the doing that it represents
 abbrev pub io_event_logged : List Event → LinkLogEntry → IoEvent
 io_event_logged events (Came event from to) =
     HeardBytes (slice_range (bytes_of (slice_index_or events event End)) from to)
@@ -46,7 +46,7 @@ io_event_logged events (Began slot) = HeardSlot slot
 io_event_logged events Ended = HeardEnd
 io_event_logged events (Gone byte) = Sent byte
 
--- an event as what is done where it is heard whole
+-- an event as what is done where it is received in full
 abbrev pub heard_whole : Event → IoEvent
 heard_whole (Bytes bytes) = HeardBytes bytes.items
 heard_whole (Slot slot) = HeardSlot slot
@@ -57,24 +57,24 @@ abbrev pub without_first_bytes : ℕ → List IoEvent → List IoEvent
 without_first_bytes count (HeardBytes bytes ∷ events) = HeardBytes (drop count bytes) ∷ events
 without_first_bytes count events = events
 
--- the events from a front on
+-- the events after a prefix
 abbrev pub left_from : List Event → EventCursor → List IoEvent
 left_from events front =
     without_first_bytes front.offset (drop front.event (map heard_whole events))
 
--- the same events without those of no bytes in front, which are passed over
+-- the same events without the first ones that have no bytes, which are passed over
 abbrev pub without_empty_front : List IoEvent → List IoEvent
 without_empty_front (HeardBytes [] ∷ events) = without_empty_front events
 without_empty_front events = events
 
--- of bytes as many as there is room for are handed out, a slot or an end whole; after the last
+-- of bytes as many as there is room for are handed out, a slot or an end entirely; after the last
 -- event the peer ends
 abbrev pub first_out : ℕ → List IoEvent → IoEvent
 first_out room [] = HeardEnd
 first_out room (HeardBytes bytes ∷ events) = HeardBytes (take room bytes)
 first_out room (event ∷ events) = event
 
--- the rest of the bytes stays in front, as no bytes where there is none; a slot or an end is gone
+-- the rest of the bytes stays first, as no bytes where there is none; a slot or an end is gone
 abbrev pub rest_left : ℕ → List IoEvent → List IoEvent
 rest_left room [] = []
 rest_left room (HeardBytes bytes ∷ events) = HeardBytes (drop room bytes) ∷ events

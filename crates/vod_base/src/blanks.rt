@@ -3,7 +3,7 @@
 ghost use Rattle.std.specs.Prelude.{◌≡◌, reverse};
 ghost use Rattle.vod_base.specs.Blanks.{is_blank, without_leading_blanks, without_blanks};
 
-/// Answers whether a byte is a blank: a space or a tab.
+/// Returns whether a byte is a blank: a space or a tab.
 pub fn is_blank(byte: u8) -> bool
     ensures { result ≡ is_blank byte }
 {

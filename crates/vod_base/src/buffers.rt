@@ -1,8 +1,9 @@
-//! A buffer's bytes, moved to its front.
+//! Moves bytes within a buffer to its start.
 
 ghost use Rattle.std.specs.Prelude.{◌≡◌, ◌≤◌, length, drop, vec_capacity};
 
-/// Moves the bytes from `start` on to the front, and drops all others. It takes no memory.
+/// Moves the bytes from `start` on to the start of the buffer, and drops all others. It takes no
+/// memory.
 pub fn move_to_front(bytes: &mut Vec<u8>, start: usize)
     requires { start ≤ length bytes.old.items }
     ensures items { bytes.new.items ≡ drop start bytes.old.items }

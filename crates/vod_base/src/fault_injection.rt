@@ -4,7 +4,7 @@ ghost use Rattle.std.specs.Prelude.{◌≡◌};
 ghost use Rattle.vod_base.specs.Memory.{call_fails};
 ghost use Rattle.vod_base.specs.IoState.{one_more};
 
-/// Counts a call, and answers whether its number is among those of the calls that must fail.
+/// Counts a call, and returns whether its number is among those of the calls that must fail.
 pub(crate) fn counted_call(calls: &mut u64, failing: &[u64]) -> bool
     ensures counted { calls.new ≡ one_more calls.old }
     ensures fails { result ≡ call_fails failing.now calls.old }

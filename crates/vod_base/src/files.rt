@@ -27,8 +27,8 @@ pub trait Library {
         ensures found { (held : List File) → files self.old ≡ Some held →
             IfOk result (λ size. size ≡ option_map length (file_named held name.now)) };
 
-    /// Reads bytes of the file, from the place `at` on, into the front of `into`. Returns how many:
-    /// 0 only if `into` is empty or the file has no byte at `at`.
+    /// Reads bytes of the file, from the place `at` on, and puts them at the start of `into`.
+    /// Returns how many: 0 only if `into` is empty or the file has no byte at `at`.
     ///
     /// # Errors
     ///

@@ -1,4 +1,4 @@
-//! Laws of the definitions, in the words of their subject.
+//! Laws of the definitions, in the terms of their subject.
 
 ghost use Rattle.std.specs.Prelude.{◌≡◌, ◌≢◌, ◌+◌, ◌-◌, ◌<◌, ◌^◌, ◌++◌, ◌∷◌, ◌↔◌, ℕ, true, List};
 ghost use Rattle.std.specs.Prelude.{All, Contains, None, Some, codes, decimal, length, replicate};

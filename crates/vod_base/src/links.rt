@@ -37,7 +37,7 @@ pub trait Link {
 
     ghost told: { Self → Option (List IoEvent) };
 
-    /// Waits for the next event. Bytes that arrived are in front of `into`.
+    /// Waits for the next event. Bytes that arrived are at the start of `into`.
     ///
     /// # Errors
     ///

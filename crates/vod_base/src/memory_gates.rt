@@ -86,6 +86,10 @@ impl MemoryGate {
     /// Returns a gate that isn't open, from what each of its parts gives, in the order of the
     /// splits. A part past the last of them gives no link. `failing` has the numbers, from 1, of
     /// the calls of `open` and `split` that fail. Room for 256 parts is reserved here.
+    ///
+    /// # Errors
+    ///
+    /// [`NoMemory`] where there is none for the 256 parts.
     pub fn new(
         alloc: Global,
         parts: Vec<MemoryPart>,
@@ -154,7 +158,7 @@ impl MemoryGate {
         }
     }
 
-    /// Counts a call, and answers whether it fails.
+    /// Counts a call, and returns whether it fails.
     fn call(&mut self) -> bool
         ensures fails { result ≡ call_fails self.old.failing self.old.calls }
         ensures called { self.new ≡

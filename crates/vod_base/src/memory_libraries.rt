@@ -56,7 +56,7 @@ impl MemoryLibrary {
         }
     }
 
-    /// Counts a call, and answers whether it fails.
+    /// Counts a call, and returns whether it fails.
     fn call(&mut self) -> bool
         ensures fails { result ≡ call_fails self.old.failing self.old.calls }
         ensures called { self.new ≡ library_called self.old }

@@ -41,7 +41,7 @@ pub(crate) enum LinkLogEntry {
 /// A connection in memory, which hands out given events and holds the bytes that are sent.
 ///
 /// Calls of `send` and of `next` fail at given numbers, from 1, and if the room would be passed.
-/// After the last event it answers that the peer closed its side.
+/// After the last event it returns that the peer closed its side.
 #[derive(Drop)]
 pub struct MemoryLink {
     events: Vec<Event>,

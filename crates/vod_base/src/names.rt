@@ -4,7 +4,7 @@ ghost use Rattle.std.specs.Prelude.{◌≡◌};
 ghost use Rattle.std.specs.List.{list_all};
 ghost use Rattle.vod_base.specs.Names.{good_name, is_name_byte};
 
-/// Answers whether `name` can name a film, trace, certificate or script: 1 to 64 bytes of letters,
+/// Returns whether `name` can name a film, trace, certificate or script: 1 to 64 bytes of letters,
 /// digits, `.`, `_` and `-`, the first not `.`.
 pub fn good_name(name: &[u8]) -> bool
     ensures { result ≡ good_name name.now }

@@ -27,6 +27,12 @@ pub enum NumberFault {
 }
 
 /// Reads a decimal number: one or more digits `0` to `9`, leading zeros allowed, up to 2^64 - 1.
+///
+/// # Errors
+///
+/// [`NumberFault::Empty`] where the text has no byte, [`NumberFault::NotDigit`] with the place of
+/// the first byte that is no digit, and [`NumberFault::TooLarge`] where all bytes are digits and
+/// the number is 2^64 or more.
 pub fn read_number(text: &[u8]) -> Result<u64, NumberFault>
     ensures number { result_ok result ≡ number_of text.now }
     ensures fault { IfErr result (IsNumberFault text.now) }

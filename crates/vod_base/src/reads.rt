@@ -3,7 +3,7 @@
 ghost use Rattle.std.specs.Prelude.{◌≡◌, ◌-◌, length, min};
 ghost use Rattle.vod_base.specs.IoState.{IsRead};
 
-/// Copies the bytes from `at` on to the front of `into`, as many as fit, and returns how many.
+/// Copies the bytes from `at` on to the start of `into`, as many as fit, and returns how many.
 pub(crate) fn copy_from(bytes: &[u8], at: u64, into: &mut [u8]) -> usize
     ensures read { IsRead bytes.now at result into.new }
     ensures most { result ≡ min (length into.new) (length bytes.now - at) }

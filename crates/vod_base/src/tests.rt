@@ -248,8 +248,8 @@ fn gives_and_gets_back(rt: HostRuntime) -> Result<(), Fail> {
     Ok(())
 }
 
-// A link that was heard before hears all of its events again once a part gives it, and a part that
-// is split off past the last script gives none.
+// A link whose events were read before returns all of them again once a part gives the link. A part
+// that is split off past the last script gives no link.
 #[test]
 fn gives_links_anew(rt: HostRuntime) -> Result<(), Fail> {
     let alloc = rt.alloc();

@@ -1,10 +1,10 @@
--- What is seen of the outside: the library, the streams and the gate.
+-- What is seen of the I/O objects: the library, the streams and the gate.
 use Rattle.std.specs.Prelude.{ℕ, List, Option}
 use Rattle.vod_base.specs.IoState.{File}
 use Rattle.vod_base.specs.Gates.{Content}
 use Rattle.conn.specs.Parts.{WorkerGate, worker_gate}
 
--- a library or a stream: how many faults it counted, and what it told of its content
+-- a library or a stream: how many faults it counted, and what it exposed of its content
 pub record IoState (T : Type 0) : Type 0 where
   pub faults : ℕ
   pub told : Option T

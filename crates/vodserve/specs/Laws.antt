@@ -1,4 +1,4 @@
--- What a server's run means to who stands outside: laws over its definition.
+-- What a server's run means to its users: laws over its definition.
 use Rattle.std.specs.Prelude.{◌≡◌, ◌≢◌, ◌⊎◌, ℕ, ◌+◌, ◌<◌, ⊤, List, All, length, map, slice_index_or}
 use Rattle.std.specs.Prelude.{Option, Some, None}
 use Rattle.std.specs.List.{Contains}
@@ -39,7 +39,7 @@ use Rattle.vodserve.specs.IoStates.{IoState, Streams, World}
 use Rattle.vodserve.specs.ServerOutput.{IsJournal, served_text}
 use Rattle.vodserve.specs.declared.run_results.Ended.{Ended}
 
--- the library tells what it holds, and refuses no film that the words name
+-- the library exposes what it holds, and refuses no film that the arguments name
 pub record IsServable (serving : ServeArgs) (told : Option (List File)) : Type 0 where
   pub held : List File
   pub told_is : told ≡ Some held
@@ -71,14 +71,13 @@ abbrev pub IsRefusedFor : Invocation → List File → List ℕ → InputError �
 IsRefusedFor (day_of run) held name fault = IsDayRefused run.script held name fault
 IsRefusedFor order held name fault = IsRead order name × IsInputRefused order held name fault
 
--- the library tells what it holds, and refuses no input of a command
+-- the library exposes what it holds, and refuses no input of a command
 pub record IsAccepted (order : Invocation) (told : Option (List File)) : Type 0 where
   pub held : List File
   pub told_is : told ≡ Some held
   pub accepted : (name : List ℕ) (fault : InputError) → IsRefusedFor order held name fault → ⊥
 
--- nothing that is asked for keeps a command from its work: what it reads is accepted. `watch` rests
--- on a server besides
+-- nothing that is asked for stops a command: what it reads is accepted. `watch` also needs a server
 abbrev pub HasValidInput : Invocation → Option (List File) → Type 0
 HasValidInput help told = Unit {0}
 HasValidInput version told = Unit {0}
@@ -99,23 +98,23 @@ IsResultOf told (serve_of serving) ended text =
 IsResultOf told (watch_of watching) ended text = ⊥
 IsResultOf told order ended text = IsOutputOf told order ended.status text ended.plan
 
--- a command did its work and wrote the whole of its text, and said nothing on the error stream
+-- a command did its work and wrote its entire text, and said nothing on the error stream
 pub record HasSucceeded (before after : World) (order : Invocation) (ended : Ended) : Type 0 where
   pub text : List ℕ
   pub work : IsResultOf before.store.told order ended text
   pub wrote : after.out.told ≡ told_more before.out.told text
   pub quiet : after.err ≡ before.err
 
--- a command whose inputs are accepted does its work: without a fault from outside it writes its
--- whole text, or ends with status 6 for want of memory
+-- a command whose inputs are accepted does its work: without an I/O fault it writes its entire
+-- text, or ends with status 6 because memory ran out
 abbrev pub ValidInputSucceeds : Type 0
 ValidInputSucceeds =
     (before after : World) (seed : List ℕ) (order : Invocation) (ended : Ended) →
     CommandSpec before after seed order ended → HasValidInput order before.store.told →
     HasNoFault before after → HasSucceeded before after order ended ⊎ (ended.status ≡ 6)
 
--- films that are accepted are served: without a fault from outside a server ends with status 0, or
--- with 6 for want of memory
+-- films that are accepted are served: without an I/O fault a server ends with status 0, or with 6
+-- because memory ran out
 abbrev pub AcceptedFilmsAreServed : Type 0
 AcceptedFilmsAreServed =
     (before after : World) (seed : List ℕ) (serving : ServeArgs) (ended : Ended) →
@@ -147,8 +146,8 @@ pub record HasReturnedAll (before after : World) (part : Part) : Type 0 where
   pub last : (part.last ≡ NoMore)
       ⊎ ((part.last ≡ Failed) × HasRisen before.gate.faults after.gate.faults)
 
--- a gate was opened once, as the words say, no connection was taken but from its parts, and
--- something holds of each worker's part
+-- a gate was opened once, as the arguments say, no connection was taken but from its parts, and
+-- something is true for each worker's part
 pub record IsGateOf (IsPart : Part → Type 0) (serving : ServeArgs) (before : Option Content)
     (gate : Content) : Type 0 where
   pub once : IsOpenedOnce before gate
@@ -173,7 +172,7 @@ NoConnectionIsLeftOut =
     after.gate.told ≡ Some gate →
     IsGateOf (λ part. part.last ≡ NoMore) serving before.gate.told gate
 
--- a receipt of a seat tells an entry of the journal: the one at its place, with its answer
+-- a receipt of a seat records an entry of the journal: the one at its place, with its answer
 abbrev pub IsReceiptIn : List Entry → ℕ → Receipt → Type 0
 IsReceiptIn journal seat (EntryReceipt place answer) =
     (place < length journal)
@@ -186,7 +185,7 @@ abbrev pub IsReportIn : List Entry → ConnReport → Type 0
 IsReportIn journal report =
     All (IsReceiptIn journal (report.worker + 1)) report.receipts.items
 
--- but for want of memory no report tells of an entry that the journal hasn't
+-- unless memory ran out no report names an entry that the journal hasn't
 abbrev pub ReportsMatchJournal : Type 0
 ReportsMatchJournal =
     (before after : World) (seed : List ℕ) (serving : ServeArgs) (ended : Ended) →
@@ -194,11 +193,12 @@ ReportsMatchJournal =
     All (IsReportIn ended.journal.items) ended.reports.items
 
 -- a connection of a worker, the one of that place among those of its part, from 0: its report has
--- the worker's number and the connection's words, it was served as the report tells and kept what
--- it promises, under the capacity and the most entries that the words say. What its seat, of the
--- number after the worker's own, made up to its end are the first of the journal's entries of that
--- seat, and all that the seat had seen by then is the journal's front. What its link told and its
--- report agree with the journal, as the words' capacity and most entries have it
+-- the worker's number and the connection's random words, it was served as the report says and
+-- satisfies what it promises, under the capacity and the most entries that the arguments say. What
+-- its seat, of the number after the worker's own, made up to its end are the first of the journal's
+-- entries of that seat, and all that the seat had seen by then is a prefix of the journal. What its
+-- link exposed and its report agree with the journal, as the arguments' capacity and most entries
+-- have it
 pub record IsConnectionCorrect (work : ServerRun) (worker place : ℕ) (returned : ReturnedConn)
     (report : ConnReport) : Type 0 where
   pub worker_is : report.worker ≡ worker
@@ -213,7 +213,7 @@ pub record IsConnectionCorrect (work : ServerRun) (worker place : ℕ) (returned
       (terms_for work.serving worker) work.journal
 
 -- each connection of a part was served: it has the report at its place, and the entries that the
--- reports tell are those that the journal has of the worker's seat, in order. Among these each play
+-- reports list are those that the journal has of the worker's seat, in order. Among these each play
 -- that was admitted is halted once, before the next one is admitted
 pub record IsServedPart (work : ServerRun) (worker : ℕ) (part : Part) (reports : List ConnReport)
     : Type 0 where

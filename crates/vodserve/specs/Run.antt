@@ -1,9 +1,7 @@
--- What a run of the program did: it carried out what the words ask for, or it said what kept it
--- from that. `RunSpec`, at the end, is what `run` promises, and `CommandSpec`, before it, has a
--- definition for
--- each command: `PrintSpec` where a text is printed at the end, `DaySpec`, `FairSpec`, `WatchSpec`
--- and
--- `ServeSpec`. Above them stands what they are made of.
+-- What a run of the program did: it carried out what the arguments ask for, or it printed the error
+-- that prevented that. `RunSpec`, at the end, is what `run` promises, and `CommandSpec`, before it,
+-- has a definition for each command: `PrintSpec` where a text is printed at the end, `DaySpec`,
+-- `FairSpec`, `WatchSpec` and `ServeSpec`. Above them stands what they are made of.
 use Rattle.std.specs.Prelude.{◌≡◌, ℕ, ◌≤◌, ◌<◌, ◌^◌, Bool, List, [], length, Option, Some, None}
 use Rattle.std.specs.Prelude.{Result, Ok, Err, IfSome, ◌⊎◌}
 use Rattle.vod_base.specs.IoState.{File, HasRisen, told_more, IsWrittenPrefix}
@@ -62,8 +60,8 @@ use Rattle.offline_commands.specs.OfflineCommands.{IfTold, IsOutputOf, IsRead, I
 use Rattle.offline_commands.specs.declared.command_output.CommandOutput.{CommandOutput}
 use Rattle.vodserve.specs.declared.run_results.Ended.{Ended}
 
--- a trouble's status, and its line on the error stream, or after a fault there a front of it; the
--- trouble is one whose line tells its cause
+-- an error's status, and its line on the error stream, or after a fault there a prefix of it; the
+-- error is one whose line gives its cause
 pub record FailsWith (err err' : IoState (List ℕ)) (error : CliError) (ended : Ended) : Type 0 where
   pub status : ended.status ≡ status_of error
   pub may : IsPrintableError error
@@ -71,14 +69,14 @@ pub record FailsWith (err err' : IoState (List ℕ)) (error : CliError) (ended :
   pub whole : Bool
   pub said : IsTextWritten err.faults err'.faults err.told err'.told (error_text error) whole
 
--- all was done, and its whole text written
+-- all was done, and its entire text written
 pub record HasPrintedAll (before after : World) (order : Invocation) (ended : Ended) : Type 0 where
   pub text : List ℕ
   pub done : IsOutputOf before.store.told order ended.status text ended.plan
   pub wrote : after.out.told ≡ told_more before.out.told text
   pub quiet : after.err ≡ before.err
 
--- all was done, but a fault left only a front of its text written
+-- all was done, but a fault left only a prefix of its text written
 pub record HasPrintedPrefix (before after : World) (order : Invocation) : Type 0 where
   pub status : ℕ
   pub text : List ℕ
@@ -87,8 +85,8 @@ pub record HasPrintedPrefix (before after : World) (order : Invocation) : Type 0
   pub risen : HasRisen before.out.faults after.out.faults
   pub front : IsWrittenPrefix before.out.told after.out.told text
 
--- a text was written whole, and status and plan are these; or a fault left a front of it, and was
--- said
+-- a text was written completely, and status and plan are these; or a fault left a prefix of it, and
+-- was said
 abbrev pub IsWritten : Streams → List ℕ → ℕ → Option (List Segment) → Ended → Type 0
 IsWritten s text status plan ended =
     ((ended.status ≡ status) × (ended.plan ≡ plan)
@@ -96,7 +94,7 @@ IsWritten s text status plan ended =
     ⊎ (HasRisen s.out.faults s.out_after.faults × IsWrittenPrefix s.out.told s.out_after.told text
     × FailsWith s.err s.err_after SinkFault ended)
 
--- the text of what was done was written; or a trouble that kept from it was said alone
+-- the text of what was done was written; or only the error that prevented it was printed
 abbrev pub PrintResult : Streams → Result CommandOutput CliError → Ended → Type 0
 PrintResult s (Ok done) ended = IsWritten s done.text.items done.status done.plan ended
 PrintResult s (Err error) ended = (s.out_after ≡ s.out) × FailsWith s.err s.err_after error ended
@@ -107,7 +105,7 @@ abbrev pub IsReadInputError : Invocation → IoState (List File) → IoState (Li
 IsReadInputError order store store' =
     IsReadError (IsRead order) (IsInputRefused order) store.told store.faults store'.faults
 
--- what a trouble comes from, and what it leaves of the output: before the text was made nothing was
+-- what an error comes from, and what it leaves of the output: before the text was made nothing was
 -- written
 abbrev pub IsCause : World → World → Invocation → CliError → Type 0
 IsCause before after order (Refused name fault) =
@@ -118,7 +116,7 @@ IsCause before after order SinkFault = HasPrintedPrefix before after order
 IsCause before after order NoMemory = after.out ≡ before.out
 IsCause before after order _ = ⊥
 
--- all was done and its text written; or a trouble kept from that
+-- all was done and its text written; or an error prevented that
 abbrev pub IsPrintedOrFailed : World → World → Invocation → Ended → Type 0
 IsPrintedOrFailed before after order ended =
     HasPrintedAll before after order ended
@@ -135,7 +133,7 @@ pub record PrintSpec (before after : World) (order : Invocation) (ended : Ended)
   pub nothing : HasServedNothing ended
   pub out : IsPrintedOrFailed before after order ended
 
--- a server's end: its text was written whole; or what went wrong was said
+-- a server's end: its text was written completely; or what went wrong was said
 abbrev pub Ends : Streams → List ℕ → PartEnd → Ended → Type 0
 Ends s text end ended =
     (IsPrinted s.out s.out_after text end (Ok tt)
@@ -145,8 +143,8 @@ Ends s text end ended =
     × FailsWith s.err s.err_after error ended))
 
 -- a server that served: the films as they were loaded, the journal, what the workers did over the
--- one opening of the gate, and the text that tells of it, whose counts are numbers of 64 bits;
--- where a worker ended by a fault of the gate, the gate counted one
+-- one opening of the gate, and the text that reports it, whose counts are numbers of 64 bits; where
+-- a worker ended by a fault of the gate, the gate counted one
 pub record HasServed (before after : World) (seed : List ℕ) (serving : ServeArgs) (ended : Ended)
     : Type 0 where
   pub films : List Stored
@@ -172,7 +170,7 @@ ServeSpec before after seed serving ended =
     ended))
     ⊎ HasServed before after seed serving ended
 
--- words without meaning: the line alone
+-- arguments without meaning: only the error line
 abbrev pub IsUsage : World → World → Ended → Type 0
 IsUsage before after ended =
     (after.store ≡ before.store) × (after.out ≡ before.out) × (after.gate ≡ before.gate)
@@ -210,7 +208,7 @@ pub record HasRunScript (store : IoState (List File)) (streams : Streams) (run :
   pub ran : HasRun streams run.capacity
       (IsDay (link_of run.capacity run.journal run.slot sources) script.lines.items) ended
 
--- a script was run; or an input kept from that, or want of memory
+-- a script was run; or an input prevented that, or memory ran out
 abbrev pub DaySpec : IoState (List File) → IoState (List File) → Streams → ScriptRun → Ended → Type
     0
 DaySpec store store' streams run ended =
@@ -219,18 +217,18 @@ DaySpec store store' streams run ended =
     (IsDayRefused run.script) store.told store.faults store'.faults error) ended
     ⊎ HasRunScript store streams run ended
 
--- drawn plays were run; or memory was wanting
+-- drawn plays were run; or memory ran out
 abbrev pub FairSpec : Streams → FairRun → Ended → Type 0
 FairSpec streams run ended =
     IsDayFailed streams (λ error. error ≡ NoMemory) ended
     ⊎ HasRun streams run.capacity (IsFair run.capacity run.seed run.plays) ended
 
--- a gate was opened for a client as the words say
+-- a gate was opened for a client as the arguments say
 abbrev pub IsOpenFor : WatchArgs → WorkerGate → Type 0
 IsOpenFor watching gate = IsOpenAs (opening_at watching.port watching.planning.slot) gate.told
 
--- what keeps a client from a film: no connection at the port; want of memory, and then the gate is
--- as it was; or the gate, which counted a fault and gave no connection
+-- what prevents a client from watching a film: no connection at the port; out of memory, and then
+-- the gate is as it was; or the gate, which counted a fault and gave no connection
 abbrev pub IsWatchError : WatchArgs → WorkerGate → WorkerGate → CliError → Type 0
 IsWatchError watching gate gate' (Refused name NoConnection) =
     (name.now ≡ watching.film) × IsOpenFor watching gate' × HasPart gate'.told idle_part
@@ -246,7 +244,7 @@ IsRefusalOf film fault (Refused name refusal) = (name.now ≡ film) × (refusal 
 IsRefusalOf film fault _ = ⊥
 
 -- what the meter of the client's buffer read, in numbers of 64 bits, was said, or after a fault
--- there a front of it
+-- there a prefix of it
 pub record PrintsWatched (err err' : IoState (List ℕ)) (watched : Watched) (ended : Ended) : Type 0
   where
     pub status : ended.status ≡ 0
@@ -264,8 +262,8 @@ WatchEndSpec err err' film WatchLinkFault ended = FailsWith err err' LinkFault e
 WatchEndSpec err err' film WatchSinkFault ended = FailsWith err err' SinkFault ended
 WatchEndSpec err err' film WatchNoMemory ended = FailsWith err err' NoMemory ended
 
--- a client that watched a film over the one connection of a gate that was opened once, as the words
--- say
+-- a client that watched a film over the one connection of a gate that was opened once, as the
+-- arguments say
 pub record HasWatchedFilm (streams : Streams) (gate gate' : WorkerGate) (watching : WatchArgs)
     (ended : Ended) : Type 0 where
   pub wish : Wish
@@ -308,7 +306,7 @@ CommandSpec before after seed (watch_of watching) ended =
     × WatchSpec (streams_of before after) before.gate after.gate watching ended
 CommandSpec before after seed (serve_of serving) ended = ServeSpec before after seed serving ended
 
--- the library is as it was, and what the words ask for was done, if they mean something
+-- the library is as it was, and what the arguments ask for was done, if they mean something
 pub record RunSpec (before after : World) (seed : List ℕ) (asked : Option Invocation) (ended :
     Ended)
     : Type 0 where

@@ -42,7 +42,7 @@ served_text entries connections =
 
 -- the journal of a closed server: a legal history over its capacity, in which each play is halted
 -- by its own maker, with entries of the seats 1 up to that of the last worker alone; its entries,
--- with one for the halt of each open play, are no more than the words allow
+-- with one for the halt of each open play, are no more than the arguments allow
 pub record IsJournal (serving : ServeArgs) (entries : List Entry) : Type 0 where
   pub legal : IsLegal serving.capacity entries
   pub few : places_taken entries ≤ serving.journal
@@ -68,14 +68,14 @@ pub record IsFirstRefused (names : List (List ℕ)) (held : List File) (name : L
   pub accepted : All (MayBeServed held) before
   pub refused : IsServedFilmRefused held name fault
 
--- the first film that is refused, in the order of the words, or a fault of the library
+-- the first film that is refused, in the order of the arguments, or a fault of the library
 abbrev pub IsFilmError : ServeArgs → IoState (List File) → IoState (List File) → CliError → Type 0
 IsFilmError serving store store' =
     IsReadError (Contains serving.films) (IsFirstRefused serving.films) store.told store.faults
     store'.faults
 
--- what keeps a server from its work: a film that is refused, or the library, and then the gate is
--- as it was; want of memory; or the gate, which counted a fault. No part of the gate gave a
+-- what prevents a server from serving: a film that is refused, or the library, and then the gate is
+-- as it was; out of memory; or the gate, which counted a fault. No part of the gate gave a
 -- connection
 abbrev pub IsServeError : ServeArgs → IoState (List File) → IoState (List File) → WorkerGate →
     WorkerGate →
@@ -99,9 +99,9 @@ IsNewlyOpen opening told =
 abbrev pub IsWordNamed : List ℕ → List ℕ → Type 0
 IsWordNamed word name = setting_value (codes "film") word ≡ Some name
 
--- the text was written whole and each part of the gate gave all its connections; or what went
--- wrong: want of memory left a front of it; where no worker lacked memory a fault of the output,
--- which was counted, left a front of it; else a part of the gate failed
+-- the text was written completely and each part of the gate gave all its connections; or what went
+-- wrong: out of memory left a prefix of it; where no worker ran out of memory a fault of the
+-- output, which was counted, left a prefix of it; else a part of the gate failed
 abbrev pub IsPrinted : IoState (List ℕ) → IoState (List ℕ) → List ℕ → PartEnd →
     Result (Unit {0}) CliError → Type 0
 IsPrinted out out' text end (Ok done) =

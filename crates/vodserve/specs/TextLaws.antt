@@ -1,4 +1,4 @@
--- What a reader of the output of a server or a client can tell from it.
+-- What a reader of the output of a server or a client can learn from it.
 use Rattle.std.specs.Prelude.{ℕ, ◌≡◌, ◌≢◌, List, ◌∷◌, ◌++◌, All}
 use Rattle.std.specs.Prelude.{codes, length}
 use Rattle.rtsp_client.specs.Meters.{count_over, count_under, most_waiting}
@@ -6,9 +6,10 @@ use Rattle.rtsp_client.specs.ClientHistory.{History, frames, payloads, reports, 
 use Rattle.rtsp_client.specs.declared.watch_request.Wish.{Wish}
 use Rattle.offline_commands.specs.TextLaws.{GivesOnce}
 
--- What a line tells of a client's play: the pictures that came whole, the film's bytes that were
+-- What a line gives of a client's play: the pictures that came complete, the film's bytes that were
 -- handed on, the frames and reports that came; the most bytes that waited to be played, at how many
--- slots more waited than the buffer holds, and at how many a picture lacked that was to be played.
+-- slots more waited than the buffer holds, and at how many a picture was missing that was to be
+-- played.
 pub record TellsPlay (wish : Wish) (history : History) (line : List ℕ) : Type 0 where
   pub pictures_told : GivesOnce line (codes "units") (length (sizes history))
   pub bytes_told : GivesOnce line (codes "bytes") (length (payloads history))
@@ -24,7 +25,7 @@ pub record IsLastLine (text line : List ℕ) : Type 0 where
   pub text_is : text ≡ (front ++ 10 ∷ line) ++ codes "\n"
   pub one_line : All (λ b. b ≢ 10) line
 
--- the last line of a server's text tells how many connections were served, and how many entries its
+-- the last line of a server's text gives how many connections were served, and how many entries its
 -- journal has
 pub record TellsServed (connections entries : ℕ) (text : List ℕ) : Type 0 where
   pub line : List ℕ

@@ -40,7 +40,7 @@ refusal_of FramingOf = Framing
 refusal_of (EndedEarlyOf pictures) = EndedEarly pictures
 refusal_of TurnsSpentOf = TurnsSpent
 
--- what the words wish for
+-- what the arguments ask to watch
 pub record IsWishOf (watching : WatchArgs) (wish : Wish) : Type 0 where
   pub name : string_bytes wish.name ≡ watching.film
   pub port : wish.port ≡ watching.port

@@ -22,7 +22,7 @@ use Rattle.cli_args.specs.Invocations.{ServeArgs}
 use Rattle.inputs.specs.LoadErrors.{IsServedFilmRefused, IsNotRefused}
 use Rattle.inputs.specs.ChunkScans.{HoldsVideo}
 
--- how the words open the gate
+-- how the arguments open the gate
 abbrev pub opening_of : ServeArgs → Opening
 opening_of serving =
     record {
@@ -32,7 +32,7 @@ opening_of serving =
       slot_units = serving.planning.slot;
     }
 
--- what the words let clients settle by themselves, and the slot length
+-- what the arguments let clients settle by themselves, and the slot length
 abbrev pub settings_of : ServeArgs → Settings
 settings_of serving =
     record {
@@ -41,8 +41,8 @@ settings_of serving =
       startup = serving.planning.delay;
     }
 
--- what a worker's seat is asked under: the capacity and the most entries that the words say, and
--- the number after the worker's own
+-- what a worker's seat is asked under: the capacity and the most entries that the arguments say,
+-- and the number after the worker's own
 abbrev pub terms_for : ServeArgs → ℕ → Terms
 terms_for serving worker =
     record { steps = serving.capacity; limit = serving.journal; maker = worker + 1 }
@@ -89,13 +89,13 @@ pub record HasTooFewParts (count : ℕ) (gate : Content) : Type 0 where
 abbrev pub HasParts : ℕ → Option Content → Type 0
 HasParts count told = IfSome told (λ content. length content.parts ≡ count)
 
--- a part is back in its gate as it was told last
+-- a part is back in its gate as it was exposed last
 abbrev pub IsPartBack : ℕ → Option Content → Content → Type 0
 IsPartBack number told gate = (part : Content)
     × ((told ≡ Some part) × (slice_index_or gate.parts number None ≡ Some part.own))
 
--- what the workers of a server serve: films, as the words say, with identities drawn from a seed;
--- and the journal that they make
+-- what the workers of a server serve: films, as the arguments say, with identities drawn from a
+-- seed; and the journal that they make
 pub record ServerRun : Type 0 where
   pub films : List Stored
   pub serving : ServeArgs
@@ -111,9 +111,9 @@ abbrev pub duty_of : ServerRun → ℕ → WorkerInput
 duty_of work worker = worker_input work.films (settings_of work.serving) work.seed worker
 
 -- A worker served its part of the gate, of which no connection had been taken before, from the seat
--- of the number after its own, under the capacity and the most entries that the words say. The
+-- of the number after its own, under the capacity and the most entries that the arguments say. The
 -- journal's entries of that seat are those that the worker made, and all that it saw of the journal
--- is its front. The part is back in the gate, and a fault of it was counted there.
+-- is a prefix of it. The part is back in the gate, and a fault of it was counted there.
 pub record IsWorkerResult (work : ServerRun) (gate gate' : WorkerGate) (worker : ℕ) (report :
     PartReport)
     : Type 0 where
@@ -142,7 +142,7 @@ abbrev pub all_reports : List PartReport → List ConnReport
 all_reports [] = []
 all_reports (part ∷ parts) = part.reports.items ++ all_reports parts
 
--- the worse of two ends: want of memory before a fault of the gate
+-- the worse of two ends: out of memory before a fault of the gate
 pub record IsWorse (one other end : PartEnd) : Type 0 where
   pub fault : end ≡ GateFault → (one ≡ GateFault) ⊎ (other ≡ GateFault)
   pub taken : end ≡ AllTaken → (one ≡ AllTaken) × (other ≡ AllTaken)
@@ -155,7 +155,7 @@ pub record HasOne (end : PartEnd) (parts : List PartReport) : Type 0 where
   pub ended : (none : PartReport) → (slice_index_or parts worker none).end ≡ end
 
 -- how workers ended in all, and what is left of their connections: all have taken all; or one part
--- failed; without want of memory no worker lacked it, and all reports are left
+-- failed; unless memory ran out no worker ran out of it, and all reports are left
 pub record AreLeft (parts : List PartReport) (end : PartEnd) (reports : List ConnReport)
     : Type 0 where
   pub taken : end ≡ AllTaken → All (λ part. part.end ≡ AllTaken) parts
@@ -163,8 +163,8 @@ pub record AreLeft (parts : List PartReport) (end : PartEnd) (reports : List Con
   pub memory : (end ≡ NoMemory) ⊎ All (λ part. part.end ≢ NoMemory) parts
   pub whole : (end ≡ NoMemory) ⊎ (reports ≡ all_reports parts)
 
--- The workers of a server: as many as the words say, each over a part of a gate that was opened as
--- they say, and what is left of them.
+-- The workers of a server: as many as the arguments say, each over a part of a gate that was opened
+-- as they say, and what is left of them.
 pub record IsWorkersResult (work : ServerRun) (gate gate' : WorkerGate) (end : PartEnd)
     (reports : List ConnReport) : Type 0 where
   pub parts : List PartReport

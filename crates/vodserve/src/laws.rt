@@ -28,7 +28,8 @@ pub fn law_accepted_films_are_served()
 {}
 
 /// A law: where the workers ran, the gate was opened as the arguments say, and each part of it got
-/// back every connection that it gave. With status 0 each part gave connections until it had no more.
+/// back every connection that it gave. With status 0 each part gave connections until it had no
+/// more.
 pub fn law_every_connection_is_returned()
     ensures each_back { EachConnectionIsReturned }
     ensures none_out { NoConnectionIsLeftOut }

@@ -16,9 +16,9 @@ use vod_base::Sink;
 /// How a run ended.
 #[derive(Debug, Drop)]
 pub struct Ended {
-    /// The exit status: 0 done, 1 a certificate was refused, 2 the arguments mean nothing, 3 an input
-    /// is refused, 4 the library failed, 5 the output failed, 6 out of memory, 7 the gate failed,
-    /// 8 the link to a server failed.
+    /// The exit status: 0 done, 1 a certificate was refused, 2 the arguments mean nothing, 3 an
+    /// input is refused, 4 the library failed, 5 the output failed, 6 out of memory, 7 the gate
+    /// failed, 8 the link to a server failed.
     pub status: u8,
     /// The plan, for `plan` with status 0.
     pub plan: Option<Plan>,
@@ -57,7 +57,7 @@ pub(crate) fn end_with<E: Sink>(alloc: Global, err: &mut E, error: CliError<'_>)
     Ended::with_status(alloc, status)
 }
 
-/// Writes the text of what was done, or says what kept from it.
+/// Writes the text of what was done, or the error that prevented it.
 pub(crate) fn print<O: Sink, E: Sink>(
     alloc: Global,
     out: &mut O,

@@ -159,7 +159,7 @@ where
     Ok(Closed { book, reports, end })
 }
 
-/// Loads the film that a word names, if it names one.
+/// Loads the film that an argument names, if it names one.
 fn add_film<'a, L: Library>(
     alloc: Global,
     library: &mut L,

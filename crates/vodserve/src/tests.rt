@@ -147,7 +147,7 @@ fails err 1
 3 
 ";
 
-/// What is made from a number, and the texts of the program itself.
+/// What is generated from a number, and the texts of the program itself.
 const MADE: &str = "\
 > make kind=trace seed=1 pictures=24
 keeps once
@@ -183,7 +183,7 @@ fn plans_and_checks_traces(rt: HostRuntime) -> Result<(), Fail> {
     passes(&rt, rt.alloc(), PLANS)
 }
 
-/// Plays a script in which these words mean nothing.
+/// Plays a script in which these arguments mean nothing.
 fn mean_nothing<R: Threads + Wait + Sync + Abort>(
     rt: &R,
     alloc: Global,

@@ -106,7 +106,7 @@ fn write_watched<E: Sink>(err: &mut E, watched: Watched) -> Result<(), SinkFault
     err.write_all(b"\n")
 }
 
-/// Watches over the first connection of a part, or answers None where it gives none.
+/// Watches over the first connection of a part, or returns None where it gives none.
 fn watch_part<O: Sink, G: Gate>(
     alloc: Global,
     out: &mut O,
@@ -133,8 +133,8 @@ fn watch_part<O: Sink, G: Gate>(
     Ok(Some(end))
 }
 
-/// Opens the gate as the arguments say, and watches over the connection that it gives, or answers None
-/// where it gives none.
+/// Opens the gate as the arguments say, and watches over the connection that it gives, or returns
+/// None where it gives none.
 fn watch_gate<O: Sink, G: Gate + Drop>(
     alloc: Global,
     out: &mut O,
@@ -178,7 +178,7 @@ fn end_with_meter<E: Sink>(alloc: Global, err: &mut E, watched: Watched) -> Ende
     Ended::with_status(alloc, 0)
 }
 
-/// Ends a watching: says what the meter read, or what kept from the film's end.
+/// Ends a watching: prints what the meter read, or the error that came before the film's end.
 fn end_watch<E: Sink>(alloc: Global, err: &mut E, film: &str, end: WatchEnd) -> Ended
     requires { good_name film.now ≡ true }
     ensures nothing { HasServedNothing result }

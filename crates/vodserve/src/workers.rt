@@ -122,7 +122,7 @@ where
 }
 
 /// Joins the workers' seats and parts, collects their reports in the order of the workers, and
-/// answers the worst of their ends, or out of memory where there was none for the reports.
+/// returns the worst of their ends, or out of memory where there was none for the reports.
 pub(crate) fn join_workers<G: Gate + Drop>(
     station: &Station,
     seat: &mut Seat,
@@ -194,7 +194,7 @@ fn worse_end(one: PartEnd, other: PartEnd) -> PartEnd
     }
 }
 
-/// Appends a worker's reports, and answers the worse of its end and of another, or out of memory
+/// Appends a worker's reports, and returns the worse of its end and of another, or out of memory
 /// where there was none for the reports.
 fn add_reports(end: PartEnd, report: PartReport, reports: &mut Vec<ConnReport>) -> PartEnd
     ensures left { (parts : List PartReport) → AreLeft parts end reports.old.items →

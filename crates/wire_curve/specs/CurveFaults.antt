@@ -34,7 +34,7 @@ HasCurveFault sizes timing (BufferTooSmall slot used least) =
     (0 < length sizes) × (slot_count sizes timing ≤ 1000000)
     × IsBufferTooSmall sizes timing slot used least
 
--- want of memory is the one answer that nothing decides
+-- out of memory is the one answer that nothing decides
 abbrev pub IsRefused : List ℕ → Timing → CurveRefused → Type 0
 IsRefused sizes timing (Fault fault) = HasCurveFault sizes timing fault
 IsRefused sizes timing NoMemory = Unit {0}

@@ -26,7 +26,7 @@ fn listens_at_one_address(rt: HostRuntime) -> Result<(), Fail> {
 /// How many blocks are sent in the tests that send much: more than the buffers of the system hold.
 const BLOCKS: u32 = 512;
 
-/// A block of 16,384 bytes, each of which tells its place in the block and the block's number.
+/// A block of 16,384 bytes, each of which encodes its place in the block and the block's number.
 fn block_of(number: u32) -> [u8; 16_384] {
     let mut bytes = [0; 16_384];
     for (place, byte) in bytes.iter_mut().enumerate() {
@@ -35,7 +35,7 @@ fn block_of(number: u32) -> [u8; 16_384] {
     bytes
 }
 
-/// Sends the blocks; answers whether all were sent.
+/// Sends the blocks; returns whether all were sent.
 fn send_blocks<K: Link>(link: &mut K) -> bool {
     for number in 0..BLOCKS {
         if link.send(&block_of(number)).is_err() {
@@ -45,7 +45,7 @@ fn send_blocks<K: Link>(link: &mut K) -> bool {
     true
 }
 
-/// Reads the blocks, from a while after they begin to come; answers whether each came whole.
+/// Reads the blocks, from a while after they begin to come; returns whether each came complete.
 fn read_blocks<R: Clock>(rt: &R, client: &mut TcpStream) -> bool {
     thread::sleep(rt, Duration::from_millis(300));
     let mut came = [0; 16_384];
@@ -143,7 +143,7 @@ fn gives_up_a_peer_that_takes_nothing(rt: HostRuntime) -> Result<(), Fail> {
     Ok(())
 }
 
-/// Sends for a while, and then reads to the end; answers whether these bytes came.
+/// Sends for a while, and then reads to the end; returns whether these bytes came.
 fn send_and_read<R: Clock>(rt: &R, client: &mut TcpStream, want: &[u8; 4]) -> bool {
     for _ in 0..20 {
         if client.write_all(&[b' '; 1_000]).is_err() {

@@ -28,7 +28,7 @@ const PLAYERS: [&str; 8] = [
     Range: npt=0-10\r\nSession: 0123456789abcdef\r\nDate: Fri, 27 Nov 2026 05:53:51 GMT\r\n\r\n",
 ];
 
-/// Whether a text is a whole request of this method and sequence number.
+/// Whether a text is a complete request of this method and sequence number.
 fn is_taken(alloc: Global, text: &str, method: &str, sequence: u64) -> Result<bool, Fail> {
     let mut demux = Demux::new(alloc)?;
     let message = message_in(&mut demux, text)?;

@@ -41,7 +41,8 @@ impl ByteSource for NoBytes {
     }
 }
 
-/// Carries out words over a library of the film and over the gates of the system.
+/// Runs the program with these arguments over a library of the film and over the gates of the
+/// system.
 fn carry_out<R, B: ByteSource>(
     rt: &R,
     alloc: Global,

@@ -1,4 +1,4 @@
-//! What tests hand to `run`: words, the files of a library, and a library of one film.
+//! What tests hand to `run`: arguments, the files of a library, and a library of one film.
 
 use film_frames::Stored;
 use hex::FromHexError;
@@ -24,7 +24,7 @@ pub(crate) fn library_of_film(alloc: Global) -> Result<MemoryLibrary, NoMemory> 
     Ok(MemoryLibrary::new(held, Vec::new(alloc)))
 }
 
-/// The words of a command line.
+/// The arguments of a command line.
 pub(crate) fn words_of(alloc: Global, line: &str) -> Result<Vec<String>, NoMemory> {
     let mut words = Vec::new(alloc);
     for word in line.split_whitespace() {
@@ -43,7 +43,7 @@ pub(crate) fn number_of(word: &str) -> u64 {
     read_number(word.as_bytes()).unwrap_or(0)
 }
 
-/// The bytes of a text, in which `|` stands for a line's end.
+/// The bytes of a text, in which `|` means a line's end.
 pub(crate) fn bytes_of(alloc: Global, text: &str, end: &[u8]) -> Result<Vec<u8>, NoMemory> {
     let mut bytes = Vec::new(alloc);
     for byte in text.as_bytes() {

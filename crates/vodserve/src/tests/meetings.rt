@@ -1,4 +1,4 @@
-//! `serve` serves its connections at the same time: each of two hears its slot 2 only after film
+//! `serve` serves its connections at the same time: each of two receives its slot 2 only after film
 //! bytes were sent to the other.
 
 ghost use Rattle.std.specs.Prelude.{◌≤◌, None, length};
@@ -15,7 +15,8 @@ use std::thread::Threads;
 use std::time::Duration;
 use vod_base::{Gate, GateFault, Heard, Link, LinkFault, MemorySink, Opening};
 
-/// What the first connections of the workers hear at once, by the words of the seed of 32 bytes 7.
+/// What the workers' first connections receive at once. The session ids are drawn from the seed of
+/// 32 bytes 7.
 const FIRST: &[u8] =
     b"SETUP rtsp://h/b.mpg RTSP/1.0\r\nCSeq: 1\r\nTransport: RTP/AVP/TCP\r\nx-Startup: 2\r\n\r\n\
 PLAY rtsp://h/b.mpg RTSP/1.0\r\nCSeq: 2\r\nSession: 789200f441f6aa57\r\n\r\n";
@@ -34,8 +35,8 @@ struct Sends {
 /// How often a link looks for the other's third send, each time for up to a millisecond.
 const MAX_LOOKS: u64 = 20_000;
 
-/// A link that hears requests, slot 1, once the other made its third send the slots 2 to 4, and its
-/// end.
+/// A link whose events are requests, slot 1, the slots 2 to 4 once the other link made its third
+/// send, and its end.
 #[derive(Drop)]
 struct MeetingLink<'a, R> {
     rt: &'a R,
@@ -60,7 +61,7 @@ impl<R: Wait> MeetingLink<'_, R> {
         false
     }
 
-    /// Hears the requests.
+    /// Delivers the requests.
     fn requests(&self, into: &mut [u8]) -> usize
         ensures { result ≤ length into.new }
     {
@@ -162,7 +163,7 @@ impl<'a, R: Wait> Gate for MeetingGate<'a, R> {
     }
 }
 
-/// Runs the words over a library of the film and a gate of two parts.
+/// Runs the program with these arguments over a library of the film and a gate of two parts.
 fn carry_out<R: Threads + Wait + Sync>(
     rt: &R,
     alloc: Global,

@@ -36,7 +36,7 @@ fn contains(bytes: &[u8], text: &[u8]) -> bool {
     text.is_empty() || bytes.windows(text.len()).any(|part| part == text)
 }
 
-/// Whether a link that sent this told out of memory.
+/// Whether a link that sent this reported that memory was out.
 fn is_refused(sent: &[u8]) -> bool {
     contains(sent, b"RTSP/1.0 500 ")
 }
@@ -87,8 +87,7 @@ impl Outcome {
         }
     }
 
-    /// What the run of this line left, in which each play has its halt. Want of memory is the
-    /// error.
+    /// What the run of this line left, in which each play has its halt. The error is out of memory.
     pub(crate) fn of_run<R: Abort>(
         rt: &R,
         alloc: Global,
@@ -254,7 +253,7 @@ impl Outcome {
         Ok(())
     }
 
-    /// Reads the whole text of the output, or of the error stream.
+    /// Reads the entire text of the output, or of the error stream.
     fn read_text<R: Abort>(
         &mut self,
         rt: &R,

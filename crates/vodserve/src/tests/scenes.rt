@@ -11,7 +11,7 @@ use std::test::Fail;
 use std::thread::Threads;
 use vod_base::{Event, MemoryGate, MemoryLibrary, MemoryLink, MemoryPart, MemorySink, NoMemory};
 
-/// The most bytes that an object in memory keeps.
+/// The most bytes that an object in memory holds.
 const ROOM: usize = 1 << 25;
 
 /// Plays a script. Where memory is refused, that is said by its name, and the script is played once
@@ -52,9 +52,9 @@ pub(crate) fn refusals_of(
 struct Stage {
     /// The files of the library.
     files: Files,
-    /// What the link of the next part hears.
+    /// The events of the link of the next part.
     events: Vec<Event>,
-    /// What the link of the last part hears.
+    /// The events of the link of the last part.
     last_events: Vec<Event>,
     /// The parts of the gate.
     parts: Vec<MemoryPart>,
@@ -101,7 +101,7 @@ fn first_events(alloc: Global, events: &[Event], count: u64) -> Result<Vec<Event
     Ok(copies)
 }
 
-/// Carries out the words. This is the one call of `run` of the tests.
+/// Runs the program with these arguments. This is the one call of `run` of the tests.
 fn carry_out<R: Threads + Wait + Sync>(
     rt: &R,
     alloc: Global,
@@ -127,7 +127,7 @@ impl Stage {
         }
     }
 
-    /// Runs these words. Want of memory is the error.
+    /// Runs the program with these arguments. The error is out of memory.
     fn run<R: Threads + Wait + Sync + Abort>(
         &mut self,
         rt: &R,
@@ -154,7 +154,7 @@ impl Stage {
         Ok(())
     }
 
-    /// Processes a line on the objects of the next run; answers whether it is one.
+    /// Processes a line on the objects of the next run; returns whether it is one.
     fn set<R: Abort>(
         &mut self,
         rt: &R,
@@ -204,7 +204,7 @@ impl Stage {
         Ok(true)
     }
 
-    /// Adds a part of the gate with one link that hears these events. Its call of `take` of that
+    /// Adds a part of the gate with one link that has these events. Its call of `take` of that
     /// number fails.
     fn push_part(&mut self, alloc: Global, events: Vec<Event>, fails: u64) -> Result<(), NoMemory> {
         let link = MemoryLink::new(alloc, events, ROOM, Vec::new(alloc), Vec::new(alloc))?;
@@ -233,13 +233,13 @@ impl Stage {
 ///
 /// `file NAME TEXT`, `reply NAME TEXT`, `bytes NAME WORDS`, `sizes NAME FILM`, `hears TEXT`, `gets
 /// WORDS`, `slots FIRST LAST`, `again COUNT` (the first so many events of the part before), `part
-/// [CALL]` and `fails OBJECT CALL` write_error what the next run is over; `> WORDS` runs; and the
-/// lines after it say what it left: `STATUS TEXT` its status and its whole text, of the output or
-/// else of the error stream, `out TEXT`, `err TEXT` and `is NAME` a whole text, `has TEXT` a part
-/// of the output, `ends STATUS` its status, `counts REPORTS ENTRIES`, `says REPLY`, `sends WORDS`
-/// and `plays NAME` what its first link sent next, and `said LINKS TEXT` how many links sent a
-/// text. `keeps NAME` makes a file of the output. What no line reads is to be empty, but for the
-/// rest of the output after `has`, and of what links sent after `said`.
+/// [CALL]` and `fails OBJECT CALL` say what the next run is over; `> WORDS` runs; and the lines
+/// after it say what it left: `STATUS TEXT` its status and its entire text, of the output or else
+/// of the error stream, `out TEXT`, `err TEXT` and `is NAME` an entire text, `has TEXT` a part of
+/// the output, `ends STATUS` its status, `counts REPORTS ENTRIES`, `says REPLY`, `sends WORDS` and
+/// `plays NAME` what its first link sent next, and `said LINKS TEXT` how many links sent a text.
+/// `keeps NAME` makes a file of the output. What no line reads is to be empty, except the rest of
+/// the output after `has`, and the rest of what links sent after `said`.
 fn play_out<R: Threads + Wait + Sync + Abort>(
     rt: &R,
     alloc: Global,

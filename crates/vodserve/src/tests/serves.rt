@@ -81,7 +81,7 @@ has |end|served connections=1 entries=3|
 ends 0
 ";
 
-/// What keeps a server from its work.
+/// What prevents a server from serving.
 const KEPT: &str = "\
 bytes b.mpg 000001b316012013ffffe0a0 000001b800080040 00000100000ffff8 000001011234 \
 000001000057fff880 000001011234

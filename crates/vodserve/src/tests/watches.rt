@@ -3,8 +3,9 @@
 use crate::tests::scenes::passes;
 use std::test::Fail;
 
-/// A film of two pictures, slot by slot as its plan has it, and what keeps a client from it: the
-/// gate, another answer, a buffer a byte too small, an end after the third slot, and want of room.
+/// A film of two pictures, slot by slot as its plan has it, and what prevents a client from
+/// watching it: the gate, another answer, a buffer that is a byte too small, an end after the third
+/// slot, and no room on the link.
 const WATCHED: &str = "\
 bytes first.mpg 000001b316012013ffffe0a0 000001b800080040 00000100000ffff8 000001011234
 bytes b.mpg first.mpg 000001000057fff880 000001011234
