@@ -24,15 +24,33 @@ measure() { # TITLE FILM
     echo "$1: $bytes bytes, $(cat memchr.out) times 00 00 01, best of $rounds"
     echo "  $(head -1 scan.out); its text has $(wc -c <scan.out) bytes"
     awk -v bytes="$bytes" '
+        function ratios(of, seconds) {
+            printf "  scan takes %.2f times cat and wc, %.2f times memchr, %.2f times the loop %s\n",
+                seconds["scan"] / seconds["cat-wc-c"], seconds["scan"] / seconds["memchr"],
+                seconds["scan"] / seconds["loop"], of
+        }
         { printf "  %-9s %9.1f ms by the clock, %8.1f ms of processor time, %8.0f MB/s, peak %s KiB\n", $1, $2 * 1000,
-            $3 * 1000, bytes / 1000000 / $2, $4; clock[$1] = $2 }
-        END { printf "  scan takes %.2f times cat and wc, %.2f times memchr, %.2f times the loop\n",
-            clock["scan"] / clock["cat-wc-c"], clock["scan"] / clock["memchr"], clock["scan"] / clock["loop"] }' times.txt
+            $3 * 1000, bytes / 1000000 / $2, $4; clock[$1] = $2; processor[$1] = $3 }
+        END { ratios("by the clock", clock); ratios("of processor time", processor) }' times.txt
+}
+
+instructions() { # COMMAND..: how many it takes, as valgrind counts them
+    valgrind --tool=callgrind --callgrind-out-file=/dev/null "$@" 2>&1 >/dev/null | awk '/Collected/ { print $NF }'
 }
 
 make() { # SEED PICTURES
     "$program" make kind=film seed="$1" pictures="$2"
 }
+
+if command -v valgrind >/dev/null; then
+    make 1 10000 >counted.mpg
+    codes=$(./count memchr counted.mpg)
+    awk -v scan="$(instructions "$program" scan film=counted.mpg)" -v codes="$codes" \
+        -v memchr="$(instructions ./count memchr counted.mpg)" 'BEGIN {
+        printf "made film of 10,000 pictures, %d codes: %.1f million instructions, %d a code; memchr %.1f million\n",
+            codes, scan / 1e6, scan / codes, memchr / 1e6
+    }'
+fi
 
 # Two made films one after the other: the end code between them is bytes of the slice before it.
 { make 1 100000; make 2 100000; } >made.mpg

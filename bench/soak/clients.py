@@ -9,7 +9,7 @@ import time
 
 from days import curves, plan
 from memory import Account
-from rtsp import Ended, Wrong
+from rtsp import Wrong
 from serving import is_established
 from viewer import OK, Viewer, Wire, shown, units_between, want
 
@@ -19,8 +19,6 @@ PATIENCE = 120
 # Seconds in which a peer that sent no complete request is given up at the latest. One that takes
 # nothing is given up a minute after the last byte that its system took.
 NO_REQUEST, TAKES_NOTHING = 60, 200
-# Seconds after a shortage of descriptors in which its workers may still end a connection.
-AFTER_SHORTAGE = 3
 BUFFERS = (1_048_576, 262_144, 65_536)
 # How many of 100 sessions are of which kind.
 KINDS = (
@@ -33,10 +31,6 @@ REFUSED = re.compile(
 LOOKED = re.compile("x-Now: ([0-9]+)\r\nx-Slot: ([0-9]+)\r\nx-Booked: ([0-9]+)\r\n")
 OFFERED = re.compile(
     "x-Start: (?:[0-9]+|none)\r\n(?:x-Over: [0-9]+ [0-9]+ [0-9]+ [0-9]+\r\n)*")
-
-
-class Short(Exception):
-    """The connection ended before its first reply, while the server was short of descriptors."""
 
 
 @functools.cache
@@ -62,8 +56,6 @@ class Soak:
         self.server, self.films = server, films
         self.stopping = threading.Event()
         self.faults, self.lock = [], threading.Lock()
-        # When the server last lacked file descriptors; infinity while it does.
-        self.last_short = 0.0
         self.media = self.sessions = self.shortages = 0
         self.kinds = dict.fromkeys((kind for kind, _ in KINDS), 0)
 
@@ -77,10 +69,6 @@ class Soak:
             self.sessions += 1
             self.kinds[kind] += 1
             self.media += media
-
-    def was_short(self, since):
-        """Whether the server lacked file descriptors since a moment, or shortly before it."""
-        return self.last_short + AFTER_SHORTAGE >= since
 
 
 class Client:
@@ -100,8 +88,6 @@ class Client:
             self.media = 0
             try:
                 getattr(self, kind)()
-            except Short:
-                continue
             except Exception as error:
                 self.soak.fault(
                     f"client {self.number}, session {self.count}, {kind}:"
@@ -119,16 +105,9 @@ class Client:
         self.buffer, self.delay = self.draw.choice(BUFFERS), self.draw.randrange(40)
         first = self.draw.randrange(0, 254, 2)
         how["channels"] = (first, first + 1)
-        begun = time.monotonic()
-        try:
-            viewer = Viewer(
+        with Viewer(
                 self.soak.server.port, film, f"x-Buffer: {self.buffer}",
-                f"x-Startup: {self.delay}", patience=PATIENCE, **how)
-        except (Ended, OSError):
-            if self.soak.was_short(begun):
-                raise Short from None
-            raise
-        with viewer:
+                f"x-Startup: {self.delay}", patience=PATIENCE, **how) as viewer:
             yield viewer
             self.media += viewer.place
 

@@ -58,17 +58,16 @@ def make_films(folder):
 
 
 def shortages(soak):
-    """Takes the server's file descriptors away now and then; what it has open stays."""
+    """Takes the server's file descriptors away now and then; what it has open stays. Clients may
+    have to wait for it, and none of them is ended."""
     pid = soak.server.child.pid
     soft, hard = resource.prlimit(pid, resource.RLIMIT_NOFILE)
     while not soak.stopping.wait(SHORT_EACH):
-        soak.last_short = math.inf
         taken = descriptors(pid)
         lowest = next(number for number in range(len(taken) + 1) if number not in taken)
         resource.prlimit(pid, resource.RLIMIT_NOFILE, (lowest, hard))
         time.sleep(SHORT_FOR)
         resource.prlimit(pid, resource.RLIMIT_NOFILE, (soft, hard))
-        soak.last_short = time.monotonic()
         soak.shortages += 1
 
 

@@ -27,6 +27,10 @@ CROWD = 250
 # The server that is short of file descriptors: its workers, the clients that wait, and for how many
 # seconds. A worker tries again after 10 ms, 20 ms and so on, at most a second.
 WORKERS, WAITING, SHORT = 8, 24, 4
+# Seconds in which a worker whose connection is closed is in accept again.
+TO_ACCEPT = 1
+# What /proc calls an event poll.
+POLL = "anon_inode:[eventpoll]"
 
 
 def answered(port):
@@ -184,8 +188,8 @@ def takes_nothing(lab):
 def short_of_descriptors(lab):
     """A moment without file descriptors keeps clients waiting, and then each of them is served.
 
-    All workers hold a connection as the limit falls, so none of them waits in accept, where the
-    system has set a number aside for the next connection already."""
+    All workers hold a connection as the limit falls. So none of them waits in accept, and none has
+    what its next connection needs."""
     with lab.serving(["small.mpg"], workers=WORKERS) as server:
         busy = connected_workers(server)
         with shortage(server):
@@ -195,23 +199,34 @@ def short_of_descriptors(lab):
             wires = ask_at_once(server)
             early = [number for number, wire in enumerate(wires) if has_news(wire)]
             want("clients answered or ended without a file descriptor", [], early)
-        want("clients served after it", WAITING, sum(outcome(wire) for wire in wires))
-        all_answer(server.port, WORKERS)
+        all_served(server, wires)
 
 
 def short_while_idle(lab):
-    """The same with workers that wait for a connection. Each of them has a number for its next one,
-    which can't be set up and is ended. All others are answered."""
+    """The same with workers that wait in accept as the limit falls: a shortage only delays.
+
+    Each of them has what its next connection needs: the server makes the event poll before it calls
+    accept, and there the system sets the socket's number aside before it waits. So some clients are
+    answered at once, nobody is ended, and after the shortage all others are served."""
     with lab.serving(["small.mpg"], workers=WORKERS) as server:
         for wire in connected_workers(server):
             wire.socket.close()
         until_idle(server)
+        time.sleep(TO_ACCEPT)
         with shortage(server):
             wires = ask_at_once(server)
-        served = sum(outcome(wire) for wire in wires)
-        must(f"{WAITING - WORKERS} of {WAITING} clients answered at least",
-             served >= WAITING - WORKERS, served)
-        all_answer(server.port, WORKERS)
+            # Their workers go on to the next connection, and nothing can be opened for it.
+            first = [wire for wire in wires if has_news(wire)]
+            answered_first = sum(outcome(wire) for wire in first)
+            time.sleep(SHORT)
+            must_run(server)
+        all_served(server, [wire for wire in wires if wire not in first], answered_first)
+
+
+def all_served(server, wires, before=0):
+    """Each client that asked is answered, `before` of them by now, and all workers are there."""
+    want("clients answered", WAITING, before + sum(outcome(wire) for wire in wires))
+    all_answer(server.port, WORKERS)
 
 
 def connected_workers(server):
@@ -223,18 +238,18 @@ def connected_workers(server):
     return wires
 
 
-def of_connections(server):
-    """The server's file descriptors that belong to connections: their sockets, and the event poll
-    that each connection has."""
+def of_connections(server, polls=True):
+    """The server's file descriptors that belong to connections: their sockets, and the event polls
+    that they have. A worker without a connection has the poll of its next one."""
     listening = f"socket:[{listening_inode(server.port)}]"
     return {
         number for number, what in descriptors(server.child.pid).items()
-        if what == "anon_inode:[eventpoll]" or what.startswith("socket:") and what != listening}
+        if polls and what == POLL or what.startswith("socket:") and what != listening}
 
 
 def until_idle(server):
     until("a server that has closed its connections",
-          lambda: not server.is_running() or not of_connections(server))
+          lambda: not server.is_running() or not of_connections(server, polls=False))
     must_run(server)
 
 

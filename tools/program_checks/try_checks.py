@@ -20,6 +20,7 @@ FAULTS = [
     ("none at all", "plan trace", 0), ("none at all", "replies of an ordinary", 0),
     ("none at all", "watch: a film of the server", 0), ("none at all", "a pause and a part", 0),
     ("none at all in a shortage", "a moment without", 0),
+    ("none at all in a shortage", "idle workers", 0),
     ("status is 1", "plan trace", "all"), ("status is 1", "no meaning", "all"),
     ("nothing said of errors", "no meaning", "all"),
     ("nothing said of errors", "folder", "all"),
@@ -41,6 +42,9 @@ FAULTS = [
     ("silence of 30 s ends a connection", "minute of silence", "all"),
     ("a shortage ends it", "a moment without", 1),
     ("a shortage ends connections", "a moment without", 1),
+    ("a shortage ends it", "idle workers", 1),
+    ("a shortage ends connections", "idle workers", 1),
+    ("a shortage ends what was accepted", "idle workers", 1),
 ]
 LINE = re.compile(r"(\d+) passed, (\d+) failed")
 

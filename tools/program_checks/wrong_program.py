@@ -9,6 +9,7 @@ the bytes that go by. For a shortage of file descriptors `serve` is a small serv
 import ctypes
 import os
 import re
+import select
 import signal
 import socket
 import subprocess
@@ -142,8 +143,19 @@ def answer_all(listener, spare):
             time.sleep(0.2)
             continue
         with link:
+            if WRONG == "a shortage ends what was accepted" and not can_wait():
+                continue
             while link.recv(4096):
                 link.sendall(OK)
+
+
+def can_wait():
+    """Whether an event poll can be opened."""
+    try:
+        select.epoll().close()
+    except OSError:
+        return False
+    return True
 
 
 def serve_options(words):
