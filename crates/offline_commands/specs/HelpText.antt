@@ -20,12 +20,12 @@ help_text =
     codes "  scan film=NAME\n" ++
     codes "      the pictures of an MPEG-1 film\n" ++
     codes "  make kind=film|trace|system seed=NUMBER pictures=NUMBER\n" ++
-    codes "      the film, trace or system stream of a number\n" ++
+    codes "      the film, trace or system stream generated from a number\n" ++
     codes "  day script=NAME [capacity=BYTES|SLOT:BYTES,..] [journal=NUMBER] [slot=UNITS]\n" ++
     codes "      a link's day by a script of plays, pauses, looks, offers and slots: its\n" ++
     codes "      journal, what was sent and what is booked\n" ++
     codes "  fair seed=NUMBER plays=NUMBER [capacity=BYTES|SLOT:BYTES,..]\n" ++
-    codes "      a large day of a number, in one line\n" ++
+    codes "      a large day drawn from a number, in one line\n" ++
     codes "  serve film=NAME .. [capacity=BYTES|SLOT:BYTES,..] [port=NUMBER]\n" ++
     codes "        [bind=local|all] [buffer=BYTES] [startup=SLOTS] [slot=UNITS]\n" ++
     codes "        [journal=NUMBER] [workers=NUMBER] [connections=NUMBER]\n" ++
@@ -38,10 +38,10 @@ help_text =
     codes "  --version\n" ++
     codes "      the name and the version\n" ++
     codes "\n" ++
-    codes "Each key comes at most once, but film in serve; their order is free. A NAME is\n" ++
+    codes "Each key comes at most once, except film in serve; order is free. A NAME is\n" ++
     codes "a file of this folder, of 1 to 64 letters, digits, '.', '_', '-', not first a\n" ++
     codes "'.'. A film is an MPEG-1 video stream, or a system stream with one. In serve,\n" ++
-    codes "buffer and startup hold for clients that name none.\n" ++
+    codes "buffer and startup are for clients that name none.\n" ++
     codes "\n" ++
     codes "  key          values                                          default\n" ++
     codes "  buffer       a client's bytes, 1 to 4398046511104            1048576\n" ++
@@ -59,7 +59,8 @@ help_text =
     codes "  workers      connections at a time, 1 to 256                 32\n" ++
     codes "  connections  of each worker; 0 is no end                     0\n" ++
     codes "\n" ++
-    codes "status 0 done, 1 check refused the certificate, 2 wrong words, 3 an input is\n" ++
-    codes "refused, 4 a file can't be read, 5 the output can't be written, 6 out of\n" ++
+    codes "status 0 done, 1 check refused the certificate, 2 wrong arguments, 3 an input\n" ++
+    codes "is refused, 4 a file can't be read, 5 the output can't be written, 6 out of\n" ++
     codes "memory, 7 the port failed, 8 the connection to a server failed. With 2 to 8\n" ++
-    codes "one line on standard error says what.\n"
+    codes "one line on standard error says what. 'vodserve: usage' is status 2: a command\n" ++
+    codes "or key is unknown, missing or given twice, or a value is out of its range.\n"

@@ -24,12 +24,12 @@ usage: vodserve COMMAND KEY=VALUE ..
   scan film=NAME
       the pictures of an MPEG-1 film
   make kind=film|trace|system seed=NUMBER pictures=NUMBER
-      the film, trace or system stream of a number
+      the film, trace or system stream generated from a number
   day script=NAME [capacity=BYTES|SLOT:BYTES,..] [journal=NUMBER] [slot=UNITS]
       a link's day by a script of plays, pauses, looks, offers and slots: its
       journal, what was sent and what is booked
   fair seed=NUMBER plays=NUMBER [capacity=BYTES|SLOT:BYTES,..]
-      a large day of a number, in one line
+      a large day drawn from a number, in one line
   serve film=NAME .. [capacity=BYTES|SLOT:BYTES,..] [port=NUMBER]
         [bind=local|all] [buffer=BYTES] [startup=SLOTS] [slot=UNITS]
         [journal=NUMBER] [workers=NUMBER] [connections=NUMBER]
@@ -42,10 +42,10 @@ usage: vodserve COMMAND KEY=VALUE ..
   --version
       the name and the version
 
-Each key comes at most once, but film in serve; their order is free. A NAME is
+Each key comes at most once, except film in serve; order is free. A NAME is
 a file of this folder, of 1 to 64 letters, digits, '.', '_', '-', not first a
 '.'. A film is an MPEG-1 video stream, or a system stream with one. In serve,
-buffer and startup hold for clients that name none.
+buffer and startup are for clients that name none.
 
   key          values                                          default
   buffer       a client's bytes, 1 to 4398046511104            1048576
@@ -63,10 +63,11 @@ buffer and startup hold for clients that name none.
   workers      connections at a time, 1 to 256                 32
   connections  of each worker; 0 is no end                     0
 
-status 0 done, 1 check refused the certificate, 2 wrong words, 3 an input is
-refused, 4 a file can't be read, 5 the output can't be written, 6 out of
+status 0 done, 1 check refused the certificate, 2 wrong arguments, 3 an input
+is refused, 4 a file can't be read, 5 the output can't be written, 6 out of
 memory, 7 the port failed, 8 the connection to a server failed. With 2 to 8
-one line on standard error says what.
+one line on standard error says what. 'vodserve: usage' is status 2: a command
+or key is unknown, missing or given twice, or a value is out of its range.
 ";
 
 /// The text of `--version`.
