@@ -193,6 +193,7 @@ impl<'a> Talk<'a> {
         assert!(rt; whole);
         assert!(rt; !self.session.waits());
         assert!(rt; !self.session.torn());
+        assert!(rt; !self.session.link_failed());
         let ask = self.session.hear(message);
         self.answer(rt, ask, told);
         let replied = self.session.reply(&mut self.link);
