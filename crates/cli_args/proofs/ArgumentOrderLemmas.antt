@@ -1,4 +1,4 @@
--- The order of words is free.
+-- The order of arguments is free.
 use Rattle.std.proofs.Common.{◌≡◌, ℕ, ◌^◌, ◌-◌, ◌&&◌, ◌⊎◌, List, ◌∷◌, ◌++◌, sym, ap, ◌∙◌, Some}
 use Rattle.std.proofs.Common.{None, Bool, true, false, refl, codes, inl, inr}
 use Rattle.std.specs.List.{list_all}
@@ -13,7 +13,7 @@ use Rattle.cli_args.specs.Invocations.{invocation_from, source_of}
 use Rattle.cli_args.proofs.InvocationLemmas.{GiveSame, meaning_same}
 use Rattle.cli_args.proofs.KeyValueLemmas.{values_of-append}
 
--- words that give the same values to each key
+-- arguments that give the same values to each key
 abbrev HaveSameValues : List (List ℕ) → List (List ℕ) → Type 0
 HaveSameValues words words' = (key : List ℕ) → values_of key words ≡ values_of key words'
 
@@ -43,7 +43,7 @@ give_same words words' same = record {
   connections = ap (number_or 0 0 (2 ^ 64 - 1)) (same (codes "connections"));
 }
 
--- two words of different keys give the same in the other order
+-- two arguments of different keys give the same in the other order
 swapped : (key word other : List ℕ) (rest : List (List ℕ))
     → (setting_value key word ≡ None) ⊎ (setting_value key other ≡ None) →
     values_of key (word ∷ other ∷ rest) ≡ values_of key (other ∷ word ∷ rest)
@@ -52,14 +52,14 @@ swapped key word other rest one = elim one [
   | inr none ↦ rw none refl
 ]
 
--- two words that stand one after the other among words
+-- two arguments that stand one after the other among others
 pub record Neighbours : Type 0 where
   pub front : List (List ℕ)
   pub word : List ℕ
   pub other : List ℕ
   pub rest : List (List ℕ)
 
--- all those words, as they stand and with the two exchanged
+-- all those arguments, as they stand and with the two exchanged
 abbrev pub in_order : Neighbours → List (List ℕ)
 in_order two = two.front ++ two.word ∷ two.other ∷ two.rest
 

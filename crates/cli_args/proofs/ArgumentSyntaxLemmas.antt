@@ -1,4 +1,4 @@
--- Words with a meaning have the form of their command.
+-- Arguments with a meaning have the form of their command.
 use Rattle.std.proofs.Common.{◌≡◌, ℕ, ◌+◌, ◌^◌, ◌-◌, ◌<◌, ◌≤◌, ◌&&◌, ◌==◌, All, List, [], ◌∷◌, ◌++◌}
 use Rattle.std.proofs.Common.{length, sym, ap, ◌∙◌, arith, Option, Some, None, Bool, true, false}
 use Rattle.std.proofs.Common.{refl, codes, if◌then◌else◌, nat_lt, get_or, inl, inr}
@@ -333,8 +333,8 @@ films_form Fair words order e = tt
 films_form Serve words order e = films_apart words order e
 films_form Watch words order e = tt
 
--- ---- each word
--- a value that a word gives to a key stands after it and `=`
+-- ---- each argument
+-- a value that an argument gives to a key stands after it and `=`
 value_after : (key word : List ℕ) → is_some (setting_value key word) ≡ true
     → (value : List ℕ) × (word ≡ setting_text (record { key = key; value = value }))
 value_after key word e =
@@ -387,7 +387,7 @@ words_form name command words order named e =
       films = films_form command words order mine.1;
     }
 
--- ---- words with a meaning
+-- ---- arguments with a meaning
 alone : (lone : Invocation) (words : List (List ℕ)) (order : Invocation) → lone_invocation lone words ≡ Some order →
     words ≡ []
 alone lone [] order e = refl

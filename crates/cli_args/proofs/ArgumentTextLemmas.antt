@@ -1,4 +1,4 @@
--- The values of written orders are read back.
+-- The values of written invocations are read back.
 use Rattle.std.proofs.Common.{◌≡◌, ℕ, ◌+◌, ◌-◌, ◌<◌, ◌≤◌, ◌^◌, ◌&&◌, not, List, [], ◌∷◌, ◌++◌, All}
 use Rattle.std.proofs.Common.{length, sym, ap, subst, ◌∙◌, arith, Option, Some, None, Bool, true}
 use Rattle.std.proofs.Common.{false, refl, codes, decimal, nat_lt, nat_le, ◌==◌, if◌then◌else◌, inl}
@@ -183,12 +183,12 @@ short_step front step rest capacity =
     subst (λ (s : CapStep). s.bytes ≤ 2 ^ 42) here (capacity.0.small (length front) (omega (arith, long))) in
     record { from = omega (arith, late); bytes = omega (arith, small) }
 
--- one step more in front
+-- one step more before them
 moved : (front : List CapStep) (step : CapStep) (rest : List CapStep)
     → (front ++ step ∷ []) ++ rest ≡ front ++ step ∷ rest
 moved front step rest = append_assoc front (step ∷ []) rest
 
--- written steps are read back, after those in front of them
+-- written steps are read back, after those before them
 pub steps_back : (front : List CapStep) (step : CapStep) (rest : List CapStep)
     → IsCapacity (front ++ step ∷ rest)
     → fold add_step_text (Some front) (slice_split (λ b. b == 44) (steps_text (step ∷ rest))) ≡ Some (front ++ step ∷

@@ -100,7 +100,7 @@ front_more steps step front may =
       small = small_more steps step front more;
     }
 
--- no steps are a front
+-- no steps are a prefix
 pub none_front : IsStepPrefix []
 none_front = record {
   few = omega arith;
@@ -120,7 +120,7 @@ some_more {more} steps (Some step) e = by (may_follow steps step) e
         omega (arith, ap length same, length-append steps (step ∷ []))
     by false put = absurd (cc)
 
--- some steps that are a front are a profile
+-- some steps that are a prefix are a profile
 pub profile_of : (steps : List CapStep) → IsStepPrefix steps → 1 ≤ length steps → IsProfile steps
 profile_of steps front some = record {
   some = some;

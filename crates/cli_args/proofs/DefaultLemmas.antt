@@ -1,4 +1,4 @@
--- A word that gives a default means the same as no word.
+-- An argument that gives a default means the same as no argument.
 use Rattle.std.proofs.Common.{◌≡◌, ℕ, ◌^◌, ◌-◌, ◌&&◌, ◌||◌, not, ◌⊎◌, All, List, [], ◌∷◌, ◌++◌, sym}
 use Rattle.std.proofs.Common.{ap, ◌∙◌, Option, Some, None, Bool, true, false, refl, codes}
 use Rattle.std.proofs.Common.{if◌then◌else◌, inl, inr}
@@ -34,7 +34,7 @@ default_passes test default stands all = All-contains (λ d. test d ≡ true) de
 key_is_plain : (default : Setting) → Contains defaults default → has_no 61 default.key ≡ true
 key_is_plain default stands = default_passes (λ d. has_no 61 d.key) default stands refl
 
--- what the word of a default gives to a key, in front of others
+-- what the argument of a default gives to a key, before other arguments
 word_gives : (key : List ℕ) (default : Setting) (words : List (List ℕ)) → Contains defaults default →
     values_of key (setting_text default ∷ words)
     ≡ option_to_list (if bytes_eq default.key key then Some default.value else None) ++ values_of key words
@@ -156,7 +156,7 @@ give_same command words default left =
           refl (own (codes "connections") (codes "0") refl);
     }
 
--- the word of a key that the command takes is a word of the command
+-- the argument of a key that the command takes is an argument of the command
 key_found : (key : List ℕ) (keys : List (List ℕ)) → Contains keys key → list_any (λ k. bytes_eq key k) keys ≡ true
 key_found key keys stands =
     list_any-from_Any (λ k. bytes_eq key k) keys (stands.0, key, stands.1, stands.2, (bytes_eq-Decides key key).1 refl)

@@ -1,4 +1,4 @@
--- What words mean comes of the values that they give to each key.
+-- What arguments mean follows from the values that they give to each key.
 use Rattle.std.proofs.Common.{◌≡◌, ℕ, List, ◌∷◌, sym, ap, ◌∙◌, Option, Some, None, Bool, false}
 use Rattle.std.proofs.Common.{refl, codes, if◌then◌else◌, inl, inr}
 use Rattle.std.specs.List.{list_all}
@@ -17,7 +17,7 @@ use Rattle.cli_args.specs.Invocations.{Invocation, lone_invocation, help, versio
 use Rattle.cli_args.specs.Invocations.{invocation_from, source_given, client_given, listen_given}
 use Rattle.cli_args.specs.Invocations.{planning_given}
 
--- the meaning of a command's words
+-- the meaning of a command's arguments
 pub meaning_of : (name : List ℕ) (command : Subcommand) (words : List (List ℕ)) → subcommand_named name ≡ Some command →
     invocation_from (name ∷ words) ≡ command_invocation words command
 meaning_of name command words named =
@@ -36,7 +36,7 @@ meaning_of name command words named =
       | inr apart ↦ apart
     ]
 
--- words that give the same
+-- arguments that give the same
 pub record GiveSame (words words' : List (List ℕ)) : Type 0 where
   pub films : values_of (codes "film") words ≡ values_of (codes "film") words'
   pub source : source_given words ≡ source_given words'
@@ -78,7 +78,7 @@ order_same Serve words words' same =
     (rw same.capacity (rw same.journal (rw (listening_same words words' same) (rw (pace_same words words' same) refl))))
 order_same Watch words words' same = rw same.films (rw same.port (rw (pace_same words words' same) refl))
 
--- words that are of the same command, and give the same, mean the same
+-- arguments that are of the same command, and give the same, mean the same
 pub meaning_same : {command : Subcommand} {words words' : List (List ℕ)} (name : List ℕ)
     → subcommand_named name ≡ Some command →
     list_all (is_setting_of command) words ≡ list_all (is_setting_of command) words' → GiveSame words words' →

@@ -1,4 +1,4 @@
--- The values that words give to a key, from the front on.
+-- The values that arguments give to a key, from the first argument on.
 use Rattle.std.proofs.Common.{◌≡◌, ℕ, ◌+◌, ◌<◌, ◌≤◌, List, [], ◌∷◌, ◌++◌, length, take, drop}
 use Rattle.std.proofs.Common.{get_or, sym, ap, ◌∙◌, arith, String, Global, string_bytes}
 use Rattle.std.proofs.Common.{length-append, Option, Some, None, Bool, true, false, ◌&&◌, Bor, refl}
@@ -10,18 +10,18 @@ use Rattle.std.proofs.Math.ListN.{get_or-map}
 use Rattle.std.specs.List.{list_all}
 use Rattle.cli_args.specs.Settings.{texts, setting_value, values_of}
 
--- what words in front and the words after them give
+-- what the first arguments and those after them give
 pub values_of-append : (key : List ℕ) (front back : List (List ℕ))
     → values_of key (front ++ back) ≡ values_of key front ++ values_of key back
 values_of-append key front back =
     flat_map-append (λ (word : List ℕ). option_to_list (setting_value key word)) front back
 
--- the word at a place
+-- the argument at a place
 pub record IsWordAt (words : List (String Global)) (i : ℕ) (word : String Global) : Type 0 where
   pub inside : i < length words
   pub is : word ≡ get_or words i word
 
--- a word more
+-- an argument more
 values_of_more : (key : List ℕ) (words : List (String Global)) (i : ℕ) (word : String Global) → IsWordAt words i word →
     values_of key (texts (take (i + 1) words))
     ≡ values_of key (texts (take i words)) ++ option_to_list (setting_value key (string_bytes word))
@@ -34,7 +34,7 @@ values_of_more key words i word at =
     ∙ ap (λ (w : String Global). values_of key (texts (take i words))
     ++ option_to_list (setting_value key (string_bytes w))) (sym at.is)
 
--- words in front give no more values than all words
+-- the first arguments give no more values than all of them
 pub values_of_front : (key : List ℕ) (words : List (String Global)) (i : ℕ)
     → length (values_of key (texts (take i words))) ≤ length (values_of key (texts words))
 values_of_front key words i =
@@ -57,14 +57,14 @@ some_found : (o : Option (Bor (List ℕ))) → is_some o ≡ true → length (op
 some_found None h = cc
 some_found (Some v) h = refl
 
--- what the words in front of a word gave to a key, and what that word gives
+-- what the arguments before an argument gave to a key, and what that one gives
 pub record IsSearch (key : List ℕ) (words : List (String Global)) (i : ℕ) (word : String Global)
     (found answer : Option (Bor (List ℕ))) : Type 0 where
   pub at : IsWordAt words i word
   pub before : values_of key (texts (take i words)) ≡ option_to_list (option_copied found)
   pub says : option_copied answer ≡ setting_value key (string_bytes word)
 
--- the first word that gives a value
+-- the first argument that gives a value
 pub values_of_first : {key : List ℕ} {words : List (String Global)} {i : ℕ} {word : String Global}
     {found answer found' : Option (Bor (List ℕ))} →
     IsSearch key words i word found answer → is_some found ≡ false → found' ≡ answer →
@@ -75,7 +75,7 @@ values_of_first {key} {words} {i} {word} {found} given none is =
     (given.before ∙ ap option_to_list (none_found found none))
     ∙ ap option_to_list (sym given.says) ∙ ap (λ (o : Option (Bor (List ℕ))). option_to_list (option_copied o)) (sym is)
 
--- a word that gives no value
+-- an argument that gives no value
 pub values_of_none : {key : List ℕ} {words : List (String Global)} {i : ℕ} {word : String Global}
     {found answer found' : Option (Bor (List ℕ))} →
     IsSearch key words i word found answer → answer ≡ None → found' ≡ found →
@@ -87,7 +87,7 @@ values_of_none {key} {words} {i} {word} given none is =
     ∙ append-nil (values_of key (texts (take i words)))
     ∙ given.before ∙ ap (λ (o : Option (Bor (List ℕ))). option_to_list (option_copied o)) (sym is)
 
--- a second word that gives a value
+-- a second argument that gives a value
 pub values_of_again : {key : List ℕ} {words : List (String Global)} {i : ℕ} {word : String Global}
     {found answer : Option (Bor (List ℕ))} {value : Bor (List ℕ)} →
     IsSearch key words i word found answer → is_some found ≡ true → answer ≡ Some value
@@ -110,7 +110,7 @@ values_of_again {key} {words} {i} {word} {found} {answer} given some is =
       values_of_front key words (i + 1),
     )
 
--- a word more that passes
+-- an argument more that passes
 pub all_more : {words : List (String Global)} {i : ℕ} {word : String Global} (p : List ℕ → Bool)
     → IsWordAt words i word →
     list_all p (texts (take i words)) ≡ true → p (string_bytes word) ≡ true
@@ -123,7 +123,7 @@ all_more {words} {i} {word} p at before passes =
     ∙ ap (λ (w : String Global). p (string_bytes w) && true) (sym at.is)
     ∙ ap (λ (b : Bool). b && true) passes
 
--- a word that fails
+-- an argument that fails
 pub all_fails : {words : List (String Global)} {i : ℕ} {word : String Global} (p : List ℕ → Bool)
     → IsWordAt words i word →
     p (string_bytes word) ≡ false → list_all p (texts words) ≡ false

@@ -1,4 +1,4 @@
--- The words of an order mean that order.
+-- The arguments of an invocation mean that invocation.
 use Rattle.std.proofs.Common.{◌≡◌, ℕ, ◌<◌, ◌^◌, List, [], ◌∷◌, map, ap, ◌∙◌, arith, Option, Some}
 use Rattle.std.proofs.Common.{None, Bool, true, false, refl, codes, decimal, if◌then◌else◌}
 use Rattle.std.specs.Option.{option_and_then}
@@ -283,7 +283,7 @@ serving_read serving may =
     (past (codes "slot") refl) may.planning in
     rw films (rw (films_back serving.films may.films) (rw capacity (rw journal (rw listening (rw planning refl)))))
 
--- the settings of a client are words of `plan` and `check`
+-- the settings of a client are arguments of `plan` and `check`
 viewer_plain : (viewer : ClientParams) → are_plain (client_settings viewer) ≡ true
 viewer_plain viewer = by viewer.source viewer.buffer viewer.delay
   where
@@ -314,7 +314,7 @@ check_among viewer cert = by viewer.source viewer.buffer viewer.delay
     by (trace_source name) buffer delay = refl
     by (film_source name slot) buffer delay = refl
 
--- a command whose words are its own
+-- a command whose arguments are its own
 command_read : (command : Subcommand) (settings : List Setting) (order : Invocation) → are_plain settings ≡ true →
     are_among (keys_of command) settings ≡ true →
     invocation_given command (given settings) ≡ Some order → command_invocation (given settings) command ≡ Some order
@@ -322,7 +322,7 @@ command_read command settings order plain among read =
     ap (λ (b : Bool). if b then invocation_given command (given settings) else None)
     (words_read (keys_of command) settings plain among) ∙ read
 
--- the words of an order mean that order
+-- the arguments of an invocation mean that invocation
 pub order_back : (order : Invocation) → IsValidInvocation order → invocation_from (args_of order) ≡ Some order
 order_back help may = refl
 order_back version may = refl

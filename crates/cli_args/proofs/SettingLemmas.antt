@@ -100,7 +100,7 @@ one_read (k ∷ keys) key value plain =
     ∙ ap (λ (b : Bool). b || gives_one keys (key ++ (codes "=" ++ value))) (some_is (bytes_eq key k) value)
     ∙ ap (λ (b : Bool). bytes_eq key k || b) (one_read keys key value plain)
 
--- written settings are words of a command that takes their keys
+-- written settings are arguments of a command that takes their keys
 pub words_read : (keys : List (List ℕ)) (settings : List Setting) → are_plain settings ≡ true
     → are_among keys settings ≡ true →
     list_all (gives_one keys) (map setting_text settings) ≡ true
@@ -111,7 +111,7 @@ words_read keys (s ∷ settings) plain among =
     and_from (gives_one keys (setting_text s)) (list_all (gives_one keys) (map setting_text settings))
     (one_read keys s.key s.value parts.0 ∙ all.0) (words_read keys settings parts.1 all.1)
 
--- films in front of other settings
+-- films before other settings
 pub films_plain : (films : List (List ℕ)) (settings : List Setting) → are_plain settings ≡ true
     → are_plain (map film_setting films ++ settings) ≡ true
 films_plain [] settings plain = plain

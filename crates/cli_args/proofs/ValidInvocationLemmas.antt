@@ -1,4 +1,4 @@
--- What words mean may be asked.
+-- What arguments mean may be asked.
 use Rattle.std.proofs.Common.{◌≡◌, ℕ, ◌+◌, ◌-◌, ◌^◌, ◌≤◌, ◌&&◌, ◌==◌, All, List, [], ◌∷◌, ◌++◌}
 use Rattle.std.proofs.Common.{length, subst, arith, Option, Some, None, Bool, true, false, refl}
 use Rattle.std.proofs.Common.{codes, if◌then◌else◌, nat_le, nat_lt, length-append}
@@ -316,7 +316,7 @@ command_asked first words order e =
     given_asked command.0 words order
     (test_passes (list_all (is_setting_of command.0) words) (invocation_given command.0 words) order command.2).1
 
--- what words mean may be asked
+-- what arguments mean may be asked
 pub order_asked : (words : List (List ℕ)) (order : Invocation) → invocation_from words ≡ Some order → IsValidInvocation
     order
 order_asked [] order e = absurd (none-some _ e)

@@ -49,7 +49,7 @@ needed_keys Watch = codes "film" ∷ []
 abbrev pub times : List ℕ → List (List ℕ) → ℕ
 times key words = length (values_of key words)
 
--- the word is `key=value`, with a key that the command takes
+-- the argument is `key=value`, with a key that the command takes
 pub record IsSettingOf (command : Subcommand) (word : List ℕ) : Type 0 where
   pub setting : Setting
   pub taken : Contains (keys_of command) setting.key

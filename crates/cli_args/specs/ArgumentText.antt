@@ -1,4 +1,4 @@
--- How an order is written: a command, and each of its settings with its key; and what may be asked.
+-- How an invocation is written: a command, each setting with its key; and what may be asked.
 use Rattle.std.specs.Prelude.{ℕ, ◌≡◌, ◌≢◌, ◌^◌, ◌<◌, ◌≤◌, Bool, true, false, List, [], ◌∷◌, ◌++◌}
 use Rattle.std.specs.Prelude.{All, length, slice_index_or, map, codes, decimal}
 use Rattle.std.specs.Int.{IsInRange}

@@ -1,4 +1,4 @@
--- What is known of an order that was read: good names of files, and numbers in their ranges.
+-- What is known of an invocation that was read: good names of files, and numbers in their ranges.
 use Rattle.std.specs.Prelude.{◌≡◌, true, codes}
 use Rattle.vod_base.specs.Names.{good_name}
 use Rattle.slot_calendar.specs.Profiles.{IsProfile}

@@ -15,7 +15,7 @@ use Rattle.vod_base.specs.Numbers.{number_of}
 abbrev pub texts : List (String Global) → List (List ℕ)
 texts words = map string_bytes words
 
--- the value that a word gives to a key
+-- the value that an argument gives to a key
 abbrev pub setting_value : List ℕ → List ℕ → Option (List ℕ)
 setting_value key word =
     if nat_lt (position_or_len (λ b. b == 61) word) (length word)

@@ -34,7 +34,7 @@ keys_of Serve =
     ∷ codes "startup" ∷ codes "slot" ∷ codes "journal" ∷ codes "workers" ∷ codes "connections" ∷ []
 keys_of Watch = codes "film" ∷ codes "port" ∷ codes "buffer" ∷ codes "startup" ∷ codes "slot" ∷ []
 
--- the word gives a value to one of the keys
+-- the argument gives a value to one of the keys
 abbrev pub gives_one : List (List ℕ) → List ℕ → Bool
 gives_one keys word = list_any (λ key. is_some (setting_value key word)) keys
 

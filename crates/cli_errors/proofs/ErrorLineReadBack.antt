@@ -1,4 +1,4 @@
--- The line of a trouble is read back.
+-- The line of an error is read back.
 use Rattle.std.proofs.Common.{◌≡◌, ◌≢◌, ℕ, ◌<◌, ◌^◌, ◌&&◌, not, ◌==◌, nat_lt, nat_le, if◌then◌else◌, true}
 use Rattle.std.proofs.Common.{false, List, [], ◌∷◌, ◌++◌, flat_map, drop, length, slice_index, Option, Some}
 use Rattle.std.proofs.Common.{None, codes, decimal, refl, sym, ap, ◌∙◌, arith}

@@ -1,4 +1,4 @@
--- Words and numbers with a blank between two are told apart.
+-- Words and numbers with a blank between two can be distinguished.
 use Rattle.std.proofs.Common.{◌≡◌, ◌≢◌, ℕ, ◌<◌, ◌^◌, ◌==◌, true, false, List, [], ◌∷◌, ◌++◌, All, map}
 use Rattle.std.proofs.Common.{flat_map, Option, Some, None, decimal, refl, ap, ◌∙◌, arith}
 use Rattle.std.specs.List.{slice_split}

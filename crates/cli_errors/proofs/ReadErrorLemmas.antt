@@ -1,4 +1,4 @@
--- Troubles whose causes follow from each other.
+-- Errors whose causes follow from each other.
 use Rattle.std.proofs.Common.{◌≡◌, ℕ, ◌≤◌, List, Option, Some, true, arith}
 use Rattle.vod_base.specs.Names.{good_name}
 use Rattle.vod_base.specs.IoState.{File}
@@ -9,8 +9,8 @@ use Rattle.cli_errors.specs.declared.errors.CliError.{CliError}
 use Rattle.cli_errors.specs.declared.errors.CliError.TheVariants.{Usage, Refused, StoreFault, SinkFault}
 use Rattle.cli_errors.specs.declared.errors.CliError.TheVariants.{NoMemory, GateFault, LinkFault}
 
--- what the trouble of a call that reads a library may come from: the inputs that it reads, what a
--- refusal goes with, what the library tells, and its count of faults before and after
+-- what the error of a call that reads a library may come from: the inputs that it reads, what a
+-- refusal goes with, what the library exposes, and its count of faults before and after
 pub record Causes : Type 1 where
   pub Reads : List ℕ → Type 0
   pub Refuses : List File → List ℕ → InputError → Type 0
@@ -31,7 +31,7 @@ pub record AreWider (one other : Causes) : Type 0 where
   pub low : other.before ≤ one.before
   pub high : one.after ≤ other.after
 
--- a trouble with one cause has each cause that follows
+-- an error with one cause has each cause that follows
 pub trouble_map : (one other : Causes) (t : CliError) → AreWider one other → IsTroubleOf one t → IsTroubleOf other t
 trouble_map one other Usage wider h = h
 trouble_map one other (Refused name fault) wider h =
@@ -43,7 +43,7 @@ trouble_map one other NoMemory wider h = tt
 trouble_map one other GateFault wider h = h
 trouble_map one other LinkFault wider h = h
 
--- where the inputs that are read have good names, so has the one that a trouble names
+-- where the inputs that are read have good names, so has the one that an error names
 pub good_input : (causes : Causes) (t : CliError) → ((name : List ℕ) → causes.Reads name → good_name name ≡ true) →
     IsTroubleOf causes t → HasGoodName t
 good_input causes Usage good h = tt

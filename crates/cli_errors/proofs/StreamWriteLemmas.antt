@@ -1,4 +1,4 @@
--- What a part more makes of what was said.
+-- What one part more makes of what was written.
 use Rattle.std.proofs.Common.{◌≡◌, ℕ, ◌+◌, ◌≤◌, Bool, true, false, List, ◌++◌, length, take, Option, refl}
 use Rattle.std.proofs.Common.{sym, ap, ◌∙◌, arith, length-append, subst}
 use Rattle.std.proofs.Common.{Result, Ok, Err}
@@ -11,7 +11,7 @@ use Rattle.vod_base.proofs.HistoryLemmas.{told_more-append}
 use Rattle.vod_base.specs.declared.errors.SinkFault.{SinkFault}
 use Rattle.cli_errors.specs.StreamWrites.{IsTextWritten}
 
--- nothing more is said after a fault
+-- nothing more is written after a fault
 pub said_no_more : {faults faults' : ℕ} {told told' : Option (List ℕ)} {text : List ℕ} (part : List ℕ) →
     IsTextWritten faults faults' told told' text false →
     IsTextWritten faults faults' told told' (text ++ part) false
@@ -67,7 +67,7 @@ pub said_as : {faults faults' : ℕ} {told told' : Option (List ℕ)} {text text
 said_as {faults = faults} {faults' = faults'} {told = told} {told' = told'} {ok = ok} e said =
     subst (λ (t : List ℕ). IsTextWritten faults faults' told told' t ok) e said
 
--- a write said its bytes
+-- a write wrote its bytes
 pub said_whole : {faults faults' : ℕ} {told told' : Option (List ℕ)} {part : List ℕ} → faults ≤ faults' →
     told' ≡ told_more told part → IsTextWritten faults faults' told told' part true
 said_whole count whole = record {
@@ -77,7 +77,7 @@ said_whole count whole = record {
   front = λ e. absurd (true≢false e);
 }
 
--- or a fault left a front of them
+-- or a fault left a prefix of them
 pub said_cut : {faults faults' : ℕ} {told told' : Option (List ℕ)} {part : List ℕ} → faults ≤ faults' →
     HasRisen faults faults' → IsWrittenPrefix told told' part → IsTextWritten faults faults' told told' part false
 said_cut count fault front = record {
@@ -87,7 +87,7 @@ said_cut count fault front = record {
   front = λ _. front;
 }
 
--- what a write said
+-- what a write wrote
 pub said_by : {faults faults' : ℕ} {told told' : Option (List ℕ)} {part : List ℕ}
     (r : Result (Unit {0}) SinkFault) → faults ≤ faults' → OnErr r (HasRisen faults faults') →
     OnOk r (told' ≡ told_more told part) →
@@ -95,7 +95,7 @@ pub said_by : {faults faults' : ℕ} {told told' : Option (List ℕ)} {part : Li
 said_by (Ok done) count fault whole front = said_whole count whole
 said_by (Err lost) count fault whole front = said_cut count fault front
 
--- a part more was said, or a front of it
+-- one part more was written, or a prefix of it
 pub said_then : {faults faults' faults'' : ℕ} {told told' told'' : Option (List ℕ)} {text part : List ℕ}
     {whole : Bool} →
     IsTextWritten faults faults' told told' text true → IsTextWritten faults' faults'' told' told'' part whole →
@@ -104,7 +104,7 @@ said_then {part = part} {whole = true} one other = said_more part one other.coun
 said_then {part = part} {whole = false} one other =
     said_part part one other.count (other.risen refl) (other.front refl)
 
--- a fault that is handed on cut it off
+-- a fault that is handed on ended it early
 pub said_lost : {faults faults' : ℕ} {told told' : Option (List ℕ)} {text : List ℕ} {lost : SinkFault}
     (r : Result (Unit {0}) SinkFault) → IsErrAnd r (λ e. e ≡ lost) → IsTextWritten faults faults' told told' text false
     →

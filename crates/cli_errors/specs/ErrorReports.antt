@@ -1,4 +1,4 @@
--- What the line of an error says to its reader.
+-- What the line of an error states.
 use Rattle.std.specs.Prelude.{◌≡◌, ◌≢◌, ℕ, ◌<◌, ◌^◌, true, All, List, ◌++◌, codes}
 use Rattle.vod_base.specs.Names.{good_name}
 use Rattle.cli_errors.specs.ErrorLines.{cause_words}

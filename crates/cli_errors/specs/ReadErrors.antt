@@ -1,4 +1,4 @@
--- What keeps a call that reads a library from its work.
+-- Why a call that reads a library fails.
 use Rattle.std.specs.Prelude.{◌≡◌, ℕ, ◌≤◌, List, Option, Some}
 use Rattle.vod_base.specs.IoState.{File, HasRisen}
 use Rattle.cli_errors.specs.declared.errors.InputError.{InputError}

@@ -1,4 +1,4 @@
--- What was said on a stream, part by part up to the first fault.
+-- What was written on a stream, part by part up to the first fault.
 use Rattle.std.specs.Prelude.{◌≡◌, ℕ, ◌≤◌, Bool, true, false, List, ◌++◌, Option, codes, decimal}
 use Rattle.vod_base.specs.IoState.{HasRisen, told_more, IsWrittenPrefix}
 

@@ -1,4 +1,4 @@
--- The lines of a calendar's text: which slots they tell, and what of each.
+-- The lines of a calendar's text: which slots they list, and what of each.
 use Rattle.std.proofs.Common.{ℕ, zero, suc, ◌+◌, ◌^◌, ◌<◌, ◌≤◌, ◌≡◌, ◌≢◌, not, ◌==◌, nat_lt, Bool, true, false}
 use Rattle.std.proofs.Common.{cond, List, [], ◌∷◌, ◌++◌, All, map, flat_map}
 use Rattle.std.proofs.Common.{get_or, codes, decimal, append_assoc, sym, ap, refl, subst, ◌∙◌, arith, inl, inr}
@@ -123,7 +123,7 @@ all_map P f [] each = All-nil P
 all_map P f (x ∷ xs) each =
     All-cons P (f x) (map f xs) (All-head (λ t. P (f t)) x xs each) (all_map P f xs (All-tail (λ t. P (f t)) x xs each))
 
--- ---- what a line tells
+-- ---- what a line states
 same_words : {s b t c : ℕ} → s < 2 ^ 64 → b < 2 ^ 64 → t < 2 ^ 64 → c < 2 ^ 64 → slot_words s b ≡ slot_words t c
     → (s ≡ t) × (b ≡ c)
 same_words {s} {b} {t} {c} small few small' few' e =
@@ -142,7 +142,7 @@ same_words {s} {b} {t} {c} small few small' few' e =
       decimal_injective b c few few' (append_cancel_left (codes "booked=") (decimal b) (decimal c) parts.1),
     )
 
--- a line that tells of this slot tells its booked bytes, above 0, and the slot isn't before now
+-- a line of this slot states its booked bytes, above 0, and the slot isn't before now
 abbrev TellsOf : ℕ → (ℕ → ℕ) → ℕ → ℕ → List ℕ → Type 0
 TellsOf from bytes slot booked line = line ≡ slot_words slot booked
     → (booked ≡ bytes slot) × (0 < booked) × (from ≤ slot)

@@ -1,4 +1,4 @@
--- A calendar's text is that of the machine's state whose plays it stands for.
+-- A calendar's text is that of the machine's state whose plays it represents.
 use Rattle.std.proofs.Common.{ℕ, zero, suc, ◌+◌, ◌≤◌, ◌≡◌, List, [], ◌∷◌, ◌++◌, codes, All, arith, refl, ap, ◌∙◌}
 use Rattle.std.specs.List.{range_with_len}
 use Rattle.std.proofs.lemmas.List.Elements.{All-cons, All-head, All-nil, All-tail}

@@ -52,14 +52,14 @@ row_spelled before row =
     grouped_spelled before (row.first.label ++ row.first.text) row.more
     ∙ ap (λ (l : List ℕ). spelled l row.more) (sym (append_assoc before row.first.label row.first.text))
 
--- the front of a line: its place, who asked, and the command
+-- the beginning of a line: its place, who asked, and the command
 front_spelled : (place : List ℕ) (seat : Labelled) (command : Row) →
     place ++ (seat.label ++ seat.text) ++ words_of command ≡ spelled_row (place ++ seat.label ++ seat.text) command
 front_spelled place seat command =
     row_spelled (place ++ (seat.label ++ seat.text)) command
     ∙ ap (λ (l : List ℕ). spelled_row l command) (sym (append_assoc place seat.label seat.text))
 
--- and the whole line, by its answer
+-- and the entire line, by its answer
 line_spelled : (place : List ℕ) (seat : Labelled) (command answer : Row) →
     place ++ (seat.label ++ seat.text) ++ words_of command ++ words_of answer ++ codes "\n"
     ≡ spelled_row (spelled_row (place ++ seat.label ++ seat.text) command) answer ++ codes "\n"

@@ -92,7 +92,7 @@ one_more {entries = entries} {from = from} {passed = passed} {before = before} e
           ∙ ap (λ (l : List ℕ). so_far.done ++ l) (sym (text_next entries from passed entry inside at)) ∙ so_far.whole;
     }
 
--- a front of the next line is one of the text
+-- a prefix of the next line is one of the text
 pub line_cut : {entries : List Entry} {from passed : ℕ} {before mid after : List ℕ} {e : NoMemory}
     (entry : Entry) → HasAppended entries from passed before mid →
     passed < length entries → entry ≡ get_or entries passed entry

@@ -9,7 +9,7 @@ abbrev pub journal_text : ℕ → List Entry → List ℕ
 journal_text place [] = []
 journal_text place (entry ∷ entries) = entry_line place entry ++ journal_text (place + 1) entries
 
--- The text is made of lines in a row, one for each entry and in the order of entries, and of
+-- The text consists of lines in a row, one for each entry and in the order of entries, and of
 -- nothing else: line i is that of entry i, at the place `from + i`.
 pub record IsJournalText (from : ℕ) (entries : List Entry) (text : List ℕ) : Type 0 where
   pub lines : List (List ℕ)
