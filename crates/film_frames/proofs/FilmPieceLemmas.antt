@@ -1,4 +1,4 @@
--- The pieces of a whole film: they are sound, and their sizes add up to at most 2^42.
+-- The pieces of an entire film: they are sound, and their sizes add up to at most 2^42.
 use Rattle.std.proofs.Common.{◌≡◌, ℕ, ◌+◌, ◌*◌, ◌^◌, ◌≤◌, List, [], ◌∷◌, map, sum, length, Some}
 use Rattle.std.proofs.Common.{slice_get, refl, sym, ap, subst, ◌∙◌, arith}
 use Rattle.std.proofs.lemmas.List.Sums.{sum_by-cons}

@@ -1,4 +1,4 @@
--- What holds of the run that `Frames` stands for.
+-- What is true of the run that `Frames` represents.
 use Rattle.std.proofs.Common.{◌≡◌, ℕ, ◌+◌, ◌^◌, ◌<◌, ◌≤◌, length, take, ap, arith}
 use Rattle.std.specs.List.{sum_by}
 use Rattle.film_frames.specs.declared.frames.Frames.TheInside.{Inside}

@@ -3,6 +3,7 @@ use Rattle.std.proofs.Common.{◌≡◌, ◌≢◌, ℕ, ◌+◌, ◌-◌, ◌*�
 use Rattle.std.proofs.Common.{refl, subst, arith, inl, inr, replicate}
 use Rattle.std.proofs.lemmas.Bool.{cases_lt}
 use Rattle.std.proofs.lemmas.List.{get_or-map, get_or-replicate, length-map, length-replicate}
+use Rattle.rtp_pack.specs.declared.sizes.TheConstants.{FRAME_HEAD_BYTES}
 use Rattle.mpeg_scan.specs.declared.units.Unit.{Unit as PictureUnit}
 use Rattle.rtp_pack.specs.declared.payloads.Packet.{Packet}
 use Rattle.rtp_pack.specs.Heads.{bit}
@@ -52,18 +53,18 @@ one-piece {pieces} {k} number part past before from to =
 
 head-here : {pieces : List (List ℕ)} {at k bytes place : ℕ} → IsPart pieces k at bytes → at < place
     → place < at + bytes → IsHeadEnd pieces place
-    → HasHeads (get_or pieces k []) × (place ≡ begin_of pieces k + 20)
+    → HasHeads (get_or pieces k []) × (place ≡ begin_of pieces k + FRAME_HEAD_BYTES)
 head-here {pieces} {place} part past before is =
     let same = one-piece is.number part past before (omega (arith, is.place_is))
     (omega (arith, is.place_is, is.frame.payload, begin-more pieces is.number is.among)) in (
       subst (λ n. HasHeads (get_or pieces n [])) same is.frame,
-      subst (λ n. place ≡ begin_of pieces n + 20) same is.place_is,
+      subst (λ n. place ≡ begin_of pieces n + FRAME_HEAD_BYTES) same is.place_is,
     )
 
 -- the bytes of a frame from a place on are split at the end of its heads
 pub frame-split : {pieces : List (List ℕ)} {at k : ℕ} (head payload : ℕ) → IsPart pieces k at (head + payload)
     → HasHeads (get_or pieces k [])
-    → head ≡ 20 - min (at - begin_of pieces k) 20 → IsSplit pieces at head payload
+    → head ≡ FRAME_HEAD_BYTES - min (at - begin_of pieces k) FRAME_HEAD_BYTES → IsSplit pieces at head payload
 frame-split {k} head payload part heads is = record {
   ends = λ some more. record {
     number = k;

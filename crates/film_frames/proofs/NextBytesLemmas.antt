@@ -5,6 +5,8 @@ use Rattle.std.proofs.lemmas.Bool.{cases_lt}
 use Rattle.std.proofs.lemmas.List.{append-nil, drop-append-le, drop-drop, drop-take, length-drop}
 use Rattle.std.proofs.lemmas.List.{length-take-le, take_all}
 use Rattle.std.proofs.Math.Seq.{drop-append-add}
+use Rattle.rtp_pack.specs.declared.reports.TheConstants.{REPORT_BYTES}
+use Rattle.rtp_pack.specs.declared.sizes.TheConstants.{FRAME_HEAD_BYTES}
 use Rattle.rtp_pack.specs.declared.payloads.Packet.{Packet}
 use Rattle.film_frames.specs.declared.pieces.Piece.{Piece}
 use Rattle.film_frames.specs.Pieces.{frames_in, octets_in, wire_of}
@@ -65,68 +67,68 @@ rest-next {pieces} {at} {k} {bytes} have within are =
 
 -- ---- the bytes of a report or a frame from a place on
 
-pub report-rest : (block : List ℕ) (o : ℕ) → length block ≡ 52 → o ≤ 52
-    → take (52 - o) (drop o block) ++ [] ≡ drop o block
+pub report-rest : (block : List ℕ) (o : ℕ) → length block ≡ REPORT_BYTES → o ≤ REPORT_BYTES
+    → take (REPORT_BYTES - o) (drop o block) ++ [] ≡ drop o block
 report-rest block o long within =
-    append-nil (take (52 - o) (drop o block))
-    ∙ take_all (52 - o) (drop o block) (omega (arith, length-drop o block, long))
+    append-nil (take (REPORT_BYTES - o) (drop o block))
+    ∙ take_all (REPORT_BYTES - o) (drop o block) (omega (arith, length-drop o block, long))
 
 -- a place in a frame: in the heads that begin these bytes, or in the payload of a packet of the film
 pub record InFrame (film block : List ℕ) (p : Packet) (o : ℕ) : Type 0 where
-  pub long : length block ≡ 52
+  pub long : length block ≡ REPORT_BYTES
   pub order : p.from ≤ p.to
   pub within : p.to ≤ length film
-  pub inside : o ≤ 20 + (p.to - p.from)
+  pub inside : o ≤ FRAME_HEAD_BYTES + (p.to - p.from)
 
 frame-rest : {film block : List ℕ} {p : Packet} {o : ℕ} → InFrame film block p o
-    → take (20 - min o 20) (drop (min o 20) block)
-    ++ take (p.to - (p.from + (max o 20 - 20))) (drop (p.from + (max o 20 - 20)) film)
-    ≡ drop o (take 20 block ++ payload film p)
+    → take (FRAME_HEAD_BYTES - min o FRAME_HEAD_BYTES) (drop (min o FRAME_HEAD_BYTES) block)
+    ++ take (p.to - (p.from + (max o FRAME_HEAD_BYTES - FRAME_HEAD_BYTES))) (drop (p.from + (max o FRAME_HEAD_BYTES - FRAME_HEAD_BYTES)) film)
+    ≡ drop o (take FRAME_HEAD_BYTES block ++ payload film p)
 frame-rest {film} {block} {p} {o} lies =
-    let heads : length (take 20 block) ≡ 20 = length-take-le 20 block (omega (arith, lies.long)) in
-    elim (cases_lt 20 o) [
+    let heads : length (take FRAME_HEAD_BYTES block) ≡ FRAME_HEAD_BYTES = length-take-le FRAME_HEAD_BYTES block (omega (arith, lies.long)) in
+    elim (cases_lt FRAME_HEAD_BYTES o) [
       | inr g ↦
-          let least : min o 20 ≡ o = omega (arith, g) in
-          let none : p.from + (max o 20 - 20) ≡ p.from = omega (arith, g) in
-          let twenty : 20 ≡ o + (20 - o) = omega (arith, g) in
-          ap (λ n. take (20 - n) (drop n block)
-          ++ take (p.to - (p.from + (max o 20 - 20))) (drop (p.from + (max o 20 - 20)) film)) least
-          ∙ ap (λ n. take (20 - o) (drop o block) ++ take (p.to - n) (drop n film)) none
+          let least : min o FRAME_HEAD_BYTES ≡ o = omega (arith, g) in
+          let none : p.from + (max o FRAME_HEAD_BYTES - FRAME_HEAD_BYTES) ≡ p.from = omega (arith, g) in
+          let twenty : FRAME_HEAD_BYTES ≡ o + (FRAME_HEAD_BYTES - o) = omega (arith, g) in
+          ap (λ n. take (FRAME_HEAD_BYTES - n) (drop n block)
+          ++ take (p.to - (p.from + (max o FRAME_HEAD_BYTES - FRAME_HEAD_BYTES))) (drop (p.from + (max o FRAME_HEAD_BYTES - FRAME_HEAD_BYTES)) film)) least
+          ∙ ap (λ n. take (FRAME_HEAD_BYTES - o) (drop o block) ++ take (p.to - n) (drop n film)) none
           ∙ ap (λ (l : List ℕ). l ++ payload film p)
-          (sym (drop-take o (20 - o) block) ∙ ap (λ n. drop o (take n block)) (sym twenty))
-          ∙ sym (drop-append-le o (take 20 block) (payload film p) (omega (arith, g, heads)))
+          (sym (drop-take o (FRAME_HEAD_BYTES - o) block) ∙ ap (λ n. drop o (take n block)) (sym twenty))
+          ∙ sym (drop-append-le o (take FRAME_HEAD_BYTES block) (payload film p) (omega (arith, g, heads)))
       | inl l ↦
-          let m = o - 20 in
-          let least : min o 20 ≡ 20 = omega (arith, l) in
-          let past : p.from + (max o 20 - 20) ≡ p.from + m = omega (arith, l) in
+          let m = o - FRAME_HEAD_BYTES in
+          let least : min o FRAME_HEAD_BYTES ≡ FRAME_HEAD_BYTES = omega (arith, l) in
+          let past : p.from + (max o FRAME_HEAD_BYTES - FRAME_HEAD_BYTES) ≡ p.from + m = omega (arith, l) in
           let left : p.to - p.from ≡ m + (p.to - (p.from + m)) = omega (arith, l, lies.inside, lies.order) in
-          let at : o ≡ length (take 20 block) + m = omega (arith, heads, l) in
-          ap (λ n. take (20 - n) (drop n block)
-          ++ take (p.to - (p.from + (max o 20 - 20))) (drop (p.from + (max o 20 - 20)) film)) least
+          let at : o ≡ length (take FRAME_HEAD_BYTES block) + m = omega (arith, heads, l) in
+          ap (λ n. take (FRAME_HEAD_BYTES - n) (drop n block)
+          ++ take (p.to - (p.from + (max o FRAME_HEAD_BYTES - FRAME_HEAD_BYTES))) (drop (p.from + (max o FRAME_HEAD_BYTES - FRAME_HEAD_BYTES)) film)) least
           ∙ ap (λ n. take (p.to - n) (drop n film)) past
           ∙ ap (λ (l : List ℕ). take (p.to - (p.from + m)) l) (sym (drop-drop m p.from film))
           ∙ sym (drop-take m (p.to - (p.from + m)) (drop p.from film))
           ∙ ap (λ n. drop m (take n (drop p.from film))) (sym left)
-          ∙ sym (drop-append-add (take 20 block) (payload film p) m)
-          ∙ ap (λ n. drop n (take 20 block ++ payload film p)) (sym at)
+          ∙ sym (drop-append-add (take FRAME_HEAD_BYTES block) (payload film p) m)
+          ∙ ap (λ n. drop n (take FRAME_HEAD_BYTES block ++ payload film p)) (sym at)
     ]
 
 -- the same where the range of the heads and the payload are known by equations
 pub frame-part : {bytes film block : List ℕ} {low high o : ℕ} {p : Packet} → InFrame film block p o
-    → low ≡ min o 20 → high ≡ max o 20
-    → bytes ≡ take (p.to - (p.from + (high - 20))) (drop (p.from + (high - 20)) film)
-    → (take (20 - low) (drop low block) ++ bytes ≡ drop o (take 20 block ++ payload film p))
-    × ((20 - low) + length bytes + o ≡ 20 + (p.to - p.from))
+    → low ≡ min o FRAME_HEAD_BYTES → high ≡ max o FRAME_HEAD_BYTES
+    → bytes ≡ take (p.to - (p.from + (high - FRAME_HEAD_BYTES))) (drop (p.from + (high - FRAME_HEAD_BYTES)) film)
+    → (take (FRAME_HEAD_BYTES - low) (drop low block) ++ bytes ≡ drop o (take FRAME_HEAD_BYTES block ++ payload film p))
+    × ((FRAME_HEAD_BYTES - low) + length bytes + o ≡ FRAME_HEAD_BYTES + (p.to - p.from))
 frame-part {bytes} {film} {block} {low} {high} {o} {p} lies low_is high_is are =
-    let at = p.from + (high - 20) in
+    let at = p.from + (high - FRAME_HEAD_BYTES) in
     let count : length bytes ≡ p.to - at =
     ap (λ (l : List ℕ). length l) are
     ∙ length-take-le (p.to - at) (drop at film) (omega (arith, length-drop at film, lies.within)) in (
-      ap (λ (l : List ℕ). take (20 - low) (drop low block) ++ l) are
-          ∙ ap (λ n. take (20 - n) (drop n block)
-          ++ take (p.to - (p.from + (high - 20))) (drop (p.from + (high - 20)) film)) low_is
-          ∙ ap (λ n. take (20 - min o 20) (drop (min o 20) block)
-          ++ take (p.to - (p.from + (n - 20))) (drop (p.from + (n - 20)) film)) high_is
+      ap (λ (l : List ℕ). take (FRAME_HEAD_BYTES - low) (drop low block) ++ l) are
+          ∙ ap (λ n. take (FRAME_HEAD_BYTES - n) (drop n block)
+          ++ take (p.to - (p.from + (high - FRAME_HEAD_BYTES))) (drop (p.from + (high - FRAME_HEAD_BYTES)) film)) low_is
+          ∙ ap (λ n. take (FRAME_HEAD_BYTES - min o FRAME_HEAD_BYTES) (drop (min o FRAME_HEAD_BYTES) block)
+          ++ take (p.to - (p.from + (n - FRAME_HEAD_BYTES))) (drop (p.from + (n - FRAME_HEAD_BYTES)) film)) high_is
           ∙ frame-rest lies,
       omega (arith, count, low_is, high_is, lies.order, lies.inside),
     )

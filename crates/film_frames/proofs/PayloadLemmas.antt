@@ -5,6 +5,7 @@ use Rattle.std.proofs.Common.{slice_get, refl, sym, ap, subst, ◌∙◌, arith}
 use Rattle.std.proofs.Math.Seq.{take-add}
 use Rattle.std.proofs.lemmas.List.{drop-drop, take_all}
 use Rattle.std.proofs.lemmas.List.Concat.{flat_map-cons}
+use Rattle.rtp_pack.specs.declared.sizes.TheConstants.{FRAME_HEAD_BYTES}
 use Rattle.mpeg_scan.specs.declared.units.Unit.{Unit as PictureUnit}
 use Rattle.mpeg_scan.specs.declared.films.Film.{Film}
 use Rattle.rtp_pack.specs.declared.payloads.Packet.{Packet}
@@ -40,7 +41,7 @@ unfolding carried
 frames-carry run frames octets [] = refl
 frames-carry run frames octets (Report unit ∷ pieces) = frames-carry run (frames + 0) (octets + 0) pieces
 frames-carry run frames octets (Frame unit p ∷ pieces) =
-    flat_map-cons (λ (frame : List ℕ). drop 20 frame) (piece_bytes run frames octets (Frame unit p))
+    flat_map-cons (λ (frame : List ℕ). drop FRAME_HEAD_BYTES frame) (piece_bytes run frames octets (Frame unit p))
     (frames_among pieces (blocks_from run (frames + 1) (octets + octets_of (Frame unit p)) pieces))
     ∙ ap (λ (l : List ℕ). payload run.film p ++ l)
     (frames-carry run (frames + 1) (octets + octets_of (Frame unit p)) pieces)

@@ -3,6 +3,8 @@ use Rattle.std.proofs.Common.{◌≡◌, ℕ, zero, suc, ◌+◌, ◌-◌, ◌*�
 use Rattle.std.proofs.Common.{cond, List, [], ◌∷◌, ◌++◌, map, length, take, get_or, Some, slice_get}
 use Rattle.std.proofs.Common.{refl, sym, ap, subst, ◌∙◌, arith}
 use Rattle.std.proofs.lemmas.List.Sums.{sum_by-cons, sum_by-take-le}
+use Rattle.rtp_pack.specs.declared.reports.TheConstants.{REPORT_BYTES}
+use Rattle.rtp_pack.specs.declared.sizes.TheConstants.{FRAME_HEAD_BYTES}
 use Rattle.mpeg_scan.specs.declared.units.Unit.{Unit as PictureUnit}
 use Rattle.mpeg_scan.specs.declared.films.Film.{Film}
 use Rattle.mpeg_scan.specs.Layout.{AreChained, IsLaid}
@@ -81,7 +83,7 @@ record StandsAfter (pieces : List Piece) (k : ℕ) (piece : Piece) (reports : �
 
 from-at : {pieces : List Piece} {k : ℕ} {piece : Piece} {reports : ℕ} (from to : ℕ)
     → AreFollowing from pieces to → StandsAfter pieces k piece reports
-    → from_of piece + 20 * frames_in (take k pieces) + 52 * reports ≡ from + wire_in (take k pieces)
+    → from_of piece + FRAME_HEAD_BYTES * frames_in (take k pieces) + REPORT_BYTES * reports ≡ from + wire_in (take k pieces)
 from-at {pieces = []} from to are stands = absurd (let none = stands.at in cc)
 from-at {pieces = first ∷ pieces} {k = zero} {piece} from to are stands =
     let same : first ≡ piece = (let at = stands.at in cc) in
@@ -120,7 +122,7 @@ film-some film number h = some-units film.slice_starts.items film.units.items nu
 pub film-payload : {number : ℕ} {first : PictureUnit} {piece : Piece} (film : Film) (reports : ℕ)
     → number < length (film_pieces film) → first ≡ get_or film.units.items 0 first
     → slice_get (film_pieces film) number ≡ Some piece → frames_in (take number (film_pieces film)) + reports ≡ number
-    → from_of piece + 20 * frames_in (take number (film_pieces film)) + 52 * reports
+    → from_of piece + FRAME_HEAD_BYTES * frames_in (take number (film_pieces film)) + REPORT_BYTES * reports
     ≡ first.from + wire_in (take number (film_pieces film))
 film-payload {number} {first} {piece} film reports h is at count =
     let from =
@@ -130,7 +132,7 @@ film-payload {number} {first} {piece} film reports h is at count =
     ∙ ap (λ n. n + wire_in (take number (film_pieces film))) (sym from)
 
 heads-le : (pieces : List Piece) (k reports : ℕ) → k ≤ length pieces → frames_in (take k pieces) + reports ≡ k
-    → 20 * frames_in (take k pieces) + 52 * reports ≤ wire_in (take k pieces)
+    → FRAME_HEAD_BYTES * frames_in (take k pieces) + REPORT_BYTES * reports ≤ wire_in (take k pieces)
 heads-le pieces zero reports h count = omega (arith, count)
 heads-le [] (suc k) reports h count = absurd (omega (arith, h))
 heads-le (Report unit ∷ pieces) (suc k) reports h count =
@@ -154,7 +156,7 @@ heads-le (Frame unit p ∷ pieces) (suc k) reports h count =
 -- of the film's first unit
 pub record HasPlace (number frames place first : ℕ) : Type 0 where
   pub few : frames ≤ number
-  pub heads : 20 * frames + 52 * (number - frames) ≤ place
+  pub heads : FRAME_HEAD_BYTES * frames + REPORT_BYTES * (number - frames) ≤ place
   pub most : place ≤ 2 ^ 42
   pub low : first ≤ 2 ^ 40
 

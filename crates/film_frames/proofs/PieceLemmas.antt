@@ -4,6 +4,8 @@ use Rattle.std.proofs.Common.{[], ◌∷◌, ◌++◌, map, length, Some, slice_
 use Rattle.std.proofs.Common.{◌∙◌, arith}
 use Rattle.std.proofs.lemmas.List.Concat.{flat_map-cons}
 use Rattle.std.proofs.lemmas.List.Sums.{sum_by-append, sum_by-cons}
+use Rattle.rtp_pack.specs.declared.reports.TheConstants.{REPORT_BYTES}
+use Rattle.rtp_pack.specs.declared.sizes.TheConstants.{FRAME_HEAD_BYTES}
 use Rattle.mpeg_scan.specs.declared.units.Unit.{Unit as PictureUnit}
 use Rattle.rtp_pack.specs.declared.payloads.Packet.{Packet}
 use Rattle.rtp_pack.specs.Packets.{DoCover, IsLaid, frames_size, portion_packets, unit_packets}
@@ -90,9 +92,9 @@ frames-wire : (unit : PictureUnit) (packets : List Packet)
 frames-wire unit [] = refl
 frames-wire unit (p ∷ packets) =
     sum_by-cons wire_of (Frame unit p) (map (λ q. Frame unit q) packets)
-    ∙ ap (λ n. 20 + (p.to - p.from) + n) (frames-wire unit packets)
+    ∙ ap (λ n. FRAME_HEAD_BYTES + (p.to - p.from) + n) (frames-wire unit packets)
 
-reports-wire : (unit : PictureUnit) (starts : Bool) → wire_in (cond starts (Report unit ∷ []) []) ≡ cond starts 52 0
+reports-wire : (unit : PictureUnit) (starts : Bool) → wire_in (cond starts (Report unit ∷ []) []) ≡ cond starts REPORT_BYTES 0
 reports-wire unit true = refl
 reports-wire unit false = refl
 
@@ -101,10 +103,10 @@ pub unit-wire : (starts : List ℕ) (unit : PictureUnit) → IsLaid starts unit
 unit-wire starts unit laid =
     sum_by-append wire_of (unit_reports unit) (map (λ p. Frame unit p) (unit_packets starts unit))
     ∙ ap (λ n. n + wire_in (map (λ p. Frame unit p) (unit_packets starts unit))) (reports-wire unit unit.starts_group)
-    ∙ ap (λ n. cond unit.starts_group 52 0 + n)
+    ∙ ap (λ n. cond unit.starts_group REPORT_BYTES 0 + n)
     (frames-wire unit (unit_packets starts unit) ∙ packets-size starts unit laid)
 
-at-most : (starts : Bool) → cond starts 52 0 ≤ 52
+at-most : (starts : Bool) → cond starts REPORT_BYTES 0 ≤ REPORT_BYTES
 at-most true = omega arith
 at-most false = omega arith
 

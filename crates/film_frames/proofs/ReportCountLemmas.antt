@@ -1,5 +1,5 @@
 -- The counts of a run's reports, read at their bytes.
-use Rattle.std.proofs.Common.{◌≡◌, ℕ, ◌%◌, ◌^◌, ◌<◌, List, drop, ap, ◌∙◌, arith}
+use Rattle.std.proofs.Common.{ℕ, List, drop, ap, ◌∙◌, arith}
 use Rattle.mpeg_scan.specs.PictureRates.{picture_time}
 use Rattle.rtp_pack.specs.Fields.{octets_sent, packets_sent}
 use Rattle.rtp_pack.specs.Reports.{unit_report}

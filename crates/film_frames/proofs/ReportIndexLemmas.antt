@@ -1,4 +1,4 @@
--- The numbers of the pieces that are reports: they rise, and tell how many frames come before a piece.
+-- The numbers of the pieces that are reports: they rise, and give how many frames come before a piece.
 use Rattle.std.proofs.Common.{◌≡◌, ℕ, zero, suc, ◌+◌, ◌<◌, ◌≤◌, List, [], ◌∷◌, ◌++◌, length, take}
 use Rattle.std.proofs.Common.{get_or, refl, ap, subst, ◌∙◌, arith}
 use Rattle.std.specs.List.Sorted.{IsNonDecreasing}

@@ -2,6 +2,7 @@
 use Rattle.std.proofs.Common.{◌≡◌, ℕ, ◌+◌, ◌<◌, List, [], length, take, get_or, Some, slice_get}
 use Rattle.std.proofs.Common.{slice_index, refl, sym, ap, ◌∙◌, arith}
 use Rattle.std.proofs.lemmas.Option.{slice_get_within}
+use Rattle.rtp_pack.specs.declared.reports.TheConstants.{REPORT_BYTES}
 use Rattle.mpeg_scan.specs.declared.units.Unit.{Unit as PictureUnit}
 use Rattle.film_frames.specs.declared.pieces.Piece.{Piece}
 use Rattle.film_frames.specs.declared.pieces.Piece.TheVariants.{Report, Frame}
@@ -20,7 +21,7 @@ count_ended-before run k unit at =
     let pieces = run_pieces run in
     let within : k < length pieces =
     omega (arith, slice_get_within (pieces_in run) k (Report unit) at, blocks_from-count run 0 0 (pieces_in run)) in
-    let long : length (get_or pieces k []) ≡ 52 =
+    let long : length (get_or pieces k []) ≡ REPORT_BYTES =
     ap (λ (l : List ℕ). length l) (blocks_from-at run 0 0 (pieces_in run) k at) in
     count_ended-is pieces (begin_of pieces k) k (record {
       among = omega (arith, within);

@@ -7,6 +7,7 @@ use Rattle.std.proofs.lemmas.Bool.{cases_lt, le-leb, lt-leb}
 use Rattle.std.proofs.lemmas.List.{length-drop, length-take-le}
 use Rattle.std.proofs.lemmas.List.Concat.{length-flat_map}
 use Rattle.std.proofs.lemmas.List.Sums.{sum_by-cons}
+use Rattle.rtp_pack.specs.declared.reports.TheConstants.{REPORT_BYTES}
 use Rattle.rtp_pack.specs.declared.payloads.Packet.{Packet}
 use Rattle.film_frames.specs.declared.pieces.Piece.{Piece}
 use Rattle.film_frames.specs.declared.pieces.Piece.TheVariants.{Report, Frame}
@@ -82,7 +83,7 @@ blocks_from-at {piece} run frames octets (first ∷ pieces) (suc k) at =
 -- ---- octets, by the bytes, the frames and the reports
 
 pub octets-are : (pieces : List Piece)
-    → wire_in pieces + 52 * frames_in pieces ≡ octets_in pieces + 16 * frames_in pieces + 52 * length pieces
+    → wire_in pieces + REPORT_BYTES * frames_in pieces ≡ octets_in pieces + 16 * frames_in pieces + REPORT_BYTES * length pieces
 octets-are [] = refl
 octets-are (Report unit ∷ pieces) =
     omega (

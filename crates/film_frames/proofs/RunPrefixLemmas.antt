@@ -1,4 +1,4 @@
--- Fronts of a run, the bytes of a unit among those of a run, and the heads of frames read back.
+-- Prefixes of a run, the bytes of a unit among those of a run, and the heads of frames read back.
 use Rattle.std.proofs.Common.{◌≡◌, ℕ, zero, suc, ◌+◌, ◌-◌, ◌%◌, ◌^◌, ◌<◌, ◌≤◌, Bool, true, false}
 use Rattle.std.proofs.Common.{List, [], ◌∷◌, ◌++◌, map, sum, length, take, drop, Some, Ok, rules}
 use Rattle.std.proofs.Common.{slice_get, refl, sym, ap, ◌∙◌, arith}
@@ -21,7 +21,7 @@ use Rattle.film_frames.specs.Tracks.{framed_bytes}
 use Rattle.film_frames.proofs.PayloadLemmas.{get-drop, run-sum}
 use Rattle.film_frames.proofs.RunBytesLemmas.{blocks_from-at, blocks_from-count}
 
--- ---- a run's front is a run
+-- ---- a prefix of a run is a run
 
 -- the bytes of pieces don't depend on the units of the run
 blocks_from-units : (run : FramedRun) (units : List PictureUnit) (frames octets : ℕ) (pieces : List Piece)

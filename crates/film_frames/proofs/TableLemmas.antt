@@ -8,6 +8,7 @@ use Rattle.std.proofs.lemmas.Option.{get_or_from_slice_get, slice_get_within}
 use Rattle.std.proofs.lemmas.List.{get_or_append_left, get_or_push, get_or_read, length-map}
 use Rattle.std.proofs.lemmas.List.{length_push, take-append-le, take_all, take_at}
 use Rattle.std.proofs.lemmas.List.Sums.{sum_by_more, sum_by_push}
+use Rattle.rtp_pack.specs.declared.sizes.TheConstants.{FRAME_HEAD_BYTES}
 use Rattle.mpeg_scan.specs.declared.units.Unit.{Unit as PictureUnit}
 use Rattle.film_frames.specs.declared.pieces.Piece.{Piece}
 use Rattle.film_frames.specs.declared.pieces.Piece.TheVariants.{Report, Frame}
@@ -200,19 +201,19 @@ read-back {film} {table} {number} {row} {from} is h its from_is to_is =
       sound = sound-at film.bytes.items pieces number some.0 some.1 (film-sound film);
     }
 
-pub wire-least : (film : List ℕ) (piece : Piece) → IsSound film piece → 20 ≤ wire_of piece
+pub wire-least : (film : List ℕ) (piece : Piece) → IsSound film piece → FRAME_HEAD_BYTES ≤ wire_of piece
 wire-least film (Report unit) sound = omega arith
 wire-least film (Frame unit its) sound = omega arith
 
 kept-within : (kept : PieceKind) (film : List ℕ) (piece : Piece) →
     piece_of_kind kept (unit_of piece) (from_of piece) (wire_of piece) ≡ piece → IsFrameKind kept → IsSound film piece →
-    from_of piece + wire_of piece ≤ length film + 20
+    from_of piece + wire_of piece ≤ length film + FRAME_HEAD_BYTES
 kept-within KeptReport film piece same frame sound = absurd frame
 kept-within (KeptFrame begin end) film (Report unit) same frame sound = cc
 kept-within (KeptFrame begin end) film (Frame unit its) same frame sound = omega (arith, sound.some, sound.within)
 
 pub row-within : (film : Film) (row : Row) (piece : Piece) → IsRow film.units.items row piece
-    → IsSound film.bytes.items piece → IsFrameRow row → from_of piece + wire_of piece ≤ length film.bytes.items + 20
+    → IsSound film.bytes.items piece → IsFrameRow row → from_of piece + wire_of piece ≤ length film.bytes.items + FRAME_HEAD_BYTES
 row-within film row piece is sound frame = kept-within row.kept film.bytes.items piece is.piece_is frame sound
 
 pub film-short : (film : Film) → length film.bytes.items ≤ 2 ^ 40

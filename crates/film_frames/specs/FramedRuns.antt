@@ -2,6 +2,7 @@
 -- (RFC 2326 section 10.12, RFC 3550, RFC 2250).
 use Rattle.std.specs.Prelude.{ℕ, ◌+◌, ◌-◌, ◌/◌, ◌%◌, ◌<◌, ◌≤◌, if◌then◌else◌, nat_le, List, [], ◌∷◌}
 use Rattle.std.specs.Prelude.{◌++◌, length, take, drop}
+use Rattle.interleave.specs.declared.elements.TheConstants.{BLOCK_START}
 use Rattle.mpeg_scan.specs.declared.units.Unit.{Unit as PictureUnit}
 use Rattle.mpeg_scan.specs.declared.films.Film.{Film}
 use Rattle.mpeg_scan.specs.PictureRates.{picture_time}
@@ -39,7 +40,7 @@ pieces_in run = pieces_of run.slice_starts run.units
 
 -- bytes in an interleaved block: `$`, the channel, the length in two bytes, and the bytes
 abbrev pub interleaved_block : ℕ → List ℕ → List ℕ
-interleaved_block channel block = 36 ∷ channel ∷ (length block / 256) ∷ (length block % 256) ∷ block
+interleaved_block channel block = BLOCK_START ∷ channel ∷ (length block / 256) ∷ (length block % 256) ∷ block
 
 -- the bytes of a film that a packet carries
 abbrev pub payload : List ℕ → Packet → List ℕ

@@ -2,6 +2,8 @@
 use Rattle.std.specs.Prelude.{ℕ, ◌+◌, ◌%◌, ◌^◌, ◌<◌, ◌≤◌, ◌≡◌, List, [], ◌∷◌, length, drop}
 use Rattle.std.specs.Prelude.{false, flat_map, slice_get, slice_index, slice_index_or, take, true}
 use Rattle.std.specs.Prelude.{Ok, Some}
+use Rattle.rtp_pack.specs.declared.reports.TheConstants.{REPORT_BYTES}
+use Rattle.rtp_pack.specs.declared.sizes.TheConstants.{FRAME_HEAD_BYTES, MAX_FRAME_BYTES}
 use Rattle.mpeg_scan.specs.declared.units.Unit.{Unit as PictureUnit}
 use Rattle.mpeg_scan.specs.declared.films.Film.{Film}
 use Rattle.mpeg_scan.specs.PictureRates.{picture_time}
@@ -39,7 +41,7 @@ run_frames run = frames_among (pieces_in run) (run_pieces run)
 
 -- the payloads of frames, one after another: what follows the 20 bytes of heads
 abbrev pub payloads : List (List ℕ) → List ℕ
-payloads frames = flat_map (λ frame. drop 20 frame) frames
+payloads frames = flat_map (λ frame. drop FRAME_HEAD_BYTES frame) frames
 
 -- the sequence number of a frame
 abbrev pub sequence_of : List ℕ → ℕ
@@ -52,9 +54,9 @@ AreConsecutive sequence frames = (k : ℕ) → k < length frames →
 
 -- a report has 52 bytes; a frame has 21 to 1,400, and its octets are all but 16 of them
 abbrev pub HasPieceSize : Piece → ℕ → Type 0
-HasPieceSize (Report unit) size = size ≡ 52
+HasPieceSize (Report unit) size = size ≡ REPORT_BYTES
 HasPieceSize (Frame unit packet) size = (size ≡ octets_of (Frame unit packet) + 16)
-    × ((21 ≤ size) × (size ≤ 1400))
+    × ((FRAME_HEAD_BYTES < size) × (size ≤ MAX_FRAME_BYTES))
 
 -- each of these pieces has its bytes, of a size that it may have
 pub record HaveSizes (pieces : List Piece) (all : List (List ℕ)) : Type 0 where

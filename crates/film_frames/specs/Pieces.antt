@@ -2,6 +2,8 @@
 use Rattle.std.specs.Prelude.{ℕ, ◌+◌, ◌-◌, ◌≡◌, if◌then◌else◌, List, [], ◌∷◌, ◌++◌, map, flat_map}
 use Rattle.std.specs.Prelude.{take, slice_get, Some}
 use Rattle.std.specs.List.{sum_by}
+use Rattle.rtp_pack.specs.declared.reports.TheConstants.{REPORT_BYTES}
+use Rattle.rtp_pack.specs.declared.sizes.TheConstants.{FRAME_HEAD_BYTES}
 use Rattle.mpeg_scan.specs.declared.units.Unit.{Unit as PictureUnit}
 use Rattle.mpeg_scan.specs.declared.films.Film.{Film}
 use Rattle.rtp_pack.specs.Packets.{unit_packets}
@@ -46,8 +48,8 @@ from_of (Frame unit packet) = packet.from
 -- the bytes of a piece: 52 of a report; 4 of the interleaved head, 16 of the packet's and the
 -- payload of a frame
 abbrev pub wire_of : Piece → ℕ
-wire_of (Report unit) = 52
-wire_of (Frame unit packet) = 20 + (packet.to - packet.from)
+wire_of (Report unit) = REPORT_BYTES
+wire_of (Frame unit packet) = FRAME_HEAD_BYTES + (packet.to - packet.from)
 
 -- a frame counts, a report doesn't
 abbrev pub count_of : Piece → ℕ
@@ -73,4 +75,4 @@ octets_in pieces = sum_by octets_of pieces
 -- the bytes of a unit on the wire: those of its frames, and 52 of the report before it if it starts
 -- a group
 abbrev pub wire_size : List ℕ → PictureUnit → ℕ
-wire_size slice_starts unit = (if unit.starts_group then 52 else 0) + unit_size slice_starts unit
+wire_size slice_starts unit = (if unit.starts_group then REPORT_BYTES else 0) + unit_size slice_starts unit

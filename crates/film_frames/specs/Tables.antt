@@ -1,6 +1,8 @@
 -- The table of a film's reports and frames.
 use Rattle.std.specs.Prelude.{ℕ, ◌+◌, ◌-◌, ◌^◌, ◌≤◌, ◌<◌, ◌≡◌, List, [], ◌∷◌, ◌++◌}
 use Rattle.std.specs.Prelude.{length, take, slice_index, slice_index_or, slice_get, Some}
+use Rattle.rtp_pack.specs.declared.open_packet.TheConstants.{MAX_PAYLOAD_BYTES}
+use Rattle.rtp_pack.specs.declared.sizes.TheConstants.{FRAME_HEAD_BYTES}
 use Rattle.mpeg_scan.specs.declared.units.Unit.{Unit as PictureUnit}
 use Rattle.mpeg_scan.specs.declared.films.Film.{Film}
 use Rattle.rtp_pack.specs.declared.payloads.Packet.{Packet}
@@ -14,11 +16,11 @@ use Rattle.film_frames.specs.declared.table_rows.Row.{Row}
 use Rattle.film_frames.specs.declared.tables.FrameTable.{FrameTable}
 use Rattle.film_frames.specs.Pieces.{film_pieces, pieces_of, from_of, unit_of, wire_of, wire_in}
 
--- the piece of what a row keeps, where its unit, the place of its payload and its bytes are known
+-- the piece of a row, where its unit, the place of its payload and its bytes are known
 abbrev pub piece_of_kind : PieceKind → PictureUnit → ℕ → ℕ → Piece
 piece_of_kind KeptReport unit from size = Report unit
 piece_of_kind (KeptFrame begin end) unit from size =
-    Frame unit (packet unit from (from + (size - 20)) begin end)
+    Frame unit (packet unit from (from + (size - FRAME_HEAD_BYTES)) begin end)
 
 abbrev pub row_piece : Row → PictureUnit → ℕ → ℕ → Piece
 row_piece row unit from size = piece_of_kind row.kept unit from size
@@ -35,7 +37,7 @@ IsFrameRow row = IsFrameKind row.kept
 -- unit
 pub record IsCutPacket (film : List ℕ) (unit : PictureUnit) (its : Packet) : Type 0 where
   pub some : its.from < its.to
-  pub short : its.to ≤ its.from + 1380
+  pub short : its.to ≤ its.from + MAX_PAYLOAD_BYTES
   pub within : its.to ≤ length film
   pub formed : packet unit its.from its.to its.begin its.end ≡ its
 

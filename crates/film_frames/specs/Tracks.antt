@@ -2,6 +2,8 @@
 -- piece is the bytes of one frame or one report.
 use Rattle.std.specs.Prelude.{ℕ, ◌+◌, ◌-◌, ◌<◌, ◌≤◌, ◌≡◌, ◌^◌, List, [], ◌∷◌, length, take, drop}
 use Rattle.std.specs.Prelude.{map, flat_map, replicate, slice_index, slice_index_or, ◌≢◌}
+use Rattle.interleave.specs.declared.elements.TheConstants.{BLOCK_START}
+use Rattle.rtp_pack.specs.declared.sizes.TheConstants.{FRAME_HEAD_BYTES}
 
 -- all bytes of pieces, one piece after another
 abbrev pub framed_bytes : List (List ℕ) → List ℕ
@@ -33,16 +35,16 @@ pub record IsNext (pieces : List (List ℕ)) (at : ℕ) (bytes : List ℕ) : Typ
 -- report (packet type 200) that begins a piece of RTCP. Its heads take 20 bytes: 4 of the
 -- interleaved one, 12 of the RTP header and 4 of the video header.
 pub record HasHeads (piece : List ℕ) : Type 0 where
-  pub interleaved : slice_index piece 0 ≡ 36
+  pub interleaved : slice_index piece 0 ≡ BLOCK_START
   pub no_report : slice_index piece 5 ≢ 200
-  pub payload : 20 < length piece
+  pub payload : FRAME_HEAD_BYTES < length piece
 
 -- where a frame's heads end and its payload begins
 pub record IsHeadEnd (pieces : List (List ℕ)) (place : ℕ) : Type 0 where
   pub number : ℕ
   pub among : number < length pieces
   pub frame : HasHeads (slice_index_or pieces number [])
-  pub place_is : place ≡ begin_of pieces number + 20
+  pub place_is : place ≡ begin_of pieces number + FRAME_HEAD_BYTES
 
 -- the next bytes from `at` on, so many of a head and then so many of a payload, are split where the
 -- heads of a frame end, and nowhere else
@@ -65,7 +67,7 @@ abbrev pub running_sums : ℕ → List ℕ → List ℕ
 running_sums from [] = []
 running_sums from (size ∷ sizes) = (from + size) ∷ running_sums (from + size) sizes
 
--- the running sums that are kept of a trace: they don't fall, and the last is at most 2^42
+-- the running sums that are stored for a trace: they don't fall, and the last is at most 2^42
 pub record AreRunningSums (ends : List ℕ) : Type 0 where
   pub rising : running_sums 0 (differences 0 ends) ≡ ends
   pub most : (k : ℕ) → k < length ends → slice_index ends k ≤ 2 ^ 42

@@ -17,7 +17,7 @@ use crate::binary_search::ends_below;
 use crate::heads::{put_frame_heads, report_block};
 use crate::pieces::Piece;
 use crate::stored_films::Stored;
-use crate::tracks::{Part, Track};
+use crate::tracks::{HEAD_BUFFER_BYTES, Part, Track};
 use mpeg_scan::Unit;
 use rtp_pack::{FRAME_HEAD_BYTES, Identity, Packet, REPORT_BYTES, packet_head, unit_report};
 use std::marker::Model;
@@ -137,12 +137,13 @@ impl<'a> Frames<'a> {
     {
         let first = self.stored.first_piece(self.first_unit);
         let end = self.stored.first_piece(self.end_unit);
+        // a piece that ends exactly at `at` has ended, and so its end lies below this place
         let place = self.stored.place(first) + at.min(self.total()) + 1;
         ends_below(self.stored.ends(first, end), place)
     }
 
     /// The bytes of a report that stands after so many pieces.
-    fn report(&self, number: usize, unit: &Unit) -> [u8; 52]
+    fn report(&self, number: usize, unit: &Unit) -> [u8; HEAD_BUFFER_BYTES]
         requires { number ≤ length (pieces_in self.now) }
         ensures { result ≡ piece_bytes self.now (frames_in (take number (pieces_in self.now)))
             (octets_in (take number (pieces_in self.now))) (Report unit.now) }
@@ -154,10 +155,16 @@ impl<'a> Frames<'a> {
     }
 
     /// Writes the 20 bytes of heads of a frame that stands after so many pieces.
-    fn put_heads(&self, number: usize, unit: &Unit, packet: &Packet, head: &mut [u8; 52])
+    fn put_heads(
+        &self,
+        number: usize,
+        unit: &Unit,
+        packet: &Packet,
+        head: &mut [u8; HEAD_BUFFER_BYTES],
+    )
         requires number { number ≤ length (pieces_in self.now) }
         requires packet { IsCutPacket self.now.film unit.now packet.now }
-        ensures { (octets : ℕ) → take 20 head.new ++ payload self.now.film packet.now
+        ensures { (octets : ℕ) → take FRAME_HEAD_BYTES head.new ++ payload self.now.film packet.now
             ≡ piece_bytes self.now (frames_in (take number (pieces_in self.now))) octets
             (Frame unit.now packet.now) }
     {
@@ -200,10 +207,10 @@ impl Track for Frames<'_> {
 
     /// The bytes from `at` on to the end of its report or frame. The payload is lent from the
     /// film's bytes, and a report has none.
-    fn part(&self, at: u64, head: &mut [u8; 52]) -> Part<'_>
+    fn part(&self, at: u64, head: &mut [u8; HEAD_BUFFER_BYTES]) -> Part<'_>
         requires { at < length (framed_bytes (run_pieces self.now)) }
         ensures order { result.head_from ≤ result.head_to }
-        ensures within { result.head_to ≤ 52 }
+        ensures within { result.head_to ≤ HEAD_BUFFER_BYTES }
         ensures bytes { IsNext (run_pieces self.now) at
             (slice_range head.new result.head_from result.head_to ++ result.payload.now) }
         ensures heads { IsSplit (run_pieces self.now) at (result.head_to - result.head_from)

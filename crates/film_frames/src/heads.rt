@@ -5,14 +5,15 @@ ghost use Rattle.rtp_pack.specs.Heads.{head_bytes};
 ghost use Rattle.rtp_pack.specs.Reports.{report_bytes};
 ghost use Rattle.film_frames.specs.FramedRuns.{interleaved_block};
 
-use interleave::frame_head;
-use rtp_pack::{Head, Report, write_head, write_report};
+use crate::tracks::HEAD_BUFFER_BYTES;
+use interleave::{BLOCK_START, frame_head};
+use rtp_pack::{FRAME_HEAD_BYTES, Head, MAX_PAYLOAD_BYTES, Report, write_head, write_report};
 
 /// A report with its interleaved head.
-pub(crate) fn report_block(control: u8, report: &Report) -> [u8; 52]
+pub(crate) fn report_block(control: u8, report: &Report) -> [u8; HEAD_BUFFER_BYTES]
     ensures { result ≡ interleaved_block control (report_bytes report.now) }
 {
-    let mut block = [0; 52];
+    let mut block = [0; HEAD_BUFFER_BYTES];
     block[..4].copy_from_slice(&frame_head(control, 48));
     block[4..].copy_from_slice(&write_report(report));
     block
@@ -20,11 +21,16 @@ pub(crate) fn report_block(control: u8, report: &Report) -> [u8; 52]
 
 /// Writes the heads of a frame with a payload of `length` bytes: the interleaved head and the
 /// packet's, 20 bytes.
-pub(crate) fn put_frame_heads(block: &mut [u8; 52], channel: u8, head: &Head, length: u64)
-    requires { length ≤ 1380 }
-    ensures { take 20 block.new ≡
-        36 ∷ channel ∷ ((16 + length) / 256) ∷ ((16 + length) % 256) ∷ head_bytes head.now }
+pub(crate) fn put_frame_heads(
+    block: &mut [u8; HEAD_BUFFER_BYTES],
+    channel: u8,
+    head: &Head,
+    length: u64,
+)
+    requires { length ≤ MAX_PAYLOAD_BYTES }
+    ensures { take FRAME_HEAD_BYTES block.new ≡
+        BLOCK_START ∷ channel ∷ ((16 + length) / 256) ∷ ((16 + length) % 256) ∷ head_bytes head.now }
 {
     block[..4].copy_from_slice(&frame_head(channel, 16 + length as u16));
-    block[4..20].copy_from_slice(&write_head(head));
+    block[4..FRAME_HEAD_BYTES as usize].copy_from_slice(&write_head(head));
 }

@@ -18,7 +18,7 @@ pub use frames::Frames;
 pub use stored_films::Stored;
 pub use tables::FrameTable;
 pub use traces::TraceTrack;
-pub use tracks::{Part, Track};
+pub use tracks::{HEAD_BUFFER_BYTES, Part, Track};
 
 #[cfg(test)]
 mod tests;

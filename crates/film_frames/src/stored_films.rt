@@ -84,6 +84,7 @@ impl Stored {
         requires { number < length (film_pieces self.now.film) }
         ensures { OfPiece (film_pieces self.now.film) number (λ piece. result ≡ from_of piece) }
     {
+        // on the wire, heads and reports stand between the film's bytes
         let frames = self.frames(number);
         let reports = number as u64 - frames;
         self.film.units[0].from

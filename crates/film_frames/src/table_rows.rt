@@ -57,7 +57,7 @@ impl Row {
 
     /// The piece, by its unit, the place of its payload in the film and the number of its bytes.
     pub(crate) fn piece(&self, unit: &Unit, from: u64, size: u64) -> Piece
-        requires least { 20 ≤ size }
+        requires least { FRAME_HEAD_BYTES ≤ size }
         requires most { IsFrameRow self.now → from + size < 2 ^ 64 }
         ensures { result ≡ row_piece self.now unit.now from size }
     {

@@ -6,7 +6,7 @@ ghost use Rattle.film_frames.specs.Tracks.{IsBoundaryAfter, IsNext, IsSplit, fra
 ghost use Rattle.film_frames.specs.Tracks.{zero_frames};
 
 use crate::binary_search::ends_below;
-use crate::tracks::{Part, Track};
+use crate::tracks::{HEAD_BUFFER_BYTES, Part, Track};
 use std::marker::Model;
 use vod_base::NoMemory;
 
@@ -74,10 +74,10 @@ impl Track for TraceTrack {
     }
 
     /// The bytes from `at` on, none of them in the head: what is left of the frame, or 1,024 of it.
-    fn part(&self, at: u64, head: &mut [u8; 52]) -> Part<'_>
+    fn part(&self, at: u64, head: &mut [u8; HEAD_BUFFER_BYTES]) -> Part<'_>
         requires { at < length (framed_bytes (zero_frames self.now)) }
         ensures order { result.head_from ≤ result.head_to }
-        ensures within { result.head_to ≤ 52 }
+        ensures within { result.head_to ≤ HEAD_BUFFER_BYTES }
         ensures bytes { IsNext (zero_frames self.now) at
             (slice_range head.new result.head_from result.head_to ++ result.payload.now) }
         ensures heads { IsSplit (zero_frames self.now) at (result.head_to - result.head_from)

@@ -3,6 +3,12 @@
 ghost use Rattle.std.specs.Prelude.{◌≡◌, ◌<◌, ◌≤◌, ◌-◌, ◌++◌, ℕ, List, length, slice_range};
 ghost use Rattle.film_frames.specs.Tracks.{IsBoundaryAfter, IsNext, IsSplit, framed_bytes};
 
+use rtp_pack::REPORT_BYTES;
+
+/// The bytes of the buffer into which [`Track::part`] writes heads. A report takes the most: all of
+/// it is written there.
+pub const HEAD_BUFFER_BYTES: usize = REPORT_BYTES as usize;
+
 /// The next bytes of a track: a range of a head that was written, and then a payload.
 #[derive(Debug, Drop)]
 pub struct Part<'a> {
@@ -32,10 +38,10 @@ pub trait Track {
     ///
     /// They are `head[head_from..head_to]` and then the payload. Between the two a frame's heads
     /// end, and heads end nowhere else among these bytes.
-    fn part(&self, at: u64, head: &mut [u8; 52]) -> Part<'_>
+    fn part(&self, at: u64, head: &mut [u8; HEAD_BUFFER_BYTES]) -> Part<'_>
         requires { at < length (framed_bytes (pieces self.now)) }
         ensures order { result.head_from ≤ result.head_to }
-        ensures within { result.head_to ≤ 52 }
+        ensures within { result.head_to ≤ HEAD_BUFFER_BYTES }
         ensures bytes { IsNext (pieces self.now) at
             (slice_range head.new result.head_from result.head_to ++ result.payload.now) }
         ensures heads { IsSplit (pieces self.now) at (result.head_to - result.head_from)

@@ -1,7 +1,8 @@
--- What stands in front of bytes that are put together from their parts.
-use Rattle.std.proofs.Common.{◌≡◌, ◌≢◌, ℕ, ◌+◌, ◌-◌, ◌*◌, ◌/◌, ◌%◌, ◌<◌, ◌∷◌, ◌++◌, List, Ok, length, get_or, All, refl}
+-- The first element of bytes that are put together from their parts.
+use Rattle.std.proofs.Common.{◌≡◌, ◌≢◌, ℕ, ◌+◌, ◌-◌, ◌*◌, ◌/◌, ◌%◌, ◌^◌, ◌<◌, ◌∷◌, ◌++◌, List, Ok, length, get_or, All, refl}
 use Rattle.std.proofs.Common.{ap, ◌∙◌, arith, inl, inr, ne_eqb, true, false}
 use Rattle.std.proofs.lemmas.List.{length-append, get_or_append_left, get_or-append_right}
+use Rattle.interleave.specs.declared.elements.TheConstants.{BLOCK_START}
 use Rattle.interleave.specs.Heads.{is_line_end}
 use Rattle.interleave.specs.Elements.{IsFirst}
 use Rattle.interleave.specs.Laws.{IsCrOrLf, BeginsOtherwise}
@@ -14,7 +15,7 @@ ends_line byte (inr lf) = rw lf refl
 ends_none : (byte : ℕ) → byte ≢ 13 → byte ≢ 10 → is_line_end byte ≡ false
 ends_none byte no_cr no_lf = rw (ne_eqb byte 13 no_cr, ne_eqb byte 10 no_lf) refl
 
--- all bytes CR and LF in front are skipped, and no other
+-- all bytes CR and LF at the start are skipped, and no other
 pub skips : (ends rest : List ℕ) → 0 < length ends → All IsCrOrLf ends → BeginsOtherwise rest
     → IsFirst (ends ++ rest) (Ok (Skip (length ends)))
 skips ends rest some all other = (
@@ -33,8 +34,8 @@ skips ends rest some all other = (
 )
 
 -- a block's head and data are a block
-pub is_block : (channel : ℕ) (content later : List ℕ) → length content < 65536 →
-    IsFirst (36 ∷ channel ∷ (length content / 256) ∷ (length content % 256) ∷ (content ++ later))
+pub is_block : (channel : ℕ) (content later : List ℕ) → length content < 2 ^ 16 →
+    IsFirst (BLOCK_START ∷ channel ∷ (length content / 256) ∷ (length content % 256) ∷ (content ++ later))
     (Ok (Block channel (4 + length content)))
 is_block channel content later short =
     let number : length content / 256 * 256 + length content % 256 ≡ length content = omega arith in (

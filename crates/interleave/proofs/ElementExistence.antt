@@ -1,4 +1,4 @@
--- All bytes are elements and a rest: whether a whole element is in front can be decided.
+-- All bytes are elements and a rest: whether a complete element is at the start can be decided.
 use Rattle.std.proofs.Common.{◌≡◌, ℕ, zero, suc, ◌+◌, ◌-◌, ◌<◌, ◌≤◌, ◌⊎◌, Bool, true, false, eqb, ltb, leb, cond, ◌&&◌}
 use Rattle.std.proofs.Common.{List, [], ◌∷◌, length, take, drop, map, get_or, refl, sym, ◌∙◌, ap, subst, arith, inl}
 use Rattle.std.proofs.Common.{inr, slice_range}
@@ -7,6 +7,9 @@ use Rattle.std.specs.Char.{to_ascii_lowercase}
 use Rattle.std.proofs.lemmas.Bool.{both_ways, cases_Bool, cases_lt, and_parts, and_from, eqb-true, eq-eqb, ltb-true}
 use Rattle.std.proofs.lemmas.Bool.{lt-ltb, leb-true, le-leb}
 use Rattle.std.proofs.lemmas.List.{length-drop}
+use Rattle.interleave.specs.declared.content_lengths.TheConstants.{MAX_BODY_BYTES}
+use Rattle.interleave.specs.declared.elements.TheConstants.{BLOCK_START}
+use Rattle.interleave.specs.declared.message_heads.TheConstants.{MAX_HEAD_BYTES}
 use Rattle.vod_base.specs.Blanks.{without_blanks}
 use Rattle.vod_base.specs.Lines.{IsLine}
 use Rattle.interleave.specs.Heads.{is_line_end, empty_line_ends, HasNoHead, IsHead}
@@ -165,7 +168,7 @@ body head = elim (first_found (named head) (length head)) [
 abbrev Decides : List ℕ → Type 0
 Decides w = ((n : ℕ) × IsElementLength w n) ⊎ ((n : ℕ) → IsElementLength w n → ⊥)
 
--- where a request is in front, no other element is
+-- where a request is at the start, no other element is
 only_request : (w : List ℕ) → StartsMessage w → ((n : ℕ) → IsMessageLength w n → n ≤ length w → ⊥) → (n : ℕ)
     → IsElementLength w n → ⊥
 only_request w starts none n (LineEnd one some end) = both_ways (is_line_end (get_or w 0 0)) starts.1 end
@@ -180,10 +183,10 @@ request_whole w total starts size = elim (cases_lt (length w) total) [
   | inr fits ↦ inl (total, WholeMessage starts size fits)
 ]
 
-request_with_head : (w : List ℕ) (head : ℕ) → StartsMessage w → IsHead w head → head ≤ 16384 → Decides w
+request_with_head : (w : List ℕ) (head : ℕ) → StartsMessage w → IsHead w head → head ≤ MAX_HEAD_BYTES → Decides w
 request_with_head w head starts is fits =
     let its = body (take head w) in
-    elim (cases_lt 65536 its.0) [
+    elim (cases_lt MAX_BODY_BYTES its.0) [
       | inl long ↦
           inr (only_request w starts
           (λ n size inside. not_long w n size (long_body w head is fits (its.0, (long, its.1)))))
@@ -192,7 +195,7 @@ request_with_head w head starts is fits =
 
 request_decided : (w : List ℕ) → StartsMessage w → Decides w
 request_decided w starts = elim (head_decided w) [
-  | inl found ↦ elim (cases_lt 16384 found.0) [
+  | inl found ↦ elim (cases_lt MAX_HEAD_BYTES found.0) [
     | inl long ↦
         inr (only_request w starts
         (λ n size inside. let same : size.head ≡ found.0 =
@@ -202,7 +205,7 @@ request_decided w starts = elim (head_decided w) [
   | inr none ↦ inr (only_request w starts (λ n size inside. clash_short w size.head size.is_head none))
 ]
 
--- where `$` is in front, only a block can be
+-- where `$` is at the start, only a block can be
 only_block : (w : List ℕ) → StartsBlock w → (4 ≤ length w → block_length w ≤ length w → ⊥) → (n : ℕ)
     → IsElementLength w n → ⊥
 only_block w starts none n (LineEnd one some end) = clash_end_block w end starts
@@ -226,8 +229,8 @@ nothing w none n (WholeMessage starts size inside) = omega (arith, none, starts.
 front_decided : (w : List ℕ) → 0 < length w → Decides w
 front_decided w some = elim (cases_Bool (is_line_end (get_or w 0 0))) [
   | inl end ↦ inl (1, LineEnd refl some end)
-  | inr other ↦ elim (cases_Bool (eqb (get_or w 0 0) 36)) [
-    | inl dollar ↦ block_decided w (some, eqb-true (get_or w 0 0) 36 dollar)
+  | inr other ↦ elim (cases_Bool (eqb (get_or w 0 0) BLOCK_START)) [
+    | inl dollar ↦ block_decided w (some, eqb-true (get_or w 0 0) BLOCK_START dollar)
     | inr plain ↦ request_decided w (some, other, plain)
   ]
 ]
@@ -255,6 +258,6 @@ stream_by (suc most) w short = elim (element_decided w) [
   | inr none ↦ ([], (w, (refl, none)))
 ]
 
--- all bytes are elements and a rest in which no whole element is in front
+-- all bytes are elements and a rest that begins with no complete element
 pub has_stream : (w : List ℕ) → HasStream w
 has_stream w = stream_by (length w) w (omega arith)

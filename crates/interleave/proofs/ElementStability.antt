@@ -1,6 +1,7 @@
--- A whole element stays in front as more bytes come.
+-- A complete element stays first as more bytes come.
 use Rattle.std.proofs.Common.{◌≡◌, ℕ, ◌<◌, ◌≤◌, ◌++◌, List, Result, Ok, Err, length, refl, arith}
 use Rattle.std.proofs.lemmas.List.{get_or_append_left, length-append}
+use Rattle.interleave.specs.declared.message_heads.TheConstants.{MAX_HEAD_BYTES}
 use Rattle.interleave.specs.Elements.{StartsBlock, StartsMessage, AreLineEnds, block_length, IsFirst, IsWholeElement}
 use Rattle.interleave.specs.declared.elements.Step.{Step}
 use Rattle.interleave.specs.declared.elements.Step.TheVariants.{Request, Block, Skip, More}
@@ -44,5 +45,5 @@ whole_stays w v (Ok (Request n)) h whole =
     (StartsMessage-append w v h.0, IsMessageLength-append w v n h.1, omega (arith, length-append w v, h.2))
 whole_stays w v (Ok More) h whole = absurd whole
 whole_stays w v (Err HeadTooLong) h whole =
-    (StartsMessage-append w v h.0, omega (arith, length-append w v, h.1), HasNoHead-append w v 16384 h.1 h.2)
+    (StartsMessage-append w v h.0, omega (arith, length-append w v, h.1), HasNoHead-append w v MAX_HEAD_BYTES h.1 h.2)
 whole_stays w v (Err BodyTooLong) h whole = (StartsMessage-append w v h.0, IsBodyTooLong-append w v h.1)

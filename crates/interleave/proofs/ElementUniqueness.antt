@@ -2,6 +2,8 @@
 use Rattle.std.proofs.Common.{◌≡◌, ℕ, ◌+◌, ◌-◌, ◌<◌, ◌≤◌, List, Result, Ok, Err, length, take, get_or, refl, sym, ◌∙◌}
 use Rattle.std.proofs.Common.{ap, subst, arith, inl, inr, true, false, ◌==◌}
 use Rattle.std.proofs.lemmas.Bool.{both_ways, cases_order}
+use Rattle.interleave.specs.declared.elements.TheConstants.{BLOCK_START}
+use Rattle.interleave.specs.declared.message_heads.TheConstants.{MAX_HEAD_BYTES}
 use Rattle.vod_base.specs.Lines.{IsLine, HasNoLine}
 use Rattle.interleave.specs.Heads.{is_line_end, empty_line_ends, HasNoHead, IsHead}
 use Rattle.interleave.specs.Lengths.{IsWrittenAt, IsBodyLength}
@@ -74,7 +76,7 @@ length_once w a b (inl x) (inr y) = absurd (y.0 x.at x.is_line)
 length_once w a b (inr x) (inl y) = absurd (x.0 y.at y.is_line)
 length_once w a b (inr x) (inr y) = x.1 ∙ sym y.1
 
--- the body of the request in front has one length
+-- the body of the request at the start has one length
 pub body_once : {w : List ℕ} {h h' a b : ℕ} → IsHead w h → IsHead w h' → IsBodyLength (take h w) a
     → IsBodyLength (take h' w) b → a ≡ b
 body_once {w} {h} {h'} {a} {b} x y p q =
@@ -105,11 +107,11 @@ clash_ends_request w n h r = both_ways (is_line_end (get_or w 0 0)) r.1 (h.1.lin
 
 pub clash_block_request : (w : List ℕ) → StartsBlock w → StartsMessage w → ⊥
 clash_block_request w b r =
-    let dollar : (get_or w 0 0 == 36) ≡ true = rw b.1 refl in
-    both_ways (get_or w 0 0 == 36) r.2 dollar
+    let dollar : (get_or w 0 0 == BLOCK_START) ≡ true = rw b.1 refl in
+    both_ways (get_or w 0 0 == BLOCK_START) r.2 dollar
 
-pub clash_head : (w : List ℕ) (head : ℕ) → IsHead w head → head ≤ 16384 → HasNoHead w 16384 → ⊥
-clash_head w head h fits none = let after = head_after w head 16384 h none in omega (arith, after)
+pub clash_head : (w : List ℕ) (head : ℕ) → IsHead w head → head ≤ MAX_HEAD_BYTES → HasNoHead w MAX_HEAD_BYTES → ⊥
+clash_head w head h fits none = let after = head_after w head MAX_HEAD_BYTES h none in omega (arith, after)
 
 pub clash_short : (w : List ℕ) (head : ℕ) → IsHead w head → HasNoHead w (length w) → ⊥
 clash_short w head h none = let after = head_after w head (length w) h none in omega (arith, after, h.within)

@@ -63,7 +63,7 @@ pub record AreMoved (old : List ℕ) (from : ℕ) (items : List ℕ) (start : �
   pub within : start ≤ length items
   pub same : drop start items ≡ drop from old
 
--- the same, where the bytes are kept after others and were moved before more came
+-- the same, where the bytes are stored after others and were moved before more came
 pub kept_known : {old : List ℕ} {from : ℕ} {items : List ℕ} {start : ℕ} (more : List ℕ) (known : HeadSearch) →
     AreMoved old from items start →
     IsHeadSearch (drop from old) known → IsHeadSearch (drop start (items ++ more)) known

@@ -1,4 +1,4 @@
--- Bytes CR and LF in front are skipped also where more bytes come.
+-- Bytes CR and LF at the start are skipped also where more bytes come.
 use Rattle.std.proofs.Common.{◌≡◌, ℕ, ◌<◌, ◌≤◌, ◌++◌, List, Result, Ok, Err, length, get_or, arith, inl, inr, true}
 use Rattle.std.proofs.lemmas.Bool.{both_ways, cases_lt}
 use Rattle.std.proofs.lemmas.List.{get_or_append_left, length-append}
@@ -10,7 +10,7 @@ use Rattle.interleave.specs.declared.elements.DemuxFault.{DemuxFault}
 use Rattle.interleave.specs.declared.elements.DemuxFault.TheVariants.{HeadTooLong, BodyTooLong}
 use Rattle.interleave.proofs.ElementUniqueness.{clash_end_block}
 
--- the byte in front stays
+-- the first byte stays
 pub front_line_end : (w v : List ℕ) (n : ℕ) → (0 < n) × AreLineEnds w n → is_line_end (get_or (w ++ v) 0 0) ≡ true
 front_line_end w v n h =
     let inside : 0 < length w = omega (arith, h.0, h.1.within) in

@@ -23,7 +23,7 @@ element_within w n (LineEnd one some end) = omega (arith, one, some)
 element_within w n (WholeBlock starts four size inside) = inside
 element_within w n (WholeMessage starts size inside) = inside
 
--- a whole element stays in front as more bytes come
+-- a complete element stays first as more bytes come
 pub element_stays : (w v : List ℕ) (n : ℕ) → IsElementLength w n → IsElementLength (w ++ v) n
 element_stays w v n (LineEnd one some end) =
     LineEnd one (omega (arith, length-append w v, some)) (rw (get_or_append_left w v 0 0 some) end)
@@ -34,7 +34,7 @@ element_stays w v n (WholeMessage starts size inside) =
     WholeMessage (StartsMessage-append w v starts) (IsMessageLength-append w v n size)
     (omega (arith, length-append w v, inside))
 
--- a whole element has one length
+-- a complete element has one length
 pub element_once : (w : List ℕ) (a b : ℕ) → IsElementLength w a → IsElementLength w b → a ≡ b
 element_once w a b (LineEnd one some end) (LineEnd one' some' end') = one ∙ sym one'
 element_once w a b (LineEnd one some end) (WholeBlock starts four size inside) = absurd (clash_end_block w end starts)
@@ -160,7 +160,7 @@ stream_once {w} {ps = p ∷ ps} {qs = q ∷ qs} {r} {t} streams =
     let first : p ≡ q = cut.1 ∙ ap (λ k. take k w) same ∙ sym cut'.1 in
     (ap (λ (x : List ℕ). x ∷ ps) first ∙ ap (λ (xs : List (List ℕ)). q ∷ xs) rest.0, rest.1)
 
--- each byte CR or LF in front is an element
+-- each byte CR or LF at the start is an element
 record AreEnds (rest : List ℕ) (n : ℕ) : Type 0 where
   within : n ≤ length rest
   line_ends : (k : ℕ) → k < n → is_line_end (get_or rest k 0) ≡ true
@@ -187,7 +187,7 @@ no_more : (w : List ℕ) (ps : List (List ℕ)) (rest : List ℕ) → AreInputEl
 no_more w ps rest cut = let P : List (List ℕ) → Type 0 = λ xs. AreInputElements w xs rest in subst P (sym (append-nil
     ps)) cut
 
--- what an answer tells are the next elements
+-- what an answer returns are the next elements
 pub next_elements : (rest : List ℕ) (answer : Result Step DemuxFault) → IsFirst rest answer →
     (w : List ℕ) (ps : List (List ℕ)) → AreInputElements w ps rest →
     AreInputElements w (ps ++ returned_elements rest answer) (drop (returned_length answer) rest)

@@ -1,4 +1,4 @@
--- How the waiting bytes are kept.
+-- How the waiting bytes are stored.
 use Rattle.std.specs.Prelude.{◌≤◌, drop, vec_len, vec_capacity}
 use Rattle.interleave.specs.HeadSearch.{IsHeadSearch}
 use Rattle.interleave.specs.declared.demux.TheConstants.{MAX_WAITING_BYTES}

@@ -2,6 +2,9 @@
 -- before a request, an interleaved block, or a request.
 use Rattle.std.specs.Prelude.{◌≡◌, ℕ, ◌+◌, ◌*◌, ◌<◌, ◌≤◌, ◌==◌, ◌⊎◌, true, false, List, length}
 use Rattle.std.specs.Prelude.{take, slice_index, Result, Ok, Err}
+use Rattle.interleave.specs.declared.content_lengths.TheConstants.{MAX_BODY_BYTES}
+use Rattle.interleave.specs.declared.elements.TheConstants.{BLOCK_START}
+use Rattle.interleave.specs.declared.message_heads.TheConstants.{MAX_HEAD_BYTES}
 use Rattle.interleave.specs.Heads.{is_line_end, HasNoHead, IsHead}
 use Rattle.interleave.specs.Lengths.{IsBodyLength, IsLongBody}
 use Rattle.interleave.specs.declared.elements.Step.{Step}
@@ -11,12 +14,12 @@ use Rattle.interleave.specs.declared.elements.DemuxFault.TheVariants.{HeadTooLon
 
 -- the bytes begin with `$`, which begins an interleaved block
 abbrev pub StartsBlock : List ℕ → Type 0
-StartsBlock bytes = (0 < length bytes) × (slice_index bytes 0 ≡ 36)
+StartsBlock bytes = (0 < length bytes) × (slice_index bytes 0 ≡ BLOCK_START)
 
 -- the bytes begin with another byte than CR, LF and `$`, which begins a request
 abbrev pub StartsMessage : List ℕ → Type 0
 StartsMessage bytes = (0 < length bytes) × (is_line_end (slice_index bytes 0) ≡ false)
-    × ((slice_index bytes 0 == 36) ≡ false)
+    × ((slice_index bytes 0 == BLOCK_START) ≡ false)
 
 -- the bytes CR and LF at the start are these `n`
 pub record AreLineEnds (bytes : List ℕ) (n : ℕ) : Type 0 where
@@ -35,22 +38,22 @@ pub record IsMessageLength (bytes : List ℕ) (total : ℕ) : Type 0 where
   pub head : ℕ
   pub body : ℕ
   pub is_head : IsHead bytes head
-  pub fits : head ≤ 16384
+  pub fits : head ≤ MAX_HEAD_BYTES
   pub is_body : IsBodyLength (take head bytes) body
-  pub small : body ≤ 65536
+  pub small : body ≤ MAX_BODY_BYTES
   pub total_is : total ≡ head + body
 
 -- the first request has a complete head of at most 16,384 bytes, and a body of more than 65,536
 pub record IsBodyTooLong (bytes : List ℕ) : Type 0 where
   pub head : ℕ
   pub is_head : IsHead bytes head
-  pub fits : head ≤ 16384
+  pub fits : head ≤ MAX_HEAD_BYTES
   pub long : IsLongBody (take head bytes)
 
 -- the first request isn't complete: its head isn't, or its length is known and more than what waits
 abbrev pub IsUnfinished : List ℕ → Type 0
 IsUnfinished bytes =
-    (HasNoHead bytes (length bytes) × (length bytes < 16384))
+    (HasNoHead bytes (length bytes) × (length bytes < MAX_HEAD_BYTES))
     ⊎ ((total : ℕ) × (IsMessageLength bytes total × (length bytes < total)))
 
 -- the first element of the waiting bytes
@@ -64,8 +67,8 @@ IsFirst bytes (Ok More) =
     (length bytes ≡ 0)
     ⊎ ((StartsBlock bytes × (4 ≤ length bytes → length bytes < block_length bytes))
     ⊎ (StartsMessage bytes × IsUnfinished bytes))
-IsFirst bytes (Err HeadTooLong) = StartsMessage bytes × (16384 ≤ length bytes)
-    × HasNoHead bytes 16384
+IsFirst bytes (Err HeadTooLong) = StartsMessage bytes × (MAX_HEAD_BYTES ≤ length bytes)
+    × HasNoHead bytes MAX_HEAD_BYTES
 IsFirst bytes (Err BodyTooLong) = StartsMessage bytes × IsBodyTooLong bytes
 
 -- the answer is a fault or a complete element, and no byte that comes later belongs to it: after CR

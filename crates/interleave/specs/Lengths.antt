@@ -4,6 +4,7 @@ use Rattle.std.specs.Prelude.{◌≡◌, ℕ, ◌+◌, ◌-◌, ◌<◌, ◌⊎�
 use Rattle.std.specs.Prelude.{slice_range, codes}
 use Rattle.std.specs.Char.{to_ascii_lowercase}
 use Rattle.std.specs.Str.Parse.{digits_value}
+use Rattle.interleave.specs.declared.content_lengths.TheConstants.{MAX_BODY_BYTES}
 use Rattle.vod_base.specs.Blanks.{without_blanks}
 use Rattle.vod_base.specs.Lines.{IsLine, HasNoLine}
 use Rattle.vod_base.specs.Numbers.{is_decimal}
@@ -46,8 +47,8 @@ IsBodyLength head length = IsLengthGiven head length
 
 -- the length that stands at `at` is above 65,536
 abbrev pub IsLongAt : List ℕ → ℕ → Type 0
-IsLongAt head at = (length : ℕ) × ((65536 < length) × IsWrittenAt head at length)
+IsLongAt head at = (length : ℕ) × ((MAX_BODY_BYTES < length) × IsWrittenAt head at length)
 
 -- the body of a message with this head is longer than 65,536
 abbrev pub IsLongBody : List ℕ → Type 0
-IsLongBody head = (length : ℕ) × ((65536 < length) × IsBodyLength head length)
+IsLongBody head = (length : ℕ) × ((MAX_BODY_BYTES < length) × IsBodyLength head length)

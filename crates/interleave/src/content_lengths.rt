@@ -34,6 +34,7 @@ fn length_of_value(value: &[u8]) -> Option<usize>
     match read_number(value) {
         Ok(length) if length <= MAX_BODY_BYTES as u64 => Some(length as usize),
         Ok(_) | Err(NumberFault::TooLarge) => None,
+        // no number: the message is taken without a body, and its reader judges the field
         Err(_) => Some(0),
     }
 }

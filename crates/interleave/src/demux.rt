@@ -9,7 +9,7 @@ ghost use Rattle.interleave.specs.Heads.{is_line_end};
 ghost use Rattle.interleave.specs.declared.elements.Step.{Step};
 
 use crate::content_lengths::MAX_BODY_BYTES;
-use crate::elements::{DemuxFault, Step, is_line_end};
+use crate::elements::{BLOCK_START, DemuxFault, Step, is_line_end};
 use crate::message_heads::{HeadSearch, MAX_HEAD_BYTES, request_step, search_head};
 use std::alloc::Global;
 use std::marker::Model;
@@ -88,7 +88,8 @@ impl Demux {
         self.start = make_room(&mut self.bytes, self.start, bytes.len());
         match self.bytes.extend_from_slice(bytes) {
             Ok(()) => Ok(()),
-            Err(_) => unreachable!(),
+            // never comes: there is room now, and so no memory is taken
+            Err(_) => Err(TooMuchInput),
         }
     }
 
@@ -115,7 +116,7 @@ impl Demux {
         if is_line_end(*front) {
             return Ok(Step::Skip(line_ends(waiting)));
         }
-        if *front == b'$' {
+        if *front == BLOCK_START {
             return Ok(block_step(waiting));
         }
         let known = search_head(waiting, self.known)?;
@@ -130,6 +131,7 @@ impl Demux {
         ensures { self.new ≡ drop count self.old }
     {
         self.start += count;
+        // what was known is about bytes that are gone
         if count > 0 {
             self.known = HeadSearch::Searched(0);
         }

@@ -29,13 +29,16 @@ pub enum DemuxFault {
     BodyTooLong,
 }
 
+/// The byte with which an interleaved block begins (RFC 2326 section 10.12).
+pub const BLOCK_START: u8 = b'$';
+
 /// The head of an interleaved block (RFC 2326 section 10.12): `$`, the channel, and the number of
 /// the bytes that follow, the high byte first.
 pub fn frame_head(channel: u8, length: u16) -> [u8; 4]
-    ensures { result ≡ 36 ∷ channel ∷ (length / 256) ∷ (length % 256) ∷ [] }
+    ensures { result ≡ BLOCK_START ∷ channel ∷ (length / 256) ∷ (length % 256) ∷ [] }
 {
     let [high, low] = length.to_be_bytes();
-    [b'$', channel, high, low]
+    [BLOCK_START, channel, high, low]
 }
 
 /// Whether the byte is CR or LF.

@@ -1,6 +1,6 @@
 //! How a stream is split, however its bytes came.
 
-ghost use Rattle.std.specs.Prelude.{◌≡◌, ℕ, ◌+◌, ◌/◌, ◌%◌, ◌<◌, ◌++◌, ◌∷◌, All, List, length};
+ghost use Rattle.std.specs.Prelude.{◌≡◌, ℕ, ◌+◌, ◌/◌, ◌%◌, ◌^◌, ◌<◌, ◌++◌, ◌∷◌, All, List, length};
 ghost use Rattle.std.specs.Prelude.{drop, Ok, Result};
 ghost use Rattle.interleave.specs.Laws.{BeginsOtherwise, IsCrOrLf};
 ghost use Rattle.interleave.specs.Streams.{AreInputElements, SharePrefix, HasStream, IsStream};
@@ -12,6 +12,7 @@ ghost use Rattle.interleave.specs.Elements.{IsFirst, IsLongerSkip, IsWholeElemen
 
 use crate::content_lengths::MAX_BODY_BYTES;
 use crate::demux::Demux;
+use crate::elements::BLOCK_START;
 use crate::message_heads::MAX_HEAD_BYTES;
 
 /// A complete element or a fault at the start of the waiting bytes stays there, whatever comes
@@ -91,8 +92,8 @@ pub fn law_leading_line_ends_are_skipped()
 /// An interleaved block is `$`, a channel, the number of its bytes of data in two bytes, the high
 /// one first, and the data (RFC 2326 section 10.12); whatever comes later.
 pub fn law_interleaved_block_is_found()
-    ensures { (channel : ℕ) (content later : List ℕ) → length content < 65536 →
-        IsFirst (36 ∷ channel ∷ (length content / 256) ∷ (length content % 256) ∷
+    ensures { (channel : ℕ) (content later : List ℕ) → length content < 2 ^ 16 →
+        IsFirst (BLOCK_START ∷ channel ∷ (length content / 256) ∷ (length content % 256) ∷
         (content ++ later)) (Ok (Step.Block channel (4 + length content))) }
 {}
 

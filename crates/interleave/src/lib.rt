@@ -10,7 +10,7 @@ mod message_heads;
 
 pub use content_lengths::MAX_BODY_BYTES;
 pub use demux::{Demux, MAX_WAITING_BYTES, TooMuchInput};
-pub use elements::{DemuxFault, Step, frame_head};
+pub use elements::{BLOCK_START, DemuxFault, Step, frame_head};
 pub use message_heads::MAX_HEAD_BYTES;
 
 #[cfg(test)]

@@ -1,4 +1,4 @@
--- Boundaries as numbers, and what a step keeps.
+-- Boundaries as numbers, and the invariant of a step.
 use Rattle.std.proofs.Common.{◌≡◌, ℕ, zero, suc, ◌+◌, ◌-◌, ◌^◌, ◌<◌, ◌≤◌, List, [], ◌∷◌, length, take, sum, min, max}
 use Rattle.std.proofs.Common.{drop, Option, Bool, true, false, cond, refl, sym, ap, subst, ◌∙◌, arith, inl, inr}
 use Rattle.std.proofs.lemmas.List.{length-append, length-take, take-take}

@@ -8,7 +8,7 @@ ghost use Rattle.vod_base.specs.Links.{told_more, sends, IsSentPrefix};
 ghost use Rattle.pacer.specs.Boundaries.{IsSeam, bytes_between};
 ghost use Rattle.pacer.specs.PartialSends.{HasStopped};
 
-use film_frames::Track;
+use film_frames::{HEAD_BUFFER_BYTES, Track};
 use vod_base::{Link, LinkFault};
 
 /// A sending that failed: how many bytes the sends before brought out.
@@ -34,7 +34,7 @@ pub(crate) fn send_between<T: Track, K: Link>(
         (bytes_between (T.pieces track.now) from to) (K.told link.old) (K.told link.new)
         stopped.0) }
 {
-    let mut head = [0; 52];
+    let mut head = [0; HEAD_BUFFER_BYTES];
     let mut at = from;
     while at < to {
         let part = track.part(at, &mut head);
@@ -80,7 +80,7 @@ fn send_part<K: Link>(
     most: u64,
     link: &mut K,
 ) -> Result<u64, SendError>
-    requires { length head.now ≤ 52 }
+    requires { length head.now ≤ HEAD_BUFFER_BYTES }
     ensures count { K.faults link.old ≤ K.faults link.new }
     ensures fault { OnErr result (HasRisen (K.faults link.old) (K.faults link.new)) }
     ensures number { IfOk result (λ n. n ≡ min (length (head.now ++ payload.now)) most) }

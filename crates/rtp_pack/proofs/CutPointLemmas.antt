@@ -2,6 +2,7 @@
 use Rattle.std.proofs.Common.{◌≡◌, ℕ, zero, suc, ◌+◌, ◌*◌, ◌<◌, ◌≤◌, Bool, true, false, List, []}
 use Rattle.std.proofs.Common.{◌∷◌, ◌++◌, refl, sym, ap, subst, ◌∙◌, arith, inl, inr}
 use Rattle.std.proofs.lemmas.Bool.{both_ways}
+use Rattle.rtp_pack.specs.declared.open_packet.TheConstants.{MAX_PAYLOAD_BYTES}
 use Rattle.mpeg_scan.specs.declared.units.Unit.{Unit as PictureUnit}
 use Rattle.rtp_pack.specs.declared.open_packet.OpenPacket.{OpenPacket}
 use Rattle.rtp_pack.specs.declared.payloads.Packet.{Packet}
@@ -11,16 +12,16 @@ use Rattle.rtp_pack.specs.Packets.{before_slice, full_packets, packets_from}
 
 -- ---- one list
 
-pub full-once : {a b : ℕ} (start end : ℕ) → start + 1380 * a < end → end ≤ start + 1380 * a + 1380
-    → start + 1380 * b < end → end ≤ start + 1380 * b + 1380 → a ≡ b
+pub full-once : {a b : ℕ} (start end : ℕ) → start + MAX_PAYLOAD_BYTES * a < end → end ≤ start + MAX_PAYLOAD_BYTES * a + MAX_PAYLOAD_BYTES
+    → start + MAX_PAYLOAD_BYTES * b < end → end ≤ start + MAX_PAYLOAD_BYTES * b + MAX_PAYLOAD_BYTES → a ≡ b
 full-once {a} start end p q r s = omega arith
 
 pub one-fill : {G : ℕ → List ℕ → Type 0} → ((last : ℕ) (a b : List ℕ) → G last a → G last b → a ≡ b)
     → {start end : ℕ} {a b : List ℕ} → Fills G start end a → Fills G start end b → a ≡ b
 one-fill {G} same {start} {end} {a} x y =
     let full : x.full ≡ y.full = full-once start end x.before x.within y.before y.within in
-    let there : G (start + 1380 * y.full) x.rest = subst (λ k. G (start + 1380 * k) x.rest) full x.goes_on in
-    let rest : x.rest ≡ y.rest = same (start + 1380 * y.full) x.rest y.rest there y.goes_on in
+    let there : G (start + MAX_PAYLOAD_BYTES * y.full) x.rest = subst (λ k. G (start + MAX_PAYLOAD_BYTES * k) x.rest) full x.goes_on in
+    let rest : x.rest ≡ y.rest = same (start + MAX_PAYLOAD_BYTES * y.full) x.rest y.rest there y.goes_on in
     x.filled ∙ ap (λ k. full_ends start k ++ x.rest) full ∙ ap (λ (r : List ℕ). full_ends start y.full ++ r) rest
     ∙ sym y.filled
 
@@ -54,12 +55,12 @@ pub ends-full : (unit : PictureUnit) (begin : Bool) (start count : ℕ)
     → ends (full_packets unit begin start count) ≡ full_ends start count
 ends-full unit begin start zero = refl
 ends-full unit begin start (suc count) =
-    ap (λ (l : List ℕ). (start + 1380) ∷ l) (ends-full unit false (start + 1380) count)
+    ap (λ (l : List ℕ). (start + MAX_PAYLOAD_BYTES) ∷ l) (ends-full unit false (start + MAX_PAYLOAD_BYTES) count)
 
-pub full_before-less : (start end : ℕ) → start < end → start + 1380 * full_before start end < end
+pub full_before-less : (start end : ℕ) → start < end → start + MAX_PAYLOAD_BYTES * full_before start end < end
 full_before-less start end less = omega arith
 
-pub full_before-within : (start end : ℕ) → start < end → end ≤ start + 1380 * full_before start end + 1380
+pub full_before-within : (start end : ℕ) → start < end → end ≤ start + MAX_PAYLOAD_BYTES * full_before start end + MAX_PAYLOAD_BYTES
 full_before-within start end less = omega arith
 
 slice-fills : {G : ℕ → List ℕ → Type 0} {start end : ℕ} (unit : PictureUnit) (rest : List Packet) → start < end

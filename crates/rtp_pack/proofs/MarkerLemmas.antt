@@ -1,4 +1,4 @@
--- The marker stands on a unit's last packet alone.
+-- Only a unit's last packet has the marker.
 use Rattle.std.proofs.Common.{◌≢◌, ℕ, ◌<◌, ◌≤◌, List, [], ◌∷◌, sym, subst, arith}
 use Rattle.std.proofs.lemmas.Bool.{eq-eqb, ne_eqb}
 use Rattle.mpeg_scan.specs.declared.units.Unit.{Unit as PictureUnit}

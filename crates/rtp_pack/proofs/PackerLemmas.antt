@@ -1,9 +1,10 @@
--- What the packer keeps: the packets that are out, and those that the rest of the unit gives.
+-- The packer's invariant: the packets so far, and those that the rest of the unit gives.
 use Rattle.std.proofs.Common.{◌≡◌, ℕ, suc, ◌+◌, ◌-◌, ◌<◌, ◌≤◌, Bool, List, [], ◌∷◌, ◌++◌}
 use Rattle.std.proofs.Common.{append_assoc, drop, length, get_or, refl, sym, ap, subst, ◌∙◌, arith}
 use Rattle.std.proofs.Common.{false}
 use Rattle.std.proofs.Common.{drop-cons, add-one}
 use Rattle.std.proofs.Math.ListN.{drop_of_length-le}
+use Rattle.rtp_pack.specs.declared.open_packet.TheConstants.{MAX_PAYLOAD_BYTES}
 use Rattle.mpeg_scan.specs.declared.units.Unit.{Unit as PictureUnit}
 use Rattle.rtp_pack.specs.declared.open_packet.OpenPacket.{OpenPacket}
 use Rattle.rtp_pack.specs.declared.payloads.Packet.{Packet}
@@ -13,12 +14,12 @@ use Rattle.rtp_pack.specs.Packets.{packet, packets_from, slice_packets}
 
 -- one more full portion of those that are left
 pub put-full_packet : {count i : ℕ} (unit : PictureUnit) (begin : Bool) (start : ℕ) (out : List Packet) → i < count
-    → (out ++ packet unit start (start + 1380) begin false ∷ [])
-    ++ full_packets unit false (start + 1380) (count - (i + 1)) ≡ out ++ full_packets unit begin start (count - i)
+    → (out ++ packet unit start (start + MAX_PAYLOAD_BYTES) begin false ∷ [])
+    ++ full_packets unit false (start + MAX_PAYLOAD_BYTES) (count - (i + 1)) ≡ out ++ full_packets unit begin start (count - i)
 put-full_packet {count} {i} unit begin start out less =
     let left : count - i ≡ suc (count - (i + 1)) = omega arith in
-    append_assoc out (packet unit start (start + 1380) begin false ∷ [])
-    (full_packets unit false (start + 1380) (count - (i + 1)))
+    append_assoc out (packet unit start (start + MAX_PAYLOAD_BYTES) begin false ∷ [])
+    (full_packets unit false (start + MAX_PAYLOAD_BYTES) (count - (i + 1)))
     ∙ sym (ap (λ n. out ++ full_packets unit begin start n) left)
 
 -- the slices from a place of the list on
@@ -86,7 +87,7 @@ put-slice {unit} {starts} {i} {f} {next} {end} {before} remaining ends more =
           ∙ remaining.packets;
     }
 
--- after the last slice the portion in hand is the last packet
+-- after the last slice the portion that is being filled is the last packet
 pub put-last : {unit : PictureUnit} {starts : List ℕ} {i : ℕ} {f : OpenPacket} {before out whole : List Packet} →
     Remaining unit starts i f before whole → length starts ≤ i →
     out ≡ before ++ filling_packet unit f ∷ [] → out ≡ whole

@@ -4,6 +4,7 @@ use Rattle.std.proofs.Common.{leb, List, [], ◌∷◌, ◌++◌, sum, refl, sym
 use Rattle.std.proofs.Common.{inr}
 use Rattle.std.proofs.lemmas.Bool.{both_ways, cases_Bool, eq-eqb, le-leb, leb-true, or_left, or_right}
 use Rattle.std.proofs.lemmas.List.Sums.{sum_by-cons}
+use Rattle.rtp_pack.specs.declared.open_packet.TheConstants.{MAX_PAYLOAD_BYTES}
 use Rattle.rtp_pack.specs.declared.open_packet.OpenPacket.{OpenPacket}
 use Rattle.rtp_pack.specs.declared.open_packet.PacketContents.{PacketContents}
 use Rattle.rtp_pack.specs.declared.open_packet.PacketContents.TheVariants.{Slices, LastFragment}
@@ -20,16 +21,16 @@ sum-cons n slices = sum_by-cons (λ x. x) n slices
 
 -- a portion that is being filled is no larger than a payload
 abbrev pub Fit : OpenPacket → Type 0
-Fit f = (f.from < f.at) × (f.at ≤ f.from + 1380)
+Fit f = (f.from < f.at) × (f.at ≤ f.from + MAX_PAYLOAD_BYTES)
 
-full-cover : (start count : ℕ) (rest : List ℕ) (to : ℕ) → ArePortions (start + 1380 * count) rest to
+full-cover : (start count : ℕ) (rest : List ℕ) (to : ℕ) → ArePortions (start + MAX_PAYLOAD_BYTES * count) rest to
     → ArePortions start (full_ends start count ++ rest) to
 full-cover start zero rest to portions = subst (λ s. ArePortions s rest to) (omega arith) portions
 full-cover start (suc count) rest to portions = (
   omega arith,
   (
     omega arith,
-    full-cover (start + 1380) count rest to (subst (λ s. ArePortions s rest to) (omega arith) portions),
+    full-cover (start + MAX_PAYLOAD_BYTES) count rest to (subst (λ s. ArePortions s rest to) (omega arith) portions),
   ),
 )
 
@@ -39,15 +40,15 @@ portions-cover [] f cuts fit e =
     let P : List ℕ → Type 0 = λ l. ArePortions f.from l (f.at + 0) in subst P (sym e) (fit.0, (fit.1, omega arith))
 portions-cover (n ∷ slices) f cuts fit (inl x) =
     let rest =
-    portions-cover slices (filling_after f n (f.from + 1380 * x.1.full)) x.1.rest
+    portions-cover slices (filling_after f n (f.from + MAX_PAYLOAD_BYTES * x.1.full)) x.1.rest
     (x.1.before, x.1.within) x.1.goes_on in
     let P : List ℕ → Type 0 = λ l. ArePortions f.from l (f.at + sum (n ∷ slices)) in
     subst P (sym x.1.filled)
     (full-cover f.from x.1.full x.1.rest (f.at + sum (n ∷ slices))
-    (subst (λ t. ArePortions (f.from + 1380 * x.1.full) x.1.rest t) (omega (arith, sum-cons n slices)) rest))
+    (subst (λ t. ArePortions (f.from + MAX_PAYLOAD_BYTES * x.1.full) x.1.rest t) (omega (arith, sum-cons n slices)) rest))
 portions-cover (n ∷ slices) f cuts fit (inr x) =
     let fills = x.1.1.1 in
-    let rest = portions-cover slices (filling_after f n (f.at + 1380 * fills.full)) fills.rest
+    let rest = portions-cover slices (filling_after f n (f.at + MAX_PAYLOAD_BYTES * fills.full)) fills.rest
     (fills.before, fills.within) fills.goes_on in
     let P : List ℕ → Type 0 = λ l. ArePortions f.from l (f.at + sum (n ∷ slices)) in
     let Q : List ℕ → Type 0 = λ l. ArePortions f.at l (f.at + sum (n ∷ slices)) in
@@ -57,7 +58,7 @@ portions-cover (n ∷ slices) f cuts fit (inr x) =
         fit.1,
         subst Q (sym fills.filled)
             (full-cover f.at fills.full fills.rest (f.at + sum (n ∷ slices))
-            (subst (λ t. ArePortions (f.at + 1380 * fills.full) fills.rest t) (omega (arith, sum-cons n slices)) rest)),
+            (subst (λ t. ArePortions (f.at + MAX_PAYLOAD_BYTES * fills.full) fills.rest t) (omega (arith, sum-cons n slices)) rest)),
       ),
     )
 
@@ -72,11 +73,11 @@ from-more : (a b : ℕ) (cuts : List ℕ) → a ≤ b → AreFrom b cuts → Are
 from-more a b [] less after = tt
 from-more a b (cut ∷ cuts) less after = (omega (arith, less, after.0), from-more a b cuts less after.1)
 
-from-full : (place start count : ℕ) (rest : List ℕ) → (0 < count → place ≤ start + 1380) → AreFrom place rest
+from-full : (place start count : ℕ) (rest : List ℕ) → (0 < count → place ≤ start + MAX_PAYLOAD_BYTES) → AreFrom place rest
     → AreFrom place (full_ends start count ++ rest)
 from-full place start zero rest less after = after
 from-full place start (suc count) rest less after =
-    (less (omega arith), from-full place (start + 1380) count rest (λ some. omega (arith, less (omega arith))) after)
+    (less (omega arith), from-full place (start + MAX_PAYLOAD_BYTES) count rest (λ some. omega (arith, less (omega arith))) after)
 
 uncut-from : (from to : ℕ) (cuts : List ℕ) → AreFrom to cuts → IsUncut from to cuts
 uncut-from from to [] after = tt
@@ -87,7 +88,7 @@ pub cuts-from : (slices : List ℕ) (f : OpenPacket) (cuts : List ℕ) → f.fro
 cuts-from [] f cuts order e = let P : List ℕ → Type 0 = λ l. AreFrom f.at l in subst P (sym e) (omega arith, tt)
 cuts-from (n ∷ slices) f cuts order (inl x) =
     let rest =
-    cuts-from slices (filling_after f n (f.from + 1380 * x.1.full)) x.1.rest (omega (arith, x.1.before)) x.1.goes_on in
+    cuts-from slices (filling_after f n (f.from + MAX_PAYLOAD_BYTES * x.1.full)) x.1.rest (omega (arith, x.1.before)) x.1.goes_on in
     let full : FullBefore true f n x.1.full = record { goes_is = x.0; before = x.1.before } in
     let P : List ℕ → Type 0 = λ l. AreFrom f.at l in
     subst P (sym x.1.filled)
@@ -95,7 +96,7 @@ cuts-from (n ∷ slices) f cuts order (inl x) =
     (from-more f.at (f.at + n) x.1.rest (omega arith) rest))
 cuts-from (n ∷ slices) f cuts order (inr x) =
     let fills = x.1.1.1 in
-    let rest = cuts-from slices (filling_after f n (f.at + 1380 * fills.full)) fills.rest
+    let rest = cuts-from slices (filling_after f n (f.at + MAX_PAYLOAD_BYTES * fills.full)) fills.rest
     (omega (arith, fills.before)) fills.goes_on in
     let P : List ℕ → Type 0 = λ l. AreFrom f.at l in
     subst P (sym x.1.1.0) (
@@ -115,18 +116,18 @@ short-more [] at cut cuts less uncut = tt
 short-more (n ∷ slices) at cut cuts less uncut =
     (λ short. (inl less, uncut.0 short), short-more slices (at + n) cut cuts (omega (arith, less)) uncut.1)
 
-short-full : {at : ℕ} (slices : List ℕ) (start count : ℕ) (cuts : List ℕ) → start + 1380 * count ≤ at
+short-full : {at : ℕ} (slices : List ℕ) (start count : ℕ) (cuts : List ℕ) → start + MAX_PAYLOAD_BYTES * count ≤ at
     → AreShortUncut at slices cuts → AreShortUncut at slices (full_ends start count ++ cuts)
 short-full {at} slices start zero cuts less uncut = uncut
 short-full {at} slices start (suc count) cuts less uncut =
-    short-more slices at (start + 1380) (full_ends (start + 1380) count ++ cuts) (omega (arith, less))
-    (short-full slices (start + 1380) count cuts (omega (arith, less)) uncut)
+    short-more slices at (start + MAX_PAYLOAD_BYTES) (full_ends (start + MAX_PAYLOAD_BYTES) count ++ cuts) (omega (arith, less))
+    (short-full slices (start + MAX_PAYLOAD_BYTES) count cuts (omega (arith, less)) uncut)
 
 -- a short slice ends in the portion in which it begins
 short-rest : {goes : Bool} {f : OpenPacket} {n count : ℕ} (rest : List ℕ) → FullBefore goes f n count
-    → AreFrom (f.at + n) rest → n ≤ 1380 → IsUncut f.at (f.at + n) (full_ends (start_of goes f) count ++ rest)
+    → AreFrom (f.at + n) rest → n ≤ MAX_PAYLOAD_BYTES → IsUncut f.at (f.at + n) (full_ends (start_of goes f) count ++ rest)
 short-rest {goes} {f} {n} {count} rest full after short =
-    let none : count ≡ 0 = none-full (le-leb n 1380 short) full in
+    let none : count ≡ 0 = none-full (le-leb n MAX_PAYLOAD_BYTES short) full in
     let P : ℕ → Type 0 = λ k. IsUncut f.at (f.at + n) (full_ends (start_of goes f) k ++ rest) in
     subst P (sym none) (uncut-from f.at (f.at + n) rest after)
 
@@ -134,7 +135,7 @@ pub short-uncut : (slices : List ℕ) (f : OpenPacket) (cuts : List ℕ) → f.f
     → AreShortUncut f.at slices cuts
 short-uncut [] f cuts order e = tt
 short-uncut (n ∷ slices) f cuts order (inl x) =
-    let g = filling_after f n (f.from + 1380 * x.1.full) in
+    let g = filling_after f n (f.from + MAX_PAYLOAD_BYTES * x.1.full) in
     let rest = short-uncut slices g x.1.rest (omega (arith, x.1.before)) x.1.goes_on in
     let after = cuts-from slices g x.1.rest (omega (arith, x.1.before)) x.1.goes_on in
     let full : FullBefore true f n x.1.full = record { goes_is = x.0; before = x.1.before } in
@@ -145,7 +146,7 @@ short-uncut (n ∷ slices) f cuts order (inl x) =
     )
 short-uncut (n ∷ slices) f cuts order (inr x) =
     let fills = x.1.1.1 in
-    let g = filling_after f n (f.at + 1380 * fills.full) in
+    let g = filling_after f n (f.at + MAX_PAYLOAD_BYTES * fills.full) in
     let rest = short-uncut slices g fills.rest (omega (arith, fills.before)) fills.goes_on in
     let after = cuts-from slices g fills.rest (omega (arith, fills.before)) fills.goes_on in
     let full : FullBefore false f n fills.full = record { goes_is = x.0; before = fills.before } in
@@ -163,8 +164,8 @@ pub among-full : (x start count : ℕ) (cuts : List ℕ) → is_among x cuts ≡
     → is_among x (full_ends start count ++ cuts) ≡ true
 among-full x start zero cuts is = is
 among-full x start (suc count) cuts is =
-    or_right (eqb x (start + 1380)) (is_among x (full_ends (start + 1380) count ++ cuts))
-    (among-full x (start + 1380) count cuts is)
+    or_right (eqb x (start + MAX_PAYLOAD_BYTES)) (is_among x (full_ends (start + MAX_PAYLOAD_BYTES) count ++ cuts))
+    (among-full x (start + MAX_PAYLOAD_BYTES) count cuts is)
 
 long-more : (slices : List ℕ) (at cut : ℕ) (cuts : List ℕ) → DoLongEndPortions at slices cuts
     → DoLongEndPortions at slices (cut ∷ cuts)
@@ -178,8 +179,8 @@ long-full : (slices : List ℕ) (at start count : ℕ) (cuts : List ℕ) → DoL
     → DoLongEndPortions at slices (full_ends start count ++ cuts)
 long-full slices at start zero cuts ends = ends
 long-full slices at start (suc count) cuts ends =
-    long-more slices at (start + 1380) (full_ends (start + 1380) count ++ cuts)
-    (long-full slices at (start + 1380) count cuts ends)
+    long-more slices at (start + MAX_PAYLOAD_BYTES) (full_ends (start + MAX_PAYLOAD_BYTES) count ++ cuts)
+    (long-full slices at (start + MAX_PAYLOAD_BYTES) count cuts ends)
 
 -- no slice goes after a last fragment
 none-after : (from at n : ℕ) (short : Bool)
@@ -189,8 +190,8 @@ none-after from at n false = refl
 
 goes-not : (f : OpenPacket) (n : ℕ) → f.holds ≡ LastFragment → goes_in f n ≡ false
 goes-not f n last =
-    ap (λ (h : PacketContents). cond (leb n 1380) (goes_in_whole f.from f.at h n) (goes_in_cut f.from f.at h)) last
-    ∙ none-after f.from f.at n (leb n 1380)
+    ap (λ (h : PacketContents). cond (leb n MAX_PAYLOAD_BYTES) (goes_in_whole f.from f.at h n) (goes_in_cut f.from f.at h)) last
+    ∙ none-after f.from f.at n (leb n MAX_PAYLOAD_BYTES)
 
 fragment-ends : (slices : List ℕ) (f : OpenPacket) (cuts : List ℕ) → f.holds ≡ LastFragment → Cuts f slices cuts
     → is_among f.at cuts ≡ true
@@ -200,17 +201,17 @@ fragment-ends (n ∷ slices) f cuts last (inl x) = absurd (both_ways (goes_in f 
 fragment-ends (n ∷ slices) f cuts last (inr x) =
     ap (λ (l : List ℕ). is_among f.at l) x.1.1.0 ∙ or_left (eqb f.at f.at) (is_among f.at x.1.0) (eq-eqb f.at f.at refl)
 
-leb-not : (n : ℕ) → 1380 < n → leb n 1380 ≡ false
-leb-not n long = elim (cases_Bool (leb n 1380)) [ inl e ↦ absurd (omega (arith, leb-true n 1380 e, long)) | inr e ↦ e ]
+leb-not : (n : ℕ) → MAX_PAYLOAD_BYTES < n → leb n MAX_PAYLOAD_BYTES ≡ false
+leb-not n long = elim (cases_Bool (leb n MAX_PAYLOAD_BYTES)) [ inl e ↦ absurd (omega (arith, leb-true n MAX_PAYLOAD_BYTES e, long)) | inr e ↦ e ]
 
-held-last : (n : ℕ) → 1380 < n → holds_after n ≡ LastFragment
+held-last : (n : ℕ) → MAX_PAYLOAD_BYTES < n → holds_after n ≡ LastFragment
 held-last n long = ap (λ b. cond b Slices LastFragment) (leb-not n long)
 
 pub long-ends : (slices : List ℕ) (f : OpenPacket) (cuts : List ℕ) → Cuts f slices cuts
     → DoLongEndPortions f.at slices cuts
 long-ends [] f cuts e = tt
 long-ends (n ∷ slices) f cuts (inl x) =
-    let g = filling_after f n (f.from + 1380 * x.1.full) in
+    let g = filling_after f n (f.from + MAX_PAYLOAD_BYTES * x.1.full) in
     let P : List ℕ → Type 0 = λ l. DoLongEndPortions f.at (n ∷ slices) l in
     subst P (sym x.1.filled) (
       λ long. among-full (f.at + n) f.from x.1.full x.1.rest
@@ -219,7 +220,7 @@ long-ends (n ∷ slices) f cuts (inl x) =
     )
 long-ends (n ∷ slices) f cuts (inr x) =
     let fills = x.1.1.1 in
-    let g = filling_after f n (f.at + 1380 * fills.full) in
+    let g = filling_after f n (f.at + MAX_PAYLOAD_BYTES * fills.full) in
     let P : List ℕ → Type 0 = λ l. DoLongEndPortions f.at (n ∷ slices) l in
     let Q : List ℕ → Type 0 = λ l. DoLongEndPortions f.at (n ∷ slices) (f.at ∷ l) in
     subst P (sym x.1.1.0) (subst Q (sym fills.filled) (

@@ -4,6 +4,7 @@ use Rattle.std.proofs.Common.{eqb, leb, ◌||◌, List, [], ◌∷◌, ◌++◌,
 use Rattle.std.proofs.Common.{arith, inl, inr}
 use Rattle.std.proofs.lemmas.Bool.{both_ways, cases_lt, cases_order, eq-eqb, ne_eqb, le-leb, lt-leb, leb-false}
 use Rattle.std.proofs.lemmas.Bool.{le-ltb, ltb-false, or_right}
+use Rattle.rtp_pack.specs.declared.open_packet.TheConstants.{MAX_PAYLOAD_BYTES}
 use Rattle.mpeg_scan.specs.declared.units.Kind.TheVariants.{I}
 use Rattle.mpeg_scan.specs.declared.units.Unit.{Unit as PictureUnit}
 use Rattle.rtp_pack.specs.declared.open_packet.OpenPacket.{OpenPacket}
@@ -32,7 +33,7 @@ record Rest (Must : ℕ → Type 0) (Fits : ℕ → ℕ → Type 0) (May : ℕ �
 abbrev Reasons : (ℕ → Type 0) → (ℕ → ℕ → Type 0) → (ℕ → ℕ → Type 0) → Type 0
 Reasons Must Fits May =
     (start cut : ℕ) → May start cut
-    → (cut ≡ start + 1380) ⊎ (Must cut ⊎ ((length : ℕ) × (Fits cut length × (start + 1380 < cut + length))))
+    → (cut ≡ start + MAX_PAYLOAD_BYTES) ⊎ (Must cut ⊎ ((length : ℕ) × (Fits cut length × (start + MAX_PAYLOAD_BYTES < cut + length))))
 
 portions-rise : {start : ℕ} (end first : ℕ) (cuts : List ℕ) → ArePortions start cuts end → first < start
     → is_among first cuts ≡ true → ⊥
@@ -73,7 +74,7 @@ cut-inside c d length (inr high) less inside = omega (arith, high, inside)
 -- a cut of one list is no place that the other passes over
 passed-by : {Must : ℕ → Type 0} {Fits May : ℕ → ℕ → Type 0} {start end c d : ℕ} {bs : List ℕ}
     → Rest Must Fits May start end (d ∷ bs) → start < c → c < d
-    → (c ≡ start + 1380) ⊎ (Must c ⊎ ((length : ℕ) × (Fits c length × (start + 1380 < c + length)))) → ⊥
+    → (c ≡ start + MAX_PAYLOAD_BYTES) ⊎ (Must c ⊎ ((length : ℕ) × (Fits c length × (start + MAX_PAYLOAD_BYTES < c + length)))) → ⊥
 passed-by {Fits} {May} {start} {end} {c} b some less (inl full) = omega (arith, full, less, b.portions.1.0)
 passed-by {Fits} {May} {start} {end} {c} {d} {bs} b some less (inr (inl must)) =
     let there = b.must c some must in
@@ -106,7 +107,7 @@ one-rest {Must} {Fits} {May} {start} {end} {cs = c ∷ cs} {bs = d ∷ bs} reaso
 
 -- a slice that is short
 abbrev Short : ℕ → List ℕ → ℕ → ℕ → Type 0
-Short headers_end slices place length = SliceAt headers_end slices place length × (length ≤ 1380)
+Short headers_end slices place length = SliceAt headers_end slices place length × (length ≤ MAX_PAYLOAD_BYTES)
 
 the-reasons : (from headers_end : ℕ) (slices : List ℕ)
     → Reasons (IsCutPlace from headers_end slices) (Short headers_end slices) (MayEnd from headers_end slices)
@@ -145,7 +146,7 @@ slice-after (n ∷ slices) at place length (inr later) = omega (arith, slice-aft
 -- the same, of each of them
 abbrev AreUncutWhereShort : ℕ → List ℕ → List ℕ → Type 0
 AreUncutWhereShort at slices cuts =
-    (place length : ℕ) → SliceAt at slices place length → length ≤ 1380 → IsUncut place (place + length) cuts
+    (place length : ℕ) → SliceAt at slices place length → length ≤ MAX_PAYLOAD_BYTES → IsUncut place (place + length) cuts
 
 short-at : (slices : List ℕ) (at : ℕ) (cuts : List ℕ) → AreShortUncut at slices cuts → AreUncutWhereShort at slices cuts
 short-at [] at cuts uncut place length is short = absurd is
@@ -156,11 +157,11 @@ short-at (n ∷ slices) at cuts uncut place length (inl here) short =
 short-at (n ∷ slices) at cuts uncut place length (inr later) short =
     short-at slices (at + n) cuts uncut.1 place length later short
 
-leb-not : (n : ℕ) → 1380 < n → leb n 1380 ≡ false
-leb-not n long = lt-leb n 1380 long
+leb-not : (n : ℕ) → MAX_PAYLOAD_BYTES < n → leb n MAX_PAYLOAD_BYTES ≡ false
+leb-not n long = lt-leb n MAX_PAYLOAD_BYTES long
 
 -- a long slice that isn't first in a unit doesn't go in
-long-not : (f : OpenPacket) (n : ℕ) → 1380 < n → f.holds ≡ Slices ⊎ f.holds ≡ LastFragment → goes_in f n ≡ false
+long-not : (f : OpenPacket) (n : ℕ) → MAX_PAYLOAD_BYTES < n → f.holds ≡ Slices ⊎ f.holds ≡ LastFragment → goes_in f n ≡ false
 long-not f n long (inl e) =
     ap (λ b. cond b (goes_in_whole f.from f.at f.holds n) (goes_in_cut f.from f.at f.holds)) (leb-not n long)
     ∙ ap (λ (h : PacketContents). goes_in_cut f.from f.at h) e
@@ -173,7 +174,7 @@ held-by true = inl refl
 held-by false = inr refl
 
 held-is : (n : ℕ) → (holds_after n ≡ Slices) ⊎ (holds_after n ≡ LastFragment)
-held-is n = held-by (leb n 1380)
+held-is n = held-by (leb n MAX_PAYLOAD_BYTES)
 
 first-there : (place at : ℕ) (cuts : List ℕ) → at ≡ place → is_among place (at ∷ cuts) ≡ true
 first-there place at cuts here = ap (λ b. b || is_among place cuts) (eq-eqb place at (sym here))
@@ -181,7 +182,7 @@ first-there place at cuts here = ap (λ b. b || is_among place cuts) (eq-eqb pla
 -- a long slice begins with a portion where it doesn't go in
 abbrev DoLongBegin : OpenPacket → List ℕ → List ℕ → Type 0
 DoLongBegin f slices cuts =
-    (place length : ℕ) → SliceAt f.at slices place length → 1380 < length
+    (place length : ℕ) → SliceAt f.at slices place length → MAX_PAYLOAD_BYTES < length
     → (place ≡ f.at → goes_in f length ≡ false) → is_among place cuts ≡ true
 
 begin-cut : (slices : List ℕ) (f : OpenPacket) (cuts : List ℕ) → Cuts f slices cuts → DoLongBegin f slices cuts
@@ -189,7 +190,7 @@ begin-cut [] f cuts e place length is long goes = absurd is
 begin-cut (n ∷ slices) f cuts (inl x) place length (inl here) long goes =
     absurd (both_ways (goes_in f n) (ap (λ m. goes_in f m) here.1 ∙ goes (sym here.0)) x.0)
 begin-cut (n ∷ slices) f cuts (inl x) place length (inr later) long goes =
-    let g = filling_after f n (f.from + 1380 * x.1.full) in
+    let g = filling_after f n (f.from + MAX_PAYLOAD_BYTES * x.1.full) in
     ap (λ (l : List ℕ). is_among place l) x.1.filled
     ∙ among-full place f.from x.1.full x.1.rest
     (begin-cut slices g x.1.rest x.1.goes_on place length later long (λ _. long-not g length long (held-is n)))
@@ -197,7 +198,7 @@ begin-cut (n ∷ slices) f cuts (inr x) place length (inl here) long goes =
     ap (λ (l : List ℕ). is_among place l) x.1.1.0 ∙ first-there place f.at x.1.0 here.0
 begin-cut (n ∷ slices) f cuts (inr x) place length (inr later) long goes =
     let fills = x.1.1.1 in
-    let g = filling_after f n (f.at + 1380 * fills.full) in
+    let g = filling_after f n (f.at + MAX_PAYLOAD_BYTES * fills.full) in
     let there =
     begin-cut slices g fills.rest fills.goes_on place length later long (λ _. long-not g length long (held-is n)) in
     ap (λ (l : List ℕ). is_among place l) x.1.1.0
@@ -207,7 +208,7 @@ begin-cut (n ∷ slices) f cuts (inr x) place length (inr later) long goes =
 -- a long slice ends with a portion
 abbrev DoLongEnd : ℕ → List ℕ → List ℕ → Type 0
 DoLongEnd at slices cuts =
-    (start length : ℕ) → SliceAt at slices start length → 1380 < length → is_among (start + length) cuts ≡ true
+    (start length : ℕ) → SliceAt at slices start length → MAX_PAYLOAD_BYTES < length → is_among (start + length) cuts ≡ true
 
 end-by : (slices : List ℕ) (at : ℕ) (cuts : List ℕ) → DoLongEndPortions at slices cuts → DoLongEnd at slices cuts
 end-by [] at cuts ends_ start length is long = absurd is
@@ -222,15 +223,15 @@ end-cut slices f cuts cutting = end-by slices f.at cuts (long-ends slices f cuts
 -- each portion ends where it may
 record Reads (Must : ℕ → Type 0) (Begins : ℕ → ℕ → Type 0) (f : OpenPacket) (slices : List ℕ) : Type 0 where
   begins : (place length : ℕ) → SliceAt f.at slices place length → Begins place length
-  long : (place length : ℕ) → SliceAt f.at slices place length → 1380 < length
+  long : (place length : ℕ) → SliceAt f.at slices place length → MAX_PAYLOAD_BYTES < length
       → (place ≡ f.at → goes_in f length ≡ false) → Must place
-  long_end : (start length : ℕ) → SliceAt f.at slices start length → 1380 < length → Must (start + length)
+  long_end : (start length : ℕ) → SliceAt f.at slices start length → MAX_PAYLOAD_BYTES < length → Must (start + length)
   last : f.holds ≡ LastFragment → Must f.at
 
 abbrev MayBy : (ℕ → Type 0) → (ℕ → ℕ → Type 0) → ℕ → ℕ → Type 0
 MayBy Must Begins start cut =
-    (cut ≡ start + 1380)
-    ⊎ (Must cut ⊎ ((length : ℕ) × (Begins cut length × ((length ≤ 1380) × (start + 1380 < cut + length)))))
+    (cut ≡ start + MAX_PAYLOAD_BYTES)
+    ⊎ (Must cut ⊎ ((length : ℕ) × (Begins cut length × ((length ≤ MAX_PAYLOAD_BYTES) × (start + MAX_PAYLOAD_BYTES < cut + length)))))
 
 may-cons : (May : ℕ → ℕ → Type 0) (start cut : ℕ) (cuts : List ℕ) → May start cut → MayAllEnd May cut cuts
     → MayAllEnd May start (cut ∷ cuts)
@@ -238,45 +239,45 @@ may-cons May start cut [] one rest = tt
 may-cons May start cut (next ∷ cuts) one rest = (one, rest)
 
 full-may : (Must : ℕ → Type 0) (Begins : ℕ → ℕ → Type 0) (start count : ℕ) (rest : List ℕ)
-    → MayAllEnd (MayBy Must Begins) (start + 1380 * count) rest
+    → MayAllEnd (MayBy Must Begins) (start + MAX_PAYLOAD_BYTES * count) rest
     → MayAllEnd (MayBy Must Begins) start (full_ends start count ++ rest)
 full-may Must Begins start zero rest may = subst (λ s. MayAllEnd (MayBy Must Begins) s rest) (omega arith) may
 full-may Must Begins start (suc count) rest may =
-    may-cons (MayBy Must Begins) start (start + 1380) (full_ends (start + 1380) count ++ rest) (inl refl)
-    (full-may Must Begins (start + 1380) count rest
+    may-cons (MayBy Must Begins) start (start + MAX_PAYLOAD_BYTES) (full_ends (start + MAX_PAYLOAD_BYTES) count ++ rest) (inl refl)
+    (full-may Must Begins (start + MAX_PAYLOAD_BYTES) count rest
     (subst (λ s. MayAllEnd (MayBy Must Begins) s rest) (omega arith) may))
 
 -- why a slice doesn't go in
 record BeginsShort (Begins : ℕ → ℕ → Type 0) (at n : ℕ) : Type 0 where
   begins : Begins at n
-  short : n ≤ 1380
+  short : n ≤ MAX_PAYLOAD_BYTES
 
 why-short : {at n : ℕ} {holds : PacketContents} {Begins : ℕ → ℕ → Type 0} (Must : ℕ → Type 0) (from : ℕ) →
     BeginsShort Begins at n → (holds ≡ LastFragment → Must at) → goes_in_whole from at holds n ≡ false →
     MayBy Must Begins from at
 why-short {at} {n} {holds = HeadersAlone} Must from slice last goes =
-    inr (inr (n, (slice.begins, (slice.short, leb-false (at + n) (from + 1380) goes))))
+    inr (inr (n, (slice.begins, (slice.short, leb-false (at + n) (from + MAX_PAYLOAD_BYTES) goes))))
 why-short {at} {n} {holds = Slices} Must from slice last goes =
-    inr (inr (n, (slice.begins, (slice.short, leb-false (at + n) (from + 1380) goes))))
+    inr (inr (n, (slice.begins, (slice.short, leb-false (at + n) (from + MAX_PAYLOAD_BYTES) goes))))
 why-short {at} {holds = LastFragment} Must from slice last goes = inr (inl (last refl))
 
 why : {Must : ℕ → Type 0} {Begins : ℕ → ℕ → Type 0} {f : OpenPacket} {n : ℕ} {slices : List ℕ}
     → Reads Must Begins f (n ∷ slices) → goes_in f n ≡ false → MayBy Must Begins f.from f.at
-why {Must} {Begins} {f} {n} reads goes = elim (cases_lt 1380 n) [
+why {Must} {Begins} {f} {n} reads goes = elim (cases_lt MAX_PAYLOAD_BYTES n) [
   | inl long ↦ inr (inl (reads.long f.at n (inl (refl, refl)) long (λ _. goes)))
   | inr short ↦ let slice : BeginsShort Begins f.at n =
       record { begins = reads.begins f.at n (inl (refl, refl)); short = short } in
       why-short Must f.from slice reads.last
       (sym (ap (λ b. cond b (goes_in_whole f.from f.at f.holds n) (goes_in_cut f.from f.at f.holds))
-      (le-leb n 1380 short)) ∙ goes)
+      (le-leb n MAX_PAYLOAD_BYTES short)) ∙ goes)
 ]
 
-last-by : (b : Bool) (n : ℕ) → leb n 1380 ≡ b → cond b Slices LastFragment ≡ LastFragment → 1380 < n
+last-by : (b : Bool) (n : ℕ) → leb n MAX_PAYLOAD_BYTES ≡ b → cond b Slices LastFragment ≡ LastFragment → MAX_PAYLOAD_BYTES < n
 last-by true n e is = cc
-last-by false n e is = leb-false n 1380 e
+last-by false n e is = leb-false n MAX_PAYLOAD_BYTES e
 
-last-long : (n : ℕ) → holds_after n ≡ LastFragment → 1380 < n
-last-long n is = last-by (leb n 1380) n refl is
+last-long : (n : ℕ) → holds_after n ≡ LastFragment → MAX_PAYLOAD_BYTES < n
+last-long n is = last-by (leb n MAX_PAYLOAD_BYTES) n refl is
 
 reads-next : {Must : ℕ → Type 0} {Begins : ℕ → ℕ → Type 0} {f : OpenPacket} {n : ℕ} {slices : List ℕ} (last : ℕ)
     → 0 < n → Reads Must Begins f (n ∷ slices) → Reads Must Begins (filling_after f n last) slices
@@ -293,7 +294,7 @@ may-end : {Must : ℕ → Type 0} {Begins : ℕ → ℕ → Type 0} {slices : Li
 may-end {Must} {Begins} {slices = []} {f} cuts some reads e =
     subst (λ (l : List ℕ). MayAllEnd (MayBy Must Begins) f.from l) (sym e) tt
 may-end {Must} {Begins} {slices = n ∷ slices} {f} cuts some reads (inl x) =
-    let last = f.from + 1380 * x.1.full in
+    let last = f.from + MAX_PAYLOAD_BYTES * x.1.full in
     let rest = may-end {Must = Must} {Begins = Begins} {slices = slices} {f = filling_after f n last} x.1.rest
     some.1 (reads-next {Must = Must} {Begins = Begins} {f = f} {n = n} {slices = slices} last some.0 reads)
     x.1.goes_on in
@@ -301,7 +302,7 @@ may-end {Must} {Begins} {slices = n ∷ slices} {f} cuts some reads (inl x) =
     (full-may Must Begins f.from x.1.full x.1.rest rest)
 may-end {Must} {Begins} {slices = n ∷ slices} {f} cuts some reads (inr x) =
     let fills = x.1.1.1 in
-    let last = f.at + 1380 * fills.full in
+    let last = f.at + MAX_PAYLOAD_BYTES * fills.full in
     let rest = may-end {Must = Must} {Begins = Begins} {slices = slices} {f = filling_after f n last} fills.rest
     some.1 (reads-next {Must = Must} {Begins = Begins} {f = f} {n = n} {slices = slices} last some.0 reads)
     fills.goes_on in
@@ -327,18 +328,18 @@ may-map May Other start (cut ∷ (next ∷ cuts)) cs may =
     (cs start cut may.0, may-map May Other cut (next ∷ cuts) cs may.1)
 
 -- in the first portion a long slice goes in where the headers leave room
-headers-go : (from headers_end n : ℕ) → 1380 < n → goes_in (first_portion from headers_end) n ≡ false
-    → from + 1380 ≤ headers_end
+headers-go : (from headers_end n : ℕ) → MAX_PAYLOAD_BYTES < n → goes_in (first_portion from headers_end) n ≡ false
+    → from + MAX_PAYLOAD_BYTES ≤ headers_end
 headers-go from headers_end n long goes =
-    ltb-false headers_end (from + 1380)
+    ltb-false headers_end (from + MAX_PAYLOAD_BYTES)
     (sym (ap (λ b. cond b (goes_in_whole from headers_end HeadersAlone n) (goes_in_cut from headers_end HeadersAlone))
     (leb-not n long)) ∙ goes)
 
-goes-headers : (from headers_end n : ℕ) → 1380 < n → from + 1380 ≤ headers_end
+goes-headers : (from headers_end n : ℕ) → MAX_PAYLOAD_BYTES < n → from + MAX_PAYLOAD_BYTES ≤ headers_end
     → goes_in (first_portion from headers_end) n ≡ false
 goes-headers from headers_end n long full =
     ap (λ b. cond b (goes_in_whole from headers_end HeadersAlone n) (goes_in_cut from headers_end HeadersAlone))
-    (leb-not n long) ∙ le-ltb headers_end (from + 1380) full
+    (leb-not n long) ∙ le-ltb headers_end (from + MAX_PAYLOAD_BYTES) full
 
 first-reads : (from headers_end : ℕ) (slices : List ℕ)
     → Reads (IsCutPlace from headers_end slices) (SliceAt headers_end slices) (first_portion from headers_end) slices
@@ -368,7 +369,7 @@ long-cut {from} {headers_end} {slices} cuts cutting place (inr e) =
 -- a unit's headers of 1 to 1,380 bytes, and its slices
 pub record HeadersAndSlices (from headers_end : ℕ) (slices : List ℕ) : Type 0 where
   pub some : from < headers_end
-  pub short : headers_end ≤ from + 1380
+  pub short : headers_end ≤ from + MAX_PAYLOAD_BYTES
   pub have : HaveBytes slices
 
 pub cutting-meets : {from headers_end : ℕ} {slices : List ℕ} (cuts : List ℕ) → HeadersAndSlices from headers_end slices

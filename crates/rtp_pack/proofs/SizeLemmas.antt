@@ -3,6 +3,8 @@ use Rattle.std.proofs.Common.{◌≡◌, ℕ, zero, suc, ◌+◌, ◌-◌, ◌*�
 use Rattle.std.proofs.Common.{cond, leb, ltb, List, [], ◌∷◌, ◌++◌, refl, sym, ap, ◌∙◌, arith, inl}
 use Rattle.std.proofs.Common.{inr}
 use Rattle.std.proofs.lemmas.Bool.{cases_Bool, leb-true, leb-false, ltb-true, ltb-false, true≢false}
+use Rattle.rtp_pack.specs.declared.open_packet.TheConstants.{MAX_PAYLOAD_BYTES}
+use Rattle.rtp_pack.specs.declared.sizes.TheConstants.{FRAME_HEAD_BYTES, MAX_FRAME_BYTES}
 use Rattle.rtp_pack.specs.declared.open_packet.OpenPacket.{OpenPacket}
 use Rattle.rtp_pack.specs.declared.open_packet.PacketContents.{PacketContents}
 use Rattle.rtp_pack.specs.declared.open_packet.PacketContents.TheVariants.{HeadersAlone, Slices, LastFragment}
@@ -12,20 +14,20 @@ use Rattle.rtp_pack.specs.Sizes.{IsMeasure, Measure, measure_from_headers, cuts_
 use Rattle.rtp_pack.specs.Sizes.{slice_portions, with_slice, with_slices}
 use Rattle.rtp_pack.proofs.CutPointLemmas.{full-once, full_before-less, full_before-within, start-less}
 
--- ---- one slice keeps what is kept
+-- ---- one slice keeps the bounds of a measure
 
--- what is kept, over plain numbers
+-- the bounds of a measure, over plain numbers
 pub record Kept (count from at : ℕ) (holds : PacketContents) : Type 0 where
   pub some : from < at
   pub portions : count ≤ from
-  pub whole : 20 * count ≤ at + 20
-  pub ended : 20 * count ≤ from + 40
-  pub last : holds ≡ LastFragment → 20 * count ≤ at
+  pub whole : FRAME_HEAD_BYTES * count ≤ at + FRAME_HEAD_BYTES
+  pub ended : FRAME_HEAD_BYTES * count ≤ from + 2 * FRAME_HEAD_BYTES
+  pub last : holds ≡ LastFragment → FRAME_HEAD_BYTES * count ≤ at
 
 -- a short slice in the portion, or in the next
 short-here : {portions from at : ℕ} {holds : PacketContents} (n full : ℕ) → Kept portions from at holds
-    → at + n ≤ from + 1380 → from + 1380 * full < at + n
-    → Kept (portions + (0 + full)) (from + 1380 * full) (at + n) Slices
+    → at + n ≤ from + MAX_PAYLOAD_BYTES → from + MAX_PAYLOAD_BYTES * full < at + n
+    → Kept (portions + (0 + full)) (from + MAX_PAYLOAD_BYTES * full) (at + n) Slices
 short-here {portions} {from} {at} n full kept fits before =
     let none : full ≡ 0 = omega arith in
     record {
@@ -36,9 +38,9 @@ short-here {portions} {from} {at} n full kept fits before =
       last = λ e. cc;
     }
 
-short-next : {portions from at : ℕ} {holds : PacketContents} (n full : ℕ) → Kept portions from at holds → n ≤ 1380
-    → 20 * portions ≤ at + n → at + 1380 * full < at + n
-    → Kept (portions + (1 + full)) (at + 1380 * full) (at + n) Slices
+short-next : {portions from at : ℕ} {holds : PacketContents} (n full : ℕ) → Kept portions from at holds → n ≤ MAX_PAYLOAD_BYTES
+    → FRAME_HEAD_BYTES * portions ≤ at + n → at + MAX_PAYLOAD_BYTES * full < at + n
+    → Kept (portions + (1 + full)) (at + MAX_PAYLOAD_BYTES * full) (at + n) Slices
 short-next {portions} {from} {at} n full kept short room before =
     let none : full ≡ 0 = omega arith in
     record {
@@ -50,9 +52,9 @@ short-next {portions} {from} {at} n full kept short room before =
     }
 
 -- a longer slice in the portion, or in the next
-long-here : {portions from at : ℕ} {holds : PacketContents} (n full : ℕ) → Kept portions from at holds → 1380 < n
-    → from + 1380 * full < at + n → at + n ≤ from + 1380 * full + 1380
-    → Kept (portions + (0 + full)) (from + 1380 * full) (at + n) LastFragment
+long-here : {portions from at : ℕ} {holds : PacketContents} (n full : ℕ) → Kept portions from at holds → MAX_PAYLOAD_BYTES < n
+    → from + MAX_PAYLOAD_BYTES * full < at + n → at + n ≤ from + MAX_PAYLOAD_BYTES * full + MAX_PAYLOAD_BYTES
+    → Kept (portions + (0 + full)) (from + MAX_PAYLOAD_BYTES * full) (at + n) LastFragment
 long-here {portions} {from} {at} n full kept long before within =
     let some : 0 < full = omega (arith, kept.some) in
     record {
@@ -63,9 +65,9 @@ long-here {portions} {from} {at} n full kept long before within =
       last = λ e. omega (arith, some, kept.ended);
     }
 
-long-next : {portions from at : ℕ} {holds : PacketContents} (n full : ℕ) → Kept portions from at holds → 1380 < n
-    → at + 1380 * full < at + n → at + n ≤ at + 1380 * full + 1380
-    → Kept (portions + (1 + full)) (at + 1380 * full) (at + n) LastFragment
+long-next : {portions from at : ℕ} {holds : PacketContents} (n full : ℕ) → Kept portions from at holds → MAX_PAYLOAD_BYTES < n
+    → at + MAX_PAYLOAD_BYTES * full < at + n → at + n ≤ at + MAX_PAYLOAD_BYTES * full + MAX_PAYLOAD_BYTES
+    → Kept (portions + (1 + full)) (at + MAX_PAYLOAD_BYTES * full) (at + n) LastFragment
 long-next {portions} {from} {at} n full kept long before within =
     let some : 0 < full = omega arith in
     record {
@@ -76,39 +78,39 @@ long-next {portions} {from} {at} n full kept long before within =
       last = λ e. omega (arith, some, kept.whole);
     }
 
-pub whole-fits : (from at n : ℕ) (holds : PacketContents) → goes_in_whole from at holds n ≡ true → at + n ≤ from + 1380
-whole-fits from at n HeadersAlone e = leb-true (at + n) (from + 1380) e
-whole-fits from at n Slices e = leb-true (at + n) (from + 1380) e
+pub whole-fits : (from at n : ℕ) (holds : PacketContents) → goes_in_whole from at holds n ≡ true → at + n ≤ from + MAX_PAYLOAD_BYTES
+whole-fits from at n HeadersAlone e = leb-true (at + n) (from + MAX_PAYLOAD_BYTES) e
+whole-fits from at n Slices e = leb-true (at + n) (from + MAX_PAYLOAD_BYTES) e
 whole-fits from at n LastFragment e = absurd (true≢false (sym e))
 
 -- where a short slice begins the next portion there is room for one more head
 whole-room : {portions from at : ℕ} {holds : PacketContents} (n : ℕ) → Kept portions from at holds → 4 ≤ n
-    → goes_in_whole from at holds n ≡ false → 20 * portions ≤ at + n
+    → goes_in_whole from at holds n ≡ false → FRAME_HEAD_BYTES * portions ≤ at + n
 whole-room {from} {at} {holds = HeadersAlone} n kept least e =
-    omega (arith, leb-false (at + n) (from + 1380) e, kept.ended)
-whole-room {from} {at} {holds = Slices} n kept least e = omega (arith, leb-false (at + n) (from + 1380) e, kept.ended)
+    omega (arith, leb-false (at + n) (from + MAX_PAYLOAD_BYTES) e, kept.ended)
+whole-room {from} {at} {holds = Slices} n kept least e = omega (arith, leb-false (at + n) (from + MAX_PAYLOAD_BYTES) e, kept.ended)
 whole-room {from} {at} {holds = LastFragment} n kept least e = omega (arith, kept.last refl)
 
 -- a slice of n bytes after so many full portions: whether it is short, and goes in
 record SliceFills (from at : ℕ) (holds : PacketContents) (n full : ℕ) (short goes : Bool) : Type 0 where
-  short_is : leb n 1380 ≡ short
+  short_is : leb n MAX_PAYLOAD_BYTES ≡ short
   goes_is : cond short (goes_in_whole from at holds n) (goes_in_cut from at holds) ≡ goes
-  before : cond goes from at + 1380 * full < at + n
-  within : at + n ≤ cond goes from at + 1380 * full + 1380
+  before : cond goes from at + MAX_PAYLOAD_BYTES * full < at + n
+  within : at + n ≤ cond goes from at + MAX_PAYLOAD_BYTES * full + MAX_PAYLOAD_BYTES
 
 kept-slice : {portions from at n full : ℕ} {holds : PacketContents} {short goes : Bool} → Kept portions from at holds →
     4 ≤ n
     → SliceFills from at holds n full short goes
-    → Kept (portions + (cond goes 0 1 + full)) (cond goes from at + 1380 * full) (at + n)
+    → Kept (portions + (cond goes 0 1 + full)) (cond goes from at + MAX_PAYLOAD_BYTES * full) (at + n)
     (cond short Slices LastFragment)
 kept-slice {from} {at} {n} {full} {holds} {short = true} {goes = true} kept least fills =
     short-here n full kept (whole-fits from at n holds fills.goes_is) fills.before
 kept-slice {n} {full} {short = true} {goes = false} kept least fills =
-    short-next n full kept (leb-true n 1380 fills.short_is) (whole-room n kept least fills.goes_is) fills.before
+    short-next n full kept (leb-true n MAX_PAYLOAD_BYTES fills.short_is) (whole-room n kept least fills.goes_is) fills.before
 kept-slice {n} {full} {short = false} {goes = true} kept least fills =
-    long-here n full kept (leb-false n 1380 fills.short_is) fills.before fills.within
+    long-here n full kept (leb-false n MAX_PAYLOAD_BYTES fills.short_is) fills.before fills.within
 kept-slice {n} {full} {short = false} {goes = false} kept least fills =
-    long-next n full kept (leb-false n 1380 fills.short_is) fills.before fills.within
+    long-next n full kept (leb-false n MAX_PAYLOAD_BYTES fills.short_is) fills.before fills.within
 
 abbrev pub IsKept : Measure → Type 0
 IsKept m = Kept m.portions m.filling.from m.filling.at m.filling.holds
@@ -118,7 +120,7 @@ keeps-slice m n kept least =
     let f = m.filling in
     let less = start-less f n (goes_in f n) (omega (arith, kept.some)) (omega arith) in
     let start = start_of (goes_in f n) f in
-    let fills : SliceFills f.from f.at f.holds n (full_before start (f.at + n)) (leb n 1380) (goes_in f n) = record {
+    let fills : SliceFills f.from f.at f.holds n (full_before start (f.at + n)) (leb n MAX_PAYLOAD_BYTES) (goes_in f n) = record {
       short_is = refl;
       goes_is = refl;
       before = full_before-less start (f.at + n) less;
@@ -185,7 +187,7 @@ ltb-moved {x'} {y'} base x y ex ey = elim (cases_Bool (ltb x y)) [
 
 cut-moved : {from' at' : ℕ} (base from at : ℕ) (holds : PacketContents) → from' ≡ base + from → at' ≡ base + at
     → goes_in_cut from' at' holds ≡ goes_in_cut from at holds
-cut-moved base from at HeadersAlone ef ea = ltb-moved base at (from + 1380) ea (omega (arith, ef))
+cut-moved base from at HeadersAlone ef ea = ltb-moved base at (from + MAX_PAYLOAD_BYTES) ea (omega (arith, ef))
 cut-moved base from at Slices ef ea = refl
 cut-moved base from at LastFragment ef ea = refl
 
@@ -198,32 +200,32 @@ pub record IsMoved (base : ℕ) (f g : OpenPacket) : Type 0 where
 whole-moved : {base : ℕ} {f g : OpenPacket} (n : ℕ) (holds : PacketContents) → IsMoved base f g
     → goes_in_whole g.from g.at holds n ≡ goes_in_whole f.from f.at holds n
 whole-moved {base} {f} n HeadersAlone is =
-    leb-moved base (f.at + n) (f.from + 1380) (omega (arith, is.at)) (omega (arith, is.from))
+    leb-moved base (f.at + n) (f.from + MAX_PAYLOAD_BYTES) (omega (arith, is.at)) (omega (arith, is.from))
 whole-moved {base} {f} n Slices is =
-    leb-moved base (f.at + n) (f.from + 1380) (omega (arith, is.at)) (omega (arith, is.from))
+    leb-moved base (f.at + n) (f.from + MAX_PAYLOAD_BYTES) (omega (arith, is.at)) (omega (arith, is.from))
 whole-moved n LastFragment is = refl
 
 goes-moved : (base n : ℕ) (f g : OpenPacket) → IsMoved base f g → goes_in g n ≡ goes_in f n
 goes-moved base n f g is =
-    ap (λ (h : PacketContents). cond (leb n 1380) (goes_in_whole g.from g.at h n) (goes_in_cut g.from g.at h)) is.holds
-    ∙ ap (λ b. cond (leb n 1380) b (goes_in_cut g.from g.at f.holds)) (whole-moved n f.holds is)
-    ∙ ap (λ b. cond (leb n 1380) (goes_in_whole f.from f.at f.holds n) b)
+    ap (λ (h : PacketContents). cond (leb n MAX_PAYLOAD_BYTES) (goes_in_whole g.from g.at h n) (goes_in_cut g.from g.at h)) is.holds
+    ∙ ap (λ b. cond (leb n MAX_PAYLOAD_BYTES) b (goes_in_cut g.from g.at f.holds)) (whole-moved n f.holds is)
+    ∙ ap (λ b. cond (leb n MAX_PAYLOAD_BYTES) (goes_in_whole f.from f.at f.holds n) b)
     (cut-moved base f.from f.at f.holds is.from is.at)
 
 size-full : (start full : ℕ) (rest : List ℕ)
-    → cuts_size start (full_ends start full ++ rest) ≡ 1400 * full + cuts_size (start + 1380 * full) rest
-size-full start zero rest = let place : cuts_size (start + 1380 * 0) rest ≡ cuts_size start rest =
+    → cuts_size start (full_ends start full ++ rest) ≡ MAX_FRAME_BYTES * full + cuts_size (start + MAX_PAYLOAD_BYTES * full) rest
+size-full start zero rest = let place : cuts_size (start + MAX_PAYLOAD_BYTES * 0) rest ≡ cuts_size start rest =
     ap (λ s. cuts_size s rest) (omega arith) in omega (arith, place)
 size-full start (suc full) rest =
-    let more = size-full (start + 1380) full rest in
-    let place : start + 1380 + 1380 * full ≡ start + 1380 * suc full = omega arith in
-    let rest-size : cuts_size (start + 1380 + 1380 * full) rest ≡ cuts_size (start + 1380 * suc full) rest =
+    let more = size-full (start + MAX_PAYLOAD_BYTES) full rest in
+    let place : start + MAX_PAYLOAD_BYTES + MAX_PAYLOAD_BYTES * full ≡ start + MAX_PAYLOAD_BYTES * suc full = omega arith in
+    let rest-size : cuts_size (start + MAX_PAYLOAD_BYTES + MAX_PAYLOAD_BYTES * full) rest ≡ cuts_size (start + MAX_PAYLOAD_BYTES * suc full) rest =
     ap (λ s. cuts_size s rest) place in
     omega (arith, more, rest-size)
 
 -- the rest of the frames, after those of the portions that ended
 abbrev pub Rest : Measure → OpenPacket → List ℕ → List ℕ → Type 0
-Rest m g slices cuts = cuts_size g.from cuts + 20 * m.portions + m.filling.from ≡ frames_of (with_slices m slices)
+Rest m g slices cuts = cuts_size g.from cuts + FRAME_HEAD_BYTES * m.portions + m.filling.from ≡ frames_of (with_slices m slices)
 
 -- a slice begins at `start`: what is moved, and whether it goes in
 record StartsAt (m : Measure) (g : OpenPacket) (n base start place : ℕ) (goes : Bool) : Type 0 where
@@ -238,7 +240,7 @@ next-size : {m : Measure} {g : OpenPacket} {n base start place : ℕ} {goes : Bo
     → ((m' : Measure) (g' : OpenPacket) (rest : List ℕ) → IsMoved base m'.filling g'
     → m'.filling.from ≤ m'.filling.at → Cuts g' slices rest → Rest m' g' slices rest)
     → Fills (λ last rest. Cuts (filling_after g n last) slices rest) place (g.at + n) cuts
-    → cuts_size place cuts + 20 * (m.portions + cond goes 0 1) + start ≡ frames_of (with_slices (with_slice m n) slices)
+    → cuts_size place cuts + FRAME_HEAD_BYTES * (m.portions + cond goes 0 1) + start ≡ frames_of (with_slices (with_slice m n) slices)
 next-size {m} {g} {n} {start} {place} {goes} {cuts} slices starts more fills =
     let f = m.filling in
     let all : start_of (goes_in f n) f ≡ start = ap (λ b. start_of b f) at_goes ∙ at_start in
@@ -247,15 +249,15 @@ next-size {m} {g} {n} {start} {place} {goes} {cuts} slices starts more fills =
     full-once start (f.at + n) (omega (arith, is.at, at_place, fills.before))
     (omega (arith, is.at, at_place, fills.within))
     (full_before-less start (f.at + n) less) (full_before-within start (f.at + n) less) in
-    let last : last_start (start_of (goes_in f n) f) (f.at + n) ≡ start + 1380 * fills.full =
-    ap (λ s. last_start s (f.at + n)) all ∙ ap (λ k. start + 1380 * k) (sym full) in
+    let last : last_start (start_of (goes_in f n) f) (f.at + n) ≡ start + MAX_PAYLOAD_BYTES * fills.full =
+    ap (λ s. last_start s (f.at + n)) all ∙ ap (λ k. start + MAX_PAYLOAD_BYTES * k) (sym full) in
     let portions : slice_portions f n ≡ cond goes 0 1 + fills.full =
     ap (λ b. cond b 0 1 + full_before (start_of (goes_in f n) f) (f.at + n)) at_goes
     ∙ ap (λ s. cond goes 0 1 + full_before s (f.at + n)) all ∙ ap (λ k. cond goes 0 1 + k) (sym full) in
-    let rest = more (with_slice m n) (filling_after g n (place + 1380 * fills.full)) fills.rest
+    let rest = more (with_slice m n) (filling_after g n (place + MAX_PAYLOAD_BYTES * fills.full)) fills.rest
     (record { from = omega (arith, at_place, last); at = omega (arith, is.at); holds = refl })
     (omega (arith, last, fills.before, is.at, at_place)) fills.goes_on in
-    let first : cuts_size place cuts ≡ 1400 * fills.full + cuts_size (place + 1380 * fills.full) fills.rest =
+    let first : cuts_size place cuts ≡ MAX_FRAME_BYTES * fills.full + cuts_size (place + MAX_PAYLOAD_BYTES * fills.full) fills.rest =
     ap (λ (l : List ℕ). cuts_size place l) fills.filled ∙ size-full place fills.full fills.rest in
     omega (arith, first, rest, last, portions)
   where
@@ -264,7 +266,7 @@ next-size {m} {g} {n} {start} {place} {goes} {cuts} slices starts more fills =
 pub size-from : {base : ℕ} {g : OpenPacket} (slices : List ℕ) (m : Measure) (cuts : List ℕ)
     → IsMoved base m.filling g → m.filling.from ≤ m.filling.at → Cuts g slices cuts → Rest m g slices cuts
 size-from {base} {g} [] m cuts is order e =
-    let size : cuts_size g.from cuts ≡ 20 + (g.at - g.from) = ap (λ (l : List ℕ). cuts_size g.from l) e ∙ omega arith in
+    let size : cuts_size g.from cuts ≡ FRAME_HEAD_BYTES + (g.at - g.from) = ap (λ (l : List ℕ). cuts_size g.from l) e ∙ omega arith in
     omega (arith, size, is.from, is.at, order)
 size-from {base} {g} (n ∷ slices) m cuts is order (inl x) =
     let starts : StartsAt m g n base m.filling.from g.from true =
@@ -280,7 +282,7 @@ size-from {base} {g} (n ∷ slices) m cuts is order (inr x) =
     let starts : StartsAt m g n base m.filling.at g.at false =
     record { moved = is; at_start = refl; at_place = is.at; at_goes = sym (goes-moved base n m.filling g is) ∙ x.0 } in
     let rest = next-size slices starts (λ m' g' rest moved less cut. size-from slices m' rest moved less cut) x.1.1.1 in
-    let first : cuts_size g.from cuts ≡ 20 + (g.at - g.from) + cuts_size g.at x.1.0 =
+    let first : cuts_size g.from cuts ≡ FRAME_HEAD_BYTES + (g.at - g.from) + cuts_size g.at x.1.0 =
     ap (λ (l : List ℕ). cuts_size g.from l) x.1.1.0 in
     omega (arith, rest, first, is.from, is.at, order)
 

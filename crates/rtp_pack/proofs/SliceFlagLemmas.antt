@@ -5,6 +5,7 @@ use Rattle.std.proofs.Common.{subst, ◌∙◌, arith}
 use Rattle.std.proofs.lemmas.Bool.{eq-eqb, ne_eqb, le-ltb, leb-true, leb-false, lt-ltb, ltb-true}
 use Rattle.std.proofs.lemmas.Bool.{and_from, and_left, and_right, or_from, or_left, or_right}
 use Rattle.std.proofs.lemmas.Bool.{true≢false}
+use Rattle.rtp_pack.specs.declared.open_packet.TheConstants.{MAX_PAYLOAD_BYTES}
 use Rattle.mpeg_scan.specs.declared.units.Unit.{Unit as PictureUnit}
 use Rattle.rtp_pack.specs.declared.open_packet.OpenPacket.{OpenPacket}
 use Rattle.rtp_pack.specs.declared.open_packet.PacketContents.{PacketContents}
@@ -121,36 +122,36 @@ no-begin {unit} {all} x to its above below =
 
 -- full portions that end in a slice
 record PortionsEndIn (at next start count : ℕ) : Type 0 where
-  above : 0 < count → at < start + 1380
-  below : start + 1380 * count < next
+  above : 0 < count → at < start + MAX_PAYLOAD_BYTES
+  below : start + MAX_PAYLOAD_BYTES * count < next
 
 full-portions : {unit : PictureUnit} {all : List ℕ} {at next : ℕ} {begin : Bool} (start count : ℕ)
     → IsSliceOf unit all at next
-    → (0 < count → begins unit all start (start + 1380) ≡ begin) → PortionsEndIn at next start count
+    → (0 < count → begins unit all start (start + MAX_PAYLOAD_BYTES) ≡ begin) → PortionsEndIn at next start count
     → full_packets unit begin start count ≡ portion_packets unit all start (full_ends start count)
 full-portions start zero its first inside = refl
 full-portions {unit} {all} {at} {next} {begin} start (suc count) its first inside =
     let some : 0 < suc count = omega arith in
-    let next_inside : start + 1380 < next = omega (arith, inside.below) in
-    let after : at < start + 1380 = inside.above some in
-    let one : packet unit start (start + 1380) begin false ≡ portion_packet unit all start (start + 1380) =
-    ap (λ b. packet unit start (start + 1380) b false) (sym (first some))
-    ∙ ap (λ b. packet unit start (start + 1380) (begins unit all start (start + 1380)) b)
-    (sym (its.slice.no_end (start + 1380) after next_inside)) in
-    let rest : PortionsEndIn at next (start + 1380) count =
+    let next_inside : start + MAX_PAYLOAD_BYTES < next = omega (arith, inside.below) in
+    let after : at < start + MAX_PAYLOAD_BYTES = inside.above some in
+    let one : packet unit start (start + MAX_PAYLOAD_BYTES) begin false ≡ portion_packet unit all start (start + MAX_PAYLOAD_BYTES) =
+    ap (λ b. packet unit start (start + MAX_PAYLOAD_BYTES) b false) (sym (first some))
+    ∙ ap (λ b. packet unit start (start + MAX_PAYLOAD_BYTES) (begins unit all start (start + MAX_PAYLOAD_BYTES)) b)
+    (sym (its.slice.no_end (start + MAX_PAYLOAD_BYTES) after next_inside)) in
+    let rest : PortionsEndIn at next (start + MAX_PAYLOAD_BYTES) count =
     record { above = λ _. omega (arith, after); below = omega (arith, inside.below) } in
-    ap (λ (p : Packet). p ∷ full_packets unit false (start + 1380) count) one
-    ∙ ap (λ (l : List Packet). portion_packet unit all start (start + 1380) ∷ l)
-    (full-portions (start + 1380) count its
-    (λ _. no-begin (start + 1380) (start + 1380 + 1380) its after next_inside) rest)
+    ap (λ (p : Packet). p ∷ full_packets unit false (start + MAX_PAYLOAD_BYTES) count) one
+    ∙ ap (λ (l : List Packet). portion_packet unit all start (start + MAX_PAYLOAD_BYTES) ∷ l)
+    (full-portions (start + MAX_PAYLOAD_BYTES) count its
+    (λ _. no-begin (start + MAX_PAYLOAD_BYTES) (start + MAX_PAYLOAD_BYTES + MAX_PAYLOAD_BYTES) its after next_inside) rest)
 
 abbrev pub last_cut : ℕ → List ℕ → ℕ
 last_cut from [] = from
 last_cut from (cut ∷ cuts) = last_cut cut cuts
 
-last_cut-full : (start count : ℕ) → last_cut start (full_ends start count) ≡ start + 1380 * count
+last_cut-full : (start count : ℕ) → last_cut start (full_ends start count) ≡ start + MAX_PAYLOAD_BYTES * count
 last_cut-full start zero = omega arith
-last_cut-full start (suc count) = last_cut-full (start + 1380) count ∙ omega arith
+last_cut-full start (suc count) = last_cut-full (start + MAX_PAYLOAD_BYTES) count ∙ omega arith
 
 portions-append : (unit : PictureUnit) (all : List ℕ) (cuts more : List ℕ) (from : ℕ)
     → portion_packets unit all from (cuts ++ more)
@@ -162,7 +163,7 @@ portions-append unit all (cut ∷ cuts) more from =
 -- full portions, then the rest
 full-rest : {rest : List Packet} (unit : PictureUnit) (all : List ℕ) (start count : ℕ)
     → full_packets unit true start count ≡ portion_packets unit all start (full_ends start count)
-    → rest ≡ portion_packets unit all (start + 1380 * count) (ends rest)
+    → rest ≡ portion_packets unit all (start + MAX_PAYLOAD_BYTES * count) (ends rest)
     → full_packets unit true start count ++ rest
     ≡ portion_packets unit all start (ends (full_packets unit true start count ++ rest))
 full-rest {rest} unit all start count full is =
@@ -178,7 +179,7 @@ slice-rest : {unit : PictureUnit} {all : List ℕ} {f : OpenPacket} {rest : List
     → Right unit all f
     → full_packets unit true (start_of goes f) count
     ≡ portion_packets unit all (start_of goes f) (full_ends (start_of goes f) count)
-    → rest ≡ portion_packets unit all (start_of goes f + 1380 * count) (ends rest)
+    → rest ≡ portion_packets unit all (start_of goes f + MAX_PAYLOAD_BYTES * count) (ends rest)
     → (before_slice goes unit f ++ full_packets unit true (start_of goes f) count) ++ rest
     ≡ portion_packets unit all f.from
     (ends ((before_slice goes unit f ++ full_packets unit true (start_of goes f) count) ++ rest))
@@ -218,63 +219,63 @@ begins-start : {unit : PictureUnit} {all : List ℕ} {f : OpenPacket} {goes : Bo
 begins-start {unit} {all} {f} {goes = true} n x right here e above =
     let its : BeginsBy unit all f.from f.at f.holds =
     record { after = right.after; begin = right.begin; alone = right.alone } in
-    begins-here x its (not-last f.from f.at n f.holds (leb n 1380) e) above
+    begins-here x its (not-last f.from f.at n f.holds (leb n MAX_PAYLOAD_BYTES) e) above
 begins-start {unit} {all} {f} {goes = false} n x right here e above =
     or_left (is_among f.at all) (eqb f.at unit.from && ltb unit.head_end x) here
 
 room-whole : {at count : ℕ} (from n : ℕ) (holds : PacketContents) → goes_in_whole from at holds n ≡ true
-    → from + 1380 * count < at + n → 0 < count → at < from + 1380
+    → from + MAX_PAYLOAD_BYTES * count < at + n → 0 < count → at < from + MAX_PAYLOAD_BYTES
 room-whole {at} from n HeadersAlone e before some =
-    absurd (omega (arith, leb-true (at + n) (from + 1380) e, before, some))
-room-whole {at} from n Slices e before some = absurd (omega (arith, leb-true (at + n) (from + 1380) e, before, some))
+    absurd (omega (arith, leb-true (at + n) (from + MAX_PAYLOAD_BYTES) e, before, some))
+room-whole {at} from n Slices e before some = absurd (omega (arith, leb-true (at + n) (from + MAX_PAYLOAD_BYTES) e, before, some))
 room-whole from n LastFragment e before some = absurd (true≢false (sym e))
 
-room-cut : (from at : ℕ) (holds : PacketContents) → goes_in_cut from at holds ≡ true → at < from + 1380
-room-cut from at HeadersAlone e = ltb-true at (from + 1380) e
+room-cut : (from at : ℕ) (holds : PacketContents) → goes_in_cut from at holds ≡ true → at < from + MAX_PAYLOAD_BYTES
+room-cut from at HeadersAlone e = ltb-true at (from + MAX_PAYLOAD_BYTES) e
 room-cut from at Slices e = absurd (true≢false (sym e))
 room-cut from at LastFragment e = absurd (true≢false (sym e))
 
 room-here : {count : ℕ} (f : OpenPacket) (n : ℕ) (short : Bool) →
     cond short (goes_in_whole f.from f.at f.holds n) (goes_in_cut f.from f.at f.holds) ≡ true →
-    f.from + 1380 * count < f.at + n → 0 < count →
-    f.at < f.from + 1380
+    f.from + MAX_PAYLOAD_BYTES * count < f.at + n → 0 < count →
+    f.at < f.from + MAX_PAYLOAD_BYTES
 room-here {count} f n true e before some = room-whole {count = count} f.from n f.holds e before some
 room-here f n false e before some = room-cut f.from f.at f.holds e
 
 -- full portions before the end of a slice, whether it goes in or not
 pub record FullBefore (goes : Bool) (f : OpenPacket) (n count : ℕ) : Type 0 where
   pub goes_is : goes_in f n ≡ goes
-  pub before : start_of goes f + 1380 * count < f.at + n
+  pub before : start_of goes f + MAX_PAYLOAD_BYTES * count < f.at + n
 
 pub start-room : {goes : Bool} {f : OpenPacket} {n count : ℕ} → FullBefore goes f n count → 0 < count
-    → f.at < start_of goes f + 1380
+    → f.at < start_of goes f + MAX_PAYLOAD_BYTES
 start-room {goes = true} {f} {n} {count} full some =
-    room-here {count = count} f n (leb n 1380) full.goes_is full.before some
+    room-here {count = count} f n (leb n MAX_PAYLOAD_BYTES) full.goes_is full.before some
 start-room {goes = false} full some = omega arith
 
 -- ---- one slice, and all
 
 -- a short slice fills no portion, a longer one some
-pub none-full : {goes : Bool} {f : OpenPacket} {n count : ℕ} → leb n 1380 ≡ true → FullBefore goes f n count → count ≡ 0
+pub none-full : {goes : Bool} {f : OpenPacket} {n count : ℕ} → leb n MAX_PAYLOAD_BYTES ≡ true → FullBefore goes f n count → count ≡ 0
 none-full {goes = true} {f} {n} short full =
     let fits = whole-fits f.from f.at n f.holds
     (sym (ap (λ b. cond b (goes_in_whole f.from f.at f.holds n) (goes_in_cut f.from f.at f.holds)) short)
     ∙ full.goes_is) in
     omega (arith, fits, full.before)
-none-full {goes = false} {n} short full = omega (arith, leb-true n 1380 short, full.before)
+none-full {goes = false} {n} short full = omega (arith, leb-true n MAX_PAYLOAD_BYTES short, full.before)
 
-some-full : {count : ℕ} (f : OpenPacket) (n : ℕ) (goes : Bool) → f.from ≤ f.at → leb n 1380 ≡ false
-    → f.at + n ≤ start_of goes f + 1380 * count + 1380 → 0 < count
-some-full f n true order long within = omega (arith, order, leb-false n 1380 long, within)
-some-full f n false order long within = omega (arith, leb-false n 1380 long, within)
+some-full : {count : ℕ} (f : OpenPacket) (n : ℕ) (goes : Bool) → f.from ≤ f.at → leb n MAX_PAYLOAD_BYTES ≡ false
+    → f.at + n ≤ start_of goes f + MAX_PAYLOAD_BYTES * count + MAX_PAYLOAD_BYTES → 0 < count
+some-full f n true order long within = omega (arith, order, leb-false n MAX_PAYLOAD_BYTES long, within)
+some-full f n false order long within = omega (arith, leb-false n MAX_PAYLOAD_BYTES long, within)
 
 next-begin : {unit : PictureUnit} {all : List ℕ} {f : OpenPacket} {goes short : Bool} {n count : ℕ}
-    → Right unit all f → Slice unit.to all f.at (f.at + n) → 0 < n → leb n 1380 ≡ short → FullBefore goes f n count
-    → f.at + n ≤ start_of goes f + 1380 * count + 1380
-    → begins unit all (start_of goes f + 1380 * count) (f.at + n) ≡ begins_slice (cond short Slices LastFragment)
+    → Right unit all f → Slice unit.to all f.at (f.at + n) → 0 < n → leb n MAX_PAYLOAD_BYTES ≡ short → FullBefore goes f n count
+    → f.at + n ≤ start_of goes f + MAX_PAYLOAD_BYTES * count + MAX_PAYLOAD_BYTES
+    → begins unit all (start_of goes f + MAX_PAYLOAD_BYTES * count) (f.at + n) ≡ begins_slice (cond short Slices LastFragment)
 next-begin {unit} {all} {f} {goes} {short = true} {n} {count} right slice some is full within =
     let none : count ≡ 0 = none-full is full in
-    let start : start_of goes f + 1380 * count ≡ start_of goes f = omega (arith, none) in
+    let start : start_of goes f + MAX_PAYLOAD_BYTES * count ≡ start_of goes f = omega (arith, none) in
     ap (λ s. begins unit all s (f.at + n)) start
     ∙ begins-start n (f.at + n) right slice.starts full.goes_is (omega (arith, some))
 next-begin {unit} {all} {f} {goes} {short = false} {n} {count} right slice some is full within =
@@ -282,7 +283,7 @@ next-begin {unit} {all} {f} {goes} {short = false} {n} {count} right slice some 
     let room = start-room full more in
     let its : IsSliceOf unit all f.at (f.at + n) =
     record { slice = slice; after = omega (arith, right.first, right.after) } in
-    no-begin (start_of goes f + 1380 * count) (f.at + n) its (omega (arith, room, more)) full.before
+    no-begin (start_of goes f + MAX_PAYLOAD_BYTES * count) (f.at + n) its (omega (arith, room, more)) full.before
 
 held-ends : (short : Bool) → true ≡ ends_slice (cond short Slices LastFragment)
 held-ends true = refl
@@ -304,8 +305,8 @@ next-right {all} {f} n right slice some =
       first = right.first;
       after = omega (arith, right.after);
       begin = next-begin right slice some refl full (full_before-within start (f.at + n) less);
-      end = slice.ends ∙ held-ends (leb n 1380);
-      alone = λ e. absurd (held-not_alone (leb n 1380) e);
+      end = slice.ends ∙ held-ends (leb n MAX_PAYLOAD_BYTES);
+      alone = λ e. absurd (held-not_alone (leb n MAX_PAYLOAD_BYTES) e);
       order = omega (arith, full.before);
     }
 
@@ -333,7 +334,7 @@ flags {unit} {all} {left = s ∷ left} {f} right agrees order =
     let inside : PortionsEndIn f.at (f.at + n) start (full_before start (f.at + n)) =
     record { above = λ more. start-room before more; below = before.before } in
     let full = full-portions start (full_before start (f.at + n)) its
-    (λ more. begins-start n (start + 1380) right known.starts refl (start-room before more)) inside in
+    (λ more. begins-start n (start + MAX_PAYLOAD_BYTES) right known.starts refl (start-room before more)) inside in
     slice-rest goes (full_before start (f.at + n)) right full
     (flags {unit = unit} {all = all} {left = left} {f = next_filling f n}
     (next-right {unit = unit} {all = all} {f = f} n right known some) after ordered)

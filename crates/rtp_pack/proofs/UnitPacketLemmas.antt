@@ -1,6 +1,8 @@
 -- The packets of a unit that is laid out in its film.
 use Rattle.std.proofs.Common.{◌≡◌, ℕ, ◌+◌, ◌-◌, ◌*◌, ◌≤◌, List, [], ◌∷◌, sum, refl, sym, ap, subst}
 use Rattle.std.proofs.Common.{◌∙◌, arith}
+use Rattle.rtp_pack.specs.declared.reports.TheConstants.{REPORT_BYTES}
+use Rattle.rtp_pack.specs.declared.sizes.TheConstants.{FRAME_HEAD_BYTES}
 use Rattle.mpeg_scan.specs.declared.units.Unit.{Unit as PictureUnit}
 use Rattle.rtp_pack.specs.declared.payloads.Packet.{Packet}
 use Rattle.rtp_pack.specs.Packetization.{AreCutPoints, first_portion}
@@ -34,7 +36,7 @@ lengths-bytes (s ∷ starts) at to m order =
 frames-portions : (unit : PictureUnit) (starts : List ℕ) (cuts : List ℕ) (from : ℕ)
     → frames_size (portion_packets unit starts from cuts) ≡ cuts_size from cuts
 frames-portions unit starts [] from = refl
-frames-portions unit starts (cut ∷ cuts) from = ap (λ n. 20 + (cut - from) + n) (frames-portions unit starts cuts cut)
+frames-portions unit starts (cut ∷ cuts) from = ap (λ n. FRAME_HEAD_BYTES + (cut - from) + n) (frames-portions unit starts cuts cut)
 
 pub packets-are : (starts : List ℕ) (unit : PictureUnit) → IsLaid starts unit
     → ArePackets starts unit (unit_packets starts unit)
@@ -89,7 +91,7 @@ packets-size starts unit laid =
     ∙ sym (size-unit (unit.head_end - unit.from) (unit_lengths starts unit) unit.from are.cuts cutting)
 
 pub packets-bound : (starts : List ℕ) (unit : PictureUnit) → IsLaid starts unit
-    → frames_size (unit_packets starts unit) + 52 ≤ 2 * (unit.to - unit.from) + 112
+    → frames_size (unit_packets starts unit) + REPORT_BYTES ≤ 2 * (unit.to - unit.from) + 112
 packets-bound starts unit laid =
     let slices = unit_lengths starts unit in
     let headers = unit.head_end - unit.from in

@@ -15,6 +15,7 @@
 -- where its portions end, the last of them the unit's end.
 use Rattle.std.specs.Prelude.{ℕ, zero, suc, ◌+◌, ◌-◌, ◌*◌, ◌/◌, ◌<◌, ◌≤◌, ◌≡◌, ◌⊎◌, Bool, true}
 use Rattle.std.specs.Prelude.{false, nat_le, nat_lt, if◌then◌else◌, List, [], ◌∷◌, ◌++◌}
+use Rattle.rtp_pack.specs.declared.open_packet.TheConstants.{MAX_PAYLOAD_BYTES}
 use Rattle.rtp_pack.specs.declared.open_packet.OpenPacket.{OpenPacket}
 use Rattle.rtp_pack.specs.declared.open_packet.PacketContents.{PacketContents}
 use Rattle.rtp_pack.specs.declared.open_packet.PacketContents.TheVariants.{HeadersAlone, Slices}
@@ -23,24 +24,24 @@ use Rattle.rtp_pack.specs.declared.open_packet.PacketContents.TheVariants.{LastF
 -- a slice of at most 1,380 bytes goes into the portion that has the bytes `from` to `at` where all
 -- of it fits, and never after a longer slice's last fragment
 abbrev pub goes_in_whole : ℕ → ℕ → PacketContents → ℕ → Bool
-goes_in_whole from at HeadersAlone length = nat_le (at + length) (from + 1380)
-goes_in_whole from at Slices length = nat_le (at + length) (from + 1380)
+goes_in_whole from at HeadersAlone length = nat_le (at + length) (from + MAX_PAYLOAD_BYTES)
+goes_in_whole from at Slices length = nat_le (at + length) (from + MAX_PAYLOAD_BYTES)
 goes_in_whole from at LastFragment length = false
 
 -- a longer slice begins in the portion where nothing but the headers stand in it and leave room
 abbrev pub goes_in_cut : ℕ → ℕ → PacketContents → Bool
-goes_in_cut from at HeadersAlone = nat_lt at (from + 1380)
+goes_in_cut from at HeadersAlone = nat_lt at (from + MAX_PAYLOAD_BYTES)
 goes_in_cut from at Slices = false
 goes_in_cut from at LastFragment = false
 
 abbrev pub goes_in : OpenPacket → ℕ → Bool
 goes_in f length =
-    if nat_le length 1380
+    if nat_le length MAX_PAYLOAD_BYTES
     then goes_in_whole f.from f.at f.holds length else goes_in_cut f.from f.at f.holds
 
 -- what the portion with the end of a slice of `length` bytes holds
 abbrev pub holds_after : ℕ → PacketContents
-holds_after length = if nat_le length 1380 then Slices else LastFragment
+holds_after length = if nat_le length MAX_PAYLOAD_BYTES then Slices else LastFragment
 
 -- the portion in which a slice of `length` bytes ends, that begins at `start`
 abbrev pub filling_after : OpenPacket → ℕ → ℕ → OpenPacket
@@ -50,7 +51,7 @@ filling_after f length start =
 -- the ends of so many full portions of 1,380 bytes
 abbrev pub full_ends : ℕ → ℕ → List ℕ
 full_ends start zero = []
-full_ends start (suc count) = (start + 1380) ∷ full_ends (start + 1380) count
+full_ends start (suc count) = (start + MAX_PAYLOAD_BYTES) ∷ full_ends (start + MAX_PAYLOAD_BYTES) count
 
 -- a slice that ends at `end`, in a portion from `start` on: where it doesn't end in that portion it
 -- fills it, and each further one, to 1,380 bytes; the rest of the unit goes on from the portion in
@@ -58,10 +59,10 @@ full_ends start (suc count) = (start + 1380) ∷ full_ends (start + 1380) count
 pub record Fills (GoesOn : ℕ → List ℕ → Type 0) (start end : ℕ) (cuts : List ℕ) : Type 0 where
   pub full : ℕ
   pub rest : List ℕ
-  pub before : start + 1380 * full < end
-  pub within : end ≤ start + 1380 * full + 1380
+  pub before : start + MAX_PAYLOAD_BYTES * full < end
+  pub within : end ≤ start + MAX_PAYLOAD_BYTES * full + MAX_PAYLOAD_BYTES
   pub filled : cuts ≡ full_ends start full ++ rest
-  pub goes_on : GoesOn (start + 1380 * full) rest
+  pub goes_on : GoesOn (start + MAX_PAYLOAD_BYTES * full) rest
 
 -- a slice that goes into the portion makes no cut before it; any other makes a cut where it begins,
 -- and begins the next portion
@@ -89,7 +90,7 @@ AreCutPoints from headers_end slices cuts = Cuts (first_portion from headers_end
 
 -- how many full portions from `start` on end before `end`
 abbrev pub full_before : ℕ → ℕ → ℕ
-full_before start end = (end - start - 1) / 1380
+full_before start end = (end - start - 1) / MAX_PAYLOAD_BYTES
 
 -- where the portion begins in which a slice begins
 abbrev pub start_of : Bool → OpenPacket → ℕ
@@ -97,7 +98,7 @@ start_of goes f = if goes then f.from else f.at
 
 -- where the portion begins in which a slice ends, if the one in which it begins is from `start` on
 abbrev pub last_start : ℕ → ℕ → ℕ
-last_start start end = start + 1380 * full_before start end
+last_start start end = start + MAX_PAYLOAD_BYTES * full_before start end
 
 -- the portion in which the next slice ends, of `length` bytes
 abbrev pub next_filling : OpenPacket → ℕ → OpenPacket

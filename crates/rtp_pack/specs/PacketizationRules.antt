@@ -2,6 +2,7 @@
 -- cut may stand, and where it must. A unit has headers from `from` to `headers_end`, and then
 -- slices of these lengths; its cut points are the places where its portions end.
 use Rattle.std.specs.Prelude.{ℕ, ◌+◌, ◌<◌, ◌≤◌, ◌≡◌, ◌⊎◌, true, List, [], ◌∷◌, sum}
+use Rattle.rtp_pack.specs.declared.open_packet.TheConstants.{MAX_PAYLOAD_BYTES}
 use Rattle.rtp_pack.specs.Laws.{ArePortions, IsUncut}
 use Rattle.rtp_pack.specs.Packets.{is_among}
 
@@ -21,15 +22,15 @@ SliceAt at (n ∷ slices) place length = ((at ≡ place) × (n ≡ length))
 pub record LongBegins (from headers_end : ℕ) (slices : List ℕ) (place : ℕ) : Type 0 where
   pub length : ℕ
   pub slice : SliceAt headers_end slices place length
-  pub long : 1380 < length
-  pub apart : place ≡ headers_end → from + 1380 ≤ headers_end
+  pub long : MAX_PAYLOAD_BYTES < length
+  pub apart : place ≡ headers_end → from + MAX_PAYLOAD_BYTES ≤ headers_end
 
 -- one ends there
 pub record LongEnds (headers_end : ℕ) (slices : List ℕ) (place : ℕ) : Type 0 where
   pub start : ℕ
   pub length : ℕ
   pub slice : SliceAt headers_end slices start length
-  pub long : 1380 < length
+  pub long : MAX_PAYLOAD_BYTES < length
   pub place_is : place ≡ start + length
 
 -- a cut must stand there
@@ -41,14 +42,14 @@ IsCutPlace from headers_end slices place = LongBegins from headers_end slices pl
 pub record DoesNotFit (headers_end : ℕ) (slices : List ℕ) (start place : ℕ) : Type 0 where
   pub length : ℕ
   pub slice : SliceAt headers_end slices place length
-  pub short : length ≤ 1380
-  pub over : start + 1380 < place + length
+  pub short : length ≤ MAX_PAYLOAD_BYTES
+  pub over : start + MAX_PAYLOAD_BYTES < place + length
 
 -- a portion from `start` on may end there, before the unit's end: it is full, a cut must stand
 -- there, or the next slice doesn't fit
 abbrev pub MayEnd : ℕ → ℕ → List ℕ → ℕ → ℕ → Type 0
 MayEnd from headers_end slices start cut =
-    (cut ≡ start + 1380)
+    (cut ≡ start + MAX_PAYLOAD_BYTES)
     ⊎ (IsCutPlace from headers_end slices cut ⊎ DoesNotFit headers_end slices start cut)
 
 -- each portion but the last may end where it does, of portions from `start` on that end at these
@@ -64,7 +65,7 @@ pub record MeetsRules (from headers_end : ℕ) (slices cuts : List ℕ) : Type 0
   pub portions : ArePortions from cuts (headers_end + sum slices)
   pub headers : IsUncut from headers_end cuts
   -- a slice of at most 1,380 bytes is never cut
-  pub short : (place length : ℕ) → SliceAt headers_end slices place length → length ≤ 1380 →
+  pub short : (place length : ℕ) → SliceAt headers_end slices place length → length ≤ MAX_PAYLOAD_BYTES →
       IsUncut place (place + length) cuts
   -- a longer slice begins and ends with a portion, but for one that begins after the headers where
   -- they leave room

@@ -1,6 +1,8 @@
 -- The packets of a unit.
 use Rattle.std.specs.Prelude.{ℕ, zero, suc, ◌+◌, ◌-◌, ◌==◌, ◌&&◌, ◌||◌, ◌<◌, ◌≤◌, ◌≡◌, Bool, true}
 use Rattle.std.specs.Prelude.{false, nat_lt, if◌then◌else◌, List, [], ◌∷◌, ◌++◌, length}
+use Rattle.rtp_pack.specs.declared.open_packet.TheConstants.{MAX_PAYLOAD_BYTES}
+use Rattle.rtp_pack.specs.declared.sizes.TheConstants.{FRAME_HEAD_BYTES}
 use Rattle.mpeg_scan.specs.declared.units.Unit.{Unit as PictureUnit}
 pub use Rattle.mpeg_scan.specs.Layout.{OfUnit, next_place, unit_starts, AreInOrder, IsLaid}
 use Rattle.rtp_pack.specs.declared.open_packet.OpenPacket.{OpenPacket}
@@ -40,7 +42,7 @@ packet unit from to begin end = record {
 abbrev pub full_packets : PictureUnit → Bool → ℕ → ℕ → List Packet
 full_packets unit begin start zero = []
 full_packets unit begin start (suc count) =
-    packet unit start (start + 1380) begin false ∷ full_packets unit false (start + 1380) count
+    packet unit start (start + MAX_PAYLOAD_BYTES) begin false ∷ full_packets unit false (start + MAX_PAYLOAD_BYTES) count
 
 abbrev pub begins_slice : PacketContents → Bool
 begins_slice HeadersAlone = false
@@ -82,14 +84,14 @@ unit_packets slice_starts unit =
 -- payload
 abbrev pub frames_size : List Packet → ℕ
 frames_size [] = 0
-frames_size (p ∷ packets) = 20 + (p.to - p.from) + frames_size packets
+frames_size (p ∷ packets) = FRAME_HEAD_BYTES + (p.to - p.from) + frames_size packets
 
 -- payloads of 1 to 1,380 bytes cover the bytes from a place to another in order, without gap or
 -- overlap
 abbrev pub DoCover : ℕ → List Packet → ℕ → Type 0
 DoCover from [] to = from ≡ to
 DoCover from (p ∷ packets) to = (p.from ≡ from)
-    × ((from < p.to) × ((p.to ≤ from + 1380) × DoCover p.to packets to))
+    × ((from < p.to) × ((p.to ≤ from + MAX_PAYLOAD_BYTES) × DoCover p.to packets to))
 
 -- ---- what they are
 

@@ -2,6 +2,8 @@
 -- byte.
 use Rattle.std.specs.Prelude.{ℕ, ◌+◌, ◌-◌, ◌*◌, ◌^◌, ◌<◌, ◌≤◌, ◌≡◌, if◌then◌else◌, List, [], ◌∷◌}
 use Rattle.std.specs.Prelude.{◌++◌}
+use Rattle.rtp_pack.specs.declared.reports.TheConstants.{REPORT_BYTES}
+use Rattle.rtp_pack.specs.declared.sizes.TheConstants.{FRAME_HEAD_BYTES}
 use Rattle.rtp_pack.specs.declared.open_packet.OpenPacket.{OpenPacket}
 use Rattle.rtp_pack.specs.declared.open_packet.PacketContents.TheVariants.{LastFragment}
 use Rattle.mpeg_scan.specs.declared.units.Unit.{Unit as PictureUnit}
@@ -56,7 +58,7 @@ bytes_of m = m.filling.at
 -- the bytes of the frames of a unit that ends here: 20 bytes of heads each, and all bytes of the
 -- unit
 abbrev pub frames_of : Measure → ℕ
-frames_of m = bytes_of m + 20 * (m.portions + 1)
+frames_of m = bytes_of m + FRAME_HEAD_BYTES * (m.portions + 1)
 
 -- the bytes of the frames of a film's unit, by the places of the film's slices
 abbrev pub unit_size : List ℕ → PictureUnit → ℕ
@@ -72,13 +74,13 @@ pub record IsPacked (slice_starts : List ℕ) (unit : PictureUnit) (packets : Li
   pub rules : ArePackets slice_starts unit packets
   pub cover : DoCover unit.from packets unit.to
   pub size : frames_size packets ≡ unit_size slice_starts unit
-  pub bound : frames_size packets + 52 ≤ 2 * (unit.to - unit.from) + 112
+  pub bound : frames_size packets + REPORT_BYTES ≤ 2 * (unit.to - unit.from) + 112
 
 -- the frames of portions from a place on that end at these cut points: 20 bytes of heads each, and
 -- the portion
 abbrev pub cuts_size : ℕ → List ℕ → ℕ
 cuts_size from [] = 0
-cuts_size from (cut ∷ cuts) = 20 + (cut - from) + cuts_size cut cuts
+cuts_size from (cut ∷ cuts) = FRAME_HEAD_BYTES + (cut - from) + cuts_size cut cuts
 
 -- the bytes of the frames of a unit, however a list of cut points meets the rules and wherever it
 -- begins
@@ -87,16 +89,16 @@ IsSize m size =
     (headers : ℕ) (slices : List ℕ) (from : ℕ) (cuts : List ℕ) → m ≡ measure_of headers slices
     → AreCutPoints from (from + headers) slices cuts → size ≡ cuts_size from cuts
 
--- what is kept: each portion that ended has a byte at least; and the heads of those that ended take
--- at most 40 bytes more than these portions, at most 20 more than the unit so far, and no more than
--- that where the portion in hand ends with a slice's last fragment
+-- the bounds of a measure: each portion that ended has a byte at least; and the heads of those that
+-- ended take at most 40 bytes more than these portions, at most 20 more than the unit so far, and
+-- no more than the unit where the portion that is being filled ends with a slice's last fragment
 pub record IsMeasure (m : Measure) : Type 0 where
   pub most : m.filling.at ≤ 2 ^ 40
   pub some : m.filling.from < m.filling.at
   pub portions : m.portions ≤ m.filling.from
-  pub whole : 20 * m.portions ≤ m.filling.at + 20
-  pub ended : 20 * m.portions ≤ m.filling.from + 40
-  pub last : m.filling.holds ≡ LastFragment → 20 * m.portions ≤ m.filling.at
+  pub whole : FRAME_HEAD_BYTES * m.portions ≤ m.filling.at + FRAME_HEAD_BYTES
+  pub ended : FRAME_HEAD_BYTES * m.portions ≤ m.filling.from + 2 * FRAME_HEAD_BYTES
+  pub last : m.filling.holds ≡ LastFragment → FRAME_HEAD_BYTES * m.portions ≤ m.filling.at
 
 -- a measure by its parts
 abbrev pub measure : ℕ → OpenPacket → Measure

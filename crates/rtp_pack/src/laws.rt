@@ -16,6 +16,8 @@ ghost use Rattle.rtp_pack.specs.Reports.{report_bytes, media_time};
 ghost use Rattle.rtp_pack.specs.PacketizationRules.{HaveBytes, MeetsRules};
 ghost use Rattle.rtp_pack.specs.Packets.{ArePackets, DoCover};
 
+use crate::open_packet::MAX_PAYLOAD_BYTES;
+
 /// The rules for cutting leave one list: two lists of cut points that meet them for one unit are
 /// equal.
 pub fn law_packetization_is_unique()
@@ -64,16 +66,16 @@ pub fn law_packet_head_round_trips()
 /// it is the packer's.
 pub fn law_rules_define_packetization()
     ensures some { (from headers_end : ℕ) (slices : List ℕ) → from < headers_end →
-        headers_end ≤ from + 1380 → HaveBytes slices
+        headers_end ≤ from + MAX_PAYLOAD_BYTES → HaveBytes slices
         → (cuts : List ℕ) × MeetsRules from headers_end slices cuts }
     ensures one { (from headers_end : ℕ) (slices one other : List ℕ)
         → MeetsRules from headers_end slices one → MeetsRules from headers_end slices other
         → one ≡ other }
     ensures meets { (from headers_end : ℕ) (slices cuts : List ℕ) → from < headers_end →
-        headers_end ≤ from + 1380 → HaveBytes slices
+        headers_end ≤ from + MAX_PAYLOAD_BYTES → HaveBytes slices
         → AreCutPoints from headers_end slices cuts → MeetsRules from headers_end slices cuts }
     ensures cutting { (from headers_end : ℕ) (slices cuts : List ℕ) → from < headers_end →
-        headers_end ≤ from + 1380 → HaveBytes slices
+        headers_end ≤ from + MAX_PAYLOAD_BYTES → HaveBytes slices
         → MeetsRules from headers_end slices cuts → AreCutPoints from headers_end slices cuts }
 {}
 

@@ -14,10 +14,11 @@ mod sizes;
 pub use heads::{
     Head, HeadFault, media_timestamp, packet_head, read_head, video_header, write_head,
 };
+pub use open_packet::MAX_PAYLOAD_BYTES;
 pub use packer::packet;
 pub use payloads::{Packet, packets, refill_packets};
 pub use reports::{Identity, REPORT_BYTES, Report, unit_report, write_report};
-pub use sizes::{FRAME_HEAD_BYTES, UnitSize};
+pub use sizes::{FRAME_HEAD_BYTES, MAX_FRAME_BYTES, UnitSize};
 
 #[cfg(test)]
 mod tests;

@@ -28,7 +28,7 @@ pub(crate) struct OpenPacket {
 }
 
 /// The most bytes of a unit in one packet: a complete head always goes into one.
-pub(crate) const MAX_PAYLOAD_BYTES: u64 = MAX_UNIT_HEAD_BYTES;
+pub const MAX_PAYLOAD_BYTES: u64 = MAX_UNIT_HEAD_BYTES;
 
 /// Whether a slice of `length` bytes begins in the portion that is being filled, or else begins the
 /// next.
@@ -60,8 +60,8 @@ pub(crate) fn holds_after(length: u64) -> PacketContents
 pub(crate) fn full_before(start: u64, end: u64) -> u64
     requires { start < end }
     ensures count { result ≡ full_before start end }
-    ensures before { start + 1380 * result < end }
-    ensures within { end ≤ start + 1380 * result + 1380 }
+    ensures before { start + MAX_PAYLOAD_BYTES * result < end }
+    ensures within { end ≤ start + MAX_PAYLOAD_BYTES * result + MAX_PAYLOAD_BYTES }
 {
     (end - start - 1) / MAX_PAYLOAD_BYTES
 }

@@ -68,6 +68,7 @@ fn close(packets: &mut Vec<Packet>, unit: &Unit, filling: OpenPacket) -> Result<
     ensures { OnOk result (packets.new.items ≡
         packets.old.items ++ filling_packet unit.now filling ∷ []) }
 {
+    // headers that no slice follows begin no slice and end none
     let begin = matches!(filling.holds, PacketContents::Slices);
     let end = !matches!(filling.holds, PacketContents::HeadersAlone);
     put(packets, packet(unit, filling.from, filling.at, begin, end))

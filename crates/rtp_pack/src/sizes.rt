@@ -8,6 +8,7 @@ ghost use Rattle.rtp_pack.specs.Sizes.{with_slice};
 use crate::open_packet::{
     MAX_PAYLOAD_BYTES, OpenPacket, PacketContents, full_before, goes_in, holds_after,
 };
+use crate::reports::REPORT_BYTES;
 use std::marker::Model;
 
 /// The size of a unit's frames, counted while the lengths of its headers and slices come in. It
@@ -34,11 +35,14 @@ impl Model for UnitSize {
 /// the packet (RFC 3550 section 5.1, RFC 2250 section 3.4).
 pub const FRAME_HEAD_BYTES: u64 = 20;
 
+/// The most bytes of a frame: its heads, and a payload of [`MAX_PAYLOAD_BYTES`].
+pub const MAX_FRAME_BYTES: u64 = FRAME_HEAD_BYTES + MAX_PAYLOAD_BYTES;
+
 impl UnitSize {
     /// Begins a unit by the length of its headers.
     pub fn begin(headers: u64) -> UnitSize
         requires some { 1 ≤ headers }
-        requires most { headers ≤ 1380 }
+        requires most { headers ≤ MAX_PAYLOAD_BYTES }
         ensures begun { result ≡ measure_from_headers headers }
         ensures measured { result ≡ measure_of headers [] }
     {
@@ -79,7 +83,7 @@ impl UnitSize {
     /// of 16.
     pub fn end(self) -> u64
         ensures size { result ≡ frames_of self }
-        ensures bound { result + 52 ≤ 2 * bytes_of self + 112 }
+        ensures bound { result + REPORT_BYTES ≤ 2 * bytes_of self + 112 }
         ensures frames { IsSize self result }
     {
         self.filling.at + FRAME_HEAD_BYTES * (self.portions + 1)

@@ -50,7 +50,7 @@ pair_or_single (Some channels) text none h = inr h
 pub name_within : (part : List ℕ) → Begins (codes "interleaved=") (in_lower_case part) → 12 ≤ length part
 name_within part b = let e = simp (length-map, length-take) at (ap length b) in omega (arith, e)
 
--- the first part that names channels tells them
+-- the first part that names channels gives them
 pub named_channels : {text : List ℕ} {from to : ℕ} (o : Option Channels) → IsPart 59 text from to →
     NamesChannels (slice_range text from to) →
     NoneBefore 59 text from NamesChannels →

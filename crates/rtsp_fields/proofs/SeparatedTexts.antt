@@ -190,7 +190,7 @@ none_more {c} {a} {rest} P none first more = λ k end p. go k end p (part_cases 
         more l.from l.to l.part
         (subst P (slice_later c a rest l.from l.to l.part.end.after) (subst E l.to_is (subst S l.from_is is)))
 
--- the part of a text without the separator is the whole text
+-- the part of a text without the separator is the entire text
 pub part_is_whole : (c : ℕ) (a : List ℕ) (k end : ℕ) → HasNone c a 0 (length a) → IsPart c a k end
     → (k ≡ 0) × (end ≡ length a)
 part_is_whole c a k end none p = go p.start

@@ -76,7 +76,7 @@ multicast_not_taken front channels none = λ is.
     not_taken front (codes "multicast") channels (subst HasNoComma same none) refl (inl refl)
     (subst (λ (t : List ℕ). IsTransport t channels) same is)
 
--- the sixth byte tells the modes apart
+-- the sixth byte distinguishes the modes
 other_mode : (byte : ℕ) (rest : List ℕ) → byte ≢ 114 → part_word (codes "mode=record") ≢ codes "mode=" ++ byte ∷ rest
 other_mode byte rest other = λ e. other (sym (ap (λ (l : List ℕ). get_or l 5 0) e))
 

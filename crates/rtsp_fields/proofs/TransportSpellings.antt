@@ -1,5 +1,5 @@
 -- Words of a Transport value in any case, with blanks around them.
-use Rattle.std.proofs.Common.{◌≡◌, ℕ, ◌<◌, Bool, true, false, List, [], ◌∷◌, ◌++◌, length, codes, get_or, reverse, map}
+use Rattle.std.proofs.Common.{◌≡◌, ℕ, ◌<◌, true, false, List, [], ◌∷◌, ◌++◌, length, codes, get_or, reverse}
 use Rattle.std.proofs.Common.{refl, sym, ap, subst, ◌∙◌, arith, inl, inr}
 use Rattle.std.specs.List.{list_all}
 use Rattle.std.specs.Char.{to_ascii_lowercase}
@@ -15,7 +15,7 @@ use Rattle.rtsp_fields.specs.Transports.{AsksOtherDelivery, NamesChannels, part_
 use Rattle.rtsp_fields.proofs.SeparatedTexts.{other_than}
 use Rattle.rtsp_fields.proofs.TransportTexts.{bare_front, first_letter, names_none}
 
--- blanks in front of a text are left out
+-- blanks before a text are left out
 front_off : (front rest : List ℕ) → list_all is_blank front ≡ true
     → without_leading_blanks (front ++ rest) ≡ without_leading_blanks rest
 front_off [] rest all = refl

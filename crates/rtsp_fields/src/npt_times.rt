@@ -73,6 +73,7 @@ fn read_fraction(text: &[u8]) -> Option<u64>
     if !are_digits(text) {
         return None;
     }
+    // further digits are parts of a nanosecond
     let counted = &text[..text.len().min(9)];
     let value = read_digits(counted, 9).unwrap_or(0);
     Some(value * 10u64.pow(9 - counted.len() as u32))

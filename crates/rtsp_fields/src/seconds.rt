@@ -6,6 +6,9 @@ ghost use Rattle.rtsp_fields.specs.Sdp.{seconds_text};
 
 use itoa::Buffer;
 
+/// The most digits of a number of 64 bits.
+const MAX_DIGITS: usize = 20;
+
 /// Puts a text at a place, and returns the place after it.
 pub(crate) fn put(into: &mut [u8], at: usize, text: &[u8]) -> usize
     requires { at + length text.now ≤ length into.old }
@@ -42,8 +45,8 @@ pub fn seconds_text(ms: u64, into: &mut [u8; 24]) -> &[u8]
 
 /// Puts a number in decimal at a place, and returns the place after it.
 fn put_number(into: &mut [u8], at: usize, number: u64) -> usize
-    requires { at + 20 ≤ length into.old }
-    ensures place { result ≤ at + 20 }
+    requires { at + MAX_DIGITS ≤ length into.old }
+    ensures place { result ≤ at + MAX_DIGITS }
     ensures text { take result into.new ≡ take at into.old ++ decimal number }
 {
     let mut buffer = Buffer::new();

@@ -1,6 +1,6 @@
 //! Numbers in header values.
 
-ghost use Rattle.std.specs.Prelude.{ℕ, ◌^◌, MatchOption};
+ghost use Rattle.std.specs.Prelude.{ℕ, MatchOption};
 ghost use Rattle.vod_base.specs.Limits.{WritesNumber};
 
 use vod_base::{MAX_BYTES, MAX_DELAY, number_within};
@@ -10,7 +10,7 @@ use vod_base::{MAX_BYTES, MAX_DELAY, number_within};
 /// None exactly where the value isn't such a number in decimal digits.
 pub fn read_buffer(value: &[u8]) -> Option<u64>
     ensures { MatchOption result ((n : ℕ) →
-        ¬ WritesNumber 1 (2 ^ 42) value.now n) (WritesNumber 1 (2 ^ 42) value.now) }
+        ¬ WritesNumber 1 MAX_BYTES value.now n) (WritesNumber 1 MAX_BYTES value.now) }
 {
     number_within(value, 1, MAX_BYTES)
 }
@@ -21,7 +21,7 @@ pub fn read_buffer(value: &[u8]) -> Option<u64>
 /// None exactly where the value isn't such a number in decimal digits.
 pub fn read_delay(value: &[u8]) -> Option<u64>
     ensures { MatchOption result ((n : ℕ) →
-        ¬ WritesNumber 0 10000 value.now n) (WritesNumber 0 10000 value.now) }
+        ¬ WritesNumber 0 MAX_DELAY value.now n) (WritesNumber 0 MAX_DELAY value.now) }
 {
     number_within(value, 0, MAX_DELAY)
 }

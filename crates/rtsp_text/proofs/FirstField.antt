@@ -67,7 +67,7 @@ value_field name line value is = go (colon_of line)
               absurd (let bad : None ≡ Some value = sym (value_other name line front after cut other) ∙ is in cc)
         ]
 
--- one line in front
+-- one line more at the start
 first_more : (name line : List ℕ) (lines : List (List ℕ)) (value : List ℕ) → value_in name line ≡ None
     → IsFirstField name lines value → IsFirstField name (line ∷ lines) value
 first_more name line lines value none f = record {

@@ -27,7 +27,7 @@ inside_more n m few text i = record { short = omega (arith, i.short); one_line =
 inside_nil : (n : ℕ) → IsInside n []
 inside_nil n = record { short = omega arith; one_line = refl }
 
--- one byte more in front of the first part
+-- one byte more before the first part
 onto_inside : (n x : ℕ) → (x == 10) ≡ false → (parts : List (List ℕ)) → All (IsInside n) parts
     → All (IsInside (n + 1)) (onto_first x parts)
 onto_inside n x other [] all =

@@ -1,4 +1,4 @@
--- Going through a text line by line, against its lines as a whole.
+-- Going through a text line by line, compared with the list of all its lines.
 use Rattle.std.proofs.Common.{◌≡◌, ◌≢◌, ℕ, ◌+◌, ◌-◌, ◌<◌, ◌&&◌, ◌==◌, ◌≤◌, false, nat_lt, List, [], ◌∷◌, ◌++◌}
 use Rattle.std.proofs.Common.{All, length, get_or, take, drop, refl, sym, ap, subst, ◌∙◌, arith, inl, inr, ne_eqb}
 use Rattle.std.specs.List.{slice_split, prefix_len}
@@ -19,7 +19,7 @@ parts_more : (x : List ℕ) (parts : List (List ℕ)) → 0 < length parts
 parts_more x [] some = absurd (omega (arith, some))
 parts_more x (y ∷ parts) some = refl
 
--- a text that begins with a whole line
+-- a text that begins with a complete line
 pub lines-at : (front after : List ℕ) → All (λ b. (b == 10) ≡ false) front
     → lines (front ++ 10 ∷ after) ≡ strip_carriage_return front ∷ lines after
 lines-at front after none =

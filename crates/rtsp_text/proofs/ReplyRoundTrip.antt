@@ -68,7 +68,7 @@ values_named name (f ∷ fs) all =
           ∙ sym (cond-false (str_eq_ignore_ascii_case f.name name) (Some f.value) (value_named name fs) other)
     ]
 
--- the front of a reply by its lines
+-- a reply up to its last field, by its lines
 pub front_lines : (code : ℕ) (sequence : Option ℕ) (fields : List Field)
     → reply_front code sequence fields ≡ flat (status_text code ∷ map text_of (all_fields sequence fields))
 unfolding reply_front status_line sequence_line

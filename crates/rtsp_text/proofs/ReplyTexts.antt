@@ -8,7 +8,7 @@ use Rattle.rtsp_text.specs.Replies.{Field, field_line, sequence_line, status_lin
 pub two_put : {t1 t2 : List ℕ} (old a b : List ℕ) → t1 ≡ old ++ a → t2 ≡ t1 ++ b → t2 ≡ old ++ (a ++ b)
 two_put old a b h1 h2 = h2 ∙ ap (λ t. t ++ b) h1 ∙ append_assoc old a b
 
--- the front of a reply grows by its fields
+-- a reply up to its last field grows by its fields
 pub front_start : (code : ℕ) (sequence : Option ℕ) (old new : List ℕ)
     → new ≡ old ++ (status_line code ++ sequence_line sequence) → old ≡ [] → new ≡ reply_front code sequence []
 unfolding reply_front

@@ -3,6 +3,8 @@ use Rattle.std.proofs.Common.{◌≡◌, ℕ, ◌<◌, ◌≤◌, List, [], ◌�
 use Rattle.std.proofs.Common.{◌∙◌, arith}
 use Rattle.std.specs.Prelude.{IfOk}
 use Rattle.std.proofs.lemmas.List.{length-append, take_at}
+use Rattle.interleave.specs.declared.content_lengths.TheConstants.{MAX_BODY_BYTES}
+use Rattle.interleave.specs.declared.message_heads.TheConstants.{MAX_HEAD_BYTES}
 use Rattle.interleave.specs.Lengths.{IsBodyLength}
 use Rattle.interleave.specs.Elements.{IsMessageLength}
 use Rattle.interleave.proofs.ElementUniqueness.{head_once}
@@ -11,11 +13,11 @@ use Rattle.rtsp_text.specs.Grammar.{IsRequestLine}
 use Rattle.rtsp_text.specs.Requests.{IsRequest}
 use Rattle.rtsp_text.proofs.LineBounds.{first_line_inside}
 
--- the head and the body of a whole request, by its length
+-- the head and the body of a complete request, by its length
 pub record AreLengths (head body : List ℕ) : Type 0 where
-  pub head_short : length head ≤ 16384
+  pub head_short : length head ≤ MAX_HEAD_BYTES
   pub body_is : IsBodyLength head (length body)
-  pub body_short : length body ≤ 65536
+  pub body_short : length body ≤ MAX_BODY_BYTES
 
 pub lengths_of : (message head body : List ℕ) → IsMessageLength message (length message)
     → IsSplit message head body → AreLengths head body
@@ -44,7 +46,7 @@ url_short {message} {head} {method} {url} {version} split line =
       length-append url (32 ∷ version),
     )
 
--- how a value tells the parts of a request
+-- how a value gives the parts of a request
 pub record RequestParts (X : Type 0) : Type 0 where
   pub head : X → List ℕ
   pub body : X → List ℕ
@@ -59,14 +61,14 @@ IsRequestOf parts message x =
 -- the same of what was read
 pub read_head : {X E : Type 0} (message : List ℕ) (parts : RequestParts X) (r : Result X E) →
     IsMessageLength message (length message) →
-    IfOk r (IsRequestOf parts message) → IfOk r (λ x. length (parts.head x) ≤ 16384)
+    IfOk r (IsRequestOf parts message) → IfOk r (λ x. length (parts.head x) ≤ MAX_HEAD_BYTES)
 read_head message parts (Ok x) whole read =
     (lengths_of message (parts.head x) (parts.body x) whole read.split).head_short
 read_head message parts (Err e) whole read = tt
 
 pub read_body : {X E : Type 0} (message : List ℕ) (parts : RequestParts X) (r : Result X E) →
     IsMessageLength message (length message) →
-    IfOk r (IsRequestOf parts message) → IfOk r (λ x. length (parts.body x) ≤ 65536)
+    IfOk r (IsRequestOf parts message) → IfOk r (λ x. length (parts.body x) ≤ MAX_BODY_BYTES)
 read_body message parts (Ok x) whole read =
     (lengths_of message (parts.head x) (parts.body x) whole read.split).body_short
 read_body message parts (Err e) whole read = tt

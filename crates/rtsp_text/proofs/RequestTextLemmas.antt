@@ -1,4 +1,4 @@
--- A message that is spelled from its parts is cut whole from what comes, and read as these parts.
+-- A message that is written from its parts is split off completely, and read as these parts.
 use Rattle.std.proofs.Common.{◌≡◌, ℕ, ◌<◌, ◌≤◌, ◌==◌, true, false, nat_lt, List, [], ◌∷◌, ◌++◌, All, codes, decimal}
 use Rattle.std.proofs.Common.{map, flat_map, length, take, Option, Some, None, Ok, Err, MatchOption, refl, sym, ap}
 use Rattle.std.proofs.Common.{subst, ◌∙◌, arith, ne_eqb}
@@ -8,6 +8,9 @@ use Rattle.std.specs.Str.Parse.{digits_value}
 use Rattle.std.proofs.lemmas.Bool.{and_parts, both_ways, cond-true}
 use Rattle.std.proofs.lemmas.List.{append_assoc, append-nil, length-append, take_at}
 use Rattle.std.proofs.lemmas.List.Elements.{All-nil, All-cons, All-head, All-tail}
+use Rattle.interleave.specs.declared.content_lengths.TheConstants.{MAX_BODY_BYTES}
+use Rattle.interleave.specs.declared.elements.TheConstants.{BLOCK_START}
+use Rattle.interleave.specs.declared.message_heads.TheConstants.{MAX_HEAD_BYTES}
 use Rattle.vod_base.specs.Numbers.{is_decimal, number_of}
 use Rattle.interleave.specs.Heads.{is_line_end, IsHead}
 use Rattle.interleave.specs.Lengths.{IsBodyLength, written_length}
@@ -33,10 +36,10 @@ use Rattle.rtsp_text.proofs.NumberTexts.{number_read}
 use Rattle.rtsp_text.proofs.GrammarBytes.{word_is, word_of, value_is, named_texts, visible_of}
 use Rattle.rtsp_text.proofs.BodyLengths.{length_given, body_length_of}
 
--- a message of these lines and this body, which has the length that the fields give, is whole
+-- a message of these lines and this body, which has the length that the fields give, is complete
 record IsShort (head body : List ℕ) : Type 0 where
-  head_is : length head ≤ 16384
-  body_is : length body ≤ 65536
+  head_is : length head ≤ MAX_HEAD_BYTES
+  body_is : length body ≤ MAX_BODY_BYTES
 
 whole_message : {s : List ℕ} (fields : List Field) (body : List ℕ) → IsLineText s → All IsPlain fields →
     length_given (value_named (codes "Content-Length") fields) ≡ length body →
@@ -131,7 +134,7 @@ line_of parts front = record {
   version_is = version_1_0;
 }
 
--- the front of a request by its lines
+-- a request up to its last field, by its lines
 front_of : (parts : RequestPieces) → request_front parts ≡ flat (request_line parts ∷ map text_of parts.fields)
 unfolding request_front
 front_of parts = ap (λ l. (request_line parts ++ codes "\r\n") ++ l) (sym (flat-fields parts.fields))
@@ -188,12 +191,12 @@ request_of parts sequence request =
           subst (λ (f : List ℕ). IsBodyLength (f ++ codes "\r\n") (length parts.body)) (sym (front_of parts)) body;
     }
 
--- it is whole by itself
+-- it is complete by itself
 pub request_whole : (parts : RequestPieces) (sequence : ℕ) → AreRequest parts sequence → AreShort parts
     → IsMessageLength (request_text parts) (length (request_text parts))
 request_whole parts sequence request short =
     let front = request.front in
-    let long : List ℕ → Type 0 = λ f. length (f ++ codes "\r\n") ≤ 16384 in
+    let long : List ℕ → Type 0 = λ f. length (f ++ codes "\r\n") ≤ MAX_HEAD_BYTES in
     subst (λ (f : List ℕ). IsMessageLength ((f ++ codes "\r\n") ++ parts.body)
     (length ((f ++ codes "\r\n") ++ parts.body))) (sym (front_of parts))
     (whole_message parts.fields parts.body (line_text parts front) (plain_fields parts.fields front.fields_are)
@@ -201,11 +204,11 @@ request_whole parts sequence request short =
     (record { head_is = subst long (front_of parts) short.head_is; body_is = short.body_is }))
 
 -- a method begins a request
-byte_begins : (c : ℕ) → is_token_byte c ≡ true → (is_line_end c ≡ false) × ((c == 36) ≡ false)
+byte_begins : (c : ℕ) → is_token_byte c ≡ true → (is_line_end c ≡ false) × ((c == BLOCK_START) ≡ false)
 byte_begins c token =
     let other : (d : ℕ) → is_token_byte d ≡ false → (c == d) ≡ false =
     λ d fails. ne_eqb c d (λ e. both_ways (is_token_byte c) (ap is_token_byte e ∙ fails) token) in
-    (rw (other 13 refl, other 10 refl) refl, other 36 refl)
+    (rw (other 13 refl, other 10 refl) refl, other BLOCK_START refl)
 
 token_begins : (method rest : List ℕ) → is_token method ≡ true → StartsMessage (method ++ rest)
 token_begins [] rest token = let bad : false ≡ true = token in absurd (let no : ⊥ = cc in no)
@@ -226,7 +229,7 @@ head_begins parts later token =
     let shape : request_head parts ++ later ≡ parts.method ++ tail = simp append_assoc in
     subst StartsMessage (sym shape) (token_begins parts.method tail token)
 
--- it is found in front of whatever comes later
+-- it is found before whatever comes later
 pub request_found : (parts : RequestPieces) (sequence : ℕ) (later : List ℕ) → AreRequest parts sequence → AreShort parts
     →
     IsFirst (request_text parts ++ later) (Ok (Request (length (request_text parts))))
@@ -249,7 +252,7 @@ head_of parts front =
     (spelled empty bodiless).split.is_head
 
 -- a head that is too long is refused
-pub head_refused : (parts : RequestPieces) (later : List ℕ) → AreFront parts → 16384 < length (request_head parts)
+pub head_refused : (parts : RequestPieces) (later : List ℕ) → AreFront parts → MAX_HEAD_BYTES < length (request_head parts)
     → IsFirst (request_head parts ++ later) (Err HeadTooLong)
 head_refused parts later front long =
     let head = head_of parts front in (
@@ -261,7 +264,7 @@ head_refused parts later front long =
 
 -- a body that is given too long is refused
 pub body_refused : (parts : RequestPieces) (later : List ℕ) → AreFront parts → GivesLongBody parts.fields
-    → length (request_head parts) ≤ 16384 → IsFirst (request_head parts ++ later) (Err BodyTooLong)
+    → length (request_head parts) ≤ MAX_HEAD_BYTES → IsFirst (request_head parts ++ later) (Err BodyTooLong)
 body_refused parts later front long short =
     let head = head_of parts front in
     let n = digits_value 10 long.value in
@@ -284,18 +287,18 @@ body_refused parts later front long short =
       },
     )
 
--- a reply whose Content-Length gives its body's length is whole by itself
+-- a reply whose Content-Length gives its body's length is complete by itself
 pub reply_whole : (parts : ReplyParts) → is_code parts.code ≡ true
     → All IsPlain (all_fields parts.sequence parts.fields) →
     HasGivenLength (all_fields parts.sequence parts.fields) parts.body →
-    length (reply_front parts.code parts.sequence parts.fields ++ codes "\r\n") ≤ 16384 →
-    length parts.body ≤ 65536
+    length (reply_front parts.code parts.sequence parts.fields ++ codes "\r\n") ≤ MAX_HEAD_BYTES →
+    length parts.body ≤ MAX_BODY_BYTES
     → IsMessageLength (reply_text parts.code parts.sequence parts.fields parts.body)
     (length (reply_text parts.code parts.sequence parts.fields parts.body))
 unfolding reply_text
 reply_whole parts is plain given short small =
     let lines_are = front_lines code sequence fields in
-    let long : List ℕ → Type 0 = λ f. length (f ++ codes "\r\n") ≤ 16384 in
+    let long : List ℕ → Type 0 = λ f. length (f ++ codes "\r\n") ≤ MAX_HEAD_BYTES in
     subst (λ (f : List ℕ). IsMessageLength ((f ++ codes "\r\n") ++ body) (length ((f ++ codes "\r\n") ++ body)))
     (sym lines_are)
     (whole_message (all_fields sequence fields) body (status_text-line code (status_of code is)) plain

@@ -1,4 +1,4 @@
--- Elements in front of other bytes; a request that stands there is a whole request by itself.
+-- Elements before other bytes; a request that stands there is a complete request by itself.
 use Rattle.std.proofs.Common.{◌≡◌, ℕ, ◌-◌, ◌<◌, ◌≤◌, List, Ok, length, take, drop, refl, sym, ap, subst, ◌∙◌, arith}
 use Rattle.std.proofs.lemmas.List.{get_or-take, take-take, length-take-le, length-drop}
 use Rattle.interleave.specs.Heads.{empty_line_ends, IsHead}
@@ -34,11 +34,11 @@ request-take w n within r =
       total_is = length-take-le n w within ∙ r.total_is;
     }
 
--- the same of the request that stands in front
+-- the same of the request at the start
 pub first_taken : (w : List ℕ) (n : ℕ) → IsFirst w (Ok (Request n)) → IsMessageLength (take n w) (length (take n w))
 first_taken w n first = request-take w n first.2 first.1
 
--- what stands in front of the same bytes is the same step
+-- the first element of the same bytes is the same step
 pub first_is : {b w : List ℕ} {s t : Step} → IsFirst b (Ok s) → w ≡ b → s ≡ t → IsFirst w (Ok t)
 first_is {b} {w} {s} {t} first same is =
     subst (λ x. IsFirst x (Ok t)) (sym same) (subst (λ x. IsFirst b (Ok x)) is first)

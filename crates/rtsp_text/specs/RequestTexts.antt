@@ -5,6 +5,8 @@ use Rattle.std.specs.Prelude.{All, Some, MatchOption, codes, flat_map, option_an
 use Rattle.std.specs.Char.{is_ascii_alphanumeric}
 use Rattle.std.specs.Str.Lines.{lines}
 use Rattle.std.specs.Str.Parse.{digits_value}
+use Rattle.interleave.specs.declared.content_lengths.TheConstants.{MAX_BODY_BYTES}
+use Rattle.interleave.specs.declared.message_heads.TheConstants.{MAX_HEAD_BYTES}
 use Rattle.vod_base.specs.Numbers.{is_decimal, number_of}
 use Rattle.vod_base.specs.Blanks.{without_blanks}
 use Rattle.rtsp_text.specs.Grammar.{IsUrl}
@@ -64,7 +66,7 @@ pub record GivesLongBody (fields : List Field) : Type 0 where
   pub value : List ℕ
   pub given : value_named (codes "Content-Length") fields ≡ Some value
   pub decimal : is_decimal value ≡ true
-  pub long : 65536 < digits_value 10 value
+  pub long : MAX_BODY_BYTES < digits_value 10 value
 
 -- a method, a URL and header fields
 pub record AreFront (parts : RequestPieces) : Type 0 where
@@ -81,8 +83,8 @@ pub record AreRequest (parts : RequestPieces) (sequence : ℕ) : Type 0 where
 
 -- a head and a body no longer than is taken
 pub record AreShort (parts : RequestPieces) : Type 0 where
-  pub head_is : length (request_head parts) ≤ 16384
-  pub body_is : length parts.body ≤ 65536
+  pub head_is : length (request_head parts) ≤ MAX_HEAD_BYTES
+  pub body_is : length parts.body ≤ MAX_BODY_BYTES
 
 -- a printable byte other than the space, as a URL has (section 15.1)
 abbrev pub IsVisibleByte : ℕ → Type 0

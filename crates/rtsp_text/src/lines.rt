@@ -75,15 +75,15 @@ fn next_line(bytes: &[u8]) -> Option<(&[u8], &[u8])>
     }
 }
 
-/// Where the head of a complete request ends, after its empty line. It walks by places, which
-/// [`HeaderLines`] doesn't return.
+/// Where the head of a message ends, after its empty line; a complete request has one. It walks by
+/// places, which [`HeaderLines`] doesn't return.
 fn head_end(message: &[u8]) -> usize
     requires { IsMessageLength message.now (length message.now) }
     ensures within { result ≤ length message.now }
     ensures split { IsSplit message.now (take result message.now) (drop result message.now) }
 {
     let Some(first) = line_end(message, 0) else {
-        unreachable!()
+        return message.len();
     };
     let mut at = first.next;
     while let Some(line) = line_end(message, at) {
@@ -92,5 +92,5 @@ fn head_end(message: &[u8]) -> usize
         }
         at = line.next;
     }
-    unreachable!()
+    message.len()
 }

@@ -14,7 +14,8 @@ pub loop-line-preserved : goal.loop-line-preserved
 loop-line-preserved c =
     walk_more c.loop-line.invariant c.in-Some-line_end.ensures.found c.if-line-at.false
 
-pub unreachable-requires-2 : goal.unreachable-requires-2
-unreachable-requires-2 c =
-    next_ends c.args.message.now c.loop-line.at (length c.args.message.now) c.requires c.loop-line.invariant
-    c.in_default-line_end.ensures.none
+-- each line has an end, and so does a complete request's head
+pub returns-clause-split : goal.returns-clause-split
+returns-clause-split c =
+    absurd (next_ends c.args.message.now c.loop-line.at (length c.args.message.now) c.requires c.loop-line.invariant
+    c.in_default-line_end.ensures.none)

@@ -17,7 +17,7 @@ returns-clause-faults c = λ fault refused.
     (λ r read. no_fault fault read refused)
     (λ other found. fault_once c.args.message.now other fault found refused)
 
--- a request that was read tells its parts
+-- a request that was read gives its parts
 abbrev parts : RequestParts Request
 parts = record {
   head = λ r. r.head.now;

@@ -1,5 +1,7 @@
 use Rattle.std.proofs.Common.{◌≡◌, ◌+◌, ◌-◌, ◌<◌, List, [], ◌++◌, ℕ, length, take, drop, get_or, Some}
 use Rattle.std.proofs.Common.{slice_get, arith, refl, sym, ap, subst, ◌∙◌}
+use Rattle.rtp_pack.specs.declared.reports.TheConstants.{REPORT_BYTES}
+use Rattle.rtp_pack.specs.declared.sizes.TheConstants.{FRAME_HEAD_BYTES}
 use Rattle.film_frames.specs.declared.pieces.Piece.TheVariants.{Report, Frame}
 use Rattle.film_frames.specs.Pieces.{octets_in}
 use Rattle.film_frames.specs.FramedRuns.{payload, run_pieces, pieces_in}
@@ -30,11 +32,11 @@ in-frame c = is-in c.count_ended-number.ensures.count_ended c.requires c.in-Fram
 
 -- what is taken of the frame: its bytes from the place on, and how many they are
 taken : (c : After-payload)
-    → (take (20 - c.min.result) (drop c.min.result c.put_heads.new.head) ++ c.payload.result.now
+    → (take (FRAME_HEAD_BYTES - c.min.result) (drop c.min.result c.put_heads.new.head) ++ c.payload.result.now
     ≡ drop (c.args.at - c.begin_of.result)
-    (take 20 c.put_heads.new.head ++ payload c.args.self.now.film c.in-Frame.packet))
-    × (20 - c.min.result + length c.payload.result.now + (c.args.at - c.begin_of.result)
-    ≡ 20 + (c.in-Frame.packet.to - c.in-Frame.packet.from))
+    (take FRAME_HEAD_BYTES c.put_heads.new.head ++ payload c.args.self.now.film c.in-Frame.packet))
+    × (FRAME_HEAD_BYTES - c.min.result + length c.payload.result.now + (c.args.at - c.begin_of.result)
+    ≡ FRAME_HEAD_BYTES + (c.in-Frame.packet.to - c.in-Frame.packet.from))
 taken c =
     let lies : IsIn c.args.self.now c.args.at c.count_ended-number.result (Frame c.in-Frame.unit c.in-Frame.packet) =
     is-in c.count_ended-number.ensures.count_ended c.requires c.in-Frame.ensures.piece c.in-Frame.ensures.sound in
@@ -79,13 +81,13 @@ returns-in-Report-clause-bytes c =
     let k = c.count_ended-number.result in
     let lies = in-report (goal.at.returns-in-Report-clause-bytes c).After-report in
     let o = c.args.at - c.begin_of.result in
-    let long : length c.report.result ≡ 52 = ap (λ (l : List ℕ). length l) c.report.ensures in
+    let long : length c.report.result ≡ REPORT_BYTES = ap (λ (l : List ℕ). length l) c.report.ensures in
     let rest = report-rest c.report.result o long (omega (arith, lies.inside, c.begin_of.ensures.begin)) in
     let same : drop o c.report.result ≡ drop (c.args.at - begin_of (run_pieces run) k) (get_or (run_pieces run) k []) =
     ap (λ (l : List ℕ). drop o l) (c.report.ensures ∙ sym lies.bytes)
     ∙ ap (λ n. drop (c.args.at - n) (get_or (run_pieces run) k [])) c.begin_of.ensures.begin in
     (rest-next {pieces = run_pieces run} {at = c.args.at} {k = k}
-    {bytes = take (52 - o) (drop o c.report.result) ++ []} c.count_ended-number.ensures.count_ended
+    {bytes = take (REPORT_BYTES - o) (drop o c.report.result) ++ []} c.count_ended-number.ensures.count_ended
     c.requires (rest ∙ same)).0
 
 pub returns-in-Report-clause-heads : goal.returns-in-Report-clause-heads
@@ -93,7 +95,7 @@ returns-in-Report-clause-heads c =
     let run = c.args.self.now in
     let k = c.count_ended-number.result in
     let lies = in-report (goal.at.returns-in-Report-clause-heads c).After-report in
-    let part : IsPart (run_pieces run) k c.args.at (52 - (c.args.at - c.begin_of.result) + 0) = record {
+    let part : IsPart (run_pieces run) k c.args.at (REPORT_BYTES - (c.args.at - c.begin_of.result) + 0) = record {
       among = lies.number;
       begins = lies.begins;
       ends = omega (arith, lies.inside, lies.ends, lies.begins, c.begin_of.ensures.begin);
@@ -115,12 +117,12 @@ returns-in-Frame-clause-bytes c =
     let o = c.args.at - c.begin_of.result in
     let block = c.put_heads.new.head in
     let whole = c.put_heads.ensures (octets_in (take k (pieces_in run))) in
-    let same : drop o (take 20 block ++ payload run.film c.in-Frame.packet)
+    let same : drop o (take FRAME_HEAD_BYTES block ++ payload run.film c.in-Frame.packet)
     ≡ drop (c.args.at - begin_of (run_pieces run) k) (get_or (run_pieces run) k []) =
     ap (λ (l : List ℕ). drop o l) (whole ∙ sym lies.bytes)
     ∙ ap (λ n. drop (c.args.at - n) (get_or (run_pieces run) k [])) c.begin_of.ensures.begin in
     (rest-next {pieces = run_pieces run} {at = c.args.at} {k = k}
-    {bytes = take (20 - c.min.result) (drop c.min.result block) ++ c.payload.result.now}
+    {bytes = take (FRAME_HEAD_BYTES - c.min.result) (drop c.min.result block) ++ c.payload.result.now}
     c.count_ended-number.ensures.count_ended c.requires (part.0 ∙ same)).0
 
 pub returns-in-Frame-clause-heads : goal.returns-in-Frame-clause-heads
@@ -129,7 +131,7 @@ returns-in-Frame-clause-heads c =
     let k = c.count_ended-number.result in
     let lies = in-frame (goal.at.returns-in-Frame-clause-heads c).After-put_heads in
     let part = taken (goal.at.returns-in-Frame-clause-heads c).After-payload in
-    let its : IsPart (run_pieces run) k c.args.at (20 - c.min.result + length c.payload.result.now) = record {
+    let its : IsPart (run_pieces run) k c.args.at (FRAME_HEAD_BYTES - c.min.result + length c.payload.result.now) = record {
       among = lies.number;
       begins = lies.begins;
       ends = omega (arith, part.1, lies.inside, lies.ends, lies.begins, c.begin_of.ensures.begin);

@@ -27,7 +27,7 @@ returns-clause-first c =
     subst (λ (l : List ℕ). IsFirst l
     (Ok c.request_step-step.result)) c.waiting-waiting.ensures c.request_step-step.ensures.first
 
-pub returns-then-front-eq36-clause-first : goal.returns-then-front-eq36-clause-first
-returns-then-front-eq36-clause-first c =
+pub returns-then-front-eq-BLOCK_START-clause-first : goal.returns-then-front-eq-BLOCK_START-clause-first
+returns-then-front-eq-BLOCK_START-clause-first c =
     subst (λ (l : List ℕ). IsFirst l
     (Ok c.block_step.result)) c.waiting-waiting.ensures c.block_step.ensures.first
