@@ -14,13 +14,14 @@ use Rattle.rtsp_client.specs.Answers.{GoOn, Gives, history_after, cut_bytes, eve
 use Rattle.rtsp_client.specs.Answers.{payloads_of}
 use Rattle.rtsp_client.specs.WatchCourses.{Brings, IsNext, Round, Runs, RunsAll, Stage, stage}
 use Rattle.rtsp_client.specs.Films.{is_complete}
+use Rattle.rtsp_client.specs.MeterGuarantee.{frames_heard, frames_of}
 use Rattle.rtsp_client.specs.Meters.{first_slot, watched_in}
 use Rattle.rtsp_client.specs.ClientHistory.{History, ClientEvent, Frame, Reply, Report, Slot, replies, slot_before}
 use Rattle.rtsp_client.specs.ClientHistory.{start}
 use Rattle.connection_laws.specs.Requests.{bytes_in}
 use Rattle.connection_laws.proofs.FirstFrames.{HasGoneOn, gone_on}
 use Rattle.connection_laws.proofs.HistorySums.{Sum, replies_grow, steps, steps_on, sum_after, sum_of}
-use Rattle.connection_laws.proofs.UnitSizes.{moments_parts}
+use Rattle.connection_laws.proofs.UnitSizes.{frames_parts, moments_parts}
 
 -- the bytes that were heard
 abbrev pub rounds_heard : List Round → List ℕ
@@ -35,10 +36,20 @@ pub record Heard (bytes : List ℕ) (at : Stage) : Type 0 where
   pub elements : List (List ℕ)
   pub cut : AreInputElements bytes elements at.rest
   pub sum : sum_of at.history ≡ steps no_sum (events_of_elements elements)
+  pub frames : frames_heard at.history ≡ frames_of (events_of_elements elements)
   pub gone : HasGoneOn at.history
 
 pub heard_none : Heard [] (stage [] [])
-heard_none = record { elements = []; cut = refl; sum = refl; gone = tt }
+heard_none = record { elements = []; cut = refl; sum = refl; frames = refl; gone = tt }
+
+-- the frames of a history are followed by those of later moments
+frames_later : (h : History) (ms : List ClientEvent)
+    → frames_heard (history_after h ms) ≡ frames_heard h ++ frames_of ms
+frames_later h [] = sym (append-nil (frames_heard h))
+frames_later h (Reply m ∷ ms) = frames_later (Reply m ∷ h) ms
+frames_later h (Frame b ∷ ms) = frames_later (Frame b ∷ h) ms ∙ append_assoc (frames_heard h) (b ∷ []) (frames_of ms)
+frames_later h (Report b ∷ ms) = frames_later (Report b ∷ h) ms
+frames_later h (Slot t cut ∷ ms) = frames_later (Slot t cut ∷ h) ms
 
 -- with further elements
 pub heard_more : {bytes : List ℕ} {old : Stage} {rest : List ℕ} (more : List ℕ) (elements : List (List ℕ))
@@ -53,6 +64,10 @@ heard_more {bytes} {old} {rest} more elements heard cut good = record {
       ∙ (ap (λ s. steps s (events_of_elements elements)) heard.sum
       ∙ (sym (steps_on no_sum (events_of_elements heard.elements) (events_of_elements elements))
       ∙ ap (steps no_sum) (sym (moments_parts heard.elements elements))));
+  frames = frames_later old.history (events_of_elements elements)
+      ∙ (ap (λ l. l ++ frames_of (events_of_elements elements)) heard.frames
+      ∙ sym (ap frames_of (moments_parts heard.elements elements)
+      ∙ frames_parts (events_of_elements heard.elements) (events_of_elements elements)));
   gone = gone_on old.history (events_of_elements elements) heard.gone good;
 }
 
@@ -76,7 +91,13 @@ heard_event {bytes} {old} {new} (HeardSlot slot) moments heard brings good histo
     same_stage new (Slot slot cut ∷ old.history) old.rest
     (history ∙ ap (history_after old.history) brings.0) brings.1 in
     let mid : Heard bytes (stage (Slot slot cut ∷ old.history) old.rest) =
-    record { elements = heard.elements; cut = heard.cut; sum = heard.sum; gone = (tt, heard.gone) } in
+    record {
+      elements = heard.elements;
+      cut = heard.cut;
+      sum = heard.sum;
+      frames = heard.frames;
+      gone = (tt, heard.gone);
+    } in
     let B : List ℕ → Type 0 = λ b. Heard b new in
     subst B (sym (append-nil bytes)) (subst (Heard bytes) is mid)
 heard_event {new} HeardEnd moments heard brings good history = absurd brings

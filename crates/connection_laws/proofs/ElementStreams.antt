@@ -28,7 +28,7 @@ rest_at c [] = []
 rest_at c (element ∷ elements) = cond (nat_le (length element) c) (rest_at (c - length element) elements)
     (take c element)
 
-no_element : (n : ℕ) → IsElementLength [] n → ⊥
+pub no_element : (n : ℕ) → IsElementLength [] n → ⊥
 no_element n (LineEnd one some end) = omega (arith, some)
 no_element n (WholeBlock starts four size inside) = omega (arith, four)
 no_element n (WholeMessage starts size inside) = omega (arith, starts.0)

@@ -3,7 +3,7 @@ use Rattle.std.proofs.Common.{◌≡◌, ℕ, suc, ◌+◌, ◌-◌, ◌<◌, �
 use Rattle.std.proofs.Common.{take, drop, map, sum, refl, sym, ap, subst, ◌∙◌, arith, inl, inr}
 use Rattle.conn.proofs.ReplyContents.{parts-more}
 use Rattle.std.proofs.lemmas.Bool.{cases_lt}
-use Rattle.std.proofs.lemmas.List.{length-map, length-take, take_all, take-take}
+use Rattle.std.proofs.lemmas.List.{length-append, length-map, length-take, take_all, take-take}
 use Rattle.std.proofs.lemmas.List.Sums.{sum_by-take-le}
 use Rattle.vod_base.specs.Links.{IoEvent, HeardBytes, HeardEnd, HeardSlot, Sent}
 use Rattle.mpeg_scan.specs.declared.films.Film.{Film}
@@ -101,6 +101,14 @@ stream_of wish stored course played =
         ),
       );
     }
+
+-- its replies are those of the connection
+pub stream_replies : (wish : Wish) (stored : Stored) (course : Course) (played : HasPlayedWhole wish stored course)
+    (P : List ℕ → List ℕ → List (List ℕ) → Type 0) → P played.setup played.played (map text_of played.later)
+    → P (stream_of wish stored course played).first (stream_of wish stored course played).second
+    (stream_of wish stored course played).later
+unfolding stream_of
+stream_replies wish stored course played P is = is
 
 -- ---- the film by the step of a slot
 
@@ -347,6 +355,49 @@ all_sent wish stored course played =
     ≡ framed_bytes (all_of x) =
     ap (λ l. played.setup ++ (played.played ++ l)) (sym (framed_append x.blocks x.later)) in
     record { count = front.count; is = bytes ∙ (front.is ∙ ap (take front.count) all) }
+
+texts_long : (texts : List PlacedText) → texts_length texts ≡ length (framed_bytes (map text_of texts))
+texts_long [] = refl
+texts_long (placed ∷ texts) =
+    omega (arith, texts_long texts, length-append placed.text (framed_bytes (map text_of texts)))
+
+-- where a reply after the film was sent, all of the stream was sent
+pub all_sent_whole : {wish : Wish} {stored : Stored} {course : Course} (played : HasPlayedWhole wish stored course)
+    (last : PlacedText) (others : List PlacedText) → played.later ≡ last ∷ others
+    → sent_bytes (rounds_doings course.rounds) ≡ framed_bytes (all_of (stream_of wish stored course played))
+unfolding stream_of
+all_sent_whole {wish} {stored} {course} played last others later =
+    let begin = first_stage course.films course.settings course.words in
+    let x = stream_of wish stored course played in
+    let blocks = framed_bytes x.blocks in
+    let parts = rounds_parts course.rounds in
+    let sent = sent_bytes (rounds_doings course.rounds) in
+    let front = all_sent wish stored course played in
+    let film = length (film_bytes parts) in
+    let T : List PlacedText → Type 0 = λ l. IsFromTo 0 (0 + film) l in
+    let within = subst T played.texts (texts_within 0 parts) in
+    let first = subst T later within.1.1.1.1 in
+    let after = subst (AreAfter (length blocks)) later played.after in
+    let events = events_are begin course.last course.rounds course.follows in
+    let size : length sent ≡ film + texts_length (placed_texts 0 parts) =
+    ap (λ (l : List ℕ). length l) (rounds_sent_are course.rounds events ∙ rounds_sent course.rounds)
+    ∙ parts_length 0 parts in
+    let texts : texts_length (placed_texts 0 parts)
+    ≡ length played.setup + (length played.played + texts_length played.later) = ap texts_length played.texts in
+    let all : length (framed_bytes (all_of x))
+    ≡ length played.setup + (length played.played + (length blocks + length (framed_bytes x.later))) =
+    omega (
+      arith,
+      length-append played.setup (played.played ++ framed_bytes (x.blocks ++ x.later)),
+      length-append played.played (framed_bytes (x.blocks ++ x.later)),
+      ap (λ (l : List ℕ). length l) (framed_append x.blocks x.later),
+      length-append blocks (framed_bytes x.later),
+    ) in
+    let many : length (framed_bytes (all_of x)) ≤ length sent =
+    omega (arith, size, texts, all, texts_long played.later, first.0, first.1.0, after.0) in
+    let count : length sent ≡ min front.count (length (framed_bytes (all_of x))) =
+    ap (λ (l : List ℕ). length l) front.is ∙ length-take front.count (framed_bytes (all_of x)) in
+    front.is ∙ take_all front.count (framed_bytes (all_of x)) (omega (arith, count, many))
 
 -- a front of a front
 pub front_again : (bytes mid all : List ℕ) (n : ℕ) → bytes ≡ take n mid → IsFrontOf mid all → IsFrontOf bytes all

@@ -45,7 +45,7 @@ pub record IsFilmIn (film : Film) (identity : Identity) (x : Stream) : Type 0 wh
   pub blocks : x.blocks ≡ blocks_from (film_run film identity) 0 0 (pieces_of film.slice_starts.items film.units.items)
 
 -- all units are the run's
-units_all : (film : Film) → take (length film.units.items - 0) (drop 0 film.units.items) ≡ film.units.items
+pub units_all : (film : Film) → take (length film.units.items - 0) (drop 0 film.units.items) ≡ film.units.items
 units_all film = take_all (length film.units.items - 0) film.units.items (omega arith)
 
 pub run_blocks : (film : Film) (identity : Identity)

@@ -21,7 +21,7 @@ no_reply b x m (inl frame) reply same =
 no_reply b x m (inr report) reply same =
     let clash : Reply m ∷ [] ≡ Report b ∷ [] = sym reply ∙ (ap element_events same ∙ report) in cc
 
-more_reply : (y : List ℕ) (ys : List (List ℕ)) (s : Sum) → element_events y ≡ Reply y ∷ []
+pub more_reply : (y : List ℕ) (ys : List (List ℕ)) (s : Sum) → element_events y ≡ Reply y ∷ []
     → s.replies + 1 ≤ (steps s (events_of_elements (y ∷ ys))).replies
 more_reply y ys s is =
     let P : List ClientEvent → Type 0 = λ l. s.replies + 1 ≤ (steps s (l ++ events_of_elements ys)).replies in

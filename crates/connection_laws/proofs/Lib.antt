@@ -47,6 +47,9 @@ mod TwoReplies
 mod RequestedInput
 mod RequestedPlays
 mod CompleteWatch
+mod AcceptedMoments
+mod AcceptedFilms
+mod WatchedFilms
 mod PlayNotes
 mod CourseNotes
 mod EntryNotes

@@ -19,7 +19,6 @@ use Rattle.station.specs.Ledgers.{look_at, play_of}
 use Rattle.session.specs.declared.commands.Ask.{Ask}
 use Rattle.session.specs.declared.commands.Ask.TheVariants.{Reply as AskReply, Play as AskPlay, Halt as AskHalt}
 use Rattle.session.specs.declared.commands.Ask.TheVariants.{Look as AskLook, Offer as AskOffer}
-use Rattle.session.specs.declared.settings.Settings.{Settings}
 use Rattle.session.specs.declared.states.AfterHalt.{AfterHalt}
 use Rattle.session.specs.declared.states.AfterHalt.TheVariants.{Done, Paused, Torn}
 use Rattle.session.specs.declared.states.Awaited.{Awaited}
@@ -37,15 +36,15 @@ use Rattle.session.specs.RequestSteps.{after_admission, after_halt, counts_done,
 use Rattle.session.specs.RunRequests.{counts_before}
 use Rattle.session.specs.SessionStates.{NoAnswer, SessionState, awaited_answer, awaited_answer_of}
 use Rattle.session.specs.SlotSteps.{admitted_in, after_play, after_slot, can_reply, due_state, finished_in, is_between, is_sending}
-use Rattle.session.specs.SlotSteps.{is_done_in, is_taken, sent_due, sent_in, sent_reply, sent_slot, state_once_halted}
+use Rattle.session.specs.SlotSteps.{is_done_in, is_taken, sent_due, sent_reply, sent_slot}
 use Rattle.session.specs.SlotSteps.{stepped_in}
 use Rattle.session.specs.SlotTransitions.{after_stop}
 use Rattle.session.proofs.RunLemmas.{IsLeftBy, IsNextRun, RunsAs, Replies, SetsUp, AsksPlay, Stops, AsksLook}
 use Rattle.session.proofs.RunLemmas.{AsksOffer, one_film, run_goes_on, runs_as}
-use Rattle.conn.specs.EventSteps.{Comes, Round, Runs}
-use Rattle.conn.specs.InputSteps.{HasHeard, IsAskAnswered, IsFinished, IsHalted, IsLookAnswered, IsPlayAnswered}
+use Rattle.conn.specs.EventSteps.{Comes, Round}
+use Rattle.conn.specs.InputSteps.{IsAskAnswered, IsFinished, IsHalted, IsLookAnswered, IsPlayAnswered}
 use Rattle.conn.specs.InputSteps.{IsReplied, Outcome, Unasked, Entered, WasFull, Offered, SentPart, Stage, ElementStep}
-use Rattle.conn.specs.InputSteps.{Passed, Answered, TakesAll, after_reply, film_bytes}
+use Rattle.conn.specs.InputSteps.{Passed, Answered, TakesAll, film_bytes}
 use Rattle.connection_laws.specs.Courses.{Course, IsCourseBetween, asked_by, askings_of, course_plays, first_stage}
 use Rattle.connection_laws.specs.Courses.{round_askings, takings_askings}
 use Rattle.connection_laws.specs.Plays.{FilmPlay, StationRequest, Asks, kept_by, kept_in, kept_with, plays_admitted}

@@ -374,7 +374,7 @@ units_come {c} {s} from starts (unit ∷ units) laid between =
 
 -- ---- the frames that are handed on
 
-frames_parts : (a b : List ClientEvent) → frames_of (a ++ b) ≡ frames_of a ++ frames_of b
+pub frames_parts : (a b : List ClientEvent) → frames_of (a ++ b) ≡ frames_of a ++ frames_of b
 frames_parts [] b = refl
 frames_parts (Reply m ∷ a) b = frames_parts a b
 frames_parts (Frame x ∷ a) b = ap (λ l. x ∷ l) (frames_parts a b)

@@ -13,6 +13,7 @@ use Rattle.film_frames.specs.Pieces.{wire_size}
 use Rattle.film_frames.specs.Tracks.{framed_bytes}
 use Rattle.rtsp_client.specs.declared.watch_request.Wish.{Wish}
 use Rattle.rtsp_client.specs.declared.watch_request.Watched.{Watched}
+use Rattle.rtsp_client.specs.declared.watch_request.WatchEnd.{WatchEnd}
 use Rattle.rtsp_client.specs.declared.watch_request.WatchEnd.TheVariants.{Done}
 use Rattle.rtsp_client.specs.Answers.{Gives, history_after, events_of_elements, payload_of, payloads_of, requests_after}
 use Rattle.rtsp_client.specs.WatchCourses.{Ends, HasCourse, IsNext, Round, RunsAll, Stage, Stops, StopsAt}
@@ -204,6 +205,24 @@ split_at wish h (first ∷ before) later round =
           (round.event ∷ rest.later));
     }
 
+-- what the link told that was heard, whatever the answer is
+pub told_bytes : {wish : Wish} {end : WatchEnd} {heard : List IoEvent} {out : List ℕ}
+    (client : HasCourse wish end (Some []) (Some heard) (Some []) (Some out))
+    → heard_bytes heard ≡ rounds_heard client.rounds ++ heard_bytes client.last_doings
+told_bytes {wish} {end} {heard} {out} client =
+    let setup = sends (setup_text wish) in
+    let doings = rounds_doings wish [] client.rounds in
+    let told : heard ≡ setup ++ (doings ++ client.last_doings) = let e = client.told in cc in
+    ap heard_bytes told ∙ (heard_append setup (doings ++ client.last_doings)
+    ∙ (ap (λ l. l ++ heard_bytes (doings ++ client.last_doings)) (heard_sends (setup_text wish))
+    ∙ (heard_append doings client.last_doings
+    ∙ ap (λ l. l ++ heard_bytes client.last_doings) (heard_rounds wish [] client.rounds))))
+
+-- the bytes that came last
+pub last_bytes : {doings : List IoEvent} (bytes sent : List ℕ) → doings ≡ HeardBytes bytes ∷ sends sent
+    → heard_bytes doings ≡ bytes
+last_bytes bytes sent is = ap heard_bytes is ∙ (ap (λ l. bytes ++ l) (heard_sends sent) ∙ append-nil bytes)
+
 -- the course of a watching that is done, by what its link told
 pub record IsToldCourse (wish : Wish) (watched : Watched) (heard : List IoEvent) (out : List ℕ)
     (client : HasCourse wish (Done watched) (Some []) (Some heard) (Some []) (Some out))
@@ -224,16 +243,11 @@ told_course wish watched heard out client =
     let end = end_of client.mid client.ends in
     let told : heard ≡ setup ++ (doings ++ client.last_doings) = let e = client.told in cc in
     let out_is : out ≡ payloads_of (events_of_rounds client.rounds) ++ client.last_out = let e = client.out in cc in
-    let last : heard_bytes client.last_doings ≡ end.0 =
-    ap heard_bytes end.1.1.1 ∙ (ap (λ l. end.0 ++ l) (heard_sends end.1.0) ∙ append-nil end.0) in
+    let last : heard_bytes client.last_doings ≡ end.0 = last_bytes end.0 end.1.0 end.1.1.1 in
     record {
       bytes = end.0;
       all = all_watched client.runs end.1.1.0 out_is;
-      heard_is = ap heard_bytes told ∙ (heard_append setup (doings ++ client.last_doings)
-          ∙ (ap (λ l. l ++ heard_bytes (doings ++ client.last_doings)) (heard_sends (setup_text wish))
-          ∙ (heard_append doings client.last_doings
-          ∙ (ap (λ l. l ++ heard_bytes client.last_doings) (heard_rounds wish [] client.rounds)
-          ∙ ap (λ l. rounds_heard client.rounds ++ l) last))));
+      heard_is = told_bytes client ∙ ap (λ l. rounds_heard client.rounds ++ l) last;
       split = λ before later round is.
           let its = split_at wish [] before later round in
           let mine = rounds_doings wish [] before in (

@@ -8,6 +8,8 @@ use Rattle.rtsp_client.specs.RequestParts.{IsSessionId}
 use Rattle.rtsp_client.specs.Requests.{play_text, setup_text, teardown_text}
 use Rattle.rtsp_client.specs.WatchRequests.{IsWish}
 use Rattle.rtsp_client.specs.declared.watch_request.Watched.{Watched}
+use Rattle.rtsp_client.specs.declared.watch_request.WatchEnd.{WatchEnd}
+use Rattle.rtsp_client.specs.declared.watch_request.WatchEnd.TheVariants.{Done}
 use Rattle.rtsp_client.specs.declared.watch_request.Wish.{Wish}
 use Rattle.session.specs.Films.{IsFilmAt}
 use Rattle.session.specs.SettingRanges.{AreFilms}
@@ -52,3 +54,8 @@ HasWatchedWhole wish stored watched out =
     × OfUnit stored.film.units.items 0 (λ first.
     OfUnit stored.film.units.items (length stored.film.units.items - 1) (λ last.
     out ≡ take (last.to - first.from) (drop first.from stored.film.bytes.items)))
+
+-- a watching ends in `Done`, and the film came back complete
+abbrev pub EndsWhole : Wish → Stored → WatchEnd → List ℕ → Type 0
+EndsWhole wish stored end out = (watched : Watched)
+    × ((end ≡ Done watched) × HasWatchedWhole wish stored watched out)

@@ -14,3 +14,4 @@ pub mod Failures
 pub mod ClientRequests
 pub mod ReportCourses
 pub mod LookLimits
+pub mod WatchEnds

@@ -1,8 +1,9 @@
 -- What a link carries from a server to a client, slot by slot, by what each end's link exposed.
-use Rattle.std.specs.Prelude.{◌≡◌, ℕ, ◌+◌, ◌-◌, ◌≤◌, max, List, [], ◌∷◌, ◌++◌}
+use Rattle.std.specs.Prelude.{◌≡◌, ℕ, ◌+◌, ◌-◌, ◌≤◌, max, List, [], ◌∷◌, ◌++◌, length}
 use Rattle.vod_base.specs.Links.{IoEvent, HeardBytes, HeardEnd, HeardSlot, Sent}
-use Rattle.conn.specs.EventSteps.{IsPrefixOf}
-use Rattle.connection_laws.specs.Courses.{slot_in}
+use Rattle.conn.specs.EventSteps.{IsPrefixOf, rounds_doings}
+use Rattle.connection_laws.specs.Courses.{Course, slot_in}
+use Rattle.connection_laws.specs.Replies.{course_texts}
 
 -- the bytes that were received, and those that were sent, in order
 abbrev pub heard_bytes : List IoEvent → List ℕ
@@ -42,3 +43,9 @@ pub record IsCarried (served heard : List IoEvent) (start begin : ℕ) : Type 0 
   pub front : IsPrefixOf (heard_bytes heard) (sent_bytes served)
   pub each : (before after : List IoEvent) (slot : ℕ) → heard ≡ before ++ HeardSlot slot ∷ after
       → begin ≤ slot → IsWrittenBy served (start + (slot - begin)) (heard_bytes before)
+
+-- All that a server sent on a connection, the reply to its client's third request with it, was
+-- received.
+pub record IsDelivered (course : Course) (heard : List IoEvent) : Type 0 where
+  pub replies : length (course_texts course) ≡ 3
+  pub all : heard_bytes heard ≡ sent_bytes (rounds_doings course.rounds)

@@ -2,7 +2,7 @@
 //! replies.
 
 ghost use Rattle.std.specs.Prelude.{◌≡◌, ◌≤◌, ◌<◌, ◌+◌, ◌^◌, ◌++◌, ◌∷◌, All, List, Some, []};
-ghost use Rattle.std.specs.Prelude.{ℕ, codes, decimal, length};
+ghost use Rattle.std.specs.Prelude.{ℕ, codes, decimal, length, map};
 ghost use Rattle.film_frames.specs.declared.stored_films.Stored.{Stored};
 ghost use Rattle.interleave.specs.Elements.{IsMessageLength};
 ghost use Rattle.mpeg_scan.specs.PictureRates.{picture_time};
@@ -20,19 +20,26 @@ ghost use Rattle.session.specs.declared.states.Setup.{Setup};
 ghost use Rattle.session.specs.declared.states.StreamSource.{StreamSource};
 ghost use Rattle.session.specs.Replies.{field, play_fields, play_text};
 ghost use Rattle.vod_base.specs.Links.{IoEvent};
-ghost use Rattle.conn.specs.EventSteps.{rounds_doings};
+ghost use Rattle.conn.specs.EventSteps.{IsPrefixOf, rounds_doings};
 ghost use Rattle.rtsp_client.specs.WatchCourses.{HasCourse};
 ghost use Rattle.rtsp_client.specs.Meters.{first_slot};
 ghost use Rattle.rtsp_client.specs.WatchRequests.{IsWish};
+ghost use Rattle.rtsp_client.specs.Outcomes.{IsDecided};
+ghost use Rattle.rtsp_client.specs.declared.watch_request.WatchEnd.{WatchEnd};
 ghost use Rattle.rtsp_client.specs.declared.watch_request.WatchEnd.TheVariants.{Done};
 ghost use Rattle.rtsp_client.specs.declared.watch_request.Watched.{Watched};
 ghost use Rattle.rtsp_client.specs.declared.watch_request.Wish.{Wish};
-ghost use Rattle.connection_laws.specs.ClientRequests.{HasWatchedWhole, IsAskedFor};
-ghost use Rattle.connection_laws.specs.LinkDelivery.{IsCarried};
+ghost use Rattle.connection_laws.specs.ClientRequests.{EndsWhole, HasWatchedWhole, IsAskedFor};
+ghost use Rattle.connection_laws.specs.LinkDelivery.{IsCarried, IsDelivered, heard_bytes};
+ghost use Rattle.connection_laws.specs.LinkDelivery.{sent_bytes};
+ghost use Rattle.connection_laws.specs.Replies.{text_of};
+ghost use Rattle.connection_laws.specs.WatchEnds.{AreGoodReplies, RefusesNothing};
 ghost use Rattle.connection_laws.specs.WholePlays.{HasPlayedWhole, IsSetUpFor, playback_of};
 ghost use Rattle.connection_laws.specs.WholePlays.{whole_run};
 ghost use Rattle.connection_laws.specs.PlayReplies.{IsPlayRead};
 ghost use Rattle.connection_laws.specs.Courses.{Course};
+
+use rtsp_client::laws::law_whole_film_ends_in_done;
 
 /// Where a link carries, slot by slot, what a server's connection sent, a film that is watched over
 /// it comes back from its first picture to its last one. At each reading no picture is missing that
@@ -40,6 +47,10 @@ ghost use Rattle.connection_laws.specs.Courses.{Course};
 /// requires that the connection was asked for the film by the client's requests, and that its one
 /// play, of the entire film and for the client's own buffer, start delay and slot, was sent to its
 /// end.
+///
+/// The client refuses no byte, no frame and no reply of such a connection, where the replies to its
+/// requests are 200. Once it received all that the server sent, the reply to TEARDOWN with it, it
+/// ends in `Done`, unless its own I/O failed or its memory ran out.
 pub fn law_watched_film_is_complete()
     ensures played { (wish : Wish) (stored : Stored) (course : Course) (watched : Watched)
         (heard : List IoEvent) (out : List ℕ) → IsWish wish
@@ -52,7 +63,24 @@ pub fn law_watched_film_is_complete()
         → (client : HasCourse wish (Done watched) (Some []) (Some heard) (Some []) (Some out))
         → IsCarried (rounds_doings course.rounds) heard asked.play.start
         (first_slot client.mid.history) → HasWatchedWhole wish stored watched out }
-{}
+    ensures unrefused { (wish : Wish) (stored : Stored) (course : Course) (end : WatchEnd)
+        (heard : List IoEvent) (out : List ℕ) → (played : HasPlayedWhole wish stored course)
+        → played.identity.ssrc < 2 ^ 32
+        → AreGoodReplies stored.film played.setup played.played (map text_of played.later)
+        → HasCourse wish end (Some []) (Some heard) (Some []) (Some out)
+        → IsPrefixOf (heard_bytes heard) (sent_bytes (rounds_doings course.rounds))
+        → RefusesNothing end }
+    ensures done { (wish : Wish) (stored : Stored) (course : Course) (end : WatchEnd)
+        (heard : List IoEvent) (out : List ℕ) → IsWish wish
+        → (played : HasPlayedWhole wish stored course) → played.identity.ssrc < 2 ^ 32
+        → AreGoodReplies stored.film played.setup played.played (map text_of played.later)
+        → (client : HasCourse wish end (Some []) (Some heard) (Some []) (Some out))
+        → IsCarried (rounds_doings course.rounds) heard played.play.start
+        (first_slot client.mid.history) → IsDelivered course heard → IsDecided end
+        → EndsWhole wish stored end out }
+{
+    law_whole_film_ends_in_done();
+}
 
 /// A client asks a connection for a film with SETUP, PLAY and, once the film was due to its end,
 /// TEARDOWN. Where its play was admitted and not stopped early, it is played as the client asked:

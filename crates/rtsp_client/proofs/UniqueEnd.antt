@@ -40,7 +40,7 @@ bad-not-other (inr lacking) orderly other = other (orderly-once orderly lacking.
 -- ---- moments
 
 -- a moment gives one answer
-gives-once : {one other : WatchEnd} (wish : Wish) (h : History) (moment : ClientEvent) → Gives wish h moment one
+pub gives-once : {one other : WatchEnd} (wish : Wish) (h : History) (moment : ClientEvent) → Gives wish h moment one
     → Gives wish h moment other → one ≡ other
 gives-once wish h (Reply message) (inl (bad, is)) (inl (bad', is')) = is ∙ sym is'
 gives-once wish h (Reply message) (inl (bad, is)) (inr (inl (code, (refused, is')))) =
@@ -61,7 +61,7 @@ gives-once wish h (Report block) one other = absurd one
 gives-once wish h (Slot slot cut) one other = absurd one
 
 -- and then the watching doesn't go on
-gives-not-on : (wish : Wish) (h : History) (end : WatchEnd) (moment : ClientEvent) → Gives wish h moment end
+pub gives-not-on : (wish : Wish) (h : History) (end : WatchEnd) (moment : ClientEvent) → Gives wish h moment end
     → GoesOn h moment → ⊥
 gives-not-on wish h end (Reply message) (inl (bad, is)) on = bad-not-good bad on.0
 gives-not-on wish h end (Reply message) (inr (inl (code, (refused, is)))) on = refused.1 (orderly-once refused.0 on.0.0)

@@ -5,6 +5,7 @@ use Rattle.connection_laws.specs.LinkDelivery.{IsCarried}
 use Rattle.connection_laws.specs.Plays.{FilmPlay}
 use Rattle.connection_laws.proofs.RequestedPlays.{asked_played}
 use Rattle.connection_laws.proofs.CompleteWatch.{watched_whole}
+use Rattle.connection_laws.proofs.WatchedFilms.{watched_done, watched_unrefused}
 use Rattle.connection_laws.proofs.watch_laws.law_watched_film_is_complete.Goals as goal
 
 pub returns-clause-played : goal.returns-clause-played
@@ -31,3 +32,25 @@ returns-clause-asked c = λ wish stored course watched heard out asked client ca
       client = client;
       carried = subst C (sym played.1) carried;
     })
+
+pub returns-clause-unrefused : goal.returns-clause-unrefused
+returns-clause-unrefused c = λ wish stored course end heard out played small replies client front.
+    watched_unrefused {wish = wish} {stored = stored} {course = course} {end = end} {heard = heard} {out = out}
+    (record {
+      played = played;
+      small = small;
+      replies = replies;
+      accepts = c.law_whole_film_ends_in_done.ensures.frame;
+      done = c.law_whole_film_ends_in_done.ensures.done;
+    }) client front
+
+pub returns-clause-done : goal.returns-clause-done
+returns-clause-done c = λ wish stored course end heard out wished played small replies client carried delivered decided.
+    watched_done {wish = wish} {stored = stored} {course = course} {end = end} {heard = heard} {out = out} wished
+    (record {
+      played = played;
+      small = small;
+      replies = replies;
+      accepts = c.law_whole_film_ends_in_done.ensures.frame;
+      done = c.law_whole_film_ends_in_done.ensures.done;
+    }) client delivered decided carried

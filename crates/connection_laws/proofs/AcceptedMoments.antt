@@ -1,0 +1,392 @@
+-- A client that receives a server's stream goes on at each reply, frame and report of it, up to the
+-- reply to TEARDOWN, which ends the watching.
+use Rattle.std.proofs.Common.{◌≡◌, ℕ, ◌+◌, ◌<◌, ◌≤◌, ◌==◌, ◌&&◌, ◌⊎◌, ◌^◌, true, nat_lt, List, []}
+use Rattle.std.proofs.Common.{◌∷◌, ◌++◌, length, take, drop, Some, is_some, unwrap_or, Err, refl, sym, ap}
+use Rattle.std.proofs.Common.{subst, ◌∙◌, arith, inl, inr}
+use Rattle.std.proofs.lemmas.Bool.{cond-true, cond-false, eq-eqb, lt-ltb, ne_eqb, or_left}
+use Rattle.std.proofs.lemmas.List.{append-nil, drop_at, take-append-drop, take-append-le, take_at}
+use Rattle.interleave.specs.Elements.{IsFirst}
+use Rattle.interleave.specs.Streams.{AreInputElements, IsElementLength}
+use Rattle.interleave.specs.declared.elements.DemuxFault.{DemuxFault}
+use Rattle.interleave.specs.declared.elements.DemuxFault.TheVariants.{HeadTooLong, BodyTooLong}
+use Rattle.interleave.proofs.ElementStability.{whole_stays}
+use Rattle.interleave.proofs.StreamElements.{TwoCuts, cut_grows, cuts_agree, element_once, element_stays}
+use Rattle.interleave.proofs.StreamElements.{element_within, tells_none}
+use Rattle.mpeg_scan.specs.declared.films.Film.{Film}
+use Rattle.mpeg_scan.specs.PictureRates.{picture_time}
+use Rattle.rtp_pack.specs.declared.reports.Identity.{Identity}
+use Rattle.film_frames.specs.Laws.{frames_among}
+use Rattle.film_frames.specs.Pieces.{pieces_of}
+use Rattle.film_frames.specs.FramedRuns.{blocks_from}
+use Rattle.film_frames.specs.Tracks.{framed_bytes}
+use Rattle.session.specs.Films.{length_ms}
+use Rattle.rtsp_client.specs.declared.watch_request.Wish.{Wish}
+use Rattle.rtsp_client.specs.declared.watch_request.WatchEnd.TheVariants.{Done}
+use Rattle.rtsp_client.specs.Answers.{Gives, GoesOn, events_of_elements, element_events, has_fields}
+use Rattle.rtsp_client.specs.Films.{is_complete, is_good_frame, units_until}
+use Rattle.rtsp_client.specs.MeterGuarantee.{frames_heard, frames_of}
+use Rattle.rtsp_client.specs.Meters.{watched_in}
+use Rattle.rtsp_client.specs.Replies.{IsAnswer, play_range, play_start, setup_session}
+use Rattle.rtsp_client.specs.ClientHistory.{History, ClientEvent, Frame, Reply, Report, Slot, end_ms, replies}
+use Rattle.rtsp_client.specs.WatchCourses.{IsNext}
+use Rattle.rtsp_client.specs.WholeFilms.{AwaitsFilm, frames_of_film}
+use Rattle.connection_laws.specs.WatchEnds.{AreAnswers, AreGoodReplies}
+use Rattle.connection_laws.proofs.ClientInput.{no_sum}
+use Rattle.connection_laws.proofs.ElementStreams.{AreAlone, no_element}
+use Rattle.connection_laws.proofs.FilmReading.{IsFilmIn, film_run, units_all}
+use Rattle.connection_laws.proofs.FinishedWatches.{more_reply}
+use Rattle.connection_laws.proofs.FirstFrames.{HasGoneOn}
+use Rattle.connection_laws.proofs.HistorySums.{AreOneBlocks, Sum, blocks_same, steps, steps_on, sum_of}
+use Rattle.connection_laws.proofs.MeterInput.{AreTexts, Stream, all_of, begun_sum, two_moments}
+use Rattle.connection_laws.proofs.PlayReplyReading.{film_counted}
+use Rattle.connection_laws.proofs.UnitSizes.{frames_parts, moments_parts, units_told}
+
+-- ---- where a client stands in a stream
+
+-- elements, each of them alone, are the elements of their bytes
+pub all_cut : (ps : List (List ℕ)) → AreAlone ps → AreInputElements (framed_bytes ps) ps []
+all_cut [] alone = refl
+all_cut (p ∷ ps) alone =
+    let t = framed_bytes ps in
+    let P : List ℕ → Type 0 = λ w. AreInputElements w ps [] in (
+      length p,
+      (
+        element_stays p t (length p) alone.0.whole,
+        sym (take_at p t (length p) refl),
+        subst P (sym (drop_at p t (length p) refl)) (all_cut ps alone.1),
+      ),
+    )
+
+-- elements that were received of others, the ones after them, and the bytes that come after those
+-- that wait
+pub record IsPlaceIn (all elements : List (List ℕ)) (rest : List ℕ) : Type 0 where
+  pub more : List (List ℕ)
+  pub tail : List ℕ
+  pub all_is : all ≡ elements ++ more
+  pub cut : AreInputElements (rest ++ tail) more []
+
+pub none_more : (more : List (List ℕ)) (end : List ℕ) → AreInputElements [] more end → (more ≡ []) × ([] ≡ end)
+none_more [] end cut = (refl, cut)
+none_more (element ∷ more) end cut = absurd (no_element cut.0 cut.1.0)
+
+pub place_in : {bytes rest : List ℕ} {elements : List (List ℕ)} (all : List (List ℕ)) (count : ℕ) → AreAlone all
+    → AreInputElements bytes elements rest → bytes ≡ take count (framed_bytes all) → IsPlaceIn all elements rest
+place_in {bytes} {rest} {elements} all count alone cut is =
+    let tail = drop count (framed_bytes all) in
+    let whole : bytes ++ tail ≡ framed_bytes all =
+    ap (λ b. b ++ tail) is ∙ take-append-drop count (framed_bytes all) in
+    let grown : AreInputElements (framed_bytes all) elements (rest ++ tail) =
+    subst (λ w. AreInputElements w elements (rest ++ tail)) whole (cut_grows bytes tail elements rest cut) in
+    let cuts : TwoCuts (framed_bytes all) elements all (rest ++ tail) [] =
+    record { one = grown; other = all_cut all alone } in
+    elim (cuts_agree cuts) [
+      | inl (more, (all_is, after)) ↦ record { more = more; tail = tail; all_is = all_is; cut = after }
+      | inr (more, (is_all, after)) ↦
+          let none = none_more more (rest ++ tail) after in
+          record {
+            more = [];
+            tail = tail;
+            all_is = sym (append-nil all) ∙ (ap (λ l. all ++ l) (sym none.0) ∙ sym is_all) ∙ sym (append-nil elements);
+            cut = sym none.1;
+          }
+    ]
+
+-- what waits begins an element, or more comes
+starts_some : (w : List ℕ) (fault : DemuxFault) → IsFirst w (Err fault) → 0 < length w
+starts_some w HeadTooLong first = first.0.0
+starts_some w BodyTooLong first = first.0.0
+
+pub no_fault : {all elements : List (List ℕ)} {rest : List ℕ} (fault : DemuxFault) → IsPlaceIn all elements rest
+    → IsFirst rest (Err fault) → ⊥
+no_fault {all} {elements} {rest} fault place first =
+    no_fault_in place.more place.cut
+  where
+    later : IsFirst (rest ++ place.tail) (Err fault)
+    later = whole_stays rest place.tail (Err fault) first tt
+
+    no_fault_in : (more : List (List ℕ)) → AreInputElements (rest ++ place.tail) more [] → ⊥
+    no_fault_in [] cut =
+        let some = starts_some (rest ++ place.tail) fault later in
+        omega (arith, some, ap (λ (l : List ℕ). length l) cut)
+    no_fault_in (element ∷ more) cut = tells_none (rest ++ place.tail) (Err fault) later cut.0 cut.1.0
+
+-- the element that is next, of which this is the only moment
+pub record IsNextIn (all elements : List (List ℕ)) (moment : ClientEvent) : Type 0 where
+  pub element : List ℕ
+  pub more : List (List ℕ)
+  pub all_is : all ≡ elements ++ element ∷ more
+  pub moment_is : element_events element ≡ moment ∷ []
+
+pub next_in : {all elements : List (List ℕ)} {rest : List ℕ} {moment : ClientEvent} → IsPlaceIn all elements rest
+    → IsNext rest moment → IsNextIn all elements moment
+next_in {all} {elements} {rest} {moment} place (n, (whole, moment_is)) =
+    in_more place.more place.all_is place.cut
+  where
+    in_more : (more : List (List ℕ)) → all ≡ elements ++ more → AreInputElements (rest ++ place.tail) more []
+        → IsNextIn all elements moment
+    in_more [] all_is cut =
+        let W : List ℕ → Type 0 = λ w. IsElementLength w n in
+        absurd (no_element n (subst W cut (element_stays rest place.tail n whole)))
+    in_more (element ∷ more) all_is cut =
+        let same : cut.0 ≡ n =
+        element_once (rest ++ place.tail) cut.0 n cut.1.0 (element_stays rest place.tail n whole) in
+        let front : element ≡ take n rest =
+        cut.1.1 ∙ (ap (λ k. take k (rest ++ place.tail)) same
+        ∙ take-append-le n rest place.tail (element_within rest n whole)) in
+        record { element = element; more = more; all_is = all_is; moment_is = ap element_events front ∙ moment_is }
+
+-- ---- replies
+
+-- a stream as a client reads it
+abbrev pub IsReadable : Film → Stream → Type 0
+IsReadable film x = AreGoodReplies film x.first x.second x.later
+
+-- a moment lets a watching go on, or ends it with `Done`
+abbrev pub IsAccepted : Wish → History → ClientEvent → Type 0
+IsAccepted wish h moment = GoesOn h moment ⊎ Gives wish h moment (Done (watched_in wish h))
+
+good_reply : {h : History} {message : List ℕ} (k : ℕ) → replies h ≡ k → k < 2 → IsAnswer message (k + 1) 200
+    → has_fields h message ≡ true → GoesOn h (Reply message)
+good_reply {h} {message} k is few answer fields = (
+  (
+    record {
+      awaited = or_left (nat_lt (replies h) 2) (is_complete h) (lt-ltb (replies h) 2 (omega (arith, is, few)));
+      answer = subst (λ n. IsAnswer message (n + 1) 200) (sym is) answer;
+    },
+    fields,
+  ),
+  omega (arith, is, few),
+)
+
+setup_fields : (h : History) (message : List ℕ) → replies h ≡ 0 → is_some (setup_session message) ≡ true
+    → has_fields h message ≡ true
+setup_fields h message none named =
+    cond-true (replies h == 0) (is_some (setup_session message)) _ (eq-eqb (replies h) 0 none) ∙ named
+
+play_fields : {ms : ℕ} (h : History) (message : List ℕ) → replies h ≡ 1 → play_range message ≡ Some ms
+    → is_some (play_start message) ≡ true → has_fields h message ≡ true
+play_fields h message one range start =
+    cond-false (replies h == 0) (is_some (setup_session message)) _
+    (ne_eqb (replies h) 0 (λ none. omega (arith, none, one)))
+    ∙ cond-true (replies h == 1) (is_some (play_range message) && is_some (play_start message)) true
+    (eq-eqb (replies h) 1 one)
+    ∙ ap (λ r. is_some r && is_some (play_start message)) range
+    ∙ start
+
+-- the moment of an element, by what the element is
+same_moment : {moment other : ClientEvent} (element : List ℕ) → element_events element ≡ moment ∷ []
+    → element_events element ≡ other ∷ [] → other ≡ moment
+same_moment element is its = let same = sym its ∙ is in cc
+
+reply_moment : {h : History} {message : List ℕ} {moment : ClientEvent} (wish : Wish) (element : List ℕ)
+    → element_events element ≡ moment ∷ [] → element ≡ message → element_events message ≡ Reply message ∷ []
+    → IsAccepted wish h (Reply message) → IsAccepted wish h moment
+reply_moment {h} wish element moment_is same reply accepted =
+    subst (IsAccepted wish h) (same_moment element moment_is (ap element_events same ∙ reply)) accepted
+
+-- at most two replies let a watching go on
+pub two_replies : (h : History) → HasGoneOn h → replies h ≤ 2
+two_replies [] gone = omega arith
+two_replies (Reply message ∷ h) gone = let few = gone.0.1 in omega (arith, few)
+two_replies (Frame block ∷ h) gone = two_replies h gone.1
+two_replies (Report block ∷ h) gone = two_replies h gone.1
+two_replies (Slot slot cut ∷ h) gone = two_replies h gone.1
+
+-- ---- the film
+
+-- the clauses of `law_whole_film_ends_in_done` that are used here
+abbrev pub AcceptsFrames : Type 0
+AcceptsFrames = (film : Film) (identity : Identity) (h : History) (block : List ℕ) (rest : List (List ℕ))
+    → identity.ssrc < 2 ^ 32 → AwaitsFilm film h → frames_of_film film identity ≡ frames_heard h ++ block ∷ rest
+    → is_good_frame h block ≡ true
+
+abbrev pub EndsInDone : Type 0
+EndsInDone = (film : Film) (identity : Identity) (wish : Wish) (h : History) (message : List ℕ)
+    → identity.ssrc < 2 ^ 32 → AwaitsFilm film h → frames_of_film film identity ≡ frames_heard h → replies h ≡ 2
+    → IsAnswer message 3 200 → Gives wish h (Reply message) (Done (watched_in wish h))
+
+-- a film's stream
+pub record IsFilmStream (film : Film) (identity : Identity) (x : Stream) : Type 0 where
+  pub film_in : IsFilmIn film identity x
+  pub small : identity.ssrc < 2 ^ 32
+  pub readable : IsReadable film x
+
+-- what a client has gone on at
+pub record HasAccepted (elements : List (List ℕ)) (h : History) : Type 0 where
+  pub sum : sum_of h ≡ steps no_sum (events_of_elements elements)
+  pub frames : frames_heard h ≡ frames_of (events_of_elements elements)
+  pub gone : HasGoneOn h
+
+stream_frames : {film : Film} {identity : Identity} {x : Stream} → IsFilmIn film identity x
+    → frames_of (events_of_elements x.blocks) ≡ frames_of_film film identity
+stream_frames {film} {identity} {x} is =
+    let run = film_run film identity in
+    let starts = film.slice_starts.items in
+    ap (λ bs. frames_of (events_of_elements bs)) is.blocks
+    ∙ (units_told (record { run = run; frames = 0; octets = 0; media = is.media; control = is.control })
+    starts film.units.items
+    ∙ ap (λ us. frames_among (pieces_of starts us) (blocks_from run 0 0 (pieces_of starts us)))
+    (sym (units_all film)))
+
+-- after the two first replies
+two_frames : (x : Stream) (qs : List (List ℕ))
+    → frames_of (events_of_elements (x.first ∷ x.second ∷ qs)) ≡ frames_of (events_of_elements qs)
+two_frames x qs =
+    ap (λ l. frames_of (l ++ (element_events x.second ++ events_of_elements qs))) x.first_is.moment
+    ∙ ap (λ l. frames_of (l ++ events_of_elements qs)) x.second_is.moment
+
+record IsInFilm (film : Film) (h : History) : Type 0 where
+  awaits : AwaitsFilm film h
+  two : replies h ≡ 2
+
+in_film : {film : Film} {h : History} (x : Stream) (qs : List (List ℕ)) → IsReadable film x → AreOneBlocks qs
+    → sum_of h ≡ steps (begun_sum x) (events_of_elements qs) → IsInFilm film h
+in_film {film} {h} x qs readable are sum =
+    let same = blocks_same qs (begun_sum x) are in
+    let two : replies h ≡ 2 = ap (λ (s : Sum). s.replies) sum ∙ same.replies in
+    let end : end_ms h ≡ length_ms film =
+    ap (λ (s : Sum). s.end_ms) sum ∙ same.end_ms ∙ ap (λ r. unwrap_or r 0) readable.range in
+    record {
+      awaits = record {
+        playing = lt-ltb 1 (replies h) (omega (arith, two));
+        end_is = ap (λ e. units_until e (picture_time film.rate)) end ∙ film_counted film;
+      };
+      two = two;
+    }
+
+blocks_front : (qs rest : List (List ℕ)) → AreOneBlocks (qs ++ rest) → AreOneBlocks qs
+blocks_front [] rest are = tt
+blocks_front (q ∷ qs) rest are = (are.0, blocks_front qs rest are.1)
+
+block_at : (qs : List (List ℕ)) (b : List ℕ) (rest : List (List ℕ)) → AreOneBlocks (qs ++ b ∷ rest)
+    → (element_events b ≡ Frame b ∷ []) ⊎ (element_events b ≡ Report b ∷ [])
+block_at [] b rest are = are.0.moment
+block_at (q ∷ qs) b rest are = block_at qs b rest are.1
+
+frames_front : (qs : List (List ℕ)) (b : List ℕ) (rest : List (List ℕ)) → element_events b ≡ Frame b ∷ []
+    → frames_of (events_of_elements (qs ++ b ∷ rest))
+    ≡ frames_of (events_of_elements qs) ++ b ∷ frames_of (events_of_elements rest)
+frames_front qs b rest frame =
+    ap frames_of (moments_parts qs (b ∷ rest))
+    ∙ (frames_parts (events_of_elements qs) (events_of_elements (b ∷ rest))
+    ∙ ap (λ l. frames_of (events_of_elements qs) ++ frames_of (l ++ events_of_elements rest)) frame)
+
+-- the next element is a block of the film
+film_moment : {film : Film} {identity : Identity} {x : Stream} {h : History} {moment : ClientEvent} (wish : Wish)
+    (qs : List (List ℕ)) (b : List ℕ) (rest : List (List ℕ)) → AcceptsFrames → IsFilmStream film identity x
+    → HasAccepted (x.first ∷ x.second ∷ qs) h → x.blocks ≡ qs ++ b ∷ rest → element_events b ≡ moment ∷ []
+    → IsAccepted wish h moment
+film_moment {film} {identity} {x} {h} {moment} wish qs b rest accepts is accepted blocks moment_is =
+    let are : AreOneBlocks (qs ++ b ∷ rest) = subst AreOneBlocks blocks x.blocks_are in
+    let inside = in_film x qs is.readable (blocks_front qs (b ∷ rest) are) (accepted.sum ∙ two_moments x qs) in
+    elim (block_at qs b rest are) [
+      | inl frame ↦
+          let frames : frames_of_film film identity ≡ frames_heard h ++ b ∷ frames_of (events_of_elements rest) =
+          sym (stream_frames is.film_in) ∙ ap (λ bs. frames_of (events_of_elements bs)) blocks
+          ∙ frames_front qs b rest frame
+          ∙ ap (λ l. l ++ b ∷ frames_of (events_of_elements rest)) (sym (accepted.frames ∙ two_frames x qs)) in
+          let good : GoesOn h (Frame b) =
+          accepts film identity h b (frames_of (events_of_elements rest)) is.small inside.awaits frames in
+          subst (IsAccepted wish h) (same_moment b moment_is frame) (inl good)
+      | inr report ↦ subst (IsAccepted wish h) (same_moment b moment_is report) (inl tt)
+    ]
+
+-- it is the reply after the film
+last_moment : {film : Film} {identity : Identity} {x : Stream} {h : History} {moment : ClientEvent} (wish : Wish)
+    (last : List ℕ) (rest : List (List ℕ)) → EndsInDone → IsFilmStream film identity x
+    → HasAccepted (x.first ∷ x.second ∷ x.blocks) h → x.later ≡ last ∷ rest → element_events last ≡ moment ∷ []
+    → IsAccepted wish h moment
+last_moment {film} {identity} {x} {h} {moment} wish last rest done is accepted later moment_is =
+    let inside = in_film x x.blocks is.readable x.blocks_are (accepted.sum ∙ two_moments x x.blocks) in
+    let frames : frames_of_film film identity ≡ frames_heard h =
+    sym (stream_frames is.film_in) ∙ sym (accepted.frames ∙ two_frames x x.blocks) in
+    let texts : AreTexts (last ∷ rest) = subst AreTexts later x.later_are in
+    let answers : AreAnswers (last ∷ rest) = subst AreAnswers later is.readable.later_are in
+    reply_moment wish last moment_is refl texts.0.moment
+    (inr (done film identity wish h last is.small inside.awaits frames inside.two answers.0))
+
+-- no third reply was accepted
+pub no_third : {h : History} (x : Stream) (y : List ℕ) (ys : List (List ℕ))
+    → HasAccepted (x.first ∷ x.second ∷ (x.blocks ++ y ∷ ys)) h → element_events y ≡ Reply y ∷ [] → ⊥
+no_third {h} x y ys accepted reply =
+    let after = steps (begun_sum x) (events_of_elements x.blocks) in
+    let sum : sum_of h ≡ steps after (events_of_elements (y ∷ ys)) =
+    accepted.sum ∙ (two_moments x (x.blocks ++ y ∷ ys)
+    ∙ (ap (steps (begun_sum x)) (moments_parts x.blocks (y ∷ ys))
+    ∙ steps_on (begun_sum x) (events_of_elements x.blocks) (events_of_elements (y ∷ ys)))) in
+    let same : after.replies ≡ 2 = (blocks_same x.blocks (begun_sum x) x.blocks_are).replies in
+    omega (
+      arith,
+      two_replies h accepted.gone,
+      ap (λ (s : Sum). s.replies) sum,
+      more_reply y ys after reply,
+      same,
+    )
+
+-- where an element stands among blocks and later ones
+data StandsIn (bs ls qs : List (List ℕ)) (e : List ℕ) (es : List (List ℕ)) : Type 0 where
+  Within : (rest : List (List ℕ)) → bs ≡ qs ++ e ∷ rest → StandsIn bs ls qs e es
+  Past : (more : List (List ℕ)) → qs ≡ bs ++ more → ls ≡ more ++ e ∷ es → StandsIn bs ls qs e es
+
+stands_in : (bs ls qs : List (List ℕ)) (e : List ℕ) (es : List (List ℕ)) → bs ++ ls ≡ qs ++ e ∷ es
+    → StandsIn bs ls qs e es
+stands_in [] ls qs e es is = Past qs refl is
+stands_in (b ∷ bs) ls [] e es is =
+    let first : b ≡ e = cc in Within bs (ap (λ t. t ∷ bs) first)
+stands_in (b ∷ bs) ls (q ∷ qs) e es is =
+    let first : b ≡ q = cc in
+    let rest : bs ++ ls ≡ qs ++ e ∷ es = cc in
+    elim (stands_in bs ls qs e es rest) [
+      | Within more inside ↦ Within more (ap (λ t. t ∷ bs) first ∙ ap (λ l. q ∷ l) inside)
+      | Past more past after ↦ Past more (ap (λ t. t ∷ qs) (sym first) ∙ ap (λ l. b ∷ l) past) after
+    ]
+
+-- after the two first replies
+later_moment : {film : Film} {identity : Identity} {x : Stream} {h : History} {moment : ClientEvent} (wish : Wish)
+    (qs : List (List ℕ)) (e : List ℕ) (es : List (List ℕ)) → AcceptsFrames → EndsInDone
+    → IsFilmStream film identity x → HasAccepted (x.first ∷ x.second ∷ qs) h
+    → x.blocks ++ x.later ≡ qs ++ e ∷ es → element_events e ≡ moment ∷ [] → IsAccepted wish h moment
+later_moment {x = x} {h = h} {moment = moment} wish qs e es accepts done is accepted all moment_is =
+    elim (stands_in x.blocks x.later qs e es all) [
+      | Within rest inside ↦ film_moment wish qs e rest accepts is accepted inside moment_is
+      | Past more past after ↦ by_more more past after
+    ]
+  where
+    A : List (List ℕ) → Type 0
+    A = λ l. HasAccepted (x.first ∷ x.second ∷ l) h
+
+    by_more : (more : List (List ℕ)) → qs ≡ x.blocks ++ more → x.later ≡ more ++ e ∷ es → IsAccepted wish h moment
+    by_more [] past after =
+        last_moment wish e es done is (subst A (past ∙ append-nil x.blocks) accepted) after moment_is
+    by_more (y ∷ more) past after =
+        let texts : AreTexts (y ∷ (more ++ e ∷ es)) = subst AreTexts after x.later_are in
+        absurd (no_third x y more (subst A past accepted) texts.0.moment)
+
+-- each next moment of a film's stream is accepted
+pub moment_accepted : {film : Film} {identity : Identity} {x : Stream} {h : History} {moment : ClientEvent}
+    (wish : Wish) (elements : List (List ℕ)) → AcceptsFrames → EndsInDone → IsFilmStream film identity x
+    → HasAccepted elements h → IsNextIn (all_of x) elements moment → IsAccepted wish h moment
+moment_accepted {x = x} {h = h} {moment = moment} wish [] accepts done is accepted next =
+    let all : x.first ∷ x.second ∷ (x.blocks ++ x.later) ≡ next.element ∷ next.more = next.all_is in
+    let first : next.element ≡ x.first = cc in
+    let none : replies h ≡ 0 = ap (λ (s : Sum). s.replies) accepted.sum in
+    reply_moment wish next.element next.moment_is first x.first_is.moment
+    (inl (good_reply 0 none (omega arith) is.readable.setup_is (setup_fields h x.first none is.readable.session)))
+moment_accepted {x = x} {h = h} {moment = moment} wish (a ∷ []) accepts done is accepted next =
+    let all : x.first ∷ x.second ∷ (x.blocks ++ x.later) ≡ a ∷ next.element ∷ next.more = next.all_is in
+    let first : a ≡ x.first = cc in
+    let second : next.element ≡ x.second = cc in
+    let single : steps no_sum (events_of_elements (a ∷ [])) ≡ steps no_sum (Reply x.first ∷ []) =
+    ap (λ t. steps no_sum (events_of_elements (t ∷ []))) first ∙ ap (λ l. steps no_sum (l ++ [])) x.first_is.moment in
+    let one : replies h ≡ 1 = ap (λ (s : Sum). s.replies) (accepted.sum ∙ single) in
+    reply_moment wish next.element next.moment_is second x.second_is.moment
+    (inl (good_reply 1 one (omega arith) is.readable.played_is
+    (play_fields h x.second one is.readable.range is.readable.start)))
+moment_accepted {x = x} {h = h} {moment = moment} wish (a ∷ b ∷ qs) accepts done is accepted next =
+    let all : x.first ∷ x.second ∷ (x.blocks ++ x.later) ≡ a ∷ b ∷ (qs ++ next.element ∷ next.more) = next.all_is in
+    let first : a ≡ x.first = cc in
+    let second : b ≡ x.second = cc in
+    let rest : x.blocks ++ x.later ≡ qs ++ next.element ∷ next.more = cc in
+    let A : List ℕ → List ℕ → Type 0 = λ s t. HasAccepted (s ∷ t ∷ qs) h in
+    later_moment wish qs next.element next.more accepts done is
+    (subst (A x.first) second (subst (λ s. A s b) first accepted)) rest next.moment_is
