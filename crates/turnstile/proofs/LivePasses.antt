@@ -10,8 +10,8 @@ use Rattle.atomic_table.specs.Table.{Me}
 use Rattle.atomic_table.proofs.Lists.{at_set, set_else, set_here}
 use Rattle.admission.specs.declared.entries.Entry.{Entry}
 use Rattle.turnstile.specs.declared.view.Joined.{Joined}
-use Rattle.turnstile.specs.declared.view.Stage.{Stage}
-use Rattle.turnstile.specs.declared.view.Stage.TheVariants.{Idle, Waits, Holds}
+use Rattle.turnstile.specs.declared.view.PassStage.{PassStage}
+use Rattle.turnstile.specs.declared.view.PassStage.TheVariants.{Idle, Waits, Holds}
 use Rattle.turnstile.specs.declared.view.Terms.{Terms}
 use Rattle.turnstile.specs.declared.view.View.{View}
 use Rattle.turnstile.specs.TurnRule.{pass_count, ticket_count, has_ticket, Apart, IsLive, IsTicket, InTurn, Fits}
@@ -25,36 +25,36 @@ lives v e = ap (λ (b : Bool). cond b 0 1) e
 pub waits_in : (v : View) → v.spent ≡ false → ticket_count v ≡ has_ticket v.stage
 waits_in v e = ap (λ (b : Bool). cond b 0 (has_ticket v.stage)) e
 
-abbrev pub IsHolding : Stage → Type 0
+abbrev pub IsHolding : PassStage → Type 0
 IsHolding Idle = ⊥
 IsHolding (Waits t) = ⊥
 IsHolding (Holds t) = Unit {0}
 
-abbrev pub ticket_or : Stage → ℕ
+abbrev pub ticket_or : PassStage → ℕ
 ticket_or Idle = 0
 ticket_or (Waits t) = t
 ticket_or (Holds t) = t
 
-abbrev pub Free : Stage → Type 0
+abbrev pub Free : PassStage → Type 0
 Free st = (t : ℕ) → st ≡ Holds t → ⊥
 
-pub idle_free : (st : Stage) → st ≡ Idle → Free st
+pub idle_free : (st : PassStage) → st ≡ Idle → Free st
 idle_free st is t e = subst IsHolding (sym e ∙ is) tt
 
-pub waits_free : (st : Stage) (u : ℕ) → st ≡ Waits u → Free st
+pub waits_free : (st : PassStage) (u : ℕ) → st ≡ Waits u → Free st
 waits_free st u is t e = subst IsHolding (sym e ∙ is) tt
 
-pub ticket_low : (served drawn t : ℕ) (st : Stage) → InTurn served drawn st → IsTicket st t → (served ≤ t) × (t < drawn)
+pub ticket_low : (served drawn t : ℕ) (st : PassStage) → InTurn served drawn st → IsTicket st t → (served ≤ t) × (t < drawn)
 ticket_low served drawn t Idle turn is = absurd is
 ticket_low served drawn t (Waits u) turn is = (omega (arith, turn.0, is), omega (arith, turn.1, is))
 ticket_low served drawn t (Holds u) turn is = (omega (arith, turn.0, is), omega (arith, turn.1, is))
 
-pub turn_more : (served drawn : ℕ) (st : Stage) → InTurn served drawn st → InTurn served (drawn + 1) st
+pub turn_more : (served drawn : ℕ) (st : PassStage) → InTurn served drawn st → InTurn served (drawn + 1) st
 turn_more served drawn Idle turn = tt
 turn_more served drawn (Waits u) turn = (turn.0, omega (arith, turn.1))
 turn_more served drawn (Holds u) turn = (turn.0, omega (arith, turn.1))
 
-pub turn_next : (served drawn : ℕ) (st : Stage) → InTurn served drawn st → (IsTicket st served → ⊥)
+pub turn_next : (served drawn : ℕ) (st : PassStage) → InTurn served drawn st → (IsTicket st served → ⊥)
     → InTurn (served + 1) drawn st
 turn_next served drawn Idle turn not_now = tt
 turn_next served drawn (Waits u) turn not_now =
@@ -70,7 +70,7 @@ pub one_at : {A : Type 0} {i j : ℕ} {a b : A} (l : List A) → get_elem? l i �
     → j ≡ i → a ≡ b
 one_at {a} {b} l at bt e = some-injective a b (sym at ∙ (ap (get_elem? l) (sym e) ∙ bt))
 
-pub restage : {terms : Terms} {log : List Entry} {count served drawn served' drawn' : ℕ} {v : View} {st : Stage}
+pub restage : {terms : Terms} {log : List Entry} {count served drawn served' drawn' : ℕ} {v : View} {st : PassStage}
     → Fits terms log count served drawn v → InTurn served' drawn' st
     → Fits terms log count served' drawn' (record v { stage = st })
 restage f turn = record {

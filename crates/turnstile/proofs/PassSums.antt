@@ -3,8 +3,8 @@ use Rattle.std.proofs.Common.{◌≡◌, ℕ, zero, suc, ◌+◌, ◌≤◌, Lis
 use mathlib.Core.Option.{some, some-injective, some-ne-none}
 use lib.ListN.{get_elem?}
 use Rattle.turnstile.specs.declared.view.View.{View}
-use Rattle.turnstile.specs.declared.view.Stage.{Stage}
-use Rattle.turnstile.specs.declared.view.Stage.TheVariants.{Idle, Waits, Holds}
+use Rattle.turnstile.specs.declared.view.PassStage.{PassStage}
+use Rattle.turnstile.specs.declared.view.PassStage.TheVariants.{Idle, Waits, Holds}
 use Rattle.turnstile.specs.TurnRule.{total, pass_count, ticket_count, has_ticket}
 
 pub total_set : (f : View → ℕ) (views : List View) (i : ℕ) (v w : View) → get_elem? views i ≡ some v
@@ -17,7 +17,7 @@ pub total_push : (f : View → ℕ) (views : List View) (v : View) → total f (
 total_push f [] v = omega arith
 total_push f (x ∷ xs) v = let e = total_push f xs v in omega arith
 
-ticket_small : (st : Stage) → has_ticket st ≤ 1
+ticket_small : (st : PassStage) → has_ticket st ≤ 1
 ticket_small Idle = omega arith
 ticket_small (Waits t) = omega arith
 ticket_small (Holds t) = omega arith

@@ -12,8 +12,8 @@ use lib.Seq.{set-get_or}
 use Rattle.atomic_table.specs.Table.{State, Me, put_back, rest, keeps, takes, gives, Allows}
 use Rattle.atomic_table.proofs.Lists.{set_here, set_else, set_again, one_turn}
 use Rattle.admission.specs.declared.entries.Entry.{Entry}
-use Rattle.turnstile.specs.declared.view.Stage.{Stage}
-use Rattle.turnstile.specs.declared.view.Stage.TheVariants.{Idle, Waits, Holds}
+use Rattle.turnstile.specs.declared.view.PassStage.{PassStage}
+use Rattle.turnstile.specs.declared.view.PassStage.TheVariants.{Idle, Waits, Holds}
 use Rattle.turnstile.specs.declared.view.Terms.{Terms}
 use Rattle.turnstile.specs.declared.view.View.{View}
 use Rattle.admission.specs.Makers.{entries_by}
@@ -192,8 +192,8 @@ module _ {B : Type 0} (entries : B → List Entry) (terms_of : B → Terms) (ter
       let apart = r.apart id a.place v a.holder other live a.live in
       let turn : InTurn r.served r.drawn (Holds a.ticket) =
       subst (InTurn r.served r.drawn) a.holds (r.each a.place a.holder a.live).turn in
-      absurd (apart.tickets r.served (subst (λ (st : Stage). IsTicket st r.served) (sym is) now)
-      (subst (λ (st : Stage). IsTicket st r.served) (sym a.holds) turn.0)))
+      absurd (apart.tickets r.served (subst (λ (st : PassStage). IsTicket st r.served) (sym is) now)
+      (subst (λ (st : PassStage). IsTicket st r.served) (sym a.holds) turn.0)))
       r.where_is
     where
       open waiter use {id, view as v, live, ticket as t, waits as is}
@@ -209,7 +209,7 @@ module _ {B : Type 0} (entries : B → List Entry) (terms_of : B → Terms) (ter
       let at = waiter.live.0 in let left = waiter.live.1 in
       let w : View = record v { stage = Holds t; seen = entries h.value } in let f = r.each id v (at, left) in
       let low : (r.served ≤ t) × (t < r.drawn) =
-      ticket_low r.served r.drawn t v.stage f.turn (subst (λ (st : Stage). IsTicket st t) (sym is) refl) in
+      ticket_low r.served r.drawn t v.stage f.turn (subst (λ (st : PassStage). IsTicket st t) (sym is) refl) in
       let q0 : ticket_count v ≡ 1 = waits_in v left ∙ ap has_ticket is in
       let q1 : ticket_count w ≡ 1 = waits_in w left in
       let sums = total_set ticket_count s.views id v w at in
@@ -247,7 +247,7 @@ module _ {B : Type 0} (entries : B → List Entry) (terms_of : B → Terms) (ter
             r.apart id j v u (λ e. other (sym e)) (at, left) l in
             let b = r.apart j id u v other l (at, left) in let both =
             apart_both {w = w} {u = u} a.numbers
-            (λ x here there. a.tickets x (subst (λ (st : Stage). IsTicket st x) (sym is) here) there) a.past b.past in
+            (λ x here there. a.tickets x (subst (λ (st : PassStage). IsTicket st x) (sym is) here) there) a.past b.past in
             (g, both.0, both.1);
         place = inr record {
           home = ap (λ (hs : Homes). set hs 0 none) h.home;
@@ -269,7 +269,7 @@ module _ {B : Type 0} (entries : B → List Entry) (terms_of : B → Terms) (ter
       let v = me.0 in let f = r.each id v (at, left) in
       let word : get_or s.words 1 0 ≡ r.served % 2 ^ 64 = ap (λ (ws : List ℕ). get_or ws 1 0) r.words in
       let here : (r.served ≤ t) × (t < r.drawn) =
-      ticket_low r.served r.drawn t v.stage f.turn (subst (λ (st : Stage). IsTicket st t) (sym is) refl) in
+      ticket_low r.served r.drawn t v.stage f.turn (subst (λ (st : PassStage). IsTicket st t) (sym is) refl) in
       let queue = r.queue in let few = r.few in let passes = r.passes in let less = tickets_total s.views in
       let first = here.0 in let drawn = here.1 in
       dite (ℕ_discrete (get_or s.words 1 0) (t % 2 ^ 64))
@@ -320,8 +320,8 @@ module _ {B : Type 0} (entries : B → List Entry) (terms_of : B → Terms) (ter
       let same : a.place ≡ id =
       dite (ℕ_discrete a.place id) (λ e. e)
       (λ (ne : a.place ≢ id). absurd ((r.apart a.place id a.holder v ne a.live live).tickets r.served
-      (subst (λ (st : Stage). IsTicket st r.served) (sym a.holds) theirs.0)
-      (subst (λ (st : Stage). IsTicket st r.served) (sym is) turn.0))) in
+      (subst (λ (st : PassStage). IsTicket st r.served) (sym a.holds) theirs.0)
+      (subst (λ (st : PassStage). IsTicket st r.served) (sym is) turn.0))) in
       (a.home, ap (λ (u : View). u.seen) (one_at s.views live.0 a.live.0 same) ∙ a.all, turn.0, turn.1))
       r.where_is
     where
@@ -431,7 +431,7 @@ module _ {B : Type 0} (entries : B → List Entry) (terms_of : B → Terms) (ter
       let queue = r.queue in
       let not_now : (j : ℕ) (u : View) → j ≢ id → IsLive s.views j u → IsTicket u.stage r.served → ⊥ =
       λ j u other l there. (r.apart j id u v other l (at, left)).tickets r.served there
-      (subst (λ (st : Stage). IsTicket st r.served) (sym is) h.2) in (
+      (subst (λ (st : PassStage). IsTicket st r.served) (sym is) h.2) in (
         w,
         gives,
         tt,
@@ -465,7 +465,7 @@ module _ {B : Type 0} (entries : B → List Entry) (terms_of : B → Terms) (ter
             free = live_set (λ _ u. Free u.stage) s.views id w (idle_free Idle refl)
                 (λ j u other l x holds. let theirs : InTurn r.served r.drawn (Holds x) =
                 subst (InTurn r.served r.drawn) holds (r.each j u l).turn in
-                not_now j u other l (subst (λ (st : Stage). IsTicket st r.served) (sym holds) theirs.0));
+                not_now j u other l (subst (λ (st : PassStage). IsTicket st r.served) (sym holds) theirs.0));
           };
         }),
         (refl, ap rest slot),

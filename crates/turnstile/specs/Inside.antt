@@ -1,7 +1,7 @@
 -- How a pass is kept: its view rests in it, except while it holds the lock.
 use Rattle.std.specs.Prelude.{◌≡◌, ℕ, Bool, true, false, List, [], ◌∷◌}
 use Rattle.turnstile.specs.declared.pass.Pass.TheInside.{Inside}
-use Rattle.turnstile.specs.declared.view.Stage.TheVariants.{Idle}
+use Rattle.turnstile.specs.declared.view.PassStage.TheVariants.{Idle}
 use Rattle.turnstile.specs.declared.view.View.{View}
 use Rattle.admission.specs.Makers.{entries_by}
 use Rattle.turnstile.specs.Passes.{PassState}

@@ -5,8 +5,8 @@ use mathlib.Core.List.{IsPrefix}
 use Rattle.atomic_table.specs.Table.{Me}
 use Rattle.admission.specs.declared.entries.Entry.{Entry}
 use Rattle.turnstile.specs.declared.view.Joined.{Joined}
-use Rattle.turnstile.specs.declared.view.Stage.{Stage}
-use Rattle.turnstile.specs.declared.view.Stage.TheVariants.{Idle, Waits, Holds}
+use Rattle.turnstile.specs.declared.view.PassStage.{PassStage}
+use Rattle.turnstile.specs.declared.view.PassStage.TheVariants.{Idle, Waits, Holds}
 use Rattle.turnstile.specs.declared.view.Terms.{Terms}
 use Rattle.turnstile.specs.declared.view.View.{View}
 use Rattle.admission.specs.Makers.{entries_by}
@@ -16,7 +16,7 @@ abbrev pub shorter_list : List Entry → List Entry → List Entry
 shorter_list xs ys = if (ltb (length xs) (length ys)) then xs else ys
 
 -- the ticket of a stage; 0 where there is none
-abbrev pub ticket_of : Stage → ℕ
+abbrev pub ticket_of : PassStage → ℕ
 ticket_of Idle = 0
 ticket_of (Waits t) = t
 ticket_of (Holds t) = t

@@ -3,7 +3,7 @@ use Rattle.std.specs.Prelude.{◌≡◌, false, [], Option}
 use Rattle.atomic_table.specs.Table.{Me}
 use Rattle.atomic_table.specs.Seated.{TableId}
 use Rattle.atomic_table.specs.declared.shared.Seat.{Seat}
-use Rattle.turnstile.specs.declared.view.Stage.TheVariants.{Idle}
+use Rattle.turnstile.specs.declared.view.PassStage.TheVariants.{Idle}
 use Rattle.turnstile.specs.declared.view.View.{View}
 
 -- three atomic words and one slot

@@ -8,8 +8,8 @@ use lib.ListN.{get_elem?}
 use Rattle.atomic_table.specs.Table.{State}
 use Rattle.admission.specs.declared.entries.Entry.{Entry}
 use Rattle.turnstile.specs.declared.view.Joined.{Joined}
-use Rattle.turnstile.specs.declared.view.Stage.{Stage}
-use Rattle.turnstile.specs.declared.view.Stage.TheVariants.{Idle, Waits, Holds}
+use Rattle.turnstile.specs.declared.view.PassStage.{PassStage}
+use Rattle.turnstile.specs.declared.view.PassStage.TheVariants.{Idle, Waits, Holds}
 use Rattle.turnstile.specs.declared.view.Terms.{Terms}
 use Rattle.turnstile.specs.declared.view.View.{View}
 use Rattle.admission.specs.Makers.{entries_by}
@@ -22,7 +22,7 @@ total f (v ∷ rest) = f v + total f rest
 abbrev pub pass_count : View → ℕ
 pass_count v = if v.spent then 0 else 1
 
-abbrev pub has_ticket : Stage → ℕ
+abbrev pub has_ticket : PassStage → ℕ
 has_ticket Idle = 0
 has_ticket (Waits t) = 1
 has_ticket (Holds t) = 1
@@ -34,7 +34,7 @@ ticket_count v = if v.spent then 0 else has_ticket v.stage
 abbrev pub IsLive : List View → ℕ → View → Type 0
 IsLive views i v = (get_elem? views i ≡ some v) × (v.spent ≡ false)
 
-abbrev pub IsTicket : Stage → ℕ → Type 0
+abbrev pub IsTicket : PassStage → ℕ → Type 0
 IsTicket Idle t = ⊥
 IsTicket (Waits u) t = u ≡ t
 IsTicket (Holds u) t = u ≡ t
@@ -43,7 +43,7 @@ abbrev pub IsHolder : View → ℕ → Type 0
 IsHolder v t = v.stage ≡ Holds t
 
 -- the tickets that are out stand from `served` up to `drawn`, and `served` holds the lock
-abbrev pub InTurn : ℕ → ℕ → Stage → Type 0
+abbrev pub InTurn : ℕ → ℕ → PassStage → Type 0
 InTurn served drawn Idle = Unit {0}
 InTurn served drawn (Waits t) = (served ≤ t) × (t < drawn)
 InTurn served drawn (Holds t) = (t ≡ served) × (t < drawn)

@@ -17,7 +17,7 @@ pub use kept_value::Kept;
 pub use pass::Pass;
 pub use turn::Turn;
 pub use turnstile::Turnstile;
-pub use view::{Joined, OwnEntry, Stage, Terms, View};
+pub use view::{Joined, OwnEntry, PassStage, Terms, View};
 
 #[cfg(test)]
 mod tests;

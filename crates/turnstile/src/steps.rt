@@ -8,7 +8,7 @@
 
 ghost use Rattle.std.specs.Prelude.{◌≡◌, ◌++◌, [], ◌∷◌, Some, false, true};
 ghost use Rattle.admission.specs.declared.entries.Entry.{Entry};
-ghost use Rattle.turnstile.specs.declared.view.Stage.TheVariants.{Idle};
+ghost use Rattle.turnstile.specs.declared.view.PassStage.TheVariants.{Idle};
 ghost use Rattle.admission.specs.Makers.{entries_by};
 ghost use Rattle.turnstile.specs.TableSeats.{IsSame, IsSeated, IsFree};
 ghost use Rattle.turnstile.specs.Steps.{HasDrawn, HasLeft, HasLooked, HasCounted, HasRead, IsTurn};

@@ -37,7 +37,7 @@ pub struct Joined {
 }
 
 /// Where a pass stands: it has no ticket, or waits until its ticket is served, or holds the lock.
-pub enum Stage {
+pub enum PassStage {
     /// It has no ticket.
     Idle,
     /// It waits until this ticket is served.
@@ -53,7 +53,7 @@ pub struct View {
     /// Its number.
     pub number: u32,
     /// Where it stands.
-    pub stage: Stage,
+    pub stage: PassStage,
     /// What stays of the kept value.
     pub terms: Terms,
     /// The list as it has seen it.
