@@ -2,8 +2,8 @@
 """Lists what is proved, and checks the names that the documents cite.
 
     tools/claims.py            writes docs/CLAIMS.md: each public law, what it says, and who uses
-                               it; each public call with the names of its clauses; and each file of
-                               definitions with the laws that cite it
+                               it; each public call with the names of its clauses; each public type
+                               and constant; and each file of definitions with the laws that cite it
     tools/claims.py --check    changes nothing; ends with 1 if docs/CLAIMS.md is out of date, or if
                                README.md, a crate's README.md or a document in docs/ cites a law, a
                                call, a clause or a file that is not in the repository
@@ -27,6 +27,7 @@ This page is written by `tools/claims.py` from the sources: do not edit it. For 
   module `laws` of the crate, as `crate::laws::name`;
 - its **calls**: public functions and methods, each with the names of its clauses. A clause says
   what the call answers or leaves;
+- its **names**: public types, traits and constants;
 - its **definitions**: the files of its `specs/`, each with the laws that cite it, of this crate
   and of others.
 
@@ -105,6 +106,22 @@ def calls_of(crate):
     return found
 
 
+def names_of(crate):
+    """Returns each public type, trait and constant of a crate: its doc comment's first sentence."""
+    found = {}
+    for path in files_of(crate, "src", ".rt"):
+        if "/tests" in path:
+            continue
+        doc = []
+        for line in read(path).splitlines():
+            text = line.strip()
+            name = re.match(r"pub (?:struct|enum|trait|type|const) (?!fn\b)(\w+)", text)
+            if name and doc:
+                found[name.group(1)] = first_sentence(doc)
+            doc = [*doc, text] if text.startswith("///") else doc if text.startswith("#[") else []
+    return found
+
+
 def heading_of(path):
     """Returns the first sentence of the comment that begins a file of definitions."""
     lines = []
@@ -177,6 +194,12 @@ def call_lines(calls):
         yield f"- `{call}`: {sentence}{named}"
 
 
+def name_lines(names):
+    """Returns the lines of a crate's types, traits and constants."""
+    for name, sentence in sorted(names.items()):
+        yield f"- `{name}`: {sentence}"
+
+
 def definition_lines(definitions):
     """Returns the lines of a crate's definitions."""
     for name, (sentence, laws) in sorted(definitions.items()):
@@ -198,6 +221,7 @@ def page():
         lists = {
             "laws": law_lines(names, users),
             "calls": call_lines(calls_of(crate)),
+            "names": name_lines(names_of(crate)),
             "definitions": definition_lines(definitions_of(citations, crate)),
         }
         for title, lines in lists.items():
