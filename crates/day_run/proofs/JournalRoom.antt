@@ -13,12 +13,12 @@ use Rattle.admission.specs.Histories.{open_count, state_after}
 use Rattle.admission.specs.Machine.{State, admitted_play, live, next_state}
 use Rattle.admission.proofs.HistoryPrefixes.{state-push}
 use Rattle.film_make.specs.Generator.{words_after}
-use Rattle.day_run.specs.declared.scripts.Line.{Line}
-use Rattle.day_run.specs.declared.scripts.Line.TheVariants as lines
+use Rattle.day_script.specs.declared.scripts.Line.{Line}
+use Rattle.day_script.specs.declared.scripts.Line.TheVariants as lines
 use Rattle.day_run.specs.BookingBalance.{IsReady}
 use Rattle.day_run.specs.ClientStates.{ClientState, Idle, Playing, Pausing, Paused, Play, Rest}
-use Rattle.day_run.specs.DayLaws.{AreClients}
-use Rattle.day_run.specs.Scripts.{AreLines}
+use Rattle.day_script.specs.Scripts.{AreClients}
+use Rattle.day_script.specs.Scripts.{AreLines}
 use Rattle.day_run.specs.Days.{AreLineSteps, IsAsked, IsDay, IsHaltedPlay, IsLine, IsLookLine, IsOfferLine, IsPauseLine}
 use Rattle.day_run.specs.Days.{IsResumeLine, Link, DayState, at_slot, entry_by, first_moment, last_journal}
 use Rattle.day_run.specs.Days.{rest_at, state_at}

@@ -4,10 +4,10 @@ use Rattle.std.specs.Prelude.{flat_map}
 use Rattle.std.proofs.lemmas.Grind.{flat_map-append}
 use Rattle.std.proofs.lemmas.List.{append-nil, take_more}
 use Rattle.admission.specs.declared.entries.Entry.{Entry}
-use Rattle.day_run.specs.declared.scripts.Line.{Line}
+use Rattle.day_script.specs.declared.scripts.Line.{Line}
 use Rattle.day_run.specs.Days.{AreLineSteps, IsDay, IsLine, Link, DayState, last_journal, last_lines, first_moment}
 use Rattle.day_run.specs.MachineState.{HasRun, IsPrinted}
-use Rattle.day_run.proofs.ScriptLineFacts.{Place}
+use Rattle.day_script.proofs.Places.{Place}
 
 -- the last line, after the others
 pub record LastLine : Type 0 where

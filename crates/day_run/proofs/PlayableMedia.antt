@@ -18,7 +18,7 @@ use Rattle.day_run.specs.ClientStates.{source_content}
 use Rattle.day_run.specs.DayLaws.{IsLink, IsPlayable, IsSoundMedia}
 use Rattle.day_run.specs.Days.{link_of}
 use Rattle.day_run.specs.Sources.{IsSource}
-use Rattle.day_run.proofs.ScriptLineFacts.{Place}
+use Rattle.day_script.proofs.Places.{Place}
 
 -- a film, of a code from 1 to 8, whose units keep to what a trace does
 pub film-playable : {source : Source} (stored : Stored) → source ≡ Film stored → 1 ≤ stored.film.rate

@@ -6,12 +6,12 @@ use Rattle.vod_base.specs.declared.errors.NoMemory.{NoMemory}
 use Rattle.day_run.specs.declared.media.Media.{Media}
 use Rattle.day_run.specs.declared.media.Source.{Source}
 use Rattle.day_run.specs.declared.media.Source.TheVariants.{Trace}
-use Rattle.day_run.specs.declared.scripts.Line.{Line}
-use Rattle.day_run.specs.Scripts.{latest_slot, slot_after}
+use Rattle.day_script.specs.declared.scripts.Line.{Line}
+use Rattle.day_script.specs.Scripts.{latest_slot, slot_after}
 use Rattle.day_run.specs.ClientStates.{trace_content, source_content}
 use Rattle.day_run.specs.MediaContents.{media_content}
-use Rattle.day_run.proofs.ScriptLines.{latest-push}
-use Rattle.day_run.proofs.ScriptLineFacts.{Place}
+use Rattle.day_script.proofs.ScriptLines.{latest-push}
+use Rattle.day_script.proofs.Places.{Place}
 
 pub trace-medium : {source : Source} {sizes : Vec ℕ} {items : List ℕ} (r : Result Media NoMemory)
     → source ≡ Trace sizes → items ≡ sizes.items

@@ -15,8 +15,8 @@ use Rattle.slot_calendar.specs.Profiles.{capacity_at}
 use Rattle.admission.specs.declared.entries.Command.{Command}
 use Rattle.admission.specs.declared.entries.Command.TheVariants as commands
 use Rattle.admission.specs.declared.entries.Entry.{Entry}
-use Rattle.day_run.specs.declared.fair_totals.EntryCounts.{EntryCounts}
-use Rattle.day_run.specs.declared.fair_totals.FairTotals.{FairTotals}
+use Rattle.day_script.specs.declared.fair_totals.EntryCounts.{EntryCounts}
+use Rattle.day_script.specs.declared.fair_totals.FairTotals.{FairTotals}
 use Rattle.plan_cert.specs.PlanSlots.{sum_through, total_bytes}
 use Rattle.film_run.specs.Units.{AreUnitSizes}
 use Rattle.day_run.specs.Days.{AreLineSteps, IsLine, IsTold, Link, DayState, booked_up_to}
@@ -28,22 +28,10 @@ use Rattle.day_run.specs.ClientStates.{ClientState, Idle, Playing, Pausing, Paus
 use Rattle.day_run.specs.ClientStates.{Play as ClientPlay, Rest}
 use Rattle.day_run.specs.ClientStates.{MediaContent, source_content}
 use Rattle.day_run.specs.FairDays.{AreTurns, Turn, after_traces, at_later, fair_link}
-use Rattle.day_run.specs.LineTexts.{fair_text, start_words, tried_text}
+use Rattle.day_script.specs.LineTexts.{fair_text, start_words, tried_text}
 use Rattle.day_run.specs.declared.media.Source.{Source}
-use Rattle.day_run.specs.declared.scripts.Line.{Line}
-use Rattle.day_run.specs.declared.scripts.Line.TheVariants.{Play, Pause, Resume, Look, Slot, Offer}
-
--- a line asks for one of the 256 clients, or for none
-abbrev pub IsClient : Line → Type 0
-IsClient (Play client source buffer delay) = client < 256
-IsClient (Pause client) = client < 256
-IsClient (Resume client) = client < 256
-IsClient (Look slot) = Unit {0}
-IsClient (Slot slot) = Unit {0}
-IsClient (Offer client source buffer delay wait) = Unit {0}
-
-pub record AreClients (lines : List Line) : Type 0 where
-  pub each : (i : ℕ) (none : Line) → i < length lines → IsClient (slice_index_or lines i none)
+use Rattle.day_script.specs.declared.scripts.Line.{Line}
+use Rattle.day_script.specs.declared.scripts.Line.TheVariants.{Play, Pause, Resume, Look, Slot, Offer}
 
 -- a reel that can be played: its sizes are those of a trace, and its pictures have a time
 pub record IsSoundMedia (medium : MediaContent) : Type 0 where

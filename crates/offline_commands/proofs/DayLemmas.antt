@@ -5,7 +5,7 @@ use Rattle.std.proofs.Common.{add-one, arith, inl, inr, string_bytes}
 use Rattle.std.specs.Prelude.{All, slice_index_or}
 use Rattle.std.specs.Option.{option_and_then}
 use Rattle.std.proofs.Math.Seq.{drop-cons, get_or-append_seam}
-use Rattle.day_run.specs.TextLines.{lines_of_script}
+use Rattle.day_script.specs.TextLines.{lines_of_script}
 use Rattle.std.specs.List.{Contains}
 use Rattle.std.proofs.Math.ListN.{get_or-map}
 use Rattle.std.proofs.lemmas.Bool.{cases_lt}
@@ -14,7 +14,7 @@ use Rattle.std.proofs.lemmas.List.{length-append, length-map, length-take, take-
 use Rattle.std.proofs.lemmas.List.{get_or-take, get_or_append_left, get_or-append_right}
 use Rattle.std.proofs.lemmas.List.{get_or_push, get_or_read_under}
 use Rattle.std.proofs.lemmas.List.Elements.{All-cons, All-head, All-nil, All-tail}
-use Rattle.day_run.specs.declared.scripts.Named.{Named}
+use Rattle.day_script.specs.declared.scripts.Named.{Named}
 use Rattle.day_run.specs.declared.media.Source.{Source}
 use Rattle.day_run.specs.Sources.{AreSources, IsSource}
 use Rattle.vod_base.specs.Names.{good_name}
@@ -24,12 +24,12 @@ use Rattle.cli_errors.specs.declared.errors.InputError.{InputError}
 use Rattle.cli_errors.specs.declared.errors.CliError.{CliError}
 use Rattle.inputs.specs.FileReads.{IsThatName}
 use Rattle.day_run.specs.declared.media.Source.TheVariants.{Film, Trace}
-use Rattle.day_run.specs.declared.scripts.Script.{Script}
-use Rattle.day_run.specs.declared.scripts.Line.{Line}
-use Rattle.day_run.specs.declared.scripts.SourceKind.{SourceKind}
-use Rattle.day_run.specs.declared.scripts.SourceKind.TheVariants as kinds
-use Rattle.day_run.specs.ScriptReading.{HasGoodName, IsBadLine, IsScript, Name, Reading, line_read, lines_read}
-use Rattle.day_run.specs.ScriptReading.{name_of, names_of, nothing_read}
+use Rattle.day_script.specs.declared.scripts.Script.{Script}
+use Rattle.day_script.specs.declared.scripts.Line.{Line}
+use Rattle.day_script.specs.declared.scripts.SourceKind.{SourceKind}
+use Rattle.day_script.specs.declared.scripts.SourceKind.TheVariants as kinds
+use Rattle.day_script.specs.ScriptReading.{HasGoodName, IsBadLine, IsScript, Name, Reading, line_read, lines_read}
+use Rattle.day_script.specs.ScriptReading.{name_of, names_of, nothing_read}
 use Rattle.inputs.proofs.ReadLemmas.{one_file}
 use Rattle.inputs.proofs.VideoLemmas.{held_not_refused}
 use Rattle.inputs.proofs.ScanLemmas.{read_trouble_map}

@@ -17,16 +17,16 @@ use Rattle.cli_args.specs.Invocations.{ScriptRun}
 use Rattle.inputs.proofs.VideoLemmas.{held_once}
 use Rattle.day_run.specs.ClientStates.{MediaContent, source_content, trace_content}
 use Rattle.day_run.specs.Days.{IsDay, Link, link_of}
-use Rattle.day_run.specs.ScriptReading.{Name, name_of, names_of}
+use Rattle.day_script.specs.ScriptReading.{Name, name_of, names_of}
 use Rattle.day_run.specs.MediaPieces.{no_identity}
-use Rattle.day_run.specs.Scripts.{AreLines}
+use Rattle.day_script.specs.Scripts.{AreLines}
 use Rattle.day_run.specs.declared.media.Source.{Source}
 use Rattle.day_run.specs.declared.media.Source.TheVariants.{Film, Trace}
-use Rattle.day_run.specs.declared.scripts.Line.{Line}
-use Rattle.day_run.specs.declared.scripts.Named.{Named}
-use Rattle.day_run.specs.declared.scripts.Script.{Script}
-use Rattle.day_run.specs.declared.scripts.SourceKind.{SourceKind}
-use Rattle.day_run.specs.declared.scripts.SourceKind.TheVariants as kinds
+use Rattle.day_script.specs.declared.scripts.Line.{Line}
+use Rattle.day_script.specs.declared.scripts.Named.{Named}
+use Rattle.day_script.specs.declared.scripts.Script.{Script}
+use Rattle.day_script.specs.declared.scripts.SourceKind.{SourceKind}
+use Rattle.day_script.specs.declared.scripts.SourceKind.TheVariants as kinds
 use Rattle.day_run.proofs.DayUniqueness.{one-day}
 use Rattle.offline_commands.specs.Days.{AreHeldAs, HoldsScript, IsHeldUnder}
 use Rattle.offline_commands.proofs.DayLemmas.{first_of, lines_once, names_once, same_name, script_held}

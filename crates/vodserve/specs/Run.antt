@@ -10,10 +10,11 @@ use Rattle.slot_calendar.specs.declared.profiles.CapStep.{CapStep}
 use Rattle.admission.specs.Histories.{IsLegal}
 use Rattle.admission.specs.declared.entries.Entry.{Entry}
 use Rattle.day_run.specs.declared.media.Source.{Source}
-use Rattle.day_run.specs.declared.scripts.Script.{Script}
-use Rattle.day_run.specs.DayLaws.{AreClients, IsFairLine, IsLink, SentIsBookedEachTurn}
+use Rattle.day_script.specs.declared.scripts.Script.{Script}
+use Rattle.day_run.specs.DayLaws.{IsFairLine, IsLink, SentIsBookedEachTurn}
+use Rattle.day_script.specs.Scripts.{AreClients}
 use Rattle.day_run.specs.Days.{IsDay, link_of}
-use Rattle.day_run.specs.Scripts.{AreLines}
+use Rattle.day_script.specs.Scripts.{AreLines}
 use Rattle.day_run.specs.FairDays.{IsFair}
 use Rattle.offline_commands.specs.Days.{AreHeldAs, IsDayInput, IsDayRefused, IsScriptOf}
 use Rattle.rtsp_client.specs.declared.watch_request.Wish.{Wish}
