@@ -125,7 +125,8 @@ pub record IsOfferAnswer (link : Link) (rest : Rest) (wait : ℕ) (moment : DayS
       ++ (start_words start ++ field (codes " tried=") (length tried) ++ codes "\n")
 
 -- The bytes that are sent in the slots of a turn, up to any of them, are those that the day's
--- journal books there, and no more than the capacity of those slots.
+-- journal books there, and no more than the capacity of those slots. In each one of these slots
+-- exactly the bytes that the journal books in it are sent, within its own capacity.
 pub record IsTurnWithinCapacity (steps : List CapStep) (journal : List Entry) (turn : Turn)
     : Type 0 where
   pub sent : (slot : ℕ) → turn.old.heard ≤ slot → slot ≤ turn.mid.heard →
@@ -134,6 +135,9 @@ pub record IsTurnWithinCapacity (steps : List CapStep) (journal : List Entry) (t
   pub within : (slot : ℕ) → turn.old.heard ≤ slot → slot ≤ turn.mid.heard →
       sent_up_to turn.old slot ≤ sum_by (capacity_at steps)
       (range_with_len (turn.old.heard + 1) (slot - turn.old.heard))
+  pub each_slot : (slot : ℕ) → turn.old.heard ≤ slot → slot < turn.mid.heard →
+      (sent_up_to turn.old (slot + 1) ≡ sent_up_to turn.old slot + booked_after journal (slot + 1))
+      × (booked_after journal (slot + 1) ≤ capacity_at steps (slot + 1))
 
 -- a number's turns, in each of which what is sent is what the journal books, within the capacity
 pub record SentIsBookedEachTurn (steps : List CapStep) (number plays : ℕ) (journal : List Entry)
