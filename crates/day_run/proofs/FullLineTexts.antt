@@ -115,7 +115,7 @@ text-parts entries open_plays =
     let end : List ℕ = codes "\n" in
     ap (λ t. t ++ end) (sym (append_assoc (first ++ decimal entries) second (decimal open_plays)))
 
--- what is said of a full journal is true of it
+-- what a line says about a full journal is true
 pub record SaysFull (link : Link) (needed : ℕ) (old new : DayState) (text : List ℕ) : Type 0 where
   pub kept : new ≡ old
   pub says : IsFullJournal link needed old text

@@ -175,7 +175,7 @@ taken-places {link} taken =
 pub last-places : (m : DayState) → IsReady m → places_taken (last_journal m) ≡ places_taken m.entries
 last-places m ready = (last-halted m ready.balanced).places
 
--- a script's day keeps within its limit
+-- the journal of a script's day stays within its limit
 pub day-room : {link : Link} {n : ℕ} {lines : List Line} {text : List ℕ} {journal : List Entry} → AreClients lines
     → AreLines n lines → IsDay link lines text journal → places_taken journal ≤ link.limit
 day-room {link} {n} {lines} clients are day =

@@ -57,7 +57,7 @@ run-next {link} {here} {before} {after} {old} {new} lines place same run printed
   where
     open place use {index as i, none, inside}
 
--- a whole day
+-- an entire day
 pub day-of : {link here : Link} {lines : List Line} {text whole : List ℕ} {m : DayState} {journal : List Entry}
     → here ≡ link → HasRun here lines text m
     → whole ≡ text ++ last_lines m → journal ≡ last_journal m → IsDay link lines whole journal

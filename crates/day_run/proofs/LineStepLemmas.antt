@@ -156,7 +156,7 @@ states-same c rest plan number (Overflow over booked asked) not = refl
 states-same c rest plan number Halted not = refl
 states-same c rest plan number (Looked now at booked) not = refl
 
--- a play was admitted after the slot that was heard
+-- a play was admitted after the slot that was received last
 pub record PlayAdmitted (slot start heard : ℕ) (answer : Answer) (steps : List CapStep) (state : State)
     (plan : List Segment)
     : Type 0 where

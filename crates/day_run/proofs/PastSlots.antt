@@ -1,4 +1,4 @@
--- What is booked in the slots that were heard stays.
+-- What is booked in the slots that were received stays.
 use Rattle.std.proofs.Common.{◌≡◌, ◌<◌, ◌≤◌, ◌+◌, ◌-◌, ◌%◌, ◌==◌, ℕ, zero, suc, max, true, false}
 use Rattle.std.proofs.Common.{All, Bool, cond, List, [], ◌∷◌, ◌++◌, length, map, get_or, arith}
 use Rattle.std.proofs.Common.{refl, sym, ap, subst, ◌∙◌, inl, inr}

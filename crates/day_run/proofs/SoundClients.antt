@@ -1,4 +1,4 @@
--- What holds of the clients after each line.
+-- What is true of the clients after each line.
 use Rattle.std.proofs.Common.{◌≡◌, ◌<◌, ◌≤◌, ◌+◌, ◌-◌, ◌==◌, ◌&&◌, ℕ, true, false, Bool, cond}
 use Rattle.std.proofs.Common.{nat_le, nat_lt, List, [], ◌∷◌, All, length, map, take, drop, set}
 use Rattle.std.proofs.Common.{get_or, sum, replicate, Option, Some, None, arith, refl, sym, ap, subst, ◌∙◌, inl, inr}
@@ -40,7 +40,7 @@ use Rattle.day_run.proofs.LineBalance.{heard-after, line-ready, morning-ready, s
 use Rattle.day_run.proofs.ScriptLineFacts.{ClientOf, IsPlayTaken, LineStep, LinesTaken, StandingLine, StandingLines}
 use Rattle.day_run.proofs.ScriptLineFacts.{first-standing, rest-standing, standing-of}
 
--- ---- what holds of the clients
+-- ---- what is true of the clients
 pub record IsSound (m : DayState) : Type 0 where
   pub ready : IsReady m
   pub each : (c : ℕ) → c < 256 → IsSoundClient m.heard (get_or m.states c Idle)

@@ -39,7 +39,7 @@ contents-next u next sources place own before =
     open next use {media, medium, after_are as a}
     open place use {index as i, none, inside}
 
--- the slot that was heard last, after one line more
+-- the slot that was received last, after one line more
 pub heard-next : {heard next : ℕ} (lines : List Line) (place : Place lines)
     → next ≡ slot_after heard (get_or lines place.index place.none) → heard ≡ latest_slot (take place.index lines)
     → next ≡ latest_slot (take (place.index + 1) lines)

@@ -62,7 +62,7 @@ spaced-bytes (word ∷ next ∷ words) plain =
     (All-weaker (λ b. 33 ≤ b) (λ b. 32 ≤ b) (λ b high. omega (arith, high)) word (word-bytes word parts.0))
     (All-cons (λ b. 32 ≤ b) 32 (words_text (next ∷ words)) (omega arith) (spaced-bytes (next ∷ words) parts.1))
 
--- they are cut again into the words
+-- they are split again into the words
 pub spaced-split : (word : List ℕ) (words : List (List ℕ)) → list_all is_word (word ∷ words) ≡ true
     → slice_split is_space (words_text (word ∷ words)) ≡ word ∷ words
 spaced-split word [] plain =

@@ -1,4 +1,4 @@
--- Texts that are cut at a byte, against their lines and words.
+-- Texts that are split at a byte, against their lines and words.
 use Rattle.std.proofs.Common.{◌≡◌, ◌≢◌, ℕ, false, List, [], ◌∷◌, ◌++◌, All, map, refl, sym, ap, ◌∙◌, ne_eqb, Bor}
 use Rattle.std.proofs.lemmas.Bool.{cond-false}
 use Rattle.std.proofs.lemmas.List.{append_assoc, map-append}

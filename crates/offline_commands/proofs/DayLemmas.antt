@@ -46,7 +46,7 @@ pub record IsNamedAs (named : Named) (kind : SourceKind) (name : List ℕ) : Typ
   pub kind_is : named.kind ≡ kind
   pub name_is : name ≡ string_bytes named.name
 
--- the trouble of a film or trace that was read by its name, where the script names it
+-- the error of a film or trace that was read by its name, where the script names it
 pub named_trouble : {kind : SourceKind} {name : List ℕ} {named : Named} (told : Option (List File)) (before after : ℕ)
     (t : CliError) → IsNamedAs named kind name → IsReadError (IsThatName name) (IsRefusedAs kind) told before after t →
     IsReadError (IsNameOf named) (IsNamedRefused named) told before after t
@@ -175,7 +175,7 @@ first_named_refused {named} {i} {one} {name} inside at long are is refused = rec
   refused = refused;
 }
 
--- a script that was read is what the library holds, where it tells that
+-- a script that was read is what the library holds, where it exposes that
 pub script_held : {told : Option (List File)} {name : List ℕ} {script : Script} (held : List File) →
     IsScriptOf told name script → told ≡ Some held → HoldsScript held name script
 script_held held read told_is = record { text = read.text; found = read.found held told_is; script_is = read.script_is }

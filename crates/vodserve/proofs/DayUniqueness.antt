@@ -33,7 +33,7 @@ use Rattle.offline_commands.proofs.DayLemmas.{first_of, lines_once, names_once, 
 use Rattle.offline_commands.proofs.PlanUniqueness.{trace_once}
 use Rattle.vodserve.specs.Laws.{DayIsUnique, IsScriptDay, RunPrintsItsDay}
 
--- a film as it is played: what is said of it, and what its bytes say
+-- a film as it is played: its facts, and what its bytes say
 abbrev content_as : List ℕ → ℕ → List PictureUnit → List ℕ → MediaContent
 content_as video rate units slices = record {
   sizes = map (λ u. wire_size slices u) units;

@@ -25,7 +25,8 @@ abbrev RefusesNone : Invocation → Option (List File) → Type 0
 RefusesNone order told = (trouble_name : List ℕ) (fault : InputError) → IsRead order trouble_name →
     ((held : List File) → told ≡ Some held → IsInputRefused order held trouble_name fault) → ⊥
 
--- what keeps a command from its work, where nothing is refused and nothing failed, is want of memory
+-- what keeps a command from its work, where nothing is refused and nothing failed, is that memory
+-- ran out
 caused_by_memory : {before after : World} (order : Invocation) (error : CliError) → RefusesNone order before.store.told
     →
     HasNoFault before after → IsCause before after order error → status_of error ≡ 6
