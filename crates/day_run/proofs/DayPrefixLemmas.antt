@@ -12,15 +12,16 @@ use Rattle.admission.specs.Histories.{IsLegal, state_after}
 use Rattle.admission.specs.Machine.{booked_in}
 use Rattle.admission.proofs.HistoryPrefixes.{legal-take}
 use Rattle.admission.proofs.CapacityBounds.{sound-after}
-use Rattle.day_run.specs.declared.scripts.Line.{Line}
-use Rattle.day_run.specs.declared.scripts.Line.TheVariants.{Play, Pause, Resume, Look, Slot, Offer}
+use Rattle.day_script.specs.declared.scripts.Line.{Line}
+use Rattle.day_script.specs.declared.scripts.Line.TheVariants.{Play, Pause, Resume, Look, Slot, Offer}
 use Rattle.day_run.specs.ClientStates.{ClientState, Idle, IfBusy, Playing, Pausing, Paused, Rest}
-use Rattle.day_run.specs.DayLaws.{AreClients, IsClient, SentIsBookedAfter}
+use Rattle.day_run.specs.DayLaws.{SentIsBookedAfter}
+use Rattle.day_script.specs.Scripts.{AreClients, IsClient}
 use Rattle.day_run.specs.Days.{AreLineSteps, IsAsked, IsDay, IsLine, IsLookLine, IsNoted, IsOfferLine}
 use Rattle.day_run.specs.Days.{IsPauseLine, IsResumeLine, IsTold, Link, DayState}
 use Rattle.day_run.specs.Days.{halts_at, last_halts, rest_at, sent_up_to, state_at}
-use Rattle.day_run.specs.LineTexts.{state_text}
-use Rattle.day_run.specs.Scripts.{AreLines, StandsAfter, latest_slot}
+use Rattle.day_script.specs.LineTexts.{state_text}
+use Rattle.day_script.specs.Scripts.{AreLines, StandsAfter, latest_slot}
 use Rattle.day_run.proofs.LineBalance.{day-sent}
 use Rattle.day_run.proofs.ScriptLineFacts.{LinesTaken}
 

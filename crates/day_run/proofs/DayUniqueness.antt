@@ -22,16 +22,17 @@ use Rattle.admission.specs.declared.entries.Entry.{Entry}
 use Rattle.admission.specs.Histories.{state_after}
 use Rattle.admission.specs.Machine.{booked_in}
 use Rattle.admission.proofs.UniqueHistory.{answer-once}
-use Rattle.day_run.specs.declared.scripts.Line.{Line}
-use Rattle.day_run.specs.declared.scripts.Line.TheVariants as lines
-use Rattle.day_run.specs.DayLaws.{AreClients, IsLink, IsSoundRest, IsSoundClient}
+use Rattle.day_script.specs.declared.scripts.Line.{Line}
+use Rattle.day_script.specs.declared.scripts.Line.TheVariants as lines
+use Rattle.day_run.specs.DayLaws.{IsLink, IsSoundRest, IsSoundClient}
+use Rattle.day_script.specs.Scripts.{AreClients}
 use Rattle.day_run.specs.Days.{AreLineSteps, AskedPlay, IsAnsweredPlay, IsAsked, IsDay, IsFaulty, IsFull}
 use Rattle.day_run.specs.Days.{IsHaltedPlay, IsLine, IsLookLine, IsNoted, IsOfferLine, IsPauseLine}
 use Rattle.day_run.specs.Days.{IsResumeLine, IsTold, Link, DayState, entry_by}
 use Rattle.day_run.specs.Days.{last_journal, last_lines, state_at, with_play}
-use Rattle.day_run.specs.LineTexts.{fault_text, offer_text, state_text}
+use Rattle.day_script.specs.LineTexts.{fault_text, offer_text, state_text}
 use Rattle.report.specs.EntryLines.{entry_line}
-use Rattle.day_run.specs.Scripts.{AreLines}
+use Rattle.day_script.specs.Scripts.{AreLines}
 use Rattle.day_run.specs.ClientStates.{Idle, IfBusy, Playing, Pausing, Paused, Play, Rest, ClientState}
 use Rattle.day_run.specs.ClientStates.{pausing_state, slot_sent}
 use Rattle.day_run.proofs.LineBalance.{heard-after, morning-ready}

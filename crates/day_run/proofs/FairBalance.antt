@@ -12,8 +12,8 @@ use Rattle.slot_calendar.specs.declared.profiles.CapStep.{CapStep}
 use Rattle.admission.specs.declared.entries.Entry.{Entry}
 use Rattle.admission.specs.Histories.{state_after}
 use Rattle.admission.specs.Machine.{booked_in}
-use Rattle.day_run.specs.declared.fair_totals.FairTotals.{FairTotals}
-use Rattle.day_run.specs.declared.fair_totals.EntryCounts.{EntryCounts}
+use Rattle.day_script.specs.declared.fair_totals.FairTotals.{FairTotals}
+use Rattle.day_script.specs.declared.fair_totals.EntryCounts.{EntryCounts}
 use Rattle.day_run.specs.declared.clients.Client.{Client}
 use Rattle.day_run.specs.Clients.{state_of}
 use Rattle.day_run.specs.BookingBalance.{IsReady}
@@ -22,7 +22,7 @@ use Rattle.day_run.specs.FairDays.{AreTurns, IsDone, IsTurn, Turn, after_traces,
 use Rattle.day_run.specs.FairDays.{at_later, counts_of, fair_link, IsFair, is_full_line, is_refused}
 use Rattle.day_run.specs.FairDays.{line_drawn, line_in, entry_counts_of, turn_booked, turn_peak, turn_sent, words_for}
 use Rattle.day_run.specs.FairProgress.{AreTurnResults, IsTurnResult, after_turns, drawn_to, with_slot, with_turn}
-use Rattle.day_run.specs.LineTexts.{fair_text}
+use Rattle.day_script.specs.LineTexts.{fair_text}
 use Rattle.day_run.specs.declared.machine.LineAnswer.{LineAnswer}
 use Rattle.day_run.specs.MachineState.{reply_text}
 use Rattle.vod_base.specs.declared.errors.NoMemory.{NoMemory}

@@ -1,4 +1,4 @@
--- What holds of every large day.
+-- What is true of every large day.
 use Rattle.std.proofs.Common.{◌≡◌, ◌≤◌, ◌+◌, ◌-◌, ◌*◌, ◌%◌, ◌==◌, ℕ, max, Bool, true, false, cond}
 use Rattle.std.proofs.Common.{List, [], ◌∷◌, ◌++◌, length, map, take, arith, refl, sym, ap}
 use Rattle.std.proofs.Common.{subst, ◌∙◌, inl, inr}

@@ -18,6 +18,7 @@ use Rattle.day_run.proofs.LineBalance.{morning-ready}
 use Rattle.day_run.proofs.FairLaws.{TurnRun, evening-grown, turns-balanced, turns-heard, turns-ready, turns-within}
 use Rattle.day_run.proofs.PastSlots.{IsTurnBooked, fair-past}
 use Rattle.day_run.proofs.SlotBalance.{last-open}
+use Rattle.day_run.proofs.SlotSums.{sum-slots}
 
 pub fair-line : {number : ℕ} (steps : List CapStep) (plays : ℕ) (text : List ℕ) (journal : List Entry)
     → IsFair steps number plays text journal → IsLegal steps journal → IsFairLine steps plays text journal
@@ -66,6 +67,19 @@ turn-within {steps} {journal} turn legal is = record {
       let most = (sound-after steps journal legal).within in
       subst S (sym (is.sent slot after before))
       (sum_by-le-sum_by (booked_after journal) (capacity_at steps) slots (λ t. most.each t));
+  each_slot = λ slot after before.
+      let booked = booked_after journal in
+      let from = turn.old.heard in
+      let more : slot + 1 - from ≡ slot - from + 1 = omega (arith, after) in
+      let at : from + 1 + (slot - from) ≡ slot + 1 = omega (arith, after) in
+      let most = (sound-after steps journal legal).within in (
+        is.sent (slot + 1) (omega (arith, after)) (omega (arith, before))
+            ∙ ap (λ k. sum_by booked (range_with_len (from + 1) k)) more
+            ∙ sum-slots booked (from + 1) (slot - from)
+            ∙ ap (λ k. sum_by booked (range_with_len (from + 1) (slot - from)) + booked k) at
+            ∙ ap (λ k. k + booked (slot + 1)) (sym (is.sent slot after (omega (arith, before)))),
+        most.each (slot + 1),
+      );
 }
 
 pub fair-turns : {number plays : ℕ} {text : List ℕ} (steps : List CapStep) (journal : List Entry)

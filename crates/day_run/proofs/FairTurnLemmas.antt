@@ -3,8 +3,8 @@ use Rattle.std.proofs.Common.{◌<◌, ◌+◌, ◌%◌, ℕ, List, [], inl, inr
 use Rattle.std.specs.Prelude.{◌⊎◌}
 use Rattle.std.proofs.lemmas.Nat.{mod_below}
 use Rattle.film_make.specs.Generator.{words_after}
-use Rattle.day_run.specs.declared.scripts.Line.{Line}
-use Rattle.day_run.specs.declared.scripts.Line.TheVariants.{Play, Pause, Resume}
+use Rattle.day_script.specs.declared.scripts.Line.{Line}
+use Rattle.day_script.specs.declared.scripts.Line.TheVariants.{Play, Pause, Resume}
 use Rattle.day_run.specs.Days.{IsLine, IsTold, Link, DayState}
 use Rattle.day_run.specs.DayLaws.{IsDrawnLine, IsDrawnTurn}
 use Rattle.day_run.specs.FairDays.{IsDone, IsTurn, Turn, line_drawn, state_in}

@@ -9,14 +9,14 @@ use Rattle.film_make.specs.Generator.{words_after, words_of}
 use Rattle.film_run.specs.Units.{AreUnitSizes}
 use Rattle.slot_calendar.specs.declared.profiles.CapStep.{CapStep}
 use Rattle.admission.specs.declared.entries.Entry.{Entry}
-use Rattle.day_run.specs.declared.scripts.Line.{Line}
+use Rattle.day_script.specs.declared.scripts.Line.{Line}
 use Rattle.day_run.specs.ClientStates.{ClientState, Idle, Playing, Pausing, Paused, MediaContent, trace_content}
 use Rattle.day_run.specs.DayLaws.{IsLink, IsSoundMedia}
 use Rattle.day_run.specs.Days.{Link, DayState, at_slot, first_moment, last_journal, state_at}
 use Rattle.day_run.specs.FairDays.{AreTurns, IsDone, IsFair, IsTurn, Turn, after_traces, after_turn, at_later}
 use Rattle.day_run.specs.FairDays.{client_of, counts_of, entry_counts_of, fair_link, line_drawn, line_in}
 use Rattle.day_run.specs.FairDays.{state_in, trace_drawn, traces_drawn}
-use Rattle.day_run.specs.LineTexts.{fair_text}
+use Rattle.day_script.specs.LineTexts.{fair_text}
 use Rattle.day_run.proofs.LineBalance.{morning-ready}
 use Rattle.day_run.proofs.DrawnTraceLemmas.{drawn-trace}
 use Rattle.day_run.proofs.FairLaws.{TurnRun}

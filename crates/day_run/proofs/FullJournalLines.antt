@@ -1,4 +1,4 @@
--- Which of the texts that clients are told say that the journal is full.
+-- Which of the texts that clients are answered say that the journal is full.
 use Rattle.std.proofs.Common.{◌≡◌, ◌<◌, ◌+◌, ◌^◌, ℕ, false, ◌&&◌, ◌==◌, List, [], ◌∷◌, ◌++◌, take}
 use Rattle.std.proofs.Common.{length, arith, refl, ap, ◌∙◌, inl, inr, append_assoc}
 use Rattle.std.specs.Prelude.{codes, decimal}

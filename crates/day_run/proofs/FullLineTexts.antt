@@ -12,15 +12,15 @@ use Rattle.admission.specs.declared.entries.Entry.{Entry}
 use Rattle.admission.specs.Books.{places_taken}
 use Rattle.admission.specs.Histories.{open_count}
 use Rattle.report.specs.EntryLines.{entry_line}
-use Rattle.day_run.specs.declared.scripts.Line.{Line}
-use Rattle.day_run.specs.declared.scripts.Line.TheVariants as lines
+use Rattle.day_script.specs.declared.scripts.Line.{Line}
+use Rattle.day_script.specs.declared.scripts.Line.TheVariants as lines
 use Rattle.day_run.specs.BookingBalance.{IsReady}
 use Rattle.day_run.specs.ClientStates.{ClientState, Idle, Playing, Pausing, Paused, Rest, is_playing}
 use Rattle.day_run.specs.Days.{IsAsked, IsFull, IsLine, IsLookLine, IsNoted, IsOfferLine, IsPauseLine, IsResumeLine}
 use Rattle.day_run.specs.Days.{IsTold, Link, DayState, rest_at, slot_lines, state_at}
 use Rattle.day_run.specs.FairDays.{IsDone, is_full_line, line_drawn}
 use Rattle.day_run.specs.JournalLaws.{IsFullJournal, places_needed}
-use Rattle.day_run.specs.LineTexts.{fault_text, full_text, offer_text, state_text}
+use Rattle.day_script.specs.LineTexts.{fault_text, full_text, offer_text, state_text}
 use Rattle.day_run.proofs.FullJournalLines.{entry-other}
 use Rattle.day_run.proofs.ScriptLineFacts.{IsPlayTaken, LineStep}
 
@@ -115,7 +115,7 @@ text-parts entries open_plays =
     let end : List ℕ = codes "\n" in
     ap (λ t. t ++ end) (sym (append_assoc (first ++ decimal entries) second (decimal open_plays)))
 
--- what is said of a full journal is true of it
+-- what a line says about a full journal is true
 pub record SaysFull (link : Link) (needed : ℕ) (old new : DayState) (text : List ℕ) : Type 0 where
   pub kept : new ≡ old
   pub says : IsFullJournal link needed old text

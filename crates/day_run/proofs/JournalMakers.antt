@@ -5,8 +5,8 @@ use Rattle.std.proofs.lemmas.List.{append-nil}
 use Rattle.std.proofs.lemmas.List.Elements.{All-append, All-cons, All-nil}
 use Rattle.admission.specs.declared.entries.Entry.{Entry}
 use Rattle.admission.specs.Histories.{is_halt}
-use Rattle.day_run.specs.declared.scripts.Line.{Line}
-use Rattle.day_run.specs.declared.scripts.Line.TheVariants as lines
+use Rattle.day_script.specs.declared.scripts.Line.{Line}
+use Rattle.day_script.specs.declared.scripts.Line.TheVariants as lines
 use Rattle.day_run.specs.ClientStates.{ClientState, Idle, Playing, Pausing, Paused, Rest, is_done}
 use Rattle.day_run.specs.Days.{IsAsked, IsLine, IsLookLine, IsNoted, IsOfferLine, IsPauseLine, IsResumeLine, Link}
 use Rattle.day_run.specs.Days.{DayState, done_halt, halt_by, halt_entries, halts_at, open_halt, rest_at, state_at}

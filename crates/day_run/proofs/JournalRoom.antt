@@ -13,12 +13,12 @@ use Rattle.admission.specs.Histories.{open_count, state_after}
 use Rattle.admission.specs.Machine.{State, admitted_play, live, next_state}
 use Rattle.admission.proofs.HistoryPrefixes.{state-push}
 use Rattle.film_make.specs.Generator.{words_after}
-use Rattle.day_run.specs.declared.scripts.Line.{Line}
-use Rattle.day_run.specs.declared.scripts.Line.TheVariants as lines
+use Rattle.day_script.specs.declared.scripts.Line.{Line}
+use Rattle.day_script.specs.declared.scripts.Line.TheVariants as lines
 use Rattle.day_run.specs.BookingBalance.{IsReady}
 use Rattle.day_run.specs.ClientStates.{ClientState, Idle, Playing, Pausing, Paused, Play, Rest}
-use Rattle.day_run.specs.DayLaws.{AreClients}
-use Rattle.day_run.specs.Scripts.{AreLines}
+use Rattle.day_script.specs.Scripts.{AreClients}
+use Rattle.day_script.specs.Scripts.{AreLines}
 use Rattle.day_run.specs.Days.{AreLineSteps, IsAsked, IsDay, IsHaltedPlay, IsLine, IsLookLine, IsOfferLine, IsPauseLine}
 use Rattle.day_run.specs.Days.{IsResumeLine, Link, DayState, at_slot, entry_by, first_moment, last_journal}
 use Rattle.day_run.specs.Days.{rest_at, state_at}
@@ -175,7 +175,7 @@ taken-places {link} taken =
 pub last-places : (m : DayState) → IsReady m → places_taken (last_journal m) ≡ places_taken m.entries
 last-places m ready = (last-halted m ready.balanced).places
 
--- a script's day keeps within its limit
+-- the journal of a script's day stays within its limit
 pub day-room : {link : Link} {n : ℕ} {lines : List Line} {text : List ℕ} {journal : List Entry} → AreClients lines
     → AreLines n lines → IsDay link lines text journal → places_taken journal ≤ link.limit
 day-room {link} {n} {lines} clients are day =

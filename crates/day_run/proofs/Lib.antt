@@ -1,9 +1,4 @@
 mod ScriptLineFacts
-mod TextSplitLemmas
-mod IgnoredLineLemmas
-mod LineReadLemmas
-mod ScriptLines
-mod NamePlaceLemmas
 mod OpenBookingLemmas
 mod PauseLemmas
 mod JournalStepLemmas
@@ -36,12 +31,5 @@ mod PlayableMedia
 mod TraceMediaLemmas
 mod SlotSums
 mod DrawnTraceLemmas
-mod TriedStartTexts
-mod AppendedTextLemmas
 mod OfferLaws
-mod LineTextLemmas
-mod WordReadBack
-mod ScriptReadBack
-mod RefusedLines
-mod LineEndLemmas
 mod FairTurnLemmas

@@ -13,13 +13,13 @@ use Rattle.admission.specs.declared.entries.Command.TheVariants as commands
 use Rattle.admission.specs.declared.entries.Entry.{Entry}
 use Rattle.admission.specs.Machine.{AdmittedPlay, State}
 use Rattle.admission.proofs.HistoryPrefixes.{state-push}
-use Rattle.day_run.specs.declared.scripts.Line.{Line}
-use Rattle.day_run.specs.declared.scripts.Line.TheVariants as lines
+use Rattle.day_script.specs.declared.scripts.Line.{Line}
+use Rattle.day_script.specs.declared.scripts.Line.TheVariants as lines
 use Rattle.day_run.specs.Days.{AskedPlay}
 use Rattle.day_run.specs.Days.{AreLineSteps, IsAsked, IsHaltedPlay, IsLine, IsLookLine, IsOfferLine}
 use Rattle.day_run.specs.Days.{IsPauseLine, IsResumeLine, Link, DayState, at_slot}
 use Rattle.day_run.specs.Days.{booked_up_to, entry_by, first_moment, rest_at, state_at, sent_up_to, with_play}
-use Rattle.day_run.specs.Scripts.{slot_after}
+use Rattle.day_script.specs.Scripts.{slot_after}
 use Rattle.day_run.specs.ClientStates.{Idle, Playing, Pausing, Paused, Play, Rest, ClientState}
 use Rattle.day_run.specs.ClientStates.{after_play, after_sending, sent_by}
 use Rattle.day_run.specs.BookingBalance.{AreHeldOf, IsBalanced, IsReady, share_of}

@@ -4,10 +4,10 @@ use Rattle.std.specs.Prelude.{flat_map}
 use Rattle.std.proofs.lemmas.Grind.{flat_map-append}
 use Rattle.std.proofs.lemmas.List.{append-nil, take_more}
 use Rattle.admission.specs.declared.entries.Entry.{Entry}
-use Rattle.day_run.specs.declared.scripts.Line.{Line}
+use Rattle.day_script.specs.declared.scripts.Line.{Line}
 use Rattle.day_run.specs.Days.{AreLineSteps, IsDay, IsLine, Link, DayState, last_journal, last_lines, first_moment}
 use Rattle.day_run.specs.MachineState.{HasRun, IsPrinted}
-use Rattle.day_run.proofs.ScriptLineFacts.{Place}
+use Rattle.day_script.proofs.Places.{Place}
 
 -- the last line, after the others
 pub record LastLine : Type 0 where
@@ -57,7 +57,7 @@ run-next {link} {here} {before} {after} {old} {new} lines place same run printed
   where
     open place use {index as i, none, inside}
 
--- a whole day
+-- an entire day
 pub day-of : {link here : Link} {lines : List Line} {text whole : List ℕ} {m : DayState} {journal : List Entry}
     → here ≡ link → HasRun here lines text m
     → whole ≡ text ++ last_lines m → journal ≡ last_journal m → IsDay link lines whole journal

@@ -26,7 +26,7 @@ use Rattle.day_run.specs.Clients.{AreIdle, IsPauseOf, IsQuiet, IsTimed, play_of,
 use Rattle.report.specs.JournalTexts.{journal_text}
 use Rattle.day_run.specs.Days.{IsAsked, IsFull, IsNoted, IsPauseLine, IsPlayLine, IsTold, Link}
 use Rattle.day_run.specs.Days.{DayState, done_halt, entry_by, halt_entries, state_at, with_play}
-use Rattle.day_run.specs.LineTexts.{full_text, state_text}
+use Rattle.day_script.specs.LineTexts.{full_text, state_text}
 use Rattle.day_run.specs.MachineState.{reply_text}
 use Rattle.day_run.specs.ClientStates.{Idle, Playing, Pausing, Paused, Rest, ClientState, IfBusy, after_sending}
 use Rattle.day_run.specs.ClientStates.{is_busy}
@@ -156,7 +156,7 @@ states-same c rest plan number (Overflow over booked asked) not = refl
 states-same c rest plan number Halted not = refl
 states-same c rest plan number (Looked now at booked) not = refl
 
--- a play was admitted after the slot that was heard
+-- a play was admitted after the slot that was received last
 pub record PlayAdmitted (slot start heard : ℕ) (answer : Answer) (steps : List CapStep) (state : State)
     (plan : List Segment)
     : Type 0 where

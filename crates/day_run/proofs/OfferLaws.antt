@@ -1,4 +1,4 @@
--- What an offer tells.
+-- What an offer answers.
 use Rattle.std.proofs.Common.{◌+◌, ℕ, List, length, get_or, Option, Some, None, arith, refl, sym, subst, inl, inr}
 use Rattle.std.specs.Prelude.{◌⊎◌}
 use Rattle.plan_cert.specs.declared.Segment.{Segment}

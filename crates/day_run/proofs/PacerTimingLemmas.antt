@@ -19,7 +19,7 @@ use Rattle.day_run.specs.ClientStates.{after_sending, booking_of, pausing_state,
 abbrev pub paced : PacerState → Booked
 paced p = truncated_play p.start p.plan p.keep
 
--- what is due once a slot was heard
+-- what is due once a slot was received
 pub due-at : (p : PacerState) (heard : ℕ) → IsPacerState p → p.passed ≡ heard + 1 - p.start → p.due ≡ sent_by (paced p)
     heard
 due-at p heard pacing timed = pacing.due ∙ ap (λ n. min (first_slots p.plan n) p.keep) timed

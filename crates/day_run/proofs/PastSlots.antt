@@ -1,4 +1,4 @@
--- What is booked in the slots that were heard stays.
+-- What is booked in the slots that were received stays.
 use Rattle.std.proofs.Common.{◌≡◌, ◌<◌, ◌≤◌, ◌+◌, ◌-◌, ◌%◌, ◌==◌, ℕ, zero, suc, max, true, false}
 use Rattle.std.proofs.Common.{All, Bool, cond, List, [], ◌∷◌, ◌++◌, length, map, get_or, arith}
 use Rattle.std.proofs.Common.{refl, sym, ap, subst, ◌∙◌, inl, inr}
@@ -15,8 +15,8 @@ use Rattle.admission.specs.declared.entries.Entry.{Entry}
 use Rattle.admission.specs.Histories.{IsAnswered, booked_after, state_after}
 use Rattle.admission.specs.Machine.{AdmittedPlay, State, booked_in}
 use Rattle.admission.proofs.HistoryPrefixes.{state-push}
-use Rattle.day_run.specs.declared.scripts.Line.{Line}
-use Rattle.day_run.specs.declared.scripts.Line.TheVariants as lines
+use Rattle.day_script.specs.declared.scripts.Line.{Line}
+use Rattle.day_script.specs.declared.scripts.Line.TheVariants as lines
 use Rattle.day_run.specs.BookingBalance.{IsReady, share_of}
 use Rattle.day_run.specs.Clients.{after_open}
 use Rattle.day_run.specs.Days.{AskedPlay}

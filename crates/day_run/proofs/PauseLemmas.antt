@@ -97,7 +97,7 @@ left-stopping playing is e pacing = record {
   all_sent = ap (λ (q : PacerState). q.sent) e ∙ playing.all_sent ∙ sym (ap (λ (q : PacerState). q.due) e);
 }
 
--- it has come to the slot that was heard last
+-- it has come to the slot that was received last
 pub left-timed : {p : PacerState} {keep : ℕ} (old : PacerState) (heard : ℕ) → p ≡ record old { keep = keep }
     → old.passed ≡ heard + 1 - old.start → p.passed ≡ heard + 1 - p.start
 left-timed old heard e timed =

@@ -14,7 +14,7 @@ pub peak-slots : (f : ℕ → ℕ) (a n j : ℕ) → a + n ≡ j
 peak-slots f a n j at = ap (fold max 0) (map-range_with_len_more f a n j at)
     ∙ peak-push (map f (range_with_len a n)) (f j)
 
--- the greater of two numbers, as `max` of the code tells it
+-- the greater of two numbers, as `max` of the code gives it
 pub max-by-order : (a b : ℕ) → ord_max nat_cmp a b ≡ max a b
 max-by-order a b = grind arith
 

@@ -18,9 +18,9 @@ use Rattle.day_run.specs.ClientStates.{source_content}
 use Rattle.day_run.specs.DayLaws.{IsLink, IsPlayable, IsSoundMedia}
 use Rattle.day_run.specs.Days.{link_of}
 use Rattle.day_run.specs.Sources.{IsSource}
-use Rattle.day_run.proofs.ScriptLineFacts.{Place}
+use Rattle.day_script.proofs.Places.{Place}
 
--- a film, of a code from 1 to 8, whose units keep to what a trace does
+-- a film, of a code from 1 to 8, whose units have the sizes that a trace may have
 pub film-playable : {source : Source} (stored : Stored) → source ≡ Film stored → 1 ≤ stored.film.rate
     → stored.film.rate ≤ 8
     → length stored.film.units.items ≤ 4194304 → sum (stored_sizes stored) ≤ 2 ^ 42 → IsPlayable source

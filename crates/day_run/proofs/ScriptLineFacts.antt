@@ -3,17 +3,11 @@ use Rattle.std.proofs.Common.{◌≡◌, ℕ, zero, suc, ◌<◌, List, ◌∷�
 use Rattle.std.specs.List.{fold}
 use Rattle.admission.specs.declared.entries.Entry.{Entry}
 use Rattle.day_run.specs.ClientStates.{ClientState, Idle, IfBusy, Rest}
-use Rattle.day_run.specs.DayLaws.{AreClients, IsClient}
+use Rattle.day_script.specs.Scripts.{AreClients, IsClient}
 use Rattle.day_run.specs.Days.{AreLineSteps, IsAsked, IsLine, IsTold, Link, DayState, first_moment}
-use Rattle.day_run.specs.LineTexts.{state_text}
-use Rattle.day_run.specs.Scripts.{AreLines, StandsAfter, slot_after}
-use Rattle.day_run.specs.declared.scripts.Line.{Line}
-
--- the place of an item of a list
-pub record Place {A : Type 0} (items : List A) : Type 0 where
-  pub index : ℕ
-  pub none : A
-  pub inside : index < length items
+use Rattle.day_script.specs.LineTexts.{state_text}
+use Rattle.day_script.specs.Scripts.{AreLines, StandsAfter, slot_after}
+use Rattle.day_script.specs.declared.scripts.Line.{Line}
 
 -- a line that is taken on a link: the day before and after it, and what is printed
 pub record LineStep : Type 0 where

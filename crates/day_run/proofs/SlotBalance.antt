@@ -355,7 +355,7 @@ pub record BegunPlay (entries : List Entry) : Type 0 where
   pub plan : List Segment
   pub is : (state_after (entries ++ e ∷ [])).held ≡ (state_after entries).held ++ admitted_play number start plan ∷ []
 
--- a play was admitted after the slot that was heard last
+-- a play was admitted after the slot that was received last
 pub play-stays : (entries : List Entry) (heard t : ℕ) (begun : BegunPlay entries) → heard < begun.start → t ≤ heard
     → booked_in (state_after (entries ++ begun.e ∷ [])) t ≡ booked_in (state_after entries) t
 play-stays entries heard t begun early past =

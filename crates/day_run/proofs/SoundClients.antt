@@ -1,4 +1,4 @@
--- What holds of the clients after each line.
+-- What is true of the clients after each line.
 use Rattle.std.proofs.Common.{◌≡◌, ◌<◌, ◌≤◌, ◌+◌, ◌-◌, ◌==◌, ◌&&◌, ℕ, true, false, Bool, cond}
 use Rattle.std.proofs.Common.{nat_le, nat_lt, List, [], ◌∷◌, All, length, map, take, drop, set}
 use Rattle.std.proofs.Common.{get_or, sum, replicate, Option, Some, None, arith, refl, sym, ap, subst, ◌∙◌, inl, inr}
@@ -25,14 +25,14 @@ use Rattle.admission.specs.declared.entries.Command.TheVariants as commands
 use Rattle.admission.specs.declared.entries.Entry.{Entry}
 use Rattle.admission.specs.Histories.{IsAnswered, state_after}
 use Rattle.admission.specs.Machine.{CanHalt, AdmittedPlay, admitted_play, play_numbered}
-use Rattle.day_run.specs.declared.scripts.Line.{Line}
-use Rattle.day_run.specs.declared.scripts.Line.TheVariants as lines
+use Rattle.day_script.specs.declared.scripts.Line.{Line}
+use Rattle.day_script.specs.declared.scripts.Line.TheVariants as lines
 use Rattle.day_run.specs.BookingBalance.{AreHeldOf, IsHeld, IsReady}
 use Rattle.day_run.specs.DayLaws.{IsLink, IsSoundPlay, IsSoundRest, IsSoundClient}
 use Rattle.day_run.specs.Days.{AreLineSteps, IsAsked, IsHaltedPlay, IsLine, IsLookLine, IsOfferLine}
 use Rattle.day_run.specs.Days.{IsPauseLine, IsResumeLine, Link, DayState, at_slot}
 use Rattle.day_run.specs.Days.{entry_by, first_moment, rest_at, state_at, with_play}
-use Rattle.day_run.specs.Scripts.{IsWish}
+use Rattle.day_script.specs.Scripts.{IsWish}
 use Rattle.day_run.specs.ClientStates.{Idle, Playing, Pausing, Paused, IsPause, Play, Rest}
 use Rattle.day_run.specs.ClientStates.{ClientState, after_play, after_sending, booking_of, is_done}
 use Rattle.day_run.specs.ClientStates.{no_medium, sent_by, slot_sent}
@@ -40,7 +40,7 @@ use Rattle.day_run.proofs.LineBalance.{heard-after, line-ready, morning-ready, s
 use Rattle.day_run.proofs.ScriptLineFacts.{ClientOf, IsPlayTaken, LineStep, LinesTaken, StandingLine, StandingLines}
 use Rattle.day_run.proofs.ScriptLineFacts.{first-standing, rest-standing, standing-of}
 
--- ---- what holds of the clients
+-- ---- what is true of the clients
 pub record IsSound (m : DayState) : Type 0 where
   pub ready : IsReady m
   pub each : (c : ℕ) → c < 256 → IsSoundClient m.heard (get_or m.states c Idle)

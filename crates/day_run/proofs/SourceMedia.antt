@@ -6,12 +6,12 @@ use Rattle.vod_base.specs.declared.errors.NoMemory.{NoMemory}
 use Rattle.day_run.specs.declared.media.Media.{Media}
 use Rattle.day_run.specs.declared.media.Source.{Source}
 use Rattle.day_run.specs.declared.media.Source.TheVariants.{Trace}
-use Rattle.day_run.specs.declared.scripts.Line.{Line}
-use Rattle.day_run.specs.Scripts.{latest_slot, slot_after}
+use Rattle.day_script.specs.declared.scripts.Line.{Line}
+use Rattle.day_script.specs.Scripts.{latest_slot, slot_after}
 use Rattle.day_run.specs.ClientStates.{trace_content, source_content}
 use Rattle.day_run.specs.MediaContents.{media_content}
-use Rattle.day_run.proofs.ScriptLines.{latest-push}
-use Rattle.day_run.proofs.ScriptLineFacts.{Place}
+use Rattle.day_script.proofs.ScriptLines.{latest-push}
+use Rattle.day_script.proofs.Places.{Place}
 
 pub trace-medium : {source : Source} {sizes : Vec ℕ} {items : List ℕ} (r : Result Media NoMemory)
     → source ≡ Trace sizes → items ≡ sizes.items
@@ -39,7 +39,7 @@ contents-next u next sources place own before =
     open next use {media, medium, after_are as a}
     open place use {index as i, none, inside}
 
--- the slot that was heard last, after one line more
+-- the slot that was received last, after one line more
 pub heard-next : {heard next : ℕ} (lines : List Line) (place : Place lines)
     → next ≡ slot_after heard (get_or lines place.index place.none) → heard ≡ latest_slot (take place.index lines)
     → next ≡ latest_slot (take (place.index + 1) lines)

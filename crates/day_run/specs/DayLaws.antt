@@ -15,8 +15,8 @@ use Rattle.slot_calendar.specs.Profiles.{capacity_at}
 use Rattle.admission.specs.declared.entries.Command.{Command}
 use Rattle.admission.specs.declared.entries.Command.TheVariants as commands
 use Rattle.admission.specs.declared.entries.Entry.{Entry}
-use Rattle.day_run.specs.declared.fair_totals.EntryCounts.{EntryCounts}
-use Rattle.day_run.specs.declared.fair_totals.FairTotals.{FairTotals}
+use Rattle.day_script.specs.declared.fair_totals.EntryCounts.{EntryCounts}
+use Rattle.day_script.specs.declared.fair_totals.FairTotals.{FairTotals}
 use Rattle.plan_cert.specs.PlanSlots.{sum_through, total_bytes}
 use Rattle.film_run.specs.Units.{AreUnitSizes}
 use Rattle.day_run.specs.Days.{AreLineSteps, IsLine, IsTold, Link, DayState, booked_up_to}
@@ -28,22 +28,10 @@ use Rattle.day_run.specs.ClientStates.{ClientState, Idle, Playing, Pausing, Paus
 use Rattle.day_run.specs.ClientStates.{Play as ClientPlay, Rest}
 use Rattle.day_run.specs.ClientStates.{MediaContent, source_content}
 use Rattle.day_run.specs.FairDays.{AreTurns, Turn, after_traces, at_later, fair_link}
-use Rattle.day_run.specs.LineTexts.{fair_text, start_words, tried_text}
+use Rattle.day_script.specs.LineTexts.{fair_text, start_words, tried_text}
 use Rattle.day_run.specs.declared.media.Source.{Source}
-use Rattle.day_run.specs.declared.scripts.Line.{Line}
-use Rattle.day_run.specs.declared.scripts.Line.TheVariants.{Play, Pause, Resume, Look, Slot, Offer}
-
--- a line asks for one of the 256 clients, or for none
-abbrev pub IsClient : Line → Type 0
-IsClient (Play client source buffer delay) = client < 256
-IsClient (Pause client) = client < 256
-IsClient (Resume client) = client < 256
-IsClient (Look slot) = Unit {0}
-IsClient (Slot slot) = Unit {0}
-IsClient (Offer client source buffer delay wait) = Unit {0}
-
-pub record AreClients (lines : List Line) : Type 0 where
-  pub each : (i : ℕ) (none : Line) → i < length lines → IsClient (slice_index_or lines i none)
+use Rattle.day_script.specs.declared.scripts.Line.{Line}
+use Rattle.day_script.specs.declared.scripts.Line.TheVariants.{Play, Pause, Resume, Look, Slot, Offer}
 
 -- a reel that can be played: its sizes are those of a trace, and its pictures have a time
 pub record IsSoundMedia (medium : MediaContent) : Type 0 where
@@ -137,7 +125,8 @@ pub record IsOfferAnswer (link : Link) (rest : Rest) (wait : ℕ) (moment : DayS
       ++ (start_words start ++ field (codes " tried=") (length tried) ++ codes "\n")
 
 -- The bytes that are sent in the slots of a turn, up to any of them, are those that the day's
--- journal books there, and no more than the capacity of those slots.
+-- journal books there, and no more than the capacity of those slots. In each one of these slots
+-- exactly the bytes that the journal books in it are sent, within its own capacity.
 pub record IsTurnWithinCapacity (steps : List CapStep) (journal : List Entry) (turn : Turn)
     : Type 0 where
   pub sent : (slot : ℕ) → turn.old.heard ≤ slot → slot ≤ turn.mid.heard →
@@ -146,6 +135,9 @@ pub record IsTurnWithinCapacity (steps : List CapStep) (journal : List Entry) (t
   pub within : (slot : ℕ) → turn.old.heard ≤ slot → slot ≤ turn.mid.heard →
       sent_up_to turn.old slot ≤ sum_by (capacity_at steps)
       (range_with_len (turn.old.heard + 1) (slot - turn.old.heard))
+  pub each_slot : (slot : ℕ) → turn.old.heard ≤ slot → slot < turn.mid.heard →
+      (sent_up_to turn.old (slot + 1) ≡ sent_up_to turn.old slot + booked_after journal (slot + 1))
+      × (booked_after journal (slot + 1) ≤ capacity_at steps (slot + 1))
 
 -- a number's turns, in each of which what is sent is what the journal books, within the capacity
 pub record SentIsBookedEachTurn (steps : List CapStep) (number plays : ℕ) (journal : List Entry)

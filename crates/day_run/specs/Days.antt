@@ -25,9 +25,9 @@ use Rattle.report.specs.CalendarTexts.{calendar_text}
 use Rattle.report.specs.EntryLines.{entry_line}
 use Rattle.report.specs.JournalTexts.{journal_text}
 use Rattle.day_run.specs.declared.media.Source.{Source}
-use Rattle.day_run.specs.declared.scripts.Line.{Line}
-use Rattle.day_run.specs.declared.scripts.Line.TheVariants as lines
-use Rattle.day_run.specs.LineTexts.{fault_text, full_text, offer_text, slot_text, state_text}
+use Rattle.day_script.specs.declared.scripts.Line.{Line}
+use Rattle.day_script.specs.declared.scripts.Line.TheVariants as lines
+use Rattle.day_script.specs.LineTexts.{fault_text, full_text, offer_text, slot_text, state_text}
 use Rattle.day_run.specs.ClientStates.{ClientState, Idle, Playing, Pausing, Paused, IfBusy}
 use Rattle.day_run.specs.ClientStates.{IsPause, MediaContent, Rest, Play}
 use Rattle.day_run.specs.ClientStates.{after_play, after_sending, booking_of, is_done, no_medium}

@@ -14,13 +14,13 @@ use Rattle.admission.specs.declared.entries.Answer.TheVariants.{Overflow, Halted
 use Rattle.admission.specs.declared.entries.Entry.{Entry}
 use Rattle.admission.specs.Histories.{is_admission, state_after}
 use Rattle.admission.specs.Machine.{booked_in}
-use Rattle.day_run.specs.declared.fair_totals.FairTotals.{FairTotals}
-use Rattle.day_run.specs.declared.fair_totals.EntryCounts.{EntryCounts}
-use Rattle.day_run.specs.declared.scripts.Line.{Line}
-use Rattle.day_run.specs.declared.scripts.Line.TheVariants as lines
+use Rattle.day_script.specs.declared.fair_totals.FairTotals.{FairTotals}
+use Rattle.day_script.specs.declared.fair_totals.EntryCounts.{EntryCounts}
+use Rattle.day_script.specs.declared.scripts.Line.{Line}
+use Rattle.day_script.specs.declared.scripts.Line.TheVariants as lines
 use Rattle.day_run.specs.Days.{IsLine, IsTold, Link, DayState, at_slot, booked_up_to, last_journal}
 use Rattle.day_run.specs.Days.{first_moment, state_at, sent_up_to}
-use Rattle.day_run.specs.LineTexts.{fair_text}
+use Rattle.day_script.specs.LineTexts.{fair_text}
 use Rattle.day_run.specs.ClientStates.{ClientState, Idle, Playing, Pausing, Paused, trace_content}
 
 -- ---- the traces

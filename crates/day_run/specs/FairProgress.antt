@@ -4,7 +4,7 @@ use Rattle.std.specs.Prelude.{length, map, slice_index_or, Option, Some, None}
 use Rattle.std.specs.Global.{Vec}
 use Rattle.film_run.specs.Units.{AreUnitSizes}
 use Rattle.admission.specs.declared.entries.Entry.{Entry}
-use Rattle.day_run.specs.declared.fair_totals.FairTotals.{FairTotals}
+use Rattle.day_script.specs.declared.fair_totals.FairTotals.{FairTotals}
 use Rattle.day_run.specs.declared.machine.LineAnswer.{LineAnswer}
 use Rattle.day_run.specs.Days.{Link, DayState, booked_up_to, first_moment, sent_up_to}
 use Rattle.day_run.specs.FairDays.{AreTurns, IsTurn, Turn, after_turn, counts_of, is_refused}

@@ -7,8 +7,8 @@ use Rattle.admission.specs.Machine.{CanHalt}
 use Rattle.plan_cert.specs.PlanSlots.{total_bytes}
 use Rattle.day_run.specs.ClientStates.{Play as ClientPlay, is_playing}
 use Rattle.day_run.specs.Days.{Link, DayState}
-use Rattle.day_run.specs.declared.scripts.Line.{Line}
-use Rattle.day_run.specs.declared.scripts.Line.TheVariants.{Play, Pause, Resume, Look, Slot, Offer}
+use Rattle.day_script.specs.declared.scripts.Line.{Line}
+use Rattle.day_script.specs.declared.scripts.Line.TheVariants.{Play, Pause, Resume, Look, Slot, Offer}
 
 -- one entry was made, by this maker, or none
 pub record IsMadeBy (maker : ℕ) (old new : DayState) : Type 0 where

@@ -1,8 +1,3 @@
-pub mod TextLines
-pub mod MessageWords
-pub mod ScriptReading
-pub mod ScriptText
-pub mod Scripts
 pub mod MediaPieces
 pub mod Sources
 pub mod ClientStates
@@ -12,7 +7,6 @@ pub mod DayLaws
 pub mod JournalLaws
 pub mod Clients
 pub mod MachineState
-pub mod LineTexts
 pub mod BookingBalance
 pub mod FairDays
 pub mod FairProgress

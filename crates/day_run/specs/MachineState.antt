@@ -6,7 +6,7 @@ use Rattle.admission.specs.Histories.{state_after}
 use Rattle.early_start.specs.StartSearch.{Offers}
 use Rattle.wire_curve.specs.declared.film.CurveRefused.{CurveRefused}
 use Rattle.wire_curve.specs.declared.film.CurveRefused.TheVariants.{Fault, NoMemory}
-use Rattle.day_run.specs.declared.scripts.Line.{Line}
+use Rattle.day_script.specs.declared.scripts.Line.{Line}
 use Rattle.day_run.specs.declared.clients.Client.{Client}
 use Rattle.day_run.specs.declared.machine.DayMachine.{DayMachine}
 use Rattle.day_run.specs.declared.machine.LineAnswer.{LineAnswer}
@@ -14,7 +14,7 @@ use Rattle.day_run.specs.declared.machine.LineAnswer.TheVariants as tolds
 use Rattle.day_run.specs.Clients.{AreBooked, AreGoing, AreTimed, AreUndone, state_of}
 use Rattle.report.specs.JournalTexts.{journal_text}
 use Rattle.day_run.specs.Days.{AreLineSteps, Link, DayState, first_moment}
-use Rattle.day_run.specs.LineTexts.{fault_text, full_text, offer_text, state_text}
+use Rattle.day_script.specs.LineTexts.{fault_text, full_text, offer_text, state_text}
 use Rattle.day_run.specs.MediaContents.{media_content}
 
 -- the clients go on soundly, none of their plays is done, and the book has them open; the machine's

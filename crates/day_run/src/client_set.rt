@@ -9,11 +9,9 @@ ghost use Rattle.day_run.specs.Days.{halt_entries};
 
 use crate::clients::{Client, HaltedPlays};
 use admission::Book;
+use day_script::CLIENTS;
 use std::alloc::Global;
 use vod_base::NoMemory;
-
-/// How many clients a day has.
-pub(crate) const CLIENTS: usize = 256;
 
 /// Clients that play nothing.
 pub(crate) fn idle_clients<'r>(alloc: Global) -> Result<Vec<Client<'r>>, NoMemory>

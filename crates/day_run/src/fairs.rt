@@ -22,12 +22,11 @@ ghost use Rattle.day_run.specs.ClientStates.{trace_content};
 ghost use Rattle.day_run.specs.MediaContents.{media_content};
 
 use crate::clients::Client;
-use crate::fair_totals::{EntryCounts, FairTotals};
-use crate::line_texts::push_fair;
 use crate::machine::{DayMachine, LineAnswer};
 use crate::media::Media;
 use crate::script_run::Day;
 use admission::{Answer, Book, Entry, MAX_ENTRIES};
+use day_script::{EntryCounts, FairTotals, push_fair};
 use film_make::{Draws, draw_sizes};
 use slot_calendar::Profile;
 use std::alloc::Global;

@@ -1,11 +1,10 @@
-//! Laws of a day, of its script and of a large day, each a contract without a body.
+//! Laws of a day and of a large day, each a contract without a body.
 
-ghost use Rattle.std.specs.Prelude.{ℕ, List, ◌≡◌, ◌≤◌, ◌<◌, ◌+◌, ◌-◌, ◌⊎◌, ◌++◌, ◌∷◌, false, true};
-ghost use Rattle.std.specs.Prelude.{length, map, sum_by, All, [], ◌≢◌, slice_index, count_by};
-ghost use Rattle.std.specs.Prelude.{◌^◌};
-ghost use Rattle.std.specs.List.{list_all, range_with_len};
-ghost use Rattle.day_run.specs.declared.scripts.Line.{Line};
-ghost use Rattle.day_run.specs.declared.scripts.Line.TheVariants as Lines;
+ghost use Rattle.std.specs.Prelude.{ℕ, List, ◌≡◌, ◌≤◌, ◌<◌, ◌+◌, ◌-◌, ◌^◌, ◌⊎◌, length, map};
+ghost use Rattle.std.specs.Prelude.{sum_by, count_by};
+ghost use Rattle.std.specs.List.{range_with_len};
+ghost use Rattle.day_script.specs.declared.scripts.Line.{Line};
+ghost use Rattle.day_script.specs.declared.scripts.Line.TheVariants as Lines;
 ghost use Rattle.slot_calendar.specs.declared.profiles.CapStep.{CapStep};
 ghost use Rattle.slot_calendar.specs.Profiles.{capacity_at};
 ghost use Rattle.admission.specs.declared.entries.Entry.{Entry};
@@ -16,7 +15,7 @@ ghost use Rattle.admission.specs.Histories.{state_after};
 ghost use Rattle.admission.specs.Makers.{AreHaltsOwn};
 ghost use Rattle.day_run.specs.BookingBalance.{share_of};
 ghost use Rattle.day_run.specs.Clients.{after_open};
-ghost use Rattle.day_run.specs.DayLaws.{AreClients, IsClient, IsDrawnTurn, IsFairLine, IsLink};
+ghost use Rattle.day_run.specs.DayLaws.{IsDrawnTurn, IsFairLine, IsLink};
 ghost use Rattle.day_run.specs.ClientStates.{Play, Playing, is_playing};
 ghost use Rattle.day_run.specs.DayLaws.{IsOfferAnswer, IsSoundClient, SentIsBookedAfter};
 ghost use Rattle.day_run.specs.DayLaws.{SentIsBookedEachTurn};
@@ -26,13 +25,7 @@ ghost use Rattle.day_run.specs.Days.{last_journal, first_moment, rest_at, state_
 ghost use Rattle.day_run.specs.FairDays.{IsFair, IsTurn, Turn};
 ghost use Rattle.day_run.specs.JournalLaws.{HasItsMaker, IsFullJournal, IsHaltedOnce};
 ghost use Rattle.day_run.specs.JournalLaws.{IsOpenPlayOf, SaysFull, places_needed};
-ghost use Rattle.day_run.specs.declared.scripts.Script.{Script};
-ghost use Rattle.day_run.specs.TextLines.{lines_of_script};
-ghost use Rattle.day_run.specs.ScriptReading.{IsBadLine, IsScript, Name, Reading, lines_read};
-ghost use Rattle.day_run.specs.ScriptReading.{names_of};
-ghost use Rattle.day_run.specs.Scripts.{AreLines, StandsAfter, latest_slot};
-ghost use Rattle.day_run.specs.ScriptText.{AreWritten, IsInWords, MayStand, is_verb, is_word};
-ghost use Rattle.day_run.specs.ScriptText.{line_text, names_used, script_text, words_text};
+ghost use Rattle.day_script.specs.Scripts.{AreClients, AreLines, IsClient, StandsAfter};
 
 /// After lines of a script, what the clients are sent in the slots after the last one, up to any
 /// later one, is what is booked in those slots.
@@ -91,41 +84,6 @@ pub fn law_fair_turns_send_what_is_booked()
 pub fn law_fair_turns_are_script_lines()
     ensures { (link : Link) (words : ℕ → ℕ) (turn : Turn) → IsTurn link words turn →
         IsDrawnTurn link turn }
-{}
-
-/// A script that is spelled line by line is read as that script. A line whose numbers are out of
-/// their ranges, whose name is none that a file may have, whose slot isn't later, or whose first
-/// word is none of the six verbs with its number of words, is named as the first bad one, whatever
-/// stands after it.
-pub fn law_written_script_reads_back()
-    ensures read { (script : Script) →
-        AreWritten (names_of script.named.items) script.lines.items →
-        names_used script.lines.items ≡ length (names_of script.named.items) →
-        IsScript (script_text (names_of script.named.items) script.lines.items) script }
-    ensures range { (names : List Name) (lines : List Line) (line : Line) (rest : List ℕ) →
-        AreWritten names lines → IsInWords names line → ¬ MayStand (latest_slot lines) names line →
-        IsBadLine (script_text names lines ++ (line_text names line ++ 10 ∷ rest))
-        (length lines + 1) }
-    ensures verb { (names : List Name) (lines : List Line) (verb : List ℕ)
-        (words : List (List ℕ)) (rest : List ℕ) → AreWritten names lines →
-        list_all is_word (verb ∷ words) ≡ true → 0 < length (words_text (verb ∷ words)) →
-        is_verb (length (verb ∷ words)) verb ≡ false →
-        IsBadLine (script_text names lines ++ (words_text (verb ∷ words) ++ 10 ∷ rest))
-        (length lines + 1) }
-{}
-
-/// A line of a script is ended by LF or CR LF, the last one also by the end of the text; an empty
-/// line says nothing.
-pub fn law_script_lines_end_at_line_feeds()
-    ensures ended { (line rest : List ℕ) → All (λ b. b ≢ 10) line →
-        slice_index line (length line - 1) ≢ 13 →
-        lines_of_script (line ++ 10 ∷ rest) ≡ line ∷ lines_of_script rest }
-    ensures returned { (line rest : List ℕ) → All (λ b. b ≢ 10) line →
-        lines_of_script (line ++ 13 ∷ 10 ∷ rest) ≡ line ∷ lines_of_script rest }
-    ensures last { (line : List ℕ) → All (λ b. b ≢ 10) line → line ≢ [] →
-        lines_of_script line ≡ line ∷ [] }
-    ensures empty { (reading : Reading) (before after : List (List ℕ)) →
-        lines_read reading (before ++ [] ∷ after) ≡ lines_read reading (before ++ after) }
 {}
 
 /// A look changes no client, no booking and no slot, only the journal; an offer changes nothing.

@@ -1,11 +1,12 @@
-//! Scripts and a drawn day with their printed text, refused scripts, and a long script.
+//! Scripts and a drawn day with their printed text, and a long script.
 
 ghost use Rattle.std.specs.Prelude.{IfOk, length};
-ghost use Rattle.day_run.specs.Scripts.{AreLines};
+ghost use Rattle.day_script.specs.Scripts.{AreLines};
 ghost use Rattle.day_run.specs.Sources.{AreSources};
 
 use super::*;
 use admission::MAX_ENTRIES;
+use day_script::{Script, read_script};
 use slot_calendar::Profile;
 use std::alloc::Global;
 use std::process::Abort;
@@ -105,25 +106,6 @@ fn prints_each_line(rt: HostRuntime) -> Result<(), Fail> {
             "{}",
             String::from_utf8_lossy(alloc, text)?
         );
-    }
-    Ok(())
-}
-
-/// Scripts, each with its first bad line, from 1 on.
-const BAD_LINES: [(&str, u64); 4] = [
-    ("look 1\nsee 1\n", 2),
-    ("\n\npause 256\n", 3),
-    ("slot 5\nlook 1\nslot 5", 3),
-    ("look 1 \n", 1),
-];
-
-#[test]
-fn names_the_first_bad_line(rt: HostRuntime) -> Result<(), Fail> {
-    for (text, line) in BAD_LINES {
-        match read_script(rt.alloc(), text.as_bytes()) {
-            Err(refused) => assert_eq!(rt; refused, ScriptRefused::BadScript { line }, "{text}"),
-            Ok(_) => assert!(rt; false, "{text}"),
-        }
     }
     Ok(())
 }

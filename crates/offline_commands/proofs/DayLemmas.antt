@@ -5,7 +5,7 @@ use Rattle.std.proofs.Common.{add-one, arith, inl, inr, string_bytes}
 use Rattle.std.specs.Prelude.{All, slice_index_or}
 use Rattle.std.specs.Option.{option_and_then}
 use Rattle.std.proofs.Math.Seq.{drop-cons, get_or-append_seam}
-use Rattle.day_run.specs.TextLines.{lines_of_script}
+use Rattle.day_script.specs.TextLines.{lines_of_script}
 use Rattle.std.specs.List.{Contains}
 use Rattle.std.proofs.Math.ListN.{get_or-map}
 use Rattle.std.proofs.lemmas.Bool.{cases_lt}
@@ -14,7 +14,7 @@ use Rattle.std.proofs.lemmas.List.{length-append, length-map, length-take, take-
 use Rattle.std.proofs.lemmas.List.{get_or-take, get_or_append_left, get_or-append_right}
 use Rattle.std.proofs.lemmas.List.{get_or_push, get_or_read_under}
 use Rattle.std.proofs.lemmas.List.Elements.{All-cons, All-head, All-nil, All-tail}
-use Rattle.day_run.specs.declared.scripts.Named.{Named}
+use Rattle.day_script.specs.declared.scripts.Named.{Named}
 use Rattle.day_run.specs.declared.media.Source.{Source}
 use Rattle.day_run.specs.Sources.{AreSources, IsSource}
 use Rattle.vod_base.specs.Names.{good_name}
@@ -24,12 +24,12 @@ use Rattle.cli_errors.specs.declared.errors.InputError.{InputError}
 use Rattle.cli_errors.specs.declared.errors.CliError.{CliError}
 use Rattle.inputs.specs.FileReads.{IsThatName}
 use Rattle.day_run.specs.declared.media.Source.TheVariants.{Film, Trace}
-use Rattle.day_run.specs.declared.scripts.Script.{Script}
-use Rattle.day_run.specs.declared.scripts.Line.{Line}
-use Rattle.day_run.specs.declared.scripts.SourceKind.{SourceKind}
-use Rattle.day_run.specs.declared.scripts.SourceKind.TheVariants as kinds
-use Rattle.day_run.specs.ScriptReading.{HasGoodName, IsBadLine, IsScript, Name, Reading, line_read, lines_read}
-use Rattle.day_run.specs.ScriptReading.{name_of, names_of, nothing_read}
+use Rattle.day_script.specs.declared.scripts.Script.{Script}
+use Rattle.day_script.specs.declared.scripts.Line.{Line}
+use Rattle.day_script.specs.declared.scripts.SourceKind.{SourceKind}
+use Rattle.day_script.specs.declared.scripts.SourceKind.TheVariants as kinds
+use Rattle.day_script.specs.ScriptReading.{HasGoodName, IsBadLine, IsScript, Name, Reading, line_read, lines_read}
+use Rattle.day_script.specs.ScriptReading.{name_of, names_of, nothing_read}
 use Rattle.inputs.proofs.ReadLemmas.{one_file}
 use Rattle.inputs.proofs.VideoLemmas.{held_not_refused}
 use Rattle.inputs.proofs.ScanLemmas.{read_trouble_map}
@@ -46,7 +46,7 @@ pub record IsNamedAs (named : Named) (kind : SourceKind) (name : List ℕ) : Typ
   pub kind_is : named.kind ≡ kind
   pub name_is : name ≡ string_bytes named.name
 
--- the trouble of a film or trace that was read by its name, where the script names it
+-- the error of a film or trace that was read by its name, where the script names it
 pub named_trouble : {kind : SourceKind} {name : List ℕ} {named : Named} (told : Option (List File)) (before after : ℕ)
     (t : CliError) → IsNamedAs named kind name → IsReadError (IsThatName name) (IsRefusedAs kind) told before after t →
     IsReadError (IsNameOf named) (IsNamedRefused named) told before after t
@@ -175,7 +175,7 @@ first_named_refused {named} {i} {one} {name} inside at long are is refused = rec
   refused = refused;
 }
 
--- a script that was read is what the library holds, where it tells that
+-- a script that was read is what the library holds, where it exposes that
 pub script_held : {told : Option (List File)} {name : List ℕ} {script : Script} (held : List File) →
     IsScriptOf told name script → told ≡ Some held → HoldsScript held name script
 script_held held read told_is = record { text = read.text; found = read.found held told_is; script_is = read.script_is }

@@ -1,4 +1,4 @@
--- What the lines of a scan tell, read back word by word.
+-- What the lines of a scan say, read back word by word.
 use Rattle.std.proofs.Common.{◌≡◌, ◌≢◌, ◌∙◌, ℕ, ◌<◌, ◌^◌, ◌==◌, ◌||◌, Bool, true, false, List, []}
 use Rattle.std.proofs.Common.{◌∷◌, ◌++◌, All, map, Option, Some, None, codes, decimal, length}
 use Rattle.std.proofs.Common.{get_or, refl, sym, ap, arith}
@@ -347,7 +347,7 @@ group-shown number u few =
     (no-number 103 (codes "roup") number few (λ low high. omega (arith, high))) (kind-not-group u.kind) refl
     ∙ group-mark u.has_sequence u.starts_group
 
--- what a unit's line tells
+-- what a unit's line says
 pub unit-told : (number : ℕ) (u : PictureUnit) → number < 2 ^ 64 → IsShortUnit u
     → LineShowsUnit number u (unit_line number u)
 unfolding unit_settings

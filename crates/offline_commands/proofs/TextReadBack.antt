@@ -55,7 +55,7 @@ kind_back P = refl
 kind_back B = refl
 kind_back D = refl
 
--- what the words at the end of a unit's line tell
+-- what the words at the end of a unit's line say
 sequence_of : List ℕ → Bool
 sequence_of text = (get_or text 0 0 == 32) && (get_or text 1 0 == 115)
 
@@ -101,7 +101,7 @@ no_digit true group n small = not_in_decimal 32 n small (λ within. omega (arith
 no_digit false true n small = not_in_decimal 32 n small (λ within. omega (arith, within.0))
 no_digit false false n small = not_in_decimal 10 n small (λ within. omega (arith, within.0))
 
--- what the words at the end of a line tell, with what follows
+-- what the words at the end of a line say, with what follows
 record AreMarked (sequence sequence' group group' : Bool) (xs ys : List ℕ) : Type 0 where
   sequence_is : sequence ≡ sequence'
   group_is : group ≡ group'
@@ -244,7 +244,7 @@ film_shape : (bytes rate pictures : ℕ) (rest : List ℕ) →
     ∷ (codes "rate=" ++ (decimal rate ++ 32 ∷ (codes "pictures=" ++ (decimal pictures ++ 10 ∷ rest)))))
 film_shape bytes rate pictures rest = simp append_assoc
 
--- what a scan tells of a film, in its ranges
+-- what a scan says about a film, in its ranges
 pub record ScannedFilm : Type 0 where
   pub bytes : ℕ
   pub rate : ℕ

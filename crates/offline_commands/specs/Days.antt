@@ -9,11 +9,11 @@ use Rattle.inputs.specs.FileReads.{IsMissing}
 use Rattle.inputs.specs.ChunkScans.{HoldsVideo, IsFilmRefused}
 use Rattle.day_run.specs.declared.media.Source.{Source}
 use Rattle.day_run.specs.declared.media.Source.TheVariants.{Film, Trace}
-use Rattle.day_run.specs.declared.scripts.Named.{Named}
-use Rattle.day_run.specs.declared.scripts.Script.{Script}
-use Rattle.day_run.specs.declared.scripts.SourceKind.{SourceKind}
-use Rattle.day_run.specs.declared.scripts.SourceKind.TheVariants as kinds
-use Rattle.day_run.specs.ScriptReading.{IsBadLine, IsScript}
+use Rattle.day_script.specs.declared.scripts.Named.{Named}
+use Rattle.day_script.specs.declared.scripts.Script.{Script}
+use Rattle.day_script.specs.declared.scripts.SourceKind.{SourceKind}
+use Rattle.day_script.specs.declared.scripts.SourceKind.TheVariants as kinds
+use Rattle.day_script.specs.ScriptReading.{IsBadLine, IsScript}
 use Rattle.offline_commands.specs.OfflineCommands.{IfTold}
 use Rattle.offline_commands.specs.Plans.{HoldsTrace, IsTraceRefused}
 

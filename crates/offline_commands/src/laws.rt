@@ -1,4 +1,4 @@
-//! What is proved of this crate as a whole: public functions without a body, whose contracts are
+//! What is proved of the entire crate: public functions without a body, whose contracts are
 //! the laws.
 
 pub use crate::days::law_playable_script_is_not_refused;

@@ -1,4 +1,4 @@
--- Each connection of a server, and what its report tells of the journal.
+-- Each connection of a server, and what its report says about the journal.
 use Rattle.std.proofs.Common.{◌≡◌, ◌≢◌, ◌∙◌, ◌+◌, ◌<◌, ℕ, List, [], ◌∷◌, ◌++◌, length, Option, Some}
 use Rattle.std.proofs.Common.{None, inl, inr, sym, ap, subst, refl, suc, zero, arith, get_or}
 use Rattle.std.specs.Prelude.{All, IfSome, map, slice_index_or}
@@ -44,7 +44,7 @@ all_right P (x ∷ xs) ys all = all_right P xs ys (All-tail P x (xs ++ ys) all)
 
 -- ---- receipts
 
--- what holds of the receipts of entries holds of all, where it says nothing of the others
+-- what is true of the receipts of entries is true of all, where it says nothing of the others
 all_receipts : (journal : List Entry) (seat : ℕ) (receipts : List Receipt)
     → All (IsReceiptIn journal seat) (entry_receipts receipts) → All (IsReceiptIn journal seat) receipts
 all_receipts journal seat [] all = all
@@ -56,7 +56,7 @@ all_receipts journal seat (EntryReceipt place answer ∷ rest) all =
 all_receipts journal seat (FullReceipt entries live ∷ rest) all =
     All-cons (IsReceiptIn journal seat) (FullReceipt entries live) rest tt (all_receipts journal seat rest all)
 
--- the receipt for an entry of a seat tells that entry
+-- the receipt for an entry of a seat records that entry
 receipt_in : (journal : List Entry) (seat : ℕ) (placed : PlacedEntry)
     → ((none : Entry) → IsAt 0 seat none journal placed) → IsReceiptIn journal seat (receipt_for placed)
 receipt_in journal seat placed at =

@@ -17,23 +17,23 @@ use Rattle.cli_args.specs.Invocations.{ScriptRun}
 use Rattle.inputs.proofs.VideoLemmas.{held_once}
 use Rattle.day_run.specs.ClientStates.{MediaContent, source_content, trace_content}
 use Rattle.day_run.specs.Days.{IsDay, Link, link_of}
-use Rattle.day_run.specs.ScriptReading.{Name, name_of, names_of}
+use Rattle.day_script.specs.ScriptReading.{Name, name_of, names_of}
 use Rattle.day_run.specs.MediaPieces.{no_identity}
-use Rattle.day_run.specs.Scripts.{AreLines}
+use Rattle.day_script.specs.Scripts.{AreLines}
 use Rattle.day_run.specs.declared.media.Source.{Source}
 use Rattle.day_run.specs.declared.media.Source.TheVariants.{Film, Trace}
-use Rattle.day_run.specs.declared.scripts.Line.{Line}
-use Rattle.day_run.specs.declared.scripts.Named.{Named}
-use Rattle.day_run.specs.declared.scripts.Script.{Script}
-use Rattle.day_run.specs.declared.scripts.SourceKind.{SourceKind}
-use Rattle.day_run.specs.declared.scripts.SourceKind.TheVariants as kinds
+use Rattle.day_script.specs.declared.scripts.Line.{Line}
+use Rattle.day_script.specs.declared.scripts.Named.{Named}
+use Rattle.day_script.specs.declared.scripts.Script.{Script}
+use Rattle.day_script.specs.declared.scripts.SourceKind.{SourceKind}
+use Rattle.day_script.specs.declared.scripts.SourceKind.TheVariants as kinds
 use Rattle.day_run.proofs.DayUniqueness.{one-day}
 use Rattle.offline_commands.specs.Days.{AreHeldAs, HoldsScript, IsHeldUnder}
 use Rattle.offline_commands.proofs.DayLemmas.{first_of, lines_once, names_once, same_name, script_held}
 use Rattle.offline_commands.proofs.PlanUniqueness.{trace_once}
 use Rattle.vodserve.specs.Laws.{DayIsUnique, IsScriptDay, RunPrintsItsDay}
 
--- a film as it is played: what is said of it, and what its bytes say
+-- a film as it is played: its facts, and what its bytes say
 abbrev content_as : List ℕ → ℕ → List PictureUnit → List ℕ → MediaContent
 content_as video rate units slices = record {
   sizes = map (λ u. wire_size slices u) units;

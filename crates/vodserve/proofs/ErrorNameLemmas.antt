@@ -26,7 +26,7 @@ source_named (film_source name slot) may = may.0
 pub viewer_named : (viewer : ClientParams) → IsValidClient viewer → good_name (source_name viewer.source) ≡ true
 viewer_named viewer may = source_named viewer.source may.source
 
--- what the trouble of an order may come from
+-- what the error of a command may come from
 abbrev pub causes_of : Option (List File) → ℕ → ℕ → Invocation → Causes
 causes_of told faults faults' order = record {
   Reads = IsRead order;
@@ -36,14 +36,14 @@ causes_of told faults faults' order = record {
   after = faults';
 }
 
--- where the inputs of an order have good names, so has the one that its trouble names
+-- where the inputs of a command have good names, so has the one that its error names
 pub good_result : (causes : Causes) (result : Result CommandOutput CliError) →
     ((name : List ℕ) → causes.Reads name → good_name name ≡ true) → IfErr result (IsTroubleOf causes) →
     IfErr result HasGoodName
 good_result causes (Ok done) good is = tt
 good_result causes (Err error) good is = good_input causes error good is
 
--- want of memory names no input
+-- out of memory names no input
 pub nameless : (result : Result CommandOutput CliError) → IfErr result (λ error. error ≡ NoMemory) → IfErr result
     HasGoodName
 nameless (Ok done) is = tt

@@ -147,7 +147,7 @@ held_film told film name named is may = λ held told_is. (
   subst (MayBeServed held) (sym named) (may held told_is),
 )
 
--- a trouble of reading keeps from serving, before the gate is opened
+-- an error of reading stops a server before it opens the gate
 pub read_serves : (serving : ServeArgs) (store store' : IoState (List File)) (gate : WorkerGate) (t : CliError) →
     IsFilmError serving store store' t → IsServeError serving store store' gate gate t
 read_serves serving store store' gate Usage is = is
@@ -184,7 +184,7 @@ pub record ServingRun : Type 0 where
 abbrev pub Keeps : ServingRun → CliError → Type 0
 Keeps served = IsServeError served.serving served.store served.store_after served.gate served.gate_after
 
--- and so does a trouble of making workers
+-- and so does an error of making workers
 pub make_serves : (served : ServingRun) (before : ℕ) (t : CliError) → IsMakeWorkersError before served.gate_after.faults
     t →
     served.gate.faults ≤ before →

@@ -89,7 +89,7 @@ pub not_opened_here : (gate : Option Content) → IfSome gate (IsNotOpened gate)
 not_opened_here None = tt
 not_opened_here (Some c) = record { told = c; told_is = refl; openings = refl; own = refl }
 
--- nothing is told of a gate from which nothing was told
+-- nothing is exposed of a gate from which nothing was exposed
 none_told : (P : Content → Type 0) (gate : Option Content) → gate ≡ None → IfSome gate P
 none_told P gate is = subst (λ (g : Option Content). IfSome g P) (sym is) tt
 

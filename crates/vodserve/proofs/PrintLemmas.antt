@@ -51,7 +51,7 @@ caused before after order NoMemory same cause = same
 caused before after order GateFault same cause = absurd cause
 caused before after order LinkFault same cause = absurd cause
 
--- an order's result: what it did, or the trouble that it met
+-- a command's result: what it did, or the error that it met
 record OrderResult (before after : World) (order : Invocation) (result : Result CommandOutput CliError) : Type 0 where
   ok : IfOk result (λ done. IsOutputOf before.store.told order done.status done.text.items done.plan)
   err : IfErr result (IsReadInputError order before.store after.store)
@@ -118,7 +118,7 @@ pub version_done : {E : Type 0} (told : Option (List File)) (made : Result (Vec 
 version_done told made text (Err error) is = tt
 version_done told made text (Ok done) is = (is.0, is.2, text_of version_text made done.text text is.1)
 
--- want of memory keeps from each order
+-- out of memory stops each command
 pub no_memory : (told : Option (List File)) (faults faults' : ℕ) (order : Invocation)
     (result : Result CommandOutput CliError) → IfErr result (λ error. error ≡ NoMemory) →
     IfErr result (IsReadError (IsRead order) (IsInputRefused order) told faults faults')

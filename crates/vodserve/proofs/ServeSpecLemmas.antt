@@ -29,7 +29,7 @@ use Rattle.vodserve.specs.WorkerResults.{MayBeServed, ServerRun, opening_of, ser
 use Rattle.vodserve.proofs.GateLemmas.{risen_some}
 use Rattle.vodserve.proofs.FilmLoadLemmas.{Keeps, ServingRun, loaded_accepted, worker_worked}
 
--- what keeps from serving, where nothing is refused and nothing failed, is want of memory
+-- what keeps from serving, where nothing is refused and nothing failed, is that memory ran out
 pub kept_by_memory : {before after : World} {serving : ServeArgs} (error : CliError) →
     IsServable serving before.store.told → HasNoFault before after →
     IsServeError serving before.store after.store before.gate after.gate error → status_of error ≡ 6
@@ -126,7 +126,7 @@ serves_no_refused before after seed serving ended held name fault (inr served) t
 
 -- ---- how a server's run ended
 
--- want of memory in a worker is told by status 6
+-- a worker that ran out of memory gives status 6
 not_memory : (out out' : IoState (List ℕ)) (text : List ℕ) (error : CliError) →
     IsPrinted out out' text PartNoMemory (Err error) → status_of error ≢ 6 → ⊥
 not_memory out out' text Usage printed status = printed
@@ -165,7 +165,7 @@ other_status status AllParts no_zero no_five no_seven of_run = elim of_run [
   ]
 ]
 
--- what kept a server from its work is told by other statuses, or parts are wanting
+-- what kept a server from its work gives other statuses, or there are too few parts
 not_kept : {content : Content} (served : ServingRun) (error : CliError) → Keeps served error →
     served.gate_after.told ≡ Some content →
     IsOfRun (status_of error) (length content.parts ≡ served.serving.listening.workers) → ⊥

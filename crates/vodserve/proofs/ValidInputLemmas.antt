@@ -25,7 +25,8 @@ abbrev RefusesNone : Invocation → Option (List File) → Type 0
 RefusesNone order told = (trouble_name : List ℕ) (fault : InputError) → IsRead order trouble_name →
     ((held : List File) → told ≡ Some held → IsInputRefused order held trouble_name fault) → ⊥
 
--- what keeps a command from its work, where nothing is refused and nothing failed, is want of memory
+-- what keeps a command from its work, where nothing is refused and nothing failed, is that memory
+-- ran out
 caused_by_memory : {before after : World} (order : Invocation) (error : CliError) → RefusesNone order before.store.told
     →
     HasNoFault before after → IsCause before after order error → status_of error ≡ 6
@@ -106,8 +107,8 @@ fair_whole : {before after : World} {run : FairRun} {ended : Ended} → HasNoFau
 fair_whole none (inl kept) =
     inr (kept.1.3.status ∙ subst (λ (t : CliError). status_of t ≡ 6) (sym kept.1.0) refl)
 fair_whole {before} {after} none (inr ran) =
-    let whole = text_whole before after ran.text none ran.written in
-    inl (record { text = ran.text; work = (whole.0, ran.day); wrote = whole.1; quiet = whole.2 })
+    let whole = text_whole before after ran.ran.text none ran.ran.written in
+    inl (record { text = ran.ran.text; work = (whole.0, ran.ran.day); wrote = whole.1; quiet = whole.2 })
 
 served_whole : {before after : World} {seed : List ℕ} {serving : ServeArgs} {ended : Ended} →
     IsAccepted (serve_of serving) before.store.told → HasNoFault before after →

@@ -195,7 +195,7 @@ kept_back {part} told from (worker ∷ workers) gate all later_part = (
   where
     open later_part use {place as n, number, before}
 
--- how the parts of workers are told, and what the gate tells
+-- how the parts of workers are exposed, and what the gate exposes
 record PartsTold (G : Type 0) : Type 0 where
   told : G → Option Content
   gate : Option Content
@@ -280,7 +280,7 @@ worker_out {told} {worker} place count gate out is inside =
     part_out place count gate (told worker.part)
     (record { inside = inside; number = number_of (told worker.part) worker.number place is.1.part is.0; out = out })
 
--- how the parts of workers are told and their faults counted, and in which hall they sit
+-- how the parts of workers are exposed and their faults counted, and in which hall they are
 pub record WorkersOf (G : Type 0) : Type 0 where
   pub told : G → Option Content
   pub faults : G → ℕ
@@ -331,7 +331,7 @@ one_last end parts part is = record {
   ended = λ none. ap (λ (r : PartReport). r.end) (get_or-append_seam parts part [] none) ∙ is;
 }
 
--- a worker more lacks memory, or each found it
+-- one more worker ran out of memory, or each found it
 found_more : (parts : List PartReport) (part : PartReport) (end : PartEnd) →
     All (λ (p : PartReport). p.end ≢ NoMemory) parts → (part.end ≡ NoMemory → end ≡ NoMemory) →
     (end ≡ NoMemory) ⊎ All (λ (p : PartReport). p.end ≢ NoMemory) (parts ++ part ∷ [])
@@ -394,7 +394,7 @@ record WorkerJournal {G : Type 0} (worker : Worker G) (journal : List Entry) : T
   whole : IsPrefix seen journal
   made : worker.seat.mine ≡ entries_by worker.seat.number journal
 
--- a worker that served, as the closed journal and the gate tell of it
+-- a worker that served, as the closed journal and the gate record it
 one_worked : {G : Type 0} {told : G → Option Content} {faults : G → ℕ} {work : ServerRun} {gate gate' : WorkerGate}
     {hall : StationState} {worker : Worker G} →
     WorkerJournal worker work.journal → IsStationOf work.serving hall → IsWorker told faults hall worker →

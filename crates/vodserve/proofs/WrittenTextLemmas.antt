@@ -4,7 +4,7 @@ use Rattle.std.specs.Prelude.{OnErr, OnOk}
 use Rattle.vod_base.specs.IoState.{IsWrittenPrefix, told_more}
 use Rattle.std.proofs.lemmas.List.{take_all}
 
--- a text that was to be written left a front of itself
+-- a text that was to be written left a prefix of itself
 pub written_front : {E : Type 0} (result : Result (Unit {0}) E) (told told' : Option (List ℕ)) (text : List ℕ) →
     OnOk result (told' ≡ told_more told text) →
     OnErr result (IsWrittenPrefix told told' text) → IsWrittenPrefix told told' text

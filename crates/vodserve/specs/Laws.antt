@@ -23,12 +23,13 @@ use Rattle.inputs.specs.LoadErrors.{IsServedFilmRefused}
 use Rattle.cli_errors.specs.declared.errors.InputError.{InputError}
 use Rattle.cli_args.specs.Invocations.{Invocation, ScriptRun, ServeArgs, day_of, fair_of, help}
 use Rattle.cli_args.specs.Invocations.{make_of, serve_of, version, watch_of}
-use Rattle.day_run.specs.DayLaws.{AreClients, IsLink, SentIsBookedAfter}
+use Rattle.day_run.specs.DayLaws.{IsLink, SentIsBookedAfter}
+use Rattle.day_script.specs.Scripts.{AreClients}
 use Rattle.day_run.specs.Days.{IsDay, link_of}
 use Rattle.day_run.specs.FairDays.{IsFair}
-use Rattle.day_run.specs.Scripts.{AreLines}
+use Rattle.day_script.specs.Scripts.{AreLines}
 use Rattle.day_run.specs.declared.media.Source.{Source}
-use Rattle.day_run.specs.declared.scripts.Script.{Script}
+use Rattle.day_script.specs.declared.scripts.Script.{Script}
 use Rattle.offline_commands.specs.OfflineCommands.{IfTold, IsOutputOf, IsInputRefused, IsRead}
 use Rattle.offline_commands.specs.Days.{AreHeldAs, HoldsScript, IsDayRefused}
 use Rattle.vodserve.specs.WorkerResults.{AreLoaded, IsOpenedOnce, all_reports, opening_of}

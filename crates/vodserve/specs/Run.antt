@@ -10,10 +10,11 @@ use Rattle.slot_calendar.specs.declared.profiles.CapStep.{CapStep}
 use Rattle.admission.specs.Histories.{IsLegal}
 use Rattle.admission.specs.declared.entries.Entry.{Entry}
 use Rattle.day_run.specs.declared.media.Source.{Source}
-use Rattle.day_run.specs.declared.scripts.Script.{Script}
-use Rattle.day_run.specs.DayLaws.{AreClients, IsLink}
+use Rattle.day_script.specs.declared.scripts.Script.{Script}
+use Rattle.day_run.specs.DayLaws.{IsFairLine, IsLink, SentIsBookedEachTurn}
+use Rattle.day_script.specs.Scripts.{AreClients}
 use Rattle.day_run.specs.Days.{IsDay, link_of}
-use Rattle.day_run.specs.Scripts.{AreLines}
+use Rattle.day_script.specs.Scripts.{AreLines}
 use Rattle.day_run.specs.FairDays.{IsFair}
 use Rattle.offline_commands.specs.Days.{AreHeldAs, IsDayInput, IsDayRefused, IsScriptOf}
 use Rattle.rtsp_client.specs.declared.watch_request.Wish.{Wish}
@@ -217,11 +218,21 @@ DaySpec store store' streams run ended =
     (IsDayRefused run.script) store.told store.faults store'.faults error) ended
     ⊎ HasRunScript store streams run ended
 
+-- drawn plays that were run, and what their line says is true: as many bytes were sent as the
+-- journal books, in no slot more than its capacity, and the numbers of plays that were admitted,
+-- that overflowed a slot and that were halted are those of the journal's entries; no play found the
+-- journal full. In each turn, up to each of its slots, what the clients were sent is what the
+-- journal books there
+pub record HasRunFair (streams : Streams) (run : FairRun) (ended : Ended) : Type 0 where
+  pub ran : HasRun streams run.capacity (IsFair run.capacity run.seed run.plays) ended
+  pub line : IsFairLine run.capacity run.plays ran.text ended.journal.items
+  pub never_full : line.counts.full ≡ 0
+  pub turns : SentIsBookedEachTurn run.capacity run.seed run.plays ended.journal.items
+
 -- drawn plays were run; or memory ran out
 abbrev pub FairSpec : Streams → FairRun → Ended → Type 0
 FairSpec streams run ended =
-    IsDayFailed streams (λ error. error ≡ NoMemory) ended
-    ⊎ HasRun streams run.capacity (IsFair run.capacity run.seed run.plays) ended
+    IsDayFailed streams (λ error. error ≡ NoMemory) ended ⊎ HasRunFair streams run ended
 
 -- a gate was opened for a client as the arguments say
 abbrev pub IsOpenFor : WatchArgs → WorkerGate → Type 0

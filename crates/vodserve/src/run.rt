@@ -33,7 +33,7 @@ use vod_base::{Gate, Library, Sink};
 /// came before an error stand there, with the statuses 3, 6 and 8 too; at the film's end it says
 /// one line on `err`. A fault of `err` changes no status. `serve` takes its connections from
 /// `gate`, and draws their identities from `seed`; `watch` makes its one connection by `gate`. What
-/// each command did is said by its own definition, below `RunSpec` in `specs/Run.antt`.
+/// each command did is stated by its own definition, below `RunSpec` in `specs/Run.antt`.
 pub fn run<R: Threads + Wait + Sync, L: Library, O: Sink, E: Sink, G: Gate + Send + Drop>(
     rt: &R,
     alloc: Global,

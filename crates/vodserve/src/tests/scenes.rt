@@ -14,8 +14,7 @@ use vod_base::{Event, MemoryGate, MemoryLibrary, MemoryLink, MemoryPart, MemoryS
 /// The most bytes that an object in memory holds.
 const ROOM: usize = 1 << 25;
 
-/// Plays a script. Where memory is refused, that is said by its name, and the script is played once
-/// more.
+/// Plays a script. Where memory is refused, its name says so, and the script is played once more.
 pub(crate) fn passes<R: Threads + Wait + Sync + Abort>(
     rt: &R,
     alloc: Global,

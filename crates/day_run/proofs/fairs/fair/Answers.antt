@@ -2,7 +2,7 @@ use Rattle.std.proofs.Common.{◌≡◌, ◌++◌, ℕ, List, map, ap, ◌∙◌
 use Rattle.film_make.specs.Generator.{words_of}
 use Rattle.day_run.specs.FairDays.{after_traces, entry_counts_of, fair_link, traces_drawn}
 use Rattle.day_run.specs.FairProgress.{sizes_in}
-use Rattle.day_run.specs.LineTexts.{fair_text}
+use Rattle.day_script.specs.LineTexts.{fair_text}
 use Rattle.day_run.specs.MachineState.{link_on}
 use Rattle.day_run.specs.ClientStates.{MediaContent, trace_content}
 use Rattle.day_run.specs.MediaContents.{media_content}

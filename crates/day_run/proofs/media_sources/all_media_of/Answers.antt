@@ -5,7 +5,7 @@ use Rattle.day_run.specs.ClientStates.{source_content}
 use Rattle.day_run.specs.DayLaws.{IsPlayable}
 use Rattle.day_run.proofs.PlayableMedia.{playable-next}
 use Rattle.day_run.proofs.SourceMedia.{contents-next}
-use Rattle.day_run.proofs.ScriptLineFacts.{Place}
+use Rattle.day_script.proofs.Places.{Place}
 use Rattle.day_run.proofs.media_sources.all_media_of.Goals as goal
 
 pub loop-source-preserved : goal.loop-source-preserved

@@ -1,6 +1,6 @@
 use Rattle.std.proofs.Common.{◌≡◌, List, map, ap, subst, ◌∙◌}
 use Rattle.day_run.specs.declared.media.Media.{Media}
-use Rattle.day_run.specs.declared.scripts.Line.{Line}
+use Rattle.day_script.specs.declared.scripts.Line.{Line}
 use Rattle.day_run.specs.Days.{Link, link_of}
 use Rattle.day_run.specs.MachineState.{HasRun, link_on, day_state_of}
 use Rattle.day_run.specs.ClientStates.{MediaContent}

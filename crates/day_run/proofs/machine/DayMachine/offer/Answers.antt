@@ -10,7 +10,7 @@ use Rattle.early_start.specs.StartSearch.{IsOffer}
 use Rattle.slot_calendar.specs.declared.profiles.CapStep.{CapStep}
 use Rattle.day_run.specs.Clients.{rest_of}
 use Rattle.day_run.specs.Days.{IsOfferLine, rest_at}
-use Rattle.day_run.specs.LineTexts.{offer_text}
+use Rattle.day_script.specs.LineTexts.{offer_text}
 use Rattle.day_run.specs.MachineState.{link_on, day_state_of}
 use Rattle.day_run.specs.ClientStates.{Rest, MediaContent, no_medium, whole_rest}
 use Rattle.day_run.proofs.machine.DayMachine.offer.Goals as goal
