@@ -4,7 +4,8 @@ ghost use Rattle.day_run.specs.Sources.{IsSource};
 
 use crate::films::short_film;
 use admission::MAX_ENTRIES;
-use day_run::{ScriptRefused, Source, fair, read_script, run_script};
+use day_run::{Source, fair, run_script};
+use day_script::{ScriptRefused, read_script};
 use slot_calendar::{CapStep, Profile};
 use std::alloc::Global;
 use std::process::Abort;

@@ -1,6 +1,6 @@
 //! The largest texts that are read, and those that are one line, word or byte too large.
 
-use day_run::{ScriptRefused, read_script};
+use day_script::{ScriptRefused, read_script};
 use inputs::{TraceError, read_trace};
 use plan_cert::{CertRead, read_cert, write_cert};
 use std::alloc::Global;
